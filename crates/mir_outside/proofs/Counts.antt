@@ -1,0 +1,9 @@
+-- A count over two calls, one after the other.
+use Rattle.std.proofs.Common.{ℕ, arith}
+use Rattle.mir_outside.specs.Causes.{NeverFalls}
+
+pub falls_never_on : (a b c : ℕ) → NeverFalls a b → NeverFalls b c → NeverFalls a c
+falls_never_on a b c first second = record {
+  later = omega (arith, first.later, second.later);
+  still = λ is. second.still (first.still is);
+}
