@@ -1,0 +1,4 @@
+pub mod Tidy
+pub mod FirstFits
+pub mod CutRuns
+pub mod Words

@@ -1,0 +1,41 @@
+-- Which right sides divide, which are movable, and the expression of a movable one.
+use Rattle.std.specs.Prelude.{Bool, true, false, ◌&&◌, not, pos, Option, Some, None, if◌then◌else◌}
+use Rattle.std.specs.Ordering.{int_eq}
+use Rattle.mir_base.specs.declared.instructions.Operand.{Operand}
+use Rattle.mir_base.specs.declared.instructions.Operand.TheVariants.{Var, Const}
+use Rattle.mir_base.specs.declared.instructions.Rhs.{Rhs}
+use Rattle.mir_base.specs.declared.instructions.Rhs.TheVariants.{Plain, Unary, Binary}
+use Rattle.mir_base.specs.declared.instructions.Expr.{Expr}
+use Rattle.mir_base.specs.declared.instructions.Expr.TheVariants.{Un, Bin}
+use Rattle.mir_base.specs.Numbers.{is_dividing, wrapped, traps}
+use Rattle.mir_base.specs.Frames.{Values}
+use Rattle.mir_base.specs.Units.{operand_value}
+
+-- the value may be 0: a variable, or the constant 0
+abbrev pub may_be_zero : Operand → Bool
+may_be_zero (Var x) = true
+may_be_zero (Const c) = int_eq (wrapped c) (pos 0)
+
+-- the operator is a division, and its divisor may be 0
+abbrev pub divides : Rhs → Bool
+divides (Plain a) = false
+divides (Unary op a) = false
+divides (Binary op a b) = is_dividing op && may_be_zero b
+
+-- the expression of a right side that is unary or binary and does not divide. Its evaluation never traps
+abbrev pub expr_of : Rhs → Option Expr
+expr_of (Plain a) = None
+expr_of (Unary op a) = Some (Un op a)
+expr_of (Binary op a b) = if divides (Binary op a b) then None else Some (Bin op a b)
+
+-- unary or binary, and not dividing
+abbrev pub is_movable : Rhs → Bool
+is_movable (Plain a) = false
+is_movable (Unary op a) = true
+is_movable (Binary op a b) = not (divides (Binary op a b))
+
+-- its evaluation traps at these values of the variables
+abbrev pub rhs_traps : Values → Rhs → Bool
+rhs_traps values (Plain a) = false
+rhs_traps values (Unary op a) = false
+rhs_traps values (Binary op a b) = traps op (operand_value values b)

@@ -1,0 +1,10 @@
+pub mod Names
+pub mod Numbers
+pub mod Expressions
+pub mod Shapes
+pub mod Text
+pub mod Frames
+pub mod Units
+pub mod Runs
+pub mod Cuts
+pub mod FirstForm

@@ -1,0 +1,108 @@
+-- Units and programs as contracts see them, and what is true of each.
+use Rattle.std.specs.Prelude.{◌≡◌, ℕ, suc, ◌<◌, ◌≤◌, cond, nat_lt, nat_eq, List, [], ◌∷◌, ◌++◌, length, flat_map, slice_get, Option, Some, None}
+use Rattle.mir_base.specs.declared.instructions.Operand.{Operand}
+use Rattle.mir_base.specs.declared.instructions.Operand.TheVariants.{Var, Const}
+use Rattle.mir_base.specs.declared.instructions.Rhs.{Rhs}
+use Rattle.mir_base.specs.declared.instructions.Rhs.TheVariants.{Plain, Unary, Binary}
+use Rattle.mir_base.specs.declared.instructions.Test.{Test}
+use Rattle.mir_base.specs.declared.instructions.Test.TheVariants.{Rel, Holds, Fails}
+use Rattle.mir_base.specs.declared.instructions.Inst.{Inst}
+use Rattle.mir_base.specs.declared.instructions.Inst.TheVariants.{Receive, Assign, Goto, If, Call, Print, Return}
+
+pub record UnitShape : Type 0 where
+  pub name : List ℕ
+  pub vars : List (List ℕ)
+  pub body : List Inst
+
+pub record ProgramShape : Type 0 where
+  pub units : List UnitShape
+
+-- ---- tidy units
+
+abbrev pub operand_vars : Operand → List ℕ
+operand_vars (Var x) = x ∷ []
+operand_vars (Const c) = []
+
+abbrev pub rhs_vars : Rhs → List ℕ
+rhs_vars (Plain a) = operand_vars a
+rhs_vars (Unary op a) = operand_vars a
+rhs_vars (Binary op a b) = operand_vars a ++ operand_vars b
+
+abbrev pub test_vars : Test → List ℕ
+test_vars (Rel op a b) = operand_vars a ++ operand_vars b
+test_vars (Holds a) = operand_vars a
+test_vars (Fails a) = operand_vars a
+
+abbrev pub into_vars : Option ℕ → List ℕ
+into_vars None = []
+into_vars (Some x) = x ∷ []
+
+-- the variables of an instruction, in the order of its text
+abbrev pub inst_vars : Inst → List ℕ
+inst_vars (Receive x) = x ∷ []
+inst_vars (Assign x rhs) = x ∷ rhs_vars rhs
+inst_vars (Goto place) = []
+inst_vars (If test place) = test_vars test
+inst_vars (Call into unit operands) = into_vars into ++ flat_map operand_vars operands
+inst_vars (Print a) = operand_vars a
+inst_vars (Return a) = operand_vars a
+
+-- each is below m
+abbrev pub AllBelow : ℕ → List ℕ → Type 0
+AllBelow m [] = Unit {0}
+AllBelow m (x ∷ xs) = (x < m) × AllBelow m xs
+
+-- each variable that is new after the first n is number n; how many there are in the end
+abbrev pub numbered_from : ℕ → List ℕ → Option ℕ
+numbered_from n [] = Some n
+numbered_from n (x ∷ xs) = cond (nat_lt x n) (numbered_from n xs) (cond (nat_eq x n) (numbered_from (suc n) xs) None)
+
+abbrev pub AllDiffer : {A : Type 0} → List A → Type 0
+AllDiffer xs = (i j : ℕ) → i < length xs → j < length xs → slice_get xs i ≡ slice_get xs j → i ≡ j
+
+pub record IsTidy (vars : List (List ℕ)) (body : List Inst) : Type 0 where
+  pub numbered : numbered_from 0 (flat_map inst_vars body) ≡ Some (length vars)
+  pub differ : AllDiffer vars
+
+-- ---- programs
+
+-- how many receives stand first
+abbrev pub receives_in : List Inst → ℕ
+receives_in [] = 0
+receives_in (Receive x ∷ insts) = suc (receives_in insts)
+receives_in (_ ∷ insts) = 0
+
+abbrev pub body_or_empty : Option UnitShape → List Inst
+body_or_empty None = []
+body_or_empty (Some unit) = unit.body
+
+-- the body of the unit of this number; one that is not there is empty
+abbrev pub body_at : List UnitShape → ℕ → List Inst
+body_at units number = body_or_empty (slice_get units number)
+
+abbrev pub names_of : List UnitShape → List (List ℕ)
+names_of [] = []
+names_of (unit ∷ units) = unit.name ∷ names_of units
+
+-- a place to go to is at least the number of receives, and at most the length of the body
+abbrev pub IsTarget : List Inst → ℕ → Type 0
+IsTarget body place = (receives_in body ≤ place) × (place ≤ length body)
+
+-- an instruction fits at its place in a body of a program
+abbrev pub InstFits : List UnitShape → List Inst → ℕ → Inst → Type 0
+InstFits units body place (Receive x) = place < receives_in body
+InstFits units body place (Assign x rhs) = Unit {0}
+InstFits units body place (Goto target) = IsTarget body target
+InstFits units body place (If test target) = IsTarget body target
+InstFits units body place (Call into called operands) = (called < length units) × (length operands ≡ receives_in (body_at units called))
+InstFits units body place (Print a) = Unit {0}
+InstFits units body place (Return a) = Unit {0}
+
+pub record BodyFits (units : List UnitShape) (body : List Inst) : Type 0 where
+  pub insts : (place : ℕ) (inst : Inst) → slice_get body place ≡ Some inst → InstFits units body place inst
+  pub received : (i j x : ℕ) → slice_get body i ≡ Some (Receive x) → slice_get body j ≡ Some (Receive x) → i ≡ j
+
+pub record IsProgram (units : List UnitShape) : Type 0 where
+  pub some_unit : 0 < length units
+  pub names : AllDiffer (names_of units)
+  pub bodies : (u : ℕ) (unit : UnitShape) → slice_get units u ≡ Some unit → BodyFits units unit.body

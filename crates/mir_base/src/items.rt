@@ -1,0 +1,61 @@
+// A list of items, which contracts see as a plain list.
+ghost use Rattle.std.specs.Prelude.{◌≡◌, ◌++◌, [], ◌∷◌, IfOk};
+
+use crate::Memory;
+use std::alloc::Global;
+use std::marker::Model;
+
+/// A list in a program or in what a pass answers. Contracts see it as the list of its items, so that two lists with
+/// equal items are equal, whatever room they have for more.
+#[derive(Drop)]
+pub struct Items<T> {
+    items: Vec<T>,
+}
+
+impl<T> Model for Items<T> {
+    ghost use Rattle.std.specs.Prelude.{List};
+    ghost use Rattle.std.specs.Coded.{coded_list};
+
+    ghost Value = { List T };
+
+    ghost coded = { coded_list T.code };
+
+    ghost view = { λ list. list.items.items };
+}
+
+impl<T> Items<T> {
+    /// The list of these items, in their order. It takes no memory.
+    pub fn of(items: Vec<T>) -> Items<T>
+        ensures { result ≡ items.items }
+    {
+        Items { items }
+    }
+
+    /// The empty list. It takes no memory; `alloc` is where the list takes it from when it grows.
+    pub fn new(alloc: Global) -> Items<T>
+        ensures { result ≡ [] }
+    {
+        Items {
+            items: Vec::new(alloc),
+        }
+    }
+
+    /// The items, in order. It takes no memory.
+    pub fn items(&self) -> &[T]
+        ensures { result.now ≡ self.now }
+    {
+        self.items.as_slice()
+    }
+}
+
+impl<T: Drop> Items<T> {
+    /// The list with one more item at its end. Its only refusal is want of memory, and then the list and the item are
+    /// dropped.
+    pub fn with(self, item: T) -> Result<Items<T>, Memory>
+        ensures { IfOk result (λ items. items ≡ self ++ item ∷ []) }
+    {
+        let mut items = self.items;
+        items.push(item)?;
+        Ok(Items { items })
+    }
+}

@@ -1,0 +1,126 @@
+// Units and programs, whose parts are known to fit together.
+ghost use Rattle.std.specs.Prelude.{◌≡◌, ◌+◌, ◌<◌, ◌^◌, [], ◌∷◌, length, slice_get, Some, None, IfNone, IfOk, IfSome, All};
+ghost use Rattle.mir_base.specs.Shapes.{BodyFits, IsTidy, AllBelow, inst_vars, receives_in};
+ghost use Rattle.mir_base.specs.FirstForm.{IsFirstBody};
+ghost use Rattle.mir_base.specs.Runs.{inputs_of};
+
+use crate::{Inst, Items, Memory, Name};
+use std::alloc::Global;
+use std::marker::Model;
+
+/// A unit: a procedure with its own variables. It is tidy: `vars` are exactly the names of the variables that occur in
+/// the body, distinct, and numbered in the order in which they first occur in the unit's canonical text. Contracts see
+/// it as its name, the list of its variables' names and the list of its instructions.
+#[derive(Drop)]
+pub struct Unit {
+    /// The unit's name.
+    pub name: Name,
+    /// The names of the variables, by number.
+    pub vars: Items<Name>,
+    /// The instructions, by place.
+    pub body: Items<Inst>,
+}
+
+impl Model for Unit {
+    ghost use Rattle.std.specs.Prelude.{length};
+    ghost use Rattle.mir_base.specs.Shapes.{UnitShape, IsTidy};
+
+    ghost Value = { UnitShape };
+
+    ghost view = { λ unit. record { name = unit.name; vars = unit.vars; body = unit.body } };
+
+    ghost invariant = { λ unit. IsTidy unit.vars unit.body };
+}
+
+impl Unit {
+    /// The instructions, by place. Their variables have names, and are numbered in the order in which they first
+    /// occur. It takes no memory.
+    pub fn insts(&self) -> &[Inst]
+        ensures value { result.now ≡ self.now.body }
+        ensures tidy { IsTidy self.now.vars result.now }
+        ensures below { All (λ inst. AllBelow (length self.now.vars) (inst_vars inst)) result.now }
+    {
+        self.body.items()
+    }
+
+    /// The instruction at this place, and `None` exactly where there is none. Its variables have names. It takes no
+    /// memory.
+    pub fn inst(&self, place: usize) -> Option<&Inst>
+        ensures none { IfNone result (slice_get self.now.body place ≡ None) }
+        ensures some { IfSome result (λ inst. slice_get self.now.body place ≡ Some inst.now) }
+        ensures below { IfSome result (λ inst. AllBelow (length self.now.vars) (inst_vars inst.now)) }
+        ensures next { IfSome result (λ _. place + 1 < 2 ^ 64) }
+    {
+        match self.body.items().get(place) {
+            None => None,
+            Some(inst) => Some(inst),
+        }
+    }
+}
+
+/// A program, whose first unit is the one that a run begins with. Its parts fit together: there is a unit; the names of
+/// units are distinct; in each unit the receives stand first and name distinct variables; targets of jumps are at least
+/// the number of receives and at most the length of the body; the units that are called exist, and get as many
+/// arguments as they have receives. Contracts see it as the list of its units.
+#[derive(Drop)]
+pub struct Program {
+    /// The units, by number.
+    pub units: Items<Unit>,
+}
+
+impl Model for Program {
+    ghost use Rattle.mir_base.specs.Shapes.{ProgramShape, IsProgram};
+
+    ghost Value = { ProgramShape };
+
+    ghost view = { λ program. record { units = program.units } };
+
+    ghost invariant = { λ program. IsProgram program.units };
+}
+
+impl Program {
+    /// The program of this one unit, whose instructions are plain, `+` and `-` assignments, prints and returns alone.
+    /// Its only refusal is want of memory.
+    pub fn of_first_form(alloc: Global, unit: Unit) -> Result<Program, Memory>
+        requires { IsFirstBody unit.body }
+        ensures { IfOk result (λ program. program.units ≡ unit ∷ []) }
+    {
+        let mut units = Vec::new(alloc);
+        units.push(unit)?;
+        Ok(Program {
+            units: Items::of(units),
+        })
+    }
+
+    /// The unit of this number. It takes no memory.
+    pub fn unit(&self, number: usize) -> &Unit
+        requires { number < length self.now.units }
+        ensures unit { slice_get self.now.units number ≡ Some result.now }
+        ensures fits { BodyFits self.now.units result.now.body }
+    {
+        &self.units.items()[number]
+    }
+
+    /// How many inputs a run takes: as many as the first unit has receives. It takes no memory.
+    pub fn inputs(&self) -> usize
+        ensures inputs { result ≡ inputs_of self.now }
+        ensures some_unit { 0 < length self.now.units }
+    {
+        let first = &self.units.items()[0];
+        receives(first.body.items())
+    }
+}
+
+/// How many receives stand first.
+fn receives(body: &[Inst]) -> usize
+    ensures { result ≡ receives_in body.now }
+{
+    let mut count = 0;
+    for inst in body {
+        match inst {
+            Inst::Receive(_) => count += 1,
+            _ => break,
+        }
+    }
+    count
+}
