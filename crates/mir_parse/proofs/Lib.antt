@@ -1,0 +1,5 @@
+mod Cuts
+mod NumberWords
+mod InstLines
+mod WholeTexts
+mod TidyNumbers

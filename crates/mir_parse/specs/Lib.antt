@@ -1,0 +1,3 @@
+pub mod FirstText
+pub mod Numbering
+pub mod Reading
