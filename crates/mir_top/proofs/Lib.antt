@@ -1,0 +1,3 @@
+pub mod Cutting
+pub mod Printing
+pub mod Laws

@@ -1,0 +1,5 @@
+pub mod Streams
+pub mod Commands
+pub mod Statuses
+pub mod Lines
+pub mod Returns

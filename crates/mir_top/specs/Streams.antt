@@ -1,0 +1,44 @@
+-- What a call did to a source or a sink.
+use Rattle.std.specs.Prelude.{ℕ, ◌≡◌, ◌⊎◌, List, Option}
+use Rattle.std.specs.Io.KnownBytes.{Appends, Consumes, IsAtEnd}
+use Rattle.mir_outside.specs.Causes.{Rose}
+use Rattle.mir_outside.specs.Transfer.{AppendsPart}
+
+-- the bytes that are left or written, where they are told, and the count of faults: before the call and after it
+pub record Stream : Type 0 where
+  pub old : Option (List ℕ)
+  pub new : Option (List ℕ)
+  pub before : ℕ
+  pub after : ℕ
+
+-- a stream as the members of its trait tell it
+abbrev pub seen : {T : Type 0} → (T → Option (List ℕ)) → (T → ℕ) → T → T → Stream
+seen bytes faults old new = record { old = bytes old; new = bytes new; before = faults old; after = faults new }
+
+-- the bytes and the count are as before the call
+abbrev pub Untouched : Stream → Type 0
+Untouched stream = (stream.new ≡ stream.old) × (stream.after ≡ stream.before)
+
+-- the count of faults rose in this call, or stands at its last value
+abbrev pub Failed : Stream → Type 0
+Failed stream = Rose stream.before stream.after
+
+-- these bytes were taken from a source
+abbrev pub Took : Stream → List ℕ → Type 0
+Took stream bytes = Consumes stream.old stream.new bytes
+
+-- these bytes were taken from a source, to its end
+abbrev pub TookAll : Stream → List ℕ → Type 0
+TookAll stream bytes = Took stream bytes × IsAtEnd stream.new
+
+-- these bytes were appended to a sink, and nothing else
+abbrev pub Gave : Stream → List ℕ → Type 0
+Gave stream bytes = Appends stream.old stream.new bytes
+
+-- a sink failed, and a proper prefix of these bytes was appended to it
+abbrev pub GavePart : Stream → List ℕ → Type 0
+GavePart stream bytes = Failed stream × AppendsPart stream.old stream.new bytes
+
+-- these bytes were appended to a sink, or a proper prefix of them where it failed
+abbrev pub Tried : Stream → List ℕ → Type 0
+Tried stream bytes = Gave stream bytes ⊎ GavePart stream bytes
