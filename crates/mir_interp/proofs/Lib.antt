@@ -1,0 +1,4 @@
+pub mod Frames
+pub mod Operands
+pub mod Steps
+pub mod Answered

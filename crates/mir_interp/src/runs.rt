@@ -1,0 +1,62 @@
+// Whole runs, with a bound on their steps.
+ghost use Rattle.std.specs.Prelude.{◌≡◌, ◌<◌, length, IfOk};
+ghost use Rattle.mir_base.specs.Runs.{first_state, inputs_of};
+ghost use Rattle.mir_interp.specs.Machines.{IsMachine, state_of};
+ghost use Rattle.mir_interp.specs.Reports.{IsAnswer};
+
+use crate::machine::Machine;
+use crate::stack::Stack;
+use crate::{Finish, Report, RunFault};
+use mir_base::{Items, Memory, Program};
+use std::alloc::Global;
+
+/// Runs the program for so many steps, or to its end if that comes first, and answers the report of the run by the
+/// definition. A step is one instruction, or the end of a unit's body.
+///
+/// Its refusals, in this order: `WrongInputs`, exactly where the number of inputs is not that of the receives of the
+/// first unit, which it names; `Deep`, exactly where within the steps the number of frames passes 10,000; and want of
+/// memory, which may come in place of a report or of `Deep`.
+pub fn run(alloc: Global, program: &Program, inputs: &[i64], steps: u64) -> Result<Report, RunFault>
+    ensures { IsAnswer program.now inputs.now steps result }
+{
+    let wanted = program.inputs();
+    if inputs.len() != wanted {
+        return Err(RunFault::WrongInputs { wanted });
+    }
+    let mut machine = start(alloc, program, inputs)?;
+    for _ in 0..steps {
+        match machine.step(program)? {
+            Finish::Running => {}
+            Finish::Ended(result) => return Ok(report(machine, Finish::Ended(result))),
+            Finish::Trapped(kind) => return Ok(report(machine, Finish::Trapped(kind))),
+        }
+    }
+    Ok(report(machine, Finish::Running))
+}
+
+/// The run at its start: a frame of the first unit, whose arguments are the inputs.
+fn start(alloc: Global, program: &Program, inputs: &[i64]) -> Result<Machine, Memory>
+    requires some_unit { 0 < length program.now.units }
+    requires inputs { length inputs.now ≡ inputs_of program.now }
+    ensures state { IfOk result (λ machine. state_of machine Finish.Running ≡ first_state inputs.now) }
+    ensures machine { IfOk result (λ machine. IsMachine program.now machine) }
+{
+    Ok(Machine {
+        printed: Vec::new(alloc),
+        stack: Stack::new(alloc, program, inputs)?,
+        counted: 0,
+        depth: 1,
+    })
+}
+
+fn report(machine: Machine, finish: Finish) -> Report
+    ensures lines { result.lines ≡ machine.printed.items }
+    ensures finish { result.finish ≡ finish }
+    ensures evals { result.evals ≡ machine.counted }
+{
+    Report {
+        lines: Items::of(machine.printed),
+        finish,
+        evals: machine.counted,
+    }
+}

@@ -1,0 +1,196 @@
+// The frames of a run, with their arguments and variables side by side in one growing list.
+ghost use Rattle.std.specs.Prelude.{◌≡◌, ◌+◌, ◌<◌, ◌≤◌, ◌^◌, [], ◌∷◌, ◌++◌, length, drop, map, flat_map, replicate, slice_index_or, pos, IfOk};
+ghost use Rattle.mir_base.specs.Frames.{first_frame};
+ghost use Rattle.mir_base.specs.Runs.{Control, inputs_of, returned};
+ghost use Rattle.mir_base.specs.Shapes.{AllBelow, ProgramShape, body_at, into_vars, operand_vars, receives_in};
+ghost use Rattle.mir_base.specs.Units.{assigned, at, operand_value};
+ghost use Rattle.mir_interp.specs.Machines.{IsStack, control_of, running, values_of, vars_at, waiting};
+
+use crate::Finish;
+use mir_base::{Memory, Operand, Program};
+use std::alloc::Global;
+
+/// A frame: its unit, where it stands, and where its arguments and its variables begin in the list of values. Its
+/// variables end where the arguments of the next frame begin; those of the running frame, at the end of the list.
+#[derive(Clone, Copy)]
+pub(crate) struct Frame {
+    pub(crate) unit: usize,
+    pub(crate) place: usize,
+    pub(crate) arguments: usize,
+    pub(crate) variables: usize,
+}
+
+/// A frame that waits for the answer to its call, and the variable that the answer goes to.
+#[derive(Clone, Copy)]
+pub(crate) struct Caller {
+    pub(crate) into: Option<usize>,
+    pub(crate) frame: Frame,
+}
+
+/// The running frame, the frames that wait, the latest last, and the values of all of them.
+#[derive(Drop)]
+pub(crate) struct Stack {
+    pub(crate) running: Frame,
+    pub(crate) callers: Vec<Caller>,
+    pub(crate) values: Vec<i64>,
+}
+
+impl Stack {
+    /// The stack at the start of a run: a frame of the first unit alone.
+    pub(crate) fn new(alloc: Global, program: &Program, inputs: &[i64]) -> Result<Stack, Memory>
+        requires some_unit { 0 < length program.now.units }
+        requires inputs { length inputs.now ≡ inputs_of program.now }
+        ensures control { IfOk result (λ stack. control_of stack Finish.Running ≡ Control.Running 0 (first_frame (record { arguments = inputs.now })) []) }
+        ensures fits { IfOk result (λ stack. IsStack program.now stack) }
+        ensures callers { IfOk result (λ stack. stack.callers.items ≡ []) }
+    {
+        let variables = inputs.len();
+        let mut values = Vec::from_slice(alloc, inputs)?;
+        push_zeros(&mut values, program.unit(0).vars.items().len())?;
+        let running = Frame {
+            unit: 0,
+            place: 0,
+            arguments: 0,
+            variables,
+        };
+        Ok(Stack {
+            running,
+            callers: Vec::new(alloc),
+            values,
+        })
+    }
+
+    /// The variables of the running frame, by number.
+    pub(crate) fn variables(&self) -> &[i64]
+        requires { self.now.running.variables ≤ length self.now.values.items }
+        ensures { result.now ≡ drop self.now.running.variables self.now.values.items }
+    {
+        &self.values[self.running.variables..]
+    }
+
+    /// The argument of the receive at which the running frame stands.
+    pub(crate) fn argument(&self) -> i64
+        requires there { self.now.running.arguments + self.now.running.place < self.now.running.variables }
+        requires long { self.now.running.variables ≤ length self.now.values.items }
+        ensures { result ≡ slice_index_or (running self.now).arguments self.now.running.place (pos 0) }
+    {
+        self.values[self.running.arguments + self.running.place]
+    }
+
+    /// The running frame goes on at this place.
+    pub(crate) fn go_to(&mut self, place: usize)
+        ensures control { control_of self.new Finish.Running ≡ Control.Running self.old.running.unit (at place (running self.old)) (waiting self.old) }
+        ensures kept { (program : ProgramShape) → IsStack program self.old → IsStack program self.new }
+        ensures callers { self.new.callers.items ≡ self.old.callers.items }
+    {
+        self.running.place = place;
+    }
+
+    /// A variable of the running frame gets the value, and the frame goes on at the next place.
+    pub(crate) fn assign(&mut self, x: usize, value: i64)
+        requires there { self.old.running.variables + x < length self.old.values.items }
+        requires ordered { self.old.running.arguments ≤ self.old.running.variables }
+        requires next { self.old.running.place + 1 < 2 ^ 64 }
+        ensures control { control_of self.new Finish.Running ≡ Control.Running self.old.running.unit (assigned x value (self.old.running.place + 1) (running self.old)) (waiting self.old) }
+        ensures kept { (program : ProgramShape) → IsStack program self.old → IsStack program self.new }
+        ensures callers { self.new.callers.items ≡ self.old.callers.items }
+    {
+        self.values[self.running.variables + x] = value;
+        self.running.place += 1;
+    }
+
+    /// The running frame waits for its call at the next place, and a frame of the called unit begins: its arguments
+    /// are the values of the operands, and its variables are 0.
+    pub(crate) fn enter(
+        &mut self,
+        program: &Program,
+        into: Option<usize>,
+        called: usize,
+        operands: &[Operand],
+    ) -> Result<(), Memory>
+        requires stack { IsStack program.now self.old }
+        requires called { called < length program.now.units }
+        requires count { length operands.now ≡ receives_in (body_at program.now.units called) }
+        requires into { AllBelow (length (vars_at program.now.units self.old.running.unit)) (into_vars into) }
+        requires operands { AllBelow (length (vars_at program.now.units self.old.running.unit)) (flat_map operand_vars operands.now) }
+        requires next { self.old.running.place + 1 < 2 ^ 64 }
+        ensures control { IfOk result (λ _. control_of self.new Finish.Running ≡ Control.Running called (first_frame (record { arguments = map (operand_value (values_of (drop self.old.running.variables self.old.values.items))) operands.now })) (record { unit = self.old.running.unit; into = into; frame = at (self.old.running.place + 1) (running self.old) } ∷ waiting self.old)) }
+        ensures kept { IfOk result (λ _. IsStack program.now self.new) }
+        ensures callers { IfOk result (λ _. length self.new.callers.items ≡ length self.old.callers.items + 1) }
+    {
+        let arguments = self.values.len();
+        push_operands(&mut self.values, self.running.variables, operands)?;
+        let variables = self.values.len();
+        push_zeros(&mut self.values, program.unit(called).vars.items().len())?;
+        self.running.place += 1;
+        self.callers.push(Caller {
+            into,
+            frame: self.running,
+        })?;
+        self.running = Frame {
+            unit: called,
+            place: 0,
+            arguments,
+            variables,
+        };
+        Ok(())
+    }
+
+    /// The running frame is done, and its answer goes to the latest caller; where there is none, it is the result.
+    pub(crate) fn leave(&mut self, answer: i64) -> Finish
+        requires { (program : ProgramShape) × IsStack program self.old }
+        ensures control { control_of self.new result ≡ returned (record { value = answer }) (waiting self.old) }
+        ensures kept { (program : ProgramShape) → IsStack program self.old → IsStack program self.new }
+        ensures callers { length self.new.callers.items ≤ length self.old.callers.items }
+    {
+        match self.callers.pop() {
+            None => Finish::Ended(answer),
+            Some(caller) => {
+                self.values.truncate(self.running.arguments);
+                self.running = caller.frame;
+                if let Some(x) = caller.into {
+                    self.values[self.running.variables + x] = answer;
+                }
+                Finish::Running
+            }
+        }
+    }
+}
+
+/// The value of an operand, where these are the variables.
+pub(crate) fn operand(variables: &[i64], operand: Operand) -> i64
+    requires { AllBelow (length variables.now) (operand_vars operand) }
+    ensures { result ≡ operand_value (values_of variables.now) operand }
+{
+    match operand {
+        Operand::Var(x) => variables[x],
+        Operand::Const(c) => c,
+    }
+}
+
+/// Adds the values of the operands, where the variables stand from this index on.
+fn push_operands(
+    values: &mut Vec<i64>,
+    variables: usize,
+    operands: &[Operand],
+) -> Result<(), Memory>
+    requires below { AllBelow (length (drop variables values.old.items)) (flat_map operand_vars operands.now) }
+    requires long { variables ≤ length values.old.items }
+    ensures { IfOk result (λ _. values.new.items ≡ values.old.items ++ map (operand_value (values_of (drop variables values.old.items))) operands.now) }
+{
+    for a in operands {
+        let value = operand(&values[variables..], *a);
+        values.push(value)?;
+    }
+    Ok(())
+}
+
+/// Adds so many zeros.
+fn push_zeros(values: &mut Vec<i64>, count: usize) -> Result<(), Memory>
+    ensures { IfOk result (λ _. values.new.items ≡ values.old.items ++ replicate count (pos 0)) }
+{
+    for _ in 0..count {
+        values.push(0)?;
+    }
+    Ok(())
+}

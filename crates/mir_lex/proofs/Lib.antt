@@ -1,0 +1,10 @@
+mod NumberLemmas
+mod Pieces
+mod KindLemmas
+mod Sound
+mod Complete
+mod Marks
+mod Longest
+mod Rows
+mod Placed
+mod LexLaws

@@ -1,0 +1,85 @@
+-- What std reads as a number, and what the grammar does.
+use Rattle.std.proofs.Common.{◌≡◌, ℕ, ℤ, ◌^◌, ◌<◌, ◌==◌, Bool, true, false, cond, List, [], ◌∷◌, drop, length, None, Some, Result, Ok, Err, refl, sym, ◌∙◌, ap, arith, not, ◌&&◌, nat_lt, slice_index, w64, inl, inr}
+use Rattle.std.proofs.lemmas.Bool.{cases_Bool, ltb-true, lt-ltb, eqb-true}
+use Rattle.std.specs.Result.{result_ok}
+use Rattle.std.proofs.lemmas.Str.{IsUtf8-from_ascii}
+use Rattle.std.proofs.lemmas.Str.Ascii.{IsAscii-nil, IsAscii-cons}
+use Rattle.std.specs.Char.{is_ascii_digit}
+use Rattle.std.proofs.lemmas.Bool.Decides.{nat_tests}
+use Rattle.std.specs.Int.Signed.{mag}
+use Rattle.std.specs.Str.{all_ascii_digits, IsAscii, IsUtf8}
+use Rattle.std.specs.Str.Parse.{ParsesSigned, without_leading_sign, signed_digits_value, digits_value}
+use Rattle.std.proofs.lemmas.Str.Parse.{IsNumeralModel, numerals_by_value, tells_all_ascii_digits}
+use Rattle.mir_lex.specs.Scanner.{is_number, number_of}
+
+own : IsNumeralModel (λ ds. all_ascii_digits ds ≡ true) (digits_value 10)
+own = numerals_by_value _ tells_all_ascii_digits
+
+pub record Spells (bytes : List ℕ) : Type 0 where
+  pub plus : (slice_index bytes 0 == 43) ≡ false
+  pub some : 0 < length (without_leading_sign bytes)
+  pub digits : all_ascii_digits (without_leading_sign bytes) ≡ true
+  pub fits : mag (signed_digits_value 10 bytes) < 2 ^ 63
+
+pub and_true : (a b : Bool) → (a && b) ≡ true → (a ≡ true) × (b ≡ true)
+and_true true b h = (refl, h)
+and_true false b h = absurd (cc)
+
+not_true : (a : Bool) → not a ≡ true → a ≡ false
+not_true true h = absurd (cc)
+not_true false h = refl
+
+pub spells : (bytes : List ℕ) → is_number bytes ≡ true → Spells bytes
+spells bytes holds =
+    let three = and_true _ (nat_lt (mag (signed_digits_value 10 bytes)) (2 ^ 63)) holds in
+    let two = and_true _ (all_ascii_digits (without_leading_sign bytes)) three.0 in
+    let one = and_true (not (slice_index bytes 0 == 43)) (nat_lt 0 (length (without_leading_sign bytes))) two.0 in
+    record { plus = not_true _ one.0; some = ltb-true _ _ one.1; digits = two.1; fits = ltb-true _ _ three.1 }
+
+both : (a b : Bool) → a ≡ true → b ≡ true → (a && b) ≡ true
+both a b p q = ap (λ (x : Bool). x && b) p ∙ q
+
+is_spelled : (bytes : List ℕ) → Spells bytes → is_number bytes ≡ true
+is_spelled bytes h = both _ _ (both _ _ (both _ _ (ap not h.plus) (lt-ltb _ _ h.some)) h.digits) (lt-ltb _ _ h.fits)
+
+pub number_plus : (bytes : List ℕ) → (slice_index bytes 0 == 43) ≡ true → None ≡ number_of bytes
+unfolding number_of
+number_plus bytes plus = elim (cases_Bool (is_number bytes)) [
+  | inl holds ↦ absurd (let h = (spells bytes holds).plus in cc)
+  | inr fails ↦ sym (ap (λ (b : Bool). cond b (Some (signed_digits_value 10 bytes)) None) fails)
+]
+
+pub number_read : {E : Type 0} (bytes : List ℕ) (r : Result ℤ E) → (slice_index bytes 0 == 43) ≡ false → ParsesSigned w64 10 bytes r → result_ok r ≡ number_of bytes
+unfolding number_of
+number_read bytes (Ok z) plus h =
+    let v = signed_digits_value 10 bytes in
+    let holds : is_number bytes ≡ true = is_spelled bytes (record { plus = plus; some = h.0.0.0; digits = own.from _ h.0.0.1; fits = h.0.1.sfits }) in
+    ap (λ (z : ℤ). Some z) h.1 ∙ sym (ap (λ (b : Bool). cond b (Some v) None) holds)
+number_read bytes (Err e) plus h = elim (cases_Bool (is_number bytes)) [
+  | inl holds ↦ absurd (let s = spells bytes holds in h ((s.some, own.to _ s.digits), record { sfits = s.fits }))
+  | inr fails ↦ sym (ap (λ (b : Bool). cond b (Some (signed_digits_value 10 bytes)) None) fails)
+]
+
+ascii_digits : (ds : List ℕ) → all_ascii_digits ds ≡ true → IsAscii ds
+ascii_digits [] h = IsAscii-nil
+ascii_digits (d ∷ ds) h = let parts = and_true (is_ascii_digit d) _ h in IsAscii-cons d ds (ascii_digit d parts.0) (ascii_digits ds parts.1)
+  where
+    ascii_digit : (d : ℕ) → is_ascii_digit d ≡ true → d < 128
+    ascii_digit d h = grind (arith, nat_tests)
+
+ascii_number : (bytes : List ℕ) → Spells bytes → IsAscii bytes
+ascii_number [] h = IsAscii-nil
+ascii_number (b ∷ bytes) h = elim (cases_Bool (b == 45)) [
+  | inl minus ↦ IsAscii-cons b bytes (omega (arith, eqb-true b 45 minus)) (ascii_digits bytes (ap all_ascii_digits (sym (signed true minus)) ∙ h.digits))
+  | inr plain ↦ ascii_digits (b ∷ bytes) (ap all_ascii_digits (sym (signed false plain ∙ ap (λ (c : Bool). drop (cond c 1 0) (b ∷ bytes)) h.plus)) ∙ h.digits)
+]
+  where
+    signed : (t : Bool) → (b == 45) ≡ t → without_leading_sign (b ∷ bytes) ≡ cond t bytes (drop (cond (b == 43) 1 0) (b ∷ bytes))
+    signed t is = ap (λ (c : Bool). cond c bytes (drop (cond (b == 43) 1 0) (b ∷ bytes))) is
+
+pub number_text : (bytes : List ℕ) → (IsUtf8 bytes → ⊥) → None ≡ number_of bytes
+unfolding number_of
+number_text bytes not_text = elim (cases_Bool (is_number bytes)) [
+  | inl holds ↦ absurd (not_text (IsUtf8-from_ascii bytes (ascii_number bytes (spells bytes holds))))
+  | inr fails ↦ sym (ap (λ (b : Bool). cond b (Some (signed_digits_value 10 bytes)) None) fails)
+]

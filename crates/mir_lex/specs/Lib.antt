@@ -1,0 +1,4 @@
+pub mod Tokens
+pub mod Terminals
+pub mod Spelling
+pub mod Scanner

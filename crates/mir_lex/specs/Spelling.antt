@@ -1,0 +1,212 @@
+-- How a text is spelled: from the left, a row of tokens, blanks, comments and line feeds, each token as long as it can be.
+use Rattle.std.specs.Prelude.{ℕ, ◌≡◌, ◌≢◌, ◌<◌, ◌==◌, Bool, true, false, ◌||◌, not, ◌⊎◌, List, [], ◌∷◌, ◌++◌, length, codes, IsTrue, FitsSigned}
+use Rattle.std.specs.List.{list_all}
+use Rattle.std.specs.Str.{all_ascii_digits}
+use Rattle.std.specs.Int.{w64}
+use Rattle.std.specs.Str.Parse.{signed_digits_value}
+use Rattle.mir_base.specs.Names.{IsName, is_name_byte, begins_as_name}
+use Rattle.mir_lex.specs.declared.words.Word.{Word}
+use Rattle.mir_lex.specs.declared.words.Word.TheVariants.{Begin, End, Receive, Goto, If, Call, Return, Print, Mod, Min, Max, Shl, Shr, Shra, And, Or, Xor, Trap, Global, Sequence}
+use Rattle.mir_lex.specs.declared.words.Mark.{Mark}
+use Rattle.mir_lex.specs.declared.words.Mark.TheVariants.{Colon, Comma, Semicolon, LeftParen, RightParen, Plus, Minus, Star, Slash, Equal, NotEqual, Less, LessEqual, Greater, GreaterEqual, Bang, Arrow}
+use Rattle.mir_lex.specs.declared.words.Kind.{Kind}
+use Rattle.mir_lex.specs.declared.words.Kind.TheVariants.{Name as NameKind, Word as WordKind, Number as NumberKind, Mark as MarkKind, LineEnd as LineEndKind}
+use Rattle.mir_lex.specs.declared.tokens.Token.{Token}
+use Rattle.mir_lex.specs.declared.scan.Previous.{Previous}
+use Rattle.mir_lex.specs.declared.scan.Previous.TheVariants.{LineEnd as AfterLineEnd, Operand as AfterOperand, Other as AfterOther}
+use Rattle.mir_lex.specs.declared.faults.LexFault.{LexFault}
+use Rattle.mir_lex.specs.declared.faults.LexFault.TheVariants.{BadByte, BadNumber, LongName, Memory}
+use Rattle.mir_lex.specs.Tokens.{line_after}
+
+-- ---- spellings
+
+abbrev pub word_text : Word → List ℕ
+word_text Begin = codes "begin"
+word_text End = codes "end"
+word_text Receive = codes "receive"
+word_text Goto = codes "goto"
+word_text If = codes "if"
+word_text Call = codes "call"
+word_text Return = codes "return"
+word_text Print = codes "print"
+word_text Mod = codes "mod"
+word_text Min = codes "min"
+word_text Max = codes "max"
+word_text Shl = codes "shl"
+word_text Shr = codes "shr"
+word_text Shra = codes "shra"
+word_text And = codes "and"
+word_text Or = codes "or"
+word_text Xor = codes "xor"
+word_text Trap = codes "trap"
+word_text Global = codes "global"
+word_text Sequence = codes "sequence"
+
+abbrev pub mark_text : Mark → List ℕ
+mark_text Colon = codes ":"
+mark_text Comma = codes ","
+mark_text Semicolon = codes ";"
+mark_text LeftParen = codes "("
+mark_text RightParen = codes ")"
+mark_text Plus = codes "+"
+mark_text Minus = codes "-"
+mark_text Star = codes "*"
+mark_text Slash = codes "/"
+mark_text Equal = codes "="
+mark_text NotEqual = codes "!="
+mark_text Less = codes "<"
+mark_text LessEqual = codes "<="
+mark_text Greater = codes ">"
+mark_text GreaterEqual = codes ">="
+mark_text Bang = codes "!"
+mark_text Arrow = codes "<-"
+
+-- the bytes are this mark; the arrow is also the character U+2190
+abbrev pub IsMark : Mark → List ℕ → Type 0
+IsMark Arrow bytes = (bytes ≡ codes "<-") ⊎ (bytes ≡ 226 ∷ 134 ∷ 144 ∷ [])
+IsMark mark bytes = bytes ≡ mark_text mark
+
+-- a letter, and then letters, digits and `_`: a name or a reserved word, of any length
+abbrev pub IsWord : List ℕ → Type 0
+IsWord bytes = (begins_as_name bytes ≡ true) × (list_all is_name_byte bytes ≡ true)
+
+-- decimal digits, at least one
+abbrev pub IsDigits : List ℕ → Type 0
+IsDigits bytes = (0 < length bytes) × (all_ascii_digits bytes ≡ true)
+
+-- a `-` before digits belongs to the number, unless the token before it on its line is a name or a number
+abbrev pub CanBeSigned : Previous → Type 0
+CanBeSigned AfterOperand = ⊥
+CanBeSigned previous = Unit {0}
+
+-- a number, of any size
+abbrev pub IsNumeral : Previous → List ℕ → Type 0
+IsNumeral previous bytes = IsDigits bytes ⊎ ((digits : List ℕ) × (bytes ≡ 45 ∷ digits) × IsDigits digits × CanBeSigned previous)
+
+-- the number is one of 64 bits with a sign
+abbrev pub IsInRange : List ℕ → Type 0
+IsInRange bytes = FitsSigned w64 (signed_digits_value 10 bytes)
+
+-- spelled as a token is, but for the length of a word and the size of a number
+abbrev pub IsSpelled : Previous → List ℕ → Type 0
+IsSpelled previous bytes = IsWord bytes ⊎ IsNumeral previous bytes ⊎ ((mark : Mark) × IsMark mark bytes)
+
+-- no more of what follows can belong to the token
+abbrev pub IsLongest : Previous → List ℕ → List ℕ → Type 0
+IsLongest previous bytes after = (more rest : List ℕ) → after ≡ more ++ rest → IsSpelled previous (bytes ++ more) → more ≡ []
+
+-- ---- tokens
+
+-- the first byte passes the test
+abbrev pub BeginsWith : (ℕ → Bool) → List ℕ → Type 0
+BeginsWith test [] = ⊥
+BeginsWith test (byte ∷ bytes) = IsTrue (test byte)
+
+-- the bytes are a token of this kind; a number is not directly followed by a letter or `_`
+abbrev pub IsToken : Previous → List ℕ → List ℕ → Kind → Type 0
+IsToken previous bytes after NameKind = IsName bytes
+IsToken previous bytes after (WordKind word) = bytes ≡ word_text word
+IsToken previous bytes after (NumberKind value) = IsNumeral previous bytes × IsInRange bytes × (value ≡ signed_digits_value 10 bytes) × ¬ BeginsWith is_name_byte after
+IsToken previous bytes after (MarkKind mark) = IsMark mark bytes
+IsToken previous bytes after LineEndKind = ⊥
+
+-- what the next token has to know of this one
+abbrev pub previous_of : Kind → Previous
+previous_of NameKind = AfterOperand
+previous_of (NumberKind value) = AfterOperand
+previous_of LineEndKind = AfterLineEnd
+previous_of kind = AfterOther
+
+-- a line end is no token at the start of a text and behind another line end
+abbrev pub with_line_end : List Token → Previous → ℕ → ℕ → ℕ → List Token
+with_line_end items AfterLineEnd line start length = items
+with_line_end items previous line start length = items ++ record { kind = LineEndKind; start = start; length = length; line = line } ∷ []
+
+-- ---- texts
+
+abbrev pub is_blank : ℕ → Bool
+is_blank byte = byte == 32 || byte == 9 || byte == 13
+
+abbrev pub HasNoLineFeed : List ℕ → Type 0
+HasNoLineFeed bytes = list_all (λ byte. not (byte == 10)) bytes ≡ true
+
+-- `||`, and what follows it on its line
+abbrev pub comment_text : List ℕ → List ℕ
+comment_text body = codes "||" ++ body
+
+-- the line ends here, or the text does
+abbrev pub EndsLine : List ℕ → Type 0
+EndsLine [] = Unit {0}
+EndsLine (byte ∷ bytes) = byte ≡ 10
+
+-- the front of the text is a row of tokens, blanks, comments and line feeds, with these tokens, the last of them as said
+pub data Row : List ℕ → List ℕ → List Token → Previous → Type 0 where
+  start : {text : List ℕ} → Row text [] [] AfterLineEnd
+  token : {text front : List ℕ} {items : List Token} {previous : Previous} (bytes after : List ℕ) (kind : Kind)
+      → Row text front items previous → text ≡ front ++ bytes ++ after → IsToken previous bytes after kind → IsLongest previous bytes after
+      → Row text (front ++ bytes) (items ++ record { kind = kind; start = length front; length = length bytes; line = line_after front } ∷ []) (previous_of kind)
+  blank : {text front : List ℕ} {items : List Token} {previous : Previous} (byte : ℕ) (after : List ℕ)
+      → Row text front items previous → text ≡ front ++ byte ∷ after → IsTrue (is_blank byte)
+      → Row text (front ++ byte ∷ []) items previous
+  comment : {text front : List ℕ} {items : List Token} {previous : Previous} (body after : List ℕ)
+      → Row text front items previous → text ≡ front ++ comment_text body ++ after → HasNoLineFeed body → EndsLine after
+      → Row text (front ++ comment_text body) items previous
+  line_feed : {text front : List ℕ} {items : List Token} {previous : Previous} (after : List ℕ)
+      → Row text front items previous → text ≡ front ++ 10 ∷ after
+      → Row text (front ++ 10 ∷ []) (with_line_end items previous (line_after front) (length front) 1) AfterLineEnd
+
+-- these are the tokens of the text: one more line end stands behind a last line that has no line feed
+pub record IsTokens (text : List ℕ) (items : List Token) : Type 0 where
+  pub before : List Token
+  pub previous : Previous
+  pub row : Row text text before previous
+  pub items_are : items ≡ with_line_end before previous (line_after text) (length text) 0
+
+-- ---- refusals
+
+-- the byte begins no blank, line feed, comment or token
+pub record BeginsNone (previous : Previous) (byte : ℕ) (after : List ℕ) : Type 0 where
+  pub no_blank : is_blank byte ≡ false
+  pub no_line_feed : byte ≢ 10
+  pub no_comment : (rest : List ℕ) → byte ∷ after ≡ comment_text rest → ⊥
+  pub no_token : (bytes rest : List ℕ) → byte ∷ after ≡ bytes ++ rest → IsSpelled previous bytes → ⊥
+
+-- a number that is out of range, or is directly followed by a letter or `_`, is here
+pub record IsBadNumber (previous : Previous) (text : List ℕ) : Type 0 where
+  pub bytes : List ℕ
+  pub after : List ℕ
+  pub split : text ≡ bytes ++ after
+  pub numeral : IsNumeral previous bytes
+  pub longest : IsLongest previous bytes after
+  pub bad : ¬ IsInRange bytes ⊎ BeginsWith is_name_byte after
+
+-- a name of more than 64 bytes is here
+pub record IsLongName (previous : Previous) (text : List ℕ) : Type 0 where
+  pub bytes : List ℕ
+  pub after : List ℕ
+  pub split : text ≡ bytes ++ after
+  pub word : IsWord bytes
+  pub longest : IsLongest previous bytes after
+  pub long : 64 < length bytes
+
+-- no token stands here, behind this front of the text, for this cause
+abbrev pub Stops : List ℕ → Previous → List ℕ → LexFault → Type 0
+Stops front previous after (BadByte line) = (line ≡ line_after front) × ((byte : ℕ) × (rest : List ℕ) × (after ≡ byte ∷ rest) × BeginsNone previous byte rest)
+Stops front previous after (BadNumber line) = (line ≡ line_after front) × IsBadNumber previous after
+Stops front previous after (LongName line) = (line ≡ line_after front) × IsLongName previous after
+Stops front previous after (Memory refused) = ⊥
+
+-- the first place from the left where no token stands
+pub record IsRefusal (text : List ℕ) (fault : LexFault) : Type 0 where
+  pub front : List ℕ
+  pub after : List ℕ
+  pub items : List Token
+  pub previous : Previous
+  pub split : text ≡ front ++ after
+  pub row : Row text front items previous
+  pub stops : Stops front previous after fault
+
+-- want of memory
+abbrev pub IsMemory : LexFault → Type 0
+IsMemory (Memory refused) = Unit {0}
+IsMemory fault = ⊥
