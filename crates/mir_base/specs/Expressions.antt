@@ -1,5 +1,5 @@
--- Which right sides divide, which are movable, and the expression of a movable one.
-use Rattle.std.specs.Prelude.{Bool, true, false, ◌&&◌, not, pos, Option, Some, None, if◌then◌else◌}
+-- Which right sides divide, which are movable, the expression of a movable one, and what the evaluation of one gives.
+use Rattle.std.specs.Prelude.{ℕ, Bool, true, false, ◌&&◌, not, ℤ, pos, Option, Some, None, if◌then◌else◌}
 use Rattle.std.specs.Ordering.{int_eq}
 use Rattle.mir_base.specs.declared.instructions.Operand.{Operand}
 use Rattle.mir_base.specs.declared.instructions.Operand.TheVariants.{Var, Const}
@@ -7,7 +7,7 @@ use Rattle.mir_base.specs.declared.instructions.Rhs.{Rhs}
 use Rattle.mir_base.specs.declared.instructions.Rhs.TheVariants.{Plain, Unary, Binary}
 use Rattle.mir_base.specs.declared.instructions.Expr.{Expr}
 use Rattle.mir_base.specs.declared.instructions.Expr.TheVariants.{Un, Bin}
-use Rattle.mir_base.specs.Numbers.{is_dividing, wrapped, traps}
+use Rattle.mir_base.specs.Numbers.{is_dividing, wrapped, traps, value_of_op, value_of_un_op}
 use Rattle.mir_base.specs.Frames.{Values}
 use Rattle.mir_base.specs.Units.{operand_value}
 
@@ -39,3 +39,15 @@ abbrev pub rhs_traps : Values → Rhs → Bool
 rhs_traps values (Plain a) = false
 rhs_traps values (Unary op a) = false
 rhs_traps values (Binary op a b) = traps op (operand_value values b)
+
+-- its value, where it does not trap
+abbrev pub rhs_value : Values → Rhs → ℤ
+rhs_value values (Plain a) = operand_value values a
+rhs_value values (Unary op a) = value_of_un_op op (operand_value values a)
+rhs_value values (Binary op a b) = value_of_op op (operand_value values a) (operand_value values b)
+
+-- how many evaluations it counts, also where it traps
+abbrev pub rhs_count : Rhs → ℕ
+rhs_count (Plain a) = 0
+rhs_count (Unary op a) = 1
+rhs_count (Binary op a b) = 1

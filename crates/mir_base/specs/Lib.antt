@@ -6,5 +6,16 @@ pub mod Text
 pub mod Frames
 pub mod Units
 pub mod Runs
+pub mod UnitRuns
+pub mod Simulations
+pub mod Locksteps
 pub mod Cuts
 pub mod FirstForm
+pub mod NumberLaws
+pub mod ExpressionLaws
+pub mod FrameLaws
+pub mod SilentLaws
+pub mod SimulationLaws
+pub mod ResponseLaws
+pub mod LockstepLaws
+pub mod UnitLaws

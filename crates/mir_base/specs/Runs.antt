@@ -1,5 +1,5 @@
--- Runs of a program as a stack of frames, and when two programs are the same.
-use Rattle.std.specs.Prelude.{◌≡◌, ℕ, zero, suc, ◌+◌, max, List, [], ◌∷◌, ◌++◌, length, ℤ, Option, All, FitsSigned}
+-- Runs of a program as a stack of frames, when two programs are the same, and when one counts no more than the other.
+use Rattle.std.specs.Prelude.{◌≡◌, ℕ, zero, suc, ◌+◌, ◌≤◌, max, List, [], ◌∷◌, ◌++◌, length, ℤ, Option, All, FitsSigned}
 use Rattle.mir_base.specs.declared.operators.Trap.{Trap}
 use Rattle.mir_base.specs.Shapes.{ProgramShape, body_at, receives_in}
 use Rattle.mir_base.specs.Frames.{Answer, Frame, first_frame, resumed, Transition, Continues, Prints, Calls, Returns, Traps, Code}
@@ -105,3 +105,7 @@ pub record Same (first second : ProgramShape) : Type 0 where
   pub inputs : inputs_of first ≡ inputs_of second
   pub forth : Follows first second
   pub back : Follows second first
+
+-- on all inputs on which both end, the second has counted at most as many evaluations as the first
+pub record Cheaper (first second : ProgramShape) : Type 0 where
+  pub cheaper : (inputs : List ℤ) → length inputs ≡ inputs_of first → AreNumbers inputs → (n m : ℕ) (v w : ℤ) → (run first inputs n).control ≡ Ended v → (run second inputs m).control ≡ Ended w → (run second inputs m).counted ≤ (run first inputs n).counted

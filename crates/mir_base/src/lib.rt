@@ -2,7 +2,9 @@
 //!
 //! In go names, numbers and lists of instructions; out come programs whose parts are known to fit together. The
 //! definitions in `specs/` say what a program means (the values of operators, one step of a frame, a run as a stack of
-//! frames), when two programs are the same, and what the text of a program is.
+//! frames), when two programs are the same, and what the text of a program is. They also say when a unit and what it was
+//! rewritten to do the same and count no more, by runs of one frame with answers to its calls (`UnitSame`,
+//! `UnitCheaper`), and give the two rules by which the crates above prove it: `Simulates` and `Lockstep`.
 //!
 //! The theorem that this crate carries is `cut_is_same`: what stands after the first return of a body without jumps
 //! can be cut off, and the return of 0 at its end written out, and no run changes.

@@ -1,0 +1,94 @@
+-- Sameness of units is an equivalence, and units that are the same and cheaper can be chained.
+use Rattle.std.proofs.Common.{◌≡◌, ℕ, zero, suc, List, [], ◌∷◌, ◌++◌, refl, sym, ap, ◌∙◌, subst, arith, append-nil, append_assoc}
+use Rattle.mir_base.specs.Frames.{Entry, Answer, Frame, first_frame, resumed, Transition, Continues, Prints, Calls, Returns, Traps, Code}
+use Rattle.mir_base.specs.UnitRuns.{Event, Printed, Called, Shown, after_transition, frame_run, EndsInReturn, Machine, unit_run, IsEntry, AreAnswers, UnitFollows, UnitSame, UnitCheaper}
+use Rattle.mir_base.specs.SilentLaws.{prefix_trans}
+
+-- ---- UnitSame
+
+follows_refl : (a : Machine) → UnitFollows a a
+follows_refl a = record { follows = λ entry answers is are n. (n, ([], sym (append-nil (unit_run a entry answers n).events))) }
+
+pub same_refl : (a : Machine) → UnitSame a a
+same_refl a = record { receives = refl; forth = follows_refl a; back = follows_refl a }
+
+pub same_sym : (a b : Machine) → UnitSame a b → UnitSame b a
+same_sym a b s = record { receives = sym s.receives; forth = s.back; back = s.forth }
+
+entered : (a b : Machine) → a.receives ≡ b.receives → (entry : Entry) → IsEntry a entry → IsEntry b entry
+entered a b same entry is = record { long = is.long ∙ same; numbers = is.numbers }
+
+follows_trans : (a b c : Machine) → a.receives ≡ b.receives → UnitFollows a b → UnitFollows b c → UnitFollows a c
+follows_trans a b c same s t =
+    record {
+      follows = λ entry answers is are n.
+          let p = s.follows entry answers is are n in
+          let q = t.follows entry answers (entered a b same entry is) are p.0 in
+          (q.0, prefix_trans (unit_run a entry answers n).events (unit_run b entry answers p.0).events (unit_run c entry answers q.0).events p.1 q.1);
+    }
+
+pub same_trans : (a b c : Machine) → UnitSame a b → UnitSame b c → UnitSame a c
+same_trans a b c s t = record {
+  receives = s.receives ∙ t.receives;
+  forth = follows_trans a b c s.receives s.forth t.forth;
+  back = follows_trans c b a (sym t.receives) t.back s.back;
+}
+
+-- ---- after a return nothing is shown
+
+nothing_after : (xs rest : List Event) → [] ≡ xs ++ rest → rest ≡ []
+nothing_after [] rest e = sym e
+nothing_after (x ∷ xs) rest e = cc
+
+module _ (go : Frame → List Answer → Shown) (ih : (f : Frame) (answers : List Answer) (xs rest : List Event) → (go f answers).events ≡ xs ++ rest → EndsInReturn xs → rest ≡ []) where
+  last_after : (t : Transition) (answers : List Answer) (x : Event) (xs rest : List Event) → (after_transition go t answers).events ≡ x ∷ (xs ++ rest) → EndsInReturn (x ∷ xs) → rest ≡ []
+  last_after (Continues n next) answers x xs rest e ends = ih next answers (x ∷ xs) rest e ends
+  last_after (Prints v next) answers x xs rest e ends =
+      let same : x ≡ Printed v = cc in
+      let tail : (go next answers).events ≡ xs ++ rest = cc in
+      ih next answers xs rest tail (subst (λ y. EndsInReturn (y ∷ xs)) same ends)
+  last_after (Calls u entry into next) [] x xs rest e ends =
+      let tail : [] ≡ xs ++ rest = cc in
+      nothing_after xs rest tail
+  last_after (Calls u entry into next) (answer ∷ answers) x xs rest e ends =
+      let same : x ≡ Called u entry = cc in
+      let tail : (go (resumed into answer next) answers).events ≡ xs ++ rest = cc in
+      ih (resumed into answer next) answers xs rest tail (subst (λ y. EndsInReturn (y ∷ xs)) same ends)
+  last_after (Returns answer) answers x xs rest e ends =
+      let tail : [] ≡ xs ++ rest = cc in
+      nothing_after xs rest tail
+  last_after (Traps kind n) answers x xs rest e ends =
+      let tail : [] ≡ xs ++ rest = cc in
+      nothing_after xs rest tail
+
+return_last : (code : Code) (n : ℕ) (f : Frame) (answers : List Answer) (xs rest : List Event) → (frame_run code n f answers).events ≡ xs ++ rest → EndsInReturn xs → rest ≡ []
+return_last code n f answers [] rest e ends = absurd ends
+return_last code zero f answers (x ∷ xs) rest e ends = cc
+return_last code (suc n) f answers (x ∷ xs) rest e ends = last_after (frame_run code n) (return_last code n) (code f) answers x xs rest e ends
+
+front_none : (xs ys : List Event) → xs ++ ys ≡ [] → xs ≡ []
+front_none [] ys e = refl
+front_none (x ∷ xs) ys e = cc
+
+-- of two machines that do the same, the second returns where the first does: what it shows more, the first would show
+-- after its return
+ends_too : (a b : Machine) → UnitSame a b → (entry : Entry) (answers : List Answer) → IsEntry a entry → AreAnswers answers → (n : ℕ) → EndsInReturn (unit_run a entry answers n).events → (m : ℕ) × EndsInReturn (unit_run b entry answers m).events
+ends_too a b same entry answers is are n ends =
+    let shown : List Event = (unit_run a entry answers n).events in
+    let p = same.forth.follows entry answers is are n in
+    let q = same.back.follows entry answers (entered a b same.receives entry is) are p.0 in
+    let e : (unit_run a entry answers q.0).events ≡ shown ++ (p.1.0 ++ q.1.0) = q.1.1 ∙ ap (λ l. l ++ q.1.0) p.1.1 ∙ append_assoc shown p.1.0 q.1.0 in
+    let none : p.1.0 ++ q.1.0 ≡ [] = return_last a.code q.0 (first_frame entry) answers shown (p.1.0 ++ q.1.0) e ends in
+    let no_more : p.1.0 ≡ [] = front_none p.1.0 q.1.0 none in
+    (p.0, subst EndsInReturn (sym (append-nil shown) ∙ ap (λ l. shown ++ l) (sym no_more) ∙ sym p.1.1) ends)
+
+-- ---- UnitCheaper
+
+-- a run that has returned counts what each run that has returned counts
+pub cheaper_trans : (a b c : Machine) → UnitSame a b → UnitCheaper a b → UnitCheaper b c → UnitCheaper a c
+cheaper_trans a b c same s t =
+    record {
+      cheaper = λ entry answers is are n m ends ends'.
+          let p = ends_too a b same entry answers is are n ends in
+          omega (arith, s.cheaper entry answers is are n p.0 ends p.1, t.cheaper entry answers (entered a b same.receives entry is) are p.0 m p.1 ends');
+    }

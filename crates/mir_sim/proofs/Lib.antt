@@ -1,0 +1,5 @@
+pub mod Follows
+pub mod Stacks
+pub mod Fits
+pub mod Lifts
+pub mod Sums

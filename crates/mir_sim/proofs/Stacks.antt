@@ -1,0 +1,260 @@
+-- One stack of frames follows another, where each frame of the one follows the frame of the other at the same height.
+use Rattle.std.proofs.Common.{◌≡◌, ℕ, zero, suc, ◌+◌, ◌≤◌, List, [], ◌∷◌, ℤ, Option, refl, sym, ap, ◌∙◌, subst, arith, zero-add, suc-add, add-zero}
+use Rattle.mir_base.specs.declared.operators.Trap.{Trap}
+use Rattle.mir_base.specs.Frames.{Entry, Answer, Frame, first_frame, resumed, Transition, Continues, Prints, Calls, Returns, Traps, Code}
+use Rattle.mir_base.specs.Runs.{Caller, Control, Running, Ended, Stopped, State, returned, state_after, step, steps}
+use Rattle.mir_base.specs.UnitRuns.{Printed, Called, Returned, Trapped, IsAnswer}
+use Rattle.mir_base.specs.Simulations.{Silently}
+use Rattle.mir_base.specs.FrameLaws.{FrameFits, resumed_fits}
+use Rattle.mir_sim.proofs.Follows.{Shows, catches_up, pair_on_left, pair_on_right, pair_after_prints, pair_after_call, pair_at_return, Pair}
+
+-- ---- the only transitions that show an event
+
+shows_print : (v : ℤ) (t : Transition) → Shows (Printed v) t → (next : Frame) × (t ≡ Prints v next)
+shows_print v (Continues n next) s = absurd s
+shows_print v (Prints w next) s = (next, cc)
+shows_print v (Calls u entry into next) s = cc
+shows_print v (Returns answer) s = cc
+shows_print v (Traps kind n) s = cc
+
+shows_call : (u : ℕ) (entry : Entry) (t : Transition) → Shows (Called u entry) t → (into : Option ℕ) × (next : Frame) × (t ≡ Calls u entry into next)
+shows_call u entry (Continues n next) s = absurd s
+shows_call u entry (Prints w next) s = cc
+shows_call u entry (Calls u' entry' into next) s = (into, next, cc)
+shows_call u entry (Returns answer) s = cc
+shows_call u entry (Traps kind n) s = cc
+
+shows_return : (answer : Answer) (t : Transition) → Shows (Returned answer) t → t ≡ Returns answer
+shows_return answer (Continues n next) s = absurd s
+shows_return answer (Prints w next) s = cc
+shows_return answer (Calls u entry into next) s = cc
+shows_return answer (Returns w) s = cc
+shows_return answer (Traps kind n) s = cc
+
+shows_trap : (kind : Trap) (t : Transition) → Shows (Trapped kind) t → (n : ℕ) × (t ≡ Traps kind n)
+shows_trap kind (Continues n next) s = absurd s
+shows_trap kind (Prints w next) s = cc
+shows_trap kind (Calls u entry into next) s = cc
+shows_trap kind (Returns answer) s = cc
+shows_trap kind (Traps l n) s = (n, cc)
+
+-- ---- two stacks that match
+
+-- what a transition keeps: values stay signed 64-bit numbers, and only what may be called is called
+abbrev pub Kept : (ℕ → Entry → Type 0) → Transition → Type 0
+Kept Callable (Continues n next) = FrameFits next
+Kept Callable (Prints v next) = FrameFits next
+Kept Callable (Calls u entry into next) = Callable u entry × FrameFits next
+Kept Callable (Returns answer) = IsAnswer answer
+Kept Callable (Traps kind n) = Unit {0}
+
+-- Two frames in stacks that have counted E and E' in all, without the frames above: what the two frames counted of that
+-- (`own`), what the others below did (`others`), and that these match
+pub record Layer (E E' : ℕ) (Below : ℕ → ℕ → Type 0) (Here : ℕ → ℕ → Type 0) : Type 0 where
+  pub own : ℕ
+  pub own' : ℕ
+  pub others : ℕ
+  pub others' : ℕ
+  pub sum : E ≡ others + own
+  pub sum' : E' ≡ others' + own'
+  pub here : Here own own'
+  pub below : Below others others'
+
+-- two frames of which the second follows the first
+pub record Standing (Q : Type 0) (c d : Code) (f g : Frame) (x y : ℕ) : Type 0 where
+  pub pair : Pair Q c d x y f g
+  pub fits : FrameFits f
+
+-- two callers, of which the second follows the first with every answer
+pub record Waiting (Q : Type 0) (codes codes' : ℕ → Code) (p q : Caller) (x y : ℕ) : Type 0 where
+  pub goes_on : (answer : Answer) → IsAnswer answer → Pair Q (codes p.unit) (codes' q.unit) x y (resumed p.into answer p.frame) (resumed q.into answer q.frame)
+  pub fits : FrameFits p.frame
+
+abbrev pub MatchCallers : (Q : Type 0) (codes codes' : ℕ → Code) → List Caller → List Caller → ℕ → ℕ → Type 0
+MatchCallers Q codes codes' [] [] E E' = Q → E' ≤ E
+MatchCallers Q codes codes' (p ∷ ps) (q ∷ qs) E E' = Layer E E' (MatchCallers Q codes codes' ps qs) (Waiting Q codes codes' p q)
+MatchCallers Q codes codes' _ _ E E' = ⊥
+
+abbrev pub MatchRunning : (Q : Type 0) (codes codes' : ℕ → Code) → ℕ → Frame → List Caller → ℕ → Frame → List Caller → ℕ → ℕ → Type 0
+MatchRunning Q codes codes' u f ps u' g qs E E' = Layer E E' (MatchCallers Q codes codes' ps qs) (Standing Q (codes u) (codes' u') f g)
+
+abbrev pub MatchControl : (Q : Type 0) (codes codes' : ℕ → Code) → Control → Control → ℕ → ℕ → Type 0
+MatchControl Q codes codes' (Running u f ps) (Running u' g qs) E E' = MatchRunning Q codes codes' u f ps u' g qs E E'
+MatchControl Q codes codes' (Ended v) (Ended w) E E' = (v ≡ w) × (Q → E' ≤ E)
+MatchControl Q codes codes' (Stopped k) (Stopped l) E E' = k ≡ l
+MatchControl Q codes codes' _ _ E E' = ⊥
+
+-- equal prints, and matching stacks
+pub record MatchState (Q : Type 0) (codes codes' : ℕ → Code) (s t : State) : Type 0 where
+  pub prints : s.printed ≡ t.printed
+  pub control : MatchControl Q codes codes' s.control t.control s.counted t.counted
+
+-- ---- steps of a stack
+
+pub steps-add : (codes : ℕ → Code) (k m : ℕ) (s : State) → steps codes (k + m) s ≡ steps codes m (steps codes k s)
+steps-add codes zero m s = rw (zero-add m)
+steps-add codes (suc k) m s = rw (suc-add k m) (steps-add codes k m (step codes s))
+
+abbrev state : List ℤ → Control → ℕ → ℕ → State
+state printed control counted depth = record { printed = printed; control = control; counted = counted; depth = depth }
+
+-- silent steps of the running frame
+silent_steps : (codes : ℕ → Code) (u k : ℕ) (g h : Frame) (n : ℕ) → Silently (codes u) k g h n → (printed : List ℤ) (callers : List Caller) (counted depth : ℕ) → steps codes k (state printed (Running u g callers) counted depth) ≡ state printed (Running u h callers) (counted + n) depth
+silent_steps codes u zero g h n s printed callers counted depth = rw (s.0, s.1, add-zero counted)
+silent_steps codes u (suc k) g h n s printed callers counted depth =
+    let first : step codes (state printed (Running u g callers) counted depth) ≡ state printed (Running u s.0 callers) (counted + s.1) depth = ap (λ t. state_after u callers t (state printed (Running u g callers) counted depth)) s.3 in
+    let rest = silent_steps codes u k s.0 h s.2 s.4 printed callers (counted + s.1) depth in
+    let sum : (counted + s.1) + s.2 ≡ counted + n = omega (arith, s.5) in
+    ap (steps codes k) first ∙ rest ∙ ap (λ c. state printed (Running u h callers) c depth) sum
+
+-- silent steps, and then a transition
+then_step : (codes : ℕ → Code) (u k : ℕ) (g h : Frame) (n : ℕ) → Silently (codes u) k g h n → (t : Transition) → codes u h ≡ t → (printed : List ℤ) (callers : List Caller) (counted depth : ℕ) → steps codes (k + 1) (state printed (Running u g callers) counted depth) ≡ state_after u callers t (state printed (Running u h callers) (counted + n) depth)
+then_step codes u k g h n s t is printed callers counted depth =
+    steps-add codes k 1 _ ∙ ap (steps codes 1) (silent_steps codes u k g h n s printed callers counted depth) ∙ ap (λ t'. state_after u callers t' (state printed (Running u h callers) (counted + n) depth)) is
+
+module _ (Q : Type 0) (codes codes' : ℕ → Code) (Callable : ℕ → Entry → Type 0)
+    (keeps : (u : ℕ) (f : Frame) → FrameFits f → Kept Callable (codes u f))
+    (enters : (u : ℕ) (entry : Entry) → Callable u entry → Standing Q (codes u) (codes' u) (first_frame entry) (first_frame entry) 0 0) where
+  -- what a frame that returns leaves to its callers
+  more_counted : (ps qs : List Caller) (A A' a b : ℕ) → (Q → b ≤ a) → MatchCallers Q codes codes' ps qs A A' → MatchCallers Q codes codes' ps qs (A + a) (A' + b)
+  more_counted [] [] A A' a b h m = λ q. omega (arith, h q, m q)
+  more_counted [] (q ∷ qs) A A' a b h m = absurd m
+  more_counted (p ∷ ps) [] A A' a b h m = absurd m
+  more_counted (p ∷ ps) (q ∷ qs) A A' a b h m =
+      record {
+        own = m.own;
+        own' = m.own';
+        others = m.others + a;
+        others' = m.others' + b;
+        sum = omega (arith, m.sum);
+        sum' = omega (arith, m.sum');
+        here = m.here;
+        below = more_counted ps qs m.others m.others' a b h m.below;
+      }
+
+  returns_alike : (answer : Answer) → IsAnswer answer → (ps qs : List Caller) (E E' : ℕ) → MatchCallers Q codes codes' ps qs E E' → MatchControl Q codes codes' (returned answer ps) (returned answer qs) E E'
+  returns_alike answer is [] [] E E' m = (refl, m)
+  returns_alike answer is [] (q ∷ qs) E E' m = absurd m
+  returns_alike answer is (p ∷ ps) [] E E' m = absurd m
+  returns_alike answer is (p ∷ ps) (q ∷ qs) E E' m = record {
+    own = m.own;
+    own' = m.own';
+    others = m.others;
+    others' = m.others';
+    sum = m.sum;
+    sum' = m.sum';
+    here = record { pair = m.here.goes_on answer is; fits = resumed_fits p.into answer p.frame is m.here.fits };
+    below = m.below;
+  }
+
+  -- one step of the first stack: some number of steps of the second match it
+  one_transition : (printed : List ℤ) (u : ℕ) (f : Frame) (ps : List Caller) (u' : ℕ) (g : Frame) (qs : List Caller) (E E' D D' : ℕ) (t : Transition) → codes u f ≡ t → MatchRunning Q codes codes' u f ps u' g qs E E' → (k : ℕ) × MatchState Q codes codes' (state_after u ps t (state printed (Running u f ps) E D)) (steps codes' k (state printed (Running u' g qs) E' D'))
+  one_transition printed u f ps u' g qs E E' D D' (Continues n next) is m =
+      let kept = subst (Kept Callable) is (keeps u f m.here.fits) in (
+        0,
+        record {
+          prints = refl;
+          control = record {
+            own = m.own + n;
+            own' = m.own';
+            others = m.others;
+            others' = m.others';
+            sum = omega (arith, m.sum);
+            sum' = m.sum';
+            here = record { pair = pair_on_left Q (codes u) (codes' u') m.own m.own' f next g n is m.here.pair; fits = kept };
+            below = m.below;
+          };
+        },
+      )
+  one_transition printed u f ps u' g qs E E' D D' (Prints v next) is m =
+      let kept = subst (Kept Callable) is (keeps u f m.here.fits) in
+      let c = catches_up (codes u) (codes' u') f g (Printed v) (Prints v next) is refl m.here.pair.follows in
+      let w = shows_print v (codes' u' c.h) c.shows in
+      let goes = then_step codes' u' c.k g c.h c.n c.silent (Prints v w.0) w.1 printed qs E' D' in
+      let caught = pair_on_right Q (codes u) (codes' u') m.own m.own' f g c.h c.k c.n c.silent m.here.pair in
+      let done : MatchState Q codes codes' (state_after u ps (Prints v next) (state printed (Running u f ps) E D)) (state_after u' qs (Prints v w.0) (state printed (Running u' c.h qs) (E' + c.n) D')) =
+      record {
+        prints = refl;
+        control = record {
+          own = m.own;
+          own' = m.own' + c.n;
+          others = m.others;
+          others' = m.others';
+          sum = m.sum;
+          sum' = omega (arith, m.sum');
+          here = record { pair = pair_after_prints Q (codes u) (codes' u') m.own (m.own' + c.n) f next c.h w.0 v is w.1 caught; fits = kept };
+          below = m.below;
+        };
+      } in
+      (c.k + 1, subst (MatchState Q codes codes' _) (sym goes) done)
+  one_transition printed u f ps u' g qs E E' D D' (Calls called entry into next) is m =
+      let kept = subst (Kept Callable) is (keeps u f m.here.fits) in
+      let c = catches_up (codes u) (codes' u') f g (Called called entry) (Calls called entry into next) is refl m.here.pair.follows in
+      let s = shows_call called entry (codes' u' c.h) c.shows in
+      let goes = then_step codes' u' c.k g c.h c.n c.silent (Calls called entry s.0 s.1) s.2 printed qs E' D' in
+      let caught = pair_on_right Q (codes u) (codes' u') m.own m.own' f g c.h c.k c.n c.silent m.here.pair in
+      let done : MatchState Q codes codes' (state_after u ps (Calls called entry into next) (state printed (Running u f ps) E D)) (state_after u' qs (Calls called entry s.0 s.1) (state printed (Running u' c.h qs) (E' + c.n) D')) =
+      record {
+        prints = refl;
+        control = record {
+          own = 0;
+          own' = 0;
+          others = E;
+          others' = E' + c.n;
+          sum = sym (add-zero E);
+          sum' = sym (add-zero (E' + c.n));
+          here = enters called entry kept.0;
+          below = record {
+            own = m.own;
+            own' = m.own' + c.n;
+            others = m.others;
+            others' = m.others';
+            sum = m.sum;
+            sum' = omega (arith, m.sum');
+            here = record {
+              goes_on = λ answer fits. pair_after_call Q (codes u) (codes' u') m.own (m.own' + c.n) f next c.h s.1 called entry into s.0 is s.2 caught answer fits;
+              fits = kept.1;
+            };
+            below = m.below;
+          };
+        };
+      } in
+      (c.k + 1, subst (MatchState Q codes codes' _) (sym goes) done)
+  one_transition printed u f ps u' g qs E E' D D' (Returns answer) is m =
+      let kept = subst (Kept Callable) is (keeps u f m.here.fits) in
+      let c = catches_up (codes u) (codes' u') f g (Returned answer) (Returns answer) is refl m.here.pair.follows in
+      let w = shows_return answer (codes' u' c.h) c.shows in
+      let goes = then_step codes' u' c.k g c.h c.n c.silent (Returns answer) w printed qs E' D' in
+      let caught = pair_on_right Q (codes u) (codes' u') m.own m.own' f g c.h c.k c.n c.silent m.here.pair in
+      let less = pair_at_return Q (codes u) (codes' u') m.own (m.own' + c.n) f c.h answer is w caught in
+      let below = more_counted ps qs m.others m.others' m.own (m.own' + c.n) less m.below in
+      let sum' : m.others' + (m.own' + c.n) ≡ E' + c.n = omega (arith, m.sum') in
+      let below' = subst (λ e'. MatchCallers Q codes codes' ps qs E e') sum' (subst (λ e. MatchCallers Q codes codes' ps qs e (m.others' + (m.own' + c.n))) (sym m.sum) below) in
+      let done : MatchState Q codes codes' (state_after u ps (Returns answer) (state printed (Running u f ps) E D)) (state_after u' qs (Returns answer) (state printed (Running u' c.h qs) (E' + c.n) D')) =
+      record { prints = refl; control = returns_alike answer kept ps qs E (E' + c.n) below' } in
+      (c.k + 1, subst (MatchState Q codes codes' _) (sym goes) done)
+  one_transition printed u f ps u' g qs E E' D D' (Traps kind n) is m =
+      let c = catches_up (codes u) (codes' u') f g (Trapped kind) (Traps kind n) is refl m.here.pair.follows in
+      let w = shows_trap kind (codes' u' c.h) c.shows in
+      let goes = then_step codes' u' c.k g c.h c.n c.silent (Traps kind w.0) w.1 printed qs E' D' in
+      let done : MatchState Q codes codes' (state_after u ps (Traps kind n) (state printed (Running u f ps) E D)) (state_after u' qs (Traps kind w.0) (state printed (Running u' c.h qs) (E' + c.n) D')) =
+      record { prints = refl; control = refl } in
+      (c.k + 1, subst (MatchState Q codes codes' _) (sym goes) done)
+
+  one_control : (printed : List ℤ) (cs ct : Control) (E E' D D' : ℕ) → MatchControl Q codes codes' cs ct E E' → (k : ℕ) × MatchState Q codes codes' (step codes (state printed cs E D)) (steps codes' k (state printed ct E' D'))
+  one_control printed (Running u f ps) (Running u' g qs) E E' D D' m = one_transition printed u f ps u' g qs E E' D D' (codes u f) refl m
+  one_control printed (Ended v) (Ended w) E E' D D' m = (0, record { prints = refl; control = m })
+  one_control printed (Stopped k) (Stopped l) E E' D D' m = (0, record { prints = refl; control = m })
+  one_control printed _ _ E E' D D' m = absurd m
+
+  one_step : (s t : State) → MatchState Q codes codes' s t → (k : ℕ) × MatchState Q codes codes' (step codes s) (steps codes' k t)
+  one_step s t m =
+      let r = one_control s.printed s.control t.control s.counted t.counted s.depth t.depth m.control in
+      (r.0, subst (λ p. MatchState Q codes codes' (step codes s) (steps codes' r.0 (state p t.control t.counted t.depth))) m.prints r.1)
+
+  pub all_steps : (n : ℕ) (s t : State) → MatchState Q codes codes' s t → (k : ℕ) × MatchState Q codes codes' (steps codes n s) (steps codes' k t)
+  all_steps zero s t m = (0, m)
+  all_steps (suc n) s t m =
+      let r = one_step s t m in
+      let rest = all_steps n (step codes s) (steps codes' r.0 t) r.1 in
+      (r.0 + rest.0, subst (MatchState Q codes codes' (steps codes (suc n) s)) (sym (steps-add codes' r.0 rest.0 t)) rest.1)

@@ -1,0 +1,13 @@
+-- Two programs, compared unit by unit.
+use Rattle.std.specs.Prelude.{◌≡◌, ℕ, ◌<◌, length}
+use Rattle.mir_base.specs.Shapes.{ProgramShape}
+use Rattle.mir_base.specs.UnitRuns.{machine_at, UnitSame, UnitCheaper}
+
+-- equally many units, and those of each number do the same and receive equally many arguments
+pub record AllUnitsSame (first second : ProgramShape) : Type 0 where
+  pub units : length first.units ≡ length second.units
+  pub same : (u : ℕ) → u < length first.units → UnitSame (machine_at first u) (machine_at second u)
+
+-- the second's unit of each number counts no more than the first's
+pub record AllUnitsCheaper (first second : ProgramShape) : Type 0 where
+  pub cheaper : (u : ℕ) → u < length first.units → UnitCheaper (machine_at first u) (machine_at second u)

@@ -1,0 +1,56 @@
+// The law on two programs that differ: one adds two constants, the other has their sum.
+ghost use Rattle.std.specs.Prelude.{◌≡◌, pos, true, List, [], ◌∷◌, map, IfOk, IsTrue};
+ghost use Rattle.mir_base.specs.declared.instructions.Inst.TheVariants.{Assign, Return};
+ghost use Rattle.mir_base.specs.declared.instructions.Operand.TheVariants.{Const, Var};
+ghost use Rattle.mir_base.specs.declared.instructions.Rhs.TheVariants.{Binary, Plain};
+ghost use Rattle.mir_base.specs.declared.operators.Op.TheVariants.{Add};
+ghost use Rattle.mir_base.specs.FirstForm.{is_first_rhs};
+ghost use Rattle.mir_base.specs.Runs.{Cheaper, Same};
+ghost use Rattle.mir_base.specs.Shapes.{rhs_vars};
+
+use crate::lift;
+use mir_base::{Inst, Items, Name, Op, Operand, Program, Rhs, Unit};
+use std::alloc::Global;
+use std::test::Fail;
+
+/// The program that assigns this right side, which has no variables, and returns it.
+fn program(alloc: Global, rhs: Rhs) -> Result<Program, Fail>
+    requires first { is_first_rhs rhs ≡ true }
+    requires constant { rhs_vars rhs ≡ [] }
+    ensures { IfOk result (λ program. map (λ unit. unit.body) program.units ≡ (Assign 0 rhs ∷ Return (Var 0) ∷ []) ∷ []) }
+{
+    let body = Items::new(alloc)
+        .with(Inst::Assign(0, rhs))?
+        .with(Inst::Return(Operand::Var(0)))?;
+    let name = match Name::new(b"main".to_vec(alloc)?) {
+        Some(name) => name,
+        None => return Err("no name")?,
+    };
+    let unit = Unit {
+        vars: Items::new(alloc).with(name.clone()?)?,
+        name,
+        body,
+    };
+    let program = Program::of_first_form(alloc, unit)?;
+    Ok(program)
+}
+
+/// What is added can be worked out in advance: the units go in lockstep, and the second counts one evaluation less.
+fn a_sum_is_worked_out(first: &Program, second: &Program)
+    requires sum { map (λ unit. unit.body) first.now.units ≡ (Assign 0 (Binary Add (Const (pos 1)) (Const (pos 2))) ∷ Return (Var 0) ∷ []) ∷ [] }
+    requires worked_out { map (λ unit. unit.body) second.now.units ≡ (Assign 0 (Plain (Const (pos 3))) ∷ Return (Var 0) ∷ []) ∷ [] }
+    ensures same { Same first.now second.now }
+    ensures cheaper { Cheaper first.now second.now }
+{
+    lift(first, second)
+}
+
+#[test]
+fn sums_that_are_worked_out(rt: HostRuntime) -> Result<(), Fail> {
+    let alloc = rt.alloc();
+    let sum = Rhs::Binary(Op::Add, Operand::Const(1), Operand::Const(2));
+    let first = program(alloc, sum)?;
+    let second = program(alloc, Rhs::Plain(Operand::Const(3)))?;
+    a_sum_is_worked_out(&first, &second);
+    Ok(())
+}
