@@ -1,0 +1,4 @@
+pub mod Zips
+pub mod Views
+pub mod Ops
+pub mod Long

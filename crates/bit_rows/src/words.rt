@@ -1,0 +1,101 @@
+// The passes over words. Each clause says what becomes of one word, or of one bit.
+ghost use Rattle.std.specs.Prelude.{◌≡◌, ℕ, ◌+◌, ◌*◌, ◌/◌, ◌%◌, ◌<◌, ◌↔◌, false, length, slice_index, slice_set, bit_and, bit_or};
+ghost use Rattle.std.specs.Int.{bit_not, w64};
+ghost use Rattle.bit_rows.specs.Words.{bit_of, used_bits, with_bit};
+
+/// Each word becomes its disjunction with the other's. It answers whether one changed.
+pub fn or_words(into: &mut [u64], from: &[u64]) -> bool
+    requires { length into.old ≡ length from.now }
+    ensures len { length into.new ≡ length into.old }
+    ensures or { (k : ℕ) → k < length into.old → slice_index into.new k ≡ bit_or (slice_index into.old k) (slice_index from.now k) }
+    ensures unchanged { (result ≡ false) ↔ (into.new ≡ into.old) }
+{
+    let mut changed = false;
+    for i in 0..into.len() {
+        let word = into[i] | from[i];
+        changed = changed | (word != into[i]);
+        into[i] = word;
+    }
+    changed
+}
+
+/// Each word becomes its disjunction with what another has and a third has not. It answers whether one changed.
+pub fn or_minus_words(into: &mut [u64], from: &[u64], less: &[u64]) -> bool
+    requires from { length into.old ≡ length from.now }
+    requires less { length into.old ≡ length less.now }
+    ensures len { length into.new ≡ length into.old }
+    ensures or_minus { (k : ℕ) → k < length into.old → slice_index into.new k ≡ bit_or (slice_index into.old k) (bit_and (slice_index from.now k) (bit_not w64 (slice_index less.now k))) }
+    ensures unchanged { (result ≡ false) ↔ (into.new ≡ into.old) }
+{
+    let mut changed = false;
+    for i in 0..into.len() {
+        let word = into[i] | (from[i] & !less[i]);
+        changed = changed | (word != into[i]);
+        into[i] = word;
+    }
+    changed
+}
+
+/// Each word becomes its conjunction with the other's.
+pub fn and_words(into: &mut [u64], from: &[u64])
+    requires { length into.old ≡ length from.now }
+    ensures len { length into.new ≡ length into.old }
+    ensures and { (k : ℕ) → k < length into.old → slice_index into.new k ≡ bit_and (slice_index into.old k) (slice_index from.now k) }
+{
+    for i in 0..into.len() {
+        into[i] = into[i] & from[i];
+    }
+}
+
+/// Each word loses the bits of the other's.
+pub fn minus_words(into: &mut [u64], from: &[u64])
+    requires { length into.old ≡ length from.now }
+    ensures len { length into.new ≡ length into.old }
+    ensures minus { (k : ℕ) → k < length into.old → slice_index into.new k ≡ bit_and (slice_index into.old k) (bit_not w64 (slice_index from.now k)) }
+{
+    for i in 0..into.len() {
+        into[i] = into[i] & !from[i];
+    }
+}
+
+/// The bits of a word that stand below a number of bits, all set.
+fn used(bits: usize, word: usize) -> u64
+    requires { 64 * word < bits }
+    ensures { result ≡ used_bits bits word }
+{
+    let left = (bits - 64 * word).min(64);
+    u64::MAX >> (64 - left)
+}
+
+/// The bits below a number become the others, and those past it are not set.
+pub fn flip_words(bits: usize, words: &mut [u64])
+    requires { 64 * length words.old < bits + 64 }
+    ensures len { length words.new ≡ length words.old }
+    ensures flipped { (k : ℕ) → k < length words.old → slice_index words.new k ≡ bit_and (bit_not w64 (slice_index words.old k)) (used_bits bits k) }
+{
+    for i in 0..words.len() {
+        words[i] = !words[i] & used(bits, i);
+    }
+}
+
+/// One bit of the words.
+pub fn word_bit(words: &[u64], bit: usize) -> bool
+    requires { bit < 64 * length words.now }
+    ensures { result ≡ bit_of words.now bit }
+{
+    (words[bit / 64] >> (bit % 64)) & 1 == 1
+}
+
+/// Sets or clears a bit of the words.
+pub fn set_word_bit(words: &mut [u64], bit: usize, value: bool)
+    requires { bit < 64 * length words.old }
+    ensures { words.new ≡ slice_set words.old (bit / 64) (with_bit (slice_index words.old (bit / 64)) (bit % 64) value) }
+{
+    let mask = 1u64 << (bit % 64);
+    let at = bit / 64;
+    if value {
+        words[at] = words[at] | mask;
+    } else {
+        words[at] = words[at] & !mask;
+    }
+}

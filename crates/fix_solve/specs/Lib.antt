@@ -1,0 +1,4 @@
+pub mod Order
+pub mod Net
+pub mod Settling
+pub mod Ring

@@ -1,0 +1,49 @@
+-- A flow as contracts see it, what its solutions are, and which is the least.
+use Rattle.std.specs.Prelude.{◌≡◌, ℕ, ◌<◌, ◌≤◌, List, length, slice_index_or}
+
+-- numbered nodes and edges, a first value for each node, a transfer along each edge
+pub record Net (V : Type 0) : Type 0 where
+  pub nodes : ℕ
+  pub edges : ℕ
+  pub source : ℕ → ℕ
+  pub target : ℕ → ℕ
+  -- the first number of a node's edges, and the number past the last
+  pub start : ℕ → ℕ
+  pub stop : ℕ → ℕ
+  -- the size of all values, and a bound on the ranks of those
+  pub size : ℕ
+  pub height : ℕ
+  pub first : ℕ → V
+  pub transfer : ℕ → V → V
+
+-- the edges are numbered by source; sizes are kept, and the transfer is monotone
+pub record NetLaws {V : Type 0} (below : V → V → Type 0) (size : V → ℕ) (rank : V → ℕ) (net : Net V) : Type 0 where
+  pub sources : (e : ℕ) → e < net.edges → net.source e < net.nodes
+  pub targets : (e : ℕ) → e < net.edges → net.target e < net.nodes
+  pub stops : (n : ℕ) → n < net.nodes → net.stop n ≤ net.edges
+  pub within : (n e : ℕ) → n < net.nodes → net.start n ≤ e → e < net.stop n → net.source e ≡ n
+  pub from_start : (e : ℕ) → e < net.edges → net.start (net.source e) ≤ e
+  pub to_stop : (e : ℕ) → e < net.edges → e < net.stop (net.source e)
+  pub first_size : (n : ℕ) → n < net.nodes → size (net.first n) ≡ net.size
+  pub transfer_size : (e : ℕ) (x : V) → e < net.edges → size x ≡ net.size → size (net.transfer e x) ≡ net.size
+  pub monotone : (e : ℕ) (x y : V) → e < net.edges → size x ≡ net.size → below x y → below (net.transfer e x) (net.transfer e y)
+  pub ranks : (x : V) → size x ≡ net.size → rank x ≤ net.height
+
+-- the values lie above the first ones, and above the transfer along each edge
+pub record Solves {V : Type 0} (below : V → V → Type 0) (net : Net V) (values : ℕ → V) : Type 0 where
+  pub above_first : (n : ℕ) → n < net.nodes → below (net.first n) (values n)
+  pub above_edges : (e : ℕ) → e < net.edges → below (net.transfer e (values (net.source e))) (values (net.target e))
+
+-- a solution that lies below every solution; by antisymmetry there is one
+pub record IsLeastSolution {V : Type 0} (below : V → V → Type 0) (net : Net V) (values : ℕ → V) : Type 0 where
+  pub solves : Solves below net values
+  pub least : (others : ℕ → V) → Solves below net others → (n : ℕ) → n < net.nodes → below (values n) (others n)
+
+-- the value of a node in a list of values
+abbrev pub value_at : {V : Type 0} → Net V → List V → ℕ → V
+value_at net values n = slice_index_or values n (net.first n)
+
+-- one value for each node, and it is the first one
+pub record HoldsFirst {V : Type 0} (net : Net V) (values : List V) : Type 0 where
+  pub len : length values ≡ net.nodes
+  pub each : (n : ℕ) → n < net.nodes → value_at net values n ≡ net.first n

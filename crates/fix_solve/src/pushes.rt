@@ -1,0 +1,112 @@
+// The worklist: nodes are taken from the front, pushed along their edges, and targets that changed are put at the end.
+ghost use Rattle.std.specs.Prelude.{◌≡◌, ◌≢◌, ℕ, ◌+◌, ◌-◌, ◌<◌, ◌≤◌, ◌||◌, true, length};
+ghost use Rattle.node_list.specs.Lists.{Lists, is_listed};
+ghost use Rattle.fix_solve.specs.Net.{Net, value_at, IsLeastSolution};
+ghost use Rattle.fix_solve.specs.Settling.{AllDone, IsOneList, Pushed, Working, nodes_left, pushes_left};
+
+use crate::{Flow, Lattice, Steps};
+use node_list::Links;
+
+/// Pushes along one edge, and answers whether its target changed.
+fn push_along<F: Flow>(
+    values: &mut [F::Value],
+    flow: &F,
+    number: usize,
+    steps: &mut Steps<F::Ledger>,
+) -> bool
+    requires valid { F.valid flow.now }
+    requires in_range { number < (F.net flow.now).edges }
+    requires len { length values.old ≡ (F.net flow.now).nodes }
+    requires sizes { (n : ℕ) → n < (F.net flow.now).nodes → F.Value.size (value_at (F.net flow.now) values.old n) ≡ (F.net flow.now).size }
+    ensures pushed { Pushed F.Value.below (F.net flow.now) number values.old values.new result }
+    ensures counted { steps.new ≡ steps.old + 1 }
+{
+    let (s, t) = flow.edge(number);
+    if s == t {
+        flow.push_self(number, &mut values[t], steps)
+    } else if s < t {
+        let (low, high) = values.split_at_mut(t);
+        flow.push(number, &low[s], &mut high[0], steps)
+    } else {
+        let (low, high) = values.split_at_mut(s);
+        flow.push(number, &high[0], &mut low[t], steps)
+    }
+}
+
+/// Puts a node at the end of the list if it is wanted and not there.
+fn enlist(waiting: &mut Links, node: usize, wanted: bool)
+    requires one_list { IsOneList waiting.old }
+    requires in_range { node < waiting.old.nodes }
+    ensures one_list { IsOneList waiting.new }
+    ensures nodes { waiting.new.nodes ≡ waiting.old.nodes }
+    ensures others { (n : ℕ) → n ≢ node → is_listed waiting.new.lists n ≡ is_listed waiting.old.lists n }
+    ensures here { is_listed waiting.new.lists node ≡ (is_listed waiting.old.lists node || wanted) }
+{
+    if wanted {
+        if !waiting.is_in(node) {
+            waiting.push_back(0, node);
+        }
+    }
+}
+
+/// Puts each node into the list.
+pub(crate) fn enlist_all(waiting: &mut Links, nodes: usize)
+    requires one_list { IsOneList waiting.old }
+    requires nodes { waiting.old.nodes ≡ nodes }
+    ensures one_list { IsOneList waiting.new }
+    ensures nodes { waiting.new.nodes ≡ nodes }
+    ensures all { (n : ℕ) → n < nodes → is_listed waiting.new.lists n ≡ true }
+{
+    for node in 0..nodes {
+        enlist(waiting, node, true);
+    }
+}
+
+/// Pushes along each edge that leaves a node, which was taken from the list, and lists the targets that changed.
+fn visit<F: Flow>(
+    values: &mut [F::Value],
+    waiting: &mut Links,
+    flow: &F,
+    node: usize,
+    steps: &mut Steps<F::Ledger>,
+)
+    requires valid { F.valid flow.now }
+    requires in_range { node < (F.net flow.now).nodes }
+    requires one_list { IsOneList waiting.old }
+    requires nodes { waiting.old.nodes ≡ (F.net flow.now).nodes }
+    requires working { Working F.Value.below (F.net flow.now) values.old (is_listed waiting.old.lists) (λ e. (F.net flow.now).source e ≡ node → e < (F.net flow.now).start node) }
+    ensures one_list { IsOneList waiting.new }
+    ensures nodes { waiting.new.nodes ≡ waiting.old.nodes }
+    ensures working { Working F.Value.below (F.net flow.now) values.new (is_listed waiting.new.lists) AllDone }
+    ensures pushes { steps.new + pushes_left (F.net flow.now) F.Value.rank values.new (is_listed waiting.new.lists) ≤ steps.old + ((F.net flow.now).stop node - (F.net flow.now).start node) + pushes_left (F.net flow.now) F.Value.rank values.old (is_listed waiting.old.lists) }
+    ensures visits { nodes_left (F.net flow.now) F.Value.rank values.new (is_listed waiting.new.lists) ≤ nodes_left (F.net flow.now) F.Value.rank values.old (is_listed waiting.old.lists) }
+{
+    let (start, stop) = flow.out(node);
+    for number in start..stop {
+        let changed = push_along(values, flow, number, steps);
+        let (_, target) = flow.edge(number);
+        enlist(waiting, target, changed);
+    }
+}
+
+/// Visits the listed nodes until the list is empty.
+pub(crate) fn drain<F: Flow>(
+    values: &mut [F::Value],
+    waiting: &mut Links,
+    flow: &F,
+    steps: &mut Steps<F::Ledger>,
+)
+    requires valid { F.valid flow.now }
+    requires one_list { IsOneList waiting.old }
+    requires nodes { waiting.old.nodes ≡ (F.net flow.now).nodes }
+    requires working { Working F.Value.below (F.net flow.now) values.old (is_listed waiting.old.lists) AllDone }
+    ensures one_list { IsOneList waiting.new }
+    ensures nodes { waiting.new.nodes ≡ (F.net flow.now).nodes }
+    ensures sizes { (n : ℕ) → n < (F.net flow.now).nodes → F.Value.size (value_at (F.net flow.now) values.new n) ≡ (F.net flow.now).size }
+    ensures least { IsLeastSolution F.Value.below (F.net flow.now) (value_at (F.net flow.now) values.new) }
+    ensures pushes { steps.new ≤ steps.old + pushes_left (F.net flow.now) F.Value.rank values.old (is_listed waiting.old.lists) }
+{
+    while let Some(node) = waiting.pop_front(0) {
+        visit(values, waiting, flow, node, steps);
+    }
+}

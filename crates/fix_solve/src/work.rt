@@ -1,0 +1,70 @@
+// The values at the nodes, and the solver's call.
+ghost use Rattle.std.specs.Prelude.{◌≡◌, ℕ, ◌+◌, ◌*◌, ◌<◌, ◌≤◌, IfOk, length, slice_index_or};
+ghost use Rattle.fix_solve.specs.Net.{Net, value_at, HoldsFirst, IsLeastSolution};
+
+use crate::pushes::{drain, enlist_all};
+use crate::{Flow, Lattice, Memory, Steps};
+use node_list::Links;
+use std::alloc::Global;
+use std::marker::Model;
+
+/// A value for each node. Contracts see it as the list of these.
+///
+/// It also holds the list of the nodes that wait for a visit, so that the solver takes no memory.
+#[derive(Drop)]
+pub struct Work<V: Lattice> {
+    values: Vec<V>,
+    waiting: Links,
+}
+
+impl<V: Lattice> Model for Work<V> {
+    ghost use Rattle.std.specs.Prelude.{List};
+    ghost use Rattle.fix_solve.specs.Settling.{CanWait};
+
+    ghost Value = { List V };
+
+    ghost view = { λ work. work.values.items };
+
+    ghost invariant = { λ work. CanWait work.waiting work.values.items };
+}
+
+impl<V: Lattice + Drop> Work<V> {
+    /// Holds the first value of each node. Its only refusal is want of memory.
+    pub fn new<F: Flow<Value = V>>(alloc: Global, flow: &F) -> Result<Self, Memory>
+        requires { F.valid flow.now }
+        ensures { IfOk result (λ work. HoldsFirst (F.net flow.now) work) }
+    {
+        let nodes = flow.nodes();
+        let mut values = Vec::new(alloc);
+        for node in 0..nodes {
+            values.push(flow.first(alloc, node)?)?;
+        }
+        let waiting = Links::new(alloc, nodes, 1)?;
+        Ok(Work { values, waiting })
+    }
+
+    /// The value of a node. It takes no memory.
+    pub fn value(&self, node: usize) -> &V
+        requires { node < length self.now }
+        ensures { result.now ≡ slice_index_or self.now node result.now }
+    {
+        &self.values[node]
+    }
+}
+
+/// Leaves the least values that lie above the first one at each node and above the transfer along each edge (the least
+/// solution), all of the flow's size. The work must hold the first value of each node, as `Work::new` leaves it.
+///
+/// It takes no memory, and raises the counter by at most the number of edges for each rank of a value and one more. The
+/// counter rises by one with each push, and by nothing else.
+pub fn solve<F: Flow>(work: &mut Work<F::Value>, flow: &F, steps: &mut Steps<F::Ledger>)
+    requires valid { F.valid flow.now }
+    requires first { HoldsFirst (F.net flow.now) work.old }
+    ensures len { length work.new ≡ (F.net flow.now).nodes }
+    ensures sizes { (n : ℕ) → n < (F.net flow.now).nodes → F.Value.size (value_at (F.net flow.now) work.new n) ≡ (F.net flow.now).size }
+    ensures least { IsLeastSolution F.Value.below (F.net flow.now) (value_at (F.net flow.now) work.new) }
+    ensures pushes { steps.new ≤ steps.old + (F.net flow.now).edges * ((F.net flow.now).height + 1) }
+{
+    enlist_all(&mut work.waiting, work.values.len());
+    drain(&mut work.values, &mut work.waiting, flow, steps);
+}

@@ -1,0 +1,248 @@
+-- The links keep leading along lists, as a node is put in or taken out.
+use Rattle.std.proofs.Common.{◌≡◌, ◌≢◌, ℕ, suc, ◌+◌, ◌<◌, ◌≤◌, List, [], ◌∷◌, ◌++◌, length, map, refl, sym, ap, inl, inr, arith, ◌∙◌}
+use Rattle.std.proofs.lemmas.Bool.{cases_eq, cases_lt, ne_eqb}
+use Rattle.std.proofs.lemmas.List.{ext_get_or, get_or-map, length-map}
+use Rattle.std.proofs.lemmas.List.FromFn.{length-map-range_with_len, get_or-map-range_with_len}
+use Rattle.node_list.specs.Lists.{list_at, times_in, times, put_before, without}
+use Rattle.node_list.specs.Rings.{Along, walk, lists_along, IsLinked}
+use Rattle.node_list.proofs.Counts.{times_in-le, times_in-append, times-map, times-map_without, times_in-without_other, without-append, without_none, length-le}
+use Rattle.node_list.proofs.Along.{walk_along, along_moves, along_put, along_cut}
+
+-- the list in which a node stands
+pub find_list : (lists : List (List ℕ)) (n : ℕ) → 0 < times lists n → (list : ℕ) × (list < length lists) × (0 < times_in n (list_at lists list))
+find_list [] n h = absurd (omega arith)
+find_list (xs ∷ lists) n h = elim (cases_lt 0 (times_in n xs)) as (λ _. (list : ℕ) × (list < length (xs ∷ lists)) × (0 < times_in n (list_at (xs ∷ lists) list))) [
+  | inl here ↦ (0, omega arith, here)
+  | inr none ↦
+      let there : (list : ℕ) × (list < length lists) × (0 < times_in n (list_at lists list)) = find_list lists n (omega arith) in
+      (suc there.0, (let l : there.0 < length lists = there.1 in omega arith), there.2)
+]
+
+module _ (nodes : ℕ) (lists : List (List ℕ)) (next prev : ℕ → ℕ) (linked : IsLinked nodes lists next prev) where
+  list_within : (list n : ℕ) → 0 < times_in n (list_at lists list) → n < nodes
+  list_within list n h = let le : times_in n (list_at lists list) ≤ times lists n = times_in-le lists list n in linked.within n (omega arith)
+
+  list_once : (list n : ℕ) → times_in n (list_at lists list) ≤ 1
+  list_once list n = let le : times_in n (list_at lists list) ≤ times lists n = times_in-le lists list n in let one : times lists n ≤ 1 = linked.once n in omega arith
+
+  -- a list is what the walk from its number gives
+  pub walked : (list : ℕ) → list < length lists → walk next nodes nodes (next (nodes + list)) ≡ list_at lists list
+  walked list h =
+      walk_along next prev nodes nodes (nodes + list) (list_at lists list) (nodes + list) (linked.rings list h) (omega arith) (list_within list)
+      (length-le nodes (list_at lists list) (list_within list) (list_once list))
+
+  pub lists_are : lists_along nodes (length lists) next ≡ lists
+  lists_are =
+      let f : ℕ → List ℕ = λ list. walk next nodes nodes (next (nodes + list)) in
+      let len : length (lists_along nodes (length lists) next) ≡ length lists = length-map-range_with_len f 0 (length lists) in
+      ext_get_or [] (lists_along nodes (length lists) next) lists len
+      (λ i h. let h' : i < length lists = omega arith in get_or-map-range_with_len f 0 (length lists) i i [] h' (omega arith) ∙ walked i h')
+
+  -- a node in a list is not linked to itself
+  pub moves : (n : ℕ) → 0 < times lists n → next n ≢ n
+  moves n h self =
+      let place : (list : ℕ) × (list < length lists) × (0 < times_in n (list_at lists list)) = find_list lists n h in
+      let low : n < nodes = linked.within n h in
+      let two : 2 ≤ times_in n (list_at lists place.0) =
+      along_moves next prev (nodes + place.0) (list_at lists place.0) (nodes + place.0) n (linked.rings place.0 place.1) self (λ s. let s' : n ≡ nodes + place.0 = s in absurd (omega arith)) place.2 in
+      let one : times_in n (list_at lists place.0) ≤ 1 = list_once place.0 n in
+      absurd (omega arith)
+
+  -- a new node is linked in before a place, and stands then in the lists before it
+  module _ (next' prev' : ℕ → ℕ) (place new : ℕ) (place_in : place < nodes + length lists) (new_in : new < nodes) (fresh : times lists new ≡ 0) (apart : place ≢ new) (firm : place < nodes → 0 < times lists place)
+      (at_new : next' new ≡ place) (at_before : next' (prev place) ≡ new) (next_same : (k : ℕ) → k ≢ new → k ≢ prev place → next' k ≡ next k)
+      (from_new : prev' new ≡ prev place) (from_place : prev' place ≡ new) (prev_same : (k : ℕ) → k ≢ new → k ≢ place → prev' k ≡ prev k)
+      (lists' : List (List ℕ)) (len : length lists' ≡ length lists)
+      (put : (list : ℕ) → list < length lists → put_before place new (list_at lists list ++ (nodes + list) ∷ []) ≡ list_at lists' list ++ (nodes + list) ∷ [])
+      (here : times lists' new ≡ 1) (others : (n : ℕ) → n ≢ new → times lists' n ≡ times lists n) where
+    self : next new ≡ new
+    self = linked.loose new new_in fresh
+
+    before_apart : prev place ≢ new
+    before_apart e = apart (sym (linked.back place place_in) ∙ ap next e ∙ self)
+
+    self_back : prev new ≡ new
+    self_back = ap prev (sym self) ∙ linked.forth new (omega arith)
+
+    forward : next (prev place) ≡ place
+    forward = linked.back place place_in
+
+    put_next_in : (k : ℕ) → k < nodes + length lists → next' k < nodes + length lists
+    put_next_in k h = elim (cases_eq k new) as (λ _. next' k < nodes + length lists) [
+      | inl e ↦ rw (e, at_new) place_in
+      | inr d ↦ elim (cases_eq k (prev place)) as (λ _. next' k < nodes + length lists) [
+        | inl e ↦ rw (e, at_before) (omega arith)
+        | inr d' ↦ rw (next_same k d d') (linked.next_in k h)
+      ]
+    ]
+
+    put_prev_in : (k : ℕ) → k < nodes + length lists → prev' k < nodes + length lists
+    put_prev_in k h = elim (cases_eq k new) as (λ _. prev' k < nodes + length lists) [
+      | inl e ↦ rw (e, from_new) (linked.prev_in place place_in)
+      | inr d ↦ elim (cases_eq k place) as (λ _. prev' k < nodes + length lists) [
+        | inl e ↦ rw (e, from_place) (omega arith)
+        | inr d' ↦ rw (prev_same k d d') (linked.prev_in k h)
+      ]
+    ]
+
+    put_back : (k : ℕ) → k < nodes + length lists → next' (prev' k) ≡ k
+    put_back k h = elim (cases_eq k new) as (λ _. next' (prev' k) ≡ k) [
+      | inl e ↦ rw (e, from_new) at_before
+      | inr d ↦ elim (cases_eq k place) as (λ _. next' (prev' k) ≡ k) [
+        | inl e ↦ rw (e, from_place) at_new
+        | inr d' ↦
+            rw (prev_same k d d')
+            (next_same (prev k) (λ s. d (sym (linked.back k h) ∙ ap next s ∙ self)) (λ s. d' (sym (linked.back k h) ∙ ap next s ∙ forward)) ∙ linked.back k h)
+      ]
+    ]
+
+    put_forth : (k : ℕ) → k < nodes + length lists → prev' (next' k) ≡ k
+    put_forth k h = elim (cases_eq k new) as (λ _. prev' (next' k) ≡ k) [
+      | inl e ↦ rw (e, at_new) from_place
+      | inr d ↦ elim (cases_eq k (prev place)) as (λ _. prev' (next' k) ≡ k) [
+        | inl e ↦ rw (e, at_before) from_new
+        | inr d' ↦
+            rw (next_same k d d')
+            (prev_same (next k) (λ s. d (sym (linked.forth k h) ∙ ap prev s ∙ self_back)) (λ s. d' (sym (linked.forth k h) ∙ ap prev s)) ∙ linked.forth k h)
+      ]
+    ]
+
+    put_rings : (list : ℕ) → list < length lists → Along next' prev' (nodes + list) (list_at lists' list ++ (nodes + list) ∷ [])
+    put_rings list h =
+        let stop_apart : nodes + list ≢ new = λ s. let s' : nodes + list ≡ new = s in absurd (omega arith) in
+        let none : times_in new (list_at lists list) ≤ times lists new = times_in-le lists list new in
+        let all : times_in new (list_at lists list ++ (nodes + list) ∷ []) ≡ times_in new (list_at lists list) + times_in new ((nodes + list) ∷ []) = times_in-append new (list_at lists list) ((nodes + list) ∷ []) in
+        let last : times_in new ((nodes + list) ∷ []) ≡ 0 = times_in_single new (nodes + list) stop_apart in
+        let ring : Along next' prev' (nodes + list) (put_before place new (list_at lists list ++ (nodes + list) ∷ [])) =
+        along_put next prev next' prev' place (prev place) new forward refl at_new at_before next_same from_new from_place prev_same (nodes + list) _ stop_apart (omega arith) (linked.rings list h) in
+        rw (put list h) at ring
+      where
+        times_in_single : (n x : ℕ) → x ≢ n → times_in n (x ∷ []) ≡ 0
+        times_in_single n x d = rw (ne_eqb x n d) refl
+
+    pub puts : IsLinked nodes lists' next' prev'
+    puts = record {
+      next_in = λ k h. rw len (put_next_in k (rw len at h));
+      prev_in = λ k h. rw len (put_prev_in k (rw len at h));
+      back = λ k h. put_back k (rw len at h);
+      forth = λ k h. put_forth k (rw len at h);
+      rings = λ list h. put_rings list (rw len at h);
+      within = λ n h. elim (cases_eq n new) as (λ _. n < nodes) [
+        | inl e ↦ rw e new_in
+        | inr d ↦ let same : times lists' n ≡ times lists n = others n d in linked.within n (omega arith)
+      ];
+      once = λ n. elim (cases_eq n new) as (λ _. times lists' n ≤ 1) [
+        | inl e ↦ rw (e, here) (omega arith)
+        | inr d ↦ rw (others n d) (linked.once n)
+      ];
+      loose = λ n h none. elim (cases_eq n new) as (λ _. next' n ≡ n) [
+        | inl e ↦ let none' : times lists' new ≡ 0 = ap (times lists') (sym e) ∙ none in absurd (omega arith)
+        | inr d ↦
+            let none' : times lists n ≡ 0 = sym (others n d) ∙ none in
+            let stays : next n ≡ n = linked.loose n h none' in
+            next_same n d (λ s. loose_apart n h none' s) ∙ stays
+      ];
+    }
+      where
+        loose_apart : (n : ℕ) → n < nodes → times lists n ≡ 0 → n ≢ prev place
+        loose_apart n h none s =
+            let is : n ≡ place = sym (linked.loose n h none) ∙ ap next s ∙ forward in
+            let there : 0 < times lists place = firm (rw is at h) in
+            let none' : times lists place ≡ 0 = rw is at none in
+            omega arith
+
+  -- a node is linked out
+  module _ (next' prev' : ℕ → ℕ) (node : ℕ) (listed : 0 < times lists node)
+      (at_node : next' node ≡ node) (at_before : next' (prev node) ≡ next node) (next_same : (k : ℕ) → k ≢ node → k ≢ prev node → next' k ≡ next k)
+      (from_node : prev' node ≡ node) (from_after : prev' (next node) ≡ prev node) (prev_same : (k : ℕ) → k ≢ node → k ≢ next node → prev' k ≡ prev k) where
+    node_in : node < nodes
+    node_in = linked.within node listed
+
+    in_all : node < nodes + length lists
+    in_all = omega (arith, node_in)
+
+    onto : next (prev node) ≡ node
+    onto = linked.back node in_all
+
+    off : prev (next node) ≡ node
+    off = linked.forth node in_all
+
+    cut_next_in : (k : ℕ) → k < nodes + length lists → next' k < nodes + length lists
+    cut_next_in k h = elim (cases_eq k node) as (λ _. next' k < nodes + length lists) [
+      | inl e ↦ rw (e, at_node) in_all
+      | inr d ↦ elim (cases_eq k (prev node)) as (λ _. next' k < nodes + length lists) [
+        | inl e ↦ rw (e, at_before) (linked.next_in node in_all)
+        | inr d' ↦ rw (next_same k d d') (linked.next_in k h)
+      ]
+    ]
+
+    cut_prev_in : (k : ℕ) → k < nodes + length lists → prev' k < nodes + length lists
+    cut_prev_in k h = elim (cases_eq k node) as (λ _. prev' k < nodes + length lists) [
+      | inl e ↦ rw (e, from_node) in_all
+      | inr d ↦ elim (cases_eq k (next node)) as (λ _. prev' k < nodes + length lists) [
+        | inl e ↦ rw (e, from_after) (linked.prev_in node in_all)
+        | inr d' ↦ rw (prev_same k d d') (linked.prev_in k h)
+      ]
+    ]
+
+    cut_back : (k : ℕ) → k < nodes + length lists → next' (prev' k) ≡ k
+    cut_back k h = elim (cases_eq k node) as (λ _. next' (prev' k) ≡ k) [
+      | inl e ↦ rw (e, from_node) at_node
+      | inr d ↦ elim (cases_eq k (next node)) as (λ _. next' (prev' k) ≡ k) [
+        | inl e ↦ rw (e, from_after) at_before
+        | inr d' ↦
+            rw (prev_same k d d')
+            (next_same (prev k) (λ s. d' (sym (linked.back k h) ∙ ap next s)) (λ s. d (sym (linked.back k h) ∙ ap next s ∙ onto)) ∙ linked.back k h)
+      ]
+    ]
+
+    cut_forth : (k : ℕ) → k < nodes + length lists → prev' (next' k) ≡ k
+    cut_forth k h = elim (cases_eq k node) as (λ _. prev' (next' k) ≡ k) [
+      | inl e ↦ rw (e, at_node) from_node
+      | inr d ↦ elim (cases_eq k (prev node)) as (λ _. prev' (next' k) ≡ k) [
+        | inl e ↦ rw (e, at_before) from_after
+        | inr d' ↦
+            rw (next_same k d d')
+            (prev_same (next k) (λ s. d' (sym (linked.forth k h) ∙ ap prev s)) (λ s. d (sym (linked.forth k h) ∙ ap prev s ∙ off)) ∙ linked.forth k h)
+      ]
+    ]
+
+    cut_rings : (list : ℕ) → list < length lists → Along next' prev' (nodes + list) (list_at (map (without node) lists) list ++ (nodes + list) ∷ [])
+    cut_rings list h =
+        let stop_apart : nodes + list ≢ node = λ s. let s' : nodes + list ≡ node = s in absurd (omega (arith, node_in)) in
+        let ring : Along next' prev' (nodes + list) (without node (list_at lists list ++ (nodes + list) ∷ [])) =
+        along_cut next prev next' prev' node (prev node) (next node) onto refl refl off (moves node listed) at_before next_same from_after prev_same (nodes + list) _ stop_apart (linked.rings list h) in
+        rw (get_or-map (without node) lists list [] [] h)
+        (rw (without-append node (list_at lists list) ((nodes + list) ∷ []), without_none node ((nodes + list) ∷ []) (times_in_single node (nodes + list) stop_apart)) at ring)
+      where
+        times_in_single : (n x : ℕ) → x ≢ n → times_in n (x ∷ []) ≡ 0
+        times_in_single n x d = rw (ne_eqb x n d) refl
+
+    pub cuts : IsLinked nodes (map (without node) lists) next' prev'
+    cuts =
+        let len : length (map (without node) lists) ≡ length lists = length-map lists (without node) in
+        record {
+          next_in = λ k h. rw len (cut_next_in k (rw len at h));
+          prev_in = λ k h. rw len (cut_prev_in k (rw len at h));
+          back = λ k h. cut_back k (rw len at h);
+          forth = λ k h. cut_forth k (rw len at h);
+          rings = λ list h. cut_rings list (rw len at h);
+          within = λ n h. elim (cases_eq n node) as (λ _. n < nodes) [
+            | inl e ↦ rw e node_in
+            | inr d ↦ let same : times (map (without node) lists) n ≡ times lists n = cut_others n d in linked.within n (omega arith)
+          ];
+          once = λ n. elim (cases_eq n node) as (λ _. times (map (without node) lists) n ≤ 1) [
+            | inl e ↦ rw (e, times-map_without node lists) (omega arith)
+            | inr d ↦ rw (cut_others n d) (linked.once n)
+          ];
+          loose = λ n h none. elim (cases_eq n node) as (λ _. next' n ≡ n) [
+            | inl e ↦ rw e at_node
+            | inr d ↦
+                let none' : times lists n ≡ 0 = sym (cut_others n d) ∙ none in
+                let stays : next n ≡ n = linked.loose n h none' in
+                next_same n d (λ s. d (sym stays ∙ ap next s ∙ onto)) ∙ stays
+          ];
+        }
+      where
+        cut_others : (n : ℕ) → n ≢ node → times (map (without node) lists) n ≡ times lists n
+        cut_others n d = times-map (without node) n (λ xs. times_in-without_other n node xs d) lists

@@ -1,0 +1,4 @@
+pub mod Counts
+pub mod Along
+pub mod Keeps
+pub mod Writes

@@ -1,0 +1,10 @@
+use Rattle.std.proofs.Common.{◌≡◌, ℕ, ◌<◌, length, get_or}
+use Rattle.node_list.proofs.links.Links.new.Given as goal
+
+abbrev pub invariant-loop-number : goal.invariant-loop-number
+invariant-loop-number l = record {
+  next_len : length l.next.items ≡ l.number;
+  prev_len : length l.prev.items ≡ l.number;
+  next_self : (k : ℕ) → k < l.number → get_or l.next.items k 0 ≡ k;
+  prev_self : (k : ℕ) → k < l.number → get_or l.prev.items k 0 ≡ k;
+}

@@ -1,0 +1,42 @@
+// Rings of links: `next` and `prev` lead forward and back. Each call says which links it writes.
+ghost use Rattle.std.specs.Prelude.{◌≡◌, ◌<◌, length, slice_index, slice_set};
+
+/// Links one number to the next.
+fn tie(next: &mut [usize], prev: &mut [usize], before: usize, after: usize)
+    requires before_in { before < length next.old }
+    requires after_in { after < length prev.old }
+    ensures next { next.new ≡ slice_set next.old before after }
+    ensures prev { prev.new ≡ slice_set prev.old after before }
+{
+    next[before] = after;
+    prev[after] = before;
+}
+
+/// Links a number in before another.
+pub fn tie_before(next: &mut [usize], prev: &mut [usize], place: usize, new: usize)
+    requires lens { length next.old ≡ length prev.old }
+    requires place_in { place < length prev.old }
+    requires new_in { new < length prev.old }
+    requires prev_in { slice_index prev.old place < length prev.old }
+    ensures next { next.new ≡ slice_set (slice_set next.old (slice_index prev.old place) new) new place }
+    ensures prev { prev.new ≡ slice_set (slice_set prev.old new (slice_index prev.old place)) place new }
+{
+    let before = prev[place];
+    tie(next, prev, before, new);
+    tie(next, prev, new, place);
+}
+
+/// Takes a number out of its ring, and links it to itself.
+pub fn untie(next: &mut [usize], prev: &mut [usize], node: usize)
+    requires lens { length next.old ≡ length prev.old }
+    requires node_in { node < length prev.old }
+    requires next_in { slice_index next.old node < length prev.old }
+    requires prev_in { slice_index prev.old node < length prev.old }
+    ensures next { next.new ≡ slice_set (slice_set next.old (slice_index prev.old node) (slice_index next.old node)) node node }
+    ensures prev { prev.new ≡ slice_set (slice_set prev.old (slice_index next.old node) (slice_index prev.old node)) node node }
+{
+    let before = prev[node];
+    let after = next[node];
+    tie(next, prev, before, after);
+    tie(next, prev, node, node);
+}
