@@ -1,0 +1,52 @@
+-- To drop the nodes that are not reached changes nothing.
+use Rattle.std.proofs.Common.{◌≡◌, ℕ, zero, suc, ◌+◌, ◌<◌, ◌≤◌, Bool, true, false, List, [], ◌∷◌, map, length, slice_get, Option, Some, None, option_map, refl, sym, ap, ◌∙◌, subst, arith}
+use Rattle.std.proofs.lemmas.Option.{slice_get-map, slice_get_within}
+use Rattle.mir_base.specs.Frames.{Frame}
+use Rattle.mir_base.specs.Units.{at}
+use Rattle.mir_base.specs.UnitRuns.{UnitSame, UnitCheaper}
+use Rattle.mir_base.specs.Locksteps.{Alike, Lockstep}
+use Rattle.mir_base.specs.LockstepLaws.{lockstep_same, lockstep_cheaper}
+use Rattle.flow_graph.specs.declared.nodes.Node.{Node}
+use Rattle.flow_graph.specs.Graphs.{GraphShape, Reached, at_start, along, succs_at, CanMake}
+use Rattle.flow_graph.specs.Machines.{node_transition, graph_code, graph_machine, machine_of}
+use Rattle.flow_graph.specs.Kept.{redirected, rank, marked, MarkReached, AreKept, IsMade}
+use Rattle.flow_graph.specs.RedirectLaws.{Shifted, redirects_alike}
+use Rattle.flow_graph.proofs.Ranks.{at_rank}
+
+module _ (raw nodes : List Node) (received : List ℕ) (kept : AreKept raw nodes) (some : 0 < length raw) (succs : (m slot s : ℕ) → slice_get (succs_at raw m) slot ≡ Some s → s < length raw) where
+  within : (n : ℕ) → Reached raw n → n < length raw
+  within zero at_start = some
+  within n (along m slot s r e) = succs m slot n e
+
+  node_of : (n : ℕ) → Reached raw n → slice_get nodes (rank kept.marks n) ≡ option_map (redirected (rank kept.marks)) (slice_get raw n)
+  node_of n r =
+      let e = kept.are_marks.exact n (within n r) in
+      ap (λ l. slice_get l (rank kept.marks n)) kept.are ∙ slice_get-map (redirected (rank kept.marks)) (marked kept.marks raw) (rank kept.marks n) ∙ ap (option_map (redirected (rank kept.marks))) (at_rank kept.marks raw n (e.1 r) kept.are_marks.long)
+
+  abbrev S : Frame → Frame → Type 0
+  S = Shifted (rank kept.marks) (Reached raw)
+
+  steps : (f g : Frame) → S f g → Alike S (graph_code received raw f) (graph_code received nodes g)
+  steps f g s =
+      let a = redirects_alike received (rank kept.marks) (Reached raw) (slice_get raw f.place) (λ slot t e. along f.place slot t s.good e) f (rank kept.marks f.place) in
+      let b = subst (λ o. Alike S (graph_code received raw f) (node_transition received o (at (rank kept.marks f.place) f))) (sym (node_of f.place s.good)) a in
+      subst (λ h. Alike S (graph_code received raw f) (graph_code received nodes h)) (sym s.is) b
+
+  lockstep : Lockstep (graph_machine received raw) (graph_machine received nodes) S
+  lockstep = record { receives = refl; starts = λ entry is. record { good = at_start; is = refl }; steps = steps }
+
+  pub kept_same : UnitSame (graph_machine received raw) (graph_machine received nodes)
+  kept_same = lockstep_same _ _ S lockstep
+
+  pub kept_cheaper : UnitCheaper (graph_machine received raw) (graph_machine received nodes)
+  kept_cheaper = lockstep_cheaper _ _ S lockstep
+
+-- ---- a made graph does the same as all its nodes
+
+pub made_same : (name : List ℕ) (vars : List (List ℕ)) (received : List ℕ) (raw : List Node) (graph : GraphShape) → CanMake vars received raw → IsMade name vars received raw graph → UnitSame (graph_machine received raw) (machine_of graph)
+made_same name vars received raw graph can made =
+    subst (λ r. UnitSame (graph_machine received raw) (graph_machine r graph.nodes)) (sym made.received_are) (kept_same raw graph.nodes received made.nodes_are (omega (arith, slice_get_within raw 0 _ can.start.1)) (λ m slot s e. (can.succs m slot s e).1))
+
+pub made_cheaper : (name : List ℕ) (vars : List (List ℕ)) (received : List ℕ) (raw : List Node) (graph : GraphShape) → CanMake vars received raw → IsMade name vars received raw graph → UnitCheaper (graph_machine received raw) (machine_of graph)
+made_cheaper name vars received raw graph can made =
+    subst (λ r. UnitCheaper (graph_machine received raw) (graph_machine r graph.nodes)) (sym made.received_are) (kept_cheaper raw graph.nodes received made.nodes_are (omega (arith, slice_get_within raw 0 _ can.start.1)) (λ m slot s e. (can.succs m slot s e).1))

@@ -1,0 +1,135 @@
+-- Graphs as contracts see them: their edges, which nodes are reached, what a node reads and assigns, and what is true
+-- of each graph.
+use Rattle.std.specs.Prelude.{◌≡◌, ℕ, ◌<◌, ◌≤◌, Bool, true, false, eqb, List, [], ◌∷◌, ◌++◌, flat_map, length, slice_get, Option, Some, None}
+use Rattle.mir_base.specs.declared.instructions.Rhs.{Rhs}
+use Rattle.mir_base.specs.Shapes.{operand_vars, rhs_vars, test_vars, into_vars, AllBelow, AllDiffer}
+use Rattle.flow_graph.specs.declared.nodes.Node.{Node}
+use Rattle.flow_graph.specs.declared.nodes.Node.TheVariants.{Start, Skip, Assign, Print, Call, Test, Return}
+
+-- the name of the unit, the names of its variables by number, the received variables in the order of the arguments, and
+-- the nodes by number
+pub record GraphShape : Type 0 where
+  pub name : List ℕ
+  pub vars : List (List ℕ)
+  pub received : List ℕ
+  pub nodes : List Node
+
+-- ---- edges
+
+-- the successors, in order: `taken` before `other`
+abbrev pub node_succs : Node → List ℕ
+node_succs (Start next) = next ∷ []
+node_succs (Skip next) = next ∷ []
+node_succs (Assign x rhs next) = next ∷ []
+node_succs (Print a next) = next ∷ []
+node_succs (Call into unit operands next) = next ∷ []
+node_succs (Test test taken other) = taken ∷ other ∷ []
+node_succs (Return a) = []
+
+-- the node that follows where no test holds; none after a Return
+abbrev pub following : Option Node → Option ℕ
+following None = None
+following (Some (Start next)) = Some next
+following (Some (Skip next)) = Some next
+following (Some (Assign x rhs next)) = Some next
+following (Some (Print a next)) = Some next
+following (Some (Call into unit operands next)) = Some next
+following (Some (Test test taken other)) = Some other
+following (Some (Return a)) = None
+
+abbrev pub succs_of : Option Node → List ℕ
+succs_of None = []
+succs_of (Some node) = node_succs node
+
+-- the successors of node n of these nodes; none where there is no such node
+abbrev pub succs_at : List Node → ℕ → List ℕ
+succs_at nodes n = succs_of (slice_get nodes n)
+
+-- an edge leads from node m, at this slot of its successors, to node s
+abbrev pub IsEdge : List Node → ℕ → ℕ → ℕ → Type 0
+IsEdge nodes m slot s = slice_get (succs_at nodes m) slot ≡ Some s
+
+-- each edge leads to a node
+abbrev pub AllWithin : List Node → Type 0
+AllWithin nodes = (m slot s : ℕ) → IsEdge nodes m slot s → s < length nodes
+
+-- node 0 is reached, and so is each successor of a node that is reached
+pub data Reached (nodes : List Node) : ℕ → Type 0 where
+  at_start : Reached nodes 0
+  along : (m slot s : ℕ) → Reached nodes m → IsEdge nodes m slot s → Reached nodes s
+
+-- the number, where there is one, is below n
+abbrev pub IsWithin : ℕ → Option ℕ → Type 0
+IsWithin n None = Unit {0}
+IsWithin n (Some s) = s < n
+
+-- the successors of a node are below n
+abbrev pub SuccsBelow : ℕ → Node → Type 0
+SuccsBelow n (Start next) = next < n
+SuccsBelow n (Skip next) = next < n
+SuccsBelow n (Assign x rhs next) = next < n
+SuccsBelow n (Print a next) = next < n
+SuccsBelow n (Call into unit operands next) = next < n
+SuccsBelow n (Test test taken other) = (taken < n) × (other < n)
+SuccsBelow n (Return a) = Unit {0}
+
+-- ---- variables
+
+-- the variables of a node, in the order of its instruction's text
+abbrev pub node_vars : Node → List ℕ
+node_vars (Start next) = []
+node_vars (Skip next) = []
+node_vars (Assign x rhs next) = x ∷ rhs_vars rhs
+node_vars (Print a next) = operand_vars a
+node_vars (Call into unit operands next) = into_vars into ++ flat_map operand_vars operands
+node_vars (Test test taken other) = test_vars test
+node_vars (Return a) = operand_vars a
+
+-- the variables that a node reads
+abbrev pub node_reads : Node → List ℕ
+node_reads (Start next) = []
+node_reads (Skip next) = []
+node_reads (Assign x rhs next) = rhs_vars rhs
+node_reads (Print a next) = operand_vars a
+node_reads (Call into unit operands next) = flat_map operand_vars operands
+node_reads (Test test taken other) = test_vars test
+node_reads (Return a) = operand_vars a
+
+-- whether a node assigns the variable x; Start assigns every variable
+abbrev pub assigns : ℕ → Node → Bool
+assigns x (Start next) = true
+assigns x (Skip next) = false
+assigns x (Assign y rhs next) = eqb y x
+assigns x (Print a next) = false
+assigns x (Call None unit operands next) = false
+assigns x (Call (Some y) unit operands next) = eqb y x
+assigns x (Test test taken other) = false
+assigns x (Return a) = false
+
+-- the right side of a node that has one
+abbrev pub node_rhs : Node → Option Rhs
+node_rhs (Start next) = None
+node_rhs (Skip next) = None
+node_rhs (Assign x rhs next) = Some rhs
+node_rhs (Print a next) = None
+node_rhs (Call into unit operands next) = None
+node_rhs (Test test taken other) = None
+node_rhs (Return a) = None
+
+-- ---- what is true of each graph
+
+-- a graph can be made of these: node 0 is the only Start, no edge leads to it, successors and variables are in range,
+-- and the received variables and the names are distinct
+pub record CanMake (vars : List (List ℕ)) (received : List ℕ) (nodes : List Node) : Type 0 where
+  pub start : (s : ℕ) × (slice_get nodes 0 ≡ Some (Start s))
+  pub only : (n s : ℕ) → slice_get nodes n ≡ Some (Start s) → n ≡ 0
+  pub succs : (m slot s : ℕ) → IsEdge nodes m slot s → (1 ≤ s) × (s < length nodes)
+  pub below : (n : ℕ) (node : Node) → slice_get nodes n ≡ Some node → AllBelow (length vars) (node_vars node)
+  pub received_below : AllBelow (length vars) received
+  pub received_differ : AllDiffer received
+  pub names : AllDiffer vars
+
+-- and every node is reached
+pub record IsGraph (vars : List (List ℕ)) (received : List ℕ) (nodes : List Node) : Type 0 where
+  pub can : CanMake vars received nodes
+  pub reached : (n : ℕ) → n < length nodes → Reached nodes n

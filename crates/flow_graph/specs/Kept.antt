@@ -1,0 +1,53 @@
+-- The nodes of a list that are reached, renumbered in their old order: what is kept when a graph is made.
+use Rattle.std.specs.Prelude.{◌≡◌, ℕ, zero, suc, ◌<◌, ◌↔◌, Bool, true, false, List, [], ◌∷◌, map, length, slice_get, Option, Some}
+use Rattle.flow_graph.specs.declared.nodes.Node.{Node}
+use Rattle.flow_graph.specs.declared.nodes.Node.TheVariants.{Start, Skip, Assign, Print, Call, Test, Return}
+use Rattle.flow_graph.specs.Graphs.{GraphShape, Reached}
+
+-- the node with other numbers for its successors
+abbrev pub redirected : (ℕ → ℕ) → Node → Node
+redirected to (Start next) = Start (to next)
+redirected to (Skip next) = Skip (to next)
+redirected to (Assign x rhs next) = Assign x rhs (to next)
+redirected to (Print a next) = Print a (to next)
+redirected to (Call into unit operands next) = Call into unit operands (to next)
+redirected to (Test test taken other) = Test test (to taken) (to other)
+redirected to (Return a) = Return a
+
+-- how many of the first n are marked
+abbrev pub rank : List Bool → ℕ → ℕ
+rank marks zero = 0
+rank [] (suc n) = 0
+rank (true ∷ marks) (suc n) = suc (rank marks n)
+rank (false ∷ marks) (suc n) = rank marks n
+
+-- the marked ones
+abbrev pub marked : {A : Type 0} → List Bool → List A → List A
+marked [] xs = []
+marked (true ∷ marks) [] = []
+marked (false ∷ marks) [] = []
+marked (true ∷ marks) (x ∷ xs) = x ∷ marked marks xs
+marked (false ∷ marks) (x ∷ xs) = marked marks xs
+
+-- the marks of the nodes that are reached
+pub record MarkReached (raw : List Node) (marks : List Bool) : Type 0 where
+  pub long : length marks ≡ length raw
+  pub exact : (n : ℕ) → n < length raw → (slice_get marks n ≡ Some true) ↔ Reached raw n
+
+-- these are the reached nodes of the list, renumbered in their old order
+pub record AreKept (raw nodes : List Node) : Type 0 where
+  pub marks : List Bool
+  pub are_marks : MarkReached raw marks
+  pub are : nodes ≡ map (redirected (rank marks)) (marked marks raw)
+
+-- the graph with these nodes, of which the reached ones are kept
+pub record IsMade (name : List ℕ) (vars : List (List ℕ)) (received : List ℕ) (raw : List Node) (graph : GraphShape) : Type 0 where
+  pub name_is : graph.name ≡ name
+  pub vars_are : graph.vars ≡ vars
+  pub received_are : graph.received ≡ received
+  pub nodes_are : AreKept raw graph.nodes
+
+-- the number that each node gets stands at its old number
+pub record AreRanks (marks : List Bool) (ranks : List ℕ) : Type 0 where
+  pub long : length ranks ≡ length marks
+  pub are : (n : ℕ) → n < length marks → slice_get ranks n ≡ Some (rank marks n)

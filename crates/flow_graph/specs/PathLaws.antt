@@ -1,0 +1,42 @@
+-- Laws of paths: the traces of a node are the paths from Start to it, and the nodes that have one are those that are
+-- reached.
+use Rattle.std.proofs.Common.{◌≡◌, ℕ, ◌<◌, List, [], ◌∷◌, ◌++◌, length, reverse, Some, refl, sym, ap, ◌∙◌, subst, append_assoc}
+use Rattle.std.proofs.lemmas.List.{reverse-append}
+use Rattle.flow_graph.specs.declared.nodes.Node.{Node}
+use Rattle.flow_graph.specs.Graphs.{AllWithin, Reached, at_start, along}
+use Rattle.flow_graph.specs.Paths.{Begins, Ends, HasEdge, IsPath, Trace, from_start, goes_on}
+
+module _ (nodes : List Node) (some : 0 < length nodes) (within : AllWithin nodes) where
+  -- one more edge at the end of a path
+  longer : (path : List ℕ) (m n : ℕ) → IsPath nodes (path ++ m ∷ []) → HasEdge nodes m n → IsPath nodes (path ++ m ∷ n ∷ [])
+  longer [] m n is edge = (edge, within m edge.0 n edge.1)
+  longer (k ∷ []) m n is edge = (is.0, (edge, within m edge.0 n edge.1))
+  longer (k ∷ l ∷ path) m n is edge = (is.0, longer (l ∷ path) m n is.1 edge)
+
+  -- a trace, read the other way round, is a path from Start
+  pub trace_path : (n : ℕ) (before : List ℕ) → Trace nodes n before → IsPath nodes (reverse before ++ n ∷ [])
+  trace_path n before from_start = some
+  trace_path n before (goes_on m k earlier trace edge) =
+      subst (IsPath nodes) (sym (ap (λ l. l ++ n ∷ []) (reverse-append (m ∷ []) earlier) ∙ append_assoc (reverse earlier) (m ∷ []) (n ∷ []))) (longer (reverse earlier) m n (trace_path m earlier trace) edge)
+
+  trace_on : (m : ℕ) (before path : List ℕ) (n : ℕ) → Trace nodes m before → IsPath nodes (m ∷ path) → Ends n (m ∷ path) → (all : List ℕ) × Trace nodes n all × (reverse before ++ m ∷ path ≡ reverse all ++ n ∷ [])
+  trace_on m before [] n trace is ends = (before, subst (λ k. Trace nodes k before) ends trace, ap (λ k. reverse before ++ k ∷ []) ends)
+  trace_on m before (k ∷ path) n trace is ends =
+      let r = trace_on k (m ∷ before) path n (goes_on m k before trace is.0) is.1 ends in
+      (r.0, r.1, sym (ap (λ l. l ++ k ∷ path) (reverse-append (m ∷ []) before) ∙ append_assoc (reverse before) (m ∷ []) (k ∷ path)) ∙ r.2)
+
+  -- and each path from Start is a trace of its last node
+  pub path_trace : (path : List ℕ) (n : ℕ) → IsPath nodes path → Begins 0 path → Ends n path → (before : List ℕ) × Trace nodes n before × (path ≡ reverse before ++ n ∷ [])
+  path_trace [] n is begins ends = absurd is
+  path_trace (m ∷ path) n is begins ends =
+      let r = trace_on m [] path n (subst (λ k. Trace nodes k []) (sym begins) from_start) is ends in
+      (r.0, r.1, r.2)
+
+-- each node that is reached has a trace
+pub reached_trace : (nodes : List Node) (n : ℕ) → Reached nodes n → (before : List ℕ) × Trace nodes n before
+reached_trace nodes n at_start = ([], from_start)
+reached_trace nodes n (along m slot s reached edge) = let r = reached_trace nodes m reached in (m ∷ r.0, goes_on m n r.0 r.1 (slot, edge))
+
+pub trace_reached : (nodes : List Node) (n : ℕ) (before : List ℕ) → Trace nodes n before → Reached nodes n
+trace_reached nodes n before from_start = at_start
+trace_reached nodes n before (goes_on m k earlier trace edge) = along m edge.0 n (trace_reached nodes m earlier trace) edge.1

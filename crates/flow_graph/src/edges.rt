@@ -1,0 +1,130 @@
+// The edges of a graph, by source and by target.
+ghost use Rattle.std.specs.Prelude.{◌≡◌, ◌<◌, ◌≤◌, length, slice_get, slice_range, suc, IfOk, Some};
+ghost use Rattle.flow_graph.specs.Edges.{by_target, edges_of, first_entering, first_leaving, preds_among};
+
+use crate::Graph;
+use crate::edge_lists::{entries, list, sort, sources};
+use mir_base::{Items, Memory};
+use std::alloc::Global;
+use std::marker::Model;
+
+/// An edge: `target` is a successor of `source`.
+#[derive(Clone, Copy, Debug, PartialEq, Eq)]
+pub struct Edge {
+    /// The number of the node that it leaves.
+    pub source: usize,
+    /// The number of the node that it enters.
+    pub target: usize,
+}
+
+/// All edges of a graph. They are numbered from 0 in order of source and then of successor slot. They are numbered a
+/// second time by target: first those that enter node 0, then those that enter node 1, and so on, those of one node in
+/// the order of the first numbering. Contracts see them as the number of nodes and the list of edges.
+#[derive(Drop)]
+pub struct Edges {
+    nodes: usize,
+    edges: Items<Edge>,
+    entering: Items<Edge>,
+    sources: Items<usize>,
+    starts: Items<usize>,
+    entries: Items<usize>,
+}
+
+impl Model for Edges {
+    ghost use Rattle.flow_graph.specs.Edges.{AreIndexed, EdgesShape};
+
+    ghost Value = { EdgesShape };
+
+    ghost view = { λ e. record { nodes = e.nodes; edges = e.edges } };
+
+    ghost invariant = { λ e. AreIndexed e.nodes e.edges e.entering e.sources e.starts e.entries };
+}
+
+impl Edges {
+    /// The edges of a graph, in time linear in nodes and edges. Its only refusal is want of memory.
+    pub fn of(alloc: Global, graph: &Graph) -> Result<Edges, Memory>
+        ensures { IfOk result (λ edges. edges ≡ edges_of graph.now.nodes) }
+    {
+        let nodes = graph.nodes();
+        let listed = list(alloc, nodes)?;
+        let entries = entries(alloc, nodes.len(), listed.edges.as_slice())?;
+        let entering = sort(
+            alloc,
+            nodes.len(),
+            entries.as_slice(),
+            listed.edges.as_slice(),
+        )?;
+        let sources = sources(alloc, entering.as_slice())?;
+        Ok(Edges {
+            nodes: nodes.len(),
+            edges: Items::of(listed.edges),
+            entering: Items::of(entering),
+            sources: Items::of(sources),
+            starts: Items::of(listed.starts),
+            entries: Items::of(entries),
+        })
+    }
+
+    /// How many edges there are. It takes no memory.
+    pub fn len(&self) -> usize
+        ensures { result ≡ length self.now.edges }
+    {
+        self.edges.items().len()
+    }
+
+    /// The edge of this number. It takes no memory.
+    pub fn edge(&self, number: usize) -> Edge
+        requires { number < length self.now.edges }
+        ensures { slice_get self.now.edges number ≡ Some result }
+    {
+        self.edges.items()[number]
+    }
+
+    /// The numbers of the edges that leave a node: from the first answer up to, and not including, the second. It takes
+    /// no memory.
+    pub fn leaving(&self, node: usize) -> (usize, usize)
+        requires { node < self.now.nodes }
+        ensures first { result.0 ≡ first_leaving node self.now.edges }
+        ensures end { result.1 ≡ first_leaving (suc node) self.now.edges }
+    {
+        let starts = self.starts.items();
+        (starts[node], starts[node + 1])
+    }
+
+    /// The edge of this number by target. It takes no memory.
+    pub fn entering_edge(&self, number: usize) -> Edge
+        requires { number < length (by_target self.now.nodes self.now.edges) }
+        ensures { slice_get (by_target self.now.nodes self.now.edges) number ≡ Some result }
+    {
+        self.entering.items()[number]
+    }
+
+    /// The numbers by target of the edges that enter a node: from the first answer up to, and not including, the
+    /// second. It takes no memory.
+    pub fn entering(&self, node: usize) -> (usize, usize)
+        requires { node < self.now.nodes }
+        ensures first { result.0 ≡ first_entering node self.now.edges }
+        ensures end { result.1 ≡ first_entering (suc node) self.now.edges }
+    {
+        let entries = self.entries.items();
+        (entries[node], entries[node + 1])
+    }
+
+    /// The sources of the edges that enter a node, one entry for each edge. It takes no memory.
+    pub fn preds(&self, node: usize) -> &[usize]
+        requires { node < self.now.nodes }
+        ensures { result.now ≡ preds_among node self.now.edges }
+    {
+        let (first, end) = self.entering(node);
+        part(self.sources.items(), first, end)
+    }
+}
+
+/// The numbers from place `first` up to, and not including, place `end`.
+fn part(numbers: &[usize], first: usize, end: usize) -> &[usize]
+    requires ordered { first ≤ end }
+    requires within { end ≤ length numbers.now }
+    ensures { result.now ≡ slice_range numbers.now first end }
+{
+    &numbers[first..end]
+}

@@ -1,0 +1,102 @@
+// Graphs, whose parts are known to fit together.
+ghost use Rattle.std.specs.Prelude.{◌≡◌, ◌<◌, length, slice_get, Some};
+ghost use Rattle.flow_graph.specs.Graphs.{IsGraph, node_succs, succs_at};
+
+use crate::Node;
+use mir_base::{Items, Name};
+use smallvec::SmallVec;
+use std::alloc::Global;
+use std::marker::Model;
+
+/// The flow graph of a unit. Node 0 is the only `Start`, no edge leads to it, and every node is reached from it.
+/// Successors are below the number of nodes. The names of the variables are distinct, the received variables are
+/// distinct, and every variable that is received or stands in a node has a name. Contracts see a graph as its name, the
+/// names of its variables, its received variables and its nodes.
+#[derive(Drop)]
+pub struct Graph {
+    pub(crate) name: Name,
+    pub(crate) vars: Items<Name>,
+    pub(crate) received: Items<usize>,
+    pub(crate) nodes: Items<Node>,
+    pub(crate) alloc: Global,
+}
+
+impl Model for Graph {
+    ghost use Rattle.flow_graph.specs.Graphs.{GraphShape, IsGraph};
+
+    ghost Value = { GraphShape };
+
+    ghost view = { λ graph. record { name = graph.name; vars = graph.vars; received = graph.received; nodes = graph.nodes } };
+
+    ghost invariant = { λ graph. IsGraph graph.vars graph.received graph.nodes };
+}
+
+impl Graph {
+    /// How many nodes there are. It takes no memory.
+    pub fn len(&self) -> usize
+        ensures { result ≡ length self.now.nodes }
+    {
+        self.nodes.items().len()
+    }
+
+    /// The node of this number. It takes no memory.
+    pub fn node(&self, node: usize) -> &Node
+        requires { node < length self.now.nodes }
+        ensures { slice_get self.now.nodes node ≡ Some result.now }
+    {
+        &self.nodes.items()[node]
+    }
+
+    /// The successors of the node of this number, in order: of a Test `taken` and then `other`, of a Return none. It
+    /// takes no memory.
+    pub fn succs(&self, node: usize) -> SmallVec<usize, 2>
+        requires { node < length self.now.nodes }
+        ensures { result.items ≡ succs_at self.now.nodes node }
+    {
+        let node = &self.nodes.items()[node];
+        succs_of(self.alloc, node)
+    }
+
+    /// All nodes, by number. It takes no memory.
+    pub fn nodes(&self) -> &[Node]
+        ensures value { result.now ≡ self.now.nodes }
+        ensures graph { IsGraph self.now.vars self.now.received result.now }
+    {
+        self.nodes.items()
+    }
+
+    /// The name of the unit. It takes no memory.
+    pub fn name(&self) -> &Name
+        ensures { result.now ≡ self.now.name }
+    {
+        &self.name
+    }
+
+    /// The names of the variables, by number. It takes no memory.
+    pub fn vars(&self) -> &[Name]
+        ensures { result.now ≡ self.now.vars }
+    {
+        self.vars.items()
+    }
+
+    /// The received variables, in the order of the arguments. It takes no memory.
+    pub fn received(&self) -> &[usize]
+        ensures { result.now ≡ self.now.received }
+    {
+        self.received.items()
+    }
+}
+
+/// The successors of a node, in a list that has room for them in itself.
+fn succs_of(alloc: Global, node: &Node) -> SmallVec<usize, 2>
+    ensures { result.items ≡ node_succs node.now }
+{
+    let mut succs = SmallVec::new(alloc);
+    if let Some(succ) = node.first_succ() {
+        succs.push_reserved(succ);
+    }
+    if let Some(succ) = node.second_succ() {
+        succs.push_reserved(succ);
+    }
+    succs
+}

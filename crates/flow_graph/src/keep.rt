@@ -1,0 +1,95 @@
+// Graphs from lists of nodes: the nodes that are reached are kept and renumbered.
+ghost use Rattle.std.specs.Prelude.{◌≡◌, ℕ, ◌<◌, [], ◌∷◌, ◌++◌, cond, length, map, slice_index_or, IfOk, OnOk};
+ghost use Rattle.flow_graph.specs.Graphs.{AllWithin, CanMake, SuccsBelow};
+ghost use Rattle.flow_graph.specs.Kept.{redirected, rank, marked, AreRanks, IsMade};
+
+use crate::reach::reach;
+use crate::{Graph, Node};
+use mir_base::{Items, Memory, Name};
+use std::alloc::Global;
+
+/// The graph of the nodes that are reached from node 0, renumbered in their old order.
+pub(crate) fn make(
+    alloc: Global,
+    name: Name,
+    vars: Vec<Name>,
+    received: Vec<usize>,
+    nodes: Vec<Node>,
+) -> Result<Graph, Memory>
+    requires { CanMake vars.items received.items nodes.items }
+    ensures { IfOk result (λ graph. IsMade name vars.items received.items nodes.items graph) }
+{
+    let marks = reach(alloc, nodes.as_slice())?;
+    let ranks = ranks(alloc, marks.as_slice())?;
+    let kept = keep(alloc, nodes, marks.as_slice(), ranks.as_slice())?;
+    Ok(Graph {
+        name,
+        vars: Items::of(vars),
+        received: Items::of(received),
+        nodes: Items::of(kept),
+        alloc,
+    })
+}
+
+/// For each node, how many before it are marked: the number that it gets.
+fn ranks(alloc: Global, marks: &[bool]) -> Result<Vec<usize>, Memory>
+    ensures { IfOk result (λ ranks. AreRanks marks.now ranks.items) }
+{
+    let mut ranks = Vec::new(alloc);
+    let mut rank = 0;
+    for mark in marks {
+        ranks.push(rank)?;
+        if *mark {
+            rank += 1;
+        }
+    }
+    Ok(ranks)
+}
+
+/// The marked nodes, renumbered.
+fn keep(
+    alloc: Global,
+    nodes: Vec<Node>,
+    marks: &[bool],
+    ranks: &[usize],
+) -> Result<Vec<Node>, Memory>
+    requires long { length marks.now ≡ length nodes.items }
+    requires ranks { AreRanks marks.now ranks.now }
+    requires within { AllWithin nodes.items }
+    ensures { IfOk result (λ kept. kept.items ≡ map (redirected (rank marks.now)) (marked marks.now nodes.items)) }
+{
+    let mut kept = Vec::new(alloc);
+    let mut number = 0;
+    for node in nodes {
+        let node = redirect(node, ranks);
+        push_if(&mut kept, marks[number], node)?;
+        number += 1;
+    }
+    Ok(kept)
+}
+
+/// Pushes the node where it is marked.
+fn push_if(kept: &mut Vec<Node>, marked: bool, node: Node) -> Result<(), Memory>
+    ensures { OnOk result (kept.new.items ≡ cond marked (kept.old.items ++ node ∷ []) kept.old.items) }
+{
+    if marked {
+        kept.push(node)?;
+    }
+    Ok(())
+}
+
+/// The node with other numbers for its successors.
+fn redirect(node: Node, to: &[usize]) -> Node
+    requires { SuccsBelow (length to.now) node }
+    ensures { result ≡ redirected (λ n. slice_index_or to.now n 0) node }
+{
+    match node {
+        Node::Start(next) => Node::Start(to[next]),
+        Node::Skip(next) => Node::Skip(to[next]),
+        Node::Assign(x, rhs, next) => Node::Assign(x, rhs, to[next]),
+        Node::Print(a, next) => Node::Print(a, to[next]),
+        Node::Call(into, unit, args, next) => Node::Call(into, unit, args, to[next]),
+        Node::Test(test, taken, other) => Node::Test(test, to[taken], to[other]),
+        Node::Return(a) => Node::Return(a),
+    }
+}

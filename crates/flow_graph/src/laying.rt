@@ -1,0 +1,82 @@
+// The unit of a graph.
+ghost use Rattle.std.specs.Prelude.{◌≡◌, ℕ, ◌<◌, length, slice_get, IfOk};
+ghost use Rattle.mir_base.specs.UnitRuns.{UnitCheaper, UnitSame, unit_machine};
+ghost use Rattle.flow_graph.specs.Calls.{BodyCalls, NodesCall};
+ghost use Rattle.flow_graph.specs.Graphs.{IsGraph};
+ghost use Rattle.flow_graph.specs.Layouts.{IsLaid, IsLayout};
+ghost use Rattle.flow_graph.specs.Lowered.{CanLower};
+ghost use Rattle.flow_graph.specs.Machines.{machine_of};
+ghost use Rattle.flow_graph.specs.Plans.{start_succ};
+
+use crate::emit::{emit, places};
+use crate::plan::plan;
+use crate::rename::{names, rename};
+use crate::seen::SeenVars;
+use crate::{Graph, Node};
+use mir_base::{Inst, Items, Memory, Name, Unit as MirUnit};
+use std::alloc::Global;
+
+/// The unit of a graph. The receives stand first, and then traces of nodes. The first trace begins at Start's successor,
+/// and each later one at the `taken` successor of the first Test, in the order of placing, whose `taken` successor has
+/// no place yet. A trace goes on with the only successor of a node or the `other` of a Test; it ends after a Return, and
+/// with a Goto where that node has a place already. A Skip emits nothing. The variables of the unit are those that
+/// occur, in the order of their first occurrence. The unit does the same as the graph and counts no more. The time is
+/// linear in nodes and edges. The only refusal is want of memory.
+pub fn layout(alloc: Global, graph: &Graph) -> Result<MirUnit, Memory>
+    ensures layout { IfOk result (λ unit. IsLayout graph.now unit) }
+    ensures same { IfOk result (λ unit. UnitSame (machine_of graph.now) (unit_machine unit)) }
+    ensures cheaper { IfOk result (λ unit. UnitCheaper (machine_of graph.now) (unit_machine unit)) }
+
+    // the unit can be lowered again, and makes no calls but those of the graph
+    ensures lowers { IfOk result (λ unit. CanLower unit.body) }
+    ensures calls { IfOk result (λ unit. (called count : ℕ) → BodyCalls unit.body called count → NodesCall graph.now.nodes called count) }
+{
+    let unit = layout_unit(alloc, graph)?;
+    Ok(unit)
+}
+
+/// The unit of a graph.
+fn layout_unit(alloc: Global, graph: &Graph) -> Result<MirUnit, Memory>
+    ensures layout { IfOk result (λ unit. IsLayout graph.now unit) }
+    ensures graph { IsGraph graph.now.vars graph.now.received graph.now.nodes }
+{
+    let laid = lay(alloc, graph.vars(), graph.received(), graph.nodes())?;
+    let name = graph.name().clone()?;
+    Ok(MirUnit {
+        name,
+        vars: Items::of(laid.names),
+        body: Items::of(laid.body),
+    })
+}
+
+/// The variables and the body of a unit.
+#[derive(Drop)]
+struct Laid {
+    names: Vec<Name>,
+    body: Vec<Inst>,
+}
+
+/// Lays out the nodes of a graph.
+fn lay(alloc: Global, vars: &[Name], received: &[usize], nodes: &[Node]) -> Result<Laid, Memory>
+    requires { IsGraph vars.now received.now nodes.now }
+    ensures { IfOk result (λ laid. IsLaid vars.now received.now nodes.now laid.names.items laid.body.items) }
+{
+    let items = plan(alloc, nodes, start_succ(nodes))?;
+    let places = places(alloc, nodes, items.as_slice(), received.len())?;
+    let plain = emit(alloc, received, nodes, items.as_slice(), places.as_slice())?;
+    let seen = SeenVars::of(alloc, vars.len(), plain.as_slice())?;
+    let body = rename(alloc, &seen, plain.as_slice())?;
+    let names = names(alloc, vars, seen.seen())?;
+    Ok(Laid { names, body })
+}
+
+/// Where Start leads.
+fn start_succ(nodes: &[Node]) -> usize
+    requires { 0 < length nodes.now }
+    ensures { result ≡ start_succ (slice_get nodes.now 0) }
+{
+    match &nodes[0] {
+        Node::Start(next) => *next,
+        _ => 0,
+    }
+}

@@ -1,0 +1,34 @@
+//! Flow graphs of units.
+//!
+//! In goes a unit, and out comes its graph (`lower`); in goes a graph, and out comes its unit (`layout`). Between the
+//! two, passes write lists of nodes and make graphs of them (`Graph::with_nodes`), and read the edges (`Edges`). The
+//! definitions in `specs/` say what a graph is, what one step of it does, what its edges and paths are, and which graph
+//! and which unit the calls answer.
+//!
+//! The theorem that this crate carries is that going into a graph and back changes nothing: what `lower`, `layout` and
+//! `with_nodes` answer does the same as what they take, and counts no more.
+#![tactic(auto)]
+
+mod edge_lists;
+mod edges;
+mod emit;
+mod graphs;
+mod keep;
+mod laying;
+mod lowering;
+mod making;
+mod nodes;
+mod plan;
+mod reach;
+mod rename;
+mod seen;
+mod split;
+#[cfg(test)]
+mod tests;
+
+pub use edges::{Edge, Edges};
+pub use graphs::Graph;
+pub use laying::layout;
+pub use lowering::lower;
+pub use nodes::Node;
+pub use split::is_split;

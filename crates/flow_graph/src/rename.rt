@@ -1,0 +1,124 @@
+// Instructions with the variables numbered by their first occurrence.
+ghost use Rattle.std.specs.Prelude.{◌≡◌, ◌<◌, ◌++◌, [], flat_map, length, map, option_map, slice_index_or, IfOk};
+ghost use Rattle.mir_base.specs.Shapes.{AllBelow, inst_vars, into_vars, operand_vars, rhs_vars, test_vars};
+ghost use Rattle.mir_base.specs.declared.instructions.Inst.TheVariants.{Call};
+ghost use Rattle.flow_graph.specs.Numbering.{position, renamed, renamed_operand, renamed_rhs, renamed_test};
+
+use crate::seen::SeenVars;
+use mir_base::{Args, Inst, Memory, Name, Operand, Rhs, Test};
+use std::alloc::Global;
+
+/// The body with each variable numbered by its place among those seen.
+pub(crate) fn rename(alloc: Global, seen: &SeenVars, body: &[Inst]) -> Result<Vec<Inst>, Memory>
+    requires { AllBelow seen.now.vars (flat_map inst_vars body.now) }
+    ensures { IfOk result (λ new. new.items ≡ map (renamed (position seen.now.seen)) body.now) }
+{
+    let mut renamed = Vec::new(alloc);
+    for inst in body {
+        renamed.push(rename_inst(alloc, seen, inst)?)?;
+    }
+    Ok(renamed)
+}
+
+fn rename_inst(alloc: Global, seen: &SeenVars, inst: &Inst) -> Result<Inst, Memory>
+    requires { AllBelow seen.now.vars (inst_vars inst.now) }
+    ensures { IfOk result (λ new. new ≡ renamed (position seen.now.seen) inst.now) }
+{
+    Ok(match inst {
+        Inst::Receive(x) => Inst::Receive(seen.position(*x)),
+        Inst::Assign(x, rhs) => Inst::Assign(seen.position(*x), rename_rhs(seen, *rhs)),
+        Inst::Goto(place) => Inst::Goto(*place),
+        Inst::If(test, place) => Inst::If(rename_test(seen, *test), *place),
+        Inst::Call(into, unit, args) => rename_call(alloc, seen, *into, *unit, args.items())?,
+        Inst::Print(a) => Inst::Print(rename_operand(seen, *a)),
+        Inst::Return(a) => Inst::Return(rename_operand(seen, *a)),
+    })
+}
+
+fn rename_operand(seen: &SeenVars, a: Operand) -> Operand
+    requires { AllBelow seen.now.vars (operand_vars a) }
+    ensures { result ≡ renamed_operand (position seen.now.seen) a }
+{
+    match a {
+        Operand::Var(x) => Operand::Var(seen.position(x)),
+        Operand::Const(c) => Operand::Const(c),
+    }
+}
+
+fn rename_rhs(seen: &SeenVars, rhs: Rhs) -> Rhs
+    requires { AllBelow seen.now.vars (rhs_vars rhs) }
+    ensures { result ≡ renamed_rhs (position seen.now.seen) rhs }
+{
+    match rhs {
+        Rhs::Plain(a) => Rhs::Plain(rename_operand(seen, a)),
+        Rhs::Unary(op, a) => Rhs::Unary(op, rename_operand(seen, a)),
+        Rhs::Binary(op, a, b) => Rhs::Binary(op, rename_operand(seen, a), rename_operand(seen, b)),
+    }
+}
+
+fn rename_test(seen: &SeenVars, test: Test) -> Test
+    requires { AllBelow seen.now.vars (test_vars test) }
+    ensures { result ≡ renamed_test (position seen.now.seen) test }
+{
+    match test {
+        Test::Rel(op, a, b) => Test::Rel(op, rename_operand(seen, a), rename_operand(seen, b)),
+        Test::Holds(a) => Test::Holds(rename_operand(seen, a)),
+        Test::Fails(a) => Test::Fails(rename_operand(seen, a)),
+    }
+}
+
+fn rename_call(
+    alloc: Global,
+    seen: &SeenVars,
+    into: Option<usize>,
+    unit: usize,
+    operands: &[Operand],
+) -> Result<Inst, Memory>
+    requires { AllBelow seen.now.vars (into_vars into ++ flat_map operand_vars operands.now) }
+    ensures { IfOk result (λ new. new ≡ renamed (position seen.now.seen) (Call into unit operands.now)) }
+{
+    let args = rename_args(alloc, seen, operands)?;
+    Ok(Inst::Call(rename_into(seen, into), unit, args))
+}
+
+fn rename_args(alloc: Global, seen: &SeenVars, operands: &[Operand]) -> Result<Args, Memory>
+    requires { AllBelow seen.now.vars (flat_map operand_vars operands.now) }
+    ensures { IfOk result (λ args. args ≡ map (renamed_operand (position seen.now.seen)) operands.now) }
+{
+    let mut renamed = Vec::new(alloc);
+    for a in operands {
+        renamed.push(rename_operand(seen, *a))?;
+    }
+    Args::of(alloc, renamed.as_slice())
+}
+
+fn rename_into(seen: &SeenVars, into: Option<usize>) -> Option<usize>
+    requires { AllBelow seen.now.vars (into_vars into) }
+    ensures { result ≡ option_map (position seen.now.seen) into }
+{
+    match into {
+        None => None,
+        Some(x) => Some(seen.position(x)),
+    }
+}
+
+/// The names of these variables.
+pub(crate) fn names(alloc: Global, vars: &[Name], seen: &[usize]) -> Result<Vec<Name>, Memory>
+    requires { AllBelow (length vars.now) seen.now }
+    ensures { IfOk result (λ names. names.items ≡ map (λ x. slice_index_or vars.now x []) seen.now) }
+{
+    let mut names = Vec::new(alloc);
+    for x in seen {
+        names.push(name_at(vars, *x)?)?;
+    }
+    Ok(names)
+}
+
+/// The name of a variable.
+fn name_at(vars: &[Name], x: usize) -> Result<Name, Memory>
+    requires { x < length vars.now }
+    ensures { IfOk result (λ name. name ≡ slice_index_or vars.now x []) }
+{
+    let name = vars[x].clone()?;
+    Ok(name)
+}

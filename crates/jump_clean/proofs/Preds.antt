@@ -1,0 +1,52 @@
+-- The sources of the edges that enter a node.
+use Rattle.std.proofs.Common.{◌≡◌, ℕ, zero, suc, ◌+◌, ◌<◌, List, [], ◌∷◌, ◌++◌, length, drop, slice_get, slice_index_or, Option, Some, None, ◌⊎◌, inl, inr, refl, sym, ap, subst}
+use Rattle.std.proofs.lemmas.Option.{slice_get_within}
+use Rattle.flow_graph.specs.declared.edges.Edge.{Edge}
+use Rattle.flow_graph.specs.declared.nodes.Node.{Node}
+use Rattle.flow_graph.specs.Graphs.{succs_of}
+use Rattle.flow_graph.specs.Edges.{edges_from, preds_among}
+use Rattle.flow_graph.specs.EdgeLaws.{pred_has, pred_is}
+use Rattle.jump_clean.specs.ChainLaws.{In}
+use Rattle.jump_clean.proofs.Follow.{in_rest, in_place}
+use Rattle.jump_clean.proofs.Moves.{in_either, in_left, in_right}
+
+in_at : (xs : List ℕ) (i n : ℕ) → slice_get xs i ≡ Some n → In n xs
+in_at [] i n e = cc
+in_at (x ∷ xs) zero n e = let same : x ≡ n = cc in inl same
+in_at (x ∷ xs) (suc i) n e = inr (in_at xs i n e)
+
+at_in : (xs : List ℕ) (n : ℕ) → In n xs → (i : ℕ) × (slice_get xs i ≡ Some n)
+at_in [] n h = absurd h
+at_in (x ∷ xs) n (inl e) = (0, ap Some e)
+at_in (x ∷ xs) n (inr h) = let r = at_in xs n h in (suc r.0, r.1)
+
+-- a node that leads to node s is one of the sources
+pub in_preds : (nodes : List Node) (m s slot : ℕ) → slice_get (succs_of (slice_get nodes m)) slot ≡ Some s → In m (preds_among s (edges_from 0 nodes))
+in_preds nodes m s slot e = let r = pred_has nodes m s (slot, e) in in_at (preds_among s (edges_from 0 nodes)) r.0 m r.1
+
+pub preds_below : (nodes : List Node) (s m : ℕ) → In m (preds_among s (edges_from 0 nodes)) → m < length nodes
+preds_below nodes s m h =
+    let p = at_in (preds_among s (edges_from 0 nodes)) m h in
+    let edge = pred_is nodes s p.0 m p.1 in
+    there edge.0 (slice_get nodes m) refl edge.1
+  where
+    there : (slot : ℕ) (o : Option Node) → slice_get nodes m ≡ o → slice_get (succs_of o) slot ≡ Some s → m < length nodes
+    there slot None is e = cc
+    there slot (Some node) is e = slice_get_within nodes m node is
+
+-- ---- the sources for several nodes
+
+pub more_preds : (nodes : List ℕ) (edges : List Edge) (i : ℕ) (preds preds' : List ℕ) → i < length nodes → preds' ≡ preds ++ preds_among (slice_index_or nodes i 0) edges → ((n m : ℕ) → In n nodes → In m (preds_among n edges) → In m preds ⊎ In n (drop i nodes)) → (n m : ℕ) → In n nodes → In m (preds_among n edges) → In m preds' ⊎ In n (drop (i + 1) nodes)
+more_preds nodes edges i preds preds' lt is all n m h h' = elim (all n m h h') [
+  | inl p ↦ inl (subst (In m) (sym is) (in_left m preds (preds_among (slice_index_or nodes i 0) edges) p))
+  | inr p ↦ elim (in_rest nodes i n lt p) [
+    | inl same ↦ inl (subst (In m) (sym is) (in_right m preds (preds_among (slice_index_or nodes i 0) edges) (subst (λ k. In m (preds_among k edges)) (sym same) h')))
+    | inr later ↦ inr later
+  ]
+]
+
+pub only_preds : (nodes : List ℕ) (edges : List Edge) (i : ℕ) (preds preds' : List ℕ) → i < length nodes → preds' ≡ preds ++ preds_among (slice_index_or nodes i 0) edges → ((m : ℕ) → In m preds → (n : ℕ) × In n nodes × In m (preds_among n edges)) → (m : ℕ) → In m preds' → (n : ℕ) × In n nodes × In m (preds_among n edges)
+only_preds nodes edges i preds preds' lt is only m h = elim (in_either m preds (preds_among (slice_index_or nodes i 0) edges) (subst (In m) is h)) [
+  | inl p ↦ only m p
+  | inr p ↦ (slice_index_or nodes i 0, in_place nodes i lt, p)
+]

@@ -1,0 +1,9 @@
+use Rattle.std.proofs.Common.{◌-◌, drop, length}
+use Rattle.jump_clean.specs.ChainLaws.{In}
+use Rattle.jump_clean.proofs.chains.place_of.Given as goal
+
+abbrev pub invariant-loop-place : goal.invariant-loop-place
+invariant-loop-place l = In l.n (drop l.place l.way)
+
+abbrev pub decreases-loop-place : goal.decreases-loop-place
+decreases-loop-place l = length l.way - l.place

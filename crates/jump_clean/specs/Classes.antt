@@ -1,0 +1,36 @@
+-- Classes of nodes: the number of the class of each node, and the members of each class.
+use Rattle.std.specs.Prelude.{◌≡◌, ◌≢◌, ℕ, ◌<◌, List, length, slice_index_or, [], ◌⊎◌}
+use Rattle.mir_base.specs.Shapes.{AllBelow}
+use Rattle.jump_clean.specs.ChainLaws.{In}
+
+-- the class of a node
+abbrev pub class : List ℕ → ℕ → ℕ
+class of n = slice_index_or of n 0
+
+-- the members of a class
+abbrev pub members_of : List (List ℕ) → ℕ → List ℕ
+members_of members c = slice_index_or members c []
+
+-- each class has exactly its members, and each class number is that of a node
+pub record HasMembers (of : List ℕ) (members : List (List ℕ)) : Type 0 where
+  pub long : length members ≡ length of
+  pub within : (n : ℕ) → n < length of → class of n < length of
+  pub all : (n : ℕ) → n < length of → In n (members_of members (class of n))
+  pub only : (n c : ℕ) → In n (members_of members c) → (n < length of) × (class of n ≡ c)
+
+-- the nodes of the one class, which are these, have gone into the other, and all others are where they were
+pub record AreMoved (of of' : List ℕ) (from into : ℕ) (moved : List ℕ) : Type 0 where
+  pub long : length of' ≡ length of
+  pub gone : (n : ℕ) → n < length of → class of n ≡ from → (class of' n ≡ into) × In n moved
+  pub stayed : (n : ℕ) → n < length of → class of n ≢ from → class of' n ≡ class of n
+  pub below : AllBelow (length of) moved
+
+-- the classes of a and b have become one, and all others are as they were; two nodes whose classes were apart before are
+-- together now only where one of them was moved
+pub record AreJoined (of of' : List ℕ) (a b : ℕ) (moved : List ℕ) : Type 0 where
+  pub long : length of' ≡ length of
+  pub together : class of' a ≡ class of' b
+  pub still : (n m : ℕ) → n < length of → m < length of → class of n ≡ class of m → class of' n ≡ class of' m
+  pub only : (n m : ℕ) → n < length of → m < length of → class of' n ≡ class of' m → (class of n ≡ class of m) ⊎ ((class of n ≡ class of a) × (class of m ≡ class of b)) ⊎ ((class of n ≡ class of b) × (class of m ≡ class of a))
+  pub by_move : (n m : ℕ) → n < length of → m < length of → class of' n ≡ class of' m → (class of n ≡ class of m) ⊎ In n moved ⊎ In m moved
+  pub below : AllBelow (length of) moved

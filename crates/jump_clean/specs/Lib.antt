@@ -1,0 +1,10 @@
+pub mod Chains
+pub mod Turns
+pub mod Cleaned
+pub mod ListLaws
+pub mod ChainLaws
+pub mod TurnLaws
+pub mod Following
+pub mod Classes
+pub mod Joining
+pub mod CleanLaws

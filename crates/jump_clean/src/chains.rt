@@ -1,0 +1,146 @@
+// The ends of chains of Skips, found in one pass: no Skip is passed twice.
+ghost use Rattle.std.specs.Prelude.{◌≡◌, ℕ, ◌<◌, ◌≤◌, ◌∷◌, length, replicate, slice_get, IfOk, OnOk, Some, ◌⊎◌};
+ghost use Rattle.flow_graph.specs.Graphs.{AllWithin};
+ghost use Rattle.mir_base.specs.Shapes.{AllBelow};
+ghost use Rattle.jump_clean.specs.declared.chains.Found.TheVariants.{Nothing, OnTheWay, End};
+ghost use Rattle.jump_clean.specs.Chains.{AreEnds, IsEnd};
+ghost use Rattle.jump_clean.specs.ChainLaws.{In};
+ghost use Rattle.jump_clean.specs.Following.{AreFound, EndsAt, IsLeastFrom, onward_of, skip_succ};
+
+use flow_graph::Node;
+use mir_base::Memory;
+use std::alloc::Global;
+
+/// What is known of a node while the ends of chains are looked for.
+#[derive(Clone, Copy, Debug, PartialEq, Eq)]
+pub(crate) enum Found {
+    /// Nothing.
+    Nothing,
+    /// It is a Skip of the chain that is followed now.
+    OnTheWay,
+    /// The end of its chain.
+    End(usize),
+}
+
+/// The end of chain of each node.
+pub(crate) fn ends(alloc: Global, nodes: &[Node]) -> Result<Vec<usize>, Memory>
+    requires { AllWithin nodes.now }
+    ensures { IfOk result (λ ends. AreEnds nodes.now ends.items) }
+{
+    let mut found = nothing_found(alloc, nodes.len())?;
+    let mut ends = Vec::new(alloc);
+    for n in 0..nodes.len() {
+        let end = end_of(alloc, nodes, &mut found, n)?;
+        ends.push(end)?;
+    }
+    Ok(ends)
+}
+
+fn nothing_found(alloc: Global, count: usize) -> Result<Vec<Found>, Memory>
+    ensures { IfOk result (λ found. found.items ≡ replicate count Nothing) }
+{
+    Ok(vec![in alloc; Found::Nothing; count]?)
+}
+
+/// The end of the chain that begins at a node. It is noted for each Skip on the way.
+fn end_of(
+    alloc: Global,
+    nodes: &[Node],
+    found: &mut Vec<Found>,
+    start: usize,
+) -> Result<usize, Memory>
+    requires within { AllWithin nodes.now }
+    requires found { AreFound nodes.now found.old.items }
+    requires start { start < length nodes.now }
+    ensures end { IfOk result (λ end. IsEnd nodes.now start end) }
+    ensures found { OnOk result (AreFound nodes.now found.new.items) }
+{
+    let mut way = Vec::new(alloc);
+    let mut n = start;
+    while let Some(next) = onward(&nodes[n], found[n]) {
+        found[n] = Found::OnTheWay;
+        way.push(n)?;
+        n = next;
+    }
+    let end = end_at(found[n], way.as_slice(), n);
+    note(found, way.as_slice(), end);
+    Ok(end)
+}
+
+/// The successor of a Skip of which nothing is known.
+fn onward(node: &Node, found: Found) -> Option<usize>
+    ensures { result ≡ onward_of node.now found }
+{
+    match found {
+        Found::Nothing => skip_succ(node),
+        Found::OnTheWay => None,
+        Found::End(_) => None,
+    }
+}
+
+/// The successor of a Skip.
+pub(crate) fn skip_succ(node: &Node) -> Option<usize>
+    ensures { result ≡ skip_succ node.now }
+{
+    match node {
+        Node::Skip(next) => Some(*next),
+        _ => None,
+    }
+}
+
+/// The end of the chain, where node `n` is no Skip, or comes for the second time, or its end of chain is known.
+fn end_at(found: Found, way: &[usize], n: usize) -> usize
+    requires { found ≡ OnTheWay → In n way.now }
+    ensures { EndsAt found way.now n result }
+{
+    match found {
+        Found::Nothing => n,
+        Found::OnTheWay => least_on_circle(way, n),
+        Found::End(end) => end,
+    }
+}
+
+/// The least number of a circle: of the last Skips on the way, from node `first` on.
+fn least_on_circle(way: &[usize], first: usize) -> usize
+    requires { In first way.now }
+    ensures { IsLeastFrom way.now first result }
+{
+    let place = place_of(way, first);
+    least(first, &way[place + 1..])
+}
+
+/// The place of a number that is one of these.
+fn place_of(way: &[usize], n: usize) -> usize
+    requires { In n way.now }
+    ensures { slice_get way.now result ≡ Some n }
+{
+    let mut place = 0;
+    while way[place] != n {
+        place += 1;
+    }
+    place
+}
+
+/// The least of these numbers.
+fn least(first: usize, others: &[usize]) -> usize
+    ensures is_one { In result (first ∷ others.now) }
+    ensures least { (n : ℕ) → In n (first ∷ others.now) → result ≤ n }
+{
+    let mut least = first;
+    for n in others {
+        least = least.min(*n);
+    }
+    least
+}
+
+/// Notes the end of chain of each node on the way.
+fn note(found: &mut Vec<Found>, way: &[usize], end: usize)
+    requires { AllBelow (length found.old.items) way.now }
+    ensures long { length found.new.items ≡ length found.old.items }
+    ensures noted { (n : ℕ) → In n way.now → slice_get found.new.items n ≡ Some (End end) }
+    ensures others { (n : ℕ) → (slice_get found.new.items n ≡ slice_get found.old.items n) ⊎ ((slice_get found.new.items n ≡ Some (End end)) × In n way.now) }
+{
+    for n in way {
+        found[*n] = Found::End(end);
+    }
+}

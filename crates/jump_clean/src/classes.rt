@@ -1,0 +1,108 @@
+// Classes of nodes whose chains have the same end.
+ghost use Rattle.std.specs.Prelude.{◌≡◌, ◌≢◌, ℕ, ◌<◌, ◌++◌, [], ◌∷◌, length, map, slice_index_or, slice_set, IfOk, OnOk, ◌⊎◌};
+ghost use Rattle.mir_base.specs.Shapes.{AllBelow};
+ghost use Rattle.jump_clean.specs.ChainLaws.{In};
+ghost use Rattle.jump_clean.specs.Classes.{class, AreJoined, AreMoved, HasMembers};
+
+use mir_base::Memory;
+use std::alloc::Global;
+
+/// The number of the class of each node, and the members of each class.
+#[derive(Drop)]
+pub(crate) struct Classes {
+    pub(crate) of: Vec<usize>,
+    pub(crate) members: Vec<Vec<usize>>,
+}
+
+impl Classes {
+    /// Each node alone, in the class of its own number.
+    pub(crate) fn apart(alloc: Global, nodes: usize) -> Result<Classes, Memory>
+        ensures long { IfOk result (λ classes. length classes.of.items ≡ nodes) }
+        ensures apart { IfOk result (λ classes. (n : ℕ) → n < nodes → class classes.of.items n ≡ n) }
+        ensures members { IfOk result (λ classes. HasMembers classes.of.items (map (λ v. v.items) classes.members.items)) }
+    {
+        let mut of = Vec::new(alloc);
+        let mut members = Vec::new(alloc);
+        for n in 0..nodes {
+            of.push(n)?;
+            let alone = one(alloc, n)?;
+            members.push(alone)?;
+        }
+        Ok(Classes { of, members })
+    }
+
+    /// Joins the classes of two nodes, and answers the members of the one that went into the other: the smaller one, so
+    /// that no node moves more often than the logarithm of the number of nodes.
+    pub(crate) fn join(&mut self, alloc: Global, a: usize, b: usize) -> Result<Vec<usize>, Memory>
+        requires members { HasMembers self.old.of.items (map (λ v. v.items) self.old.members.items) }
+        requires a { a < length self.old.of.items }
+        requires b { b < length self.old.of.items }
+        ensures members { OnOk result (HasMembers self.new.of.items (map (λ v. v.items) self.new.members.items)) }
+        ensures joined { IfOk result (λ moved. AreJoined self.old.of.items self.new.of.items a b moved.items) }
+    {
+        let first = self.of[a];
+        let second = self.of[b];
+        if first == second {
+            return Ok(Vec::new(alloc));
+        }
+        if self.members[first].len() < self.members[second].len() {
+            self.move_all(alloc, first, second)
+        } else {
+            self.move_all(alloc, second, first)
+        }
+    }
+
+    /// Moves all members of a class into another one, and answers them.
+    fn move_all(&mut self, alloc: Global, from: usize, into: usize) -> Result<Vec<usize>, Memory>
+        requires members { HasMembers self.old.of.items (map (λ v. v.items) self.old.members.items) }
+        requires from { from < length self.old.of.items }
+        requires into { into < length self.old.of.items }
+        requires apart { from ≢ into }
+        ensures members { OnOk result (HasMembers self.new.of.items (map (λ v. v.items) self.new.members.items)) }
+        ensures moved { IfOk result (λ moved. AreMoved self.old.of.items self.new.of.items from into moved.items) }
+    {
+        let moved = take(&mut self.members, alloc, from);
+        relabel(&mut self.of, moved.as_slice(), into);
+        add(&mut self.members, into, moved.as_slice())?;
+        Ok(moved)
+    }
+}
+
+/// The list of this number alone.
+fn one(alloc: Global, n: usize) -> Result<Vec<usize>, Memory>
+    ensures { IfOk result (λ list. list.items ≡ n ∷ []) }
+{
+    let mut list = Vec::new(alloc);
+    list.push(n)?;
+    Ok(list)
+}
+
+/// Takes the members of a class away from it.
+fn take(members: &mut Vec<Vec<usize>>, alloc: Global, class: usize) -> Vec<usize>
+    requires { class < length members.old.items }
+    ensures taken { result.items ≡ slice_index_or (map (λ v. v.items) members.old.items) class [] }
+    ensures left { map (λ v. v.items) members.new.items ≡ slice_set (map (λ v. v.items) members.old.items) class [] }
+{
+    std::mem::replace(&mut members[class], Vec::new(alloc))
+}
+
+/// Adds members to a class.
+fn add(members: &mut Vec<Vec<usize>>, class: usize, nodes: &[usize]) -> Result<(), Memory>
+    requires { class < length members.old.items }
+    ensures { OnOk result (map (λ v. v.items) members.new.items ≡ slice_set (map (λ v. v.items) members.old.items) class (slice_index_or (map (λ v. v.items) members.old.items) class [] ++ nodes.now)) }
+{
+    members[class].extend_from_slice(nodes)?;
+    Ok(())
+}
+
+/// Puts these nodes into a class.
+fn relabel(of: &mut Vec<usize>, nodes: &[usize], into: usize)
+    requires { AllBelow (length of.old.items) nodes.now }
+    ensures long { length of.new.items ≡ length of.old.items }
+    ensures gone { (n : ℕ) → In n nodes.now → class of.new.items n ≡ into }
+    ensures others { (n : ℕ) → (class of.new.items n ≡ class of.old.items n) ⊎ In n nodes.now }
+{
+    for n in nodes {
+        of[*n] = into;
+    }
+}

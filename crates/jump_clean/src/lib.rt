@@ -1,0 +1,15 @@
+//! Jump clean-up. In goes a graph; out comes the graph without tests that make no difference and without Skips on the
+//! way: each Skip that is left is its own successor, and no Test has two equal successors.
+//!
+//! The theorem that this crate carries is the contract of `clean`: the answer is the exact graph, it does the same as
+//! the graph that goes in, and it counts no more.
+#![tactic(auto)]
+
+mod chains;
+mod classes;
+mod cleaning;
+#[cfg(test)]
+mod tests;
+mod turning;
+
+pub use cleaning::clean;
