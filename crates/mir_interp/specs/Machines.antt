@@ -1,4 +1,5 @@
 -- The state of a run that a machine stands for, and what is true of every machine.
+use Rattle.std.specs.Vec.{vec_capacity}
 use Rattle.std.specs.Prelude.{◌≡◌, ℕ, ◌+◌, ◌<◌, ◌≤◌, List, [], ◌∷◌, length, take, drop, reverse, slice_get, slice_index_or, ℤ, pos, Option, Some, None, Result, Ok}
 use Rattle.mir_base.specs.declared.instructions.Inst.{Inst}
 use Rattle.mir_base.specs.declared.instructions.Inst.TheVariants.{Call, Print}
@@ -115,3 +116,12 @@ abbrev pub TakesMemory : Option Inst → Type 0
 TakesMemory (Some (Call into unit operands)) = Unit {0}
 TakesMemory (Some (Print a)) = Unit {0}
 TakesMemory _ = ⊥
+
+-- the lists have as much room as before, so no memory was taken for them
+pub record SameStackRoom (old new : Stack) : Type 0 where
+  pub callers : vec_capacity new.callers ≡ vec_capacity old.callers
+  pub values : vec_capacity new.values ≡ vec_capacity old.values
+
+pub record SameRoom (old new : Machine) : Type 0 where
+  pub printed : vec_capacity new.printed ≡ vec_capacity old.printed
+  pub stack : SameStackRoom old.stack new.stack

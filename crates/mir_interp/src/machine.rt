@@ -1,10 +1,10 @@
 // One step of a run.
-ghost use Rattle.std.specs.Prelude.{◌≡◌, ◌+◌, ◌<◌, ◌≤◌, ◌^◌, length, slice_get, Some, IfOk, IfErr};
+ghost use Rattle.std.specs.Prelude.{◌≡◌, ◌+◌, ◌<◌, ◌≤◌, ◌^◌, ◌⊎◌, length, slice_get, Some, IfOk, IfErr};
 ghost use Rattle.mir_base.specs.Frames.{Prints};
 ghost use Rattle.mir_base.specs.Runs.{codes_of, state_after, step};
 ghost use Rattle.mir_base.specs.Shapes.{AllBelow, InstFits, ProgramShape, body_at, inst_vars, rhs_vars, test_vars};
 ghost use Rattle.mir_base.specs.Units.{at, relation_holds, test_holds};
-ghost use Rattle.mir_interp.specs.Machines.{IsMachine, StopsBefore, TakesMemory, evaluations_of, state_of, state_past, value_of_rhs, running, values_of, vars_at, waiting};
+ghost use Rattle.mir_interp.specs.Machines.{IsMachine, SameRoom, StopsBefore, TakesMemory, evaluations_of, state_of, state_past, value_of_rhs, running, values_of, vars_at, waiting};
 
 use crate::stack::{Stack, operand};
 use crate::{Finish, RunFault};
@@ -33,6 +33,7 @@ impl Machine {
         ensures few { IfOk result (λ _. self.new.counted ≤ self.old.counted + 1) }
         ensures fault { IfErr result (StopsBefore (step (codes_of program.now) (state_of self.old Finish.Running))) }
         ensures memory { IfErr result (λ _. TakesMemory (slice_get (body_at program.now.units self.old.stack.running.unit) self.old.stack.running.place)) }
+        ensures room { IfOk result (λ _. TakesMemory (slice_get (body_at program.now.units self.old.stack.running.unit) self.old.stack.running.place) ⊎ SameRoom self.old self.new) }
     {
         let unit = program.unit(self.stack.running.unit);
         match unit.inst(self.stack.running.place) {
@@ -53,6 +54,7 @@ impl Machine {
         ensures few { IfOk result (λ _. self.new.counted ≤ self.old.counted + 1) }
         ensures fault { IfErr result (StopsBefore (state_past self.old (Some inst.now))) }
         ensures memory { IfErr result (λ _. TakesMemory (Some inst.now)) }
+        ensures room { IfOk result (λ _. TakesMemory (Some inst.now) ⊎ SameRoom self.old self.new) }
     {
         match inst {
             Inst::Receive(x) => {

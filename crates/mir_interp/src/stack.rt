@@ -4,7 +4,7 @@ ghost use Rattle.mir_base.specs.Frames.{first_frame};
 ghost use Rattle.mir_base.specs.Runs.{Control, inputs_of, returned};
 ghost use Rattle.mir_base.specs.Shapes.{AllBelow, ProgramShape, body_at, into_vars, operand_vars, receives_in};
 ghost use Rattle.mir_base.specs.Units.{assigned, at, operand_value};
-ghost use Rattle.mir_interp.specs.Machines.{IsStack, control_of, running, values_of, vars_at, waiting};
+ghost use Rattle.mir_interp.specs.Machines.{IsStack, SameStackRoom, control_of, running, values_of, vars_at, waiting};
 
 use crate::Finish;
 use mir_base::{Memory, Operand, Program};
@@ -82,6 +82,7 @@ impl Stack {
         ensures control { control_of self.new Finish.Running ≡ Control.Running self.old.running.unit (at place (running self.old)) (waiting self.old) }
         ensures kept { (program : ProgramShape) → IsStack program self.old → IsStack program self.new }
         ensures callers { self.new.callers.items ≡ self.old.callers.items }
+        ensures room { SameStackRoom self.old self.new }
     {
         self.running.place = place;
     }
@@ -94,6 +95,7 @@ impl Stack {
         ensures control { control_of self.new Finish.Running ≡ Control.Running self.old.running.unit (assigned x value (self.old.running.place + 1) (running self.old)) (waiting self.old) }
         ensures kept { (program : ProgramShape) → IsStack program self.old → IsStack program self.new }
         ensures callers { self.new.callers.items ≡ self.old.callers.items }
+        ensures room { SameStackRoom self.old self.new }
     {
         self.values[self.running.variables + x] = value;
         self.running.place += 1;
@@ -142,6 +144,7 @@ impl Stack {
         ensures control { control_of self.new result ≡ returned (record { value = answer }) (waiting self.old) }
         ensures kept { (program : ProgramShape) → IsStack program self.old → IsStack program self.new }
         ensures callers { length self.new.callers.items ≤ length self.old.callers.items }
+        ensures room { SameStackRoom self.old self.new }
     {
         match self.callers.pop() {
             None => Finish::Ended(answer),

@@ -10,6 +10,7 @@
 
 mod bytes;
 mod faults;
+mod laws;
 mod lexing;
 mod numbers;
 mod scan;
@@ -20,7 +21,9 @@ mod tokens;
 mod words;
 
 pub use faults::LexFault;
+pub use laws::tokens_are_unique;
 pub use lexing::lex;
+pub use numbers::number;
 pub use terminals::{Symbol, Terminal};
 pub use tokens::{Token, Tokens};
 pub use words::{Kind, Mark, Word};

@@ -1,5 +1,6 @@
-mod Cuts
-mod NumberWords
-mod InstLines
-mod WholeTexts
-mod TidyNumbers
+mod PartSound
+mod Sound
+mod Complete
+mod Exact
+mod Early
+mod Texts

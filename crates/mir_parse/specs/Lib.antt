@@ -1,3 +1,5 @@
-pub mod FirstText
-pub mod Numbering
-pub mod Reading
+pub mod RawUnit
+pub mod Grammar
+pub mod Reader
+pub mod Fault
+pub mod Spells

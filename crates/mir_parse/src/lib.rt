@@ -1,19 +1,29 @@
-//! Reading programs of the first form: one unit of plain, `+` and `-` assignments, prints and returns.
+//! The raw program that a text's tokens spell.
 //!
-//! In goes a text, out comes its program, with variables numbered in the order in which they first occur.
+//! In go the tokens of a text; out comes a raw program, in which units, variables and labels still have names, or the
+//! line of the first token at which no text can go on, or the answer that the text ends inside a unit.
+//! `specs/Grammar.antt` is the grammar: a relation between lists of tokens and raw programs.
 //!
-//! The theorem that this crate carries is on `parse_first`: the program that is read is the one that the grammar of
-//! `specs/FirstText.antt` gives the text, each text of that grammar is read unless memory runs out, and a text is
-//! refused exactly where the grammar does not derive it.
+//! The theorem that this crate carries is the contract of `parse`: it answers the raw program that the tokens spell
+//! exactly where there is one, and each refusal exactly where its cause is there.
 #![tactic(auto)]
 
-mod first;
-mod lines;
-mod naming;
+mod faults;
+mod laws;
+mod parsing;
+mod parts;
 mod raw;
-mod words;
+mod reading;
+mod state;
+#[cfg(test)]
+mod tests;
+mod units;
 
-pub use first::{FirstFault, parse_first};
+pub use faults::{ParseFault, TextFault};
+pub use laws::raw_is_unique;
+pub use parsing::parse;
+pub use raw::{Raw, RawForm, RawInst, RawLabel, RawOperand, RawRhs, RawTest, RawUnit};
+pub use reading::read_text;
 
 /// Want of memory: the allocator refused.
 pub type Memory = std::alloc::AllocError;

@@ -1,7 +1,10 @@
-// Instructions as they are written: variables go by their names.
-use mir_base::Name;
+// Raw programs: what a text says, with names in place of numbers.
+use crate::Memory;
+use mir_base::{Items, Name, Op, RelOp, UnOp};
+use std::alloc::Global;
+use std::marker::Model;
 
-/// What an instruction reads.
+/// What an instruction reads: a variable or a constant.
 #[derive(Drop)]
 pub enum RawOperand {
     /// The variable of this name.
@@ -15,19 +18,135 @@ pub enum RawOperand {
 pub enum RawRhs {
     /// An operand alone.
     Plain(RawOperand),
-    /// `a + b`.
-    Sum(RawOperand, RawOperand),
-    /// `a - b`.
-    Difference(RawOperand, RawOperand),
+    /// An operator on one operand.
+    Unary(UnOp, RawOperand),
+    /// An operator on two operands.
+    Binary(Op, RawOperand, RawOperand),
 }
 
-/// An instruction.
+/// What a conditional jump asks.
 #[derive(Drop)]
-pub enum RawInst {
-    /// `x <- rhs`.
+pub enum RawTest {
+    /// Whether the relation holds between the two.
+    Rel(RelOp, RawOperand, RawOperand),
+    /// Whether the operand is not 0.
+    Holds(RawOperand),
+    /// Whether the operand is 0.
+    Fails(RawOperand),
+}
+
+/// An instruction, without its line.
+#[derive(Drop)]
+pub enum RawForm {
+    /// `receive x(val)`: the variable.
+    Receive(Name),
+    /// `x <- rhs`: the variable and the right side.
     Assign(Name, RawRhs),
-    /// `print a`.
+    /// `goto L`: the label.
+    Goto(Name),
+    /// `if test goto L`: the test and the label.
+    If(RawTest, Name),
+    /// `x <- f,(a,int;b,int)` or `call f,(a,int;b,int)`: the variable for the result, if there is one, the name of the
+    /// called unit, and the arguments in order.
+    Call(Option<Name>, Name, Items<RawOperand>),
+    /// `print a`: the operand.
     Print(RawOperand),
-    /// `return a`, or `return` alone.
+    /// `return a` or `return`: the operand, if there is one.
     Return(Option<RawOperand>),
+}
+
+/// An instruction with its line.
+#[derive(Drop)]
+pub struct RawInst {
+    /// The line of its first token after its labels.
+    pub line: usize,
+    /// What it does.
+    pub form: RawForm,
+}
+
+/// A label of a unit.
+#[derive(Drop)]
+pub struct RawLabel {
+    /// The label's name.
+    pub name: Name,
+    /// Where it stands: the number of the next instruction of its unit, counted from 0, or the number of all of them
+    /// where no more follow.
+    pub place: usize,
+    /// The line of its name.
+    pub line: usize,
+}
+
+/// A unit. The place of each label is at most the number of the instructions. Contracts see it as the record of its
+/// fields.
+#[derive(Drop)]
+pub struct RawUnit {
+    /// The unit's name.
+    pub name: Name,
+    /// The line of its name.
+    pub line: usize,
+    /// The labels, in the order of the text.
+    pub labels: Items<RawLabel>,
+    /// The instructions, in the order of the text.
+    pub body: Items<RawInst>,
+}
+
+impl Model for RawUnit {
+    ghost use Rattle.mir_parse.specs.RawUnit.{RawUnitShape, HasPlaces};
+
+    ghost Value = { RawUnitShape };
+
+    ghost view = { λ unit. record { name = unit.name; line = unit.line; labels = unit.labels; body = unit.body } };
+
+    ghost invariant = { λ unit. HasPlaces unit.labels unit.body };
+}
+
+impl RawUnit {
+    ghost use Rattle.std.specs.Prelude.{◌≡◌, IfOk};
+    ghost use Rattle.mir_parse.specs.RawUnit.{unit_begun, unit_with_inst, unit_with_label};
+
+    // A unit of this name, which stands on this line, with no label and no instruction.
+    pub(crate) fn begun(alloc: Global, name: Name, line: usize) -> RawUnit
+        ensures { result ≡ unit_begun name line }
+    {
+        RawUnit {
+            name,
+            line,
+            labels: Items::new(alloc),
+            body: Items::new(alloc),
+        }
+    }
+
+    // The unit with one more instruction at its end.
+    pub(crate) fn with_inst(self, line: usize, form: RawForm) -> Result<RawUnit, Memory>
+        ensures { IfOk result (λ unit. unit ≡ unit_with_inst self line form) }
+    {
+        let body = self.body.with(RawInst { line, form })?;
+        Ok(RawUnit {
+            name: self.name,
+            line: self.line,
+            labels: self.labels,
+            body,
+        })
+    }
+
+    // The unit with one more label, which stands behind its instructions.
+    pub(crate) fn with_label(self, line: usize, name: Name) -> Result<RawUnit, Memory>
+        ensures { IfOk result (λ unit. unit ≡ unit_with_label self line name) }
+    {
+        let place = self.body.items().len();
+        let labels = self.labels.with(RawLabel { name, place, line })?;
+        Ok(RawUnit {
+            name: self.name,
+            line: self.line,
+            labels,
+            body: self.body,
+        })
+    }
+}
+
+/// A raw program: its units, in the order of the text.
+#[derive(Drop)]
+pub struct Raw {
+    /// The units, in the order of the text.
+    pub units: Items<RawUnit>,
 }

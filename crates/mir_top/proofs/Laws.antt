@@ -1,97 +1,297 @@
--- What follows from the whole answer of a call.
-use Rattle.std.proofs.Common.{◌≡◌, ◌<◌, ◌≤◌, ◌⊎◌, inl, inr, ℕ, List, [], ◌∷◌, ◌++◌, length, Option, None, Some, Contains, IsSome, refl, sym, ◌∙◌, ap, arith, subst, length-append}
-use Rattle.std.proofs.lemmas.List.{append-nil}
-use Rattle.std.specs.Io.KnownBytes.{Consumes, IsAtEnd}
-use Rattle.mir_base.specs.Shapes.{ProgramShape}
-use Rattle.mir_parse.specs.FirstText.{FirstText}
-use Rattle.mir_top.specs.declared.command.Command.{Command}
+-- What the status of a call tells, from the whole answer of a call.
+use Rattle.std.proofs.Common.{◌≡◌, ◌≤◌, ◌⊎◌, inl, inr, ℕ, zero, suc, List, [], ◌∷◌, Option, None, Some, Contains, IfOk, IfErr, Result, Ok, Err, refl, sym, ◌∙◌, ap, subst, arith, T, ◌==◌, ◌||◌}
+use Rattle.mir_interp.specs.declared.report.Finish.{Finish}
+use Rattle.mir_interp.specs.declared.report.Finish.TheVariants.{Running as StillRunning, Ended as RunEnded, Trapped}
+use Rattle.mir_top.specs.declared.command.Command.TheVariants.{Optimise, Run}
 use Rattle.mir_top.specs.declared.cause.Cause.{Cause}
-use Rattle.mir_top.specs.declared.cause.Cause.TheVariants.{Usage, ReadFault, TooLong, NotFirst, WriteFault, Memory}
-use Rattle.mir_top.specs.declared.call.Trail.{Trail}
-use Rattle.mir_top.specs.Streams.{Stream, Untouched, Failed, Took, TookAll}
-use Rattle.mir_top.specs.Commands.{command_of, Asks, text_limit}
-use Rattle.mir_top.specs.Statuses.{status_of, Prevents, Happened, Answers}
+use Rattle.mir_top.specs.declared.cause.Cause.TheVariants.{Usage, WrongInputs, ReadFault, TooLong, Unreadable, Invalid, Deep, WriteFault, Memory}
+use Rattle.mir_top.specs.declared.outcome.Outcome.{Outcome}
+use Rattle.mir_top.specs.declared.outcome.Outcome.TheVariants.{Optimised, Ran}
+use Rattle.mir_opt.specs.declared.trails.Trail.{Trail}
+use Rattle.mir_top.specs.Streams.{Stream, Untouched, Failed, Gave, GavePart}
+use Rattle.mir_top.specs.Commands.{command_of, Asks}
+use Rattle.mir_top.specs.Statuses.{status_of, status_of_finish, status_of_outcome, Prevents, Happened, Succeeded, Ended, HasEnded, Told, status_at_end, trail_at_end, Answers, IsMade, IsDone, IsLonger, IsRefused, IsStopped, IsPartlyWritten, IsReadAs, IsReported}
+use Rattle.mir_top.specs.Outputs.{Runs, reported, report_text}
 
--- what prevented an output left the sink as it was
-pub prevented : (words : List (List ℕ)) (source out : Stream) (cause : Cause) → Prevents words source cause → Untouched out → Happened words source out cause
-prevented words source out Usage prevents still = (prevents, still)
-prevented words source out ReadFault prevents still = (prevents, still)
-prevented words source out TooLong prevents still = (prevents, still)
-prevented words source out NotFirst prevents still = (prevents, still)
-prevented words source out WriteFault prevents still = absurd prevents
-prevented words source out Memory prevents still = (prevents, still)
+-- ---- the statuses of successes and of causes are different
 
--- ---- a source that tells its bytes
+abbrev is_success : ℕ → Type 0
+is_success n = T (n == 0 || n == 3 || n == 4)
 
-taken_within : (new : Option (List ℕ)) (text bytes : List ℕ) → Consumes (Some text) new bytes → length bytes ≤ length text
-taken_within None text bytes taken = absurd taken
-taken_within (Some rest) text bytes taken = omega (arith, ap length taken, length-append bytes rest)
+finish_is_success : (finish : Finish) → is_success (status_of_finish finish)
+finish_is_success (RunEnded result) = tt
+finish_is_success (Trapped kind) = tt
+finish_is_success StillRunning = tt
 
-taken_whole : (new : Option (List ℕ)) (text bytes : List ℕ) → Consumes (Some text) new bytes → IsAtEnd new → bytes ≡ text
-taken_whole None text bytes taken end = absurd taken
-taken_whole (Some rest) text bytes taken end = sym (taken ∙ ap (λ (l : List ℕ). bytes ++ l) end ∙ append-nil bytes)
+outcome_is_success : (outcome : Outcome) → is_success (status_of_outcome outcome)
+outcome_is_success (Optimised trail) = tt
+outcome_is_success (Ran finish) = finish_is_success finish
 
-told_within : (source : Stream) (text bytes : List ℕ) → source.old ≡ Some text → Took source bytes → length bytes ≤ length text
-told_within source text bytes told taken = taken_within source.new text bytes (subst (λ (o : Option (List ℕ)). Consumes o source.new bytes) told taken)
+cause_is_none : (cause : Cause) → is_success (status_of cause) → ⊥
+cause_is_none Usage is = absurd is
+cause_is_none (WrongInputs wanted) is = absurd is
+cause_is_none ReadFault is = absurd is
+cause_is_none TooLong is = absurd is
+cause_is_none (Unreadable fault) is = absurd is
+cause_is_none (Invalid fault) is = absurd is
+cause_is_none Deep is = absurd is
+cause_is_none WriteFault is = absurd is
+cause_is_none Memory is = absurd is
 
-told_whole : (source : Stream) (text bytes : List ℕ) → source.old ≡ Some text → TookAll source bytes → bytes ≡ text
-told_whole source text bytes told taken = taken_whole source.new text bytes (subst (λ (o : Option (List ℕ)). Consumes o source.new bytes) told taken.0) taken.1
+among_successes : (status : ℕ) → Contains (0 ∷ 3 ∷ 4 ∷ []) status → is_success status
+among_successes status (zero, within, is) = subst is_success is tt
+among_successes status (suc zero, within, is) = subst is_success is tt
+among_successes status (suc (suc zero), within, is) = subst is_success is tt
+among_successes status (suc (suc (suc i)), within, is) = absurd (omega (arith, within))
 
--- ---- the clauses of the top call
+-- a status of success has an outcome
+pub succeeded : (words : List (List ℕ)) (source out err : Stream) (status : ℕ) (trail : Option Trail) → Answers words source out err status trail → is_success status → Succeeded words source out err status trail
+succeeded words source out err status trail (inl done) is = done
+succeeded words source out err status trail (inr end) is = absurd (cause_is_none end.cause (subst is_success end.answered is))
 
-none_asks : (command : Option Command) → command ≡ None → IsSome command → ⊥
-none_asks None is some = absurd (cc)
-none_asks (Some command) is some = absurd (cc)
+-- every other status has a cause
+pub ended : (words : List (List ℕ)) (source out err : Stream) (status : ℕ) (trail : Option Trail) → Answers words source out err status trail → (is_success status → ⊥) → Ended words source out err status trail
+ended words source out err status trail (inl done) other = absurd (other (subst is_success (sym done.answered) (outcome_is_success done.outcome)))
+ended words source out err status trail (inr end) other = end
 
-pub complete : (words : List (List ℕ)) (source out err : Stream) (status : ℕ) (trail : Option Trail) (text : List ℕ) (program : ProgramShape) → Answers words source out err status trail → Asks words → source.old ≡ Some text → length text ≤ text_limit → FirstText text program → (Failed source → ⊥) → (Failed out → ⊥) → (status ≡ 0) ⊎ (status ≡ 8)
-complete words source out err status (Some trail) text program answers asked told short parsed calm_source calm_out = inl answers.0
-complete words source out err status None text program answers asked told short parsed calm_source calm_out = go answers.cause answers.answered answers.happened
+pub not_success : (n status : ℕ) → status ≡ n → (is_success n → ⊥) → is_success status → ⊥
+not_success n status is other success = other (subst is_success is success)
+
+-- ---- status 0, 3 and 4
+
+pub quiet : (words : List (List ℕ)) (source out err : Stream) (status : ℕ) (trail : Option Trail) → Answers words source out err status trail → Contains (0 ∷ 3 ∷ 4 ∷ []) status → Untouched err
+quiet words source out err status trail answers among = (succeeded words source out err status trail answers (among_successes status among)).quiet
+
+-- the program and the words of an outcome
+read_of : (words : List (List ℕ)) (source : Stream) (outcome : Outcome) (output : List ℕ) → (made : IsMade words source outcome output) → IsReadAs source made.program
+read_of words source outcome output made = record { text = made.text; read = made.read; parsed = made.parsed.is }
+
+-- under `run` the report was written
+runs_is_not_optimise : (steps : ℕ) → Some Optimise ≡ Some (Run steps) → ⊥
+runs_is_not_optimise steps is = absurd (cc)
+
+same_steps : (one other : ℕ) → Some (Run one) ≡ Some (Run other) → one ≡ other
+same_steps one other is = cc
+
+pub reports : (words : List (List ℕ)) (source out err : Stream) (status : ℕ) (trail : Option Trail) (steps : ℕ) → Answers words source out err status trail → command_of words ≡ Some (Run steps) → Contains (0 ∷ 3 ∷ 4 ∷ []) status → IsReported words source out steps status
+reports words source out err status trail steps answers asked among = go done.outcome done.answered done.done
   where
-    go : (cause : Cause) → status ≡ status_of cause → Happened words source out cause → (status ≡ 0) ⊎ (status ≡ 8)
-    go Usage is happened = absurd (none_asks (command_of words) happened.0.0 asked)
-    go ReadFault is happened = absurd (calm_source happened.0.1)
-    go TooLong is happened = let long = happened.0.1 in absurd (omega (arith, told_within source text long.text told long.read, long.long, short))
-    go NotFirst is happened =
-        let refused = happened.0.1 in absurd (refused.refused program (subst (λ (t : List ℕ). FirstText t program) (sym (told_whole source text refused.text told refused.read.all)) parsed))
-    go WriteFault is happened = absurd (calm_out happened.written.0)
-    go Memory is happened = inr is
+    done : Succeeded words source out err status trail
+    done = succeeded words source out err status trail answers (among_successes status among)
 
--- a text is too long, or not of the first form
-abbrev IsNoText : List ℕ → Type 0
-IsNoText text = (text_limit < length text) ⊎ ((program : ProgramShape) → FirstText text program → ⊥)
+    of_run : (finish : Finish) → status ≡ status_of_finish finish → (whole : IsDone words source out (Ran finish)) → (n : ℕ) → n ≡ steps → Runs words whole.made.program n
+        → finish ≡ (reported words whole.made.program n).finish → whole.output ≡ report_text (reported words whole.made.program n) → IsReported words source out steps status
+    of_run finish is whole n same runs finishes text =
+        let made = whole.made in record {
+          program = made.program;
+          read = read_of words source (Ran finish) whole.output made;
+          inputs = runs.inputs;
+          answered = is ∙ ap status_of_finish finishes ∙ ap (λ (m : ℕ). status_of_finish (reported words made.program m).finish) same;
+          written = subst (Gave out) (text ∙ ap (λ (m : ℕ). report_text (reported words made.program m)) same) whole.written;
+        }
 
-no_text : (text bytes : List ℕ) (program : ProgramShape) → bytes ≡ text → length bytes ≤ text_limit → FirstText bytes program → IsNoText text → ⊥
-no_text text bytes program is short parsed (inl long) = let same : length bytes ≡ length text = ap length is in omega arith
-no_text text bytes program is short parsed (inr none) = none program (subst (λ (t : List ℕ). FirstText t program) is parsed)
+    go : (outcome : Outcome) → status ≡ status_of_outcome outcome → IsDone words source out outcome → IsReported words source out steps status
+    go (Optimised trail) is whole = absurd (runs_is_not_optimise steps (sym whole.made.made.0 ∙ asked))
+    go (Ran finish) is whole = let made = whole.made.made in of_run finish is whole made.0 (same_steps made.0 steps (sym made.1 ∙ asked)) made.2 made.3 made.4
 
-pub refuses : (words : List (List ℕ)) (source out err : Stream) (status : ℕ) (trail : Option Trail) (text : List ℕ) → Answers words source out err status trail → Asks words → source.old ≡ Some text → (Failed source → ⊥) → IsNoText text → (status ≡ 2) ⊎ (status ≡ 8)
-refuses words source out err status (Some trail) text answers asked told calm none =
-    let made = answers.1.made in absurd (no_text text made.text trail.source (told_whole source text made.text told made.read.all) made.read.short made.made.parsed none)
-refuses words source out err status None text answers asked told calm none = go answers.cause answers.answered answers.happened
+-- the statuses 3 and 4 are those of runs
+abbrev is_of_run : ℕ → Type 0
+is_of_run n = T (n == 3 || n == 4)
+
+among_runs : (status : ℕ) → Contains (3 ∷ 4 ∷ []) status → is_of_run status
+among_runs status (zero, within, is) = subst is_of_run is tt
+among_runs status (suc zero, within, is) = subst is_of_run is tt
+among_runs status (suc (suc i), within, is) = absurd (omega (arith, within))
+
+cause_is_of_none : (cause : Cause) → is_of_run (status_of cause) → ⊥
+cause_is_of_none Usage is = absurd is
+cause_is_of_none (WrongInputs wanted) is = absurd is
+cause_is_of_none ReadFault is = absurd is
+cause_is_of_none TooLong is = absurd is
+cause_is_of_none (Unreadable fault) is = absurd is
+cause_is_of_none (Invalid fault) is = absurd is
+cause_is_of_none Deep is = absurd is
+cause_is_of_none WriteFault is = absurd is
+cause_is_of_none Memory is = absurd is
+
+pub of_run : (words : List (List ℕ)) (source out err : Stream) (status : ℕ) (trail : Option Trail) → Answers words source out err status trail → Contains (3 ∷ 4 ∷ []) status → (steps : ℕ) × (command_of words ≡ Some (Run steps))
+of_run words source out err status trail (inr end) among = absurd (cause_is_of_none end.cause (subst is_of_run end.answered (among_runs status among)))
+of_run words source out err status trail (inl done) among = go done.outcome done.answered done.done
   where
-    go : (cause : Cause) → status ≡ status_of cause → Happened words source out cause → (status ≡ 2) ⊎ (status ≡ 8)
-    go Usage is happened = absurd (none_asks (command_of words) happened.0.0 asked)
-    go ReadFault is happened = absurd (calm happened.0.1)
-    go TooLong is happened = inl is
-    go NotFirst is happened = inl is
-    go WriteFault is happened =
-        let made = happened.made in absurd (no_text text made.text happened.trail.source (told_whole source text made.text told made.read.all) made.read.short made.made.parsed none)
-    go Memory is happened = inr is
+    go : (outcome : Outcome) → status ≡ status_of_outcome outcome → IsDone words source out outcome → (steps : ℕ) × (command_of words ≡ Some (Run steps))
+    go (Optimised trail) is whole = absurd (subst is_of_run is (among_runs status among))
+    go (Ran finish) is whole = (whole.made.made.0, whole.made.made.1)
 
-abbrev all_statuses : List ℕ
-all_statuses = 0 ∷ 1 ∷ 2 ∷ 6 ∷ 7 ∷ 8 ∷ []
+-- ---- the other statuses
 
-stands : (status : ℕ) → Contains all_statuses status → (other : ℕ) → other ≡ status → Contains all_statuses other
-stands status has other is = subst (Contains all_statuses) (sym is) has
+-- what a cause other than a failed write prevented
+prevented : (words : List (List ℕ)) (source out : Stream) (cause : Cause) → (cause ≡ WriteFault → ⊥) → Happened words source out cause → Prevents words source cause
+prevented words source out cause other (inl happened) = happened.0
+prevented words source out cause other (inr happened) = absurd (other happened.0)
 
-pub statuses : (words : List (List ℕ)) (source out err : Stream) (status : ℕ) (trail : Option Trail) → Answers words source out err status trail → Contains all_statuses status
-statuses words source out err status (Some trail) answers = stands 0 (0, omega arith, refl) status answers.0
-statuses words source out err status None answers = go answers.cause answers.answered
+pub wrong_words : (words : List (List ℕ)) (source out err : Stream) (status : ℕ) (trail : Option Trail) → Answers words source out err status trail → status ≡ 1 → ((command_of words ≡ None) × Untouched source) ⊎ ((wanted : ℕ) × IsStopped words source (WrongInputs wanted))
+wrong_words words source out err status trail answers at = go end.cause end.answered end.happened
   where
-    go : (cause : Cause) → status ≡ status_of cause → Contains all_statuses status
-    go Usage is = stands 1 (1, omega arith, refl) status is
-    go ReadFault is = stands 6 (3, omega arith, refl) status is
-    go TooLong is = stands 2 (2, omega arith, refl) status is
-    go NotFirst is = stands 2 (2, omega arith, refl) status is
-    go WriteFault is = stands 7 (4, omega arith, refl) status is
-    go Memory is = stands 8 (5, omega arith, refl) status is
+    end : Ended words source out err status trail
+    end = ended words source out err status trail answers (not_success 1 status at (λ is. is))
+
+    go : (cause : Cause) → status ≡ status_of cause → Happened words source out cause → ((command_of words ≡ None) × Untouched source) ⊎ ((wanted : ℕ) × IsStopped words source (WrongInputs wanted))
+    go Usage is happened = inl (prevented words source out Usage (λ is. absurd (cc)) happened)
+    go (WrongInputs wanted) is happened = inr (wanted, prevented words source out (WrongInputs wanted) (λ is. absurd (cc)) happened)
+    go ReadFault is happened = absurd (omega (arith, is, at))
+    go TooLong is happened = absurd (omega (arith, is, at))
+    go (Unreadable fault) is happened = absurd (omega (arith, is, at))
+    go (Invalid fault) is happened = absurd (omega (arith, is, at))
+    go Deep is happened = absurd (omega (arith, is, at))
+    go WriteFault is happened = absurd (omega (arith, is, at))
+    go Memory is happened = absurd (omega (arith, is, at))
+
+pub refused : (words : List (List ℕ)) (source out err : Stream) (status : ℕ) (trail : Option Trail) → Answers words source out err status trail → status ≡ 2 → Asks words × (IsLonger source ⊎ ((cause : Cause) × (status_of cause ≡ 2) × IsRefused source cause))
+refused words source out err status trail answers at = go end.cause end.answered end.happened
+  where
+    end : Ended words source out err status trail
+    end = ended words source out err status trail answers (not_success 2 status at (λ is. is))
+
+    go : (cause : Cause) → status ≡ status_of cause → Happened words source out cause → Asks words × (IsLonger source ⊎ ((cause : Cause) × (status_of cause ≡ 2) × IsRefused source cause))
+    go Usage is happened = absurd (omega (arith, is, at))
+    go (WrongInputs wanted) is happened = absurd (omega (arith, is, at))
+    go ReadFault is happened = absurd (omega (arith, is, at))
+    go TooLong is happened = let why = prevented words source out TooLong (λ is. absurd (cc)) happened in (why.0, inl why.1)
+    go (Unreadable fault) is happened = let why = prevented words source out (Unreadable fault) (λ is. absurd (cc)) happened in (why.0, inr (Unreadable fault, refl, why.1))
+    go (Invalid fault) is happened = let why = prevented words source out (Invalid fault) (λ is. absurd (cc)) happened in (why.0, inr (Invalid fault, refl, why.1))
+    go Deep is happened = absurd (omega (arith, is, at))
+    go WriteFault is happened = absurd (omega (arith, is, at))
+    go Memory is happened = absurd (omega (arith, is, at))
+
+pub deep : (words : List (List ℕ)) (source out err : Stream) (status : ℕ) (trail : Option Trail) → Answers words source out err status trail → status ≡ 5 → IsStopped words source Deep
+deep words source out err status trail answers at = go end.cause end.answered end.happened
+  where
+    end : Ended words source out err status trail
+    end = ended words source out err status trail answers (not_success 5 status at (λ is. is))
+
+    go : (cause : Cause) → status ≡ status_of cause → Happened words source out cause → IsStopped words source Deep
+    go Usage is happened = absurd (omega (arith, is, at))
+    go (WrongInputs wanted) is happened = absurd (omega (arith, is, at))
+    go ReadFault is happened = absurd (omega (arith, is, at))
+    go TooLong is happened = absurd (omega (arith, is, at))
+    go (Unreadable fault) is happened = absurd (omega (arith, is, at))
+    go (Invalid fault) is happened = absurd (omega (arith, is, at))
+    go Deep is happened = prevented words source out Deep (λ is. absurd (cc)) happened
+    go WriteFault is happened = absurd (omega (arith, is, at))
+    go Memory is happened = absurd (omega (arith, is, at))
+
+pub read_fault : (words : List (List ℕ)) (source out err : Stream) (status : ℕ) (trail : Option Trail) → Answers words source out err status trail → status ≡ 6 → Asks words × Failed source
+read_fault words source out err status trail answers at = go end.cause end.answered end.happened
+  where
+    end : Ended words source out err status trail
+    end = ended words source out err status trail answers (not_success 6 status at (λ is. is))
+
+    go : (cause : Cause) → status ≡ status_of cause → Happened words source out cause → Asks words × Failed source
+    go Usage is happened = absurd (omega (arith, is, at))
+    go (WrongInputs wanted) is happened = absurd (omega (arith, is, at))
+    go ReadFault is happened = prevented words source out ReadFault (λ is. absurd (cc)) happened
+    go TooLong is happened = absurd (omega (arith, is, at))
+    go (Unreadable fault) is happened = absurd (omega (arith, is, at))
+    go (Invalid fault) is happened = absurd (omega (arith, is, at))
+    go Deep is happened = absurd (omega (arith, is, at))
+    go WriteFault is happened = absurd (omega (arith, is, at))
+    go Memory is happened = absurd (omega (arith, is, at))
+
+pub write_fault : (words : List (List ℕ)) (source out err : Stream) (status : ℕ) (trail : Option Trail) → Answers words source out err status trail → status ≡ 7 → IsPartlyWritten words source out
+write_fault words source out err status trail answers at = go end.cause end.answered end.happened
+  where
+    end : Ended words source out err status trail
+    end = ended words source out err status trail answers (not_success 7 status at (λ is. is))
+
+    partly : Happened words source out WriteFault → IsPartlyWritten words source out
+    partly (inl happened) = absurd happened.0
+    partly (inr happened) = happened.1
+
+    go : (cause : Cause) → status ≡ status_of cause → Happened words source out cause → IsPartlyWritten words source out
+    go Usage is happened = absurd (omega (arith, is, at))
+    go (WrongInputs wanted) is happened = absurd (omega (arith, is, at))
+    go ReadFault is happened = absurd (omega (arith, is, at))
+    go TooLong is happened = absurd (omega (arith, is, at))
+    go (Unreadable fault) is happened = absurd (omega (arith, is, at))
+    go (Invalid fault) is happened = absurd (omega (arith, is, at))
+    go Deep is happened = absurd (omega (arith, is, at))
+    go WriteFault is happened = partly happened
+    go Memory is happened = absurd (omega (arith, is, at))
+
+abbrev is_silent : ℕ → Type 0
+is_silent n = T (n == 1 || n == 2 || n == 5 || n == 6 || n == 8)
+
+among_silent : (status : ℕ) → Contains (1 ∷ 2 ∷ 5 ∷ 6 ∷ 8 ∷ []) status → is_silent status
+among_silent status (zero, within, is) = subst is_silent is tt
+among_silent status (suc zero, within, is) = subst is_silent is tt
+among_silent status (suc (suc zero), within, is) = subst is_silent is tt
+among_silent status (suc (suc (suc zero)), within, is) = subst is_silent is tt
+among_silent status (suc (suc (suc (suc zero))), within, is) = subst is_silent is tt
+among_silent status (suc (suc (suc (suc (suc i)))), within, is) = absurd (omega (arith, within))
+
+finish_is_told : (finish : Finish) → is_silent (status_of_finish finish) → ⊥
+finish_is_told (RunEnded result) silent = silent
+finish_is_told (Trapped kind) silent = silent
+finish_is_told StillRunning silent = silent
+
+outcome_is_told : (outcome : Outcome) → is_silent (status_of_outcome outcome) → ⊥
+outcome_is_told (Optimised trail) silent = silent
+outcome_is_told (Ran finish) silent = finish_is_told finish silent
+
+pub silent : (words : List (List ℕ)) (source out err : Stream) (status : ℕ) (trail : Option Trail) → Answers words source out err status trail → Contains (1 ∷ 2 ∷ 5 ∷ 6 ∷ 8 ∷ []) status → Untouched out
+silent words source out err status trail (inl done) among = absurd (outcome_is_told done.outcome (subst is_silent done.answered (among_silent status among)))
+silent words source out err status trail (inr end) among = go end.happened
+  where
+    go : Happened words source out end.cause → Untouched out
+    go (inl happened) = happened.1
+    go (inr happened) = absurd (subst (λ (cause : Cause). is_silent (status_of cause)) happened.0 (subst is_silent end.answered (among_silent status among)))
+
+pub told : (words : List (List ℕ)) (source out err : Stream) (status : ℕ) (trail : Option Trail) → Answers words source out err status trail → (Contains (0 ∷ 3 ∷ 4 ∷ []) status → ⊥) → Ended words source out err status trail
+told words source out err status trail (inr end) other = end
+told words source out err status trail (inl done) other = absurd (other (subst (Contains (0 ∷ 3 ∷ 4 ∷ [])) (sym done.answered) (is_among done.outcome)))
+  where
+    ends : (finish : Finish) → Contains (0 ∷ 3 ∷ 4 ∷ []) (status_of_finish finish)
+    ends (RunEnded result) = (0, omega arith, refl)
+    ends (Trapped kind) = (1, omega arith, refl)
+    ends StillRunning = (2, omega arith, refl)
+
+    is_among : (outcome : Outcome) → Contains (0 ∷ 3 ∷ 4 ∷ []) (status_of_outcome outcome)
+    is_among (Optimised trail) = (0, omega arith, refl)
+    is_among (Ran finish) = ends finish
+
+-- ---- there is no other status
+
+pub statuses : (words : List (List ℕ)) (source out err : Stream) (status : ℕ) (trail : Option Trail) → Answers words source out err status trail → status ≤ 8
+statuses words source out err status trail (inl done) = subst (λ (n : ℕ). n ≤ 8) (sym done.answered) (go done.outcome)
+  where
+    ends : (finish : Finish) → status_of_finish finish ≤ 8
+    ends (RunEnded result) = omega arith
+    ends (Trapped kind) = omega arith
+    ends StillRunning = omega arith
+
+    go : (outcome : Outcome) → status_of_outcome outcome ≤ 8
+    go (Optimised trail) = omega arith
+    go (Ran finish) = ends finish
+statuses words source out err status trail (inr end) = subst (λ (n : ℕ). n ≤ 8) (sym end.answered) (go end.cause)
+  where
+    go : (cause : Cause) → status_of cause ≤ 8
+    go Usage = omega arith
+    go (WrongInputs wanted) = omega arith
+    go ReadFault = omega arith
+    go TooLong = omega arith
+    go (Unreadable fault) = omega arith
+    go (Invalid fault) = omega arith
+    go Deep = omega arith
+    go WriteFault = omega arith
+    go Memory = omega arith
+
+-- ---- the whole answer
+
+pub delivered : (words : List (List ℕ)) (source out : Stream) (outcome : Outcome) (output : List ℕ) (ended : Result Outcome Cause) → IsMade words source outcome output → IfOk ended (λ o. (o ≡ outcome) × Gave out output)
+    → IfErr ended (λ cause. (cause ≡ WriteFault) × GavePart out output) → HasEnded words source out ended
+delivered words source out outcome output (Ok o) made written failed = subst (IsDone words source out) (sym written.0) (record { output = output; made = made; written = written.1 })
+delivered words source out outcome output (Err cause) made written failed = inr (failed.0, record { outcome = outcome; output = output; made = made; written = failed.1 })
+
+pub answered : (words : List (List ℕ)) (source out err : Stream) (ended : Result Outcome Cause) → HasEnded words source out ended → Told ended err → Answers words source out err (status_at_end ended) (trail_at_end ended)
+answered words source out err (Ok outcome) has told = inl (record { outcome = outcome; answered = refl; given = refl; done = has; quiet = told })
+answered words source out err (Err cause) has told = inr (record { cause = cause; answered = refl; given = refl; happened = has; told = told })

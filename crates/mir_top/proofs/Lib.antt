@@ -1,3 +1,4 @@
-pub mod Cutting
-pub mod Printing
-pub mod Laws
+mod Complete
+mod Laws
+mod Pieces
+mod TextLaws

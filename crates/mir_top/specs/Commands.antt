@@ -1,61 +1,59 @@
--- What each command asks of its words and of its text, and what it makes of the text.
-use Rattle.std.specs.Prelude.{ℕ, ◌≡◌, ◌≤◌, List, [], ◌∷◌, length, codes, Option, None, Some, nat_eq, if◌then◌else◌, IsSome}
+-- What each command asks of its words.
+use Rattle.std.specs.Prelude.{ℕ, ℤ, pos, negsuc, Bool, List, [], ◌∷◌, map, codes, slice_index, Option, None, Some, nat_eq, nat_le, if◌then◌else◌, ◌==◌, IsSome, is_some, unwrap_or}
+use Rattle.std.specs.List.{list_all}
+use Rattle.std.specs.Option.{option_map}
 use Rattle.std.specs.Cmp.Lexicographic.{pointwise}
-use Rattle.mir_base.specs.Shapes.{ProgramShape}
-use Rattle.mir_base.specs.Cuts.{cut_program}
-use Rattle.mir_base.specs.Runs.{Same}
-use Rattle.mir_base.specs.Text.{canonical_text}
-use Rattle.mir_parse.specs.FirstText.{FirstText}
+use Rattle.mir_lex.specs.Scanner.{number_of}
 use Rattle.mir_top.specs.declared.command.Command.{Command}
-use Rattle.mir_top.specs.declared.command.Command.TheVariants.{Optimise}
-use Rattle.mir_top.specs.declared.cause.Cause.{Cause}
-use Rattle.mir_top.specs.declared.cause.Cause.TheVariants.{Usage, ReadFault, TooLong, NotFirst, WriteFault, Memory}
-use Rattle.mir_top.specs.declared.call.Trail.{Trail}
-use Rattle.mir_top.specs.Streams.{Stream, TookAll}
+use Rattle.mir_top.specs.declared.command.Command.TheVariants.{Optimise, Run}
 
--- ---- words
+abbrev pub is_word : List ℕ → List ℕ → Bool
+is_word word text = pointwise nat_eq word text
 
--- the command that these words are: `optimise` alone
+-- the most steps of a run
+abbrev pub most_steps : ℕ
+most_steps = 1000000
+
+abbrev pub steps_in : Option ℤ → Option ℕ
+steps_in None = None
+steps_in (Some (pos steps)) = if nat_le steps most_steps then Some steps else None
+steps_in (Some (negsuc z)) = None
+
+-- one or more decimal digits, of at most the most steps
+abbrev pub steps_of : List ℕ → Option ℕ
+steps_of word = if slice_index word 0 == 45 then None else steps_in (number_of word)
+
+-- `optimise` alone
+abbrev pub optimise_of : List (List ℕ) → Option Command
+optimise_of [] = Some Optimise
+optimise_of (argument ∷ arguments) = None
+
+-- an optional `-` and decimal digits, of a signed 64-bit number
+abbrev pub is_number : List ℕ → Bool
+is_number word = is_some (number_of word)
+
+-- `run STEPS [N ..]`, each N an optional `-` and digits of a signed 64-bit number
+abbrev pub run_of : List (List ℕ) → Option Command
+run_of [] = None
+run_of (steps ∷ inputs) = if list_all is_number inputs then option_map (λ count. Run count) (steps_of steps) else None
+
+-- the command that these words are
 abbrev pub command_of : List (List ℕ) → Option Command
-command_of (word ∷ []) = if pointwise nat_eq word (codes "optimise") then Some Optimise else None
-command_of words = None
+command_of [] = None
+command_of (word ∷ arguments) = if is_word word (codes "optimise") then optimise_of arguments else if is_word word (codes "run") then run_of arguments else None
 
 -- the words are those of a command
 abbrev pub Asks : List (List ℕ) → Type 0
 Asks words = IsSome (command_of words)
 
--- ---- text
+abbrev pub number_or_zero : List ℕ → ℤ
+number_or_zero word = unwrap_or (number_of word) (pos 0)
 
--- the most bytes that a text has
-abbrev pub text_limit : ℕ
-text_limit = 1048576
+abbrev pub inputs_after_steps : List (List ℕ) → List ℤ
+inputs_after_steps [] = []
+inputs_after_steps (steps ∷ inputs) = map number_or_zero inputs
 
--- the source was read to its end, and what was read is within the limit
-pub record IsRead (source : Stream) (text : List ℕ) : Type 0 where
-  pub all : TookAll source text
-  pub short : length text ≤ text_limit
-
--- what was read is the text of this program
-pub record IsReadAs (source : Stream) (program : ProgramShape) : Type 0 where
-  pub text : List ℕ
-  pub read : IsRead source text
-  pub parsed : FirstText text program
-
--- ---- what a command makes of its text
-
--- `optimise`: the program of the text is cut after its first return, which is the same program; the output is the
--- canonical text of that
-pub record Optimises (text : List ℕ) (trail : Trail) (output : List ℕ) : Type 0 where
-  pub parsed : FirstText text trail.source
-  pub target : trail.target ≡ cut_program trail.source
-  pub same : Same trail.source trail.target
-  pub printed : output ≡ canonical_text trail.target
-
--- why nothing is made of a text that was read
-abbrev pub Stops : List ℕ → Cause → Type 0
-Stops text Usage = ⊥
-Stops text ReadFault = ⊥
-Stops text TooLong = ⊥
-Stops text NotFirst = (program : ProgramShape) → FirstText text program → ⊥
-Stops text WriteFault = ⊥
-Stops text Memory = Unit {0}
+-- the inputs that the words of a run give
+abbrev pub inputs_in : List (List ℕ) → List ℤ
+inputs_in [] = []
+inputs_in (word ∷ arguments) = inputs_after_steps arguments

@@ -1,5 +1,7 @@
 pub mod Streams
 pub mod Commands
+pub mod Texts
+pub mod Outputs
+pub mod Readings
 pub mod Statuses
-pub mod Lines
-pub mod Returns
+pub mod Messages

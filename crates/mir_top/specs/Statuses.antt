@@ -1,46 +1,63 @@
--- What each status means: its cause, what happened to the source and the output, and its line on the error output.
-use Rattle.std.specs.Prelude.{ℕ, suc, ◌≡◌, List, length, codes, Option, None, Some}
+-- What each status means: an outcome that was written, or a cause, what happened then, and its line.
+use Rattle.std.specs.Prelude.{ℕ, suc, ◌≡◌, ◌⊎◌, List, length, Option, None, Some, Result, Ok, Err, ◌≤◌}
 use Rattle.mir_base.specs.Shapes.{ProgramShape}
-use Rattle.mir_parse.specs.FirstText.{FirstText}
+use Rattle.mir_base.specs.Runs.{inputs_of}
+use Rattle.mir_interp.specs.declared.report.Finish.{Finish}
+use Rattle.mir_interp.specs.declared.report.Finish.TheVariants.{Running as StillRunning, Ended as RunEnded, Trapped}
+use Rattle.mir_opt.specs.declared.trails.Trail.{Trail}
+use Rattle.mir_top.specs.declared.outcome.Outcome.{Outcome}
+use Rattle.mir_top.specs.declared.outcome.Outcome.TheVariants.{Optimised, Ran}
 use Rattle.mir_top.specs.declared.cause.Cause.{Cause}
-use Rattle.mir_top.specs.declared.cause.Cause.TheVariants.{Usage, ReadFault, TooLong, NotFirst, WriteFault, Memory}
-use Rattle.mir_top.specs.declared.call.Trail.{Trail}
+use Rattle.mir_top.specs.declared.cause.Cause.TheVariants.{Usage, WrongInputs, ReadFault, TooLong, Unreadable, Invalid, Deep, WriteFault, Memory}
 use Rattle.mir_top.specs.Streams.{Stream, Untouched, Failed, Took, Gave, GavePart, Tried}
-use Rattle.mir_top.specs.Commands.{command_of, Asks, text_limit, IsRead, Optimises}
+use Rattle.mir_top.specs.Commands.{command_of, Asks, inputs_in}
+use Rattle.mir_valid.specs.Texts.{IsTextOf, IsTextOfOnly}
+use Rattle.mir_top.specs.Texts.{text_limit, HasRead}
+use Rattle.mir_top.specs.Readings.{IsNoText}
+use Rattle.mir_top.specs.Outputs.{Makes, Stops, reported, report_text}
+use Rattle.mir_top.specs.Messages.{line_of}
 
--- ---- status 0
+-- ---- the statuses of success
 
--- the words are those of a command, a text was read, and this is what the command makes of it
-pub record IsMade (words : List (List ℕ)) (source : Stream) (trail : Trail) (output : List ℕ) : Type 0 where
-  pub asked : Asks words
+abbrev pub status_of_finish : Finish → ℕ
+status_of_finish (RunEnded result) = 0
+status_of_finish (Trapped kind) = 3
+status_of_finish StillRunning = 4
+
+abbrev pub status_of_outcome : Outcome → ℕ
+status_of_outcome (Optimised trail) = 0
+status_of_outcome (Ran finish) = status_of_finish finish
+
+abbrev pub trail_of : Outcome → Option Trail
+trail_of (Optimised trail) = Some trail
+trail_of (Ran finish) = None
+
+-- a program was read, the text of no other, and this is what the words ask of it
+pub record IsMade (words : List (List ℕ)) (source : Stream) (outcome : Outcome) (output : List ℕ) : Type 0 where
   pub text : List ℕ
-  pub read : IsRead source text
-  pub made : Optimises text trail output
+  pub program : ProgramShape
+  pub read : HasRead source text
+  pub parsed : IsTextOfOnly text program
+  pub made : Makes words program outcome output
 
 -- and the output was written, whole and nothing else
-pub record IsDone (words : List (List ℕ)) (source out : Stream) (trail : Trail) : Type 0 where
+pub record IsDone (words : List (List ℕ)) (source out : Stream) (outcome : Outcome) : Type 0 where
   pub output : List ℕ
-  pub made : IsMade words source trail output
+  pub made : IsMade words source outcome output
   pub written : Gave out output
 
--- ---- the other statuses
+-- ---- the statuses of failure
 
 abbrev pub status_of : Cause → ℕ
 status_of Usage = 1
+status_of (WrongInputs wanted) = 1
 status_of TooLong = 2
-status_of NotFirst = 2
+status_of (Unreadable fault) = 2
+status_of (Invalid fault) = 2
+status_of Deep = 5
 status_of ReadFault = 6
 status_of WriteFault = 7
 status_of Memory = 8
-
--- the line of a cause, with its line feed
-abbrev pub line_of : Cause → List ℕ
-line_of Usage = codes "usage: mir optimise\n"
-line_of TooLong = codes "text longer than 1048576 bytes\n"
-line_of NotFirst = codes "outside the first form\n"
-line_of ReadFault = codes "read fault\n"
-line_of WriteFault = codes "write fault\n"
-line_of Memory = codes "out of memory\n"
 
 -- one byte more came from the source than a text may have
 pub record IsLonger (source : Stream) : Type 0 where
@@ -48,47 +65,103 @@ pub record IsLonger (source : Stream) : Type 0 where
   pub read : Took source text
   pub long : length text ≡ suc text_limit
 
--- a text was read that is not of the first form
-pub record IsRefused (source : Stream) : Type 0 where
+-- the text that was read is that of no program, for this cause
+pub record IsRefused (source : Stream) (cause : Cause) : Type 0 where
   pub text : List ℕ
-  pub read : IsRead source text
-  pub refused : (program : ProgramShape) → FirstText text program → ⊥
+  pub read : HasRead source text
+  pub refused : IsNoText text cause
+  pub none : (program : ProgramShape) → IsTextOf text program → ⊥
 
--- the output was made and failed, and a proper prefix was written
-pub record IsPartlyWritten (words : List (List ℕ)) (source out : Stream) : Type 0 where
-  pub trail : Trail
-  pub output : List ℕ
-  pub made : IsMade words source trail output
-  pub written : GavePart out output
+-- a program was read, and nothing is made of it for this cause
+pub record IsStopped (words : List (List ℕ)) (source : Stream) (cause : Cause) : Type 0 where
+  pub text : List ℕ
+  pub program : ProgramShape
+  pub read : HasRead source text
+  pub parsed : IsTextOfOnly text program
+  pub stopped : Stops words program cause
 
 -- why no output is made
 abbrev pub Prevents : List (List ℕ) → Stream → Cause → Type 0
 Prevents words source Usage = (command_of words ≡ None) × Untouched source
+Prevents words source (WrongInputs wanted) = IsStopped words source (WrongInputs wanted)
 Prevents words source ReadFault = Asks words × Failed source
 Prevents words source TooLong = Asks words × IsLonger source
-Prevents words source NotFirst = Asks words × IsRefused source
+Prevents words source (Unreadable fault) = Asks words × IsRefused source (Unreadable fault)
+Prevents words source (Invalid fault) = Asks words × IsRefused source (Invalid fault)
+Prevents words source Deep = IsStopped words source Deep
 Prevents words source WriteFault = ⊥
 Prevents words source Memory = Asks words
 
--- what a call did that ends by a cause
-abbrev pub Happened : List (List ℕ) → Stream → Stream → Cause → Type 0
-Happened words source out WriteFault = IsPartlyWritten words source out
-Happened words source out Usage = Prevents words source Usage × Untouched out
-Happened words source out ReadFault = Prevents words source ReadFault × Untouched out
-Happened words source out TooLong = Prevents words source TooLong × Untouched out
-Happened words source out NotFirst = Prevents words source NotFirst × Untouched out
-Happened words source out Memory = Prevents words source Memory × Untouched out
+-- the output was made and failed, and a proper prefix was written
+pub record IsPartlyWritten (words : List (List ℕ)) (source out : Stream) : Type 0 where
+  pub outcome : Outcome
+  pub output : List ℕ
+  pub made : IsMade words source outcome output
+  pub written : GavePart out output
 
--- a call ended by a cause, and tried to tell it
-pub record Ended (words : List (List ℕ)) (source out err : Stream) (status : ℕ) : Type 0 where
-  pub cause : Cause
-  pub answered : status ≡ status_of cause
-  pub happened : Happened words source out cause
-  pub told : Tried err (line_of cause)
+-- what a call did that ends by a cause: no output was made and nothing written, or the output failed
+abbrev pub Happened : List (List ℕ) → Stream → Stream → Cause → Type 0
+Happened words source out cause = (Prevents words source cause × Untouched out) ⊎ ((cause ≡ WriteFault) × IsPartlyWritten words source out)
 
 -- ---- the whole answer
 
--- with a trail the status is 0 and nothing was told; without one there is a cause
+-- the output was written, and nothing was told
+pub record Succeeded (words : List (List ℕ)) (source out err : Stream) (status : ℕ) (trail : Option Trail) : Type 0 where
+  pub outcome : Outcome
+  pub answered : status ≡ status_of_outcome outcome
+  pub given : trail ≡ trail_of outcome
+  pub done : IsDone words source out outcome
+  pub quiet : Untouched err
+
+-- a call ended by a cause, and tried to tell it
+pub record Ended (words : List (List ℕ)) (source out err : Stream) (status : ℕ) (trail : Option Trail) : Type 0 where
+  pub cause : Cause
+  pub answered : status ≡ status_of cause
+  pub given : trail ≡ None
+  pub happened : Happened words source out cause
+  pub told : Tried err (line_of cause)
+
 abbrev pub Answers : List (List ℕ) → Stream → Stream → Stream → ℕ → Option Trail → Type 0
-Answers words source out err status (Some trail) = (status ≡ 0) × IsDone words source out trail × Untouched err
-Answers words source out err status None = Ended words source out err status
+Answers words source out err status trail = Succeeded words source out err status trail ⊎ Ended words source out err status trail
+
+-- a call ended so: its output was written, or there was a cause why not
+abbrev pub HasEnded : List (List ℕ) → Stream → Stream → Result Outcome Cause → Type 0
+HasEnded words source out (Ok outcome) = IsDone words source out outcome
+HasEnded words source out (Err cause) = Happened words source out cause
+
+-- its status and its trail, and what it told
+abbrev pub status_at_end : Result Outcome Cause → ℕ
+status_at_end (Ok outcome) = status_of_outcome outcome
+status_at_end (Err cause) = status_of cause
+
+abbrev pub trail_at_end : Result Outcome Cause → Option Trail
+trail_at_end (Ok outcome) = trail_of outcome
+trail_at_end (Err cause) = None
+
+abbrev pub Told : Result Outcome Cause → Stream → Type 0
+Told (Ok outcome) err = Untouched err
+Told (Err cause) err = Tried err (line_of cause)
+
+-- ---- what a reader looks for
+
+-- the source was read to its end, and what was read is the text of this program
+pub record IsReadAs (source : Stream) (program : ProgramShape) : Type 0 where
+  pub text : List ℕ
+  pub read : HasRead source text
+  pub parsed : IsTextOf text program
+
+-- the report of the run of the program that was read was written, and the status is that of its end
+pub record IsReported (words : List (List ℕ)) (source out : Stream) (steps status : ℕ) : Type 0 where
+  pub program : ProgramShape
+  pub read : IsReadAs source program
+  pub inputs : length (inputs_in words) ≡ inputs_of program
+  pub answered : status ≡ status_of_finish (reported words program steps).finish
+  pub written : Gave out (report_text (reported words program steps))
+
+-- the source tells the text of this program, within the limit, and gives it without a fault
+pub record Tells (source : Stream) (program : ProgramShape) : Type 0 where
+  pub text : List ℕ
+  pub told : source.old ≡ Some text
+  pub short : length text ≤ text_limit
+  pub parsed : IsTextOf text program
+  pub calm : Failed source → ⊥

@@ -1,12 +1,22 @@
 // The commands, by their words.
-ghost use Rattle.std.specs.Prelude.{◌≡◌, map, string_bytes};
-ghost use Rattle.mir_top.specs.Commands.{command_of};
+ghost use Rattle.std.specs.Prelude.{◌≡◌, ◌==◌, map, slice_index, string_bytes, IfOk};
+ghost use Rattle.std.specs.List.{list_all};
+ghost use Rattle.mir_top.specs.Commands.{command_of, optimise_of, run_of, steps_in, steps_of, is_number, is_word, number_or_zero, inputs_in};
+
+use mir_base::Memory;
+use mir_lex::number;
+use std::alloc::Global;
+
+/// The most steps of a run.
+const MOST_STEPS: i64 = 1_000_000;
 
 /// What the words ask for.
 #[derive(Clone, Copy, Debug, PartialEq, Eq)]
 pub enum Command {
     /// `optimise`: the canonical text of the target of the program that is read.
     Optimise,
+    /// `run STEPS [N ..]`: the report of the run of the program, with the inputs N, after so many steps or at its end.
+    Run(u64),
 }
 
 impl Command {
@@ -15,14 +25,112 @@ impl Command {
         ensures { result ≡ command_of (map string_bytes words.now) }
     {
         match words {
-            [word] => {
-                if word.as_bytes() == b"optimise".as_slice() {
-                    Some(Command::Optimise)
+            [] => None,
+            [word, arguments @ ..] => {
+                if is_word(word.as_bytes(), b"optimise") {
+                    optimise(arguments)
+                } else if is_word(word.as_bytes(), b"run") {
+                    run(arguments)
                 } else {
                     None
                 }
             }
-            _ => None,
         }
     }
+}
+
+/// The inputs that the words of a run give.
+pub fn inputs(alloc: Global, words: &[String]) -> Result<Vec<i64>, Memory>
+    ensures { IfOk result (λ inputs. inputs.items ≡ inputs_in (map string_bytes words.now)) }
+{
+    match words {
+        [] => Ok(Vec::new(alloc)),
+        [_] => Ok(Vec::new(alloc)),
+        [_, _, inputs @ ..] => numbers(alloc, inputs),
+    }
+}
+
+fn numbers(alloc: Global, words: &[String]) -> Result<Vec<i64>, Memory>
+    ensures { IfOk result (λ numbers. numbers.items ≡ map number_or_zero (map string_bytes words.now)) }
+{
+    let mut numbers = Vec::new(alloc);
+    for word in words {
+        numbers.push(number(word.as_bytes()).unwrap_or(0))?;
+    }
+    Ok(numbers)
+}
+
+fn optimise(arguments: &[String]) -> Option<Command>
+    ensures { result ≡ optimise_of (map string_bytes arguments.now) }
+{
+    match arguments {
+        [] => Some(Command::Optimise),
+        [_, ..] => None,
+    }
+}
+
+fn run(arguments: &[String]) -> Option<Command>
+    ensures { result ≡ run_of (map string_bytes arguments.now) }
+{
+    match arguments {
+        [] => None,
+        [steps, inputs @ ..] => {
+            if are_numbers(inputs) {
+                steps_of(steps.as_bytes()).map(Command::Run)
+            } else {
+                None
+            }
+        }
+    }
+}
+
+fn steps_of(word: &[u8]) -> Option<u64>
+    ensures { result ≡ steps_of word.now }
+{
+    if begins_with_minus(word) {
+        None
+    } else {
+        steps_in(number(word))
+    }
+}
+
+fn steps_in(number: Option<i64>) -> Option<u64>
+    ensures { result ≡ steps_in number }
+{
+    match number {
+        None => None,
+        Some(steps) => {
+            if steps >= 0 && steps <= MOST_STEPS {
+                Some(steps as u64)
+            } else {
+                None
+            }
+        }
+    }
+}
+
+fn begins_with_minus(word: &[u8]) -> bool
+    ensures { result ≡ (slice_index word.now 0 == 45) }
+{
+    match word {
+        [first, ..] => *first == b'-',
+        [] => false,
+    }
+}
+
+fn are_numbers(words: &[String]) -> bool
+    ensures { result ≡ list_all is_number (map string_bytes words.now) }
+{
+    for word in words {
+        if number(word.as_bytes()).is_none() {
+            return false;
+        }
+    }
+    true
+}
+
+fn is_word(word: &[u8], text: &[u8]) -> bool
+    ensures { result ≡ is_word word.now text.now }
+{
+    word == text
 }

@@ -2,19 +2,28 @@
 //! the words ask.
 //!
 //! In go the words, the bytes of the source and memory; out come the bytes on the output, a line of complaint on the
-//! error output, a status, and the programs that were read and made. The theorem is on `top`: with status 0 the output
-//! is the canonical text of a program that is the same as the one that was read, and every other status has its cause.
+//! error output, a status, and the programs that were read and made. The theorem is on `top`: what is written is the
+//! canonical text of a program that is the same as the one that was read, or the report of its run, and every other
+//! answer has its cause.
 #![tactic(auto)]
 
 mod call;
 mod cause;
 mod command;
-mod printer;
-mod target;
+#[cfg(test)]
+mod examples;
+mod making;
+mod message;
+mod outcome;
+mod reading;
+#[cfg(test)]
+mod refusals;
+mod report_text;
 #[cfg(test)]
 mod tests;
 mod work;
 
-pub use call::{Answer, Trail, top};
+pub use call::{Answer, top};
 pub use cause::Cause;
 pub use command::Command;
+pub use outcome::Outcome;

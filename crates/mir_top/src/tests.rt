@@ -1,4 +1,6 @@
 // Worked examples, byte for byte, and calls whose source, output or memory fails.
+use crate::examples::EXAMPLES;
+use crate::refusals::REFUSALS;
 use crate::top;
 use mir_outside::{MemSink, MemSource};
 use std::alloc::{AllocError, Global};
@@ -9,8 +11,6 @@ use std::test::Fail;
 const SMALLEST: &[u8] = b"main: begin\nend\n";
 
 const SMALLEST_OUTPUT: &[u8] = b"main: begin\nreturn 0\nend\n";
-
-const OUTSIDE: &[u8] = b"outside the first form\n";
 
 /// How the streams of a call behave: how many bytes a call moves, and the number of the call that fails, where 0 is
 /// none.
@@ -72,48 +72,104 @@ fn call(alloc: Global, words: &str, text: &[u8], on: Devices) -> Result<Seen, Al
     })
 }
 
-/// Whether the call left this status, these bytes on the output and these on the error output, and a trail with
-/// status 0 alone.
-fn left(seen: &Seen, status: u8, out: &[u8], err: &[u8]) -> bool {
-    seen.status == status
-        && seen.has_trail == (status == 0)
-        && seen.out.written() == out
-        && seen.err.written() == err
+impl Seen {
+    /// Whether the call left this status, these bytes on the output and these on the error output.
+    fn left(&self, status: u8, out: &[u8], err: &[u8]) -> bool {
+        self.status == status && self.out.written() == out && self.err.written() == err
+    }
+}
+
+/// The first example that a call does not answer as the table says.
+fn first_wrong<'a>(
+    alloc: Global,
+    examples: &'a str,
+    writes_output: bool,
+) -> Result<Option<&'a str>, Fail> {
+    for example in examples.split("# ").skip(1) {
+        let (name, rest) = example.split_once('\n').ok_or("no name")?;
+        let (words, rest) = rest.split_once('\n').ok_or("no words")?;
+        let (text, rest) = rest.split_once("@ ").ok_or("no status")?;
+        let (status, written) = rest.split_once('\n').ok_or("nothing written")?;
+        let status = status.parse::<u8>().ok().ok_or("no number")?;
+        let seen = call(alloc, words, text.as_bytes(), CALM)?;
+        let right = if writes_output {
+            seen.left(status, written.as_bytes(), b"")
+        } else {
+            seen.left(status, b"", written.as_bytes())
+        };
+        if !right {
+            return Ok(Some(name));
+        }
+    }
+    Ok(None)
 }
 
 #[test]
 fn worked_examples(rt: HostRuntime) -> Result<(), Fail> {
-    let cases: [(&[u8], u8, &[u8], &[u8]); 5] = [
-        (SMALLEST, 0, SMALLEST_OUTPUT, b""),
-        (
-            b"main: begin\nx <- 007\ny <- x - -2\nprint y\nreturn\nprint x\nend\n",
-            0,
-            b"main: begin\nx <- 7\ny <- x - -2\nprint y\nreturn 0\nend\n",
-            b"",
-        ),
-        (
-            b"f: begin\nx <- a + -9223372036854775808\nreturn x\nz <- b\nend\n",
-            0,
-            b"f: begin\nx <- a + -9223372036854775808\nreturn x\nend\n",
-            b"",
-        ),
-        (b"main: begin\nx <- a * b\nend\n", 2, b"", OUTSIDE),
-        (b"", 2, b"", OUTSIDE),
+    assert_eq!(rt; first_wrong(rt.alloc(), EXAMPLES, true)?, None);
+    Ok(())
+}
+
+#[test]
+fn refusals(rt: HostRuntime) -> Result<(), Fail> {
+    assert_eq!(rt; first_wrong(rt.alloc(), REFUSALS, false)?, None);
+    Ok(())
+}
+
+#[test]
+fn bytes_that_a_table_of_texts_cannot_show(rt: HostRuntime) -> Result<(), Fail> {
+    let output = b"3\nresult 0\nevals 0\n";
+    let texts: [&[u8]; 4] = [
+        // a comment with any bytes
+        b"main: begin || \x00\xff\xe2 || ?\nprint 3\nend\n",
+        // carriage returns and tabs
+        b"main:\tbegin\r\n\tprint\t3\r\nend\r\n",
+        // no line end at the end
+        b"main: begin\nprint 3\nend",
+        // a comment at the end, and empty lines
+        b"\n\nmain: begin\n\nprint 3\n\nend || last",
     ];
-    for (text, status, out, err) in cases {
-        let seen = call(rt.alloc(), "optimise", text, CALM)?;
-        assert!(rt; left(&seen, status, out, err));
+    for text in texts {
+        let seen = call(rt.alloc(), "run 9", text, CALM)?;
+        assert!(rt; seen.left(0, output, b""));
     }
     Ok(())
 }
 
 #[test]
 fn other_words_are_a_usage_fault(rt: HostRuntime) -> Result<(), Fail> {
-    for words in ["", "optimize", "Optimise", "optimise optimise", "run 1"] {
+    for words in [
+        "",
+        "optimize",
+        "Optimise",
+        "optimise x",
+        "move",
+        "run",
+        "run x",
+        "run 1000001",
+        "run -1",
+        "run 5 x",
+        "run 5 9223372036854775808",
+        "run 5 --1",
+        "run 5 +1",
+        "run +5",
+    ] {
         let seen = call(rt.alloc(), words, SMALLEST, CALM)?;
-        assert!(rt; left(&seen, 1, b"", b"usage: mir optimise\n"), "at {words}");
+        assert!(rt;
+            seen.left(1, b"", b"usage: mir optimise | run STEPS [N ..]\n"),
+            "at {words}"
+        );
     }
     Ok(())
+}
+
+/// So many units.
+fn units(alloc: Global, count: usize) -> Result<Vec<u8>, AllocError> {
+    let mut text = Vec::new(alloc);
+    for number in 0..count {
+        text.extend_from_slice(format!(in alloc; "u{number}: begin\nend\n")?.as_bytes())?;
+    }
+    Ok(text)
 }
 
 /// A program of so many instructions.
@@ -127,21 +183,21 @@ fn prints(alloc: Global, count: usize) -> Result<Vec<u8>, AllocError> {
 }
 
 #[test]
-fn the_most_instructions(rt: HostRuntime) -> Result<(), Fail> {
+fn limits(rt: HostRuntime) -> Result<(), Fail> {
     let text = prints(rt.alloc(), 4096)?;
     let seen = call(rt.alloc(), "optimise", &text, CALM)?;
     assert_eq!(rt; (seen.status, seen.out.written().len()), (0, 32_793));
     let text = prints(rt.alloc(), 4097)?;
     let seen = call(rt.alloc(), "optimise", &text, CALM)?;
-    assert!(rt; left(&seen, 2, b"", OUTSIDE));
-    Ok(())
-}
-
-#[test]
-fn the_most_bytes(rt: HostRuntime) -> Result<(), Fail> {
+    assert!(rt; seen.left(2, b"", b"line 4098: too many instructions\n"));
+    let text = units(rt.alloc(), 257)?;
+    let seen = call(rt.alloc(), "optimise", &text, CALM)?;
+    assert!(rt; seen.left(2, b"", b"too many units\n"));
     let spaces = vec![in rt.alloc(); b' '; 1_048_577]?;
     let seen = call(rt.alloc(), "optimise", &spaces, CALM)?;
-    assert!(rt; left(&seen, 2, b"", b"text longer than 1048576 bytes\n"));
+    assert!(rt; seen.left(2, b"", b"text longer than 1048576 bytes\n"));
+    let seen = call(rt.alloc(), "optimise", &spaces[1..], CALM)?;
+    assert!(rt; seen.left(2, b"", b"no unit\n"));
     Ok(())
 }
 
@@ -165,7 +221,8 @@ fn devices_that_fail(rt: HostRuntime) -> Result<(), Fail> {
             failing_line,
         };
         let seen = call(rt.alloc(), "optimise", SMALLEST, on)?;
-        assert!(rt; left(&seen, status, out, err));
+        assert!(rt; seen.left(status, out, err));
+        assert_eq!(rt; seen.has_trail, status == 0);
     }
     Ok(())
 }
@@ -173,9 +230,17 @@ fn devices_that_fail(rt: HostRuntime) -> Result<(), Fail> {
 /// For runs in which the allocations are refused in turn: a refusal before the call ends the test.
 #[test]
 fn memory_that_is_refused(rt: HostRuntime) {
-    let text = b"main: begin\nx <- y + 1\nprint x\nend\n";
-    let whole = b"main: begin\nx <- y + 1\nprint x\nreturn 0\nend\n";
-    if let Ok(seen) = call(rt.alloc(), "optimise", text, CALM) {
-        assert!(rt; left(&seen, 0, whole, b"") || left(&seen, 8, b"", b"out of memory\n"));
+    let text = b"main: begin\nreceive a(val)\nif a goto L\nx <- 1\nL: goto M\nM: print x\nend\n";
+    let outputs: [(&str, &[u8]); 2] = [
+        (
+            "optimise",
+            b"main: begin\nreceive a(val)\nif a goto L1\nx <- 1\nL1: print x\nreturn 0\nend\n",
+        ),
+        ("run 9 0", b"1\nresult 0\nevals 0\n"),
+    ];
+    for (words, output) in outputs {
+        if let Ok(seen) = call(rt.alloc(), words, text, CALM) {
+            assert!(rt; seen.left(0, output, b"") || seen.left(8, b"", b"out of memory\n"));
+        }
     }
 }

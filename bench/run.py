@@ -1,0 +1,402 @@
+#!/usr/bin/env python3
+"""Measures `mir` on workloads that it writes itself: wall time, peak memory, and how both grow.
+
+    bench/run.py [--mir PATH] [--repeat N] [--callgrind] [WORKLOAD ..]
+
+With no workload named, all are measured. README.md beside this file tells what each shows. To add a workload, write a
+function that gives its cases, and a line in WORKLOADS. It runs on Linux alone, with Python's standard library.
+"""
+
+import argparse
+import ctypes
+import itertools
+import os
+import string
+import subprocess
+import sys
+import tempfile
+import time
+from pathlib import Path
+from typing import Callable, Iterable, Iterator, NamedTuple, Optional
+
+TOP = Path(__file__).resolve().parent.parent
+PROGRAM = TOP / 'crates' / 'mir_main' / 'out' / 'mir_main'
+
+# The lengths of texts: a quarter, a half and the whole of what a text may have.
+LENGTHS = (262_144, 524_288, 1_048_576)
+
+# The statuses of `mir run`: the run ended, and it still runs after its steps.
+ENDED, RUNNING = 0, 4
+
+# Of prctl(2): orphans among this process's descendants become its children.
+PR_SET_CHILD_SUBREAPER = 36
+
+# Starts the command in the background, with the standard input that it was given, and ends.
+START = 'exec 3<&0; "$@" <&3 3<&- & exec true'
+
+# Less than this above the smallest program is noise, and no ratio is made of it.
+LEAST_SECONDS, LEAST_BYTES = 0.001, 200_000
+
+
+class Case(NamedTuple):
+    """One call of mir, with the size by which it is compared, and the status and the output that are right."""
+
+    size: int
+    words: list[str]
+    text: str
+    status: int
+    output: str
+
+
+class Workload(NamedTuple):
+    """Cases that grow: what they show, and of what their sizes are."""
+
+    name: str
+    about: str
+    unit: str
+    cases: Callable[[], list[Case]]
+    # Two cases whose instructions are counted under `--callgrind`, where that is of use.
+    counted: Optional[Callable[[], list[Case]]] = None
+
+
+class Measure(NamedTuple):
+    """What a case took."""
+
+    seconds: float
+    bytes: int
+
+
+class Failure(Exception):
+    """A call did not do what its case says, so its time tells nothing."""
+
+
+# ---- texts
+
+
+def padding(length: int) -> str:
+    """A comment line, or empty lines, of exactly so many bytes."""
+    if length < 3:
+        return '\n' * length
+    return '||' + '.' * (length - 3) + '\n'
+
+
+def filled(head: str, groups: Iterable[str], tail: str, length: int) -> str:
+    """A unit of exactly `length` bytes: the head, as many of the groups as fit, a comment, and the tail."""
+    room = length - len(head) - len(tail)
+    parts = [head]
+    for group in groups:
+        if len(group) > room:
+            break
+        parts.append(group)
+        room -= len(group)
+    return ''.join(parts) + padding(room) + tail
+
+
+def loops(callee: str) -> Iterator[str]:
+    """Any number of loops: each has most kinds of instructions, a comment, two labels, two jumps and two calls."""
+    for number in itertools.count():
+        yield (
+            f't{number}: if a >= b goto o{number} || leaves loop {number}\n'
+            f'a <- a + {number}\n'
+            f'x{number} <- a * b\n'
+            f'y <- x{number} - -{number}\n'
+            f'call {callee},(x{number},int;y,int)\n'
+            f'y <- {callee},(a,int;-1,int)\n'
+            f'print y\n'
+            f'goto t{number}\n'
+            f'o{number}:\n'
+            f'z <- ! z\n\n'
+        )
+
+
+def many_units(length: int) -> str:
+    """A program of exactly `length` bytes, a multiple of 4,096: each 4,096 bytes are a unit."""
+    count = length // 4096
+    units = []
+    for number in range(count):
+        callee = f'u{max(1, (number + 1) % count)}'
+        receives = 'receive a(val)\nreceive b(val)\n' if number > 0 else ''
+        head = f'u{number}: begin || unit number {number}\n{receives}'
+        units.append(filled(head, loops(callee), 'return y\nend\n', 4096))
+    return ''.join(units)
+
+
+def new_names() -> Iterator[str]:
+    """Different names of three bytes. No reserved word begins with a capital letter."""
+    letters = string.ascii_letters + string.digits
+    for name in itertools.product(string.ascii_uppercase, letters, letters):
+        yield ''.join(name)
+
+
+def lines_of_new_names() -> Iterator[str]:
+    """Pairs of an assignment and a jump to it, whose labels and variables are new."""
+    names = new_names()
+    while True:
+        here, x, a, b, there, c, d = itertools.islice(names, 7)
+        yield f'{here}:{x}<-{a}+{b}\n{there}:if {c}<{d} goto {here}\n'
+
+
+def many_names(length: int) -> str:
+    """A program of exactly `length` bytes, a multiple of 16: 16 units, each full of names that are new in it."""
+    return ''.join(
+        filled(f'u{number}: begin\n', lines_of_new_names(), 'end\n', length // 16)
+        for number in range(16)
+    )
+
+
+def loops_laid_out(unit: str, instructions: int) -> str:
+    """A unit of so many instructions, an even number, that is its own layout: loops of a sum and a test."""
+    lines = [f'{unit}: begin\n']
+    for number in range(1, instructions // 2):
+        lines.append(f'L{number}: x <- x + 1\nif x < 5 goto L{number}\n')
+    lines.append('print x\nreturn x\nend\n')
+    return ''.join(lines)
+
+
+def gotos_in_a_chain(unit: str, instructions: int) -> str:
+    """A unit of so many instructions: a chain of gotos, each of which goes to the one that stands before it, and a print."""
+    lines = [f'{unit}: begin\ngoto c0\n']
+    count = instructions - 2
+    for number in reversed(range(count)):
+        target = f'c{number + 1}' if number + 1 < count else 'out'
+        lines.append(f'c{number}: goto {target}\n')
+    lines.append('out: print 1\nend\n')
+    return ''.join(lines)
+
+
+LOOP = """\
+main: begin
+again: sum <- sum + i
+i <- i + 1
+last <- i
+if i > 0 goto again
+end
+"""
+
+
+# ---- workloads
+
+
+def smallest() -> Case:
+    """The smallest program. What it takes is taken off what the others do."""
+    return Case(0, ['run', '1'], 'main: begin\nend\n', ENDED, 'result 0\nevals 0\n')
+
+
+def reading() -> list[Case]:
+    """Texts of many units, of which one step is run, a test."""
+    return [
+        Case(length, ['run', '1'], many_units(length), RUNNING, 'running\nevals 0\n')
+        for length in LENGTHS
+    ]
+
+
+def names() -> list[Case]:
+    """Texts full of different names, of which one step is run, a sum."""
+    return [
+        Case(length, ['run', '1'], many_names(length), RUNNING, 'running\nevals 1\n')
+        for length in LENGTHS
+    ]
+
+
+def loop_of(steps: int) -> Case:
+    """So many steps of the loop, a multiple of 4; two in four are evaluations."""
+    return Case(steps, ['run', str(steps)], LOOP, RUNNING, f'running\nevals {steps // 2}\n')
+
+
+# The numbers of instructions of a unit: a quarter, a half and the whole of what a unit may have.
+INSTRUCTIONS = (1024, 2048, 4096)
+
+
+def graphs() -> list[Case]:
+    """Units of many loops, which are lowered, cleaned and laid out as they were."""
+    cases = []
+    for instructions in INSTRUCTIONS:
+        text = ''.join(loops_laid_out(f'u{number}', instructions) for number in range(12))
+        cases.append(Case(instructions, ['optimise'], text, ENDED, text))
+    return cases
+
+
+def chains() -> list[Case]:
+    """Units of one long chain of gotos, of which nothing but the print at its end is left."""
+    cases = []
+    for instructions in INSTRUCTIONS:
+        text = ''.join(gotos_in_a_chain(f'u{number}', instructions) for number in range(12))
+        output = ''.join(f'u{number}: begin\nprint 1\nreturn 0\nend\n' for number in range(12))
+        cases.append(Case(instructions, ['optimise'], text, ENDED, output))
+    return cases
+
+
+WORKLOADS = [
+    Workload(
+        'reading',
+        'texts of 64, 128 and 256 units are read and checked',
+        'bytes',
+        reading,
+    ),
+    Workload(
+        'names',
+        '16 units full of different variables and labels are read and checked',
+        'bytes',
+        names,
+    ),
+    Workload(
+        'graphs',
+        '12 units of loops are lowered, cleaned and laid out',
+        'insts',
+        graphs,
+    ),
+    Workload(
+        'chains',
+        '12 units of one chain of gotos each are lowered, cleaned and laid out',
+        'insts',
+        chains,
+    ),
+    Workload(
+        'loop',
+        'a loop of four instructions is run',
+        'steps',
+        lambda: [loop_of(250_000), loop_of(500_000), loop_of(1_000_000)],
+        lambda: [loop_of(100_000), loop_of(200_000)],
+    ),
+]
+
+
+# ---- measuring
+
+
+def judge(command: list[str], case: Case, status: int, output: str, errors: str) -> None:
+    """Accepts the status and the output that are right for the case alone."""
+    if (status, output) != (case.status, case.output):
+        said = f'{output[:200]}{errors[-400:]}'.strip()
+        raise Failure(f'{" ".join(command + case.words)}, at size {case.size}: status {status}: {said}')
+
+
+def warm_up(command: list[str]) -> None:
+    """Calls the command on the smallest program. This may build it, so the error output is shown as it comes."""
+    case = smallest()
+    answer = subprocess.run(command + case.words, input=case.text, stdout=subprocess.PIPE, text=True, check=False)
+    judge(command, case, answer.returncode, answer.stdout, '')
+
+
+def adopt_orphans() -> None:
+    """Makes this process the parent of those of its descendants that lose theirs, for `call`."""
+    if ctypes.CDLL(None).prctl(PR_SET_CHILD_SUBREAPER, 1, 0, 0, 0) != 0:
+        raise Failure('prctl: orphans cannot be waited for')
+
+
+def call(command: list[str], case: Case, folder: Path) -> Measure:
+    """Calls the command with the words and the text of the case, and judges what it answers.
+
+    Linux counts the peak memory of the process that starts another as the other's too. So a shell, which is small,
+    starts the command and ends, and the command is waited for here.
+    """
+    text, output, errors = folder / 'text', folder / 'output', folder / 'errors'
+    text.write_text(case.text)
+    write = os.O_WRONLY | os.O_CREAT | os.O_TRUNC
+    streams = [
+        (os.POSIX_SPAWN_OPEN, 0, text, os.O_RDONLY, 0),
+        (os.POSIX_SPAWN_OPEN, 1, output, write, 0o600),
+        (os.POSIX_SPAWN_OPEN, 2, errors, write, 0o600),
+    ]
+    words = ['sh', '-c', START, 'sh', *command, *case.words]
+    begin = time.perf_counter()
+    shell = os.posix_spawn('/bin/sh', words, os.environ, file_actions=streams)
+    os.waitpid(shell, 0)
+    _, status, usage = os.wait4(-1, 0)
+    seconds = time.perf_counter() - begin
+    judge(command, case, os.waitstatus_to_exitcode(status), output.read_text(), errors.read_text())
+    return Measure(seconds, usage.ru_maxrss * 1024)
+
+
+def measure(command: list[str], case: Case, folder: Path, repeat: int) -> Measure:
+    """The least time and the greatest peak of memory of so many calls."""
+    measures = [call(command, case, folder) for _ in range(repeat)]
+    return Measure(min(m.seconds for m in measures), max(m.bytes for m in measures))
+
+
+def instructions(case: Case, folder: Path) -> int:
+    """How many instructions of the processor the program takes for the case, by callgrind."""
+    counts = folder / 'counts'
+    valgrind = ['valgrind', '--quiet', '--tool=callgrind', f'--callgrind-out-file={counts}', str(PROGRAM)]
+    call(valgrind, case, folder)
+    for line in counts.read_text().splitlines():
+        if line.startswith('totals:'):
+            return int(line.split()[1])
+    raise Failure('callgrind wrote no line "totals:"')
+
+
+# ---- output
+
+
+def ratio(value: float, first: float, least: float) -> str:
+    """How many times the first value this one is, where the first is not too small to tell."""
+    return f'{value / first:.2f}' if first >= least else '-'
+
+
+def show(workload: Workload, measures: list[tuple[int, Measure]], start: Measure) -> None:
+    """Prints a line for each case: what it took, and its growth above the first case, less what the start took."""
+    unit = workload.unit
+    print(f'\n{workload.name}: {workload.about}')
+    print(f'{unit:>12}{"time s":>10}{"memory MB":>11}{unit + "/s":>13}{"x " + unit:>10}{"x time":>9}{"x memory":>10}')
+    first_size, first = measures[0]
+    for size, taken in measures:
+        seconds, memory = taken.seconds - start.seconds, taken.bytes - start.bytes
+        rate = f'{size / seconds:,.0f}' if seconds >= LEAST_SECONDS else '-'
+        print(
+            f'{size:>12,}{taken.seconds:>10.3f}{taken.bytes / 1e6:>11.1f}{rate:>13}'
+            f'{size / first_size:>10.2f}'
+            f'{ratio(seconds, first.seconds - start.seconds, LEAST_SECONDS):>9}'
+            f'{ratio(memory, first.bytes - start.bytes, LEAST_BYTES):>10}'
+        )
+
+
+def show_instructions(workload: Workload, folder: Path) -> None:
+    """Prints the instructions for each byte or step: the difference of two runs over the difference of their sizes."""
+    less, more = workload.counted()
+    counted = instructions(more, folder) - instructions(less, folder)
+    each = counted / (more.size - less.size)
+    print(f'{each:,.1f} instructions for each of the {workload.unit}, from {less.size:,} to {more.size:,}')
+
+
+# ---- the command line
+
+
+def options() -> argparse.Namespace:
+    """What the command line asks."""
+    parser = argparse.ArgumentParser(description='Measures mir: wall time, peak memory, and how both grow.')
+    parser.add_argument('workloads', nargs='*', metavar='WORKLOAD', help=', '.join(w.name for w in WORKLOADS))
+    parser.add_argument('--mir', default=str(TOP / 'mir'), metavar='PATH', help='the command to measure (./mir)')
+    parser.add_argument('--repeat', type=int, default=3, metavar='N', help='take the least time of N calls (3)')
+    parser.add_argument('--callgrind', action='store_true', help='count the instructions of the processor too')
+    asked = parser.parse_args()
+    unknown = set(asked.workloads) - {w.name for w in WORKLOADS}
+    if unknown or asked.repeat < 1:
+        parser.error(f'no workload {", ".join(sorted(unknown))}' if unknown else 'N is at least 1')
+    return asked
+
+
+def main() -> int:
+    """Measures the workloads that were asked for."""
+    asked = options()
+    command = [str(Path(asked.mir).resolve())]
+    warm_up(command)
+    adopt_orphans()
+    with tempfile.TemporaryDirectory(prefix='mir-bench-') as name:
+        folder = Path(name)
+        start = measure(command, smallest(), folder, asked.repeat)
+        print(f'start: the smallest program, {start.seconds:.3f} s, {start.bytes / 1e6:.1f} MB')
+        for workload in WORKLOADS:
+            if asked.workloads and workload.name not in asked.workloads:
+                continue
+            measures = [(case.size, measure(command, case, folder, asked.repeat)) for case in workload.cases()]
+            show(workload, measures, start)
+            if asked.callgrind and workload.counted:
+                show_instructions(workload, folder)
+    return 0
+
+
+if __name__ == '__main__':
+    try:
+        sys.exit(main())
+    except (Failure, OSError) as failure:
+        sys.exit(f'bench/run.py: {failure}')

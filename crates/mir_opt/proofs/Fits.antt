@@ -1,0 +1,151 @@
+-- A unit of a program can be lowered, and the units that the passes made fit together as a program.
+use Rattle.std.proofs.Common.{◌≡◌, ℕ, zero, suc, ◌<◌, List, [], ◌∷◌, length, slice_get, Option, Some, None, option_map, refl, sym, ap, ◌∙◌, subst, arith}
+use Rattle.std.proofs.lemmas.Option.{slice_get_within}
+use Rattle.mir_base.specs.declared.instructions.Inst.{Inst}
+use Rattle.mir_base.specs.declared.instructions.Inst.TheVariants.{Receive, Assign, Goto, If, Call, Print, Return}
+use Rattle.mir_base.specs.Shapes.{UnitShape, receives_in, body_at, body_or_empty, names_of, AllDiffer, InstFits, BodyFits, IsProgram, IsTarget}
+use Rattle.mir_base.specs.UnitRuns.{UnitSame, UnitCheaper, body_machine, unit_machine, machine_at}
+use Rattle.mir_sim.specs.Pairs.{AllUnitsSame, AllUnitsCheaper}
+use Rattle.flow_graph.specs.Calls.{BodyCalls, inst_call}
+use Rattle.flow_graph.specs.Lowered.{CanLower, target_of}
+use Rattle.mir_opt.specs.declared.trails.UnitTrail.{UnitTrail}
+use Rattle.mir_opt.specs.declared.trails.Trail.{Trail}
+use Rattle.mir_opt.specs.Links.{UnitLinked, IsLinked}
+use Rattle.mir_opt.specs.Made.{MadeAt, AllMade}
+
+-- ---- a unit of a program can be lowered
+
+pub fits_lower : (units : List UnitShape) (body : List Inst) → BodyFits units body → CanLower body
+fits_lower units body fits = record {
+  first = λ place x at. fits.insts place (Receive x) at;
+  received = fits.received;
+  targets = λ place target is. jumps place (slice_get body place) target refl is;
+}
+  where
+    jumps : (place : ℕ) (inst : Option Inst) (target : ℕ) → slice_get body place ≡ inst → target_of inst ≡ Some target → IsTarget body target
+    jumps place None target at is = cc
+    jumps place (Some (Receive x)) target at is = cc
+    jumps place (Some (Assign x rhs)) target at is = cc
+    jumps place (Some (Goto to)) target at is = let same : to ≡ target = cc in subst (IsTarget body) same (fits.insts place (Goto to) at)
+    jumps place (Some (If test to)) target at is = let same : to ≡ target = cc in subst (IsTarget body) same (fits.insts place (If test to) at)
+    jumps place (Some (Call into unit operands)) target at is = cc
+    jumps place (Some (Print a)) target at is = cc
+    jumps place (Some (Return a)) target at is = cc
+
+-- a call of a body that fits
+called_fits : (units : List UnitShape) (body : List Inst) (called count : ℕ) → BodyFits units body → BodyCalls body called count → (called < length units) × (count ≡ receives_in (body_at units called))
+called_fits units body called count fits c = go c.inst (fits.insts c.place c.inst c.here) c.calls
+  where
+    go : (inst : Inst) → InstFits units body c.place inst → inst_call inst ≡ Some (called, count) → (called < length units) × (count ≡ receives_in (body_at units called))
+    go (Receive x) f is = cc
+    go (Assign x rhs) f is = cc
+    go (Goto to) f is = cc
+    go (If test to) f is = cc
+    go (Call into unit operands) f is =
+        let both : ◌≡◌ {A = ℕ × ℕ} (unit, length operands) (called, count) = cc in
+        let one : unit ≡ called = ap (λ (p : ℕ × ℕ). p.0) both in
+        let other : length operands ≡ count = ap (λ (p : ℕ × ℕ). p.1) both in
+        (subst (λ u. u < length units) one f.0, sym other ∙ f.1 ∙ ap (λ u. receives_in (body_at units u)) one)
+    go (Print a) f is = cc
+    go (Return a) f is = cc
+
+-- ---- the units that were made
+
+names_at : (units : List UnitShape) (n : ℕ) → slice_get (names_of units) n ≡ option_map (λ (u : UnitShape). u.name) (slice_get units n)
+names_at [] n = refl
+names_at (unit ∷ units) zero = refl
+names_at (unit ∷ units) (suc n) = names_at units n
+
+names_long : (units : List UnitShape) → length (names_of units) ≡ length units
+names_long [] = refl
+names_long (unit ∷ units) = ap suc (names_long units)
+
+module _ (sources : List UnitShape) (trails : List UnitTrail) (targets : List UnitShape) (all : AllMade sources trails targets) where
+  body_is : (units : List UnitShape) (n : ℕ) (unit : UnitShape) → slice_get units n ≡ Some unit → body_at units n ≡ unit.body
+  body_is units n unit at = ap body_or_empty at
+
+  same_at : (n : ℕ) → n < length sources → UnitSame (machine_at (record { units = sources }) n) (machine_at (record { units = targets }) n)
+  same_at n lt =
+      let m = all.made n lt in
+      let source : unit_machine m.source ≡ machine_at (record { units = sources }) n = ap body_machine (sym (body_is sources n m.source m.source_at)) in
+      let target : unit_machine m.target ≡ machine_at (record { units = targets }) n = ap body_machine (sym (body_is targets n m.target m.target_at)) in
+      subst (λ a. UnitSame a (machine_at (record { units = targets }) n)) source (subst (UnitSame (unit_machine m.source)) target m.made.same)
+
+  cheaper_at : (n : ℕ) → n < length sources → UnitCheaper (machine_at (record { units = sources }) n) (machine_at (record { units = targets }) n)
+  cheaper_at n lt =
+      let m = all.made n lt in
+      let source : unit_machine m.source ≡ machine_at (record { units = sources }) n = ap body_machine (sym (body_is sources n m.source m.source_at)) in
+      let target : unit_machine m.target ≡ machine_at (record { units = targets }) n = ap body_machine (sym (body_is targets n m.target m.target_at)) in
+      subst (λ a. UnitCheaper a (machine_at (record { units = targets }) n)) source (subst (UnitCheaper (unit_machine m.source)) target m.made.cheaper)
+
+  same_receives : (n : ℕ) → n < length sources → receives_in (body_at sources n) ≡ receives_in (body_at targets n)
+  same_receives n lt = (same_at n lt).receives
+
+  same_name : (n : ℕ) → n < length sources → slice_get (names_of targets) n ≡ slice_get (names_of sources) n
+  same_name n lt =
+      let m = all.made n lt in
+      names_at targets n ∙ ap (option_map (λ (u : UnitShape). u.name)) m.target_at ∙ ap Some m.made.name ∙ sym (names_at sources n ∙ ap (option_map (λ (u : UnitShape). u.name)) m.source_at)
+
+  within : (n : ℕ) → n < length (names_of targets) → n < length sources
+  within n lt = omega (arith, lt, names_long targets, all.targets_long)
+
+  pub made_same : AllUnitsSame (record { units = sources }) (record { units = targets })
+  made_same = record { units = sym all.targets_long; same = same_at }
+
+  pub made_cheaper : AllUnitsCheaper (record { units = sources }) (record { units = targets })
+  made_cheaper = record { cheaper = cheaper_at }
+
+  pub made_linked : (n : ℕ) (source : UnitShape) (unit : UnitTrail) (target : UnitShape) → slice_get sources n ≡ Some source → slice_get trails n ≡ Some unit → slice_get targets n ≡ Some target → UnitLinked source unit target
+  made_linked n source unit target at at' at'' =
+      let m = all.made n (slice_get_within sources n source at) in
+      let one : Some m.source ≡ Some source = sym m.source_at ∙ at in
+      let two : Some m.trail ≡ Some unit = sym m.trail_at ∙ at' in
+      let three : Some m.target ≡ Some target = sym m.target_at ∙ at'' in
+      let source_is : m.source ≡ source = cc in
+      let unit_is : m.trail ≡ unit = cc in
+      let target_is : m.target ≡ target = cc in
+      subst (λ s. UnitLinked s unit target) source_is (subst (λ u. UnitLinked m.source u target) unit_is (subst (UnitLinked m.source m.trail) target_is m.made.linked))
+
+  pub names_differ : IsProgram sources → AllDiffer (names_of targets)
+  names_differ program i j lt lt' same =
+      let a = within i lt in
+      let b = within j lt' in
+      program.names i j (omega (arith, a, names_long sources)) (omega (arith, b, names_long sources)) (sym (same_name i a) ∙ same ∙ same_name j b)
+
+  made_fits : IsProgram sources → (n : ℕ) (unit : UnitShape) → slice_get targets n ≡ Some unit → BodyFits targets unit.body
+  made_fits program n unit at =
+      let lt : n < length sources = omega (arith, slice_get_within targets n unit at, all.targets_long) in
+      let m = all.made n lt in
+      let one : Some unit ≡ Some m.target = sym at ∙ m.target_at in
+      let same : m.target ≡ unit = cc in
+      subst (λ (u : UnitShape). BodyFits targets u.body) same (record {
+        insts = λ place inst here. inst_fits m place inst here (program.bodies n m.source m.source_at);
+        received = m.made.lowers.received;
+      })
+    where
+      inst_fits : (m : MadeAt sources trails targets n) (place : ℕ) (inst : Inst) → slice_get m.target.body place ≡ Some inst → BodyFits sources m.source.body → InstFits targets m.target.body place inst
+      inst_fits m place (Receive x) here fits = m.made.lowers.first place x here
+      inst_fits m place (Assign x rhs) here fits = tt
+      inst_fits m place (Goto to) here fits = m.made.lowers.targets place to (ap target_of here)
+      inst_fits m place (If test to) here fits = m.made.lowers.targets place to (ap target_of here)
+      inst_fits m place (Call into called operands) here fits =
+          let source = called_fits sources m.source.body called (length operands) fits (m.made.calls called (length operands) (record { place = place; inst = Call into called operands; here = here; calls = refl })) in
+          (omega (arith, source.0, all.targets_long), source.1 ∙ same_receives called source.0)
+      inst_fits m place (Print a) here fits = tt
+      inst_fits m place (Return a) here fits = tt
+
+  pub made_program : IsProgram sources → IsProgram targets
+  made_program program = record {
+    some_unit = omega (arith, program.some_unit, all.targets_long);
+    names = names_differ program;
+    bodies = made_fits program;
+  }
+
+-- ---- the trail
+
+pub made_trail : (sources : List UnitShape) (trails : List UnitTrail) (targets : List UnitShape) (trail : Trail) → AllMade sources trails targets → trail.source.units ≡ sources → trail.units ≡ trails → trail.target.units ≡ targets → IsLinked trail
+made_trail sources trails targets trail all is is' is'' = record {
+  units = ap length is' ∙ all.trails_long ∙ sym (ap length is);
+  targets = ap length is'' ∙ all.targets_long ∙ sym (ap length is);
+  linked = λ n source unit target at at' at''. made_linked sources trails targets all n source unit target (ap (λ l. slice_get l n) (sym is) ∙ at) (ap (λ l. slice_get l n) (sym is') ∙ at') (ap (λ l. slice_get l n) (sym is'') ∙ at'');
+}

@@ -1,0 +1,27 @@
+// The passes on one small program: its trail has a graph for each unit before and after its jumps were cleaned.
+use crate::optimise;
+use mir_base::{Inst, Items, Name, Operand, Program, Unit as MirUnit};
+use std::test::Fail;
+
+#[test]
+fn a_print_and_a_return(rt: HostRuntime) -> Result<(), Fail> {
+    let alloc = rt.alloc();
+    let name = Name::new(b"main".to_vec(alloc)?).ok_or("no name")?;
+    let body = Items::new(alloc)
+        .with(Inst::Print(Operand::Const(7)))?
+        .with(Inst::Return(Operand::Const(1)))?
+        .with(Inst::Print(Operand::Const(8)))?;
+    let unit = MirUnit {
+        name,
+        vars: Items::new(alloc),
+        body,
+    };
+    let program = Program::of_first_form(alloc, unit)?;
+    let trail = optimise(alloc, &program)?;
+    let units = trail.units.items();
+    assert_eq!(rt; units.len(), 1);
+    assert_eq!(rt; (units[0].lowered.len(), units[0].cleaned.len()), (3, 3));
+    assert_eq!(rt; trail.target.unit(0).insts().len(), 2);
+    assert_eq!(rt; trail.source.unit(0).insts().len(), 3);
+    Ok(())
+}

@@ -1,0 +1,23 @@
+-- Tokens behind the first bad one change nothing.
+use Rattle.std.proofs.Common.{◌≡◌, ℕ, ◌+◌, List, [], ◌∷◌, ◌++◌, Some, take, drop, sym, ◌∙◌, ap, take-append-drop}
+use Rattle.std.proofs.lemmas.List.{take_more}
+use Rattle.std.proofs.lemmas.Option.{slice_get_within, get_or_from_slice_get}
+use Rattle.std.specs.List.{fold, slice_get}
+use Rattle.std.proofs.lemmas.List.Sums.{fold-append}
+use Rattle.mir_lex.specs.declared.terminals.Terminal.{Terminal}
+use Rattle.mir_parse.specs.declared.state.State.{State}
+use Rattle.mir_parse.specs.declared.state.State.TheVariants.{Outside, Dead}
+use Rattle.mir_parse.specs.Reader.{step, reads}
+use Rattle.mir_parse.proofs.Exact.{dead-run}
+
+pub dead-early : (ts : List Terminal) (count : ℕ) (state : State) (line : ℕ) → state ≡ reads (take count ts) → state ≡ Dead line → Dead line ≡ reads ts
+dead-early ts count state line is dead =
+    sym (ap reads (sym (take-append-drop count ts)) ∙ fold-append step (Outside []) (take count ts) (drop count ts) ∙ ap (λ (s : State). fold step s (drop count ts)) (sym is ∙ dead)
+    ∙ dead-run line (drop count ts))
+
+-- one more token
+pub read-more : (ts : List Terminal) (count : ℕ) (state next : State) (terminal : Terminal) → state ≡ reads (take count ts) → slice_get ts count ≡ Some terminal → next ≡ step state terminal → next ≡ reads (take (count + 1) ts)
+read-more ts count state next terminal before found is =
+    let longer : take (count + 1) ts ≡ take count ts ++ terminal ∷ [] =
+    take_more ts count terminal (slice_get_within ts count terminal found) ∙ ap (λ (t : Terminal). take count ts ++ t ∷ []) (get_or_from_slice_get ts count terminal terminal found) in
+    is ∙ ap (λ (s : State). step s terminal) before ∙ sym (fold-append step (Outside []) (take count ts) (terminal ∷ [])) ∙ ap reads (sym longer)

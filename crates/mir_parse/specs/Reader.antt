@@ -1,0 +1,278 @@
+-- The reader: what each token makes of what was read before it.
+use Rattle.std.specs.Prelude.{ℕ, ℤ, Bool, true, false, List, [], ◌∷◌, ◌++◌, fold, nat_eq, codes, Option, None, Some, if◌then◌else◌}
+use Rattle.std.specs.Cmp.Lexicographic.{pointwise}
+use Rattle.mir_base.specs.declared.operators.Op.{Op}
+use Rattle.mir_base.specs.declared.operators.Op.TheVariants.{Add, Sub, Mul, Div, Mod, Min, Max, Eq, Ne, Lt, Le, Gt, Ge, Shl, Shr, Shra, And, Or, Xor}
+use Rattle.mir_base.specs.declared.operators.UnOp.TheVariants.{Neg, Not}
+use Rattle.mir_base.specs.declared.operators.RelOp.{RelOp}
+use Rattle.mir_base.specs.declared.operators.RelOp.TheVariants.{Eq as IsEq, Ne as IsNe, Lt as IsLt, Le as IsLe, Gt as IsGt, Ge as IsGe}
+use Rattle.mir_lex.specs.declared.terminals.Symbol.{Symbol}
+use Rattle.mir_lex.specs.declared.terminals.Symbol.TheVariants.{Name as NAME, Word as WORD, Number as NUMBER, Mark as MARK, LineEnd as NL}
+use Rattle.mir_lex.specs.declared.terminals.Terminal.{Terminal}
+use Rattle.mir_lex.specs.declared.words.Mark.{Mark}
+use Rattle.mir_lex.specs.declared.words.Mark.TheVariants.{Colon, Comma, Semicolon, LeftParen, RightParen, Plus, Minus, Star, Slash, Equal, NotEqual, Less, LessEqual, Greater, GreaterEqual, Bang, Arrow}
+use Rattle.mir_lex.specs.declared.words.Word.{Word}
+use Rattle.mir_lex.specs.declared.words.Word.TheVariants.{Begin as BeginWord, End as EndWord, Receive as ReceiveWord, Goto as GotoWord, If as IfWord, Call as CallWord, Return as ReturnWord, Print as PrintWord, Mod as ModWord, Min as MinWord, Max as MaxWord, Shl as ShlWord, Shr as ShrWord, Shra as ShraWord, And as AndWord, Or as OrWord, Xor as XorWord}
+use Rattle.mir_parse.specs.declared.raw.RawOperand.{RawOperand}
+use Rattle.mir_parse.specs.declared.raw.RawOperand.TheVariants.{Var, Const}
+use Rattle.mir_parse.specs.declared.raw.RawRhs.TheVariants.{Plain, Unary, Binary}
+use Rattle.mir_parse.specs.declared.raw.RawTest.{RawTest}
+use Rattle.mir_parse.specs.declared.raw.RawTest.TheVariants.{Rel, Holds, Fails}
+use Rattle.mir_parse.specs.declared.raw.RawForm.{RawForm}
+use Rattle.mir_parse.specs.declared.raw.RawForm.TheVariants.{Receive, Assign, Goto, If, Call, Print, Return}
+use Rattle.mir_parse.specs.RawUnit.{RawUnitShape, unit_begun, unit_with_inst, unit_with_label}
+use Rattle.mir_parse.specs.declared.state.Hole.{Hole}
+use Rattle.mir_parse.specs.declared.state.Hole.TheVariants.{Unary as OfUnary, Binary as OfBinary, Arg as OfArg, Fails as OfFails, Rel as OfRel, Print as OfPrint}
+use Rattle.mir_parse.specs.declared.state.Part.{Part}
+use Rattle.mir_parse.specs.declared.state.Part.TheVariants.{Fresh, Receive as PReceive, ReceiveName, ReceiveOpen, ReceiveVal, Named, Arrowed, PlainName, PlainNumber, Wants, Call as PCall, Callee, Opening, FirstArg, Given, Typing, Typed, Goto as PGoto, If as PIf, IfOperand, Tested, IfGoto, Return as PReturn, Full}
+use Rattle.mir_parse.specs.declared.state.Next.{Next}
+use Rattle.mir_parse.specs.declared.state.Next.TheVariants.{No, Go, Done, Label}
+use Rattle.mir_parse.specs.declared.state.Spot.{Spot}
+use Rattle.mir_parse.specs.declared.state.Spot.TheVariants.{Named as UnitNamed, Headed, Begun, Inside, Mid, Ended}
+use Rattle.mir_parse.specs.declared.state.Reading.{Reading}
+use Rattle.mir_parse.specs.declared.state.State.{State}
+use Rattle.mir_parse.specs.declared.state.State.TheVariants.{Outside, In, Dead}
+
+abbrev pub relop_of_mark : Mark → Option RelOp
+relop_of_mark Equal = Some IsEq
+relop_of_mark NotEqual = Some IsNe
+relop_of_mark Less = Some IsLt
+relop_of_mark LessEqual = Some IsLe
+relop_of_mark Greater = Some IsGt
+relop_of_mark GreaterEqual = Some IsGe
+relop_of_mark mark = None
+
+abbrev pub op_of_mark : Mark → Option Op
+op_of_mark Plus = Some Add
+op_of_mark Minus = Some Sub
+op_of_mark Star = Some Mul
+op_of_mark Slash = Some Div
+op_of_mark Equal = Some Eq
+op_of_mark NotEqual = Some Ne
+op_of_mark Less = Some Lt
+op_of_mark LessEqual = Some Le
+op_of_mark Greater = Some Gt
+op_of_mark GreaterEqual = Some Ge
+op_of_mark mark = None
+
+abbrev pub op_of_word : Word → Option Op
+op_of_word ModWord = Some Mod
+op_of_word MinWord = Some Min
+op_of_word MaxWord = Some Max
+op_of_word ShlWord = Some Shl
+op_of_word ShrWord = Some Shr
+op_of_word ShraWord = Some Shra
+op_of_word AndWord = Some And
+op_of_word OrWord = Some Or
+op_of_word XorWord = Some Xor
+op_of_word word = None
+
+-- where only an operand may stand
+abbrev pub filled : Hole → RawOperand → Part
+filled (OfUnary x op) operand = Full (Assign x (Unary op operand))
+filled (OfBinary x op left) operand = Full (Assign x (Binary op left operand))
+filled (OfArg x f args) operand = Given x f (args ++ operand ∷ [])
+filled OfFails operand = Tested (Fails operand)
+filled (OfRel op left) operand = Tested (Rel op left operand)
+filled OfPrint operand = Full (Print operand)
+
+abbrev pub wants : Hole → Symbol → Next
+wants hole (NAME x) = Go (filled hole (Var x))
+wants hole (NUMBER z) = Go (filled hole (Const z))
+wants hole symbol = No
+
+-- where only this mark may stand
+abbrev pub comma_then : Part → Symbol → Next
+comma_then part (MARK Comma) = Go part
+comma_then part symbol = No
+
+abbrev pub open_then : Part → Symbol → Next
+open_then part (MARK LeftParen) = Go part
+open_then part symbol = No
+
+abbrev pub close_then : Part → Symbol → Next
+close_then part (MARK RightParen) = Go part
+close_then part symbol = No
+
+-- where only this name may stand
+abbrev pub name_then : List ℕ → Part → Symbol → Next
+name_then x part (NAME y) = if pointwise nat_eq y x then Go part else No
+name_then x part symbol = No
+
+abbrev pub fresh : Symbol → Next
+fresh (NAME x) = Go (Named x)
+fresh (WORD ReceiveWord) = Go PReceive
+fresh (WORD GotoWord) = Go PGoto
+fresh (WORD IfWord) = Go PIf
+fresh (WORD CallWord) = Go (PCall None)
+fresh (WORD PrintWord) = Go (Wants OfPrint)
+fresh (WORD ReturnWord) = Go PReturn
+fresh symbol = No
+
+abbrev pub receive_word : Symbol → Next
+receive_word (NAME x) = Go (ReceiveName x)
+receive_word symbol = No
+
+abbrev pub named : List ℕ → Symbol → Next
+named x (MARK Colon) = Label x
+named x (MARK Arrow) = Go (Arrowed x)
+named x symbol = No
+
+abbrev pub arrowed : List ℕ → Symbol → Next
+arrowed x (NAME y) = Go (PlainName x y)
+arrowed x (NUMBER z) = Go (PlainNumber x z)
+arrowed x (MARK Minus) = Go (Wants (OfUnary x Neg))
+arrowed x (MARK Bang) = Go (Wants (OfUnary x Not))
+arrowed x (WORD CallWord) = Go (PCall (Some x))
+arrowed x symbol = No
+
+abbrev pub binary_with : List ℕ → RawOperand → Option Op → Next
+binary_with x a None = No
+binary_with x a (Some op) = Go (Wants (OfBinary x op a))
+
+abbrev pub plain_name : List ℕ → List ℕ → Symbol → Next
+plain_name x y (MARK Comma) = Go (Opening (Some x) y)
+plain_name x y (MARK mark) = binary_with x (Var y) (op_of_mark mark)
+plain_name x y (WORD word) = binary_with x (Var y) (op_of_word word)
+plain_name x y NL = Done (Assign x (Plain (Var y)))
+plain_name x y symbol = No
+
+abbrev pub plain_number : List ℕ → ℤ → Symbol → Next
+plain_number x z (MARK mark) = binary_with x (Const z) (op_of_mark mark)
+plain_number x z (WORD word) = binary_with x (Const z) (op_of_word word)
+plain_number x z NL = Done (Assign x (Plain (Const z)))
+plain_number x z symbol = No
+
+abbrev pub call_word : Option (List ℕ) → Symbol → Next
+call_word x (NAME f) = Go (Callee x f)
+call_word x symbol = No
+
+abbrev pub first_arg : Option (List ℕ) → List ℕ → Symbol → Next
+first_arg x f (MARK RightParen) = Go (Full (Call x f []))
+first_arg x f symbol = wants (OfArg x f []) symbol
+
+abbrev pub typed : Option (List ℕ) → List ℕ → List RawOperand → Symbol → Next
+typed x f args (MARK Semicolon) = Go (Wants (OfArg x f args))
+typed x f args (MARK RightParen) = Go (Full (Call x f args))
+typed x f args symbol = No
+
+abbrev pub goto_word : Symbol → Next
+goto_word (NAME label) = Go (Full (Goto label))
+goto_word symbol = No
+
+abbrev pub if_word : Symbol → Next
+if_word (NAME x) = Go (IfOperand (Var x))
+if_word (NUMBER z) = Go (IfOperand (Const z))
+if_word (MARK Bang) = Go (Wants OfFails)
+if_word symbol = No
+
+abbrev pub rel_with : RawOperand → Option RelOp → Next
+rel_with a None = No
+rel_with a (Some op) = Go (Wants (OfRel op a))
+
+abbrev pub if_operand : RawOperand → Symbol → Next
+if_operand a (WORD GotoWord) = Go (IfGoto (Holds a))
+if_operand a (MARK mark) = rel_with a (relop_of_mark mark)
+if_operand a symbol = No
+
+abbrev pub tested : RawTest → Symbol → Next
+tested test (WORD GotoWord) = Go (IfGoto test)
+tested test symbol = No
+
+abbrev pub if_goto : RawTest → Symbol → Next
+if_goto test (NAME label) = Go (Full (If test label))
+if_goto test symbol = No
+
+abbrev pub return_word : Symbol → Next
+return_word (NAME x) = Go (Full (Return (Some (Var x))))
+return_word (NUMBER z) = Go (Full (Return (Some (Const z))))
+return_word NL = Done (Return None)
+return_word symbol = No
+
+abbrev pub full : RawForm → Symbol → Next
+full f NL = Done f
+full f symbol = No
+
+abbrev pub part_step : Part → Symbol → Next
+part_step Fresh symbol = fresh symbol
+part_step PReceive symbol = receive_word symbol
+part_step (ReceiveName x) symbol = open_then (ReceiveOpen x) symbol
+part_step (ReceiveOpen x) symbol = name_then (codes "val") (ReceiveVal x) symbol
+part_step (ReceiveVal x) symbol = close_then (Full (Receive x)) symbol
+part_step (Named x) symbol = named x symbol
+part_step (Arrowed x) symbol = arrowed x symbol
+part_step (PlainName x y) symbol = plain_name x y symbol
+part_step (PlainNumber x z) symbol = plain_number x z symbol
+part_step (Wants hole) symbol = wants hole symbol
+part_step (PCall x) symbol = call_word x symbol
+part_step (Callee x f) symbol = comma_then (Opening x f) symbol
+part_step (Opening x f) symbol = open_then (FirstArg x f) symbol
+part_step (FirstArg x f) symbol = first_arg x f symbol
+part_step (Given x f args) symbol = comma_then (Typing x f args) symbol
+part_step (Typing x f args) symbol = name_then (codes "int") (Typed x f args) symbol
+part_step (Typed x f args) symbol = typed x f args symbol
+part_step PGoto symbol = goto_word symbol
+part_step PIf symbol = if_word symbol
+part_step (IfOperand a) symbol = if_operand a symbol
+part_step (Tested test) symbol = tested test symbol
+part_step (IfGoto test) symbol = if_goto test symbol
+part_step PReturn symbol = return_word symbol
+part_step (Full f) symbol = full f symbol
+
+abbrev pub begin_unit : List RawUnitShape → List ℕ → ℕ → Reading
+begin_unit units name line = record { units = units; unit = unit_begun name line }
+
+abbrev pub with_inst : Reading → ℕ → RawForm → Reading
+with_inst reading line form = record reading { unit = unit_with_inst reading.unit line form }
+
+abbrev pub with_label : Reading → ℕ → List ℕ → Reading
+with_label reading line name = record reading { unit = unit_with_label reading.unit line name }
+
+-- at is the line of the token, line that of the instruction
+abbrev pub after : Reading → ℕ → ℕ → Next → State
+after reading line at No = Dead at
+after reading line at (Go part) = In reading (Mid line part)
+after reading line at (Done form) = In (with_inst reading line form) (Inside false)
+after reading line at (Label name) = In (with_label reading line name) (Inside true)
+
+abbrev pub outside : List RawUnitShape → Symbol → ℕ → State
+outside units (NAME x) at = In (begin_unit units x at) UnitNamed
+outside units symbol at = Dead at
+
+abbrev pub unit_named : Reading → Symbol → ℕ → State
+unit_named reading (MARK Colon) at = In reading (Headed true)
+unit_named reading symbol at = Dead at
+
+abbrev pub headed : Reading → Bool → Symbol → ℕ → State
+headed reading after_colon (WORD BeginWord) at = In reading Begun
+headed reading true NL at = In reading (Headed false)
+headed reading after_colon symbol at = Dead at
+
+abbrev pub begun : Reading → Symbol → ℕ → State
+begun reading NL at = In reading (Inside false)
+begun reading symbol at = Dead at
+
+abbrev pub inside : Reading → Bool → Symbol → ℕ → State
+inside reading after_colon (WORD EndWord) at = In reading Ended
+inside reading true NL at = In reading (Inside false)
+inside reading after_colon symbol at = after reading at at (fresh symbol)
+
+abbrev pub ended : Reading → Symbol → ℕ → State
+ended reading NL at = Outside (reading.units ++ reading.unit ∷ [])
+ended reading symbol at = Dead at
+
+abbrev pub spot_step : Reading → Spot → Symbol → ℕ → State
+spot_step reading UnitNamed symbol at = unit_named reading symbol at
+spot_step reading (Headed after_colon) symbol at = headed reading after_colon symbol at
+spot_step reading Begun symbol at = begun reading symbol at
+spot_step reading (Inside after_colon) symbol at = inside reading after_colon symbol at
+spot_step reading (Mid line part) symbol at = after reading line at (part_step part symbol)
+spot_step reading Ended symbol at = ended reading symbol at
+
+abbrev pub step : State → Terminal → State
+step (Outside units) token = outside units token.symbol token.line
+step (In reading spot) token = spot_step reading spot token.symbol token.line
+step (Dead line) token = Dead line
+
+abbrev pub reads : List Terminal → State
+reads ts = fold step (Outside []) ts

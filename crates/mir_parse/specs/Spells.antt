@@ -1,0 +1,34 @@
+-- Texts and the raw programs that they spell: a text has tokens, and these are derived by the grammar.
+use Rattle.std.specs.Prelude.{ℕ, List}
+use Rattle.mir_lex.specs.declared.tokens.Token.{Token}
+use Rattle.mir_lex.specs.Terminals.{terminals}
+use Rattle.mir_lex.specs.Spelling.{IsTokens, IsRefusal, IsMemory as IsLexMemory}
+use Rattle.mir_parse.specs.declared.raw.Raw.{Raw}
+use Rattle.mir_parse.specs.declared.faults.ParseFault.{ParseFault}
+use Rattle.mir_parse.specs.declared.faults.ParseFault.TheVariants.{Unexpected, Ended, Memory}
+use Rattle.mir_parse.specs.declared.faults.TextFault.{TextFault}
+use Rattle.mir_parse.specs.declared.faults.TextFault.TheVariants.{Lex, Parse}
+use Rattle.mir_parse.specs.Fault.{IsMemory}
+use Rattle.mir_parse.specs.Grammar.{IsText, IsUnexpected, IsEnded}
+
+-- the bytes have tokens, and these are a text of the raw program's units
+pub record Spells (bytes : List ℕ) (raw : Raw) : Type 0 where
+  pub items : List Token
+  pub tokens : IsTokens bytes items
+  pub text : IsText (terminals bytes items) raw.units
+
+-- the tokens of the bytes are refused for this cause
+abbrev pub TokensRefused : List ℕ → List Token → ParseFault → Type 0
+TokensRefused bytes items (Unexpected line) = IsUnexpected (terminals bytes items) line
+TokensRefused bytes items Ended = IsEnded (terminals bytes items)
+TokensRefused bytes items (Memory refused) = ⊥
+
+-- the bytes spell no raw program, for this cause
+abbrev pub IsTextRefusal : List ℕ → TextFault → Type 0
+IsTextRefusal bytes (Lex fault) = IsRefusal bytes fault
+IsTextRefusal bytes (Parse fault) = (items : List Token) × IsTokens bytes items × TokensRefused bytes items fault
+
+-- want of memory
+abbrev pub IsTextMemory : TextFault → Type 0
+IsTextMemory (Lex fault) = IsLexMemory fault
+IsTextMemory (Parse fault) = IsMemory fault

@@ -1,0 +1,121 @@
+// What was read so far: the parser is one step for each token, which never goes back.
+use crate::{RawForm, RawOperand, RawTest, RawUnit};
+use mir_base::{Items, Name, Op, RelOp, UnOp};
+
+/// A place of an instruction where only an operand may stand, with what was read before it.
+#[derive(Drop)]
+pub enum Hole {
+    /// `x <- -` or `x <- !`
+    Unary(Name, UnOp),
+    /// `x <- a op`
+    Binary(Name, Op, RawOperand),
+    /// `x <- f,(` or `call f,(`, with the arguments before, up to a `;`
+    Arg(Option<Name>, Name, Items<RawOperand>),
+    /// `if !`
+    Fails,
+    /// `if a relop`
+    Rel(RelOp, RawOperand),
+    /// `print`
+    Print,
+}
+
+/// How much of an instruction was read.
+#[derive(Drop)]
+pub enum Part {
+    /// Nothing.
+    Fresh,
+    /// `receive`
+    Receive,
+    /// `receive x`
+    ReceiveName(Name),
+    /// `receive x(`
+    ReceiveOpen(Name),
+    /// `receive x(val`
+    ReceiveVal(Name),
+    /// `x`, which may become a label
+    Named(Name),
+    /// `x <-`
+    Arrowed(Name),
+    /// `x <- y`, where y is an operand or a unit to call
+    PlainName(Name, Name),
+    /// `x <- 1`
+    PlainNumber(Name, i64),
+    /// All before an operand.
+    Wants(Hole),
+    /// `call` or `x <- call`
+    Call(Option<Name>),
+    /// `call f` or `x <- call f`
+    Callee(Option<Name>, Name),
+    /// `call f,` or `x <- f,`
+    Opening(Option<Name>, Name),
+    /// `call f,(` or `x <- f,(`
+    FirstArg(Option<Name>, Name),
+    /// A call up to an argument.
+    Given(Option<Name>, Name, Items<RawOperand>),
+    /// A call up to the `,` behind an argument.
+    Typing(Option<Name>, Name, Items<RawOperand>),
+    /// A call up to the `int` of an argument.
+    Typed(Option<Name>, Name, Items<RawOperand>),
+    /// `goto`
+    Goto,
+    /// `if`
+    If,
+    /// `if a`
+    IfOperand(RawOperand),
+    /// `if test`, which is not an operand alone
+    Tested(RawTest),
+    /// `if test goto`
+    IfGoto(RawTest),
+    /// `return`
+    Return,
+    /// All of it but the line end.
+    Full(RawForm),
+}
+
+/// What a token makes of a part of an instruction.
+#[derive(Drop)]
+pub enum Next {
+    /// It cannot stand there.
+    No,
+    /// A longer part.
+    Go(Part),
+    /// The whole instruction.
+    Done(RawForm),
+    /// The part was a name and is a label.
+    Label(Name),
+}
+
+/// Where the reader is in a unit.
+#[derive(Drop)]
+pub enum Spot {
+    /// Behind its name.
+    Named,
+    /// Behind its name and colon; whether the colon was the last token.
+    Headed(bool),
+    /// Behind its `begin`.
+    Begun,
+    /// Between its instructions; whether the colon of a label was the last token.
+    Inside(bool),
+    /// In an instruction that began on this line.
+    Mid(usize, Part),
+    /// Behind its `end`.
+    Ended,
+}
+
+/// The units that were read whole, and what was read of the next one.
+#[derive(Drop)]
+pub struct Reading {
+    pub units: Items<RawUnit>,
+    pub unit: RawUnit,
+}
+
+/// What was read.
+#[derive(Drop)]
+pub enum State {
+    /// These units.
+    Outside(Items<RawUnit>),
+    /// These units, and a part of the next one.
+    In(Reading, Spot),
+    /// A token of this line that cannot stand there.
+    Dead(usize),
+}

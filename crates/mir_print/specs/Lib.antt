@@ -1,0 +1,4 @@
+pub mod Texts
+pub mod Labels
+pub mod Scopes
+pub mod Kept

@@ -1,0 +1,45 @@
+// What was made of a program.
+ghost use Rattle.std.specs.Prelude.{◌≡◌};
+ghost use Rattle.mir_top.specs.Statuses.{status_of_finish, status_of_outcome, trail_of};
+
+use crate::Answer;
+use mir_interp::Finish;
+use mir_opt::Trail;
+
+/// What was made of a program that was read, and written.
+#[derive(Drop)]
+pub enum Outcome {
+    /// What the passes made of it.
+    Optimised(Trail),
+    /// The report of its run, which stands like this.
+    Ran(Finish),
+}
+
+impl Outcome {
+    /// The answer of a call with this outcome.
+    pub fn answer(self) -> Answer
+        ensures status { result.status ≡ status_of_outcome self }
+        ensures trail { result.trail ≡ trail_of self }
+    {
+        match self {
+            Outcome::Optimised(trail) => Answer {
+                status: 0,
+                trail: Some(trail),
+            },
+            Outcome::Ran(finish) => Answer {
+                status: status_of_finish(finish),
+                trail: None,
+            },
+        }
+    }
+}
+
+fn status_of_finish(finish: Finish) -> u8
+    ensures { result ≡ status_of_finish finish }
+{
+    match finish {
+        Finish::Ended(_) => 0,
+        Finish::Trapped(_) => 3,
+        Finish::Running => 4,
+    }
+}

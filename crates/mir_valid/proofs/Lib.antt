@@ -1,0 +1,16 @@
+pub mod TableLaws
+pub mod UnitNumbers
+pub mod BrokenLaws
+pub mod FirstPlace
+pub mod SameNames
+pub mod NamesFound
+pub mod RefusedLaws
+pub mod NumberLaws
+pub mod DistinctLaws
+pub mod TidyLaws
+pub mod ListLaws
+pub mod FoundLaws
+pub mod ReceiveLaws
+pub mod ProgramLaws
+pub mod OccursLaws
+pub mod StandsLaws

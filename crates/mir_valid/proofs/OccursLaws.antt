@@ -1,0 +1,141 @@
+-- The variables of a body are the names that occur in it, each once.
+use Rattle.std.proofs.Common.{◌≡◌, ℕ, zero, suc, ◌<◌, Bool, true, false, ◌||◌, nat_lt, if◌then◌else◌, List, [], ◌∷◌, ◌++◌, fold, take, slice_get, Option, None, Some, refl, ap, sym, ◌∙◌, subst, append_assoc, arith, ltb-true, ltb-false}
+use Rattle.std.proofs.Math.Bool.{or-false, or-true, or_assoc}
+use Rattle.std.specs.Option.{option_map_or}
+use Rattle.std.specs.List.{cons_option}
+use Rattle.std.proofs.lemmas.List.{append-nil}
+use Rattle.std.proofs.lemmas.List.Folds.{list_any-append}
+use Rattle.std.proofs.lemmas.Map.Views.{list_any-from_Contains, Contains-from_any}
+use Rattle.std.specs.Cmp.Lexicographic.{nat_list_eq_equiv}
+use Rattle.mir_base.specs.declared.instructions.Inst.TheVariants.{Receive}
+use Rattle.mir_parse.specs.declared.raw.RawForm.{RawForm}
+use Rattle.mir_parse.specs.declared.raw.RawForm.TheVariants.{Receive as RawReceive}
+use Rattle.mir_parse.specs.declared.raw.RawInst.{RawInst}
+use Rattle.mir_valid.specs.Names.{is_same, has_name}
+use Rattle.mir_valid.specs.Variables.{form_names, body_names, FirstNames, none, again, first}
+use Rattle.mir_valid.specs.Rules.{broken, received_by, received, receives_again}
+use Rattle.mir_valid.specs.Tables.{number_or_zero, numbered}
+use Rattle.mir_valid.specs.Numbered.{with_name, variables_of, Numbers, numbered_form, numbered_body}
+use Rattle.mir_valid.proofs.BrokenLaws.{kept-at}
+use Rattle.mir_valid.proofs.ListLaws.{map-at, at-take}
+use Rattle.mir_valid.proofs.NumberLaws.{same-self, same-is, numbered-is}
+
+-- each of these names is one of the variables
+abbrev pub Within : List (List ℕ) → List (List ℕ) → Type 0
+Within vars names = (x : List ℕ) → has_name names x ≡ true → has_name vars x ≡ true
+
+pub within-front : (vars xs ys : List (List ℕ)) → Within vars (xs ++ ys) → Within vars xs
+within-front vars xs ys within x has = within x (list_any-append (is_same x) xs ys ∙ ap (λ b. b || has_name ys x) has)
+
+pub within-back : (vars xs ys : List (List ℕ)) → Within vars (xs ++ ys) → Within vars ys
+within-back vars xs ys within x has = within x (list_any-append (is_same x) xs ys ∙ ap (λ b. has_name xs x || b) has ∙ or-true (has_name xs x))
+
+pub within-one : (vars : List (List ℕ)) (x : List ℕ) → Within vars (x ∷ []) → has_name vars x ≡ true
+within-one vars x within = within x (ap (λ b. b || false) (same-self x))
+
+-- ---- the names that one pass finds
+
+has-with : (vars : List (List ℕ)) (name x : List ℕ) → has_name (with_name vars name) x ≡ (has_name vars x || is_same x name)
+has-with vars name x = by (has_name vars name) refl
+  where
+    there : has_name vars name ≡ true → (b : Bool) → is_same x name ≡ b → has_name vars x ≡ (has_name vars x || b)
+    there has true same = let e : has_name vars x ≡ true = ap (has_name vars) (same-is x name same) ∙ has in e ∙ sym (ap (λ b. b || true) e)
+    there has false same = sym (or-false (has_name vars x))
+
+    by : (b : Bool) → has_name vars name ≡ b → has_name (with_name vars name) x ≡ (has_name vars x || is_same x name)
+    by true e = ap (λ b. has_name (if b then vars else vars ++ name ∷ []) x) e ∙ there e (is_same x name) refl
+    by false e =
+        ap (λ b. has_name (if b then vars else vars ++ name ∷ []) x) e
+        ∙ list_any-append (is_same x) vars (name ∷ [])
+        ∙ ap (λ b. has_name vars x || b) (or-false (is_same x name))
+
+has-fold : (names vars : List (List ℕ)) (x : List ℕ) → has_name (fold with_name vars names) x ≡ (has_name vars x || has_name names x)
+has-fold [] vars x = sym (or-false (has_name vars x))
+has-fold (name ∷ names) vars x =
+    has-fold names (with_name vars name) x ∙ ap (λ b. b || has_name names x) (has-with vars name x) ∙ or_assoc (has_name vars x) (is_same x name) (has_name names x)
+
+-- each name that occurs is a variable
+pub within-variables : (body : List RawInst) → Within (variables_of body) (body_names body)
+within-variables body x has = has-fold (body_names body) [] x ∙ has
+
+pub within-inst : (vars : List (List ℕ)) (body : List RawInst) (i : ℕ) (inst : RawInst) → Within vars (body_names body) → slice_get body i ≡ Some inst → Within vars (form_names inst.form)
+within-inst vars [] i inst within at = absurd (cc)
+within-inst vars (other ∷ body) zero inst within at =
+    let same : other ≡ inst = cc in
+    subst (λ (j : RawInst). Within vars (form_names j.form)) same (within-front vars (form_names other.form) (body_names body) within)
+within-inst vars (other ∷ body) (suc i) inst within at = within-inst vars body i inst (within-back vars (form_names other.form) (body_names body) within) at
+
+-- ---- the order of first occurrence
+
+first-step : (names vars : List (List ℕ)) (x : List ℕ) → FirstNames names vars → FirstNames (names ++ x ∷ []) (with_name vars x)
+first-step names vars x before = by (has_name vars x) refl
+  where
+    by : (b : Bool) → has_name vars x ≡ b → FirstNames (names ++ x ∷ []) (with_name vars x)
+    by true e = subst (λ (b : Bool). FirstNames (names ++ x ∷ []) (if b then vars else vars ++ x ∷ [])) (sym e) (again x before (Contains-from_any {eq = is_same} same-is x vars e))
+    by false e =
+        subst (λ (b : Bool). FirstNames (names ++ x ∷ []) (if b then vars else vars ++ x ∷ [])) (sym e)
+        (first x before (λ occurs. let e' = sym (list_any-from_Contains {eq = is_same} nat_list_eq_equiv x vars occurs) ∙ e in absurd (cc)))
+
+first-fold : (rest names vars : List (List ℕ)) → FirstNames names vars → FirstNames (names ++ rest) (fold with_name vars rest)
+first-fold [] names vars before = subst (λ (all : List (List ℕ)). FirstNames all vars) (sym (append-nil names)) before
+first-fold (x ∷ rest) names vars before =
+    subst (λ (all : List (List ℕ)). FirstNames all (fold with_name (with_name vars x) rest)) (append_assoc names (x ∷ []) rest)
+    (first-fold rest (names ++ x ∷ []) (with_name vars x) (first-step names vars x before))
+
+pub first-variables : (body : List RawInst) → FirstNames (body_names body) (variables_of body)
+first-variables body = first-fold (body_names body) [] [] none
+
+-- ---- receives
+
+receive-of : (numbers : Numbers) (form : RawForm) (x : ℕ) → numbered_form numbers form ≡ Receive x → (name : List ℕ) × (form ≡ RawReceive name) × (number_or_zero numbers.vars name ≡ x)
+receive-of numbers (RawReceive name) x e = (name, refl, cc)
+receive-of numbers form x e = absurd (cc)
+
+received-kept : (received_name : Option (List ℕ)) (names : List (List ℕ)) (name : List ℕ) → has_name names name ≡ true → has_name (cons_option received_name names) name ≡ true
+received-kept None names name has = has
+received-kept (Some x) names name has = ap (λ b. is_same name x || b) has ∙ or-true (is_same name x)
+
+received-at : (body : List RawInst) (i : ℕ) (inst : RawInst) (name : List ℕ) → slice_get body i ≡ Some inst → inst.form ≡ RawReceive name → has_name (received body) name ≡ true
+received-at [] i inst name at is = absurd (cc)
+received-at (other ∷ body) zero inst name at is =
+    let same : other ≡ inst = cc in
+    let receives : received_by other.form ≡ Some name = ap (λ (j : RawInst). received_by j.form) same ∙ ap received_by is in
+    ap (λ o. has_name (cons_option o (received body)) name) receives ∙ ap (λ b. b || has_name (received body) name) (same-self name)
+received-at (other ∷ body) (suc i) inst name at is = received-kept (received_by other.form) (received body) name (received-at body i inst name at is)
+
+-- a later receive names another variable
+received-apart : (body : List RawInst) → broken (λ inst. inst.line) receives_again body ≡ [] → (i j : ℕ) (inst later : RawInst) (name : List ℕ) → i < j → slice_get body i ≡ Some inst
+    → slice_get body j ≡ Some later → inst.form ≡ RawReceive name → later.form ≡ RawReceive name → ⊥
+received-apart body e i j inst later name low at_i at_j is_i is_j =
+    let kept : has_name (received (take j body)) name ≡ false =
+    ap (λ form. option_map_or (has_name (received (take j body))) (received_by form) false) (sym is_j) ∙ kept-at (λ inst. inst.line) receives_again body e j later at_j in
+    let has : has_name (received (take j body)) name ≡ true = received-at (take j body) i inst name (at-take body i j inst low at_i) is_i in
+    let wrong = sym has ∙ kept in
+    cc
+
+-- no variable is received twice
+pub received-once : (numbers : Numbers) (body : List RawInst) → numbers.vars ≡ numbered 0 (variables_of body) → broken (λ inst. inst.line) receives_again body ≡ []
+    → (i j x : ℕ) → slice_get (numbered_body numbers body) i ≡ Some (Receive x) → slice_get (numbered_body numbers body) j ≡ Some (Receive x) → i ≡ j
+received-once numbers body vars e i j x at_i at_j =
+    let raw_i = map-at (λ inst. numbered_form numbers inst.form) body i (Receive x) at_i in
+    let raw_j = map-at (λ inst. numbered_form numbers inst.form) body j (Receive x) at_j in
+    let receive_i = receive-of numbers raw_i.0.form x raw_i.2 in
+    let receive_j = receive-of numbers raw_j.0.form x raw_j.2 in
+    let named_i = named raw_i.0 i raw_i.1 receive_i.0 receive_i.1 receive_i.2 in
+    let named_j = named raw_j.0 j raw_j.1 receive_j.0 receive_j.1 receive_j.2 in
+    let same : receive_i.0 ≡ receive_j.0 = cc (sym named_i ∙ named_j) in
+    let is_j : raw_j.0.form ≡ RawReceive receive_i.0 = receive_j.1 ∙ ap RawReceive (sym same) in
+    by (nat_lt i j) (nat_lt j i) refl refl (λ low. received-apart body e i j raw_i.0 raw_j.0 receive_i.0 low raw_i.1 raw_j.1 receive_i.1 is_j)
+    (λ low. received-apart body e j i raw_j.0 raw_i.0 receive_i.0 low raw_j.1 raw_i.1 is_j receive_i.1)
+  where
+    named : (inst : RawInst) (k : ℕ) → slice_get body k ≡ Some inst → (name : List ℕ) → inst.form ≡ RawReceive name → number_or_zero numbers.vars name ≡ x
+        → slice_get (variables_of body) x ≡ Some name
+    named inst k at name is number =
+        let occurs : Within (variables_of body) (name ∷ []) = subst (λ (form : RawForm). Within (variables_of body) (form_names form)) is (within-inst (variables_of body) body k inst (within-variables body) at) in
+        subst (λ (n : ℕ). slice_get (variables_of body) n ≡ Some name) (ap (λ vs. number_or_zero vs name) (sym vars) ∙ number)
+        (numbered-is (variables_of body) name (within-one (variables_of body) name occurs))
+
+    by : (b c : Bool) → nat_lt i j ≡ b → nat_lt j i ≡ c → (i < j → ⊥) → (j < i → ⊥) → i ≡ j
+    by true c is_b is_c not_i not_j = absurd (not_i (ltb-true i j is_b))
+    by false true is_b is_c not_i not_j = absurd (not_j (ltb-true j i is_c))
+    by false false is_b is_c not_i not_j = omega (arith, ltb-false i j is_b, ltb-false j i is_c)

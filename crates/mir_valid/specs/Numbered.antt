@@ -1,0 +1,101 @@
+-- The program that tables of names give: each name replaced by its number, each label by its place. Private functions are
+-- specified by these words.
+use Rattle.std.specs.Prelude.{ℕ, pos, List, [], ◌∷◌, ◌++◌, map, fold, Option, None, Some, if◌then◌else◌}
+use Rattle.std.specs.Option.{option_map}
+use Rattle.mir_base.specs.declared.instructions.Operand.{Operand}
+use Rattle.mir_base.specs.declared.instructions.Operand.TheVariants.{Var, Const}
+use Rattle.mir_base.specs.declared.instructions.Rhs.{Rhs}
+use Rattle.mir_base.specs.declared.instructions.Rhs.TheVariants.{Plain, Unary, Binary}
+use Rattle.mir_base.specs.declared.instructions.Test.{Test}
+use Rattle.mir_base.specs.declared.instructions.Test.TheVariants.{Rel, Holds, Fails}
+use Rattle.mir_base.specs.declared.instructions.Inst.{Inst}
+use Rattle.mir_base.specs.declared.instructions.Inst.TheVariants.{Receive, Assign, Goto, If, Call, Print, Return}
+use Rattle.mir_base.specs.Shapes.{UnitShape}
+use Rattle.mir_parse.specs.declared.raw.RawOperand.{RawOperand}
+use Rattle.mir_parse.specs.declared.raw.RawOperand.TheVariants.{Var as RawVar, Const as RawConst}
+use Rattle.mir_parse.specs.declared.raw.RawRhs.{RawRhs}
+use Rattle.mir_parse.specs.declared.raw.RawRhs.TheVariants.{Plain as RawPlain, Unary as RawUnary, Binary as RawBinary}
+use Rattle.mir_parse.specs.declared.raw.RawTest.{RawTest}
+use Rattle.mir_parse.specs.declared.raw.RawTest.TheVariants.{Rel as RawRel, Holds as RawHolds, Fails as RawFails}
+use Rattle.mir_parse.specs.declared.raw.RawForm.{RawForm}
+use Rattle.mir_parse.specs.declared.raw.RawForm.TheVariants.{Receive as RawReceive, Assign as RawAssign, Goto as RawGoto, If as RawIf, Call as RawCall, Print as RawPrint, Return as RawReturn}
+use Rattle.mir_parse.specs.declared.raw.RawInst.{RawInst}
+use Rattle.mir_parse.specs.declared.raw.RawLabel.{RawLabel}
+use Rattle.mir_parse.specs.RawUnit.{RawUnitShape}
+use Rattle.mir_valid.specs.Names.{Entry, has_name}
+use Rattle.mir_valid.specs.Tables.{number_or_zero, numbered, table_of}
+use Rattle.mir_valid.specs.Variables.{body_names}
+use Rattle.mir_valid.specs.Rules.{unit_names}
+
+-- the names after one more: it is added where it is new
+abbrev pub with_name : List (List ℕ) → List ℕ → List (List ℕ)
+with_name vars x = if has_name vars x then vars else vars ++ x ∷ []
+
+-- the names of the body, each once, as one pass over the body finds them
+abbrev pub variables_of : List RawInst → List (List ℕ)
+variables_of body = fold with_name [] (body_names body)
+
+-- the numbers of units and variables, and the places of labels
+pub record Numbers : Type 0 where
+  pub units : List Entry
+  pub vars : List Entry
+  pub labels : List Entry
+
+abbrev pub numbered_operand : List Entry → RawOperand → Operand
+numbered_operand vars (RawVar x) = Var (number_or_zero vars x)
+numbered_operand vars (RawConst z) = Const z
+
+abbrev pub numbered_rhs : List Entry → RawRhs → Rhs
+numbered_rhs vars (RawPlain a) = Plain (numbered_operand vars a)
+numbered_rhs vars (RawUnary op a) = Unary op (numbered_operand vars a)
+numbered_rhs vars (RawBinary op a b) = Binary op (numbered_operand vars a) (numbered_operand vars b)
+
+abbrev pub numbered_test : List Entry → RawTest → Test
+numbered_test vars (RawRel op a b) = Rel op (numbered_operand vars a) (numbered_operand vars b)
+numbered_test vars (RawHolds a) = Holds (numbered_operand vars a)
+numbered_test vars (RawFails a) = Fails (numbered_operand vars a)
+
+abbrev pub numbered_into : List Entry → Option (List ℕ) → Option ℕ
+numbered_into vars into = option_map (number_or_zero vars) into
+
+abbrev pub numbered_return : List Entry → Option RawOperand → Operand
+numbered_return vars None = Const (pos 0)
+numbered_return vars (Some a) = numbered_operand vars a
+
+abbrev pub numbered_form : Numbers → RawForm → Inst
+numbered_form numbers (RawReceive x) = Receive (number_or_zero numbers.vars x)
+numbered_form numbers (RawAssign x rhs) = Assign (number_or_zero numbers.vars x) (numbered_rhs numbers.vars rhs)
+numbered_form numbers (RawGoto l) = Goto (number_or_zero numbers.labels l)
+numbered_form numbers (RawIf test l) = If (numbered_test numbers.vars test) (number_or_zero numbers.labels l)
+numbered_form numbers (RawCall into f operands) =
+    Call (numbered_into numbers.vars into) (number_or_zero numbers.units f) (map (numbered_operand numbers.vars) operands)
+numbered_form numbers (RawPrint a) = Print (numbered_operand numbers.vars a)
+numbered_form numbers (RawReturn a) = Return (numbered_return numbers.vars a)
+
+abbrev pub numbered_body : Numbers → List RawInst → List Inst
+numbered_body numbers body = map (λ inst. numbered_form numbers inst.form) body
+
+-- the labels with their places
+abbrev pub label_places : List RawLabel → List Entry
+label_places labels = map (λ label. (label.name, label.place)) labels
+
+abbrev pub unit_numbers : List RawUnitShape → List Entry
+unit_numbers units = table_of (numbered 0 (unit_names units))
+
+-- the numbers by which a unit is read, where the units have these
+abbrev pub numbers_of : List Entry → RawUnitShape → Numbers
+numbers_of units unit = record {
+  units = units;
+  vars = numbered 0 (variables_of unit.body);
+  labels = table_of (label_places unit.labels);
+}
+
+abbrev pub numbered_unit : List Entry → RawUnitShape → UnitShape
+numbered_unit units unit = record {
+  name = unit.name;
+  vars = variables_of unit.body;
+  body = numbered_body (numbers_of units unit) unit.body;
+}
+
+abbrev pub numbered_units : List RawUnitShape → List UnitShape
+numbered_units units = map (numbered_unit (unit_numbers units)) units

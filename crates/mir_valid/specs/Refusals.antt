@@ -1,0 +1,77 @@
+-- The refusal of a raw program: the first kind, in a fixed order, whose condition holds, with its smallest line.
+use Rattle.std.specs.Prelude.{◌≡◌, ℕ, ◌≤◌, ◌<◌, min, nat_eq, nat_lt, List, [], ◌∷◌, fold, flat_map, length, Option, None, Some, if◌then◌else◌}
+use Rattle.std.specs.Option.{option_map, option_or}
+use Rattle.mir_parse.specs.declared.raw.Raw.{Raw}
+use Rattle.mir_parse.specs.RawUnit.{RawUnitShape}
+use Rattle.mir_valid.specs.declared.faults.ValidFault.{ValidFault}
+use Rattle.mir_valid.specs.declared.faults.ValidFault.TheVariants.{NoUnit, TooManyUnits, SameUnit, TooManyInsts, LateReceive, SameReceive, TooManyReceives, SameLabel, NoLabel, NoSuchUnit, WrongCount, Memory}
+use Rattle.mir_valid.specs.Rules.{same_unit_lines, too_many_insts_lines, late_receive_lines, same_receive_lines, too_many_receives_lines, same_label_lines, no_label_lines, no_unit_lines, wrong_count_lines}
+
+-- the lesser of the smallest line so far and one more
+abbrev pub lesser : Option ℕ → ℕ → Option ℕ
+lesser None line = Some line
+lesser (Some least) line = Some (min least line)
+
+-- the smallest of the lines, where there is one
+abbrev pub least : List ℕ → Option ℕ
+least lines = fold lesser None lines
+
+-- a kind of refusal with the smallest of its lines
+abbrev pub at_least_line : (ℕ → ValidFault) → List ℕ → Option ValidFault
+at_least_line kind lines = option_map kind (least lines)
+
+-- the first that is there
+abbrev pub first_of : List (Option ValidFault) → Option ValidFault
+first_of [] = None
+first_of (found ∷ others) = option_or found (first_of others)
+
+-- the kinds of refusal in their order, each where its condition holds
+abbrev pub refusals : List RawUnitShape → List (Option ValidFault)
+refusals units =
+    (if nat_eq (length units) 0 then Some NoUnit else None)
+    ∷ (if nat_lt 256 (length units) then Some TooManyUnits else None)
+    ∷ at_least_line SameUnit (same_unit_lines units)
+    ∷ at_least_line TooManyInsts (flat_map too_many_insts_lines units)
+    ∷ at_least_line LateReceive (flat_map late_receive_lines units)
+    ∷ at_least_line SameReceive (flat_map same_receive_lines units)
+    ∷ at_least_line TooManyReceives (flat_map too_many_receives_lines units)
+    ∷ at_least_line SameLabel (flat_map same_label_lines units)
+    ∷ at_least_line NoLabel (flat_map no_label_lines units)
+    ∷ at_least_line NoSuchUnit (flat_map (no_unit_lines units) units)
+    ∷ at_least_line WrongCount (flat_map (wrong_count_lines units) units)
+    ∷ []
+
+abbrev pub refusal : Raw → Option ValidFault
+refusal raw = first_of (refusals raw.units)
+
+-- no kind of refusal has a line
+pub record AreValid (units : List RawUnitShape) : Type 0 where
+  pub some_unit : 0 < length units
+  pub few_units : length units ≤ 256
+  pub same_unit : same_unit_lines units ≡ []
+  pub too_many_insts : flat_map too_many_insts_lines units ≡ []
+  pub late_receive : flat_map late_receive_lines units ≡ []
+  pub same_receive : flat_map same_receive_lines units ≡ []
+  pub too_many_receives : flat_map too_many_receives_lines units ≡ []
+  pub same_label : flat_map same_label_lines units ≡ []
+  pub no_label : flat_map no_label_lines units ≡ []
+  pub no_such_unit : flat_map (no_unit_lines units) units ≡ []
+  pub wrong_count : flat_map (wrong_count_lines units) units ≡ []
+
+abbrev pub IsValid : Raw → Type 0
+IsValid raw = AreValid raw.units
+
+-- the fault is want of memory
+abbrev pub IsMemory : ValidFault → Type 0
+IsMemory NoUnit = ⊥
+IsMemory TooManyUnits = ⊥
+IsMemory (SameUnit line) = ⊥
+IsMemory (TooManyInsts line) = ⊥
+IsMemory (LateReceive line) = ⊥
+IsMemory (SameReceive line) = ⊥
+IsMemory (TooManyReceives line) = ⊥
+IsMemory (SameLabel line) = ⊥
+IsMemory (NoLabel line) = ⊥
+IsMemory (NoSuchUnit line) = ⊥
+IsMemory (WrongCount line) = ⊥
+IsMemory (Memory refused) = Unit {0}

@@ -1,0 +1,179 @@
+// From names to numbers: the program that a raw program stands for. In a valid one each name is in its table, so the 0
+// of a name that is not there never shows.
+ghost use Rattle.std.specs.Prelude.{◌≡◌, map, All, IfOk, OnOk};
+ghost use Rattle.mir_parse.specs.RawUnit.{HasPlaces};
+ghost use Rattle.mir_valid.specs.Refusals.{AreValid};
+ghost use Rattle.mir_valid.specs.Numbered.{numbered_operand, numbered_rhs, numbered_test, numbered_into, numbered_return, numbered_form, numbered_body, numbered_unit, numbered_units};
+
+use crate::Memory;
+use crate::calls::unit_numbers;
+use crate::labels::label_places;
+use crate::tables::Table;
+use crate::variables::Variables;
+use mir_base::{Args, Inst, Items, Name, Operand, Program, Rhs, Test, Unit};
+use mir_parse::{RawForm, RawInst, RawOperand, RawRhs, RawTest, RawUnit};
+use std::alloc::Global;
+use std::marker::Model;
+
+/// The tables by which a unit is read: the numbers of the units and of its variables, and the places of its labels.
+#[derive(Drop)]
+struct Numbering<'t, 'a> {
+    units: &'t Table<'a>,
+    vars: &'t Table<'a>,
+    labels: &'t Table<'a>,
+}
+
+impl<'t, 'a> Model for Numbering<'t, 'a> {
+    ghost use Rattle.mir_valid.specs.Numbered.{Numbers};
+
+    ghost Value = { Numbers };
+
+    ghost view = { λ tables. record { units = tables.units.now; vars = tables.vars.now; labels = tables.labels.now } };
+}
+
+fn numbered_operand(vars: &Table, operand: &RawOperand) -> Operand
+    ensures { result ≡ numbered_operand vars.now operand.now }
+{
+    match operand {
+        RawOperand::Var(name) => Operand::Var(vars.number(name)),
+        RawOperand::Const(z) => Operand::Const(*z),
+    }
+}
+
+fn numbered_rhs(vars: &Table, rhs: &RawRhs) -> Rhs
+    ensures { result ≡ numbered_rhs vars.now rhs.now }
+{
+    match rhs {
+        RawRhs::Plain(a) => Rhs::Plain(numbered_operand(vars, a)),
+        RawRhs::Unary(op, a) => Rhs::Unary(*op, numbered_operand(vars, a)),
+        RawRhs::Binary(op, a, b) => Rhs::Binary(
+            *op,
+            numbered_operand(vars, a),
+            numbered_operand(vars, b),
+        ),
+    }
+}
+
+fn numbered_test(vars: &Table, test: &RawTest) -> Test
+    ensures { result ≡ numbered_test vars.now test.now }
+{
+    match test {
+        RawTest::Rel(op, a, b) => Test::Rel(
+            *op,
+            numbered_operand(vars, a),
+            numbered_operand(vars, b),
+        ),
+        RawTest::Holds(a) => Test::Holds(numbered_operand(vars, a)),
+        RawTest::Fails(a) => Test::Fails(numbered_operand(vars, a)),
+    }
+}
+
+fn numbered_into(vars: &Table, into: &Option<Name>) -> Option<usize>
+    ensures { result ≡ numbered_into vars.now into.now }
+{
+    match into {
+        None => None,
+        Some(name) => Some(vars.number(name)),
+    }
+}
+
+fn numbered_return(vars: &Table, operand: &Option<RawOperand>) -> Operand
+    ensures { result ≡ numbered_return vars.now operand.now }
+{
+    match operand {
+        None => Operand::Const(0),
+        Some(a) => numbered_operand(vars, a),
+    }
+}
+
+fn numbered_args(alloc: Global, vars: &Table, operands: &[RawOperand]) -> Result<Args, Memory>
+    ensures { IfOk result (λ args. args ≡ map (numbered_operand vars.now) operands.now) }
+{
+    let mut numbered = Vec::new(alloc);
+    for operand in operands {
+        numbered.push(numbered_operand(vars, operand))?;
+    }
+    Args::of(alloc, &numbered)
+}
+
+fn numbered_form(alloc: Global, tables: &Numbering, form: &RawForm) -> Result<Inst, Memory>
+    ensures { IfOk result (λ inst. inst ≡ numbered_form tables.now form.now) }
+{
+    let vars = tables.vars;
+    match form {
+        RawForm::Receive(name) => Ok(Inst::Receive(vars.number(name))),
+        RawForm::Assign(name, rhs) => {
+            Ok(Inst::Assign(vars.number(name), numbered_rhs(vars, rhs)))
+        }
+        RawForm::Goto(label) => Ok(Inst::Goto(tables.labels.number(label))),
+        RawForm::If(test, label) => Ok(Inst::If(
+            numbered_test(vars, test),
+            tables.labels.number(label),
+        )),
+        RawForm::Call(into, unit, operands) => {
+            let into = numbered_into(vars, into);
+            let args = numbered_args(alloc, vars, operands.items())?;
+            Ok(Inst::Call(into, tables.units.number(unit), args))
+        }
+        RawForm::Print(a) => Ok(Inst::Print(numbered_operand(vars, a))),
+        RawForm::Return(a) => Ok(Inst::Return(numbered_return(vars, a))),
+    }
+}
+
+fn numbered_body(alloc: Global, tables: &Numbering, body: &[RawInst]) -> Result<Vec<Inst>, Memory>
+    ensures { IfOk result (λ insts. insts.items ≡ numbered_body tables.now body.now) }
+{
+    let mut insts = Vec::new(alloc);
+    for inst in body {
+        insts.push(numbered_form(alloc, tables, &inst.form)?)?;
+    }
+    Ok(insts)
+}
+
+fn numbered_unit<'a>(alloc: Global, units: &Table<'a>, unit: &'a RawUnit) -> Result<Unit, Memory>
+    ensures made { IfOk result (λ made. made ≡ numbered_unit units.now unit.now) }
+    ensures places { HasPlaces unit.now.labels unit.now.body }
+{
+    let raw_body = unit.body.items();
+    let vars = Variables::of(alloc, raw_body)?;
+    let labels = label_places(alloc, unit.labels.items())?;
+    let tables = Numbering {
+        units,
+        vars: vars.numbers(),
+        labels: &labels,
+    };
+    let body = numbered_body(alloc, &tables, raw_body)?;
+    let name = unit.name.clone()?;
+    Ok(Unit {
+        name,
+        vars: Items::of(vars.into_names()),
+        body: Items::of(body),
+    })
+}
+
+fn numbered_all<'a>(
+    alloc: Global,
+    numbers: &Table<'a>,
+    units: &'a [RawUnit],
+) -> Result<Vec<Unit>, Memory>
+    ensures made { IfOk result (λ made. made.items ≡ map (numbered_unit numbers.now) units.now) }
+    ensures places { OnOk result (All (λ unit. HasPlaces unit.labels unit.body) units.now) }
+{
+    let mut made = Vec::new(alloc);
+    for unit in units {
+        made.push(numbered_unit(alloc, numbers, unit)?)?;
+    }
+    Ok(made)
+}
+
+/// The program that these valid units stand for. Its only refusal is want of memory.
+pub fn program_of(alloc: Global, units: &[RawUnit]) -> Result<Program, Memory>
+    requires { AreValid units.now }
+    ensures { IfOk result (λ program. program.units ≡ numbered_units units.now) }
+{
+    let numbers = unit_numbers(alloc, units)?;
+    let made = numbered_all(alloc, &numbers, units)?;
+    Ok(Program {
+        units: Items::of(made),
+    })
+}
