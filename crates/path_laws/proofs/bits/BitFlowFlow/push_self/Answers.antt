@@ -1,0 +1,9 @@
+use Rattle.std.proofs.Common.{sym, ◌∙◌}
+use Rattle.path_laws.specs.NetsLaws.{bit_laws}
+use Rattle.path_laws.specs.OrderLaws.{loop_joins}
+use Rattle.path_laws.proofs.bits.BitFlowFlow.push_self.Goals as goal
+
+pub returns-clause-joined : goal.returns-clause-joined
+returns-clause-joined g c =
+    let laws = bit_laws c.args.self.now.against c.args.self.now.graph.now.nodes c.args.self.now.edges.now c.args.self.now.bits c.args.self.now.first.now c.args.self.now.block.now c.requires.valid in
+    loop_joins c.args._value.now _ (c.requires.size ∙ sym (c.requires.valid.block_rows.each _ (laws.targets c.args._number c.requires.in_range)))

@@ -1,0 +1,14 @@
+-- Where a bit flows from, as a relation on nodes alone.
+use Rattle.std.specs.Prelude.{◌≡◌, ℕ, Bool, true, false, List}
+use Rattle.flow_graph.specs.declared.nodes.Node.{Node}
+use Rattle.flow_graph.specs.Paths.{HasEdge}
+
+-- from node n a way along these steps comes to a seed, and none of its nodes before that one blocks
+pub data Leads (steps : ℕ → ℕ → Type 0) (seed block : ℕ → Bool) : ℕ → Type 0 where
+  at_seed : (n : ℕ) → seed n ≡ true → Leads steps seed block n
+  one_more : (m n : ℕ) → steps m n → block m ≡ false → Leads steps seed block n → Leads steps seed block m
+
+-- a bit that flows against the edges comes from successors, and one that flows along them from predecessors
+abbrev pub steps_of : Bool → List Node → ℕ → ℕ → Type 0
+steps_of true nodes m n = HasEdge nodes m n
+steps_of false nodes m n = HasEdge nodes n m

@@ -1,0 +1,141 @@
+-- The laws of rows ordered by implication.
+use Rattle.std.specs.Prelude.{◌≡◌, ◌≢◌, ◌+◌, ◌<◌, ◌≤◌, Bool, true, false, not, ◌||◌, ◌&&◌, cond, List, [], ◌∷◌, length, refl}
+use Rattle.std.proofs.Common.{suc, sym, ap, ◌∙◌, ◌⊎◌, inl, inr, arith}
+use Rattle.fix_solve.specs.Order.{OrderLaws, IsLeastUpper}
+use Rattle.bit_rows.specs.Bits.{or_bits, minus_bits}
+use Rattle.path_laws.specs.Order.{BelowBits, trues}
+
+pub below_refl : (xs : List Bool) → BelowBits xs xs
+below_refl [] = tt
+below_refl (x ∷ xs) = (λ h. h, below_refl xs)
+
+pub below_trans : (xs ys zs : List Bool) → BelowBits xs ys → BelowBits ys zs → BelowBits xs zs
+below_trans [] [] [] p q = tt
+below_trans [] [] (z ∷ zs) p q = absurd q
+below_trans [] (y ∷ ys) zs p q = absurd p
+below_trans (x ∷ xs) [] zs p q = absurd p
+below_trans (x ∷ xs) (y ∷ ys) [] p q = absurd q
+below_trans (x ∷ xs) (y ∷ ys) (z ∷ zs) p q = (λ h. q.0 (p.0 h), below_trans xs ys zs p.1 q.1)
+
+same_bits : (x y : Bool) → (x ≡ true → y ≡ true) → (y ≡ true → x ≡ true) → x ≡ y
+same_bits true y p q = sym (p refl)
+same_bits false true p q = q refl
+same_bits false false p q = refl
+
+cons_same : (x y : Bool) (xs ys : List Bool) → x ≡ y → xs ≡ ys → x ∷ xs ≡ y ∷ ys
+cons_same x y xs ys p q = cc
+
+pub below_antisym : (xs ys : List Bool) → BelowBits xs ys → BelowBits ys xs → xs ≡ ys
+below_antisym [] [] p q = refl
+below_antisym [] (y ∷ ys) p q = absurd p
+below_antisym (x ∷ xs) [] p q = absurd p
+below_antisym (x ∷ xs) (y ∷ ys) p q = cons_same x y xs ys (same_bits x y p.0 q.0) (below_antisym xs ys p.1 q.1)
+
+pub below_length : (xs ys : List Bool) → BelowBits xs ys → length xs ≡ length ys
+below_length [] [] p = refl
+below_length [] (y ∷ ys) p = absurd p
+below_length (x ∷ xs) [] p = absurd p
+below_length (x ∷ xs) (y ∷ ys) p = ap suc (below_length xs ys p.1)
+
+-- the number of true places rises, and the rows are the same or it rises strictly
+trues_rise : (xs ys : List Bool) → BelowBits xs ys → (xs ≡ ys) ⊎ (trues xs < trues ys)
+trues_rise [] [] p = inl refl
+trues_rise [] (y ∷ ys) p = absurd p
+trues_rise (x ∷ xs) [] p = absurd p
+trues_rise (x ∷ xs) (y ∷ ys) p = step x y p.0 (trues_rise xs ys p.1)
+  where
+    step : (x y : Bool) → (x ≡ true → y ≡ true) → (xs ≡ ys) ⊎ (trues xs < trues ys) → (x ∷ xs ≡ y ∷ ys) ⊎ (cond x 1 0 + trues xs < cond y 1 0 + trues ys)
+    step true true h (inl e) = inl (cons_same true true xs ys refl e)
+    step true true h (inr l) = inr (omega arith)
+    step true false h r = let bad : false ≡ true = h refl in absurd (cc)
+    step false true h (inl e) = inr (rw e (omega arith))
+    step false true h (inr l) = inr (omega arith)
+    step false false h (inl e) = inl (cons_same false false xs ys refl e)
+    step false false h (inr l) = inr (omega arith)
+
+trues_rise_strictly : (xs ys : List Bool) → BelowBits xs ys → xs ≢ ys → trues xs < trues ys
+trues_rise_strictly xs ys p d = elim (trues_rise xs ys p) as (λ _. trues xs < trues ys) [ inl e ↦ absurd (d e) | inr l ↦ l ]
+
+pub bits_laws : OrderLaws BelowBits length trues
+bits_laws = record {
+  reflexive = below_refl;
+  transitive = below_trans;
+  antisymmetric = below_antisym;
+  same_size = below_length;
+  rises = trues_rise_strictly;
+}
+
+or_left : (x y : Bool) → x ≡ true → (x || y) ≡ true
+or_left true y h = refl
+or_left false y h = absurd (cc)
+
+or_right : (x y : Bool) → y ≡ true → (x || y) ≡ true
+or_right true y h = refl
+or_right false y h = h
+
+or_least : (x y z : Bool) → (x ≡ true → z ≡ true) → (y ≡ true → z ≡ true) → (x || y) ≡ true → z ≡ true
+or_least true y z p q h = p refl
+or_least false y z p q h = q h
+
+below_or_left : (xs ys : List Bool) → length xs ≡ length ys → BelowBits xs (or_bits xs ys)
+below_or_left [] ys e = tt
+below_or_left (x ∷ xs) [] e = absurd (omega (arith, e))
+below_or_left (x ∷ xs) (y ∷ ys) e = (or_left x y, below_or_left xs ys (let e' : suc (length xs) ≡ suc (length ys) = e in omega arith))
+
+below_or_right : (xs ys : List Bool) → length xs ≡ length ys → BelowBits ys (or_bits xs ys)
+below_or_right [] [] e = tt
+below_or_right [] (y ∷ ys) e = absurd (omega (arith, e))
+below_or_right (x ∷ xs) [] e = absurd (omega (arith, e))
+below_or_right (x ∷ xs) (y ∷ ys) e = (or_right x y, below_or_right xs ys (let e' : suc (length xs) ≡ suc (length ys) = e in omega arith))
+
+below_or_least : (xs ys zs : List Bool) → BelowBits xs zs → BelowBits ys zs → BelowBits (or_bits xs ys) zs
+below_or_least [] ys zs p q = p
+below_or_least (x ∷ xs) [] [] p q = absurd p
+below_or_least (x ∷ xs) [] (z ∷ zs) p q = absurd q
+below_or_least (x ∷ xs) (y ∷ ys) [] p q = absurd p
+below_or_least (x ∷ xs) (y ∷ ys) (z ∷ zs) p q = (or_least x y z p.0 q.0, below_or_least xs ys zs p.1 q.1)
+
+pub or_joins : (xs ys : List Bool) → length xs ≡ length ys → IsLeastUpper BelowBits xs ys (or_bits xs ys)
+or_joins xs ys e = record {
+  left = below_or_left xs ys e;
+  right = below_or_right xs ys e;
+  least = below_or_least xs ys;
+}
+
+pub length-minus : (xs ys : List Bool) → length xs ≡ length ys → length (minus_bits xs ys) ≡ length xs
+length-minus [] ys e = refl
+length-minus (x ∷ xs) [] e = absurd (omega (arith, e))
+length-minus (x ∷ xs) (y ∷ ys) e = ap suc (length-minus xs ys (let e' : suc (length xs) ≡ suc (length ys) = e in omega arith))
+
+minus_up : (x y s : Bool) → (x ≡ true → y ≡ true) → (x && not s) ≡ true → (y && not s) ≡ true
+minus_up true y s p h = rw (p refl) h
+minus_up false y s p h = absurd (cc)
+
+pub minus_mono : (xs ys s : List Bool) → BelowBits xs ys → BelowBits (minus_bits xs s) (minus_bits ys s)
+minus_mono [] [] s p = tt
+minus_mono [] (y ∷ ys) s p = absurd p
+minus_mono (x ∷ xs) [] s p = absurd p
+minus_mono (x ∷ xs) (y ∷ ys) [] p = tt
+minus_mono (x ∷ xs) (y ∷ ys) (t ∷ s) p = (minus_up x y t p.0, minus_mono xs ys s p.1)
+
+pub trues_le : (xs : List Bool) → trues xs ≤ length xs
+trues_le [] = omega arith
+trues_le (true ∷ xs) = let a : trues xs ≤ length xs = trues_le xs in omega arith
+trues_le (false ∷ xs) = let a : trues xs ≤ length xs = trues_le xs in omega arith
+
+minus_down : (x s : Bool) → (x && not s) ≡ true → x ≡ true
+minus_down true s h = refl
+minus_down false s h = absurd (cc)
+
+pub minus_below : (xs ys : List Bool) → length xs ≡ length ys → BelowBits (minus_bits xs ys) xs
+minus_below [] ys e = tt
+minus_below (x ∷ xs) [] e = absurd (omega (arith, e))
+minus_below (x ∷ xs) (y ∷ ys) e = (minus_down x y, minus_below xs ys (let e' : suc (length xs) ≡ suc (length ys) = e in omega arith))
+
+-- what a loop brings to its node is there already
+pub loop_joins : (xs ys : List Bool) → length xs ≡ length ys → IsLeastUpper BelowBits xs (minus_bits xs ys) xs
+loop_joins xs ys e = record { left = below_refl xs; right = minus_below xs ys e; least = λ zs p q. p }
+
+-- what another edge brings
+pub push_joins : (old from block : List Bool) → length from ≡ length old → length block ≡ length old → IsLeastUpper BelowBits old (minus_bits from block) (or_bits old (minus_bits from block))
+push_joins old from block e d = or_joins old (minus_bits from block) (sym (length-minus from block (e ∙ sym d) ∙ e))

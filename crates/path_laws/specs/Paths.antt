@@ -1,0 +1,61 @@
+-- What the calls say of paths: where a bit is born and stopped on them.
+use Rattle.std.specs.Prelude.{◌≡◌, ℕ, ◌<◌, ◌⊎◌, Bool, true, false, List, [], ◌∷◌, length, slice_index_or}
+use Rattle.bit_rows.specs.Bits.{row_of}
+use Rattle.flow_graph.specs.declared.nodes.Node.{Node}
+use Rattle.flow_graph.specs.Paths.{Begins, IsPath, IsReturnAt, Trace}
+
+-- whether the row of a node has a bit
+abbrev pub has_bit : List (List Bool) → ℕ → ℕ → Bool
+has_bit rows bit node = slice_index_or (row_of rows node) bit false
+
+-- how many bits the rows have
+abbrev pub width : List (List Bool) → ℕ
+width rows = length (row_of rows 0)
+
+-- one row for each node, each of so many bits
+pub record AreRows (nodes bits : ℕ) (rows : List (List Bool)) : Type 0 where
+  pub len : length rows ≡ nodes
+  pub each : (n : ℕ) → n < nodes → length (row_of rows n) ≡ bits
+
+-- ---- every path to a node
+
+-- of the nodes before a node, the nearest first, one has the bit born, and none after that one stops it
+abbrev pub Since : (ℕ → Bool) → (ℕ → Bool) → List ℕ → Type 0
+Since born stop [] = ⊥
+Since born stop (m ∷ before) = (born m ≡ true) ⊎ ((stop m ≡ false) × Since born stop before)
+
+-- so it is on every path from Start to node n
+abbrev pub BornBefore : List Node → (ℕ → Bool) → (ℕ → Bool) → ℕ → Type 0
+BornBefore nodes born stop n = (before : List ℕ) → Trace nodes n before → Since born stop before
+
+-- ---- every path from a node
+
+-- the path ends at its first node that stops the bit, or at a Return with none before it that does
+abbrev pub EndsWell : List Node → (ℕ → Bool) → List ℕ → Type 0
+EndsWell nodes stop [] = ⊥
+EndsWell nodes stop (n ∷ []) = (stop n ≡ true) ⊎ IsReturnAt nodes n
+EndsWell nodes stop (m ∷ n ∷ path) = (stop m ≡ false) × EndsWell nodes stop (n ∷ path)
+
+-- at a node of the path the bit is born
+abbrev pub Meets : (ℕ → Bool) → List ℕ → Type 0
+Meets born [] = ⊥
+Meets born (n ∷ path) = (born n ≡ true) ⊎ Meets born path
+
+-- so it is on every path from node n that ends so
+abbrev pub BornAfter : List Node → (ℕ → Bool) → (ℕ → Bool) → ℕ → Type 0
+BornAfter nodes born stop n = (path : List ℕ) → IsPath nodes path → Begins n path → EndsWell nodes stop path → Meets born path
+
+-- ---- some path from a node
+
+-- at the last node the bit is born, and no node before it stops it
+abbrev pub EndsBorn : (ℕ → Bool) → (ℕ → Bool) → List ℕ → Type 0
+EndsBorn born stop [] = ⊥
+EndsBorn born stop (n ∷ []) = born n ≡ true
+EndsBorn born stop (m ∷ n ∷ path) = (stop m ≡ false) × EndsBorn born stop (n ∷ path)
+
+-- some path from node n ends so
+pub record BornAhead (nodes : List Node) (born stop : ℕ → Bool) (n : ℕ) : Type 0 where
+  pub path : List ℕ
+  pub is_path : IsPath nodes path
+  pub begins : Begins n path
+  pub ends : EndsBorn born stop path
