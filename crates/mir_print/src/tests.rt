@@ -77,6 +77,36 @@ const TEXTS: [(&[u8], &[u8]); 14] = [
     ),
 ];
 
+/// Texts that are the canonical texts of their programs.
+const CANONICAL: [&[u8]; 13] = [
+    // type ends
+    b"main: begin\nm <- -9223372036854775808\nn <- -1\na <- m / n\nprint a\nb <- m mod n\nprint b\nc <- 1 shl 64\nprint c\nd <- 1 shl -1\nprint d\ne <- m shr 63\nprint e\nf <- m shra 63\nprint f\ng <- - m\nprint g\nend\n",
+    // dead division
+    b"main: begin\nprint 1\nx <- 1 / 0\nend\n",
+    // dead division
+    b"main: begin\nprint 1\nx <- 1 / 0\nreturn 0\nend\n",
+    // loop without exit
+    b"main: begin\nreceive a(val)\nL1: x <- a + 1\na <- x\ngoto L1\nend\n",
+    // own operand
+    b"main: begin\nreceive i(val)\ni <- i + 1\ni <- i + 1\nreturn i\nend\n",
+    // same value
+    b"main: begin\nreceive a(val)\nreceive b(val)\nx <- a * b\ny <- a\nz <- y * b\nreturn z\nend\n",
+    // same value
+    b"main: begin\nreceive a(val)\nreceive b(val)\nx <- a * b\nreturn x\nend\n",
+    // partly dead
+    b"main: begin\nreceive a(val)\nreceive b(val)\nx <- a + b\nif a goto L1\nreturn b\nL1: return x\nend\n",
+    // divisions stay
+    b"main: begin\nreceive a(val)\nreceive b(val)\nx <- a / b\nprint x\ny <- a / b\nreturn y\nend\n",
+    // depth
+    b"main: begin\nreceive n(val)\nif n = 1 goto L1\nm <- n - 1\ncall main,(m,int)\nL1: return 0\nend\n",
+    // name in use
+    b"main: begin\nreceive a(val)\nreceive b(val)\nL1: h1 <- a + b\ni <- i + 1\nif i < h1 goto L1\nreturn i\nend\n",
+    // constant test
+    b"main: begin\nx <- 0\nif x goto L1\nprint 7\nreturn 1\nL1: y <- 1 / 0\nreturn y\nend\n",
+    // constant test
+    b"main: begin\nreceive a(val)\nif a goto L1\nL1: return a\nend\n",
+];
+
 fn program(alloc: Global, text: &[u8]) -> Result<Program, Fail> {
     if text.len() > 1000 {
         return Err("too long a text")?;
@@ -94,6 +124,16 @@ fn printed_and_read_again(rt: HostRuntime) -> Result<(), Fail> {
         let again = program(alloc, &printed)?;
         text_is_read_back(&again);
         assert!(rt; print(alloc, &again)?.as_slice() == canonical);
+    }
+    Ok(())
+}
+
+#[test]
+fn canonical_texts_stay(rt: HostRuntime) -> Result<(), Fail> {
+    let alloc = rt.alloc();
+    for text in CANONICAL {
+        let printed = print(alloc, &program(alloc, text)?)?;
+        assert!(rt; printed.as_slice() == text);
     }
     Ok(())
 }
