@@ -102,6 +102,59 @@ print x
 y <- a / b
 return y
 end
+# two tests that lead to one place
+optimise
+main: begin
+receive a(val)
+if a goto OUT
+if ! a goto OUT
+return a
+OUT: print a
+return 0
+end
+@ 0
+main: begin
+receive a(val)
+if a goto L1
+if ! a goto L1
+return a
+L1: print a
+return 0
+end
+# a jump to the end, and a goto to itself
+optimise
+main: begin
+receive a(val)
+if a goto SELF
+goto END
+SELF: goto SELF
+END: end
+@ 0
+main: begin
+receive a(val)
+if a goto L1
+return 0
+L1: goto L1
+end
+# a loop whose test stands first
+optimise
+main: begin
+receive n(val)
+AGAIN: if n <= 0 goto OUT
+print n
+n <- n - 1
+goto AGAIN
+OUT: return n
+end
+@ 0
+main: begin
+receive n(val)
+L1: if n <= 0 goto L2
+print n
+n <- n - 1
+goto L1
+L2: return n
+end
 # a diamond
 optimise
 main: begin
