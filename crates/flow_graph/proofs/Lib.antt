@@ -16,4 +16,4 @@ pub mod SeenLists
 pub mod Laid
 pub mod CallLaws
 pub mod Fitting
-pub mod Lowerable
+pub mod Whole

@@ -6,6 +6,7 @@ pub mod RedirectLaws
 pub mod Kept
 pub mod Edges
 pub mod EdgeLaws
+pub mod PredLaws
 pub mod Lowered
 pub mod Calls
 pub mod CallLaws
@@ -16,3 +17,4 @@ pub mod Walks
 pub mod Sorting
 pub mod Placing
 pub mod Examples
+pub mod ExamplesLaws

@@ -1,8 +1,8 @@
 // Graphs from other graphs: a pass writes a list of nodes, and the graph of those that are reached is made of it.
-ghost use Rattle.std.specs.Prelude.{◌≡◌, ◌++◌, ℕ, IfOk};
+ghost use Rattle.std.specs.Prelude.{◌≡◌, ◌++◌, ◌<◌, ℕ, length, IfOk};
 ghost use Rattle.mir_base.specs.UnitRuns.{UnitCheaper, UnitSame};
 ghost use Rattle.flow_graph.specs.Calls.{NodesCall};
-ghost use Rattle.flow_graph.specs.Graphs.{CanMake};
+ghost use Rattle.flow_graph.specs.Graphs.{CanMake, Reached};
 ghost use Rattle.flow_graph.specs.Kept.{IsMade};
 ghost use Rattle.flow_graph.specs.Machines.{graph_machine, machine_of};
 
@@ -23,6 +23,9 @@ impl Graph {
     ) -> Result<Graph, Memory>
         requires { CanMake (self.now.vars ++ extra.items) self.now.received nodes.items }
         ensures made { IfOk result (λ graph. IsMade self.now.name (self.now.vars ++ extra.items) self.now.received nodes.items graph) }
+
+        // where every node is reached, the nodes are those of the list
+        ensures whole { IfOk result (λ graph. ((n : ℕ) → n < length nodes.items → Reached nodes.items n) → graph.nodes ≡ nodes.items) }
 
         // the graph does the same as the list of nodes whole, and counts no more
         ensures same { IfOk result (λ graph. UnitSame (graph_machine self.now.received nodes.items) (machine_of graph)) }

@@ -1,6 +1,6 @@
 use Rattle.std.proofs.Common.{◌≡◌, sym, subst}
 use Rattle.flow_graph.specs.Lowered.{CanLower}
-use Rattle.flow_graph.proofs.Lowerable.{lowerable}
+use Rattle.flow_graph.specs.ExamplesLaws.{lowerable}
 use Rattle.flow_graph.proofs.tests.graph_of.Goals as goal
 
 pub lower-requires : goal.lower-requires

@@ -1,0 +1,44 @@
+-- A list of nodes of which every one is reached is kept as it is.
+use Rattle.std.proofs.Common.{◌≡◌, ℕ, zero, suc, ◌<◌, true, List, [], ◌∷◌, length, map, slice_get, Some, refl, sym, ap, ◌∙◌, subst, arith}
+use Rattle.flow_graph.specs.declared.nodes.Node.{Node}
+use Rattle.flow_graph.specs.Graphs.{AllWithin, Reached, SuccsBelow}
+use Rattle.flow_graph.specs.declared.nodes.Node.TheVariants.{Start, Skip, Assign, Print, Call, Test, Return}
+use Rattle.flow_graph.specs.Kept.{AreKept, marked, rank, redirected}
+use Rattle.std.specs.Prelude.{Bool, false}
+use Rattle.flow_graph.proofs.Ranks.{succs_below}
+
+all_marked : {A : Type 0} (marks : List Bool) (xs : List A) → length marks ≡ length xs → ((n : ℕ) → n < length xs → slice_get marks n ≡ Some true) → marked marks xs ≡ xs
+all_marked [] [] long all = refl
+all_marked [] (x ∷ xs) long all = absurd (omega (arith, long))
+all_marked (b ∷ marks) [] long all = absurd (omega (arith, long))
+all_marked (true ∷ marks) (x ∷ xs) long all = ap (λ l. x ∷ l) (all_marked marks xs (omega (arith, long)) (λ n lt. all (suc n) (omega (arith, lt))))
+all_marked (false ∷ marks) (x ∷ xs) long all = let first = all 0 (omega arith) in cc
+
+full_rank : (marks : List Bool) (n : ℕ) → ((k : ℕ) → k < length marks → slice_get marks k ≡ Some true) → n < length marks → rank marks n ≡ n
+full_rank [] n all lt = absurd (omega (arith, lt))
+full_rank (true ∷ marks) zero all lt = refl
+full_rank (false ∷ marks) zero all lt = refl
+full_rank (true ∷ marks) (suc n) all lt = ap suc (full_rank marks n (λ k h. all (suc k) (omega (arith, h))) (omega (arith, lt)))
+full_rank (false ∷ marks) (suc n) all lt = let first = all 0 (omega arith) in cc
+
+module _ (size : ℕ) (to : ℕ → ℕ) (same : (n : ℕ) → n < size → to n ≡ n) where
+  unmoved : (node : Node) → SuccsBelow size node → redirected to node ≡ node
+  unmoved (Start next) h = ap Start (same next h)
+  unmoved (Skip next) h = ap Skip (same next h)
+  unmoved (Assign x rhs next) h = ap (Assign x rhs) (same next h)
+  unmoved (Print a next) h = ap (Print a) (same next h)
+  unmoved (Call into unit operands next) h = ap (Call into unit operands) (same next h)
+  unmoved (Test test taken other) h = ap (λ n. Test test n (to other)) (same taken h.0) ∙ ap (Test test taken) (same other h.1)
+  unmoved (Return a) h = refl
+
+  all_unmoved : (nodes : List Node) → ((n : ℕ) (node : Node) → slice_get nodes n ≡ Some node → SuccsBelow size node) → map (redirected to) nodes ≡ nodes
+  all_unmoved [] below = refl
+  all_unmoved (node ∷ nodes) below = ap (λ l. redirected to node ∷ l) (all_unmoved nodes (λ n. below (suc n))) ∙ ap (λ m. m ∷ nodes) (unmoved node (below 0 node refl))
+
+pub whole_kept : (raw nodes : List Node) → AllWithin raw → AreKept raw nodes → ((n : ℕ) → n < length raw → Reached raw n) → nodes ≡ raw
+whole_kept raw nodes within kept reached =
+    let all : (n : ℕ) → n < length raw → slice_get kept.marks n ≡ Some true = λ n lt. (kept.are_marks.exact n lt).1 (reached n lt) in
+    let long = kept.are_marks.long in
+    kept.are
+    ∙ ap (map (redirected (rank kept.marks))) (all_marked kept.marks raw long all)
+    ∙ all_unmoved (length raw) (rank kept.marks) (λ n lt. full_rank kept.marks n (λ k h. all k (omega (arith, h, long))) (omega (arith, lt, long))) raw (λ n node here. succs_below raw n node within here)
