@@ -1,4 +1,4 @@
-pub mod Zips
 pub mod Views
 pub mod Ops
 pub mod Long
+pub mod NextBits

@@ -1,5 +1,5 @@
 -- Rows of bits in words.
-use Rattle.std.proofs.Common.{◌≡◌, ◌≢◌, ◌↔◌, ℕ, zero, suc, max, min, ◌+◌, ◌-◌, ◌*◌, ◌/◌, ◌%◌, ◌^◌, ◌<◌, ◌≤◌, Bool, true, false, not, ◌||◌, ◌&&◌, cond, eqb, ltb, List, [], ◌∷◌, ◌++◌, length, map, take, drop, get_or, refl, sym, ap, inl, inr, arith, ◌∙◌, bit_or, bit_and, replicate, w64, set, lit<}
+use Rattle.std.proofs.Common.{◌≡◌, ◌≢◌, ◌↔◌, ℕ, zero, suc, max, min, ◌+◌, ◌-◌, ◌*◌, ◌/◌, ◌%◌, ◌^◌, ◌<◌, ◌≤◌, Bool, true, false, not, ◌||◌, ◌&&◌, cond, eqb, ltb, List, ◌++◌, length, take, drop, get_or, refl, sym, ap, inl, inr, arith, ◌∙◌, bit_or, bit_and, replicate, w64, set, lit<}
 use Rattle.std.proofs.Math.Nat.{mod-eq_of_lt, one-mul}
 use Rattle.std.proofs.Math.Pow.{pow-lt}
 use Rattle.std.proofs.lemmas.Bool.{cases_eq, cases_lt, le-ltb, lt-ltb}
@@ -10,7 +10,7 @@ use Rattle.std.proofs.lemmas.Nat.Bits.{bit_at_or, bit_at_and, bit_at_not, bit_at
 use Rattle.std.specs.Int.{bit_at, bit_not}
 use Rattle.bit_rows.specs.Bits.{zip_with, or_bits, and_bits, minus_bits, not_bits}
 use Rattle.bit_rows.specs.Words.{bit_of, bits_of, used_bits, with_bit, FitsWords}
-use Rattle.bit_rows.proofs.Zips.{length-zip_with, get_or-zip_with}
+use Rattle.bit_rows.specs.BitLaws.{length-zip_with, get_or-zip_with}
 
 pub length-bits_of : (n : ℕ) (ws : List ℕ) → length (bits_of n ws) ≡ n
 unfolding bits_of

@@ -1,10 +1,10 @@
 // One row of truth values.
-ghost use Rattle.std.specs.Prelude.{◌≡◌, ℕ, ◌<◌, ◌↔◌, IsTrue, false, IfOk, length, slice_index_or, slice_set, replicate};
+ghost use Rattle.std.specs.Prelude.{◌≡◌, ℕ, ◌<◌, ◌≤◌, ◌↔◌, IsTrue, true, false, IfNone, IfOk, IfSome, length, slice_index_or, slice_set, replicate};
 ghost use Rattle.bit_rows.specs.Bits.{or_bits, and_bits, minus_bits, not_bits};
 
 use crate::Memory;
 use crate::words::{
-    and_words, flip_words, minus_words, or_minus_words, or_words, set_word_bit, word_bit,
+    and_words, flip_words, minus_words, next_set, or_minus_words, or_words, set_word_bit, word_bit,
 };
 use std::alloc::Global;
 use std::marker::Model;
@@ -54,6 +54,20 @@ impl Row {
         ensures { result ≡ slice_index_or self.now bit false }
     {
         word_bit(&self.words, bit)
+    }
+
+    /// The number of the first true bit from number `from` on, and `None` exactly where no bit from there on is true. It
+    /// takes no memory.
+    pub fn next_true(&self, from: usize) -> Option<usize>
+        ensures found { IfSome result (λ bit. (from ≤ bit) × (bit < length self.now) × (slice_index_or self.now bit false ≡ true)) }
+        ensures first { IfSome result (λ bit. (k : ℕ) → from ≤ k → k < bit → slice_index_or self.now k false ≡ false) }
+        ensures none { IfNone result ((k : ℕ) → from ≤ k → k < length self.now → slice_index_or self.now k false ≡ false) }
+    {
+        if from < self.len() {
+            next_set(&self.words, from)
+        } else {
+            None
+        }
     }
 
     /// Sets or clears a bit. It takes no memory.

@@ -43,7 +43,7 @@ impl Rows {
         self.rows.len()
     }
 
-    /// How many bits each row has; where there is no row, how many it would have. It takes no memory.
+    /// How many bits each row has; where there is no row, any number. It takes no memory.
     pub fn bits(&self) -> usize
         ensures { AreEquallyLong result self.now }
     {

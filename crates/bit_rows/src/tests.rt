@@ -25,8 +25,20 @@ struct Sample {
 }
 
 fn noisy(alloc: Global, bits: usize, seed: u64) -> Result<Sample, AllocError> {
-    let plain = noise(alloc, bits, seed)?;
-    let mut row = Row::new(alloc, bits)?;
+    sample_of(alloc, noise(alloc, bits, seed)?)
+}
+
+/// Of these bits the second and the last alone are true.
+fn sparse(alloc: Global, bits: usize) -> Result<Sample, AllocError> {
+    let mut plain = Vec::new(alloc);
+    for bit in 0..bits {
+        plain.push(bit == 1 || bit == bits - 1)?;
+    }
+    sample_of(alloc, plain)
+}
+
+fn sample_of(alloc: Global, plain: Vec<bool>) -> Result<Sample, AllocError> {
+    let mut row = Row::new(alloc, plain.len())?;
     for (bit, value) in plain.iter().enumerate() {
         if bit < row.len() {
             row.set(bit, *value);
@@ -100,6 +112,20 @@ fn and_and_copy_agree(rt: &impl Abort, alloc: Global, bits: usize) -> Result<boo
     Ok(met && differs && is_row(&into.row, &from.plain))
 }
 
+/// Whether the next true bit from each number on is that of the plain list, up to past the end of the words.
+fn next_true_agrees(sample: &Sample) -> bool {
+    (0..200).all(|from| sample.row.next_true(from) == next_of(&sample.plain, from))
+}
+
+fn next_of(plain: &[bool], from: usize) -> Option<usize> {
+    for bit in from..plain.len() {
+        if plain[bit] {
+            return Some(bit);
+        }
+    }
+    None
+}
+
 #[test]
 fn rows_are_lists_of_bool(rt: HostRuntime) -> Result<(), Fail> {
     for bits in [63, 64, 65, 130] {
@@ -107,6 +133,17 @@ fn rows_are_lists_of_bool(rt: HostRuntime) -> Result<(), Fail> {
         assert!(rt; or_minus_agrees(&rt, rt.alloc(), bits)?, "{bits} bits");
         assert!(rt; minus_and_flip_agree(&rt, rt.alloc(), bits)?, "{bits} bits");
         assert!(rt; and_and_copy_agree(&rt, rt.alloc(), bits)?, "{bits} bits");
+    }
+    Ok(())
+}
+
+#[test]
+fn next_true_is_that_of_the_list(rt: HostRuntime) -> Result<(), Fail> {
+    for bits in [63, 64, 65, 130] {
+        let dense = noisy(rt.alloc(), bits, 1)?;
+        let sparse = sparse(rt.alloc(), bits)?;
+        assert!(rt; next_true_agrees(&dense), "{bits} bits");
+        assert!(rt; next_true_agrees(&sparse), "{bits} bits");
     }
     Ok(())
 }

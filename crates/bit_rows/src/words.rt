@@ -1,6 +1,6 @@
 // The passes over words. Each clause says what becomes of one word, or of one bit.
-ghost use Rattle.std.specs.Prelude.{◌≡◌, ℕ, ◌+◌, ◌*◌, ◌/◌, ◌%◌, ◌<◌, ◌↔◌, false, length, slice_index, slice_set, bit_and, bit_or};
-ghost use Rattle.std.specs.Int.{bit_not, w64};
+ghost use Rattle.std.specs.Prelude.{◌≡◌, ℕ, ◌+◌, ◌*◌, ◌/◌, ◌%◌, ◌^◌, ◌<◌, ◌≤◌, ◌↔◌, true, false, IfNone, IfSome, length, slice_index, slice_set, bit_and, bit_or};
+ghost use Rattle.std.specs.Int.{bit_at, bit_not, w64};
 ghost use Rattle.bit_rows.specs.Words.{bit_of, used_bits, with_bit};
 
 /// Each word becomes its disjunction with the other's. It answers whether one changed.
@@ -84,6 +84,38 @@ pub fn word_bit(words: &[u64], bit: usize) -> bool
     ensures { result ≡ bit_of words.now bit }
 {
     (words[bit / 64] >> (bit % 64)) & 1 == 1
+}
+
+/// The lowest set bit of a word from number `from` on.
+fn next_in_word(word: u64, from: usize) -> Option<usize>
+    requires { from < 64 }
+    ensures found { IfSome result (λ bit. (from ≤ bit) × (bit < 64) × (bit_at word bit ≡ 1)) }
+    ensures first { IfSome result (λ bit. (i : ℕ) → from ≤ i → i < bit → bit_at word i ≡ 0) }
+    ensures none { IfNone result ((i : ℕ) → from ≤ i → i < 64 → bit_at word i ≡ 0) }
+{
+    let rest = word >> from;
+    if rest == 0 {
+        None
+    } else {
+        Some(from + rest.trailing_zeros() as usize)
+    }
+}
+
+/// The first set bit of the words from number `from` on. Words that are 0 are passed over.
+pub fn next_set(words: &[u64], from: usize) -> Option<usize>
+    requires { 64 * length words.now ≤ 2 ^ 64 }
+    ensures found { IfSome result (λ bit. (from ≤ bit) × (bit < 64 * length words.now) × (bit_of words.now bit ≡ true)) }
+    ensures first { IfSome result (λ bit. (k : ℕ) → from ≤ k → k < bit → bit_of words.now k ≡ false) }
+    ensures none { IfNone result ((k : ℕ) → from ≤ k → k < 64 * length words.now → bit_of words.now k ≡ false) }
+{
+    let mut start = from % 64;
+    for i in from / 64..words.len() {
+        if let Some(bit) = next_in_word(words[i], start) {
+            return Some(64 * i + bit);
+        }
+        start = 0;
+    }
+    None
 }
 
 /// Sets or clears a bit of the words.

@@ -1,4 +1,4 @@
-use Rattle.std.proofs.Common.{◌≡◌, ◌^◌, ◌<◌, false, get_or, inl, inr, ap, arith, Fits, w64}
+use Rattle.std.proofs.Common.{◌≡◌, false, get_or, inl, inr, ap}
 use Rattle.std.proofs.lemmas.Bool.{cases_Bool}
 use Rattle.std.proofs.lemmas.List.{ext_get_or}
 use Rattle.bit_rows.proofs.words.or_minus_words.Goals as goal

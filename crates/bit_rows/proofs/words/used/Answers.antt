@@ -1,4 +1,4 @@
-use Rattle.std.proofs.Common.{◌≡◌, ◌-◌, ◌*◌, ◌^◌, ◌≤◌, min, ap, arith, ◌∙◌}
+use Rattle.std.proofs.Common.{◌≡◌, ◌-◌, ◌*◌, ◌^◌, min, ap, arith, ◌∙◌}
 use Rattle.std.proofs.lemmas.Nat.Bits.{ones_shr}
 use Rattle.bit_rows.proofs.words.used.Goals as goal
 

@@ -1,4 +1,4 @@
-use Rattle.std.proofs.Common.{◌≡◌, length, refl, sym, ap, ◌∙◌}
+use Rattle.std.proofs.Common.{length, refl, sym, ap, ◌∙◌}
 use Rattle.bit_rows.specs.Words.{bits_of}
 use Rattle.bit_rows.proofs.Ops.{lent, words_long}
 use Rattle.bit_rows.proofs.Views.{Holds}

@@ -1,4 +1,4 @@
-use Rattle.std.proofs.Common.{◌≡◌, ◌+◌, ◌*◌, ◌/◌, ◌<◌, ◌++◌, length, take, drop, arith, sym, ◌∙◌}
+use Rattle.std.proofs.Common.{◌++◌, length, take, drop, sym, ◌∙◌}
 use Rattle.bit_rows.specs.Bits.{not_bits}
 use Rattle.bit_rows.proofs.Ops.{bits_are, flipped}
 use Rattle.bit_rows.proofs.Views.{Holds, length-bits_of}

@@ -1,4 +1,4 @@
-use Rattle.std.proofs.Common.{◌≡◌, ◌+◌, ◌/◌, ◌%◌, ◌∙◌, min, replicate, false, arith}
+use Rattle.std.proofs.Common.{◌≡◌, ◌+◌, ◌/◌, ◌%◌, min, replicate, false, arith}
 use Rattle.bit_rows.proofs.Views.{Holds, zeros_hold}
 use Rattle.bit_rows.proofs.row.Row.new.Goals as goal
 use Rattle.bit_rows.proofs.row.Row.new.Goals.{In_ok-vec}
