@@ -49,8 +49,8 @@ fn enlist(waiting: &mut Links, node: usize, wanted: bool)
     }
 }
 
-/// Puts each node into the list.
-pub(crate) fn enlist_all(waiting: &mut Links, nodes: usize)
+/// Puts each node into the list, in ascending order.
+fn enlist_up(waiting: &mut Links, nodes: usize)
     requires one_list { IsOneList waiting.old }
     requires nodes { waiting.old.nodes ≡ nodes }
     ensures one_list { IsOneList waiting.new }
@@ -60,6 +60,50 @@ pub(crate) fn enlist_all(waiting: &mut Links, nodes: usize)
     for node in 0..nodes {
         enlist(waiting, node, true);
     }
+}
+
+/// Puts each node into the list, in descending order.
+fn enlist_down(waiting: &mut Links, nodes: usize)
+    requires one_list { IsOneList waiting.old }
+    requires nodes { waiting.old.nodes ≡ nodes }
+    ensures one_list { IsOneList waiting.new }
+    ensures nodes { waiting.new.nodes ≡ nodes }
+    ensures all { (n : ℕ) → n < nodes → is_listed waiting.new.lists n ≡ true }
+{
+    for place in 0..nodes {
+        enlist(waiting, nodes - 1 - place, true);
+    }
+}
+
+/// Puts each node into the list, in ascending or in descending order.
+pub(crate) fn enlist_all(waiting: &mut Links, nodes: usize, down: bool)
+    requires one_list { IsOneList waiting.old }
+    requires nodes { waiting.old.nodes ≡ nodes }
+    ensures one_list { IsOneList waiting.new }
+    ensures nodes { waiting.new.nodes ≡ nodes }
+    ensures all { (n : ℕ) → n < nodes → is_listed waiting.new.lists n ≡ true }
+{
+    if down {
+        enlist_down(waiting, nodes);
+    } else {
+        enlist_up(waiting, nodes);
+    }
+}
+
+/// Whether most edges lead to a node with a lower number, as those of a flow against the order of a program do. Then the
+/// nodes are better visited in descending order: fewer are visited twice.
+pub(crate) fn leads_down<F: Flow>(flow: &F) -> bool
+    requires { F.valid flow.now }
+{
+    let edges = flow.edges();
+    let mut down = 0;
+    for number in 0..edges {
+        let (source, target) = flow.edge(number);
+        if target < source {
+            down += 1;
+        }
+    }
+    edges - down < down
 }
 
 /// Pushes along each edge that leaves a node, which was taken from the list, and lists the targets that changed.

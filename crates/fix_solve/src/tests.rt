@@ -110,7 +110,7 @@ fn solved<L: Ledger>(alloc: Global, nodes: usize, blank: Blank) -> Result<(u64, 
 fn pushes_keep_the_bound(rt: HostRuntime) -> Result<(), Fail> {
     let (pushes, count) = solved::<Brand>(rt.alloc(), 300, Blank::new(1))?;
     assert_eq!(rt; count, 300);
-    assert_eq!(rt; pushes, 599);
+    assert_eq!(rt; pushes, 300);
     Ok(())
 }
 

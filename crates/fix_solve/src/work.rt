@@ -2,7 +2,7 @@
 ghost use Rattle.std.specs.Prelude.{◌≡◌, ℕ, ◌+◌, ◌*◌, ◌<◌, ◌≤◌, IfOk, length, slice_index_or};
 ghost use Rattle.fix_solve.specs.Net.{Net, value_at, HoldsFirst, IsLeastSolution};
 
-use crate::pushes::{drain, enlist_all};
+use crate::pushes::{drain, enlist_all, leads_down};
 use crate::{Flow, Lattice, Memory, Steps};
 use node_list::Links;
 use std::alloc::Global;
@@ -65,6 +65,7 @@ pub fn solve<F: Flow>(work: &mut Work<F::Value>, flow: &F, steps: &mut Steps<F::
     ensures least { IsLeastSolution F.Value.below (F.net flow.now) (value_at (F.net flow.now) work.new) }
     ensures pushes { steps.new ≤ steps.old + (F.net flow.now).edges * ((F.net flow.now).height + 1) }
 {
-    enlist_all(&mut work.waiting, work.values.len());
+    let down = leads_down(flow);
+    enlist_all(&mut work.waiting, work.values.len(), down);
     drain(&mut work.values, &mut work.waiting, flow, steps);
 }
