@@ -1,11 +1,11 @@
 -- A bit of the rows that the complements are solved by, and of their answers.
 use Rattle.std.proofs.Common.{◌≡◌, ℕ, ◌<◌, Bool, true, false, not, ◌||◌, ◌&&◌, List, length, get_or, refl, sym, ap, ◌∙◌}
+use Rattle.bit_rows.specs.BitLaws.{minus_bit, not_bit, or_bit}
 use Rattle.bit_rows.specs.Bits.{minus_bits, not_bits, or_bits, row_of}
 use Rattle.flow_graph.specs.declared.nodes.Node.{Node}
 use Rattle.path_laws.specs.Paths.{AreRows, has_bit}
 use Rattle.path_laws.specs.Seeds.{ending_row, is_end}
-use Rattle.path_laws.proofs.RowBits.{minus_bit}
-use Rattle.path_laws.proofs.Rowwise.{ending_bit, length-ending, not_row, or_row}
+use Rattle.path_laws.proofs.Rowwise.{ending_bit, length-ending}
 
 module _ (against : Bool) (nodes : List Node) (bits : ℕ) (born stop : List (List Bool)) (born_rows : AreRows (length nodes) bits born) (stop_rows : AreRows (length nodes) bits stop) (b : ℕ) (b_in : b < bits) where
   pub seed_bit : (rows : List (List Bool)) → ((n : ℕ) → n < length nodes → row_of rows n ≡ minus_bits (ending_row against nodes (row_of stop n) n) (row_of born n))
@@ -18,11 +18,11 @@ module _ (against : Bool) (nodes : List Node) (bits : ℕ) (born stop : List (Li
 
   pub block_bit : (rows : List (List Bool)) → ((n : ℕ) → n < length nodes → row_of rows n ≡ or_bits (row_of born n) (row_of stop n))
       → (n : ℕ) → n < length nodes → has_bit rows b n ≡ (has_bit born b n || has_bit stop b n)
-  block_bit rows are n h = ap (λ (xs : List Bool). get_or xs b false) (are n h) ∙ or_row (row_of born n) (row_of stop n) b (born_rows.each n h ∙ sym (stop_rows.each n h))
+  block_bit rows are n h = ap (λ (xs : List Bool). get_or xs b false) (are n h) ∙ or_bit (row_of born n) (row_of stop n) b (born_rows.each n h ∙ sym (stop_rows.each n h))
 
 -- an answer's bit is the other one
 pub flipped_bit : (rows from : List (List Bool)) (b n : ℕ) → row_of rows n ≡ not_bits (row_of from n) → b < length (row_of from n) → has_bit rows b n ≡ not (has_bit from b n)
-flipped_bit rows from b n is h = ap (λ (xs : List Bool). get_or xs b false) is ∙ not_row (row_of from n) b h
+flipped_bit rows from b n is h = ap (λ (xs : List Bool). get_or xs b false) is ∙ not_bit (row_of from n) b h
 
 pub none_from_on : (a c : Bool) (P : Type 0) → a ≡ not c → (P → c ≡ true) → a ≡ true → P → ⊥
 none_from_on a true P is given on p = absurd (cc)

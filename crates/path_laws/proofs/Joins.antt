@@ -3,6 +3,7 @@ use Rattle.std.proofs.Common.{◌≡◌, ◌≢◌, ℕ, ◌+◌, ◌<◌, ◌�
 use Rattle.std.proofs.lemmas.Bool.{cases_eq}
 use Rattle.std.proofs.lemmas.List.{get_or-set_same, get_or-set_other, length-set}
 use Rattle.std.proofs.lemmas.Option.{get_or_from_slice_get, slice_get_within, slice_get-get_or}
+use Rattle.bit_rows.specs.BitLaws.{length-or, or_bit}
 use Rattle.bit_rows.specs.Bits.{or_bits, row_of}
 use Rattle.flow_graph.specs.declared.edges.Edge.{Edge}
 use Rattle.flow_graph.specs.declared.nodes.Node.{Node}
@@ -10,9 +11,7 @@ use Rattle.flow_graph.specs.EdgeLaws.{edge_is, edge_number}
 use Rattle.flow_graph.specs.Edges.{edges_from, first_leaving}
 use Rattle.flow_graph.specs.Paths.{HasEdge}
 use Rattle.path_laws.specs.Nets.{edge_at}
-use Rattle.path_laws.specs.Paths.{AreRows, has_bit}
-use Rattle.path_laws.specs.Seeds.{SomePred}
-use Rattle.path_laws.proofs.Rowwise.{length-or, or_row}
+use Rattle.path_laws.specs.Paths.{AreRows, SomePred, has_bit}
 
 or_parts : (a b : Bool) → (a || b) ≡ true → (a ≡ true) ⊎ (b ≡ true)
 or_parts true b h = inl refl
@@ -45,7 +44,7 @@ module _ (count bits : ℕ) (rows all after : List (List Bool)) (number : ℕ) (
   other n d = rw is (get_or-set_other all t n (or_bits (row_of all t) (row_of rows s)) [] d)
 
   bit_here : (b : ℕ) → has_bit after b t ≡ (has_bit all b t || has_bit rows b s)
-  bit_here b = ap (λ (xs : List Bool). get_or xs b false) here ∙ or_row (row_of all t) (row_of rows s) b long
+  bit_here b = ap (λ (xs : List Bool). get_or xs b false) here ∙ or_bit (row_of all t) (row_of rows s) b long
 
   bit_other : (n b : ℕ) → n ≢ t → has_bit after b n ≡ has_bit all b n
   bit_other n b d = ap (λ (xs : List Bool). get_or xs b false) (other n d)

@@ -4,6 +4,7 @@ use Rattle.std.proofs.lemmas.Bool.{cases_eq}
 use Rattle.std.proofs.lemmas.List.{length-set, get_or_default}
 use Rattle.std.proofs.lemmas.Option.{slice_get_within, slice_get-get_or, slice_get-map, get_or_from_slice_get}
 use Rattle.fix_solve.specs.Net.{Solves, IsLeastSolution, value_at}
+use Rattle.bit_rows.specs.BitLaws.{length-minus, minus_bit}
 use Rattle.bit_rows.specs.Bits.{minus_bits, row_of}
 use Rattle.flow_graph.specs.declared.edges.Edge.{Edge}
 use Rattle.flow_graph.specs.declared.nodes.Node.{Node}
@@ -14,7 +15,7 @@ use Rattle.path_laws.specs.Leads.{Leads, at_seed, one_more, steps_of}
 use Rattle.path_laws.specs.Nets.{IsBitFlow, bit_flow, edge_at, flow_edges, turned}
 use Rattle.path_laws.specs.NetsLaws.{flow_edges_are, turned_from}
 use Rattle.path_laws.specs.Order.{BelowBits}
-use Rattle.path_laws.specs.OrderLaws.{below_length, length-minus}
+use Rattle.path_laws.specs.OrderLaws.{below_length}
 use Rattle.path_laws.specs.Paths.{has_bit}
 use Rattle.path_laws.proofs.BitNets.{BitNet, BitLaws, BitSolves, BitLeast}
 use Rattle.path_laws.proofs.Induction.{least_holds}
@@ -31,12 +32,6 @@ below_from_bits [] [] e h = tt
 below_from_bits [] (y ∷ ys) e h = absurd (omega (arith, e))
 below_from_bits (x ∷ xs) [] e h = absurd (omega (arith, e))
 below_from_bits (x ∷ xs) (y ∷ ys) e h = (h zero, below_from_bits xs ys (let e' : suc (length xs) ≡ suc (length ys) = e in omega arith) (λ k. h (suc k)))
-
-pub minus_bit : (xs ys : List Bool) (k : ℕ) → length xs ≡ length ys → get_or (minus_bits xs ys) k false ≡ (get_or xs k false && not (get_or ys k false))
-minus_bit [] ys k e = refl
-minus_bit (x ∷ xs) [] k e = absurd (omega (arith, e))
-minus_bit (x ∷ xs) (y ∷ ys) zero e = refl
-minus_bit (x ∷ xs) (y ∷ ys) (suc k) e = minus_bit xs ys k (let e' : suc (length xs) ≡ suc (length ys) = e in omega arith)
 
 and_parts : (a b : Bool) → (a && b) ≡ true → (a ≡ true) × (b ≡ true)
 and_parts true b h = (refl, h)

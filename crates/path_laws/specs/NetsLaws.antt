@@ -4,6 +4,7 @@ use Rattle.std.proofs.Common.{zero, sym, ap, ◌∙◌, arith, option_map}
 use Rattle.std.proofs.lemmas.List.{length-map}
 use Rattle.std.proofs.lemmas.Option.{slice_get-get_or, slice_get-map}
 use Rattle.fix_solve.specs.Net.{NetLaws}
+use Rattle.bit_rows.specs.BitLaws.{length-minus}
 use Rattle.bit_rows.specs.Bits.{row_of}
 use Rattle.flow_graph.specs.declared.edges.Edge.{Edge}
 use Rattle.flow_graph.specs.declared.nodes.Node.{Node}
@@ -12,7 +13,7 @@ use Rattle.flow_graph.specs.EdgeLaws.{all_by_target, by_target_from, edge_is, en
 use Rattle.flow_graph.specs.Graphs.{AllWithin, IsEdge}
 use Rattle.path_laws.specs.Nets.{IsBitFlow, bit_flow, edge_at, first_out, flow_edges, turned}
 use Rattle.path_laws.specs.Order.{BelowBits, trues}
-use Rattle.path_laws.specs.OrderLaws.{length-minus, minus_mono, trues_le}
+use Rattle.path_laws.specs.OrderLaws.{minus_mono, trues_le}
 
 -- the edges of a flow lead from node to node, and those of one node stand together
 pub record AreFlowEdges (nodes : ℕ) (edges : List Edge) (first : ℕ → ℕ) : Type 0 where

@@ -2,6 +2,7 @@
 use Rattle.std.specs.Prelude.{◌≡◌, ◌≢◌, ◌+◌, ◌<◌, ◌≤◌, Bool, true, false, not, ◌||◌, ◌&&◌, cond, List, [], ◌∷◌, length, refl}
 use Rattle.std.proofs.Common.{suc, sym, ap, ◌∙◌, ◌⊎◌, inl, inr, arith}
 use Rattle.fix_solve.specs.Order.{OrderLaws, IsLeastUpper}
+use Rattle.bit_rows.specs.BitLaws.{length-minus}
 use Rattle.bit_rows.specs.Bits.{or_bits, minus_bits}
 use Rattle.path_laws.specs.Order.{BelowBits, trues}
 
@@ -101,11 +102,6 @@ or_joins xs ys e = record {
   right = below_or_right xs ys e;
   least = below_or_least xs ys;
 }
-
-pub length-minus : (xs ys : List Bool) → length xs ≡ length ys → length (minus_bits xs ys) ≡ length xs
-length-minus [] ys e = refl
-length-minus (x ∷ xs) [] e = absurd (omega (arith, e))
-length-minus (x ∷ xs) (y ∷ ys) e = ap suc (length-minus xs ys (let e' : suc (length xs) ≡ suc (length ys) = e in omega arith))
 
 minus_up : (x y s : Bool) → (x ≡ true → y ≡ true) → (x && not s) ≡ true → (y && not s) ≡ true
 minus_up true y s p h = rw (p refl) h

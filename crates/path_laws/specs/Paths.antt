@@ -2,7 +2,7 @@
 use Rattle.std.specs.Prelude.{◌≡◌, ℕ, ◌<◌, ◌⊎◌, Bool, true, false, List, [], ◌∷◌, length, slice_index_or}
 use Rattle.bit_rows.specs.Bits.{row_of}
 use Rattle.flow_graph.specs.declared.nodes.Node.{Node}
-use Rattle.flow_graph.specs.Paths.{Begins, IsPath, IsReturnAt, Trace}
+use Rattle.flow_graph.specs.Paths.{Begins, HasEdge, IsPath, IsReturnAt, Trace}
 
 -- whether the row of a node has a bit
 abbrev pub has_bit : List (List Bool) → ℕ → ℕ → Bool
@@ -59,3 +59,9 @@ pub record BornAhead (nodes : List Node) (born stop : ℕ → Bool) (n : ℕ) : 
   pub is_path : IsPath nodes path
   pub begins : Begins n path
   pub ends : EndsBorn born stop path
+
+-- ---- at a predecessor
+
+-- some predecessor of node n has the bit
+abbrev pub SomePred : List Node → List (List Bool) → ℕ → ℕ → Type 0
+SomePred nodes rows bit n = (m : ℕ) × HasEdge nodes m n × (has_bit rows bit m ≡ true)

@@ -5,8 +5,8 @@ ghost use Rattle.flow_graph.specs.Paths.{is_return};
 ghost use Rattle.flow_graph.specs.Edges.{edges_of};
 ghost use Rattle.flow_graph.specs.Graphs.{IsGraph};
 ghost use Rattle.path_laws.specs.Leads.{Leads, steps_of};
-ghost use Rattle.path_laws.specs.Paths.{AreRows, has_bit, width};
-ghost use Rattle.path_laws.specs.Seeds.{SomePred, ending_row, is_end};
+ghost use Rattle.path_laws.specs.Paths.{AreRows, SomePred, has_bit, width};
+ghost use Rattle.path_laws.specs.Seeds.{ending_row, is_end};
 
 use crate::bits::{BitFlow, Bits, least};
 use bit_rows::{Row, Rows};
@@ -161,13 +161,9 @@ pub(crate) fn either(alloc: Global, graph: &Graph, born: &Rows, stop: &Rows) -> 
     Ok(rows)
 }
 
-/// The disjunction of the rows of each node's predecessors.
-pub(crate) fn joined(
-    alloc: Global,
-    graph: &Graph,
-    edges: &Edges,
-    rows: &Rows,
-) -> Result<Rows, Memory>
+/// Bit b at node n is true exactly where some predecessor of n has it. Rows go by nodes, and have equally many bits;
+/// `edges` are those of `graph`. Its only refusal is want of memory.
+pub fn joined(alloc: Global, graph: &Graph, edges: &Edges, rows: &Rows) -> Result<Rows, Memory>
     requires edges { edges.now ≡ edges_of graph.now.nodes }
     requires rows { AreRows (length graph.now.nodes) (width rows.now) rows.now }
     ensures shape { IfOk result (λ all. AreRows (length graph.now.nodes) (width rows.now) all) }

@@ -8,5 +8,8 @@
 mod answers;
 mod bits;
 mod calls;
+#[cfg(test)]
+mod tests;
 
+pub use answers::joined;
 pub use calls::{backward_all, backward_some, forward_all};

@@ -1,7 +1,8 @@
 use Rattle.std.proofs.Common.{◌≡◌, ◌<◌, List, Bool, length, sym, inl, inr, arith, ◌∙◌}
 use Rattle.std.proofs.lemmas.Bool.{cases_eq}
+use Rattle.bit_rows.specs.BitLaws.{length-or}
 use Rattle.bit_rows.specs.Bits.{or_bits, row_of}
-use Rattle.path_laws.proofs.Rowwise.{Written, length-or, written, written_shape}
+use Rattle.path_laws.specs.RowLaws.{Written, written, written_shape}
 use Rattle.path_laws.proofs.answers.either.Goals as goal
 use Rattle.path_laws.proofs.answers.either.Goals.{After-or_into}
 

@@ -1,10 +1,11 @@
 use Rattle.std.proofs.Common.{◌≡◌, ◌<◌, List, Bool, length, sym, inl, inr, arith, ◌∙◌}
 use Rattle.std.proofs.lemmas.Bool.{cases_eq}
 use Rattle.std.proofs.lemmas.Option.{slice_get_within}
+use Rattle.bit_rows.specs.BitLaws.{length-minus}
 use Rattle.bit_rows.specs.Bits.{minus_bits, row_of}
-use Rattle.path_laws.specs.OrderLaws.{length-minus}
+use Rattle.path_laws.specs.RowLaws.{Written, written, written_shape}
 use Rattle.path_laws.specs.Seeds.{ending_row, is_end}
-use Rattle.path_laws.proofs.Rowwise.{Written, length-ending, written, written_shape}
+use Rattle.path_laws.proofs.Rowwise.{length-ending}
 use Rattle.path_laws.proofs.answers.ends_unmet.Goals as goal
 use Rattle.path_laws.proofs.answers.ends_unmet.Goals.{After-minus_into}
 

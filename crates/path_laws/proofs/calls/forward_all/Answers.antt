@@ -1,8 +1,7 @@
 use Rattle.std.proofs.Common.{◌≡◌, ◌<◌, ◌≤◌, Bool, List, get_or, false, inl, inr, sym, ap, subst, arith, ◌∙◌}
 use Rattle.std.proofs.lemmas.Bool.{cases_eq}
 use Rattle.path_laws.specs.NetsLaws.{node_within}
-use Rattle.path_laws.specs.Paths.{BornBefore, has_bit, width}
-use Rattle.path_laws.specs.Seeds.{SomePred}
+use Rattle.path_laws.specs.Paths.{BornBefore, SomePred, has_bit, width}
 use Rattle.path_laws.proofs.Complements.{flipped_bit, none_from_on, on_from_none, seed_bit}
 use Rattle.path_laws.proofs.Ways.{before_from_none, none_from_before, not_at_start}
 use Rattle.path_laws.proofs.calls.forward_all.Goals as goal
