@@ -1,0 +1,4 @@
+pub mod Targets
+pub mod Through
+pub mod Passing
+pub mod Splits

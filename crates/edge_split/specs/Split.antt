@@ -1,0 +1,54 @@
+-- The split graph: a new Skip on each edge that enters a node with more than one entering edge.
+use Rattle.std.specs.Prelude.{◌≡◌, ℕ, suc, ◌+◌, Bool, cond, nat_lt, filter, List, [], ◌∷◌, ◌++◌, length, map}
+use Rattle.flow_graph.specs.declared.edges.Edge.{Edge}
+use Rattle.flow_graph.specs.declared.nodes.Node.{Node}
+use Rattle.flow_graph.specs.declared.nodes.Node.TheVariants.{Start, Skip, Assign, Print, Call, Test}
+use Rattle.flow_graph.specs.Edges.{edges_from, preds_among}
+use Rattle.flow_graph.specs.Graphs.{GraphShape, node_succs}
+
+-- more than one of these edges enters node s
+abbrev pub is_entered_twice : List Edge → ℕ → Bool
+is_entered_twice edges s = nat_lt 1 (length (preds_among s edges))
+
+-- more than one edge enters node s
+abbrev pub is_join : List Node → ℕ → Bool
+is_join nodes = is_entered_twice (edges_from 0 nodes)
+
+-- the edges that enter joins, in the order of source and then of successor slot
+abbrev pub joining : List Node → List Edge
+joining nodes = filter (λ edge. is_join nodes edge.target) (edges_from 0 nodes)
+
+-- of these successors, those that are joins
+abbrev pub joins_among : (ℕ → Bool) → List ℕ → List ℕ
+joins_among join succs = filter join succs
+
+-- each successor that is a join gives way to a new Skip; the new Skips are numbered from k on
+abbrev pub through : (ℕ → Bool) → ℕ → List ℕ → List ℕ
+through join k [] = []
+through join k (s ∷ succs) = cond (join s) (k ∷ through join (suc k) succs) (s ∷ through join k succs)
+
+-- the node with these successors
+abbrev pub with_succs : Node → List ℕ → Node
+with_succs (Start next) (a ∷ _) = Start a
+with_succs (Skip next) (a ∷ _) = Skip a
+with_succs (Assign x rhs next) (a ∷ _) = Assign x rhs a
+with_succs (Print b next) (a ∷ _) = Print b a
+with_succs (Call into unit operands next) (a ∷ _) = Call into unit operands a
+with_succs (Test test taken other) (a ∷ b ∷ _) = Test test a b
+with_succs node _ = node
+
+-- the nodes whose edges into joins lead to new Skips, numbered from k on in the order of the edges
+abbrev pub rerouted : (ℕ → Bool) → ℕ → List Node → List Node
+rerouted join k [] = []
+rerouted join k (node ∷ nodes) = with_succs node (through join k (node_succs node)) ∷ rerouted join (k + length (joins_among join (node_succs node))) nodes
+
+-- and after them the new Skips, one for each edge into a join
+abbrev pub split_nodes : List Node → List Node
+split_nodes nodes = rerouted (is_join nodes) (length nodes) nodes ++ map (λ edge. Skip edge.target) (joining nodes)
+
+-- the graph with new Skips, in which old nodes keep their numbers
+pub record IsEdgeSplit (graph result : GraphShape) : Type 0 where
+  pub name_is : result.name ≡ graph.name
+  pub vars_are : result.vars ≡ graph.vars
+  pub received_are : result.received ≡ graph.received
+  pub nodes_are : result.nodes ≡ split_nodes graph.nodes

@@ -1,0 +1,108 @@
+// The split graph.
+ghost use Rattle.std.specs.Prelude.{◌≡◌, ℕ, ◌+◌, ◌^◌, ◌<◌, ◌++◌, [], ◌∷◌, length, map, IfOk, OnOk};
+ghost use Rattle.mir_base.specs.Shapes.{AllBelow};
+ghost use Rattle.mir_base.specs.UnitRuns.{UnitCheaper, UnitSame};
+ghost use Rattle.flow_graph.specs.declared.nodes.Node.TheVariants.{Skip};
+ghost use Rattle.flow_graph.specs.Calls.{NodesCall};
+ghost use Rattle.flow_graph.specs.Edges.{edges_of, IsSplit};
+ghost use Rattle.flow_graph.specs.Graphs.{IsGraph, node_succs};
+ghost use Rattle.flow_graph.specs.Machines.{machine_of};
+ghost use Rattle.edge_split.specs.Split.{IsEdgeSplit, is_entered_twice, joins_among, split_nodes, through, with_succs};
+
+use flow_graph::{Edges, Graph, Node};
+use mir_base::Memory;
+use std::alloc::Global;
+
+/// The split graph: for each edge that enters a node with more than one entering edge, in the order of source and then of
+/// successor slot, a new Skip is put on the edge. The new Skips take the next numbers, and old nodes keep theirs. The time
+/// is linear in nodes and edges. Its only refusal is want of memory.
+pub fn split(alloc: Global, graph: &Graph) -> Result<Graph, Memory>
+    ensures exact { IfOk result (λ made. IsEdgeSplit graph.now made) }
+    ensures split { IfOk result (λ made. IsSplit made.nodes) }
+    ensures same { IfOk result (λ made. UnitSame (machine_of graph.now) (machine_of made)) }
+    ensures cheaper { IfOk result (λ made. UnitCheaper (machine_of graph.now) (machine_of made)) }
+
+    // it makes no calls but those of the graph
+    ensures calls { IfOk result (λ made. (called count : ℕ) → NodesCall made.nodes called count → NodesCall graph.now.nodes called count) }
+{
+    let nodes = all_nodes(alloc, graph)?;
+    let extra = Vec::new(alloc);
+    let made = graph.with_nodes(alloc, extra, nodes)?;
+    Ok(made)
+}
+
+/// The nodes of the split graph: the old ones, and after them the new Skips.
+fn all_nodes(alloc: Global, graph: &Graph) -> Result<Vec<Node>, Memory>
+    ensures are { IfOk result (λ nodes. nodes.items ≡ split_nodes graph.now.nodes) }
+    ensures graph { IsGraph graph.now.vars graph.now.received graph.now.nodes }
+{
+    let old = graph.nodes();
+    let mut skips = NewSkips {
+        edges: Edges::of(alloc, graph)?,
+        first: old.len(),
+        made: Vec::new(alloc),
+    };
+    let mut nodes = Vec::new(alloc);
+    for node in old {
+        let rerouted = skips.reroute(node)?;
+        nodes.push(rerouted)?;
+    }
+    nodes.append(&mut skips.made)?;
+    Ok(nodes)
+}
+
+/// The new Skips, which are made in the order of the edges.
+#[derive(Drop)]
+struct NewSkips {
+    /// The edges of the old graph.
+    edges: Edges,
+    /// The number of the first new Skip.
+    first: usize,
+    /// The new Skips so far.
+    made: Vec<Node>,
+}
+
+impl NewSkips {
+    /// The node, of whose edges each that enters a join goes through a new Skip.
+    fn reroute(&mut self, node: &Node) -> Result<Node, Memory>
+        requires within { AllBelow self.old.edges.nodes (node_succs node.now) }
+        requires room { self.old.first < 2 ^ 63 }
+        ensures edges { self.new.edges ≡ self.old.edges }
+        ensures first { self.new.first ≡ self.old.first }
+        ensures made { OnOk result (self.new.made.items ≡ self.old.made.items ++ map Skip (joins_among (is_entered_twice self.old.edges.edges) (node_succs node.now))) }
+        ensures node { IfOk result (λ rerouted. rerouted ≡ with_succs node.now (through (is_entered_twice self.old.edges.edges) (self.old.first + length self.old.made.items) (node_succs node.now))) }
+    {
+        Ok(match node {
+            Node::Start(next) => Node::Start(self.entry(*next)?),
+            Node::Skip(next) => Node::Skip(self.entry(*next)?),
+            Node::Assign(x, rhs, next) => Node::Assign(*x, *rhs, self.entry(*next)?),
+            Node::Print(a, next) => Node::Print(*a, self.entry(*next)?),
+            Node::Call(into, unit, args, next) => {
+                Node::Call(*into, *unit, args.clone()?, self.entry(*next)?)
+            }
+            Node::Test(test, taken, other) => {
+                let taken = self.entry(*taken)?;
+                Node::Test(*test, taken, self.entry(*other)?)
+            }
+            Node::Return(a) => Node::Return(*a),
+        })
+    }
+
+    /// Where an edge to this target leads: to a new Skip where the target is a join.
+    fn entry(&mut self, target: usize) -> Result<usize, Memory>
+        requires within { target < self.old.edges.nodes }
+        requires room { self.old.first < 2 ^ 63 }
+        ensures edges { self.new.edges ≡ self.old.edges }
+        ensures first { self.new.first ≡ self.old.first }
+        ensures made { OnOk result (self.new.made.items ≡ self.old.made.items ++ map Skip (joins_among (is_entered_twice self.old.edges.edges) (target ∷ []))) }
+        ensures entry { IfOk result (λ entry. entry ∷ [] ≡ through (is_entered_twice self.old.edges.edges) (self.old.first + length self.old.made.items) (target ∷ [])) }
+    {
+        if self.edges.preds(target).len() > 1 {
+            let entry = self.first + self.made.len();
+            self.made.push(Node::Skip(target))?;
+            Ok(entry)
+        } else {
+            Ok(target)
+        }
+    }
+}
