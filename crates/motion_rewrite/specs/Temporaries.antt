@@ -1,0 +1,39 @@
+-- The temporaries of a placement: which expressions have one, its number and its name.
+use Rattle.std.specs.Prelude.{◌≡◌, ℕ, zero, suc, ◌+◌, ◌<◌, ◌≤◌, Bool, false, cond, ◌||◌, List, [], ◌∷◌, ◌++◌, length, slice_get, Some, take, Contains, codes, decimal}
+use Rattle.path_laws.specs.Paths.{has_bit}
+
+-- ---- numbers
+
+-- some row has the bit
+abbrev pub has_insertion : List (List Bool) → ℕ → Bool
+has_insertion [] i = false
+has_insertion (row ∷ rows) i = has_bit (row ∷ []) i 0 || has_insertion rows i
+
+-- how many expressions before number i have an insertion
+abbrev pub temporaries_before : List (List Bool) → ℕ → ℕ
+temporaries_before rows zero = 0
+temporaries_before rows (suc i) = temporaries_before rows i + cond (has_insertion rows i) 1 0
+
+-- the temporary of expression i, where the graph has so many variables: each expression with an insertion has the next
+-- number, in the order of the table
+abbrev pub temporary : ℕ → List (List Bool) → ℕ → ℕ
+temporary vars rows i = vars + temporaries_before rows i
+
+-- ---- names
+
+-- `h` and the number
+abbrev pub temporary_name : ℕ → List ℕ
+temporary_name number = codes "h" ++ decimal number
+
+-- the name has the least number from 1 on that makes a name which is not among these
+pub record IsNextName (names : List (List ℕ)) (name : List ℕ) : Type 0 where
+  pub number : ℕ
+  pub positive : 1 ≤ number
+  pub spelled : name ≡ temporary_name number
+  pub fresh : Contains names name → ⊥
+  pub least : (smaller : ℕ) → 1 ≤ smaller → smaller < number → Contains names (temporary_name smaller)
+
+-- the names of so many temporaries of a graph whose variables have the names `vars`
+pub record AreTemporaryNames (vars : List (List ℕ)) (count : ℕ) (names : List (List ℕ)) : Type 0 where
+  pub long : length names ≡ count
+  pub each : (k : ℕ) (name : List ℕ) → slice_get names k ≡ Some name → IsNextName (vars ++ take k names) name

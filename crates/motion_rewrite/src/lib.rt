@@ -1,0 +1,30 @@
+//! Rewriting a graph by a placement of evaluations.
+//!
+//! In go a graph, a table of expressions, and a placement, which says before which nodes each expression is evaluated into
+//! its temporary and which of its uses read the temporary; out comes the rewritten graph. `specs/` defines what a node
+//! does with an expression, where an expression is available and anticipatable, and which placements are admissible and
+//! optimal.
+//!
+//! The theorem that this crate carries is the contract of `flatten`: for every admissible placement of movable
+//! expressions, whoever made it, the result does the same as the graph, and on the path over each full path each
+//! expression is evaluated as often as the placement counts.
+#![tactic(auto)]
+
+mod flattening;
+mod inserting;
+mod naming;
+mod olds;
+mod placement;
+mod rows;
+mod table;
+mod temporaries;
+#[cfg(test)]
+mod tests;
+
+pub use flattening::flatten;
+pub use placement::Placement;
+pub use rows::{kill_rows, use_rows};
+pub use table::{ExprTable, exprs};
+
+/// Want of memory: the allocator refused.
+pub type Memory = std::alloc::AllocError;

@@ -1,0 +1,78 @@
+// The names of the temporaries.
+ghost use Rattle.std.specs.Prelude.{◌≡◌, ℕ, ◌↔◌, Contains, List, IsTrue, IfOk};
+ghost use Rattle.motion_rewrite.specs.Temporaries.{AreTemporaryNames, temporary_name};
+
+use crate::Memory;
+use indexmap::IndexSet;
+use itoa::Buffer;
+use mir_base::Name;
+use std::alloc::{AllocError, Global};
+use std::marker::Model;
+
+/// Names that are taken, looked up by hash. Contracts see them as the list of their bytes.
+#[derive(Drop)]
+struct TakenNames<'a> {
+    names: IndexSet<&'a [u8]>,
+}
+
+impl<'a> Model for TakenNames<'a> {
+    ghost use Rattle.std.specs.Prelude.{List, ℕ, map};
+
+    ghost Value = { List (List ℕ) };
+
+    ghost view = { λ taken. map (λ name. name.now) taken.names.keys };
+}
+
+impl<'a> TakenNames<'a> {
+    /// These names. Its only refusal is want of memory.
+    fn of(alloc: Global, names: &'a [Name]) -> Result<TakenNames<'a>, Memory>
+        ensures { IfOk result (λ taken. (name : List ℕ) → Contains taken name ↔ Contains names.now name) }
+    {
+        let mut taken = IndexSet::new(alloc);
+        for name in names {
+            taken.insert(name.bytes())?;
+        }
+        Ok(TakenNames { names: taken })
+    }
+
+    /// Whether the name is taken. It takes no memory.
+    fn has(&self, name: &Name) -> bool
+        ensures { IsTrue result ↔ Contains self.now name.now }
+    {
+        self.names.contains(name.bytes())
+    }
+}
+
+/// The names of so many temporaries of a graph whose variables have these names: for each the least number from 1 on that
+/// makes a name which no variable and no earlier temporary has. Since the numbers ascend, one walk over them finds all.
+/// Its only refusal is want of memory.
+pub(crate) fn temporary_names(
+    alloc: Global,
+    vars: &[Name],
+    count: usize,
+) -> Result<Vec<Name>, Memory>
+    ensures { IfOk result (λ names. AreTemporaryNames vars.now count names.items) }
+{
+    let taken = TakenNames::of(alloc, vars)?;
+    let mut names = Vec::new(alloc);
+    for number in 1..usize::MAX {
+        if names.len() == count {
+            return Ok(names);
+        }
+        let name = temporary_name(alloc, number)?;
+        if !taken.has(&name) {
+            names.push(name)?;
+        }
+    }
+    Err(AllocError)
+}
+
+/// `h` and the number.
+fn temporary_name(alloc: Global, number: usize) -> Result<Name, Memory>
+    ensures { IfOk result (λ name. name ≡ temporary_name number) }
+{
+    let mut buffer = Buffer::new();
+    let mut bytes = Vec::from_slice(alloc, b"h")?;
+    bytes.extend_from_slice(buffer.format(number).as_bytes())?;
+    Ok(Name::new(bytes).unwrap())
+}

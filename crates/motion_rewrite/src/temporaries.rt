@@ -1,0 +1,63 @@
+// Which expressions have a temporary, and the numbers of the temporaries.
+ghost use Rattle.std.specs.Prelude.{◌≡◌, ℕ, ◌+◌, ◌<◌, false, length, slice_get, slice_index_or, IfOk, Some};
+ghost use Rattle.bit_rows.specs.Bits.{row_of};
+ghost use Rattle.path_laws.specs.Paths.{AreRows};
+ghost use Rattle.motion_rewrite.specs.Temporaries.{has_insertion, temporaries_before, temporary};
+
+use crate::Memory;
+use bit_rows::{Row, Rows};
+use std::alloc::{AllocError, Global};
+
+/// The temporaries of a placement.
+#[derive(Drop)]
+pub(crate) struct Numbered {
+    /// For each expression the number of its temporary, where it has one.
+    pub(crate) numbers: Vec<usize>,
+    /// How many temporaries there are.
+    pub(crate) count: usize,
+}
+
+/// The temporaries where the graph has so many variables, and the table so many expressions. Its only refusal is want of
+/// memory.
+pub(crate) fn number_temporaries(
+    alloc: Global,
+    vars: usize,
+    exprs: usize,
+    insert: &Rows,
+) -> Result<Numbered, Memory>
+    requires { AreRows (length insert.now) exprs insert.now }
+    ensures long { IfOk result (λ made. length made.numbers.items ≡ exprs) }
+    ensures numbers { IfOk result (λ made. (i : ℕ) → i < exprs → slice_get made.numbers.items i ≡ Some (temporary vars insert.now i)) }
+    ensures count { IfOk result (λ made. made.count ≡ temporaries_before insert.now exprs) }
+{
+    let inserted = inserted_somewhere(alloc, exprs, insert)?;
+    let mut numbers = Vec::new(alloc);
+    let mut count = 0;
+    for expr in 0..exprs {
+        numbers.push(number_after(vars, count)?)?;
+        if inserted.get(expr) {
+            count += 1;
+        }
+    }
+    Ok(Numbered { numbers, count })
+}
+
+/// The number of the next temporary after so many variables and temporaries.
+fn number_after(vars: usize, count: usize) -> Result<usize, Memory>
+    ensures { IfOk result (λ number. number ≡ vars + count) }
+{
+    vars.checked_add(count).ok_or(AllocError)
+}
+
+/// Which expressions have an insertion.
+fn inserted_somewhere(alloc: Global, exprs: usize, insert: &Rows) -> Result<Row, Memory>
+    requires { AreRows (length insert.now) exprs insert.now }
+    ensures long { IfOk result (λ row. length row ≡ exprs) }
+    ensures inserted { IfOk result (λ row. (i : ℕ) → slice_index_or row i false ≡ has_insertion insert.now i) }
+{
+    let mut inserted = Row::new(alloc, exprs)?;
+    for node in 0..insert.len() {
+        let _changed = inserted.or_from(insert.row(node));
+    }
+    Ok(inserted)
+}
