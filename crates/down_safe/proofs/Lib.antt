@@ -1,0 +1,4 @@
+pub mod Admit
+pub mod Alike
+pub mod Earliest
+pub mod Made

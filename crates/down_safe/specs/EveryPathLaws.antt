@@ -1,0 +1,79 @@
+-- That the rule of anticipatable expressions keeps the laws of a down rule.
+use Rattle.std.proofs.Common.{◌≡◌, ℕ, zero, suc, ◌<◌, true, false, List, [], ◌∷◌, length, slice_get, Some, inl, inr, refl, sym, ap, ◌∙◌, subst, arith, true≢false}
+use Rattle.std.proofs.lemmas.Bool.{cases_Bool}
+use Rattle.std.proofs.lemmas.Option.{none-some}
+use Rattle.mir_base.specs.declared.instructions.Expr.{Expr}
+use Rattle.flow_graph.specs.declared.nodes.Node.{Node}
+use Rattle.flow_graph.specs.declared.nodes.Node.TheVariants.{Start, Skip, Assign, Print, Call, Test, Return}
+use Rattle.flow_graph.specs.Graphs.{IsEdge, succs_at, succs_of}
+use Rattle.flow_graph.specs.Paths.{HasEdge, IsReturnAt, is_return}
+use Rattle.path_laws.specs.Paths.{EndsWell}
+use Rattle.motion_rewrite.specs.Expressions.{kills, node_kills, uses}
+use Rattle.motion_rewrite.specs.Placements.{DownLaws, IsAnticipatable}
+
+-- an edge leaves a node that is there
+inside : (nodes : List Node) (n : ℕ) {s : ℕ} (slot : ℕ) → IsEdge nodes n slot s → n < length nodes
+inside [] n slot edge = absurd (none-some _ edge)
+inside (node ∷ nodes) zero slot edge = omega arith
+inside (node ∷ nodes) (suc n) slot edge = let lt = inside nodes n slot edge in omega (arith, lt)
+
+-- a node with no successor is a Return
+returns : (nodes : List Node) (n : ℕ) → n < length nodes → succs_at nodes n ≡ [] → IsReturnAt nodes n
+returns [] n lt none = absurd (omega (arith, lt))
+returns (Start next ∷ nodes) zero lt none = cc
+returns (Skip next ∷ nodes) zero lt none = cc
+returns (Assign x rhs next ∷ nodes) zero lt none = cc
+returns (Print a next ∷ nodes) zero lt none = cc
+returns (Call into unit operands next ∷ nodes) zero lt none = cc
+returns (Test test taken other ∷ nodes) zero lt none = cc
+returns (Return a ∷ nodes) zero lt none = refl
+returns (node ∷ nodes) (suc n) lt none = returns nodes n (omega (arith, lt)) none
+
+-- the only successor of a Skip
+only : (s k : ℕ) (slot : ℕ) → slice_get (s ∷ []) slot ≡ Some k → k ≡ s
+only s k zero e = cc
+only s k (suc slot) e = absurd (none-some _ e)
+
+module _ (nodes : List Node) (e : Expr) where
+  Down : ℕ → Type 0
+  Down = IsAnticipatable nodes e
+
+  -- a node that does not use has no path to itself alone that ends well
+  not_alone : (n : ℕ) → n < length nodes → IsAnticipatable nodes e n → uses nodes e n ≡ false → EndsWell nodes (kills nodes e) (n ∷ []) → ⊥
+  not_alone n lt down unused ends = elim (down (n ∷ []) lt refl ends) [ inl used ↦ true≢false (sym used ∙ unused) | inr none ↦ none ]
+
+  keeps : (n : ℕ) → n < length nodes → IsAnticipatable nodes e n → uses nodes e n ≡ false → kills nodes e n ≡ false
+  keeps n lt down unused =
+      elim (cases_Bool (kills nodes e n)) [
+        | inl kill ↦ absurd (not_alone n lt down unused (inl kill))
+        | inr keep ↦ keep
+      ]
+
+  onward : (n s : ℕ) → IsAnticipatable nodes e n → uses nodes e n ≡ false → HasEdge nodes n s → IsAnticipatable nodes e s
+  onward n s down unused edge [] is begins ends = absurd is
+  onward n s down unused edge (k ∷ path) is begins ends =
+      let to_k : HasEdge nodes n k = subst (HasEdge nodes n) (sym begins) edge in
+      let keep = keeps n (inside nodes n edge.0 edge.1) down unused in
+      elim (down (n ∷ k ∷ path) (to_k, is) refl (keep, ends)) [ inl used ↦ absurd (true≢false (sym used ∙ unused)) | inr met ↦ met ]
+
+  skips : (n s : ℕ) → slice_get nodes n ≡ Some (Skip s) → IsAnticipatable nodes e s → IsAnticipatable nodes e n
+  skips n s here down [] is begins ends = absurd is
+  skips n s here down (m ∷ []) is begins (inl kill) = absurd (true≢false (sym kill ∙ ap (node_kills e) (ap (slice_get nodes) begins ∙ here)))
+  skips n s here down (m ∷ []) is begins (inr return) = absurd (true≢false (sym return ∙ ap is_return (ap (slice_get nodes) begins ∙ here)))
+  skips n s here down (m ∷ k ∷ path) is begins ends =
+      let to_k = is.0 in
+      let next : k ≡ s = only s k to_k.0 (sym (ap (λ o. slice_get (succs_of o) to_k.0) (ap (slice_get nodes) begins ∙ here)) ∙ to_k.1) in
+      inr (down (k ∷ path) is.1 next ends.1)
+
+  first_use : (n : ℕ) → uses nodes e n ≡ true → IsAnticipatable nodes e n
+  first_use n used [] is begins ends = absurd is
+  first_use n used (m ∷ path) is begins ends = inl (ap (uses nodes e) begins ∙ used)
+
+  pub every_path_laws : DownLaws nodes e (IsAnticipatable nodes e)
+  every_path_laws = record {
+    used = λ n lt. first_use n;
+    keeps = keeps;
+    continues = λ n lt down unused none. not_alone n lt down unused (inr (returns nodes n lt none));
+    onward = onward;
+    skips = skips;
+  }

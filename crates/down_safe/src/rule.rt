@@ -1,0 +1,63 @@
+// Down rules.
+ghost use Rattle.std.specs.Prelude.{◌≡◌, ℕ, ◌<◌, ◌↔◌, true, List, length, slice_get, IfOk, Some};
+ghost use Rattle.mir_base.specs.declared.instructions.Expr.{Expr};
+ghost use Rattle.flow_graph.specs.declared.nodes.Node.{Node};
+ghost use Rattle.flow_graph.specs.Edges.{IsSplit, edges_of};
+ghost use Rattle.flow_graph.specs.Graphs.{IsGraph};
+ghost use Rattle.path_laws.specs.Paths.{AreRows, has_bit};
+ghost use Rattle.motion_rewrite.specs.Placements.{DownLaws, IsAnticipatable};
+ghost use Rattle.down_safe.specs.EveryPathLaws.{every_path_laws};
+
+use bit_rows::Rows;
+use flow_graph::{Edges, Graph};
+use mir_base::Memory;
+use motion_rewrite::{ExprTable, kill_rows, use_rows};
+use path_laws::backward_all;
+use std::alloc::Global;
+
+/// A down rule: at which nodes an expression may be evaluated since what follows uses it. Its meaning, `is_down`, says of
+/// the nodes of a graph and an expression which nodes are down, and keeps the laws of a down rule on every split graph.
+pub trait DownRule {
+    ghost is_down: { Self → List Node → Expr → ℕ → Type 0 };
+
+    /// At which nodes each expression of the table is down: one row for each node, one bit for each expression. The graph
+    /// is split, and `edges` are those of `graph`. Its only refusal is want of memory.
+    fn down(
+        &self,
+        alloc: Global,
+        graph: &Graph,
+        edges: &Edges,
+        table: &ExprTable,
+    ) -> Result<Rows, Memory>
+        requires split { IsSplit graph.now.nodes }
+        requires edges { edges.now ≡ edges_of graph.now.nodes }
+        ensures shape { IfOk result (λ rows. AreRows (length graph.now.nodes) (length table.now) rows) }
+        ensures down { IfOk result (λ rows. (n i : ℕ) (e : Expr) → n < length graph.now.nodes → slice_get table.now i ≡ Some e → (has_bit rows i n ≡ true) ↔ is_down self.now graph.now.nodes e n) };
+
+    ghost laws: { (rule : Self) (vars : List (List ℕ)) (received : List ℕ) (nodes : List Node) → IsGraph vars received nodes → IsSplit nodes → (e : Expr) → DownLaws nodes e (is_down rule nodes e) };
+}
+
+/// The rule of anticipatable expressions: a node is down where every path from it that ends at its first killing node, or
+/// at a Return with no killing node before it, has a use on it. It is the down-safety of Knoop, Ruething and Steffen,
+/// *Optimal Code Motion: Theory and Practice*, TOPLAS 1994.
+#[derive(Clone, Copy, Debug, PartialEq, Eq)]
+pub struct EveryPath;
+
+impl DownRule for EveryPath {
+    ghost is_down = { λ rule nodes e n. IsAnticipatable nodes e n };
+
+    fn down(
+        &self,
+        alloc: Global,
+        graph: &Graph,
+        edges: &Edges,
+        table: &ExprTable,
+    ) -> Result<Rows, Memory> {
+        let uses = use_rows(alloc, graph, table)?;
+        let kills = kill_rows(alloc, graph, table)?;
+        let rows = backward_all(alloc, graph, edges, &uses, &kills)?;
+        Ok(rows)
+    }
+
+    ghost laws = { λ rule vars received nodes graph split e. every_path_laws nodes e };
+}
