@@ -1,0 +1,25 @@
+use Rattle.std.proofs.Common.{◌≡◌, ◌<◌, ◌&&◌, not, ℕ, Bool, List, length, sym, ap, subst, arith, ◌∙◌}
+use Rattle.std.proofs.Math.Path.{fun_ext}
+use Rattle.path_laws.specs.Paths.{BornAhead, has_bit, width}
+use Rattle.latest_place.proofs.Combined.{copy_width}
+use Rattle.latest_place.proofs.nodes.needed_rows.Goals as goal
+
+pub returns-clause-bits : goal.returns-clause-bits
+returns-clause-bits c = λ n b h l.
+    let nodes = c.args.graph.now.nodes in
+    let latest = has_bit c.args.latest.now b in
+    let born : has_bit c.without-born.result b ≡ (λ (m : ℕ). has_bit c.args.uses.now b m && not (has_bit c.args.latest.now b m)) =
+    fun_ext (λ m. c.without-born.ensures.bits m b ∙ ap (λ (rows : List (List Bool)). has_bit rows b m && not (has_bit c.args.latest.now b m)) c.in_ok-copied.ensures) in
+    let copy : width c.without-born.result ≡ width c.args.uses.now = copy_width c.in_ok-copied.field-0 c.args.uses.now c.without-born.result c.in_ok-copied.ensures c.without-born.ensures.alike n (rw c.requires.uses.len h) in
+    let some : 0 < length c.args.graph.now.nodes = omega arith in
+    let wide : width c.without-born.result ≡ width c.args.latest.now = copy ∙ c.requires.uses.each 0 some in
+    let joins = c.in_ok-needed.ensures.joins n b h in
+    let graph = c.in_ok-needed.ensures.graph in (
+      λ on.
+          let next = joins.0 on in
+          let paths = c.in_ok-ahead.ensures.paths next.0 b (graph.can.succs n next.1.0 next.0 next.1.1).1 (rw wide l) in
+          (next.0, next.1, subst (λ good. BornAhead nodes good latest next.0) born (paths.0 next.2)),
+      λ needed.
+          let paths = c.in_ok-ahead.ensures.paths needed.0 b (graph.can.succs n needed.1.0 needed.0 needed.1.1).1 (rw wide l) in
+          joins.1 (needed.0, needed.1, paths.1 (subst (λ good. BornAhead nodes good latest needed.0) (sym born) needed.2)),
+    )
