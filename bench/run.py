@@ -164,6 +164,35 @@ def gotos_in_a_chain(unit: str, instructions: int) -> str:
     return ''.join(lines)
 
 
+def diamonds(unit: str, count: int) -> tuple[str, str]:
+    """A unit of so many diamonds, one after the other, each of which evaluates a + b; and the unit with moved code, which
+    evaluates it once, on the paths of which there are 2 to the power of the count."""
+    head = f'{unit}: begin\nreceive a(val)\nreceive b(val)\n'
+    text, moved = [head], [head]
+    for number in range(1, count + 1):
+        text.append(f'if a goto L{number}\nprint a\nL{number}: x <- a + b\nprint x\n')
+        evaluation = f'L1: h1 <- a + b\nx <- h1' if number == 1 else f'L{number}: x <- h1'
+        moved.append(f'if a goto L{number}\nprint a\n{evaluation}\nprint x\n')
+    tail = 'return x\nend\n'
+    return ''.join(text) + tail, ''.join(moved) + tail
+
+
+def nested_loops(unit: str, instructions: int, depth: int) -> tuple[str, str]:
+    """A unit of so many instructions: repeat-until loops within each other, full of different sums that do not change in
+    them; and the unit with moved code, which evaluates all of these before the outermost loop."""
+    head = f'{unit}: begin\nreceive a(val)\n'
+    sums = instructions - 2 * depth - 2
+    heads = {1 + inner * (sums // depth): f'L{inner + 1}: ' for inner in range(depth)}
+    text, moved, before = [], [], []
+    for number in range(1, sums + 1):
+        label = heads.get(number, '')
+        text.append(f'{label}x <- a + {number}\n')
+        moved.append(f'{label}x <- h{number}\n')
+        before.append(f'h{number} <- a + {number}\n')
+    tail = ''.join(f'i <- i + 1\nif i < 5 goto L{number}\n' for number in range(depth, 0, -1)) + 'return x\nend\n'
+    return head + ''.join(text) + tail, head + ''.join(before) + ''.join(moved) + tail
+
+
 LOOP = """\
 main: begin
 again: sum <- sum + i
@@ -226,6 +255,50 @@ def chains() -> list[Case]:
     return cases
 
 
+def diamonds_by(word: str) -> list[Case]:
+    """A unit of a quarter, a half and all of the diamonds that it may have, under this command."""
+    cases = []
+    for count in (250, 500, 1000):
+        text, moved = diamonds('main', count)
+        cases.append(Case(4 * count, [word], text, ENDED, moved))
+    return cases
+
+
+def nested_by(word: str) -> list[Case]:
+    """A unit of 32 nested loops that is full of different expressions, under this command."""
+    cases = []
+    for instructions in INSTRUCTIONS:
+        text, moved = nested_loops('main', instructions, 32)
+        cases.append(Case(instructions, [word], text, ENDED, moved))
+    return cases
+
+
+def units_by(word: str) -> list[Case]:
+    """64, 128 and 256 units of 58 diamonds, 235 instructions each, under this command."""
+    cases = []
+    for count in (64, 128, 256):
+        units = [diamonds(f'u{number}', 58) for number in range(count)]
+        text, moved = (''.join(parts) for parts in zip(*units))
+        cases.append(Case(count, [word], text, ENDED, moved))
+    return cases
+
+
+# What code motion is measured on: under `move`, which does nothing else, and as one of the passes of `optimise`.
+MOTION = [
+    Workload(
+        f'{name}-{word}',
+        f'{about}, under {word}',
+        unit,
+        lambda cases=cases, word=word: cases(word),
+    )
+    for name, about, unit, cases in (
+        ('diamonds', 'code is moved in a chain of diamonds', 'insts', diamonds_by),
+        ('nested', 'thousands of expressions are moved out of nested loops', 'insts', nested_by),
+        ('units', 'code is moved in many units', 'units', units_by),
+    )
+    for word in ('move', 'optimise')
+]
+
 WORKLOADS = [
     Workload(
         'reading',
@@ -258,6 +331,7 @@ WORKLOADS = [
         lambda: [loop_of(250_000), loop_of(500_000), loop_of(1_000_000)],
         lambda: [loop_of(100_000), loop_of(200_000)],
     ),
+    *MOTION,
 ]
 
 

@@ -8,10 +8,8 @@ use Rattle.mir_base.specs.UnitRuns.{UnitSame, UnitCheaper, body_machine, unit_ma
 use Rattle.mir_sim.specs.Pairs.{AllUnitsSame, AllUnitsCheaper}
 use Rattle.flow_graph.specs.Calls.{BodyCalls, inst_call}
 use Rattle.flow_graph.specs.Lowered.{CanLower, target_of}
-use Rattle.mir_opt.specs.declared.trails.UnitTrail.{UnitTrail}
-use Rattle.mir_opt.specs.declared.trails.Trail.{Trail}
-use Rattle.mir_opt.specs.Links.{UnitLinked, IsLinked}
-use Rattle.mir_opt.specs.Made.{MadeAt, AllMade}
+use Rattle.mir_opt.specs.Links.{AllLinked}
+use Rattle.mir_opt.specs.Made.{AllKept, AllMade, IsKept, MadeAt}
 
 -- ---- a unit of a program can be lowered
 
@@ -60,92 +58,132 @@ names_long : (units : List UnitShape) → length (names_of units) ≡ length uni
 names_long [] = refl
 names_long (unit ∷ units) = ap suc (names_long units)
 
-module _ (sources : List UnitShape) (trails : List UnitTrail) (targets : List UnitShape) (all : AllMade sources trails targets) where
+within_get : {A : Type 0} (xs : List A) (n : ℕ) → n < length xs → (x : A) × (slice_get xs n ≡ Some x)
+within_get [] n lt = absurd (omega (arith, lt))
+within_get (x ∷ xs) zero lt = (x, refl)
+within_get (x ∷ xs) (suc n) lt = within_get xs n (omega (arith, lt))
+
+-- what was made of all units, as each unit of the target keeps that of the source, and is linked to it
+module _ {T : Type 0} (Made : UnitShape → T → UnitShape → Type 0) (sources : List UnitShape) (units : List T) (targets : List UnitShape) (all : AllMade Made sources units targets) where
+  at_units : (n : ℕ) (source target : UnitShape) (unit : T) → slice_get sources n ≡ Some source → slice_get units n ≡ Some unit → slice_get targets n ≡ Some target → Made source unit target
+  at_units n source target unit at at' at'' =
+      let m = all.made n (slice_get_within sources n source at) in
+      let one : Some m.source ≡ Some source = sym m.source_at ∙ at in
+      let two : Some m.unit ≡ Some unit = sym m.unit_at ∙ at' in
+      let three : Some m.target ≡ Some target = sym m.target_at ∙ at'' in
+      let source_is : m.source ≡ source = cc in
+      let unit_is : m.unit ≡ unit = cc in
+      let target_is : m.target ≡ target = cc in
+      subst (λ s. Made s unit target) source_is (subst (λ u. Made m.source u target) unit_is (subst (Made m.source m.unit) target_is m.made))
+
+  pub made_kept : ((source : UnitShape) (unit : T) (target : UnitShape) → Made source unit target → IsKept source target) → AllKept sources targets
+  made_kept keep = record {
+    long = all.targets_long;
+    kept = λ n source target at at'.
+        let m = all.made n (slice_get_within sources n source at) in
+        let one : Some m.source ≡ Some source = sym m.source_at ∙ at in
+        let source_is : m.source ≡ source = cc in
+        keep source m.unit target (at_units n source target m.unit at m.unit_at at');
+  }
+
+  pub made_linked : (Linked : UnitShape → T → UnitShape → Type 0) → ((source : UnitShape) (unit : T) (target : UnitShape) → Made source unit target → Linked source unit target)
+      → (sources' targets' : List UnitShape) → sources' ≡ sources → targets' ≡ targets → AllLinked Linked sources' units targets'
+  made_linked Linked link sources' targets' is is' = record {
+    units_long = all.units_long ∙ sym (ap length is);
+    targets_long = ap length is' ∙ all.targets_long ∙ sym (ap length is);
+    linked = λ n source unit target at at' at''. link source unit target (at_units n source target unit (ap (λ l. slice_get l n) (sym is) ∙ at) at' (ap (λ l. slice_get l n) (sym is') ∙ at''));
+  }
+
+  -- what is true of each unit that was made
+  pub made_each : (Holds : T → Type 0) → ((source : UnitShape) (unit : T) (target : UnitShape) → Made source unit target → Holds unit) → (n : ℕ) (unit : T) → slice_get units n ≡ Some unit → Holds unit
+  made_each Holds holds n unit at =
+      let lt = slice_get_within units n unit at in
+      let m = all.made n (omega (arith, lt, all.units_long)) in
+      let two : Some m.unit ≡ Some unit = sym m.unit_at ∙ at in
+      let unit_is : m.unit ≡ unit = cc in
+      subst Holds unit_is (holds m.source m.unit m.target m.made)
+
+-- units of a program, each kept
+module _ (sources targets : List UnitShape) (all : AllKept sources targets) where
   body_is : (units : List UnitShape) (n : ℕ) (unit : UnitShape) → slice_get units n ≡ Some unit → body_at units n ≡ unit.body
   body_is units n unit at = ap body_or_empty at
 
+  -- the units of number n
+  record KeptAt (n : ℕ) : Type 0 where
+    source : UnitShape
+    target : UnitShape
+    source_at : slice_get sources n ≡ Some source
+    target_at : slice_get targets n ≡ Some target
+    kept : IsKept source target
+
+  kept_at : (n : ℕ) → n < length sources → KeptAt n
+  kept_at n lt =
+      let s = within_get sources n lt in
+      let t = within_get targets n (omega (arith, lt, all.long)) in
+      record { source = s.0; target = t.0; source_at = s.1; target_at = t.1; kept = all.kept n s.0 t.0 s.1 t.1 }
+
   same_at : (n : ℕ) → n < length sources → UnitSame (machine_at (record { units = sources }) n) (machine_at (record { units = targets }) n)
   same_at n lt =
-      let m = all.made n lt in
+      let m = kept_at n lt in
       let source : unit_machine m.source ≡ machine_at (record { units = sources }) n = ap body_machine (sym (body_is sources n m.source m.source_at)) in
       let target : unit_machine m.target ≡ machine_at (record { units = targets }) n = ap body_machine (sym (body_is targets n m.target m.target_at)) in
-      subst (λ a. UnitSame a (machine_at (record { units = targets }) n)) source (subst (UnitSame (unit_machine m.source)) target m.made.same)
+      subst (λ a. UnitSame a (machine_at (record { units = targets }) n)) source (subst (UnitSame (unit_machine m.source)) target m.kept.same)
 
   cheaper_at : (n : ℕ) → n < length sources → UnitCheaper (machine_at (record { units = sources }) n) (machine_at (record { units = targets }) n)
   cheaper_at n lt =
-      let m = all.made n lt in
+      let m = kept_at n lt in
       let source : unit_machine m.source ≡ machine_at (record { units = sources }) n = ap body_machine (sym (body_is sources n m.source m.source_at)) in
       let target : unit_machine m.target ≡ machine_at (record { units = targets }) n = ap body_machine (sym (body_is targets n m.target m.target_at)) in
-      subst (λ a. UnitCheaper a (machine_at (record { units = targets }) n)) source (subst (UnitCheaper (unit_machine m.source)) target m.made.cheaper)
+      subst (λ a. UnitCheaper a (machine_at (record { units = targets }) n)) source (subst (UnitCheaper (unit_machine m.source)) target m.kept.cheaper)
 
   same_receives : (n : ℕ) → n < length sources → receives_in (body_at sources n) ≡ receives_in (body_at targets n)
   same_receives n lt = (same_at n lt).receives
 
   same_name : (n : ℕ) → n < length sources → slice_get (names_of targets) n ≡ slice_get (names_of sources) n
   same_name n lt =
-      let m = all.made n lt in
-      names_at targets n ∙ ap (option_map (λ (u : UnitShape). u.name)) m.target_at ∙ ap Some m.made.name ∙ sym (names_at sources n ∙ ap (option_map (λ (u : UnitShape). u.name)) m.source_at)
+      let m = kept_at n lt in
+      names_at targets n ∙ ap (option_map (λ (u : UnitShape). u.name)) m.target_at ∙ ap Some m.kept.name ∙ sym (names_at sources n ∙ ap (option_map (λ (u : UnitShape). u.name)) m.source_at)
 
   within : (n : ℕ) → n < length (names_of targets) → n < length sources
-  within n lt = omega (arith, lt, names_long targets, all.targets_long)
+  within n lt = omega (arith, lt, names_long targets, all.long)
 
-  pub made_same : AllUnitsSame (record { units = sources }) (record { units = targets })
-  made_same = record { units = sym all.targets_long; same = same_at }
+  pub kept_same : AllUnitsSame (record { units = sources }) (record { units = targets })
+  kept_same = record { units = sym all.long; same = same_at }
 
-  pub made_cheaper : AllUnitsCheaper (record { units = sources }) (record { units = targets })
-  made_cheaper = record { cheaper = cheaper_at }
+  pub kept_cheaper : AllUnitsCheaper (record { units = sources }) (record { units = targets })
+  kept_cheaper = record { cheaper = cheaper_at }
 
-  pub made_linked : (n : ℕ) (source : UnitShape) (unit : UnitTrail) (target : UnitShape) → slice_get sources n ≡ Some source → slice_get trails n ≡ Some unit → slice_get targets n ≡ Some target → UnitLinked source unit target
-  made_linked n source unit target at at' at'' =
-      let m = all.made n (slice_get_within sources n source at) in
-      let one : Some m.source ≡ Some source = sym m.source_at ∙ at in
-      let two : Some m.trail ≡ Some unit = sym m.trail_at ∙ at' in
-      let three : Some m.target ≡ Some target = sym m.target_at ∙ at'' in
-      let source_is : m.source ≡ source = cc in
-      let unit_is : m.trail ≡ unit = cc in
-      let target_is : m.target ≡ target = cc in
-      subst (λ s. UnitLinked s unit target) source_is (subst (λ u. UnitLinked m.source u target) unit_is (subst (UnitLinked m.source m.trail) target_is m.made.linked))
-
-  pub names_differ : IsProgram sources → AllDiffer (names_of targets)
+  names_differ : IsProgram sources → AllDiffer (names_of targets)
   names_differ program i j lt lt' same =
       let a = within i lt in
       let b = within j lt' in
       program.names i j (omega (arith, a, names_long sources)) (omega (arith, b, names_long sources)) (sym (same_name i a) ∙ same ∙ same_name j b)
 
-  made_fits : IsProgram sources → (n : ℕ) (unit : UnitShape) → slice_get targets n ≡ Some unit → BodyFits targets unit.body
-  made_fits program n unit at =
-      let lt : n < length sources = omega (arith, slice_get_within targets n unit at, all.targets_long) in
-      let m = all.made n lt in
+  kept_fits : IsProgram sources → (n : ℕ) (unit : UnitShape) → slice_get targets n ≡ Some unit → BodyFits targets unit.body
+  kept_fits program n unit at =
+      let lt : n < length sources = omega (arith, slice_get_within targets n unit at, all.long) in
+      let m = kept_at n lt in
       let one : Some unit ≡ Some m.target = sym at ∙ m.target_at in
       let same : m.target ≡ unit = cc in
       subst (λ (u : UnitShape). BodyFits targets u.body) same (record {
-        insts = λ place inst here. inst_fits m place inst here (program.bodies n m.source m.source_at);
-        received = m.made.lowers.received;
+        insts = λ place inst here. inst_fits n m place inst here (program.bodies n m.source m.source_at);
+        received = m.kept.lowers.received;
       })
     where
-      inst_fits : (m : MadeAt sources trails targets n) (place : ℕ) (inst : Inst) → slice_get m.target.body place ≡ Some inst → BodyFits sources m.source.body → InstFits targets m.target.body place inst
-      inst_fits m place (Receive x) here fits = m.made.lowers.first place x here
-      inst_fits m place (Assign x rhs) here fits = tt
-      inst_fits m place (Goto to) here fits = m.made.lowers.targets place to (ap target_of here)
-      inst_fits m place (If test to) here fits = m.made.lowers.targets place to (ap target_of here)
-      inst_fits m place (Call into called operands) here fits =
-          let source = called_fits sources m.source.body called (length operands) fits (m.made.calls called (length operands) (record { place = place; inst = Call into called operands; here = here; calls = refl })) in
-          (omega (arith, source.0, all.targets_long), source.1 ∙ same_receives called source.0)
-      inst_fits m place (Print a) here fits = tt
-      inst_fits m place (Return a) here fits = tt
+      inst_fits : (n : ℕ) (m : KeptAt n) (place : ℕ) (inst : Inst) → slice_get m.target.body place ≡ Some inst → BodyFits sources m.source.body → InstFits targets m.target.body place inst
+      inst_fits n m place (Receive x) here fits = m.kept.lowers.first place x here
+      inst_fits n m place (Assign x rhs) here fits = tt
+      inst_fits n m place (Goto to) here fits = m.kept.lowers.targets place to (ap target_of here)
+      inst_fits n m place (If test to) here fits = m.kept.lowers.targets place to (ap target_of here)
+      inst_fits n m place (Call into called operands) here fits =
+          let source = called_fits sources m.source.body called (length operands) fits (m.kept.calls called (length operands) (record { place = place; inst = Call into called operands; here = here; calls = refl })) in
+          (omega (arith, source.0, all.long), source.1 ∙ same_receives called source.0)
+      inst_fits n m place (Print a) here fits = tt
+      inst_fits n m place (Return a) here fits = tt
 
-  pub made_program : IsProgram sources → IsProgram targets
-  made_program program = record {
-    some_unit = omega (arith, program.some_unit, all.targets_long);
+  pub kept_program : IsProgram sources → IsProgram targets
+  kept_program program = record {
+    some_unit = omega (arith, program.some_unit, all.long);
     names = names_differ program;
-    bodies = made_fits program;
+    bodies = kept_fits program;
   }
-
--- ---- the trail
-
-pub made_trail : (sources : List UnitShape) (trails : List UnitTrail) (targets : List UnitShape) (trail : Trail) → AllMade sources trails targets → trail.source.units ≡ sources → trail.units ≡ trails → trail.target.units ≡ targets → IsLinked trail
-made_trail sources trails targets trail all is is' is'' = record {
-  units = ap length is' ∙ all.trails_long ∙ sym (ap length is);
-  targets = ap length is'' ∙ all.targets_long ∙ sym (ap length is);
-  linked = λ n source unit target at at' at''. made_linked sources trails targets all n source unit target (ap (λ l. slice_get l n) (sym is) ∙ at) (ap (λ l. slice_get l n) (sym is') ∙ at') (ap (λ l. slice_get l n) (sym is'') ∙ at'');
-}

@@ -5,32 +5,49 @@ use Rattle.mir_base.specs.UnitRuns.{UnitCheaper, UnitSame, unit_machine}
 use Rattle.flow_graph.specs.Calls.{BodyCalls}
 use Rattle.flow_graph.specs.Lowered.{CanLower}
 use Rattle.mir_opt.specs.declared.trails.UnitTrail.{UnitTrail}
-use Rattle.mir_opt.specs.Links.{UnitLinked}
+use Rattle.mir_opt.specs.declared.trails.MoveUnit.{MoveUnit}
+use Rattle.mir_opt.specs.Best.{IsBest}
+use Rattle.mir_opt.specs.Links.{MoveLinked, UnitLinked}
 
 -- the unit is the same, has the same name, makes no other calls, and can be lowered again
-pub record UnitMade (source : UnitShape) (trail : UnitTrail) (target : UnitShape) : Type 0 where
-  pub linked : UnitLinked source trail target
+pub record IsKept (source target : UnitShape) : Type 0 where
   pub name : target.name ≡ source.name
   pub same : UnitSame (unit_machine source) (unit_machine target)
   pub cheaper : UnitCheaper (unit_machine source) (unit_machine target)
   pub lowers : CanLower target.body
   pub calls : (called count : ℕ) → BodyCalls target.body called count → BodyCalls source.body called count
 
+-- and its code motion is the best
+pub record UnitMade (source : UnitShape) (unit : UnitTrail) (target : UnitShape) : Type 0 where
+  pub linked : UnitLinked source unit target
+  pub best : IsBest unit.split unit.table unit.placement unit.moved
+  pub kept : IsKept source target
+
+pub record UnitMoved (source : UnitShape) (unit : MoveUnit) (target : UnitShape) : Type 0 where
+  pub linked : MoveLinked source unit target
+  pub best : IsBest unit.split unit.table unit.placement unit.moved
+  pub kept : IsKept source target
+
 -- the units of number n
-pub record MadeAt (sources : List UnitShape) (trails : List UnitTrail) (targets : List UnitShape) (n : ℕ) : Type 0 where
+pub record MadeAt {T : Type 0} (Made : UnitShape → T → UnitShape → Type 0) (sources : List UnitShape) (units : List T) (targets : List UnitShape) (n : ℕ) : Type 0 where
   pub source : UnitShape
-  pub trail : UnitTrail
+  pub unit : T
   pub target : UnitShape
   pub source_at : slice_get sources n ≡ Some source
-  pub trail_at : slice_get trails n ≡ Some trail
+  pub unit_at : slice_get units n ≡ Some unit
   pub target_at : slice_get targets n ≡ Some target
-  pub made : UnitMade source trail target
+  pub made : Made source unit target
 
 -- the first units
-pub record FirstMade (sources : List UnitShape) (trails : List UnitTrail) (targets : List UnitShape) (count : ℕ) : Type 0 where
-  pub trails_long : length trails ≡ count
+pub record FirstMade {T : Type 0} (Made : UnitShape → T → UnitShape → Type 0) (sources : List UnitShape) (units : List T) (targets : List UnitShape) (count : ℕ) : Type 0 where
+  pub units_long : length units ≡ count
   pub targets_long : length targets ≡ count
-  pub made : (n : ℕ) → n < count → MadeAt sources trails targets n
+  pub made : (n : ℕ) → n < count → MadeAt Made sources units targets n
 
-abbrev pub AllMade : List UnitShape → List UnitTrail → List UnitShape → Type 0
-AllMade sources trails targets = FirstMade sources trails targets (length sources)
+abbrev pub AllMade : {T : Type 0} → (UnitShape → T → UnitShape → Type 0) → List UnitShape → List T → List UnitShape → Type 0
+AllMade Made sources units targets = FirstMade Made sources units targets (length sources)
+
+-- each unit of the target keeps the unit of the source of its number
+pub record AllKept (sources targets : List UnitShape) : Type 0 where
+  pub long : length targets ≡ length sources
+  pub kept : (n : ℕ) (source target : UnitShape) → slice_get sources n ≡ Some source → slice_get targets n ≡ Some target → IsKept source target

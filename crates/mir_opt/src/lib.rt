@@ -1,20 +1,26 @@
 //! The order of the passes.
 //!
 //! In goes a program; out comes its trail: what each pass made of each unit, and the target program. `specs/Links.antt`
-//! says when a trail is linked: each part is the exact result of its pass on the part before.
+//! says when a trail is linked: each part is the exact result of its pass on the part before. `specs/Best.antt` says when
+//! its code motion is the best.
 //!
-//! The theorem that this crate carries is the contract of `optimise`: the trail is linked, and source and target are the
-//! same program, unit by unit and as a whole.
+//! The theorem that this crate carries is the contract of `optimise`, and that of `motion` alike: the trail is linked,
+//! source and target are the same program, unit by unit and as a whole, the target counts no more, and in each unit no
+//! admissible placement evaluates an expression less often on any full path than the one that was taken.
 #![tactic(auto)]
 
 mod copies;
+mod joining;
+mod moves;
+mod moving;
 mod passes;
 #[cfg(test)]
 mod tests;
 mod trails;
 
+pub use moves::motion;
 pub use passes::optimise;
-pub use trails::{Trail, UnitTrail};
+pub use trails::{MoveTrail, MoveUnit, Trail, UnitTrail};
 
 /// Want of memory: the allocator refused.
 pub type Memory = std::alloc::AllocError;

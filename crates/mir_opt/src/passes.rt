@@ -3,10 +3,13 @@ ghost use Rattle.std.specs.Prelude.{◌≡◌, IfOk};
 ghost use Rattle.mir_base.specs.Runs.{Cheaper, Same};
 ghost use Rattle.mir_sim.specs.Pairs.{AllUnitsSame};
 ghost use Rattle.flow_graph.specs.Lowered.{CanLower};
+ghost use Rattle.mir_opt.specs.Best.{TrailIsBest};
 ghost use Rattle.mir_opt.specs.Links.{IsLinked};
 ghost use Rattle.mir_opt.specs.Made.{AllMade, UnitMade};
 
-use crate::copies::{copy_of, fits_together};
+use crate::copies::copy_of;
+use crate::joining::joined;
+use crate::moving::move_code;
 use crate::{Memory, Trail, UnitTrail};
 use flow_graph::{layout, lower};
 use jump_clean::clean;
@@ -14,9 +17,9 @@ use mir_base::{Items, Program, Unit as MirUnit};
 use mir_sim::lift;
 use std::alloc::Global;
 
-/// What the passes make of the program: for each unit its graph, this graph with clean jumps, and the unit that is its
-/// layout. Source and target are the same program. The passes have no limits of their own: the only refusal is want of
-/// memory.
+/// What the passes make of the program: for each unit its graph, this graph with clean jumps, the steps of code motion on
+/// it, and the unit that is the layout of the last graph. Source and target are the same program. The passes have no
+/// limits of their own: the only refusal is want of memory.
 pub fn optimise(alloc: Global, program: &Program) -> Result<Trail, Memory>
     // The trail of this program: each part is the exact result of its pass.
     ensures source { IfOk result (λ trail. trail.source ≡ program.now) }
@@ -26,28 +29,20 @@ pub fn optimise(alloc: Global, program: &Program) -> Result<Trail, Memory>
     ensures same { IfOk result (λ trail. Same program.now trail.target) }
     ensures cheaper { IfOk result (λ trail. Cheaper program.now trail.target) }
     ensures units { IfOk result (λ trail. AllUnitsSame program.now trail.target) }
+
+    // In each unit no admissible placement evaluates an expression less often on any full path.
+    ensures best { IfOk result TrailIsBest }
 {
     let source = copy_of(alloc, program)?;
     let made = all_units(alloc, program)?;
     let Made { trails, targets } = made;
-    let target = joined(program, trails.as_slice(), targets);
+    let target = joined(program, targets);
     lift(program, &target);
     Ok(Trail {
         source,
         units: Items::of(trails),
         target,
     })
-}
-
-/// The program of the units that the passes made of a program's units.
-fn joined(source: &Program, trails: &[UnitTrail], targets: Vec<MirUnit>) -> Program
-    requires { AllMade source.now.units trails.now targets.items }
-    ensures { result.units ≡ targets.items }
-{
-    fits_together(source);
-    Program {
-        units: Items::of(targets),
-    }
 }
 
 /// What was made of the units of a program, by their number.
@@ -59,7 +54,7 @@ struct Made {
 
 /// What the passes make of each unit.
 fn all_units(alloc: Global, program: &Program) -> Result<Made, Memory>
-    ensures { IfOk result (λ made. AllMade program.now.units made.trails.items made.targets.items) }
+    ensures { IfOk result (λ made. AllMade UnitMade program.now.units made.trails.items made.targets.items) }
 {
     let mut trails = Vec::new(alloc);
     let mut targets = Vec::new(alloc);
@@ -85,9 +80,18 @@ fn one_unit(alloc: Global, source: &MirUnit) -> Result<MadeUnit, Memory>
 {
     let lowered = lower(alloc, source)?;
     let cleaned = clean(alloc, &lowered)?;
-    let target = layout(alloc, &cleaned)?;
+    let code = move_code(alloc, &cleaned)?;
+    let target = layout(alloc, &code.swept)?;
     Ok(MadeUnit {
-        trail: UnitTrail { lowered, cleaned },
+        trail: UnitTrail {
+            lowered,
+            cleaned,
+            split: code.split,
+            table: code.table,
+            placement: code.placement,
+            moved: code.moved,
+            swept: code.swept,
+        },
         target,
     })
 }

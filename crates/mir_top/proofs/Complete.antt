@@ -7,18 +7,20 @@ use Rattle.mir_base.specs.Runs.{run, inputs_of}
 use Rattle.mir_interp.specs.Reports.{most_frames}
 use Rattle.mir_interp.specs.declared.report.Finish.{Finish}
 use Rattle.mir_top.specs.declared.command.Command.{Command}
-use Rattle.mir_top.specs.declared.command.Command.TheVariants.{Optimise, Run}
+use Rattle.mir_top.specs.declared.command.Command.TheVariants.{Optimise, Move, Run}
 use Rattle.mir_top.specs.declared.cause.Cause.{Cause}
 use Rattle.mir_top.specs.declared.cause.Cause.TheVariants.{Usage, WrongInputs, ReadFault, TooLong, Unreadable, Invalid, Deep, WriteFault, Memory}
 use Rattle.mir_top.specs.declared.outcome.Outcome.{Outcome}
-use Rattle.mir_top.specs.declared.outcome.Outcome.TheVariants.{Optimised, Ran}
+use Rattle.mir_top.specs.declared.outcome.Outcome.TheVariants.{Optimised, Moved, Ran}
 use Rattle.mir_opt.specs.declared.trails.Trail.{Trail}
+use Rattle.mir_opt.specs.declared.trails.MoveTrail.{MoveTrail}
 use Rattle.mir_top.specs.Streams.{Stream, Failed, Took, TookAll}
 use Rattle.mir_top.specs.Commands.{command_of, Asks, inputs_in}
 use Rattle.mir_valid.specs.Texts.{IsTextOf, IsTextOfOnly}
 use Rattle.mir_top.specs.Texts.{text_limit, HasRead}
 use Rattle.mir_top.specs.Outputs.{Makes, Runs, Stops, reported}
 use Rattle.mir_top.specs.Statuses.{status_of, status_of_finish, status_of_outcome, Prevents, Happened, Answers, IsStopped, Tells}
+use Rattle.mir_top.proofs.Laws.{run_is_not_optimise, run_is_not_move, same_steps}
 
 -- ---- a source that tells its bytes
 
@@ -55,11 +57,11 @@ Comes words program out status =
     ((outcome : Outcome) × (output : List ℕ) × Makes words program outcome output × ((status ≡ status_of_outcome outcome) ⊎ Failed out))
     ⊎ ((cause : Cause) × Stops words program cause × (status ≡ status_of cause))
 
-comes : (words : List (List ℕ)) (source out err : Stream) (status : ℕ) (trail : Option Trail) (program : ProgramShape) → Answers words source out err status trail → Asks words → Tells source program → Comes words program out status
-comes words source out err status trail program (inl done) asked tells =
+comes : (words : List (List ℕ)) (source out err : Stream) (status : ℕ) (trail : Option Trail) (moved : Option MoveTrail) (program : ProgramShape) → Answers words source out err status trail moved → Asks words → Tells source program → Comes words program out status
+comes words source out err status trail moved program (inl done) asked tells =
     let made = done.done.made in
     inl (done.outcome, done.done.output, subst (λ (p : ProgramShape). Makes words p done.outcome done.done.output) (read_program source program tells made.text made.program made.read made.parsed) made.made, inl done.answered)
-comes words source out err status trail program (inr end) asked tells = go end.cause end.answered end.happened
+comes words source out err status trail moved program (inr end) asked tells = go end.cause end.answered end.happened
   where
     stopped : (cause : Cause) → status ≡ status_of cause → IsStopped words source cause → Comes words program out status
     stopped cause is stop = inr (cause, subst (λ (p : ProgramShape). Stops words p cause) (read_program source program tells stop.text stop.program stop.read stop.parsed) stop.stopped, is)
@@ -84,27 +86,27 @@ comes words source out err status trail program (inr end) asked tells = go end.c
 asks : (words : List (List ℕ)) (command : Command) → command_of words ≡ Some command → Asks words
 asks words command is = subst IsSome (sym is) refl
 
--- ---- `optimise`
+-- ---- `optimise` and `move`
 
-runs_is_not_optimise : (steps : ℕ) → Some Optimise ≡ Some (Run steps) → ⊥
-runs_is_not_optimise steps is = absurd (cc)
-
-pub complete : (words : List (List ℕ)) (source out err : Stream) (status : ℕ) (trail : Option Trail) (program : ProgramShape) → Answers words source out err status trail → Tells source program → command_of words ≡ Some Optimise → (Failed out → ⊥) → (status ≡ 0) ⊎ (status ≡ 8)
-complete words source out err status trail program answers tells asked calm = go (comes words source out err status trail program answers (asks words Optimise asked) tells)
+-- a command that is no run writes the text of a program
+writes_a_program : (words : List (List ℕ)) (source out err : Stream) (status : ℕ) (trail : Option Trail) (moved : Option MoveTrail) (program : ProgramShape) (command : Command) → Answers words source out err status trail moved → ((steps : ℕ) → Some command ≡ Some (Run steps) → ⊥)
+    → Tells source program → command_of words ≡ Some command → (Failed out → ⊥) → (status ≡ 0) ⊎ (status ≡ 8)
+writes_a_program words source out err status trail moved program command answers no_run tells asked calm = go (comes words source out err status trail moved program answers (asks words command asked) tells)
   where
     made : (outcome : Outcome) (output : List ℕ) → Makes words program outcome output → (status ≡ status_of_outcome outcome) ⊎ Failed out → (status ≡ 0) ⊎ (status ≡ 8)
+    made outcome output makes (inr failed) = absurd (calm failed)
     made (Optimised trail) output makes (inl is) = inl is
-    made (Optimised trail) output makes (inr failed) = absurd (calm failed)
-    made (Ran finish) output makes is = absurd (runs_is_not_optimise makes.0 (sym asked ∙ makes.1))
+    made (Moved trail) output makes (inl is) = inl is
+    made (Ran finish) output makes (inl is) = absurd (no_run makes.0 (sym asked ∙ makes.1))
 
     stops : (cause : Cause) → Stops words program cause → status ≡ status_of cause → (status ≡ 0) ⊎ (status ≡ 8)
     stops Usage why is = absurd why
-    stops (WrongInputs wanted) why is = absurd (runs_is_not_optimise why.0 (sym asked ∙ why.1))
+    stops (WrongInputs wanted) why is = absurd (no_run why.0 (sym asked ∙ why.1))
     stops ReadFault why is = absurd why
     stops TooLong why is = absurd why
     stops (Unreadable fault) why is = absurd why
     stops (Invalid fault) why is = absurd why
-    stops Deep why is = absurd (runs_is_not_optimise why.0 (sym asked ∙ why.1))
+    stops Deep why is = absurd (no_run why.0 (sym asked ∙ why.1))
     stops WriteFault why is = absurd why
     stops Memory why is = inr is
 
@@ -112,10 +114,13 @@ complete words source out err status trail program answers tells asked calm = go
     go (inl case) = made case.0 case.1 case.2 case.3
     go (inr case) = stops case.0 case.1 case.2
 
--- ---- `run`
+pub complete : (words : List (List ℕ)) (source out err : Stream) (status : ℕ) (trail : Option Trail) (moved : Option MoveTrail) (program : ProgramShape) → Answers words source out err status trail moved → Tells source program → command_of words ≡ Some Optimise → (Failed out → ⊥) → (status ≡ 0) ⊎ (status ≡ 8)
+complete words source out err status trail moved program answers = writes_a_program words source out err status trail moved program Optimise answers run_is_not_optimise
 
-same_steps : (one other : ℕ) → Some (Run one) ≡ Some (Run other) → one ≡ other
-same_steps one other is = cc
+pub complete_move : (words : List (List ℕ)) (source out err : Stream) (status : ℕ) (trail : Option Trail) (moved : Option MoveTrail) (program : ProgramShape) → Answers words source out err status trail moved → Tells source program → command_of words ≡ Some Move → (Failed out → ⊥) → (status ≡ 0) ⊎ (status ≡ 8)
+complete_move words source out err status trail moved program answers = writes_a_program words source out err status trail moved program Move answers run_is_not_move
+
+-- ---- `run`
 
 -- where a run is asked for: its report was made, the number of inputs is wrong, it has too many frames, or memory was wanting
 abbrev Running : List (List ℕ) → ProgramShape → ℕ → Stream → ℕ → Type 0
@@ -125,15 +130,16 @@ Running words program steps out status =
     ⊎ ((length (inputs_in words) ≡ inputs_of program) × (most_frames < (run program (inputs_in words) steps).depth) × (status ≡ 5))
     ⊎ (status ≡ 8)
 
-running : (words : List (List ℕ)) (source out err : Stream) (status : ℕ) (trail : Option Trail) (program : ProgramShape) (steps : ℕ) → Answers words source out err status trail → command_of words ≡ Some (Run steps) → Tells source program → Running words program steps out status
-running words source out err status trail program steps answers asked tells = go (comes words source out err status trail program answers (asks words (Run steps) asked) tells)
+running : (words : List (List ℕ)) (source out err : Stream) (status : ℕ) (trail : Option Trail) (moved : Option MoveTrail) (program : ProgramShape) (steps : ℕ) → Answers words source out err status trail moved → command_of words ≡ Some (Run steps) → Tells source program → Running words program steps out status
+running words source out err status trail moved program steps answers asked tells = go (comes words source out err status trail moved program answers (asks words (Run steps) asked) tells)
   where
     for_steps : (finish : Finish) (n : ℕ) → n ≡ steps → Runs words program n → finish ≡ (reported words program n).finish → (status ≡ status_of_finish finish) ⊎ Failed out → Running words program steps out status
     for_steps finish n same runs finishes (inl is) = inl (subst (Runs words program) same runs, inl (is ∙ ap status_of_finish finishes ∙ ap (λ (m : ℕ). status_of_finish (reported words program m).finish) same))
     for_steps finish n same runs finishes (inr failed) = inl (subst (Runs words program) same runs, inr failed)
 
     made : (outcome : Outcome) (output : List ℕ) → Makes words program outcome output → (status ≡ status_of_outcome outcome) ⊎ Failed out → Running words program steps out status
-    made (Optimised trail) output makes is = absurd (runs_is_not_optimise steps (sym makes.0 ∙ asked))
+    made (Optimised trail) output makes is = absurd (run_is_not_optimise steps (sym makes.0 ∙ asked))
+    made (Moved trail) output makes is = absurd (run_is_not_move steps (sym makes.0 ∙ asked))
     made (Ran finish) output makes is = for_steps finish makes.0 (same_steps makes.0 steps (sym makes.1 ∙ asked)) makes.2 makes.3 is
 
     stops : (cause : Cause) → Stops words program cause → status ≡ status_of cause → Running words program steps out status
@@ -151,9 +157,9 @@ running words source out err status trail program steps answers asked tells = go
     go (inl case) = made case.0 case.1 case.2 case.3
     go (inr case) = stops case.0 case.1 case.2
 
-pub complete_run : (words : List (List ℕ)) (source out err : Stream) (status : ℕ) (trail : Option Trail) (program : ProgramShape) (steps : ℕ) → Answers words source out err status trail → Tells source program → command_of words ≡ Some (Run steps) → length (inputs_in words) ≡ inputs_of program → (run program (inputs_in words) steps).depth ≤ most_frames
+pub complete_run : (words : List (List ℕ)) (source out err : Stream) (status : ℕ) (trail : Option Trail) (moved : Option MoveTrail) (program : ProgramShape) (steps : ℕ) → Answers words source out err status trail moved → Tells source program → command_of words ≡ Some (Run steps) → length (inputs_in words) ≡ inputs_of program → (run program (inputs_in words) steps).depth ≤ most_frames
     → (Failed out → ⊥) → (status ≡ status_of_finish (reported words program steps).finish) ⊎ (status ≡ 8)
-complete_run words source out err status trail program steps answers tells asked right shallow calm = go (running words source out err status trail program steps answers asked tells)
+complete_run words source out err status trail moved program steps answers tells asked right shallow calm = go (running words source out err status trail moved program steps answers asked tells)
   where
     go : Running words program steps out status → (status ≡ status_of_finish (reported words program steps).finish) ⊎ (status ≡ 8)
     go (inl (runs, inl is)) = inl is
@@ -162,8 +168,8 @@ complete_run words source out err status trail program steps answers tells asked
     go (inr (inr (inl (same, deep, is)))) = absurd (omega (arith, deep, shallow))
     go (inr (inr (inr is))) = inr is
 
-pub wrong_inputs : (words : List (List ℕ)) (source out err : Stream) (status : ℕ) (trail : Option Trail) (program : ProgramShape) (steps : ℕ) → Answers words source out err status trail → Tells source program → command_of words ≡ Some (Run steps) → length (inputs_in words) ≢ inputs_of program → (status ≡ 1) ⊎ (status ≡ 8)
-wrong_inputs words source out err status trail program steps answers tells asked wrong = go (running words source out err status trail program steps answers asked tells)
+pub wrong_inputs : (words : List (List ℕ)) (source out err : Stream) (status : ℕ) (trail : Option Trail) (moved : Option MoveTrail) (program : ProgramShape) (steps : ℕ) → Answers words source out err status trail moved → Tells source program → command_of words ≡ Some (Run steps) → length (inputs_in words) ≢ inputs_of program → (status ≡ 1) ⊎ (status ≡ 8)
+wrong_inputs words source out err status trail moved program steps answers tells asked wrong = go (running words source out err status trail moved program steps answers asked tells)
   where
     go : Running words program steps out status → (status ≡ 1) ⊎ (status ≡ 8)
     go (inl (runs, is)) = absurd (wrong runs.inputs)
@@ -171,8 +177,8 @@ wrong_inputs words source out err status trail program steps answers tells asked
     go (inr (inr (inl (right, deep, is)))) = absurd (wrong right)
     go (inr (inr (inr is))) = inr is
 
-pub too_deep : (words : List (List ℕ)) (source out err : Stream) (status : ℕ) (trail : Option Trail) (program : ProgramShape) (steps : ℕ) → Answers words source out err status trail → Tells source program → command_of words ≡ Some (Run steps) → length (inputs_in words) ≡ inputs_of program → most_frames < (run program (inputs_in words) steps).depth → (status ≡ 5) ⊎ (status ≡ 8)
-too_deep words source out err status trail program steps answers tells asked right deep = go (running words source out err status trail program steps answers asked tells)
+pub too_deep : (words : List (List ℕ)) (source out err : Stream) (status : ℕ) (trail : Option Trail) (moved : Option MoveTrail) (program : ProgramShape) (steps : ℕ) → Answers words source out err status trail moved → Tells source program → command_of words ≡ Some (Run steps) → length (inputs_in words) ≡ inputs_of program → most_frames < (run program (inputs_in words) steps).depth → (status ≡ 5) ⊎ (status ≡ 8)
+too_deep words source out err status trail moved program steps answers tells asked right deep = go (running words source out err status trail moved program steps answers asked tells)
   where
     go : Running words program steps out status → (status ≡ 5) ⊎ (status ≡ 8)
     go (inl (runs, is)) = absurd (omega (arith, runs.shallow, deep))
@@ -190,8 +196,8 @@ no_text : (text bytes : List ℕ) (program : ProgramShape) → bytes ≡ text �
 no_text text bytes program is short parsed (inl long) = let same : length bytes ≡ length text = ap length is in omega arith
 no_text text bytes program is short parsed (inr none) = none program (subst (λ (t : List ℕ). IsTextOf t program) is parsed)
 
-pub refuses : (words : List (List ℕ)) (source out err : Stream) (status : ℕ) (trail : Option Trail) (text : List ℕ) → Answers words source out err status trail → Asks words → source.old ≡ Some text → (Failed source → ⊥) → IsNone text → (status ≡ 2) ⊎ (status ≡ 8)
-refuses words source out err status trail text answers asked told calm none = go answers
+pub refuses : (words : List (List ℕ)) (source out err : Stream) (status : ℕ) (trail : Option Trail) (moved : Option MoveTrail) (text : List ℕ) → Answers words source out err status trail moved → Asks words → source.old ≡ Some text → (Failed source → ⊥) → IsNone text → (status ≡ 2) ⊎ (status ≡ 8)
+refuses words source out err status trail moved text answers asked told calm none = go answers
   where
     read : (bytes : List ℕ) (program : ProgramShape) → HasRead source bytes → IsTextOfOnly bytes program → ⊥
     read bytes program has parsed = no_text text bytes program (told_whole source text bytes told has.read) has.short parsed.is none
@@ -211,6 +217,6 @@ refuses words source out err status trail text answers asked told calm none = go
     happened cause is (inl why) = prevented cause is why.0
     happened cause is (inr why) = let made = why.1.made in absurd (read made.text made.program made.read made.parsed)
 
-    go : Answers words source out err status trail → (status ≡ 2) ⊎ (status ≡ 8)
+    go : Answers words source out err status trail moved → (status ≡ 2) ⊎ (status ≡ 8)
     go (inl done) = let made = done.done.made in absurd (read made.text made.program made.read made.parsed)
     go (inr end) = happened end.cause end.answered end.happened

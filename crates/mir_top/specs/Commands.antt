@@ -5,7 +5,7 @@ use Rattle.std.specs.Option.{option_map}
 use Rattle.std.specs.Cmp.Lexicographic.{pointwise}
 use Rattle.mir_lex.specs.Scanner.{number_of}
 use Rattle.mir_top.specs.declared.command.Command.{Command}
-use Rattle.mir_top.specs.declared.command.Command.TheVariants.{Optimise, Run}
+use Rattle.mir_top.specs.declared.command.Command.TheVariants.{Optimise, Move, Run}
 
 abbrev pub is_word : List ℕ → List ℕ → Bool
 is_word word text = pointwise nat_eq word text
@@ -23,10 +23,10 @@ steps_in (Some (negsuc z)) = None
 abbrev pub steps_of : List ℕ → Option ℕ
 steps_of word = if slice_index word 0 == 45 then None else steps_in (number_of word)
 
--- `optimise` alone
-abbrev pub optimise_of : List (List ℕ) → Option Command
-optimise_of [] = Some Optimise
-optimise_of (argument ∷ arguments) = None
+-- a command whose word stands alone
+abbrev pub alone_of : Command → List (List ℕ) → Option Command
+alone_of command [] = Some command
+alone_of command (argument ∷ arguments) = None
 
 -- an optional `-` and decimal digits, of a signed 64-bit number
 abbrev pub is_number : List ℕ → Bool
@@ -40,7 +40,8 @@ run_of (steps ∷ inputs) = if list_all is_number inputs then option_map (λ cou
 -- the command that these words are
 abbrev pub command_of : List (List ℕ) → Option Command
 command_of [] = None
-command_of (word ∷ arguments) = if is_word word (codes "optimise") then optimise_of arguments else if is_word word (codes "run") then run_of arguments else None
+command_of (word ∷ arguments) =
+    if is_word word (codes "optimise") then alone_of Optimise arguments else if is_word word (codes "move") then alone_of Move arguments else if is_word word (codes "run") then run_of arguments else None
 
 -- the words are those of a command
 abbrev pub Asks : List (List ℕ) → Type 0

@@ -50,7 +50,7 @@ valid_line (NoMemoryForProgram refused) = codes "out of memory\n"
 
 -- the line of a cause, with its line feed
 abbrev pub line_of : Cause → List ℕ
-line_of Usage = codes "usage: mir optimise | run STEPS [N ..]\n"
+line_of Usage = codes "usage: mir optimise | move | run STEPS [N ..]\n"
 line_of (WrongInputs wanted) = codes "wrong inputs: " ++ decimal wanted ++ codes " wanted\n"
 line_of TooLong = codes "text longer than 1048576 bytes\n"
 line_of (Unreadable fault) = text_line fault

@@ -9,22 +9,34 @@ use Rattle.mir_interp.specs.declared.report.Finish.{Finish}
 use Rattle.mir_interp.specs.declared.report.Finish.TheVariants.{Running, Ended, Trapped}
 use Rattle.mir_interp.specs.declared.report.Report.{Report}
 use Rattle.mir_interp.specs.Reports.{report_of, most_frames}
-use Rattle.mir_top.specs.declared.command.Command.TheVariants.{Optimise, Run}
+use Rattle.mir_top.specs.declared.command.Command.TheVariants.{Optimise, Move, Run}
 use Rattle.mir_opt.specs.declared.trails.Trail.{Trail}
-use Rattle.mir_opt.specs.Links.{IsLinked}
+use Rattle.mir_opt.specs.declared.trails.MoveTrail.{MoveTrail}
+use Rattle.mir_opt.specs.Links.{IsLinked, IsMoveLinked}
+use Rattle.mir_opt.specs.Best.{TrailIsBest, MoveTrailIsBest}
 use Rattle.mir_top.specs.declared.outcome.Outcome.{Outcome}
-use Rattle.mir_top.specs.declared.outcome.Outcome.TheVariants.{Optimised, Ran}
+use Rattle.mir_top.specs.declared.outcome.Outcome.TheVariants.{Optimised, Moved, Ran}
 use Rattle.mir_top.specs.declared.cause.Cause.{Cause}
 use Rattle.mir_top.specs.declared.cause.Cause.TheVariants.{Usage, WrongInputs, ReadFault, TooLong, Unreadable, Invalid, Deep, WriteFault, Memory}
 use Rattle.mir_top.specs.Commands.{command_of, inputs_in}
 
 -- ---- `optimise`
 
--- the trail of the program is linked, and its target is the same program
+-- the trail of the program is linked, its target is the same program, and its code motion is the best
 pub record Optimises (program : ProgramShape) (trail : Trail) : Type 0 where
   pub source : trail.source ≡ program
   pub linked : IsLinked trail
   pub same : Same trail.source trail.target
+  pub best : TrailIsBest trail
+
+-- ---- `move`
+
+-- the same of the trail of code motion alone
+pub record MovesCode (program : ProgramShape) (trail : MoveTrail) : Type 0 where
+  pub source : trail.source ≡ program
+  pub linked : IsMoveLinked trail
+  pub same : Same trail.source trail.target
+  pub best : MoveTrailIsBest trail
 
 -- ---- `run`
 
@@ -49,11 +61,12 @@ pub record Runs (words : List (List ℕ)) (program : ProgramShape) (steps : ℕ)
   pub inputs : length (inputs_in words) ≡ inputs_of program
   pub shallow : (run program (inputs_in words) steps).depth ≤ most_frames
 
--- ---- both
+-- ---- all commands
 
 -- the words ask for this outcome of the program, whose text is the output
 abbrev pub Makes : List (List ℕ) → ProgramShape → Outcome → List ℕ → Type 0
 Makes words program (Optimised trail) output = (command_of words ≡ Some Optimise) × Optimises program trail × (output ≡ canonical_text trail.target)
+Makes words program (Moved trail) output = (command_of words ≡ Some Move) × MovesCode program trail × (output ≡ canonical_text trail.target)
 Makes words program (Ran finish) output =
     (steps : ℕ) × (command_of words ≡ Some (Run steps)) × Runs words program steps × (finish ≡ (reported words program steps).finish) × (output ≡ report_text (reported words program steps))
 

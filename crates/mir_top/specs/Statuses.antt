@@ -5,8 +5,9 @@ use Rattle.mir_base.specs.Runs.{inputs_of}
 use Rattle.mir_interp.specs.declared.report.Finish.{Finish}
 use Rattle.mir_interp.specs.declared.report.Finish.TheVariants.{Running as StillRunning, Ended as RunEnded, Trapped}
 use Rattle.mir_opt.specs.declared.trails.Trail.{Trail}
+use Rattle.mir_opt.specs.declared.trails.MoveTrail.{MoveTrail}
 use Rattle.mir_top.specs.declared.outcome.Outcome.{Outcome}
-use Rattle.mir_top.specs.declared.outcome.Outcome.TheVariants.{Optimised, Ran}
+use Rattle.mir_top.specs.declared.outcome.Outcome.TheVariants.{Optimised, Moved, Ran}
 use Rattle.mir_top.specs.declared.cause.Cause.{Cause}
 use Rattle.mir_top.specs.declared.cause.Cause.TheVariants.{Usage, WrongInputs, ReadFault, TooLong, Unreadable, Invalid, Deep, WriteFault, Memory}
 use Rattle.mir_top.specs.Streams.{Stream, Untouched, Failed, Took, Gave, GavePart, Tried}
@@ -26,11 +27,18 @@ status_of_finish StillRunning = 4
 
 abbrev pub status_of_outcome : Outcome → ℕ
 status_of_outcome (Optimised trail) = 0
+status_of_outcome (Moved trail) = 0
 status_of_outcome (Ran finish) = status_of_finish finish
 
 abbrev pub trail_of : Outcome → Option Trail
 trail_of (Optimised trail) = Some trail
+trail_of (Moved trail) = None
 trail_of (Ran finish) = None
+
+abbrev pub moved_of : Outcome → Option MoveTrail
+moved_of (Optimised trail) = None
+moved_of (Moved trail) = Some trail
+moved_of (Ran finish) = None
 
 -- a program was read, the text of no other, and this is what the words ask of it
 pub record IsMade (words : List (List ℕ)) (source : Stream) (outcome : Outcome) (output : List ℕ) : Type 0 where
@@ -106,30 +114,32 @@ Happened words source out cause = (Prevents words source cause × Untouched out)
 -- ---- the whole answer
 
 -- the output was written, and nothing was told
-pub record Succeeded (words : List (List ℕ)) (source out err : Stream) (status : ℕ) (trail : Option Trail) : Type 0 where
+pub record Succeeded (words : List (List ℕ)) (source out err : Stream) (status : ℕ) (trail : Option Trail) (moved : Option MoveTrail) : Type 0 where
   pub outcome : Outcome
   pub answered : status ≡ status_of_outcome outcome
   pub given : trail ≡ trail_of outcome
+  pub given_moved : moved ≡ moved_of outcome
   pub done : IsDone words source out outcome
   pub quiet : Untouched err
 
 -- a call ended by a cause, and tried to tell it
-pub record Ended (words : List (List ℕ)) (source out err : Stream) (status : ℕ) (trail : Option Trail) : Type 0 where
+pub record Ended (words : List (List ℕ)) (source out err : Stream) (status : ℕ) (trail : Option Trail) (moved : Option MoveTrail) : Type 0 where
   pub cause : Cause
   pub answered : status ≡ status_of cause
   pub given : trail ≡ None
+  pub given_moved : moved ≡ None
   pub happened : Happened words source out cause
   pub told : Tried err (line_of cause)
 
-abbrev pub Answers : List (List ℕ) → Stream → Stream → Stream → ℕ → Option Trail → Type 0
-Answers words source out err status trail = Succeeded words source out err status trail ⊎ Ended words source out err status trail
+abbrev pub Answers : List (List ℕ) → Stream → Stream → Stream → ℕ → Option Trail → Option MoveTrail → Type 0
+Answers words source out err status trail moved = Succeeded words source out err status trail moved ⊎ Ended words source out err status trail moved
 
 -- a call ended so: its output was written, or there was a cause why not
 abbrev pub HasEnded : List (List ℕ) → Stream → Stream → Result Outcome Cause → Type 0
 HasEnded words source out (Ok outcome) = IsDone words source out outcome
 HasEnded words source out (Err cause) = Happened words source out cause
 
--- its status and its trail, and what it told
+-- its status and its trails, and what it told
 abbrev pub status_at_end : Result Outcome Cause → ℕ
 status_at_end (Ok outcome) = status_of_outcome outcome
 status_at_end (Err cause) = status_of cause
@@ -137,6 +147,10 @@ status_at_end (Err cause) = status_of cause
 abbrev pub trail_at_end : Result Outcome Cause → Option Trail
 trail_at_end (Ok outcome) = trail_of outcome
 trail_at_end (Err cause) = None
+
+abbrev pub moved_at_end : Result Outcome Cause → Option MoveTrail
+moved_at_end (Ok outcome) = moved_of outcome
+moved_at_end (Err cause) = None
 
 abbrev pub Told : Result Outcome Cause → Stream → Type 0
 Told (Ok outcome) err = Untouched err

@@ -4,19 +4,20 @@ ghost use Rattle.mir_base.specs.Shapes.{ProgramShape};
 ghost use Rattle.mir_base.specs.Text.{canonical_text};
 ghost use Rattle.mir_base.specs.Runs.{Same, run, inputs_of};
 ghost use Rattle.mir_interp.specs.Reports.{most_frames};
-ghost use Rattle.mir_opt.specs.Links.{IsLinked};
+ghost use Rattle.mir_opt.specs.Best.{MoveTrailIsBest, TrailIsBest};
+ghost use Rattle.mir_opt.specs.Links.{IsLinked, IsMoveLinked};
 ghost use Rattle.mir_outside.specs.Transfer.{TakesAtMost};
 ghost use Rattle.mir_top.specs.Streams.{seen, Untouched, Failed, Gave, GavePart};
 ghost use Rattle.mir_top.specs.Commands.{command_of, inputs_in, Asks};
 ghost use Rattle.mir_valid.specs.Texts.{IsTextOf};
 ghost use Rattle.mir_top.specs.Texts.{text_limit};
 ghost use Rattle.mir_top.specs.Outputs.{reported};
-ghost use Rattle.mir_top.specs.Statuses.{Answers, Ended, HasEnded, Told, status_at_end, trail_at_end, IsLonger, IsRefused, IsStopped, IsPartlyWritten, IsReadAs, IsReported, Tells, status_of, status_of_finish};
+ghost use Rattle.mir_top.specs.Statuses.{Answers, Ended, HasEnded, Told, status_at_end, trail_at_end, moved_at_end, IsLonger, IsRefused, IsStopped, IsPartlyWritten, IsReadAs, IsReported, Tells, status_of, status_of_finish};
 
 use crate::message::tell;
 use crate::work::{Made, prepare};
 use crate::{Cause, Command, Outcome};
-use mir_opt::Trail;
+use mir_opt::{MoveTrail, Trail};
 use mir_outside::{Sink, Source, write_all};
 use std::alloc::Global;
 
@@ -27,11 +28,13 @@ pub struct Answer {
     pub status: u8,
     /// What the passes made of the program, exactly where the status is 0 under `optimise`.
     pub trail: Option<Trail>,
+    /// What code motion alone made of it, exactly where the status is 0 under `move`.
+    pub moved: Option<MoveTrail>,
 }
 
-/// Does what the words ask: `optimise` writes the canonical text of the target of the program that is read, and
-/// `run STEPS [N ..]` the report of its run. The text comes from the source, the output goes to `out`, and where this
-/// fails one line goes to `err`.
+/// Does what the words ask: `optimise` writes the canonical text of the target of the program that is read, `move` that of
+/// the target of code motion alone, and `run STEPS [N ..]` the report of its run. The text comes from the source, the
+/// output goes to `out`, and where this fails one line goes to `err`.
 ///
 /// The words are judged before anything is read, the text before anything is made of its program, and all of the output
 /// is made before anything is written. What is read and made does not see `out` and `err`, and what is written does not
@@ -46,16 +49,26 @@ pub fn top<S: Source, K: Sink, E: Sink>(
 ) -> Answer
     // The whole answer: an outcome and what was written, or a cause with its status, what happened, and its line.
     ensures answers { Answers (map string_bytes words.now) (seen S.left S.faults source.old source.new)
-        (seen K.written K.faults out.old out.new) (seen E.written E.faults err.old err.new) result.status result.trail }
+        (seen K.written K.faults out.old out.new) (seen E.written E.faults err.old err.new) result.status result.trail result.moved }
 
     // A trail comes exactly with status 0 under `optimise`: the source was read to its end, what was read is the text of
     // `trail.source`, the trail is linked, source and target are the same program, and the canonical text of the target
-    // was written, whole and nothing else.
+    // was written, whole and nothing else. Its code motion is the best: on every path from Start to a Return it evaluates
+    // each movable expression at most as often as any admissible placement does.
     ensures trail { IsSome result.trail ↔ ((result.status ≡ 0) × (command_of (map string_bytes words.now) ≡ Some Command.Optimise)) }
     ensures read { IfSome result.trail (λ trail. IsReadAs (seen S.left S.faults source.old source.new) trail.source) }
     ensures linked { IfSome result.trail IsLinked }
     ensures same { IfSome result.trail (λ trail. Same trail.source trail.target) }
+    ensures best { IfSome result.trail TrailIsBest }
     ensures written { IfSome result.trail (λ trail. Gave (seen K.written K.faults out.old out.new) (canonical_text trail.target)) }
+
+    // A move trail comes exactly with status 0 under `move`, and all this holds of it too.
+    ensures moved { IsSome result.moved ↔ ((result.status ≡ 0) × (command_of (map string_bytes words.now) ≡ Some Command.Move)) }
+    ensures read_move { IfSome result.moved (λ moved. IsReadAs (seen S.left S.faults source.old source.new) moved.source) }
+    ensures linked_move { IfSome result.moved IsMoveLinked }
+    ensures same_move { IfSome result.moved (λ moved. Same moved.source moved.target) }
+    ensures best_move { IfSome result.moved MoveTrailIsBest }
+    ensures written_move { IfSome result.moved (λ moved. Gave (seen K.written K.faults out.old out.new) (canonical_text moved.target)) }
 
     // Under `run` the statuses 0, 3 and 4 are those of a run that ended, trapped or still runs after so many steps. The
     // report of the run, by the meaning of the program that was read, was written, whole and nothing else.
@@ -104,7 +117,7 @@ pub fn top<S: Source, K: Sink, E: Sink>(
     // With the statuses 0, 3 and 4 nothing is written to `err`, and else the line of the cause, whole unless `err` fails.
     ensures quiet { Contains (0 ∷ 3 ∷ 4 ∷ []) result.status → Untouched (seen E.written E.faults err.old err.new) }
     ensures told { ¬ Contains (0 ∷ 3 ∷ 4 ∷ []) result.status → Ended (map string_bytes words.now) (seen S.left S.faults source.old source.new)
-        (seen K.written K.faults out.old out.new) (seen E.written E.faults err.old err.new) result.status result.trail }
+        (seen K.written K.faults out.old out.new) (seen E.written E.faults err.old err.new) result.status result.trail result.moved }
 
     // Whatever the answer, at most one byte more than a text may have is taken from the source.
     ensures most { TakesAtMost (S.left source.old) (S.left source.new) (text_limit + 1) }
@@ -112,6 +125,10 @@ pub fn top<S: Source, K: Sink, E: Sink>(
     // A valid text that a source tells gives what the words ask, where nothing fails and memory is left.
     ensures complete { (program : ProgramShape) → Tells (seen S.left S.faults source.old source.new) program
         → command_of (map string_bytes words.now) ≡ Some Command.Optimise
+        → ¬ Failed (seen K.written K.faults out.old out.new)
+        → (result.status ≡ 0) ⊎ (result.status ≡ 8) }
+    ensures complete_move { (program : ProgramShape) → Tells (seen S.left S.faults source.old source.new) program
+        → command_of (map string_bytes words.now) ≡ Some Command.Move
         → ¬ Failed (seen K.written K.faults out.old out.new)
         → (result.status ≡ 0) ⊎ (result.status ≡ 8) }
     ensures complete_run { (program : ProgramShape) (steps : ℕ) → Tells (seen S.left S.faults source.old source.new) program
@@ -132,7 +149,7 @@ fn serve<S: Source, K: Sink, E: Sink>(
 ) -> Answer
     ensures most { TakesAtMost (S.left source.old) (S.left source.new) (text_limit + 1) }
     ensures answers { Answers (map string_bytes words.now) (seen S.left S.faults source.old source.new)
-        (seen K.written K.faults out.old out.new) (seen E.written E.faults err.old err.new) result.status result.trail }
+        (seen K.written K.faults out.old out.new) (seen E.written E.faults err.old err.new) result.status result.trail result.moved }
 {
     let ended = attempt(alloc, words, source, out);
     conclude(ended, err)
@@ -171,6 +188,7 @@ fn deliver<K: Sink>(made: Made, out: &mut K) -> Result<Outcome, Cause>
 fn conclude<E: Sink>(ended: Result<Outcome, Cause>, err: &mut E) -> Answer
     ensures status { result.status ≡ status_at_end ended }
     ensures trail { result.trail ≡ trail_at_end ended }
+    ensures moved { result.moved ≡ moved_at_end ended }
     ensures told { Told ended (seen E.written E.faults err.old err.new) }
 {
     match ended {
@@ -180,6 +198,7 @@ fn conclude<E: Sink>(ended: Result<Outcome, Cause>, err: &mut E) -> Answer
             Answer {
                 status: cause.status(),
                 trail: None,
+                moved: None,
             }
         }
     }

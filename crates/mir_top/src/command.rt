@@ -1,7 +1,7 @@
 // The commands, by their words.
 ghost use Rattle.std.specs.Prelude.{◌≡◌, ◌==◌, map, slice_index, string_bytes, IfOk};
 ghost use Rattle.std.specs.List.{list_all};
-ghost use Rattle.mir_top.specs.Commands.{command_of, optimise_of, run_of, steps_in, steps_of, is_number, is_word, number_or_zero, inputs_in};
+ghost use Rattle.mir_top.specs.Commands.{command_of, alone_of, run_of, steps_in, steps_of, is_number, is_word, number_or_zero, inputs_in};
 
 use mir_base::Memory;
 use mir_lex::number;
@@ -15,6 +15,8 @@ const MOST_STEPS: i64 = 1_000_000;
 pub enum Command {
     /// `optimise`: the canonical text of the target of the program that is read.
     Optimise,
+    /// `move`: the same of the target of code motion alone.
+    Move,
     /// `run STEPS [N ..]`: the report of the run of the program, with the inputs N, after so many steps or at its end.
     Run(u64),
 }
@@ -28,7 +30,9 @@ impl Command {
             [] => None,
             [word, arguments @ ..] => {
                 if is_word(word.as_bytes(), b"optimise") {
-                    optimise(arguments)
+                    alone(Command::Optimise, arguments)
+                } else if is_word(word.as_bytes(), b"move") {
+                    alone(Command::Move, arguments)
                 } else if is_word(word.as_bytes(), b"run") {
                     run(arguments)
                 } else {
@@ -60,11 +64,12 @@ fn numbers(alloc: Global, words: &[String]) -> Result<Vec<i64>, Memory>
     Ok(numbers)
 }
 
-fn optimise(arguments: &[String]) -> Option<Command>
-    ensures { result ≡ optimise_of (map string_bytes arguments.now) }
+/// The command, where no word follows its own.
+fn alone(command: Command, arguments: &[String]) -> Option<Command>
+    ensures { result ≡ alone_of command (map string_bytes arguments.now) }
 {
     match arguments {
-        [] => Some(Command::Optimise),
+        [] => Some(command),
         [_, ..] => None,
     }
 }

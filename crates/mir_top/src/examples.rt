@@ -234,15 +234,16 @@ main: begin
 receive n(val)
 s <- 0
 i <- 1
+h1 <- n * 8
 L1: if i > n goto L2
 t <- square,(i,int)
-k <- n * 8
+k <- h1
 s <- s + t
 s <- s + k
 i <- i + 1
 goto L1
 L2: print s
-m <- n * 8
+m <- h1
 print m
 return s
 end

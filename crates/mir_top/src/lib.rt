@@ -3,8 +3,9 @@
 //!
 //! In go the words, the bytes of the source and memory; out come the bytes on the output, a line of complaint on the
 //! error output, a status, and the programs that were read and made. The theorem is on `top`: what is written is the
-//! canonical text of a program that is the same as the one that was read, or the report of its run, and every other
-//! answer has its cause.
+//! canonical text of a program that is the same as the one that was read, and whose code motion evaluates nothing more
+//! often on any full path than an admissible placement does, or it is the report of its run; and every other answer has
+//! its cause.
 #![tactic(auto)]
 
 mod call;
@@ -14,6 +15,8 @@ mod command;
 mod examples;
 mod making;
 mod message;
+#[cfg(test)]
+mod motion_examples;
 mod outcome;
 mod reading;
 #[cfg(test)]

@@ -8,7 +8,7 @@ use crate::report_text::text_of_report;
 use crate::{Cause, Command, Outcome};
 use mir_base::Program;
 use mir_interp::{RunFault, run};
-use mir_opt::optimise;
+use mir_opt::{motion, optimise};
 use mir_print::print;
 use std::alloc::Global;
 
@@ -24,12 +24,18 @@ pub fn make(
     ensures stopped { IfErr result (Stops (map string_bytes words.now) program.now) }
 {
     match command {
-        Command::Optimise => target(alloc, words, program),
+        Command::Optimise => optimised_text(alloc, words, program),
+        Command::Move => moved_text(alloc, words, program),
         Command::Run(steps) => report(alloc, words, steps, program),
     }
 }
 
-fn target(alloc: Global, words: &[String], source: &Program) -> Result<(Outcome, Vec<u8>), Cause>
+/// The text of the target of the passes.
+fn optimised_text(
+    alloc: Global,
+    words: &[String],
+    source: &Program,
+) -> Result<(Outcome, Vec<u8>), Cause>
     requires { command_of (map string_bytes words.now) ≡ Some Command.Optimise }
     ensures made { IfOk result (λ made. Makes (map string_bytes words.now) source.now made.0 made.1.items) }
     ensures stopped { IfErr result (Stops (map string_bytes words.now) source.now) }
@@ -40,6 +46,26 @@ fn target(alloc: Global, words: &[String], source: &Program) -> Result<(Outcome,
     };
     match print(alloc, &trail.target) {
         Ok(output) => Ok((Outcome::Optimised(trail), output)),
+        Err(_) => Err(Cause::Memory),
+    }
+}
+
+/// The text of the target of code motion alone.
+fn moved_text(
+    alloc: Global,
+    words: &[String],
+    source: &Program,
+) -> Result<(Outcome, Vec<u8>), Cause>
+    requires { command_of (map string_bytes words.now) ≡ Some Command.Move }
+    ensures made { IfOk result (λ made. Makes (map string_bytes words.now) source.now made.0 made.1.items) }
+    ensures stopped { IfErr result (Stops (map string_bytes words.now) source.now) }
+{
+    let _ = words;
+    let Ok(moved) = motion(alloc, source) else {
+        return Err(Cause::Memory);
+    };
+    match print(alloc, &moved.target) {
+        Ok(output) => Ok((Outcome::Moved(moved), output)),
         Err(_) => Err(Cause::Memory),
     }
 }

@@ -82,7 +82,7 @@ fn message_of(cause: &Cause) -> Message
     ensures { result.before.now ++ number_text result.number ++ result.after.now ≡ line_of cause.now }
 {
     match cause {
-        Cause::Usage => words(b"usage: mir optimise | run STEPS [N ..]\n"),
+        Cause::Usage => words(b"usage: mir optimise | move | run STEPS [N ..]\n"),
         Cause::WrongInputs(wanted) => Message {
             before: b"wrong inputs: ",
             number: Some(*wanted),

@@ -1,16 +1,18 @@
 // What was made of a program.
 ghost use Rattle.std.specs.Prelude.{◌≡◌};
-ghost use Rattle.mir_top.specs.Statuses.{status_of_finish, status_of_outcome, trail_of};
+ghost use Rattle.mir_top.specs.Statuses.{moved_of, status_of_finish, status_of_outcome, trail_of};
 
 use crate::Answer;
 use mir_interp::Finish;
-use mir_opt::Trail;
+use mir_opt::{MoveTrail, Trail};
 
 /// What was made of a program that was read, and written.
 #[derive(Drop)]
 pub enum Outcome {
     /// What the passes made of it.
     Optimised(Trail),
+    /// What code motion alone made of it.
+    Moved(MoveTrail),
     /// The report of its run, which stands like this.
     Ran(Finish),
 }
@@ -20,15 +22,23 @@ impl Outcome {
     pub fn answer(self) -> Answer
         ensures status { result.status ≡ status_of_outcome self }
         ensures trail { result.trail ≡ trail_of self }
+        ensures moved { result.moved ≡ moved_of self }
     {
         match self {
             Outcome::Optimised(trail) => Answer {
                 status: 0,
                 trail: Some(trail),
+                moved: None,
+            },
+            Outcome::Moved(trail) => Answer {
+                status: 0,
+                trail: None,
+                moved: Some(trail),
             },
             Outcome::Ran(finish) => Answer {
                 status: status_of_finish(finish),
                 trail: None,
+                moved: None,
             },
         }
     }

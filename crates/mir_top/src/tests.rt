@@ -1,5 +1,6 @@
 // Worked examples, byte for byte, and calls whose source, output or memory fails.
 use crate::examples::EXAMPLES;
+use crate::motion_examples::{MOTION_EXAMPLES, diamonds, moved_diamonds};
 use crate::refusals::REFUSALS;
 use crate::top;
 use mir_outside::{MemSink, MemSource};
@@ -60,7 +61,7 @@ fn call(alloc: Global, words: &str, text: &[u8], on: Devices) -> Result<Seen, Al
     let fails = one(alloc, on.failing_read)?;
     let mut source = MemSource::new(text.to_vec(alloc)?, on.read_piece.max(1), fails);
     let fails = one(alloc, on.failing_write)?;
-    let mut out = MemSink::new(alloc, on.write_piece.max(1), fails, 40_000)?;
+    let mut out = MemSink::new(alloc, on.write_piece.max(1), fails, 60_000)?;
     let fails = one(alloc, on.failing_line)?;
     let mut err = MemSink::new(alloc, 4, fails, 100)?;
     let answer = top(alloc, &words, &mut source, &mut out, &mut err);
@@ -111,6 +112,21 @@ fn worked_examples(rt: HostRuntime) -> Result<(), Fail> {
 }
 
 #[test]
+fn worked_examples_of_code_motion(rt: HostRuntime) -> Result<(), Fail> {
+    assert_eq!(rt; first_wrong(rt.alloc(), MOTION_EXAMPLES, true)?, None);
+    Ok(())
+}
+
+#[test]
+fn a_thousand_diamonds(rt: HostRuntime) -> Result<(), Fail> {
+    let text = diamonds(rt.alloc())?;
+    let output = moved_diamonds(rt.alloc())?;
+    let seen = call(rt.alloc(), "move", &text, CALM)?;
+    assert!(rt; seen.left(0, &output, b""));
+    Ok(())
+}
+
+#[test]
 fn refusals(rt: HostRuntime) -> Result<(), Fail> {
     assert_eq!(rt; first_wrong(rt.alloc(), REFUSALS, false)?, None);
     Ok(())
@@ -143,7 +159,8 @@ fn other_words_are_a_usage_fault(rt: HostRuntime) -> Result<(), Fail> {
         "optimize",
         "Optimise",
         "optimise x",
-        "move",
+        "Move",
+        "move 1",
         "run",
         "run x",
         "run 1000001",
@@ -156,7 +173,7 @@ fn other_words_are_a_usage_fault(rt: HostRuntime) -> Result<(), Fail> {
     ] {
         let seen = call(rt.alloc(), words, SMALLEST, CALM)?;
         assert!(rt;
-            seen.left(1, b"", b"usage: mir optimise | run STEPS [N ..]\n"),
+            seen.left(1, b"", b"usage: mir optimise | move | run STEPS [N ..]\n"),
             "at {words}"
         );
     }
@@ -231,11 +248,11 @@ fn devices_that_fail(rt: HostRuntime) -> Result<(), Fail> {
 #[test]
 fn memory_that_is_refused(rt: HostRuntime) {
     let text = b"main: begin\nreceive a(val)\nif a goto L\nx <- 1\nL: goto M\nM: print x\nend\n";
-    let outputs: [(&str, &[u8]); 2] = [
-        (
-            "optimise",
-            b"main: begin\nreceive a(val)\nif a goto L1\nx <- 1\nL1: print x\nreturn 0\nend\n",
-        ),
+    let cleaned =
+        b"main: begin\nreceive a(val)\nif a goto L1\nx <- 1\nL1: print x\nreturn 0\nend\n";
+    let outputs: [(&str, &[u8]); 3] = [
+        ("optimise", cleaned),
+        ("move", cleaned),
         ("run 9 0", b"1\nresult 0\nevals 0\n"),
     ];
     for (words, output) in outputs {

@@ -1,0 +1,12 @@
+use Rattle.mir_opt.specs.Made.{UnitMoved}
+use Rattle.mir_opt.proofs.Making.{one_more}
+use Rattle.mir_opt.proofs.Fits.{fits_lower}
+use Rattle.mir_opt.proofs.moves.all_moves.Goals as goal
+
+pub one_move-requires : goal.one_move-requires
+one_move-requires c = fits_lower c.args.program.now.units c.unit.result.now.body c.unit.ensures.fits
+
+pub loop-number-preserved : goal.loop-number-preserved
+loop-number-preserved c =
+    one_more UnitMoved c.args.program.now.units c.loop-number.units.items c.push.new.self.items c.loop-number.targets.items c.push-in-loop-number.new.self.items c.loop-number.number c.unit.result.now c.in_ok-made.made.unit c.in_ok-made.made.target
+    c.loop-number.invariant c.unit.ensures.unit c.in_ok-made.ensures c.in_ok-push.ensures.items c.in_ok-push-2.ensures.items
