@@ -1,4 +1,7 @@
 pub mod Views
 pub mod Ops
-pub mod Long
+pub mod Splices
+pub mod Flat
 pub mod NextBits
+pub mod Whole
+mod Grown

@@ -30,3 +30,8 @@ row_of rows row = slice_index_or rows row []
 -- each row has so many bits
 pub record AreEquallyLong (bits : ℕ) (rows : List (List Bool)) : Type 0 where
   pub each : (row : ℕ) → row < length rows → length (row_of rows row) ≡ bits
+
+-- as many rows as the first, each with as many bits
+pub record AreAlike (rows other : List (List Bool)) : Type 0 where
+  pub len : length other ≡ length rows
+  pub each : (n : ℕ) → n < length rows → length (row_of other n) ≡ length (row_of rows n)

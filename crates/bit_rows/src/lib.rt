@@ -5,14 +5,17 @@
 //! operation takes one pass over the words, and none but the calls that make rows takes memory.
 #![tactic(auto)]
 
+mod packed;
 mod row;
 mod rows;
 #[cfg(test)]
 mod tests;
+mod view;
 mod words;
 
 pub use row::Row;
 pub use rows::Rows;
+pub use view::RowView;
 
 /// Want of memory: the allocator refused.
 pub type Memory = std::alloc::AllocError;

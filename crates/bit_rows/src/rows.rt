@@ -1,27 +1,34 @@
 // Rows of truth values, all equally long.
-ghost use Rattle.std.specs.Prelude.{◌≡◌, ℕ, ◌<◌, ◌↔◌, IsTrue, false, IfOk, List, length, slice_index_or, slice_set, replicate};
-ghost use Rattle.bit_rows.specs.Bits.{AreEquallyLong, or_bits, and_bits, minus_bits, not_bits, row_of};
+ghost use Rattle.std.specs.Prelude.{◌≡◌, ℕ, ◌<◌, ◌≤◌, ◌↔◌, ◌&&◌, ◌||◌, not, IsTrue, false, if◌then◌else◌, is_ok, IfOk, List, [], ◌∷◌, ◌++◌, length, slice_index_or, slice_set, replicate};
+ghost use Rattle.bit_rows.specs.Bits.{AreAlike, AreEquallyLong, or_bits, and_bits, minus_bits, not_bits, row_of};
 
-use crate::{Memory, Row};
-use std::alloc::Global;
+use crate::packed::{and_row, copy_row, flip_row, minus_row, or_row, row_words, set_row_bit};
+use crate::words::{and_words, minus_words, or_words};
+use crate::{Memory, RowView};
+use std::alloc::{AllocError, Global};
 use std::marker::Model;
 
 /// Rows of truth values, all equally long. Contracts see them as a list of lists.
+///
+/// They are kept in words of 64 bits, each row in as many as it needs, one after the other; the bits past the last of a
+/// row are not set.
 #[derive(Drop)]
 pub struct Rows {
+    rows: usize,
     bits: usize,
-    rows: Vec<Row>,
+    stride: usize,
+    words: Vec<u64>,
 }
 
 impl Model for Rows {
-    ghost use Rattle.std.specs.Prelude.{ℕ, List, Bool};
-    ghost use Rattle.bit_rows.specs.Bits.{AreEquallyLong};
+    ghost use Rattle.std.specs.Prelude.{List, Bool};
+    ghost use Rattle.bit_rows.specs.Words.{rows_of, FitsRows};
 
     ghost Value = { List (List Bool) };
 
-    ghost view = { λ rows. rows.rows.items };
+    ghost view = { λ rows. rows_of rows.rows rows.bits rows.stride rows.words.items };
 
-    ghost invariant = { λ rows. AreEquallyLong rows.bits rows.rows.items };
+    ghost invariant = { λ rows. FitsRows rows.rows rows.bits rows.stride rows.words.items };
 }
 
 impl Rows {
@@ -29,18 +36,75 @@ impl Rows {
     pub fn new(alloc: Global, rows: usize, bits: usize) -> Result<Rows, Memory>
         ensures { IfOk result (λ made. made ≡ replicate rows (replicate bits false)) }
     {
-        let mut made = Vec::new(alloc);
-        for _row in 0..rows {
-            made.push(Row::new(alloc, bits)?)?;
-        }
-        Ok(Rows { bits, rows: made })
+        let stride = bits.div_ceil(64);
+        let Some(count) = stride.checked_mul(rows) else {
+            return Err(AllocError);
+        };
+        Ok(Rows {
+            rows,
+            bits,
+            stride,
+            words: vec![in alloc; 0u64; count]?,
+        })
+    }
+
+    /// No rows yet, with room for so many of so many bits. Its only refusal is want of memory.
+    pub fn with_room(alloc: Global, rows: usize, bits: usize) -> Result<Rows, Memory>
+        ensures { IfOk result (λ made. made ≡ []) }
+    {
+        let stride = bits.div_ceil(64);
+        let Some(count) = stride.checked_mul(rows) else {
+            return Err(AllocError);
+        };
+        Ok(Rows {
+            rows: 0,
+            bits,
+            stride,
+            words: Vec::with_capacity(alloc, count)?,
+        })
+    }
+
+    /// Puts a row at the end, as long as those that stand. Its only refusal is want of memory, and the rows are then as
+    /// they were.
+    pub fn push(&mut self, row: &RowView<'_>) -> Result<(), Memory>
+        requires { AreEquallyLong (length row.now) self.old }
+        ensures { self.new ≡ (if is_ok result then self.old ++ row.now ∷ [] else self.old) }
+    {
+        let Some(rows) = self.rows.checked_add(1) else {
+            return Err(AllocError);
+        };
+        self.words.extend_from_slice(row.words)?;
+        self.rows = rows;
+        self.bits = row.bits;
+        self.stride = row.words.len();
+        Ok(())
+    }
+
+    /// Puts a row of so many bits, all false, at the end; those that stand are as long. Its only refusal is want of
+    /// memory, and the rows are then as they were.
+    pub fn push_false(&mut self, bits: usize) -> Result<(), Memory>
+        requires { AreEquallyLong bits self.old }
+        ensures { self.new ≡ (if is_ok result then self.old ++ replicate bits false ∷ [] else self.old) }
+    {
+        let stride = bits.div_ceil(64);
+        let Some(rows) = self.rows.checked_add(1) else {
+            return Err(AllocError);
+        };
+        let Some(count) = self.words.len().checked_add(stride) else {
+            return Err(AllocError);
+        };
+        self.words.resize(count, 0)?;
+        self.rows = rows;
+        self.bits = bits;
+        self.stride = stride;
+        Ok(())
     }
 
     /// How many rows there are. It takes no memory.
     pub fn len(&self) -> usize
         ensures { result ≡ length self.now }
     {
-        self.rows.len()
+        self.rows
     }
 
     /// How many bits each row has; where there is no row, any number. It takes no memory.
@@ -51,11 +115,14 @@ impl Rows {
     }
 
     /// The row of a number, counted from 0. It takes no memory.
-    pub fn row(&self, row: usize) -> &Row
+    pub fn row(&self, row: usize) -> RowView<'_>
         requires { row < length self.now }
-        ensures { result.now ≡ row_of self.now row }
+        ensures { result ≡ row_of self.now row }
     {
-        &self.rows[row]
+        RowView {
+            bits: self.bits,
+            words: row_words(&self.words, self.stride, row),
+        }
     }
 
     /// One bit. It takes no memory.
@@ -64,7 +131,7 @@ impl Rows {
         requires bit { bit < length (row_of self.now row) }
         ensures { result ≡ slice_index_or (row_of self.now row) bit false }
     {
-        self.rows[row].get(bit)
+        self.row(row).get(bit)
     }
 
     /// Sets or clears one bit. It takes no memory.
@@ -73,7 +140,7 @@ impl Rows {
         requires bit { bit < length (row_of self.old row) }
         ensures { self.new ≡ slice_set self.old row (slice_set (row_of self.old row) bit value) }
     {
-        self.rows[row].set(bit, value);
+        set_row_bit(&mut self.words, self.stride, row, bit, value);
     }
 
     /// The row becomes its disjunction with a row of the other. It takes no memory.
@@ -83,7 +150,8 @@ impl Rows {
         requires equally_long { length (row_of self.old row) ≡ length (row_of other.now from) }
         ensures { self.new ≡ slice_set self.old row (or_bits (row_of self.old row) (row_of other.now from)) }
     {
-        let _changed = self.rows[row].or_from(&other.rows[from]);
+        let more = row_words(&other.words, other.stride, from);
+        or_row(&mut self.words, self.stride, row, more);
     }
 
     /// The row becomes its conjunction with a row of the other. It takes no memory.
@@ -93,7 +161,8 @@ impl Rows {
         requires equally_long { length (row_of self.old row) ≡ length (row_of other.now from) }
         ensures { self.new ≡ slice_set self.old row (and_bits (row_of self.old row) (row_of other.now from)) }
     {
-        self.rows[row].and_from(&other.rows[from]);
+        let only = row_words(&other.words, other.stride, from);
+        and_row(&mut self.words, self.stride, row, only);
     }
 
     /// The row keeps what is not in a row of the other. It takes no memory.
@@ -103,7 +172,8 @@ impl Rows {
         requires equally_long { length (row_of self.old row) ≡ length (row_of other.now from) }
         ensures { self.new ≡ slice_set self.old row (minus_bits (row_of self.old row) (row_of other.now from)) }
     {
-        self.rows[row].minus_from(&other.rows[from]);
+        let less = row_words(&other.words, other.stride, from);
+        minus_row(&mut self.words, self.stride, row, less);
     }
 
     /// Whether the row has the same bits as a row of the other. It takes no memory.
@@ -113,7 +183,7 @@ impl Rows {
         requires equally_long { length (row_of self.now row) ≡ length (row_of other.now from) }
         ensures { IsTrue result ↔ (row_of self.now row ≡ row_of other.now from) }
     {
-        self.rows[row].is_same(&other.rows[from])
+        self.row(row).is_same(&other.row(from))
     }
 
     /// Each bit of the row becomes the other truth value. It takes no memory.
@@ -121,15 +191,78 @@ impl Rows {
         requires { row < length self.old }
         ensures { self.new ≡ slice_set self.old row (not_bits (row_of self.old row)) }
     {
-        self.rows[row].flip();
+        flip_row(&mut self.words, self.stride, row, self.bits);
     }
 
     /// The row becomes equal to another. It takes no memory.
-    pub fn copy_from(&mut self, row: usize, from: &Row)
+    pub fn copy_from(&mut self, row: usize, from: &RowView<'_>)
         requires row { row < length self.old }
         requires equally_long { length (row_of self.old row) ≡ length from.now }
         ensures { self.new ≡ slice_set self.old row from.now }
     {
-        self.rows[row].copy_from(from);
+        copy_row(&mut self.words, self.stride, row, from.words);
+    }
+
+    /// The row becomes its disjunction with another. It takes no memory.
+    pub fn or_from(&mut self, row: usize, from: &RowView<'_>)
+        requires row { row < length self.old }
+        requires equally_long { length (row_of self.old row) ≡ length from.now }
+        ensures { self.new ≡ slice_set self.old row (or_bits (row_of self.old row) from.now) }
+    {
+        or_row(&mut self.words, self.stride, row, from.words);
+    }
+
+    /// The same rows once more. Its only refusal is want of memory.
+    pub fn copied(&self, alloc: Global) -> Result<Rows, Memory>
+        ensures { IfOk result (λ made. made ≡ self.now) }
+    {
+        Ok(Rows {
+            rows: self.rows,
+            bits: self.bits,
+            stride: self.stride,
+            words: Vec::from_slice(alloc, &self.words)?,
+        })
+    }
+
+    /// Each row becomes its disjunction with that of the other. It takes no memory.
+    pub fn or_rows(&mut self, other: &Rows)
+        requires { AreAlike self.old other.now }
+        ensures alike { AreAlike self.old self.new }
+        ensures rows { (n : ℕ) → row_of self.new n ≡ or_bits (row_of self.old n) (row_of other.now n) }
+        ensures bits { (n b : ℕ) → slice_index_or (row_of self.new n) b false ≡ (slice_index_or (row_of self.old n) b false || slice_index_or (row_of other.now n) b false) }
+    {
+        let _changed = or_words(&mut self.words, &other.words);
+    }
+
+    /// Each row becomes its conjunction with that of the other. It takes no memory.
+    pub fn and_rows(&mut self, other: &Rows)
+        requires { AreAlike self.old other.now }
+        ensures alike { AreAlike self.old self.new }
+        ensures rows { (n : ℕ) → row_of self.new n ≡ and_bits (row_of self.old n) (row_of other.now n) }
+        ensures bits { (n b : ℕ) → slice_index_or (row_of self.new n) b false ≡ (slice_index_or (row_of self.old n) b false && slice_index_or (row_of other.now n) b false) }
+    {
+        and_words(&mut self.words, &other.words);
+    }
+
+    /// Each row keeps what is not in that of the other. It takes no memory.
+    pub fn minus_rows(&mut self, other: &Rows)
+        requires { AreAlike self.old other.now }
+        ensures alike { AreAlike self.old self.new }
+        ensures rows { (n : ℕ) → row_of self.new n ≡ minus_bits (row_of self.old n) (row_of other.now n) }
+        ensures bits { (n b : ℕ) → slice_index_or (row_of self.new n) b false ≡ (slice_index_or (row_of self.old n) b false && not (slice_index_or (row_of other.now n) b false)) }
+    {
+        minus_words(&mut self.words, &other.words);
+    }
+
+    /// Each bit of the rows from this number on becomes the other truth value. It takes no memory.
+    pub fn flip_rows(&mut self, from: usize)
+        ensures alike { AreAlike self.old self.new }
+        ensures before { (n : ℕ) → n < from → row_of self.new n ≡ row_of self.old n }
+        ensures rows { (n : ℕ) → from ≤ n → row_of self.new n ≡ not_bits (row_of self.old n) }
+        ensures bits { (n b : ℕ) → from ≤ n → n < length self.old → b < length (row_of self.old n) → slice_index_or (row_of self.new n) b false ≡ not (slice_index_or (row_of self.old n) b false) }
+    {
+        for row in from..self.len() {
+            self.flip(row);
+        }
     }
 }

@@ -1,5 +1,5 @@
 // Row calls against their plain programs on lists of `bool`, at lengths about the end of a word, and two examples.
-use crate::{Row, Rows};
+use crate::{Row, RowView, Rows};
 use std::alloc::{AllocError, Global};
 use std::process::Abort;
 use std::test::Fail;
@@ -17,11 +17,11 @@ fn noise(alloc: Global, bits: usize, seed: u64) -> Result<Vec<bool>, AllocError>
     Ok(made)
 }
 
-/// A plain list and the row of its bits.
+/// A plain list, and a set of rows with the row of its bits alone.
 #[derive(Drop)]
 struct Sample {
     plain: Vec<bool>,
-    row: Row,
+    rows: Rows,
 }
 
 fn noisy(alloc: Global, bits: usize, seed: u64) -> Result<Sample, AllocError> {
@@ -38,16 +38,16 @@ fn sparse(alloc: Global, bits: usize) -> Result<Sample, AllocError> {
 }
 
 fn sample_of(alloc: Global, plain: Vec<bool>) -> Result<Sample, AllocError> {
-    let mut row = Row::new(alloc, plain.len())?;
+    let mut rows = Rows::new(alloc, 1, plain.len())?;
     for (bit, value) in plain.iter().enumerate() {
-        if bit < row.len() {
-            row.set(bit, *value);
+        if 0 < rows.len() && bit < rows.row(0).len() {
+            rows.set(0, bit, *value);
         }
     }
-    Ok(Sample { plain, row })
+    Ok(Sample { plain, rows })
 }
 
-fn is_row(row: &Row, plain: &[bool]) -> bool {
+fn is_row(row: &RowView<'_>, plain: &[bool]) -> bool {
     let mut same = row.len() == plain.len();
     for (bit, value) in plain.iter().enumerate() {
         same = same && bit < row.len() && row.get(bit) == *value;
@@ -68,53 +68,75 @@ fn not(alloc: Global, bits: &[bool]) -> Result<Vec<bool>, AllocError> {
 }
 
 fn or_agrees(rt: &impl Abort, alloc: Global, bits: usize) -> Result<bool, AllocError> {
-    let mut into = noisy(alloc, bits, 1)?;
+    let into = noisy(alloc, bits, 1)?;
     let from = noisy(alloc, bits, 2)?;
-    assert_eq!(rt; into.row.len(), from.row.len());
-    let changed = into.row.or_from(&from.row);
-    let again = into.row.or_from(&from.row);
+    assert_eq!(rt; into.rows.len(), 1);
+    assert_eq!(rt; from.rows.len(), 1);
+    let more = from.rows.row(0);
+    let mut row = Row::of(alloc, &into.rows.row(0))?;
+    assert_eq!(rt; row.view().len(), more.len());
+    let changed = row.or_from(&more);
+    let again = row.or_from(&more);
     let plain = or(alloc, &into.plain, &from.plain)?;
-    Ok(changed && !again && is_row(&into.row, &plain))
+    Ok(changed && !again && is_row(&row.view(), &plain))
 }
 
 fn or_minus_agrees(rt: &impl Abort, alloc: Global, bits: usize) -> Result<bool, AllocError> {
-    let mut into = noisy(alloc, bits, 1)?;
+    let into = noisy(alloc, bits, 1)?;
     let from = noisy(alloc, bits, 2)?;
     let less = noisy(alloc, bits, 3)?;
-    assert_eq!(rt; into.row.len(), from.row.len());
-    assert_eq!(rt; into.row.len(), less.row.len());
-    let changed = into.row.or_minus_from(&from.row, &less.row);
-    let again = into.row.or_minus_from(&from.row, &less.row);
-    let more = and(alloc, &from.plain, &not(alloc, &less.plain)?)?;
-    let plain = or(alloc, &into.plain, &more)?;
-    Ok(changed && !again && is_row(&into.row, &plain))
+    assert_eq!(rt; into.rows.len(), 1);
+    assert_eq!(rt; from.rows.len(), 1);
+    assert_eq!(rt; less.rows.len(), 1);
+    let more = from.rows.row(0);
+    let none = less.rows.row(0);
+    let mut row = Row::of(alloc, &into.rows.row(0))?;
+    assert_eq!(rt; row.view().len(), more.len());
+    assert_eq!(rt; row.view().len(), none.len());
+    let changed = row.or_minus_from(&more, &none);
+    let again = row.or_minus_from(&more, &none);
+    let kept = and(alloc, &from.plain, &not(alloc, &less.plain)?)?;
+    let plain = or(alloc, &into.plain, &kept)?;
+    Ok(changed && !again && is_row(&row.view(), &plain))
 }
 
 fn minus_and_flip_agree(rt: &impl Abort, alloc: Global, bits: usize) -> Result<bool, AllocError> {
-    let mut into = noisy(alloc, bits, 1)?;
+    let into = noisy(alloc, bits, 1)?;
     let from = noisy(alloc, bits, 2)?;
-    assert_eq!(rt; into.row.len(), from.row.len());
-    into.row.minus_from(&from.row);
-    into.row.flip();
+    assert_eq!(rt; into.rows.len(), 1);
+    assert_eq!(rt; from.rows.len(), 1);
+    let less = from.rows.row(0);
+    let mut row = Row::of(alloc, &into.rows.row(0))?;
+    assert_eq!(rt; row.view().len(), less.len());
+    row.minus_from(&less);
+    row.flip();
     let kept = and(alloc, &into.plain, &not(alloc, &from.plain)?)?;
-    Ok(is_row(&into.row, &not(alloc, &kept)?))
+    Ok(is_row(&row.view(), &not(alloc, &kept)?))
 }
 
 fn and_and_copy_agree(rt: &impl Abort, alloc: Global, bits: usize) -> Result<bool, AllocError> {
-    let mut into = noisy(alloc, bits, 1)?;
+    let into = noisy(alloc, bits, 1)?;
     let from = noisy(alloc, bits, 2)?;
-    assert_eq!(rt; into.row.len(), from.row.len());
-    into.row.and_from(&from.row);
+    let mut rows = into.rows.copied(alloc)?;
+    assert_eq!(rt; rows.len(), 1);
+    assert_eq!(rt; from.rows.len(), 1);
+    assert_eq!(rt; rows.row(0).len(), from.rows.row(0).len());
+    rows.and_into(0, &from.rows, 0);
     let both = and(alloc, &into.plain, &from.plain)?;
-    let met = is_row(&into.row, &both);
-    let differs = !into.row.is_same(&from.row);
-    into.row.copy_from(&from.row);
-    Ok(met && differs && is_row(&into.row, &from.plain))
+    assert_eq!(rt; rows.len(), 1);
+    assert_eq!(rt; rows.row(0).len(), from.rows.row(0).len());
+    let met = is_row(&rows.row(0), &both);
+    let differs = !rows.row_eq(0, &from.rows, 0);
+    rows.copy_from(0, &from.rows.row(0));
+    assert_eq!(rt; rows.len(), 1);
+    Ok(met && differs && is_row(&rows.row(0), &from.plain))
 }
 
 /// Whether the next true bit from each number on is that of the plain list, up to past the end of the words.
-fn next_true_agrees(sample: &Sample) -> bool {
-    (0..200).all(|from| sample.row.next_true(from) == next_of(&sample.plain, from))
+fn next_true_agrees(rt: &impl Abort, sample: &Sample) -> bool {
+    assert_eq!(rt; sample.rows.len(), 1);
+    let row = sample.rows.row(0);
+    (0..200).all(|from| row.next_true(from) == next_of(&sample.plain, from))
 }
 
 fn next_of(plain: &[bool], from: usize) -> Option<usize> {
@@ -142,8 +164,8 @@ fn next_true_is_that_of_the_list(rt: HostRuntime) -> Result<(), Fail> {
     for bits in [63, 64, 65, 130] {
         let dense = noisy(rt.alloc(), bits, 1)?;
         let sparse = sparse(rt.alloc(), bits)?;
-        assert!(rt; next_true_agrees(&dense), "{bits} bits");
-        assert!(rt; next_true_agrees(&sparse), "{bits} bits");
+        assert!(rt; next_true_agrees(&rt, &dense), "{bits} bits");
+        assert!(rt; next_true_agrees(&rt, &sparse), "{bits} bits");
     }
     Ok(())
 }
@@ -173,5 +195,36 @@ fn the_bit_past_a_word(rt: HostRuntime) -> Result<(), Fail> {
     rows.minus_into(1, &first, 0);
     assert!(rt; rows.row_eq(1, &last, 0));
     assert!(rt; rows.row_eq(0, &last, 0));
+    Ok(())
+}
+
+#[test]
+fn all_rows_at_once(rt: HostRuntime) -> Result<(), Fail> {
+    let none = Rows::new(rt.alloc(), 3, 65)?;
+    let mut rows = none.copied(rt.alloc())?;
+    rows.flip_rows(1);
+    assert!(rt; !rows.get(0, 64));
+    assert!(rt; rows.get(1, 64));
+    let mut all = none.copied(rt.alloc())?;
+    all.flip_rows(0);
+    all.minus_rows(&rows);
+    assert!(rt; all.get(0, 64));
+    assert!(rt; !all.get(2, 0));
+    all.or_rows(&rows);
+    assert!(rt; all.get(2, 0));
+    all.and_rows(&none);
+    assert!(rt; !all.get(2, 0));
+    Ok(())
+}
+
+#[test]
+fn rows_grow_at_their_end(rt: HostRuntime) -> Result<(), Fail> {
+    let mut one = Rows::new(rt.alloc(), 1, 65)?;
+    one.set(0, 64, true);
+    let mut rows = Rows::with_room(rt.alloc(), 2, 65)?;
+    rows.push(&one.row(0))?;
+    rows.push_false(65)?;
+    assert!(rt; rows.get(0, 64));
+    assert!(rt; !rows.get(1, 64));
     Ok(())
 }

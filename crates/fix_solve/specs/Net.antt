@@ -20,6 +20,7 @@ pub record Net (V : Type 0) : Type 0 where
 pub record NetLaws {V : Type 0} (below : V → V → Type 0) (size : V → ℕ) (rank : V → ℕ) (net : Net V) : Type 0 where
   pub sources : (e : ℕ) → e < net.edges → net.source e < net.nodes
   pub targets : (e : ℕ) → e < net.edges → net.target e < net.nodes
+  pub starts : (n : ℕ) → n < net.nodes → net.start n ≤ net.edges
   pub stops : (n : ℕ) → n < net.nodes → net.stop n ≤ net.edges
   pub within : (n e : ℕ) → n < net.nodes → net.start n ≤ e → e < net.stop n → net.source e ≡ n
   pub from_start : (e : ℕ) → e < net.edges → net.start (net.source e) ≤ e

@@ -65,6 +65,7 @@ pub ring_laws : (nodes : ℕ) → NetLaws Implies no_size rank_of (ring nodes)
 ring_laws nodes = record {
   sources = λ e h. h;
   targets = target_in nodes;
+  starts = λ n h. omega arith;
   stops = λ n h. omega arith;
   within = λ n e h late early. omega arith;
   from_start = λ e h. omega arith;

@@ -2,16 +2,18 @@
 use Rattle.std.specs.Prelude.{◌≡◌, ℕ, suc, zero, ◌+◌, ◌-◌, ◌*◌, ◌<◌, Bool, false, if◌then◌else◌, List, length, slice_set, ◌↔◌}
 use Rattle.node_list.specs.Lists.{Lists}
 use Rattle.fix_solve.specs.Order.{IsLeastUpper}
+use Rattle.fix_solve.specs.Walks.{AreNodes}
 use Rattle.fix_solve.specs.Net.{Net, Solves, value_at}
 
 -- the nodes that wait for a visit stand in one list
 abbrev pub IsOneList : Lists → Type 0
 IsOneList waiting = length waiting.lists ≡ 1
 
--- each of the values' nodes can wait in it
-pub record CanWait {V : Type 0} (waiting : Lists) (values : List V) : Type 0 where
+-- each of the values' nodes can wait in it, and those of the order are such
+pub record CanWait {V : Type 0} (waiting : Lists) (values : List V) (order : List ℕ) : Type 0 where
   pub one_list : IsOneList waiting
   pub nodes : waiting.nodes ≡ length values
+  pub in_range : AreNodes (length values) order
 
 -- the values lie between the first ones and every solution, and above the transfer along each edge that is done and
 -- whose source does not wait

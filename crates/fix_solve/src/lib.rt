@@ -7,6 +7,7 @@
 #![tactic(auto)]
 
 mod laws;
+mod order;
 mod pushes;
 mod steps;
 #[cfg(test)]

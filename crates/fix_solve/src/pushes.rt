@@ -2,34 +2,38 @@
 ghost use Rattle.std.specs.Prelude.{◌≡◌, ◌≢◌, ℕ, ◌+◌, ◌-◌, ◌<◌, ◌≤◌, ◌||◌, true, length};
 ghost use Rattle.node_list.specs.Lists.{Lists, is_listed};
 ghost use Rattle.fix_solve.specs.Net.{Net, value_at, IsLeastSolution};
+ghost use Rattle.fix_solve.specs.Walks.{AreNodes};
 ghost use Rattle.fix_solve.specs.Settling.{AllDone, IsOneList, Pushed, Working, nodes_left, pushes_left};
 
 use crate::{Flow, Lattice, Steps};
 use node_list::Links;
 
-/// Pushes along one edge, and answers whether its target changed.
+/// Pushes along one edge, from its source to its target, and answers whether the target changed.
 fn push_along<F: Flow>(
     values: &mut [F::Value],
     flow: &F,
     number: usize,
+    source: usize,
+    target: usize,
     steps: &mut Steps<F::Ledger>,
 ) -> bool
     requires valid { F.valid flow.now }
     requires in_range { number < (F.net flow.now).edges }
+    requires source { source ≡ (F.net flow.now).source number }
+    requires target { target ≡ (F.net flow.now).target number }
     requires len { length values.old ≡ (F.net flow.now).nodes }
     requires sizes { (n : ℕ) → n < (F.net flow.now).nodes → F.Value.size (value_at (F.net flow.now) values.old n) ≡ (F.net flow.now).size }
     ensures pushed { Pushed F.Value.below (F.net flow.now) number values.old values.new result }
     ensures counted { steps.new ≡ steps.old + 1 }
 {
-    let (s, t) = flow.edge(number);
-    if s == t {
-        flow.push_self(number, &mut values[t], steps)
-    } else if s < t {
-        let (low, high) = values.split_at_mut(t);
-        flow.push(number, &low[s], &mut high[0], steps)
+    if source == target {
+        flow.push_self(number, &mut values[target], steps)
+    } else if source < target {
+        let (low, high) = values.split_at_mut(target);
+        flow.push(number, &low[source], &mut high[0], steps)
     } else {
-        let (low, high) = values.split_at_mut(s);
-        flow.push(number, &high[0], &mut low[t], steps)
+        let (low, high) = values.split_at_mut(source);
+        flow.push(number, &high[0], &mut low[target], steps)
     }
 }
 
@@ -62,48 +66,29 @@ fn enlist_up(waiting: &mut Links, nodes: usize)
     }
 }
 
-/// Puts each node into the list, in descending order.
-fn enlist_down(waiting: &mut Links, nodes: usize)
+/// Puts each of these nodes into the list, in their order.
+fn enlist_each(waiting: &mut Links, nodes: &[usize])
+    requires one_list { IsOneList waiting.old }
+    requires in_range { AreNodes waiting.old.nodes nodes.now }
+    ensures one_list { IsOneList waiting.new }
+    ensures nodes { waiting.new.nodes ≡ waiting.old.nodes }
+{
+    for node in nodes {
+        enlist(waiting, *node, true);
+    }
+}
+
+/// Puts each node into the list: first these, in their order, and then those that are left.
+pub(crate) fn enlist_all(waiting: &mut Links, order: &[usize], nodes: usize)
     requires one_list { IsOneList waiting.old }
     requires nodes { waiting.old.nodes ≡ nodes }
+    requires in_range { AreNodes nodes order.now }
     ensures one_list { IsOneList waiting.new }
     ensures nodes { waiting.new.nodes ≡ nodes }
     ensures all { (n : ℕ) → n < nodes → is_listed waiting.new.lists n ≡ true }
 {
-    for place in 0..nodes {
-        enlist(waiting, nodes - 1 - place, true);
-    }
-}
-
-/// Puts each node into the list, in ascending or in descending order.
-pub(crate) fn enlist_all(waiting: &mut Links, nodes: usize, down: bool)
-    requires one_list { IsOneList waiting.old }
-    requires nodes { waiting.old.nodes ≡ nodes }
-    ensures one_list { IsOneList waiting.new }
-    ensures nodes { waiting.new.nodes ≡ nodes }
-    ensures all { (n : ℕ) → n < nodes → is_listed waiting.new.lists n ≡ true }
-{
-    if down {
-        enlist_down(waiting, nodes);
-    } else {
-        enlist_up(waiting, nodes);
-    }
-}
-
-/// Whether most edges lead to a node with a lower number, as those of a flow against the order of a program do. Then the
-/// nodes are better visited in descending order: fewer are visited twice.
-pub(crate) fn leads_down<F: Flow>(flow: &F) -> bool
-    requires { F.valid flow.now }
-{
-    let edges = flow.edges();
-    let mut down = 0;
-    for number in 0..edges {
-        let (source, target) = flow.edge(number);
-        if target < source {
-            down += 1;
-        }
-    }
-    edges - down < down
+    enlist_each(waiting, order);
+    enlist_up(waiting, nodes);
 }
 
 /// Pushes along each edge that leaves a node, which was taken from the list, and lists the targets that changed.
@@ -124,11 +109,12 @@ fn visit<F: Flow>(
     ensures working { Working F.Value.below (F.net flow.now) values.new (is_listed waiting.new.lists) AllDone }
     ensures pushes { steps.new + pushes_left (F.net flow.now) F.Value.rank values.new (is_listed waiting.new.lists) ≤ steps.old + ((F.net flow.now).stop node - (F.net flow.now).start node) + pushes_left (F.net flow.now) F.Value.rank values.old (is_listed waiting.old.lists) }
     ensures visits { nodes_left (F.net flow.now) F.Value.rank values.new (is_listed waiting.new.lists) ≤ nodes_left (F.net flow.now) F.Value.rank values.old (is_listed waiting.old.lists) }
+    ensures counts { steps.old ≤ steps.new }
 {
     let (start, stop) = flow.out(node);
     for number in start..stop {
-        let changed = push_along(values, flow, number, steps);
-        let (_, target) = flow.edge(number);
+        let (source, target) = flow.edge(number);
+        let changed = push_along(values, flow, number, source, target, steps);
         enlist(waiting, target, changed);
     }
 }
@@ -149,6 +135,7 @@ pub(crate) fn drain<F: Flow>(
     ensures sizes { (n : ℕ) → n < (F.net flow.now).nodes → F.Value.size (value_at (F.net flow.now) values.new n) ≡ (F.net flow.now).size }
     ensures least { IsLeastSolution F.Value.below (F.net flow.now) (value_at (F.net flow.now) values.new) }
     ensures pushes { steps.new ≤ steps.old + pushes_left (F.net flow.now) F.Value.rank values.old (is_listed waiting.old.lists) }
+    ensures counts { steps.old ≤ steps.new }
 {
     while let Some(node) = waiting.pop_front(0) {
         visit(values, waiting, flow, node, steps);

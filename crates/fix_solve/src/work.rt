@@ -2,7 +2,8 @@
 ghost use Rattle.std.specs.Prelude.{◌≡◌, ℕ, ◌+◌, ◌*◌, ◌<◌, ◌≤◌, IfOk, length, slice_index_or};
 ghost use Rattle.fix_solve.specs.Net.{Net, value_at, HoldsFirst, IsLeastSolution};
 
-use crate::pushes::{drain, enlist_all, leads_down};
+use crate::order::order_of;
+use crate::pushes::{drain, enlist_all};
 use crate::{Flow, Lattice, Memory, Steps};
 use node_list::Links;
 use std::alloc::Global;
@@ -10,11 +11,13 @@ use std::marker::Model;
 
 /// A value for each node. Contracts see it as the list of these.
 ///
-/// It also holds the list of the nodes that wait for a visit, so that the solver takes no memory.
+/// It also holds the list of the nodes that wait for a visit, and the order in which they are first visited, so that
+/// the solver takes no memory.
 #[derive(Drop)]
 pub struct Work<V: Lattice> {
     values: Vec<V>,
     waiting: Links,
+    order: Vec<usize>,
 }
 
 impl<V: Lattice> Model for Work<V> {
@@ -25,7 +28,7 @@ impl<V: Lattice> Model for Work<V> {
 
     ghost view = { λ work. work.values.items };
 
-    ghost invariant = { λ work. CanWait work.waiting work.values.items };
+    ghost invariant = { λ work. CanWait work.waiting work.values.items work.order.items };
 }
 
 impl<V: Lattice + Drop> Work<V> {
@@ -35,12 +38,17 @@ impl<V: Lattice + Drop> Work<V> {
         ensures { IfOk result (λ work. HoldsFirst (F.net flow.now) work) }
     {
         let nodes = flow.nodes();
-        let mut values = Vec::new(alloc);
+        let mut values = Vec::with_capacity(alloc, nodes)?;
         for node in 0..nodes {
             values.push(flow.first(alloc, node)?)?;
         }
         let waiting = Links::new(alloc, nodes, 1)?;
-        Ok(Work { values, waiting })
+        let order = order_of(alloc, flow)?;
+        Ok(Work {
+            values,
+            waiting,
+            order,
+        })
     }
 
     /// The value of a node. It takes no memory.
@@ -64,8 +72,8 @@ pub fn solve<F: Flow>(work: &mut Work<F::Value>, flow: &F, steps: &mut Steps<F::
     ensures sizes { (n : ℕ) → n < (F.net flow.now).nodes → F.Value.size (value_at (F.net flow.now) work.new n) ≡ (F.net flow.now).size }
     ensures least { IsLeastSolution F.Value.below (F.net flow.now) (value_at (F.net flow.now) work.new) }
     ensures pushes { steps.new ≤ steps.old + (F.net flow.now).edges * ((F.net flow.now).height + 1) }
+    ensures counts { steps.old ≤ steps.new }
 {
-    let down = leads_down(flow);
-    enlist_all(&mut work.waiting, work.values.len(), down);
+    enlist_all(&mut work.waiting, &work.order, work.values.len());
     drain(&mut work.values, &mut work.waiting, flow, steps);
 }

@@ -2,3 +2,4 @@ pub mod Counts
 pub mod Along
 pub mod Keeps
 pub mod Writes
+pub mod Ahead

@@ -1,5 +1,5 @@
 -- What contracts see of `Links`: a fixed number of lists of node numbers, and what each call makes of them.
-use Rattle.std.specs.Prelude.{ℕ, ◌+◌, Bool, nat_eq, nat_lt, if◌then◌else◌, List, [], ◌∷◌, slice_index_or}
+use Rattle.std.specs.Prelude.{ℕ, ◌+◌, Bool, nat_eq, nat_lt, if◌then◌else◌, List, [], ◌∷◌, slice_get, slice_index_or, Option, Some, None}
 
 -- lists of numbers below `nodes`
 pub record Lists : Type 0 where
@@ -33,3 +33,17 @@ put_before node new (x ∷ xs) = if nat_eq x node then new ∷ x ∷ put_before 
 abbrev pub without : ℕ → List ℕ → List ℕ
 without node [] = []
 without node (x ∷ xs) = if nat_eq x node then without node xs else x ∷ without node xs
+
+-- the number after a node in a list; none after the last
+abbrev pub after_in : ℕ → List ℕ → Option ℕ
+after_in node [] = None
+after_in node (x ∷ xs) = if nat_eq x node then slice_get xs 0 else after_in node xs
+
+abbrev pub first_some : Option ℕ → Option ℕ → Option ℕ
+first_some None other = other
+first_some (Some x) other = Some x
+
+-- the number after a node in the list in which it stands
+abbrev pub node_after : List (List ℕ) → ℕ → Option ℕ
+node_after [] node = None
+node_after (xs ∷ lists) node = first_some (after_in node xs) (node_after lists node)

@@ -1,9 +1,9 @@
 // The lists and their calls.
-ghost use Rattle.std.specs.Prelude.{◌≡◌, ℕ, ◌+◌, ◌<◌, ◌≤◌, ◌||◌, ◌&&◌, not, nat_eq, true, false, [], ◌∷◌, ◌++◌, length, map, replicate, slice_set, IfOk, IfSome, IsTrue, MatchOption};
-ghost use Rattle.node_list.specs.Lists.{Lists, list_at, is_listed, put_before, times, without};
+ghost use Rattle.std.specs.Prelude.{◌≡◌, ℕ, ◌+◌, ◌<◌, ◌≤◌, ◌||◌, ◌&&◌, not, nat_eq, true, false, [], ◌∷◌, ◌++◌, length, map, replicate, slice_get, slice_set, IfOk, IfSome, IsTrue, MatchOption};
+ghost use Rattle.node_list.specs.Lists.{Lists, list_at, is_listed, node_after, put_before, times, without};
 
 use crate::Memory;
-use crate::rings::{tie_before, untie};
+use crate::rings::{node_at, tie_before, untie};
 use std::alloc::{AllocError, Global};
 use std::marker::Model;
 
@@ -40,8 +40,8 @@ impl Links {
         let Some(count) = nodes.checked_add(lists) else {
             return Err(AllocError);
         };
-        let mut next = Vec::new(alloc);
-        let mut prev = Vec::new(alloc);
+        let mut next = Vec::with_capacity(alloc, count)?;
+        let mut prev = Vec::with_capacity(alloc, count)?;
         for number in 0..count {
             next.push(number)?;
             prev.push(number)?;
@@ -116,5 +116,22 @@ impl Links {
         ensures in_range { (n : ℕ) → IsTrue (is_listed self.now.lists n) → n < self.now.nodes }
     {
         self.next[node] != node
+    }
+
+    /// The first node of a list, and `None` exactly where the list is empty. It takes no memory.
+    pub fn first(&self, list: usize) -> Option<usize>
+        requires { list < length self.now.lists }
+        ensures { result ≡ slice_get (list_at self.now.lists list) 0 }
+    {
+        let ring = self.nodes + list;
+        node_at(&self.next, ring, self.nodes)
+    }
+
+    /// The node after one that is in a list, and `None` exactly where that is the last of its list. It takes no memory.
+    pub fn next(&self, node: usize) -> Option<usize>
+        requires { IsTrue (is_listed self.now.lists node) }
+        ensures { result ≡ node_after self.now.lists node }
+    {
+        node_at(&self.next, node, self.nodes)
     }
 }

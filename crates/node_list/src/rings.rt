@@ -1,5 +1,5 @@
 // Rings of links: `next` and `prev` lead forward and back. Each call says which links it writes.
-ghost use Rattle.std.specs.Prelude.{◌≡◌, ◌<◌, length, slice_index, slice_set};
+ghost use Rattle.std.specs.Prelude.{◌≡◌, ◌<◌, ◌≤◌, length, slice_index, slice_set, MatchOption};
 
 /// Links one number to the next.
 fn tie(next: &mut [usize], prev: &mut [usize], before: usize, after: usize)
@@ -39,4 +39,13 @@ pub fn untie(next: &mut [usize], prev: &mut [usize], node: usize)
     let after = next[node];
     tie(next, prev, before, after);
     tie(next, prev, node, node);
+}
+
+/// The node to which a link leads; `None` where it leads to the number of a ring.
+pub fn node_at(next: &[usize], place: usize, nodes: usize) -> Option<usize>
+    requires { place < length next.now }
+    ensures { MatchOption result (nodes ≤ slice_index next.now place) (λ node. (node ≡ slice_index next.now place) × (node < nodes)) }
+{
+    let node = next[place];
+    if node < nodes { Some(node) } else { None }
 }

@@ -8,6 +8,9 @@ fn a_node_is_put_before_another(rt: HostRuntime) -> Result<(), Fail> {
     links.push_back(0, 2);
     links.push_back(0, 0);
     links.insert_before(0, 1);
+    assert_eq!(rt; links.first(0), Some(2));
+    assert_eq!(rt; links.next(2), Some(1));
+    assert_eq!(rt; links.next(0), None);
     links.unlink(1);
     assert_eq!(rt; links.pop_front(0), Some(2));
     assert_eq!(rt; links.pop_front(0), Some(0));

@@ -44,7 +44,10 @@ loop-node-preserved g c =
     let some : pushes_left net rank c.loop-node.values is + (net.stop node - net.start node) ≤ pushes_left net rank c.loop-node.values was =
     begun (degree net) (first_waits c.loop-node.waiting.lists node _ inv.one_list c.in-Some.ensures.empty) (leaves_here was is node c.in-Some.ensures.listed) in
     let before : c.loop-node.steps + pushes_left net rank c.loop-node.values was ≤ c.args.steps.now + pushes_left net rank c.args.values.now (is_listed c.args.waiting.now.lists) = inv.pushes in
+    let rises : c.args.steps.now ≤ c.loop-node.steps = inv.counts in
+    let rises_on : c.loop-node.steps ≤ c.visit.new.steps = c.visit.ensures.counts in
     record {
+      counts = omega arith;
       one_list = c.visit.ensures.one_list;
       nodes = c.visit.ensures.nodes ∙ c.in-Some.ensures.nodes ∙ inv.nodes;
       working = c.visit.ensures.working;

@@ -21,19 +21,21 @@ loop-number-preserved g c =
     let stops : net.stop c.args.node ≤ net.edges = laws.stops c.args.node c.requires.in_range in
     let in_range : number < net.edges = omega arith in
     let of_node : net.source number ≡ c.args.node = laws.within c.args.node number c.requires.in_range (omega arith) (omega arith) in
-    let t = c.edge-target.result.1 in
+    let t = c.edge-source.result.1 in
     let b = c.push_along-changed.result in
     let fl = is_listed c.loop-number.waiting.lists in
     let fl' = is_listed c.enlist.new.waiting.lists in
-    let push = working_push below size rank order net laws number t c.loop-number.values c.push_along-changed.new.values fl fl' b in_range c.edge-target.ensures.target c.push_along-changed.ensures.pushed c.enlist.ensures.others c.enlist.ensures.here c.args.node of_node inv.working in
-    let loads = load_after below size rank order net laws number t c.loop-number.values c.push_along-changed.new.values fl fl' b in_range c.edge-target.ensures.target c.push_along-changed.ensures.pushed c.enlist.ensures.others c.enlist.ensures.here in
+    let push = working_push below size rank order net laws number t c.loop-number.values c.push_along-changed.new.values fl fl' b in_range c.edge-source.ensures.target c.push_along-changed.ensures.pushed c.enlist.ensures.others c.enlist.ensures.here c.args.node of_node inv.working in
+    let loads = load_after below size rank order net laws number t c.loop-number.values c.push_along-changed.new.values fl fl' b in_range c.edge-source.ensures.target c.push_along-changed.ensures.pushed c.enlist.ensures.others c.enlist.ensures.here in
     let counted : c.push_along-changed.new.steps ≡ c.loop-number.steps + 1 = c.push_along-changed.ensures.counted in
     let fewer_pushes : pushes_left net rank c.push_along-changed.new.values fl' ≤ pushes_left net rank c.loop-number.values fl = loads (degree net) _ inv.working in
     let fewer_nodes : nodes_left net rank c.push_along-changed.new.values fl' ≤ nodes_left net rank c.loop-number.values fl = loads (λ _. 1) _ inv.working in
     let pushes : c.loop-number.steps + (c.out-start.result.1 - number) + pushes_left net rank c.loop-number.values fl
     ≤ c.args.steps.now + (c.out-start.result.1 - c.out-start.result.0) + pushes_left net rank c.args.values.now (is_listed c.args.waiting.now.lists) = inv.pushes in
     let visits : nodes_left net rank c.loop-number.values fl ≤ nodes_left net rank c.args.values.now (is_listed c.args.waiting.now.lists) = inv.visits in
+    let rises : c.args.steps.now ≤ c.loop-number.steps = inv.counts in
     record {
+      counts = omega arith;
       one_list = c.enlist.ensures.one_list;
       nodes = c.enlist.ensures.nodes ∙ inv.nodes;
       working = push;

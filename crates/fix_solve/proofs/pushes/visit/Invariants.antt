@@ -8,6 +8,7 @@ invariant-loop-number g l =
     let net = g.F.Flow.net l.flow in
     let rank = g.F.Value.Lattice.rank in
     record {
+      counts : l.initial.steps ≤ l.steps;
       one_list : IsOneList l.waiting;
       nodes : l.waiting.nodes ≡ net.nodes;
       working : Working g.F.Value.Lattice.below net l.values (is_listed l.waiting.lists) (λ e. net.source e ≡ l.node → e < l.number);

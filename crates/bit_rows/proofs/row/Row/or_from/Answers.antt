@@ -7,18 +7,18 @@ use Rattle.bit_rows.proofs.row.Row.or_from.Goals.{After-or_words}
 
 pub or_words-requires : goal.or_words-requires
 or_words-requires c =
-    rw (c.deref_mut.ensures.value, c.deref.ensures.value)
-    (words_long c.self.inside.bits c.self.inside.words.len c.self.inside.words.items c.self.inside.words.items c.args.self.now c.self.invariant c.self.view_is c.self.inside.words.ok.0 refl
-    c.other.inside.bits c.other.inside.words.items c.args.other.now c.other.invariant c.other.view_is c.requires)
+    rw c.as_mut_slice.ensures.value
+    (words_long c.self.inside.bits (length c.self.inside.words.items) c.self.inside.words.items c.self.inside.words.items c.args.self.now c.self.invariant c.self.view_is refl refl
+    c.other.inside.bits c.other.inside.words.now c.args.other.now c.other.invariant c.other.view_is c.requires)
 
 same_len : (c : After-or_words) → length c.or_words.new.into ≡ length c.self.inside.words.items
-same_len c = rw c.deref_mut.ensures.value at c.or_words.ensures.len
+same_len c = rw c.as_mut_slice.ensures.value at c.or_words.ensures.len
 
-done : (c : After-or_words) → Holds c.self.inside.bits (take c.self.inside.words.len (c.or_words.new.into ++ drop (length c.or_words.new.into) c.self.inside.words.items)) (or_bits c.args.self.now c.args.other.now)
+done : (c : After-or_words) → Holds c.self.inside.bits (take (length c.self.inside.words.items) (c.or_words.new.into ++ drop (length c.or_words.new.into) c.self.inside.words.items)) (or_bits c.args.self.now c.args.other.now)
 done c =
-    ored c.self.inside.bits c.self.inside.words.len c.self.inside.words.items c.or_words.new.into c.args.self.now c.self.invariant c.self.view_is c.self.inside.words.ok.0 (same_len c)
-    c.other.inside.bits c.other.inside.words.items c.args.other.now c.other.invariant c.other.view_is c.requires
-    (rw (c.deref_mut.ensures.value, c.deref.ensures.value) at c.or_words.ensures.or)
+    ored c.self.inside.bits (length c.self.inside.words.items) c.self.inside.words.items c.or_words.new.into c.args.self.now c.self.invariant c.self.view_is refl (same_len c)
+    c.other.inside.bits c.other.inside.words.now c.args.other.now c.other.invariant c.other.view_is c.requires
+    (rw c.as_mut_slice.ensures.value at c.or_words.ensures.or)
 
 pub invariant_of-self : goal.invariant_of-self
 invariant_of-self c = (done (goal.at.invariant_of-self c).After-or_words).fits
@@ -32,5 +32,5 @@ returns-clause-len c = length-bits_of c.self.inside.bits _ ∙ sym (bits_are c.s
 pub returns-clause-unchanged : goal.returns-clause-unchanged
 returns-clause-unchanged c =
     let known = (goal.at.returns-clause-unchanged c).After-or_words in
-    changed_row c.self.inside.bits c.self.inside.words.len c.self.inside.words.items c.or_words.new.into c.args.self.now _ c.or_words.result c.self.invariant c.self.view_is c.self.inside.words.ok.0 (same_len known) (done known)
-    (rw c.deref_mut.ensures.value at c.or_words.ensures.unchanged)
+    changed_row c.self.inside.bits (length c.self.inside.words.items) c.self.inside.words.items c.or_words.new.into c.args.self.now _ c.or_words.result c.self.invariant c.self.view_is refl (same_len known) (done known)
+    (rw c.as_mut_slice.ensures.value at c.or_words.ensures.unchanged)

@@ -1,6 +1,0 @@
-use Rattle.std.proofs.Common.{sym}
-use Rattle.bit_rows.proofs.Ops.{bits_are}
-use Rattle.bit_rows.proofs.row.Row.len.Goals as goal
-
-pub returns : goal.returns
-returns c = sym (bits_are c.self.inside.bits c.self.inside.words.items c.args.self.now c.self.view_is)

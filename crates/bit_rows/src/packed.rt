@@ -1,0 +1,87 @@
+// Rows one after the other in one list of words, so many to a row. Each clause says what becomes of the words of a row.
+ghost use Rattle.std.specs.Prelude.{◌≡◌, ℕ, ◌+◌, ◌*◌, ◌/◌, ◌%◌, ◌<◌, ◌≤◌, length, slice_index, slice_set, bit_and, bit_or};
+ghost use Rattle.std.specs.Int.{bit_not, w64};
+ghost use Rattle.bit_rows.specs.Words.{Rewritten, used_bits, with_bit, words_at};
+
+use crate::words::{and_words, flip_words, minus_words, or_words, set_word_bit};
+
+/// The words of a row.
+pub fn row_words(words: &[u64], stride: usize, row: usize) -> &[u64]
+    requires { stride * row + stride ≤ length words.now }
+    ensures { result.now ≡ words_at stride words.now row }
+{
+    let at = stride * row;
+    &words[at..at + stride]
+}
+
+/// The words of a row become their disjunction with others.
+#[tactic(auto, using(crate::proofs::Splices::rewrites, crate::proofs::Splices::rewritten_here))]
+pub fn or_row(into: &mut [u64], stride: usize, row: usize, from: &[u64])
+    requires within { stride * row + stride ≤ length into.old }
+    requires from { length from.now ≡ stride }
+    ensures others { Rewritten stride row into.old into.new }
+    ensures or { (k : ℕ) → k < stride → slice_index (words_at stride into.new row) k ≡ bit_or (slice_index (words_at stride into.old row) k) (slice_index from.now k) }
+{
+    let at = stride * row;
+    let _changed = or_words(&mut into[at..at + stride], from);
+}
+
+/// The words of a row become their conjunction with others.
+#[tactic(auto, using(crate::proofs::Splices::rewrites, crate::proofs::Splices::rewritten_here))]
+pub fn and_row(into: &mut [u64], stride: usize, row: usize, from: &[u64])
+    requires within { stride * row + stride ≤ length into.old }
+    requires from { length from.now ≡ stride }
+    ensures others { Rewritten stride row into.old into.new }
+    ensures and { (k : ℕ) → k < stride → slice_index (words_at stride into.new row) k ≡ bit_and (slice_index (words_at stride into.old row) k) (slice_index from.now k) }
+{
+    let at = stride * row;
+    and_words(&mut into[at..at + stride], from);
+}
+
+/// The words of a row lose the bits of others.
+#[tactic(auto, using(crate::proofs::Splices::rewrites, crate::proofs::Splices::rewritten_here))]
+pub fn minus_row(into: &mut [u64], stride: usize, row: usize, from: &[u64])
+    requires within { stride * row + stride ≤ length into.old }
+    requires from { length from.now ≡ stride }
+    ensures others { Rewritten stride row into.old into.new }
+    ensures minus { (k : ℕ) → k < stride → slice_index (words_at stride into.new row) k ≡ bit_and (slice_index (words_at stride into.old row) k) (bit_not w64 (slice_index from.now k)) }
+{
+    let at = stride * row;
+    minus_words(&mut into[at..at + stride], from);
+}
+
+/// The bits of a row below a number become the others, and those past it are not set.
+#[tactic(auto, using(crate::proofs::Splices::rewrites, crate::proofs::Splices::rewritten_here))]
+pub fn flip_row(into: &mut [u64], stride: usize, row: usize, bits: usize)
+    requires within { stride * row + stride ≤ length into.old }
+    requires bits { 64 * stride < bits + 64 }
+    ensures others { Rewritten stride row into.old into.new }
+    ensures flipped { (k : ℕ) → k < stride → slice_index (words_at stride into.new row) k ≡ bit_and (bit_not w64 (slice_index (words_at stride into.old row) k)) (used_bits bits k) }
+{
+    let at = stride * row;
+    flip_words(bits, &mut into[at..at + stride]);
+}
+
+/// The words of a row become equal to others.
+#[tactic(auto, using(crate::proofs::Splices::rewrites, crate::proofs::Splices::rewritten_here))]
+pub fn copy_row(into: &mut [u64], stride: usize, row: usize, from: &[u64])
+    requires within { stride * row + stride ≤ length into.old }
+    requires from { length from.now ≡ stride }
+    ensures others { Rewritten stride row into.old into.new }
+    ensures copied { words_at stride into.new row ≡ from.now }
+{
+    let at = stride * row;
+    into[at..at + stride].copy_from_slice(from);
+}
+
+/// Sets or clears a bit of a row.
+#[tactic(auto, using(crate::proofs::Splices::rewrites, crate::proofs::Splices::rewritten_here))]
+pub fn set_row_bit(into: &mut [u64], stride: usize, row: usize, bit: usize, value: bool)
+    requires within { stride * row + stride ≤ length into.old }
+    requires bit { bit < 64 * stride }
+    ensures others { Rewritten stride row into.old into.new }
+    ensures set { words_at stride into.new row ≡ slice_set (words_at stride into.old row) (bit / 64) (with_bit (slice_index (words_at stride into.old row) (bit / 64)) (bit % 64) value) }
+{
+    let at = stride * row;
+    set_word_bit(&mut into[at..at + stride], bit, value);
+}

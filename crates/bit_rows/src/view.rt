@@ -1,0 +1,62 @@
+// A row that is kept elsewhere.
+ghost use Rattle.std.specs.Prelude.{◌≡◌, ℕ, ◌<◌, ◌≤◌, ◌↔◌, IsTrue, true, false, IfNone, IfSome, length, slice_index_or};
+
+use crate::words::{next_set, word_bit};
+use std::marker::Model;
+
+/// A row of truth values that stands among others, or alone. Contracts see it as the list of these.
+#[derive(Drop)]
+pub struct RowView<'a> {
+    pub(crate) bits: usize,
+    pub(crate) words: &'a [u64],
+}
+
+impl<'a> Model for RowView<'a> {
+    ghost use Rattle.std.specs.Prelude.{List, Bool};
+    ghost use Rattle.bit_rows.specs.Words.{bits_of, FitsWords};
+
+    ghost Value = { List Bool };
+
+    ghost view = { λ row. bits_of row.bits row.words.now };
+
+    ghost invariant = { λ row. FitsWords row.bits row.words.now };
+}
+
+impl<'a> RowView<'a> {
+    /// How many bits it has. It takes no memory.
+    pub fn len(&self) -> usize
+        ensures { result ≡ length self.now }
+    {
+        self.bits
+    }
+
+    /// The bit of a number, counted from 0. It takes no memory.
+    pub fn get(&self, bit: usize) -> bool
+        requires { bit < length self.now }
+        ensures { result ≡ slice_index_or self.now bit false }
+    {
+        word_bit(self.words, bit)
+    }
+
+    /// The number of the first true bit from number `from` on, and `None` exactly where no bit from there on is true. It
+    /// takes no memory.
+    pub fn next_true(&self, from: usize) -> Option<usize>
+        ensures found { IfSome result (λ bit. (from ≤ bit) × (bit < length self.now) × (slice_index_or self.now bit false ≡ true)) }
+        ensures first { IfSome result (λ bit. (k : ℕ) → from ≤ k → k < bit → slice_index_or self.now k false ≡ false) }
+        ensures none { IfNone result ((k : ℕ) → from ≤ k → k < length self.now → slice_index_or self.now k false ≡ false) }
+    {
+        if from < self.len() {
+            next_set(self.words, from)
+        } else {
+            None
+        }
+    }
+
+    /// Whether it has the same bits as the other. It takes no memory.
+    pub fn is_same(&self, other: &RowView<'_>) -> bool
+        requires { length self.now ≡ length other.now }
+        ensures { IsTrue result ↔ (self.now ≡ other.now) }
+    {
+        self.words == other.words
+    }
+}
