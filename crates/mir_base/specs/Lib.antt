@@ -19,3 +19,4 @@ pub mod SimulationLaws
 pub mod ResponseLaws
 pub mod LockstepLaws
 pub mod UnitLaws
+pub mod EqualValues

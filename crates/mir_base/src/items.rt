@@ -1,8 +1,8 @@
 // A list of items, which contracts see as a plain list.
-ghost use Rattle.std.specs.Prelude.{◌≡◌, ◌++◌, [], ◌∷◌, IfOk};
+ghost use Rattle.std.specs.Prelude.{◌≡◌, ◌++◌, [], ◌∷◌, IfOk, OnErr, OnOk};
 
 use crate::Memory;
-use std::alloc::Global;
+use std::alloc::{AllocError, Global};
 use std::marker::Model;
 
 /// A list in a program or in what a pass answers. Contracts see it as the list of its items, so that two lists with
@@ -49,6 +49,15 @@ impl<T> Items<T> {
 }
 
 impl<T: Drop> Items<T> {
+    /// Puts one more item at the end. It fails only with `Memory`; the list is then as it was, and the item is dropped.
+    pub fn push(&mut self, item: T) -> Result<(), Memory>
+        ensures pushed { OnOk result (self.new ≡ self.old ++ item ∷ []) }
+        ensures unchanged { OnErr result (self.new ≡ self.old) }
+    {
+        self.items.push(item)?;
+        Ok(())
+    }
+
     /// The list with one more item at its end. Its only refusal is want of memory, and then the list and the item are
     /// dropped.
     pub fn with(self, item: T) -> Result<Items<T>, Memory>
@@ -56,6 +65,16 @@ impl<T: Drop> Items<T> {
     {
         let mut items = self.items;
         items.push(item)?;
+        Ok(Items { items })
+    }
+}
+
+/// Where the clone of an item is equal to it, the clone of a list is equal to the list.
+impl<T: Clone + Drop> Clone for Items<T> {
+    ghost is_clone = { λ list copy. ((item other : T) → T.is_clone item other → other ≡ item) → copy ≡ list };
+
+    fn clone(&self) -> Result<Items<T>, AllocError> {
+        let items = self.items.as_slice().to_vec(*self.items.allocator())?;
         Ok(Items { items })
     }
 }

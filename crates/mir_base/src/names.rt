@@ -42,6 +42,14 @@ impl Name {
         }
     }
 
+    /// The name of these bytes, which are known to be spelled as one. It does not allocate, and looks at no byte.
+    pub fn of(bytes: Vec<u8>) -> Name
+        requires { IsName bytes.items }
+        ensures { result ≡ bytes.items }
+    {
+        Name { bytes }
+    }
+
     /// The bytes, which are spelled as a name. It takes no memory.
     pub fn bytes(&self) -> &[u8]
         ensures value { result.now ≡ self.now }

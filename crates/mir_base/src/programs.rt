@@ -5,7 +5,7 @@ ghost use Rattle.mir_base.specs.FirstForm.{IsFirstBody};
 ghost use Rattle.mir_base.specs.Runs.{inputs_of};
 
 use crate::{Inst, Items, Memory, Name};
-use std::alloc::Global;
+use std::alloc::{AllocError, Global};
 use std::marker::Model;
 
 /// A unit: a procedure with its own variables. It is tidy: `vars` are exactly the names of the variables that occur in
@@ -55,6 +55,17 @@ impl Unit {
             None => None,
             Some(inst) => Some(inst),
         }
+    }
+}
+
+impl Clone for Unit {
+    ghost is_clone = { λ unit copy. copy ≡ unit };
+
+    fn clone(&self) -> Result<Unit, AllocError> {
+        let name = self.name.clone()?;
+        let vars = self.vars.clone()?;
+        let body = self.body.clone()?;
+        Ok(Unit { name, vars, body })
     }
 }
 
@@ -108,6 +119,15 @@ impl Program {
     {
         let first = &self.units.items()[0];
         receives(first.body.items())
+    }
+}
+
+impl Clone for Program {
+    ghost is_clone = { λ program copy. copy ≡ program };
+
+    fn clone(&self) -> Result<Program, AllocError> {
+        let units = self.units.clone()?;
+        Ok(Program { units })
     }
 }
 

@@ -442,7 +442,7 @@ tokens-run text items h =
       last-line h.before h.previous h.line (length text) ∙ sym h.items_are,
     )
 
-stopped-run : (text : List ℕ) (bad : LexFault) (s : List ℕ) → fold (step text) (Stopped bad) s ≡ Stopped bad
+pub stopped-run : (text : List ℕ) (bad : LexFault) (s : List ℕ) → fold (step text) (Stopped bad) s ≡ Stopped bad
 stopped-run text bad [] = refl
 stopped-run text bad (b ∷ s) = stopped-run text bad s
 

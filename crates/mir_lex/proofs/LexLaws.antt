@@ -38,3 +38,11 @@ tokens-same text one other is also =
     let second = tokens-run text other (tokens-pieces text other also) in
     let same : first.0 ≡ second.0 = let e = sym first.1 ∙ second.1 in cc in
     sym first.2 ∙ ap (λ (s : Scan). s.items) same ∙ second.2
+
+-- a text is refused for at most one cause
+pub refusal-same : (text : List ℕ) (one other : LexFault) → IsRefusal text one → IsRefusal text other → one ≡ other
+refusal-same text one other is also = stopped-same text one (sym (bad-run text one (refusal-pieces text one is))) other also
+
+-- and one that has tokens is not refused
+pub refusal-tokens : (text : List ℕ) (fault : LexFault) → IsRefusal text fault → (items : List Token) → IsTokens text items → ⊥
+refusal-tokens text fault is = stopped-tokens text fault (sym (bad-run text fault (refusal-pieces text fault is)))

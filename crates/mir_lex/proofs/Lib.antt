@@ -3,8 +3,10 @@ mod Pieces
 mod KindLemmas
 mod Sound
 mod Complete
+mod Early
 mod Marks
 mod Longest
 mod Rows
 mod Placed
 mod LexLaws
+mod WordLemmas

@@ -1,5 +1,5 @@
 -- What std reads as a number, and what the grammar does.
-use Rattle.std.proofs.Common.{◌≡◌, ℕ, ℤ, ◌^◌, ◌<◌, ◌==◌, Bool, true, false, cond, List, [], ◌∷◌, drop, length, None, Some, Result, Ok, Err, refl, sym, ◌∙◌, ap, arith, not, ◌&&◌, nat_lt, slice_index, w64, inl, inr}
+use Rattle.std.proofs.Common.{◌≡◌, ℕ, ℤ, ◌^◌, ◌<◌, ◌==◌, Bool, true, false, cond, List, [], ◌∷◌, drop, length, None, Some, Result, Ok, Err, refl, sym, ◌∙◌, ap, subst, arith, not, ◌&&◌, nat_lt, slice_index, w64, inl, inr}
 use Rattle.std.proofs.lemmas.Bool.{cases_Bool, ltb-true, lt-ltb, eqb-true}
 use Rattle.std.specs.Result.{result_ok}
 use Rattle.std.proofs.lemmas.Str.{IsUtf8-from_ascii}
@@ -8,8 +8,9 @@ use Rattle.std.specs.Char.{is_ascii_digit}
 use Rattle.std.proofs.lemmas.Bool.Decides.{nat_tests}
 use Rattle.std.specs.Int.Signed.{mag}
 use Rattle.std.specs.Str.{all_ascii_digits, IsAscii, IsUtf8}
-use Rattle.std.specs.Str.Parse.{ParsesSigned, without_leading_sign, signed_digits_value, digits_value}
+use Rattle.std.specs.Str.Parse.{ParsesSigned, ParsesUnsigned, without_leading_sign, without_leading_plus, signed_digits_value, digits_value}
 use Rattle.std.proofs.lemmas.Str.Parse.{IsNumeralModel, numerals_by_value, tells_all_ascii_digits}
+use Rattle.mir_lex.specs.Numbers.{is_digits, without_minus, fits_signed, signed_number, unsigned_number}
 use Rattle.mir_lex.specs.Scanner.{is_number, number_of}
 
 own : IsNumeralModel (λ ds. all_ascii_digits ds ≡ true) (digits_value 10)
@@ -82,4 +83,89 @@ unfolding number_of
 number_text bytes not_text = elim (cases_Bool (is_number bytes)) [
   | inl holds ↦ absurd (not_text (IsUtf8-from_ascii bytes (ascii_number bytes (spells bytes holds))))
   | inr fails ↦ sym (ap (λ (b : Bool). cond b (Some (signed_digits_value 10 bytes)) None) fails)
+]
+
+-- ---- digits and range
+
+-- a list that begins with no digit is none of digits
+no_digits : (b : ℕ) (bytes : List ℕ) (n : ℕ) → (b == n) ≡ true → is_ascii_digit n ≡ false → is_digits (b ∷ bytes) ≡ false
+no_digits b bytes n is none = last_false (nat_lt 0 (length (b ∷ bytes))) _ (ap (λ (d : ℕ). is_ascii_digit d && all_ascii_digits bytes) (eqb-true b n is) ∙ ap (λ (t : Bool). t && all_ascii_digits bytes) none)
+  where
+    last_false : (t u : Bool) → u ≡ false → (t && u) ≡ false
+    last_false true u is = is
+    last_false false u is = refl
+
+-- the scanner's test is that of digits behind a minus, and of the range
+same_test : (bytes : List ℕ) → is_number bytes ≡ (is_digits (without_minus bytes) && fits_signed (signed_digits_value 10 bytes))
+same_test [] = refl
+same_test (b ∷ bytes) = go (b == 45) (b == 43) refl refl
+  where
+    v : Bool
+    v = fits_signed (signed_digits_value 10 (b ∷ bytes))
+
+    left : Bool → Bool → Bool
+    left minus plus = let digits = cond minus bytes (drop (cond plus 1 0) (b ∷ bytes)) in not plus && nat_lt 0 (length digits) && all_ascii_digits digits && v
+
+    right : Bool → Bool
+    right minus = is_digits (cond minus bytes (b ∷ bytes)) && v
+
+    go : (minus plus : Bool) → (b == 45) ≡ minus → (b == 43) ≡ plus → left (b == 45) (b == 43) ≡ right (b == 45)
+    go true true is also = absurd (omega (arith, eqb-true b 45 is, eqb-true b 43 also))
+    go true false is also = ap (λ (t : Bool). left t (b == 43)) is ∙ ap (left true) also ∙ sym (ap right is)
+    go false true is also =
+        ap (λ (t : Bool). left t (b == 43)) is ∙ ap (left false) also
+        ∙ sym (ap right is ∙ ap (λ (t : Bool). t && v) (no_digits b bytes 43 also refl))
+    go false false is also = ap (λ (t : Bool). left t (b == 43)) is ∙ ap (left false) also ∙ sym (ap right is)
+
+pub signed_is : (bytes : List ℕ) → number_of bytes ≡ signed_number bytes
+unfolding number_of signed_number
+signed_is bytes = ap (λ (t : Bool). cond t (Some (signed_digits_value 10 bytes)) None) (same_test bytes)
+
+-- ---- digits below 2^64
+
+record SpellsUnsigned (bytes : List ℕ) : Type 0 where
+  some : 0 < length bytes
+  digits : all_ascii_digits bytes ≡ true
+  fits : digits_value 10 bytes < 2 ^ 64
+
+unsigned_spells : (bytes : List ℕ) → (is_digits bytes && nat_lt (digits_value 10 bytes) (2 ^ 64)) ≡ true → SpellsUnsigned bytes
+unsigned_spells bytes holds =
+    let two = and_true (is_digits bytes) (nat_lt (digits_value 10 bytes) (2 ^ 64)) holds in
+    let one = and_true (nat_lt 0 (length bytes)) (all_ascii_digits bytes) two.0 in
+    record { some = ltb-true _ _ one.0; digits = one.1; fits = ltb-true _ _ two.1 }
+
+unsigned_is_spelled : (bytes : List ℕ) → SpellsUnsigned bytes → (is_digits bytes && nat_lt (digits_value 10 bytes) (2 ^ 64)) ≡ true
+unsigned_is_spelled bytes h = both _ _ (both _ _ (lt-ltb _ _ h.some) h.digits) (lt-ltb _ _ h.fits)
+
+pub unsigned_plus : (bytes : List ℕ) → (slice_index bytes 0 == 43) ≡ true → None ≡ unsigned_number bytes
+unfolding unsigned_number
+unsigned_plus [] plus = refl
+unsigned_plus (b ∷ bytes) plus =
+    sym (ap (λ (t : Bool). cond (t && nat_lt (digits_value 10 (b ∷ bytes)) (2 ^ 64)) (Some (digits_value 10 (b ∷ bytes))) None) (no_digits b bytes 43 plus refl))
+
+-- without a plus, the digits are all of the bytes
+plain : (bytes : List ℕ) → (slice_index bytes 0 == 43) ≡ false → without_leading_plus bytes ≡ bytes
+plain bytes is = ap (λ (t : Bool). drop (cond t 1 0) bytes) is
+
+pub unsigned_read : {E : Type 0} (bytes : List ℕ) (r : Result ℕ E) → (slice_index bytes 0 == 43) ≡ false → ParsesUnsigned 64 10 bytes r → result_ok r ≡ unsigned_number bytes
+unfolding unsigned_number
+unsigned_read bytes (Ok n) is h =
+    let same = plain bytes is in
+    let spelled : SpellsUnsigned bytes = record {
+      some = subst (λ (l : List ℕ). 0 < length l) same h.0.0.0;
+      digits = ap all_ascii_digits (sym same) ∙ own.from _ h.0.0.1;
+      fits = subst (λ (l : List ℕ). digits_value 10 l < 2 ^ 64) same h.0.1;
+    } in
+    ap (λ (n : ℕ). Some n) (h.1 ∙ ap (digits_value 10) same) ∙ sym (ap (λ (b : Bool). cond b (Some (digits_value 10 bytes)) None) (unsigned_is_spelled bytes spelled))
+unsigned_read bytes (Err e) is h = elim (cases_Bool (is_digits bytes && nat_lt (digits_value 10 bytes) (2 ^ 64))) [
+  | inl holds ↦ absurd (let s = unsigned_spells bytes holds in let same = sym (plain bytes is) in
+      h ((subst (λ (l : List ℕ). 0 < length l) same s.some, own.to _ (ap all_ascii_digits (sym same) ∙ s.digits)), subst (λ (l : List ℕ). digits_value 10 l < 2 ^ 64) same s.fits))
+  | inr fails ↦ sym (ap (λ (b : Bool). cond b (Some (digits_value 10 bytes)) None) fails)
+]
+
+pub unsigned_text : (bytes : List ℕ) → (IsUtf8 bytes → ⊥) → None ≡ unsigned_number bytes
+unfolding unsigned_number
+unsigned_text bytes not_text = elim (cases_Bool (is_digits bytes && nat_lt (digits_value 10 bytes) (2 ^ 64))) [
+  | inl holds ↦ absurd (not_text (IsUtf8-from_ascii bytes (ascii_digits bytes (unsigned_spells bytes holds).digits)))
+  | inr fails ↦ sym (ap (λ (b : Bool). cond b (Some (digits_value 10 bytes)) None) fails)
 ]

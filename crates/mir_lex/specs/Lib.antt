@@ -1,4 +1,5 @@
 pub mod Tokens
 pub mod Terminals
 pub mod Spelling
+pub mod Numbers
 pub mod Scanner

@@ -20,6 +20,7 @@ use Rattle.mir_lex.specs.declared.scan.Previous.TheVariants.{LineEnd as AfterLin
 use Rattle.mir_lex.specs.declared.scan.Scan.{Scan}
 use Rattle.mir_lex.specs.declared.scan.Scanned.{Scanned}
 use Rattle.mir_lex.specs.declared.scan.Scanned.TheVariants.{Going, Stopped}
+use Rattle.mir_lex.specs.declared.faults.LexFault.{LexFault}
 use Rattle.mir_lex.specs.declared.faults.LexFault.TheVariants.{BadByte, BadNumber, LongName}
 use Rattle.mir_lex.specs.Spelling.{is_blank, previous_of}
 
@@ -28,12 +29,15 @@ abbrev pub is_number : List ℕ → Bool
 is_number bytes = not (slice_index bytes 0 == 43) && nat_lt 0 (length (without_leading_sign bytes)) && all_ascii_digits (without_leading_sign bytes)
     && nat_lt (mag (signed_digits_value 10 bytes)) (2 ^ 63)
 
+-- the number that these bytes spell, if they spell one
 unfoldable pub number_of : List ℕ → Option ℤ
 number_of bytes = if is_number bytes then Some (signed_digits_value 10 bytes) else None
 
+-- the bytes are this text
 abbrev pub is_text : List ℕ → List ℕ → Bool
 is_text text bytes = pointwise nat_eq text bytes
 
+-- the words of operators, and those that no instruction begins with
 abbrev pub operator_word : List ℕ → Option Word
 operator_word bytes =
     if is_text (codes "mod") bytes then Some Mod else
@@ -49,6 +53,7 @@ operator_word bytes =
     if is_text (codes "global") bytes then Some Global else
     if is_text (codes "sequence") bytes then Some Sequence else None
 
+-- the reserved word that these bytes are
 unfoldable pub reserved_word : List ℕ → Option Word
 reserved_word bytes =
     if is_text (codes "begin") bytes then Some Begin else
@@ -64,6 +69,7 @@ reserved_word bytes =
 unfoldable pub word_kind : List ℕ → Option Kind
 word_kind bytes = if is_name bytes then Some NameKind else option_map (λ word. WordKind word) (reserved_word bytes)
 
+-- the mark that this byte alone is, whatever follows
 abbrev pub single_mark : ℕ → Option Mark
 single_mark byte =
     if byte == 58 then Some Colon else
@@ -76,6 +82,12 @@ single_mark byte =
     if byte == 47 then Some Slash else
     if byte == 61 then Some Equal else None
 
+-- what a step makes: the scan, or why it stops
+abbrev pub outcome : Option LexFault → Scan → Scanned
+outcome None state = Going state
+outcome (Some fault) state = Stopped fault
+
+-- one more byte is pending
 abbrev pub extend : Scan → Pending → Scan
 extend state pending = record state { length = state.length + 1; pending = pending }
 
@@ -90,17 +102,21 @@ push state kind = record {
   pending = Idle;
 }
 
+-- the bytes since the start are no token
 abbrev pub skip : Scan → Scan
 skip state = record state { start = state.start + state.length; length = 0; pending = Idle }
 
+-- the bytes since the start are a word of this kind, or too long
 abbrev pub push_word : Scan → Option Kind → Scanned
 push_word state None = Stopped (LongName state.line)
 push_word state (Some kind) = Going (push state kind)
 
+-- the bytes since the start are this number, or no number
 abbrev pub push_number : Scan → Option ℤ → Scanned
 push_number state None = Stopped (BadNumber state.line)
 push_number state (Some value) = Going (push state (NumberKind value))
 
+-- the bytes since the start
 abbrev pub pending_bytes : List ℕ → Scan → List ℕ
 pending_bytes text state = take state.length (drop state.start text)
 
@@ -116,6 +132,7 @@ emit_as text state PGreater = Going (push state (MarkKind Greater))
 emit_as text state PBang = Going (push state (MarkKind Bang))
 emit_as text state pending = Stopped (BadByte state.line)
 
+-- nothing more belongs to the bytes since the start, by what is pending
 unfoldable pub emit : List ℕ → Scan → Scanned
 emit text state = emit_as text state state.pending
 
@@ -124,6 +141,7 @@ abbrev pub end_line : Scan → Previous → Scan
 end_line state AfterLineEnd = state
 end_line state previous = push state LineEndKind
 
+-- what follows stands on the next line
 abbrev pub next_line : Scan → Scan
 next_line state = record state { line = state.line + 1 }
 
@@ -131,10 +149,12 @@ next_line state = record state { line = state.line + 1 }
 abbrev pub line_feed : Scan → Scan
 line_feed state = next_line (skip (end_line (extend state Idle) state.previous))
 
+-- a minus behind a name or a number is an operator; else it may begin a number
 abbrev pub begin_minus : Scan → Previous → Scan
 begin_minus state AfterOperand = push (extend state Idle) (MarkKind Minus)
 begin_minus state previous = extend state PMinus
 
+-- one more byte is this mark, or begins nothing
 abbrev pub push_mark : Scan → Option Mark → Scanned
 push_mark state None = Stopped (BadByte state.line)
 push_mark state (Some mark) = Going (push (extend state Idle) (MarkKind mark))
@@ -153,10 +173,12 @@ begin state byte =
     if byte == 124 then Going (extend state Bar) else
     if byte == 226 then Going (extend state ArrowFirst) else push_mark state (single_mark byte)
 
+-- the first byte of what follows, where the scan goes on
 abbrev pub begin_after : Scanned → ℕ → Scanned
 begin_after (Going state) byte = begin state byte
 begin_after (Stopped bad) byte = Stopped bad
 
+-- the bytes since the start and one more are this mark
 abbrev pub complete : Scan → Mark → Scanned
 complete state mark = Going (push (extend state Idle) (MarkKind mark))
 
@@ -182,10 +204,12 @@ step_as text state byte Comment = if byte == 10 then begin_after (emit text stat
 step_as text state byte ArrowFirst = step_only state byte 134 ArrowSecond
 step_as text state byte ArrowSecond = if byte == 144 then complete state Arrow else Stopped (BadByte state.line)
 
+-- one more byte, where the scan goes on
 abbrev pub step : List ℕ → Scanned → ℕ → Scanned
 step text (Going state) byte = step_as text state byte state.pending
 step text (Stopped bad) byte = Stopped bad
 
+-- the scan of no byte
 abbrev pub start : Scan
 start = record { items = []; previous = AfterLineEnd; line = 1; start = 0; length = 0; pending = Idle }
 
@@ -193,14 +217,17 @@ start = record { items = []; previous = AfterLineEnd; line = 1; start = 0; lengt
 abbrev pub scan : List ℕ → List ℕ → Scanned
 scan text front = fold (step text) (Going start) front
 
+-- one more line end stands at the end, unless none is wanted
 abbrev pub finish_with : Scanned → Scanned
 finish_with (Going state) = Going (end_line state state.previous)
 finish_with (Stopped bad) = Stopped bad
 
+-- the end of the text: nothing more belongs to what is pending
 abbrev pub finish : List ℕ → Scanned → Scanned
 finish text (Going state) = finish_with (emit text state)
 finish text (Stopped bad) = Stopped bad
 
+-- the scan of a whole text
 abbrev pub scanned : List ℕ → Scanned
 scanned text = finish text (scan text text)
 
@@ -208,3 +235,11 @@ scanned text = finish text (scan text text)
 abbrev pub HasPlace : ℕ → ℕ → Scanned → Type 0
 HasPlace n line (Going state) = (state.start + state.length ≡ n) × (state.line ≤ line)
 HasPlace n line (Stopped bad) = Unit {0}
+
+-- the scan stands where this one stood, and its line is not beyond
+abbrev pub IsSamePlace : Scan → Scanned → Type 0
+IsSamePlace before state = HasPlace (before.start + before.length) before.line state
+
+-- the scan stands one byte behind where this one stood, and its line is not beyond the next
+abbrev pub IsNextPlace : Scan → Scanned → Type 0
+IsNextPlace before state = HasPlace (before.start + before.length + 1) (before.line + 1) state

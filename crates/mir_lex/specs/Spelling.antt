@@ -20,6 +20,7 @@ use Rattle.mir_lex.specs.Tokens.{line_after}
 
 -- ---- spellings
 
+-- how a reserved word is spelled
 abbrev pub word_text : Word → List ℕ
 word_text Begin = codes "begin"
 word_text End = codes "end"
@@ -42,6 +43,7 @@ word_text Trap = codes "trap"
 word_text Global = codes "global"
 word_text Sequence = codes "sequence"
 
+-- how a mark is spelled
 abbrev pub mark_text : Mark → List ℕ
 mark_text Colon = codes ":"
 mark_text Comma = codes ","
@@ -124,9 +126,11 @@ with_line_end items previous line start length = items ++ record { kind = LineEn
 
 -- ---- texts
 
+-- a space, a tab or a carriage return
 abbrev pub is_blank : ℕ → Bool
 is_blank byte = byte == 32 || byte == 9 || byte == 13
 
+-- the bytes lie on one line
 abbrev pub HasNoLineFeed : List ℕ → Type 0
 HasNoLineFeed bytes = list_all (λ byte. not (byte == 10)) bytes ≡ true
 

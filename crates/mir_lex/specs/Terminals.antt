@@ -16,8 +16,10 @@ symbol_of (NumberKind value) bytes = Number value
 symbol_of (MarkKind mark) bytes = Mark mark
 symbol_of LineEndKind bytes = LineEnd
 
+-- a token of a text as the grammar reads it
 abbrev pub terminal_of : List ℕ → Token → Terminal
 terminal_of text token = record { symbol = symbol_of token.kind (bytes_of text token); line = token.line }
 
+-- the tokens of a text as the grammar reads them
 abbrev pub terminals : List ℕ → List Token → List Terminal
 terminals text items = map (terminal_of text) items

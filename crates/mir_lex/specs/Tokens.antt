@@ -24,6 +24,7 @@ abbrev pub NameIsSpelled : Kind → List ℕ → Type 0
 NameIsSpelled Name bytes = IsName bytes
 NameIsSpelled kind bytes = Unit {0}
 
+-- a token lies in its text, has its line, and is spelled as its kind says
 pub record IsTokenOf (text : List ℕ) (token : Token) : Type 0 where
   pub inside : token.start + token.length ≤ length text
   pub line : token.line ≡ line_after (take token.start text)
@@ -33,6 +34,7 @@ pub record IsTokenOf (text : List ℕ) (token : Token) : Type 0 where
 abbrev pub EndsBefore : Token → Token → Type 0
 EndsBefore first second = first.start + first.length ≤ second.start
 
+-- tokens of a text, in its order
 pub record AreTokens (text : List ℕ) (items : List Token) : Type 0 where
   pub each : All (IsTokenOf text) items
   pub in_order : AllPairs EndsBefore items

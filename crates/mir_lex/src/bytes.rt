@@ -21,6 +21,7 @@ pub fn word_kind(bytes: &[u8]) -> Option<Kind>
     }
 }
 
+// The reserved word that the bytes are, and `None` where they are none.
 #[tactic(auto, unfolding(crate::specs::Scanner::reserved_word))]
 fn reserved_word(bytes: &[u8]) -> Option<Word>
     ensures { result ≡ reserved_word bytes.now }
@@ -79,6 +80,7 @@ fn operator_word(bytes: &[u8]) -> Option<Word>
     }
 }
 
+// Whether the bytes are this text.
 fn is_text(text: &[u8], bytes: &[u8]) -> bool
     ensures { result ≡ is_text text.now bytes.now }
 {
@@ -103,18 +105,21 @@ pub fn single_mark(byte: u8) -> Option<Mark>
     }
 }
 
+/// Whether the byte is a space, a tab or a carriage return.
 pub fn is_blank(byte: u8) -> bool
     ensures { result ≡ is_blank byte }
 {
     byte == b' ' || byte == b'\t' || byte == b'\r'
 }
 
+/// Whether the byte begins a name or a reserved word.
 pub fn is_letter(byte: u8) -> bool
     ensures { result ≡ is_letter byte }
 {
     byte.is_ascii_alphabetic()
 }
 
+/// Whether the byte may stand in a name or a reserved word.
 pub fn is_name_byte(byte: u8) -> bool
     ensures { result ≡ is_name_byte byte }
 {

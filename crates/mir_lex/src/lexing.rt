@@ -10,12 +10,14 @@ use crate::{LexFault, Memory, Token, Tokens};
 use mir_base::Items;
 use std::alloc::Global;
 
+// A copy of the text, which its tokens keep.
 fn copy(alloc: Global, text: &[u8]) -> Result<Items<u8>, Memory>
     ensures { IfOk result (λ copy. copy ≡ text.now) }
 {
     Ok(Items::of(text.to_vec(alloc)?))
 }
 
+// The tokens with their text.
 fn tokens(text: Items<u8>, items: Items<Token>) -> Tokens
     requires { AreTokens text items }
     ensures text { result.text ≡ text }

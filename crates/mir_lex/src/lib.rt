@@ -21,9 +21,9 @@ mod tokens;
 mod words;
 
 pub use faults::LexFault;
-pub use laws::tokens_are_unique;
+pub use laws::{refusal_is_unique, tokens_are_unique};
 pub use lexing::lex;
-pub use numbers::number;
+pub use numbers::{number, unsigned};
 pub use terminals::{Symbol, Terminal};
 pub use tokens::{Token, Tokens};
 pub use words::{Kind, Mark, Word};

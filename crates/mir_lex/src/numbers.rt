@@ -1,11 +1,42 @@
 // Numbers.
-ghost use Rattle.std.specs.Prelude.{◌≡◌, ◌==◌, slice_index};
+ghost use Rattle.std.specs.Prelude.{◌≡◌, ◌↔◌, ◌==◌, ℕ, ℤ, Some, slice_index};
+ghost use Rattle.mir_lex.specs.Numbers.{signed_number, unsigned_number, IsSignedWord, IsUnsignedWord};
 ghost use Rattle.mir_lex.specs.Scanner.{number_of};
 
 use std::str;
 
-/// The number that an optional `-` and decimal digits spell, and `None` where it does not fit 64 bits with a sign.
+/// The number that an optional `-` and decimal digits spell, and `None` where the bytes are no such, or the number does
+/// not fit 64 bits with a sign. It takes no memory.
 pub fn number(bytes: &[u8]) -> Option<i64>
+    ensures number { result ≡ signed_number bytes.now }
+    ensures numeral { (number : ℤ) → (result ≡ Some number) ↔ IsSignedWord bytes.now number }
+{
+    scanned_number(bytes)
+}
+
+/// The number that decimal digits spell, and `None` where the bytes are no such, or the number does not fit 64 bits. It
+/// takes no memory.
+pub fn unsigned(bytes: &[u8]) -> Option<u64>
+    ensures number { result ≡ unsigned_number bytes.now }
+    ensures numeral { (number : ℕ) → (result ≡ Some number) ↔ IsUnsignedWord bytes.now number }
+{
+    parsed_unsigned(bytes)
+}
+
+fn parsed_unsigned(bytes: &[u8]) -> Option<u64>
+    ensures { result ≡ unsigned_number bytes.now }
+{
+    if begins_with_plus(bytes) {
+        return None;
+    }
+    match str::from_utf8(bytes) {
+        Ok(digits) => digits.parse().ok(),
+        Err(_) => None,
+    }
+}
+
+/// The same as `number`, as the scanner speaks of it.
+pub fn scanned_number(bytes: &[u8]) -> Option<i64>
     ensures { result ≡ number_of bytes.now }
 {
     if begins_with_plus(bytes) {
@@ -17,6 +48,7 @@ pub fn number(bytes: &[u8]) -> Option<i64>
     }
 }
 
+// Whether a plus stands first: the library would take it for a sign.
 fn begins_with_plus(bytes: &[u8]) -> bool
     ensures { result ≡ (slice_index bytes.now 0 == 43) }
 {

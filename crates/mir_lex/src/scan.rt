@@ -1,10 +1,10 @@
 // The scanner: one step for each byte, which never goes back.
-ghost use Rattle.std.specs.Prelude.{◌≡◌, ◌≤◌, ◌<◌, ◌+◌, ◌^◌, length, IfOk};
+ghost use Rattle.std.specs.Prelude.{◌≡◌, ◌≤◌, ◌<◌, ◌+◌, ◌^◌, length, IfOk, OnOk};
 ghost use Rattle.mir_lex.specs.Spelling.{previous_of};
-ghost use Rattle.mir_lex.specs.Scanner.{extend, push, skip, push_word, push_number, emit, end_line, next_line, line_feed, begin_minus, push_mark, begin, begin_after, complete, step_equal, step_only, step_as, step, HasPlace, scan, finish_with, scanned};
+ghost use Rattle.mir_lex.specs.Scanner.{outcome, start, extend, push, skip, push_word, push_number, emit, end_line, line_feed, begin_minus, push_mark, begin, begin_after, complete, step_equal, step_only, step_as, HasPlace, IsSamePlace, IsNextPlace, scan, finish, scanned};
 
 use crate::bytes::{is_blank, is_letter, is_name_byte, single_mark, word_kind};
-use crate::numbers::number;
+use crate::numbers::scanned_number;
 use crate::{Kind, LexFault, Mark, Memory, Token};
 use mir_base::Items;
 use std::alloc::Global;
@@ -65,6 +65,7 @@ pub enum Scanned {
     Stopped(LexFault),
 }
 
+// What the token after one of this kind knows of it.
 fn previous_of(kind: Kind) -> Previous
     ensures { result ≡ previous_of kind }
 {
@@ -76,22 +77,45 @@ fn previous_of(kind: Kind) -> Previous
     }
 }
 
+// Each step changes the scan in place, and answers why it stops there, if it does.
 impl Scan {
-    // One more byte is pending.
-    fn extend(self, pending: Pending) -> Scan
-        requires { self.length < 2 ^ 62 }
-        ensures { result ≡ extend self pending }
+    // The scan of no byte.
+    fn start(alloc: Global) -> Scan
+        ensures { result ≡ start }
     {
-        let mut scan = self;
-        scan.length += 1;
-        scan.pending = pending;
-        scan
+        Scan {
+            items: Items::new(alloc),
+            previous: Previous::LineEnd,
+            line: 1,
+            start: 0,
+            length: 0,
+            pending: Pending::Idle,
+        }
+    }
+
+    // One more byte is pending.
+    fn extend(&mut self, pending: Pending)
+        requires { self.old.length < 2 ^ 62 }
+        ensures { self.new ≡ extend self.old pending }
+    {
+        self.length += 1;
+        self.pending = pending;
+    }
+
+    // The pending bytes are a blank, a comment or a line end.
+    fn skip(&mut self)
+        requires { self.old.start + self.old.length < 2 ^ 62 }
+        ensures { self.new ≡ skip self.old }
+    {
+        self.start += self.length;
+        self.length = 0;
+        self.pending = Pending::Idle;
     }
 
     // The pending bytes are a token.
-    fn push(self, kind: Kind) -> Result<Scan, Memory>
-        requires { self.start + self.length < 2 ^ 62 }
-        ensures { IfOk result (λ scan. scan ≡ push self kind) }
+    fn push(&mut self, kind: Kind) -> Result<(), Memory>
+        requires { self.old.start + self.old.length < 2 ^ 62 }
+        ensures { OnOk result (self.new ≡ push self.old kind) }
     {
         let token = Token {
             kind,
@@ -99,246 +123,248 @@ impl Scan {
             length: self.length,
             line: self.line,
         };
-        Ok(Scan {
-            items: self.items.with(token)?,
-            previous: previous_of(kind),
-            line: self.line,
-            start: self.start + self.length,
-            length: 0,
-            pending: Pending::Idle,
-        })
+        self.items.push(token)?;
+        self.previous = previous_of(kind);
+        self.skip();
+        Ok(())
     }
 
-    // The pending bytes are a blank, a comment or a line end.
-    fn skip(self) -> Scan
-        requires { self.start + self.length < 2 ^ 62 }
-        ensures { result ≡ skip self }
+    // The pending bytes are a token, and the scan goes on.
+    fn push_going(&mut self, kind: Kind) -> Result<Option<LexFault>, Memory>
+        requires { self.old.start + self.old.length < 2 ^ 62 }
+        ensures { IfOk result (λ stop. outcome stop self.new ≡ Scanned.Going (push self.old kind)) }
     {
-        Scan {
-            items: self.items,
-            previous: self.previous,
-            line: self.line,
-            start: self.start + self.length,
-            length: 0,
-            pending: Pending::Idle,
-        }
+        self.push(kind)?;
+        Ok(None)
     }
 
-    fn push_word(self, kind: Option<Kind>) -> Result<Scanned, Memory>
-        requires { self.start + self.length < 2 ^ 62 }
-        ensures { IfOk result (λ scanned. scanned ≡ push_word self kind) }
+    // The pending bytes are a word of this kind, or too long.
+    fn push_word(&mut self, kind: Option<Kind>) -> Result<Option<LexFault>, Memory>
+        requires { self.old.start + self.old.length < 2 ^ 62 }
+        ensures { IfOk result (λ stop. outcome stop self.new ≡ push_word self.old kind) }
     {
         match kind {
-            None => Ok(Scanned::Stopped(LexFault::LongName(self.line))),
-            Some(kind) => Ok(Scanned::Going(self.push(kind)?)),
+            None => Ok(Some(LexFault::LongName(self.line))),
+            Some(kind) => self.push_going(kind),
         }
     }
 
-    fn push_number(self, value: Option<i64>) -> Result<Scanned, Memory>
-        requires { self.start + self.length < 2 ^ 62 }
-        ensures { IfOk result (λ scanned. scanned ≡ push_number self value) }
+    // The pending bytes are this number, or no number.
+    fn push_number(&mut self, value: Option<i64>) -> Result<Option<LexFault>, Memory>
+        requires { self.old.start + self.old.length < 2 ^ 62 }
+        ensures { IfOk result (λ stop. outcome stop self.new ≡ push_number self.old value) }
     {
         match value {
-            None => Ok(Scanned::Stopped(LexFault::BadNumber(self.line))),
-            Some(value) => Ok(Scanned::Going(self.push(Kind::Number(value))?)),
+            None => Ok(Some(LexFault::BadNumber(self.line))),
+            Some(value) => self.push_going(Kind::Number(value)),
         }
     }
 
     // The next byte does not belong to the pending ones.
     #[tactic(auto, unfolding(crate::specs::Scanner::emit))]
-    fn emit(self, text: &[u8]) -> Result<Scanned, Memory>
-        requires within { self.start + self.length ≤ length text.now }
+    fn emit(&mut self, text: &[u8]) -> Result<Option<LexFault>, Memory>
+        requires within { self.old.start + self.old.length ≤ length text.now }
         requires small { length text.now < 2 ^ 61 }
-        ensures value { IfOk result (λ scanned. scanned ≡ emit text.now self) }
-        ensures place { IfOk result (λ scanned. HasPlace (self.start + self.length) self.line scanned) }
+        ensures value { IfOk result (λ stop. outcome stop self.new ≡ emit text.now self.old) }
+        ensures place { IfOk result (λ stop. IsSamePlace self.old (outcome stop self.new)) }
     {
         match self.pending {
-            Pending::Idle => Ok(Scanned::Going(self.skip())),
-            Pending::Comment => Ok(Scanned::Going(self.skip())),
+            Pending::Idle => {
+                self.skip();
+                Ok(None)
+            }
+            Pending::Comment => {
+                self.skip();
+                Ok(None)
+            }
             Pending::Word => {
                 let kind = word_kind(&text[self.start..self.start + self.length]);
                 self.push_word(kind)
             }
             Pending::Number => {
-                let value = number(&text[self.start..self.start + self.length]);
+                let value = scanned_number(&text[self.start..self.start + self.length]);
                 self.push_number(value)
             }
-            Pending::Minus => Ok(Scanned::Going(self.push(Kind::Mark(Mark::Minus))?)),
-            Pending::Less => Ok(Scanned::Going(self.push(Kind::Mark(Mark::Less))?)),
-            Pending::Greater => Ok(Scanned::Going(self.push(Kind::Mark(Mark::Greater))?)),
-            Pending::Bang => Ok(Scanned::Going(self.push(Kind::Mark(Mark::Bang))?)),
-            Pending::Bar => Ok(Scanned::Stopped(LexFault::BadByte(self.line))),
-            Pending::ArrowFirst => Ok(Scanned::Stopped(LexFault::BadByte(self.line))),
-            Pending::ArrowSecond => Ok(Scanned::Stopped(LexFault::BadByte(self.line))),
+            Pending::Minus => self.push_going(Kind::Mark(Mark::Minus)),
+            Pending::Less => self.push_going(Kind::Mark(Mark::Less)),
+            Pending::Greater => self.push_going(Kind::Mark(Mark::Greater)),
+            Pending::Bang => self.push_going(Kind::Mark(Mark::Bang)),
+            Pending::Bar => Ok(Some(LexFault::BadByte(self.line))),
+            Pending::ArrowFirst => Ok(Some(LexFault::BadByte(self.line))),
+            Pending::ArrowSecond => Ok(Some(LexFault::BadByte(self.line))),
         }
     }
 
     // The pending bytes end a line, which is no token at the start of a text or behind another line end.
-    fn end_line(self, previous: Previous) -> Result<Scan, Memory>
-        requires { self.start + self.length < 2 ^ 62 }
-        ensures { IfOk result (λ scan. scan ≡ end_line self previous) }
+    fn end_line(&mut self) -> Result<(), Memory>
+        requires { self.old.start + self.old.length < 2 ^ 62 }
+        ensures { OnOk result (self.new ≡ end_line self.old self.old.previous) }
     {
-        match previous {
-            Previous::LineEnd => Ok(self),
+        match self.previous {
+            Previous::LineEnd => Ok(()),
             _ => self.push(Kind::LineEnd),
         }
     }
 
-    fn next_line(self) -> Scan
-        requires { self.line < 2 ^ 62 }
-        ensures { result ≡ next_line self }
+    // A line feed: what follows stands on the next line.
+    fn line_feed(&mut self) -> Result<(), Memory>
+        requires place { self.old.start + self.old.length + 1 < 2 ^ 62 }
+        requires lines { self.old.line < 2 ^ 62 }
+        ensures { OnOk result (self.new ≡ line_feed self.old) }
     {
-        let mut scan = self;
-        scan.line += 1;
-        scan
-    }
-
-    fn line_feed(self) -> Result<Scan, Memory>
-        requires place { self.start + self.length + 1 < 2 ^ 62 }
-        requires lines { self.line < 2 ^ 62 }
-        ensures { IfOk result (λ scan. scan ≡ line_feed self) }
-    {
-        let previous = self.previous;
-        let scan = self.extend(Pending::Idle).end_line(previous)?;
-        Ok(scan.skip().next_line())
+        self.extend(Pending::Idle);
+        self.end_line()?;
+        self.skip();
+        self.line += 1;
+        Ok(())
     }
 
     // A `-` behind a name or a number of its line is an operator; else it may begin a number.
-    fn begin_minus(self, previous: Previous) -> Result<Scan, Memory>
-        requires { self.start + self.length + 1 < 2 ^ 62 }
-        ensures { IfOk result (λ scan. scan ≡ begin_minus self previous) }
+    fn begin_minus(&mut self) -> Result<Option<LexFault>, Memory>
+        requires { self.old.start + self.old.length + 1 < 2 ^ 62 }
+        ensures { IfOk result (λ stop. outcome stop self.new ≡ Scanned.Going (begin_minus self.old self.old.previous)) }
     {
-        match previous {
-            Previous::Operand => self.extend(Pending::Idle).push(Kind::Mark(Mark::Minus)),
-            _ => Ok(self.extend(Pending::Minus)),
+        match self.previous {
+            Previous::Operand => self.complete(Mark::Minus),
+            _ => self.extend_going(Pending::Minus),
         }
     }
 
-    fn push_mark(self, mark: Option<Mark>) -> Result<Scanned, Memory>
-        requires { self.start + self.length + 1 < 2 ^ 62 }
-        ensures { IfOk result (λ scanned. scanned ≡ push_mark self mark) }
+    // The next byte is this mark, or begins nothing.
+    fn push_mark(&mut self, mark: Option<Mark>) -> Result<Option<LexFault>, Memory>
+        requires { self.old.start + self.old.length + 1 < 2 ^ 62 }
+        ensures { IfOk result (λ stop. outcome stop self.new ≡ push_mark self.old mark) }
     {
         match mark {
-            None => Ok(Scanned::Stopped(LexFault::BadByte(self.line))),
-            Some(mark) => {
-                let scan = self.extend(Pending::Idle).push(Kind::Mark(mark))?;
-                Ok(Scanned::Going(scan))
-            }
+            None => Ok(Some(LexFault::BadByte(self.line))),
+            Some(mark) => self.complete(mark),
         }
+    }
+
+    // The pending bytes and one more are this mark.
+    fn complete(&mut self, mark: Mark) -> Result<Option<LexFault>, Memory>
+        requires { self.old.start + self.old.length + 1 < 2 ^ 62 }
+        ensures value { IfOk result (λ stop. outcome stop self.new ≡ complete self.old mark) }
+        ensures next { IfOk result (λ stop. IsNextPlace self.old (outcome stop self.new)) }
+    {
+        self.extend(Pending::Idle);
+        self.push(Kind::Mark(mark))?;
+        Ok(None)
+    }
+
+    // One more byte is pending, and the scan goes on.
+    fn extend_going(&mut self, pending: Pending) -> Result<Option<LexFault>, Memory>
+        requires { self.old.length < 2 ^ 62 }
+        ensures { IfOk result (λ stop. outcome stop self.new ≡ Scanned.Going (extend self.old pending)) }
+    {
+        self.extend(pending);
+        Ok(None)
     }
 
     // The first byte of a token, a blank, a comment or a line end.
     #[tactic(auto, unfolding(crate::specs::Scanner::begin))]
-    fn begin(self, byte: u8) -> Result<Scanned, Memory>
-        requires place { self.start + self.length + 1 < 2 ^ 62 }
-        requires lines { self.line < 2 ^ 62 }
-        ensures value { IfOk result (λ scanned. scanned ≡ begin self byte) }
-        ensures next { IfOk result (λ scanned. HasPlace (self.start + self.length + 1) (self.line + 1) scanned) }
+    fn begin(&mut self, byte: u8) -> Result<Option<LexFault>, Memory>
+        requires place { self.old.start + self.old.length + 1 < 2 ^ 62 }
+        requires lines { self.old.line < 2 ^ 62 }
+        ensures value { IfOk result (λ stop. outcome stop self.new ≡ begin self.old byte) }
+        ensures next { IfOk result (λ stop. IsNextPlace self.old (outcome stop self.new)) }
     {
         if byte == b'\n' {
-            Ok(Scanned::Going(self.line_feed()?))
+            self.line_feed()?;
+            Ok(None)
         } else if is_blank(byte) {
-            Ok(Scanned::Going(self.extend(Pending::Idle).skip()))
+            self.extend(Pending::Idle);
+            self.skip();
+            Ok(None)
         } else if is_letter(byte) {
-            Ok(Scanned::Going(self.extend(Pending::Word)))
+            self.extend_going(Pending::Word)
         } else if byte.is_ascii_digit() {
-            Ok(Scanned::Going(self.extend(Pending::Number)))
+            self.extend_going(Pending::Number)
         } else if byte == b'-' {
-            let previous = self.previous;
-            Ok(Scanned::Going(self.begin_minus(previous)?))
+            self.begin_minus()
         } else if byte == b'<' {
-            Ok(Scanned::Going(self.extend(Pending::Less)))
+            self.extend_going(Pending::Less)
         } else if byte == b'>' {
-            Ok(Scanned::Going(self.extend(Pending::Greater)))
+            self.extend_going(Pending::Greater)
         } else if byte == b'!' {
-            Ok(Scanned::Going(self.extend(Pending::Bang)))
+            self.extend_going(Pending::Bang)
         } else if byte == b'|' {
-            Ok(Scanned::Going(self.extend(Pending::Bar)))
+            self.extend_going(Pending::Bar)
         } else if byte == 0xE2 {
-            Ok(Scanned::Going(self.extend(Pending::ArrowFirst)))
+            self.extend_going(Pending::ArrowFirst)
         } else {
             self.push_mark(single_mark(byte))
         }
     }
 
     // The pending bytes end before this byte, which begins something new.
-    fn restart(self, text: &[u8], byte: u8) -> Result<Scanned, Memory>
-        requires within { self.start + self.length ≤ length text.now }
+    fn restart(&mut self, text: &[u8], byte: u8) -> Result<Option<LexFault>, Memory>
+        requires within { self.old.start + self.old.length ≤ length text.now }
         requires small { length text.now < 2 ^ 61 }
-        requires lines { self.line < 2 ^ 61 }
-        ensures value { IfOk result (λ scanned. scanned ≡ begin_after (emit text.now self) byte) }
-        ensures next { IfOk result (λ scanned. HasPlace (self.start + self.length + 1) (self.line + 1) scanned) }
+        requires lines { self.old.line < 2 ^ 61 }
+        ensures value { IfOk result (λ stop. outcome stop self.new ≡ begin_after (emit text.now self.old) byte) }
+        ensures next { IfOk result (λ stop. IsNextPlace self.old (outcome stop self.new)) }
     {
         match self.emit(text)? {
-            Scanned::Going(scan) => scan.begin(byte),
-            Scanned::Stopped(fault) => Ok(Scanned::Stopped(fault)),
+            None => self.begin(byte),
+            Some(fault) => Ok(Some(fault)),
         }
     }
 
-    // The pending bytes and one more are this mark.
-    fn complete(self, mark: Mark) -> Result<Scanned, Memory>
-        requires { self.start + self.length + 1 < 2 ^ 62 }
-        ensures value { IfOk result (λ scanned. scanned ≡ complete self mark) }
-        ensures next { IfOk result (λ scanned. HasPlace (self.start + self.length + 1) (self.line + 1) scanned) }
-    {
-        let scan = self.extend(Pending::Idle).push(Kind::Mark(mark))?;
-        Ok(Scanned::Going(scan))
-    }
-
     // A byte behind a name or a reserved word.
-    fn step_word(self, text: &[u8], byte: u8) -> Result<Scanned, Memory>
-        requires within { self.start + self.length ≤ length text.now }
+    fn step_word(&mut self, text: &[u8], byte: u8) -> Result<Option<LexFault>, Memory>
+        requires within { self.old.start + self.old.length ≤ length text.now }
         requires small { length text.now < 2 ^ 61 }
-        requires lines { self.line < 2 ^ 61 }
-        ensures value { IfOk result (λ scanned. scanned ≡ step_as text.now self byte Pending.Word) }
-        ensures next { IfOk result (λ scanned. HasPlace (self.start + self.length + 1) (self.line + 1) scanned) }
+        requires lines { self.old.line < 2 ^ 61 }
+        ensures value { IfOk result (λ stop. outcome stop self.new ≡ step_as text.now self.old byte Pending.Word) }
+        ensures next { IfOk result (λ stop. IsNextPlace self.old (outcome stop self.new)) }
     {
         if is_name_byte(byte) {
-            Ok(Scanned::Going(self.extend(Pending::Word)))
+            self.extend_going(Pending::Word)
         } else {
             self.restart(text, byte)
         }
     }
 
     // A byte behind a number.
-    fn step_number(self, text: &[u8], byte: u8) -> Result<Scanned, Memory>
-        requires within { self.start + self.length ≤ length text.now }
+    fn step_number(&mut self, text: &[u8], byte: u8) -> Result<Option<LexFault>, Memory>
+        requires within { self.old.start + self.old.length ≤ length text.now }
         requires small { length text.now < 2 ^ 61 }
-        requires lines { self.line < 2 ^ 61 }
-        ensures value { IfOk result (λ scanned. scanned ≡ step_as text.now self byte Pending.Number) }
-        ensures next { IfOk result (λ scanned. HasPlace (self.start + self.length + 1) (self.line + 1) scanned) }
+        requires lines { self.old.line < 2 ^ 61 }
+        ensures value { IfOk result (λ stop. outcome stop self.new ≡ step_as text.now self.old byte Pending.Number) }
+        ensures next { IfOk result (λ stop. IsNextPlace self.old (outcome stop self.new)) }
     {
         if byte.is_ascii_digit() {
-            Ok(Scanned::Going(self.extend(Pending::Number)))
+            self.extend_going(Pending::Number)
         } else if is_name_byte(byte) {
-            Ok(Scanned::Stopped(LexFault::BadNumber(self.line)))
+            Ok(Some(LexFault::BadNumber(self.line)))
         } else {
             self.restart(text, byte)
         }
     }
 
     // A byte behind a `-` that may begin a number.
-    fn step_minus(self, text: &[u8], byte: u8) -> Result<Scanned, Memory>
-        requires within { self.start + self.length ≤ length text.now }
+    fn step_minus(&mut self, text: &[u8], byte: u8) -> Result<Option<LexFault>, Memory>
+        requires within { self.old.start + self.old.length ≤ length text.now }
         requires small { length text.now < 2 ^ 61 }
-        requires lines { self.line < 2 ^ 61 }
-        ensures value { IfOk result (λ scanned. scanned ≡ step_as text.now self byte Pending.Minus) }
-        ensures next { IfOk result (λ scanned. HasPlace (self.start + self.length + 1) (self.line + 1) scanned) }
+        requires lines { self.old.line < 2 ^ 61 }
+        ensures value { IfOk result (λ stop. outcome stop self.new ≡ step_as text.now self.old byte Pending.Minus) }
+        ensures next { IfOk result (λ stop. IsNextPlace self.old (outcome stop self.new)) }
     {
         if byte.is_ascii_digit() {
-            Ok(Scanned::Going(self.extend(Pending::Number)))
+            self.extend_going(Pending::Number)
         } else {
             self.restart(text, byte)
         }
     }
 
     // A byte behind `<`.
-    fn step_less(self, text: &[u8], byte: u8) -> Result<Scanned, Memory>
-        requires within { self.start + self.length ≤ length text.now }
+    fn step_less(&mut self, text: &[u8], byte: u8) -> Result<Option<LexFault>, Memory>
+        requires within { self.old.start + self.old.length ≤ length text.now }
         requires small { length text.now < 2 ^ 61 }
-        requires lines { self.line < 2 ^ 61 }
-        ensures value { IfOk result (λ scanned. scanned ≡ step_as text.now self byte Pending.Less) }
-        ensures next { IfOk result (λ scanned. HasPlace (self.start + self.length + 1) (self.line + 1) scanned) }
+        requires lines { self.old.line < 2 ^ 61 }
+        ensures value { IfOk result (λ stop. outcome stop self.new ≡ step_as text.now self.old byte Pending.Less) }
+        ensures next { IfOk result (λ stop. IsNextPlace self.old (outcome stop self.new)) }
     {
         if byte == b'-' {
             self.complete(Mark::Arrow)
@@ -350,12 +376,12 @@ impl Scan {
     }
 
     // A byte behind `>` or `!`, which is this mark where the byte is `=`.
-    fn step_equal(self, text: &[u8], byte: u8, mark: Mark) -> Result<Scanned, Memory>
-        requires within { self.start + self.length ≤ length text.now }
+    fn step_equal(&mut self, text: &[u8], byte: u8, mark: Mark) -> Result<Option<LexFault>, Memory>
+        requires within { self.old.start + self.old.length ≤ length text.now }
         requires small { length text.now < 2 ^ 61 }
-        requires lines { self.line < 2 ^ 61 }
-        ensures value { IfOk result (λ scanned. scanned ≡ step_equal text.now self byte mark) }
-        ensures next { IfOk result (λ scanned. HasPlace (self.start + self.length + 1) (self.line + 1) scanned) }
+        requires lines { self.old.line < 2 ^ 61 }
+        ensures value { IfOk result (λ stop. outcome stop self.new ≡ step_equal text.now self.old byte mark) }
+        ensures next { IfOk result (λ stop. IsNextPlace self.old (outcome stop self.new)) }
     {
         if byte == b'=' {
             self.complete(mark)
@@ -365,38 +391,40 @@ impl Scan {
     }
 
     // A byte behind `||` and more of its line.
-    fn step_comment(self, text: &[u8], byte: u8) -> Result<Scanned, Memory>
-        requires within { self.start + self.length ≤ length text.now }
+    fn step_comment(&mut self, text: &[u8], byte: u8) -> Result<Option<LexFault>, Memory>
+        requires within { self.old.start + self.old.length ≤ length text.now }
         requires small { length text.now < 2 ^ 61 }
-        requires lines { self.line < 2 ^ 61 }
-        ensures value { IfOk result (λ scanned. scanned ≡ step_as text.now self byte Pending.Comment) }
-        ensures next { IfOk result (λ scanned. HasPlace (self.start + self.length + 1) (self.line + 1) scanned) }
+        requires lines { self.old.line < 2 ^ 61 }
+        ensures value { IfOk result (λ stop. outcome stop self.new ≡ step_as text.now self.old byte Pending.Comment) }
+        ensures next { IfOk result (λ stop. IsNextPlace self.old (outcome stop self.new)) }
     {
         if byte != b'\n' {
-            Ok(Scanned::Going(self.extend(Pending::Comment)))
+            self.extend_going(Pending::Comment)
         } else {
             self.restart(text, byte)
         }
     }
 
     // A byte where only this one may follow, with what it then makes of the scan.
-    fn step_only(self, byte: u8, wanted: u8, pending: Pending) -> Scanned
-        requires { self.length < 2 ^ 62 }
-        ensures { result ≡ step_only self byte wanted pending }
+    fn step_only(&mut self, byte: u8, wanted: u8, pending: Pending) -> Option<LexFault>
+        requires { self.old.length < 2 ^ 62 }
+        ensures { outcome result self.new ≡ step_only self.old byte wanted pending }
     {
         if byte == wanted {
-            Scanned::Going(self.extend(pending))
+            self.extend(pending);
+            None
         } else {
-            Scanned::Stopped(LexFault::BadByte(self.line))
+            Some(LexFault::BadByte(self.line))
         }
     }
 
-    fn step(self, text: &[u8], byte: u8) -> Result<Scanned, Memory>
-        requires within { self.start + self.length ≤ length text.now }
+    // One more byte, by what is pending.
+    fn step(&mut self, text: &[u8], byte: u8) -> Result<Option<LexFault>, Memory>
+        requires within { self.old.start + self.old.length ≤ length text.now }
         requires small { length text.now < 2 ^ 61 }
-        requires lines { self.line < 2 ^ 61 }
-        ensures value { IfOk result (λ scanned. scanned ≡ step_as text.now self byte self.pending) }
-        ensures next { IfOk result (λ scanned. HasPlace (self.start + self.length + 1) (self.line + 1) scanned) }
+        requires lines { self.old.line < 2 ^ 61 }
+        ensures value { IfOk result (λ stop. outcome stop self.new ≡ step_as text.now self.old byte self.old.pending) }
+        ensures next { IfOk result (λ stop. IsNextPlace self.old (outcome stop self.new)) }
     {
         match self.pending {
             Pending::Idle => self.restart(text, byte),
@@ -413,57 +441,43 @@ impl Scan {
                 if byte == 0x90 {
                     self.complete(Mark::Arrow)
                 } else {
-                    Ok(Scanned::Stopped(LexFault::BadByte(self.line)))
+                    Ok(Some(LexFault::BadByte(self.line)))
                 }
             }
         }
     }
 }
 
-fn step(text: &[u8], scanned: Scanned, byte: u8, place: usize) -> Result<Scanned, Memory>
-    requires small { length text.now < 2 ^ 60 }
-    requires within { place ≤ length text.now }
-    requires place { HasPlace place (place + 1) scanned }
-    ensures value { IfOk result (λ next. next ≡ step text.now scanned byte) }
-    ensures next { IfOk result (λ next. HasPlace (place + 1) (place + 2) next) }
-{
-    match scanned {
-        Scanned::Going(scan) => scan.step(text, byte),
-        Scanned::Stopped(fault) => Ok(Scanned::Stopped(fault)),
-    }
-}
-
+// The scan of the bytes, without what is pending at their end.
 fn scan_all(alloc: Global, text: &[u8]) -> Result<Scanned, Memory>
     requires { length text.now < 2 ^ 60 }
     ensures value { IfOk result (λ scanned. scanned ≡ scan text.now text.now) }
     ensures place { IfOk result (λ scanned. HasPlace (length text.now) (length text.now + 1) scanned) }
 {
-    let mut state = Scanned::Going(Scan {
-        items: Items::new(alloc),
-        previous: Previous::LineEnd,
-        line: 1,
-        start: 0,
-        length: 0,
-        pending: Pending::Idle,
-    });
+    let mut scan = Scan::start(alloc);
     for (i, byte) in text.iter().enumerate() {
-        state = step(text, state, *byte, i)?;
+        match scan.step(text, *byte)? {
+            None => {}
+            Some(fault) => return Ok(Scanned::Stopped(fault)),
+        }
     }
-    Ok(state)
+    Ok(Scanned::Going(scan))
 }
 
-// One more line end stands at the end of a text that does not end with a line feed.
-fn finish_with(scanned: Scanned, place: usize) -> Result<Scanned, Memory>
-    requires small { place < 2 ^ 60 }
-    requires place { HasPlace place (place + 1) scanned }
-    ensures { IfOk result (λ finished. finished ≡ finish_with scanned) }
+// The end of a text: the pending bytes end there, and one more line end stands there where the text does not end with a
+// line feed.
+fn finish(scan: Scan, text: &[u8]) -> Result<Scanned, Memory>
+    requires within { scan.start + scan.length ≤ length text.now }
+    requires small { length text.now < 2 ^ 60 }
+    ensures { IfOk result (λ finished. finished ≡ finish text.now (Scanned.Going scan)) }
 {
-    match scanned {
-        Scanned::Going(scan) => {
-            let previous = scan.previous;
-            Ok(Scanned::Going(scan.end_line(previous)?))
+    let mut scan = scan;
+    match scan.emit(text)? {
+        None => {
+            scan.end_line()?;
+            Ok(Scanned::Going(scan))
         }
-        Scanned::Stopped(fault) => Ok(Scanned::Stopped(fault)),
+        Some(fault) => Ok(Scanned::Stopped(fault)),
     }
 }
 
@@ -473,7 +487,7 @@ pub fn scan_text(alloc: Global, text: &[u8]) -> Result<Scanned, Memory>
     ensures { IfOk result (λ finished. finished ≡ scanned text.now) }
 {
     match scan_all(alloc, text)? {
-        Scanned::Going(scan) => finish_with(scan.emit(text)?, text.len()),
+        Scanned::Going(scan) => finish(scan, text),
         Scanned::Stopped(fault) => Ok(Scanned::Stopped(fault)),
     }
 }

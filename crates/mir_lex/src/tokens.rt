@@ -66,12 +66,10 @@ impl Tokens {
     }
 }
 
+// The symbol of a name of these bytes.
 fn name(alloc: Global, bytes: &[u8]) -> Result<Symbol, Memory>
     requires { IsName bytes.now }
     ensures { IfOk result (λ symbol. symbol ≡ Symbol.Name bytes.now) }
 {
-    match Name::new(bytes.to_vec(alloc)?) {
-        Some(name) => Ok(Symbol::Name(name)),
-        None => unreachable!(),
-    }
+    Ok(Symbol::Name(Name::of(bytes.to_vec(alloc)?)))
 }

@@ -1,5 +1,5 @@
 -- What the tokens of a text say of the text.
-use Rattle.std.proofs.Common.{◌≡◌, ◌⊎◌, ℕ, List, sym, ap, subst, inl, inr, refl}
+use Rattle.std.proofs.Common.{◌≡◌, ◌⊎◌, ℕ, List, sym, ◌∙◌, ap, subst, inl, inr, refl}
 use Rattle.mir_lex.specs.declared.tokens.Token.{Token}
 use Rattle.mir_lex.specs.declared.terminals.Terminal.{Terminal}
 use Rattle.mir_lex.specs.declared.faults.LexFault.{LexFault}
@@ -13,8 +13,9 @@ use Rattle.mir_parse.specs.declared.faults.TextFault.TheVariants.{Lex, Parse}
 use Rattle.mir_parse.specs.RawUnit.{RawUnitShape}
 use Rattle.mir_parse.specs.Fault.{IsMemory}
 use Rattle.mir_parse.specs.Grammar.{IsText, IsUnexpected, IsEnded}
-use Rattle.mir_parse.specs.Spells.{Spells, IsTextRefusal}
-use Rattle.mir_parse.proofs.Exact.{text-same}
+use Rattle.mir_parse.specs.Spells.{Spells, IsTextRefusal, TokensRefused}
+use Rattle.mir_parse.proofs.Exact.{text-same, unexpected-dead, outside-unexpected, outside-ended, dead-ended}
+use Rattle.mir_parse.proofs.Complete.{text-run}
 
 -- a fact of the terminals of a text, at a text and tokens that are the same
 pub moved : (P : List Terminal → Type 0) (bytes text : List ℕ) (others items : List Token) → text ≡ bytes → items ≡ others → P (terminals bytes others) → P (terminals text items)
@@ -49,3 +50,44 @@ same-parse other fault (inr memory) = inr memory
 pub same-lex : (other fault : LexFault) → (other ≡ fault) ⊎ IsLexMemory other → (Lex other ≡ Lex fault) ⊎ IsLexMemory other
 same-lex other fault (inl same) = inl (ap Lex same)
 same-lex other fault (inr memory) = inr memory
+
+-- ---- one refusal
+
+-- tokens are refused for at most one cause
+tokens-refused-same : (bytes : List ℕ) (items : List Token) (one other : ParseFault) → TokensRefused bytes items one → TokensRefused bytes items other → one ≡ other
+tokens-refused-same bytes items (Unexpected m) (Unexpected n) is also = let e = sym (unexpected-dead _ m is) ∙ unexpected-dead _ n also in cc
+tokens-refused-same bytes items (Unexpected m) Ended is also = absurd (dead-ended _ m (sym (unexpected-dead _ m is)) also)
+tokens-refused-same bytes items (Unexpected m) (Memory refusal) is also = absurd also
+tokens-refused-same bytes items Ended (Unexpected n) is also = absurd (dead-ended _ n (sym (unexpected-dead _ n also)) is)
+tokens-refused-same bytes items Ended Ended is also = refl
+tokens-refused-same bytes items Ended (Memory refusal) is also = absurd also
+tokens-refused-same bytes items (Memory refusal) other is also = absurd is
+
+-- and those that are a text are not refused
+tokens-refused-none : (bytes : List ℕ) (items : List Token) (fault : ParseFault) (units : List RawUnitShape) → TokensRefused bytes items fault → IsText (terminals bytes items) units → ⊥
+tokens-refused-none bytes items (Unexpected line) units is text = outside-unexpected _ units (sym (text-run (terminals bytes items) units text)) line is
+tokens-refused-none bytes items Ended units is text = outside-ended _ units (sym (text-run (terminals bytes items) units text)) is
+tokens-refused-none bytes items (Memory refusal) units is text = is
+
+abbrev OneRow : List ℕ → Type 0
+OneRow bytes = (one other : List Token) → IsTokens bytes one → IsTokens bytes other → one ≡ other
+
+abbrev OneFault : List ℕ → Type 0
+OneFault bytes = (one other : LexFault) → IsRefusal bytes one → IsRefusal bytes other → one ≡ other
+
+abbrev NoFault : List ℕ → Type 0
+NoFault bytes = (fault : LexFault) → IsRefusal bytes fault → (items : List Token) → IsTokens bytes items → ⊥
+
+-- a text is refused for at most one cause, where this is so of its tokens
+pub refusals-same : (bytes : List ℕ) → OneRow bytes → OneFault bytes → NoFault bytes → (one other : TextFault) → IsTextRefusal bytes one → IsTextRefusal bytes other → one ≡ other
+refusals-same bytes row fault none (Lex one) (Lex other) is also = ap Lex (fault one other is also)
+refusals-same bytes row fault none (Lex one) (Parse other) is also = absurd (none one is also.0 also.1)
+refusals-same bytes row fault none (Parse one) (Lex other) is also = absurd (none other also is.0 is.1)
+refusals-same bytes row fault none (Parse one) (Parse other) is also =
+    ap Parse (tokens-refused-same bytes is.0 one other is.2 (subst (λ (items : List Token). TokensRefused bytes items other) (row also.0 is.0 also.1 is.1) also.2))
+
+-- and one that spells a raw program is not refused
+pub refusal-spells : (bytes : List ℕ) → OneRow bytes → NoFault bytes → (fault : TextFault) → IsTextRefusal bytes fault → (raw : Raw) → Spells bytes raw → ⊥
+refusal-spells bytes row none (Lex fault) is raw spells = none fault is spells.items spells.tokens
+refusal-spells bytes row none (Parse fault) is raw spells =
+    tokens-refused-none bytes spells.items fault raw.units (subst (λ (items : List Token). TokensRefused bytes items fault) (row is.0 spells.items is.1 spells.tokens) is.2) spells.text

@@ -62,6 +62,7 @@ binop_symbol And = WORD AndWord
 binop_symbol Or = WORD OrWord
 binop_symbol Xor = WORD XorWord
 
+-- the mark of an operator on one operand
 abbrev pub unop_symbol : UnOp → Symbol
 unop_symbol Neg = MARK Minus
 unop_symbol Not = MARK Bang
@@ -90,6 +91,7 @@ abbrev pub open_args : List RawOperand → List Symbol
 open_args [] = MARK LeftParen ∷ []
 open_args (a ∷ args) = MARK LeftParen ∷ operand_symbol a ∷ MARK Comma ∷ NAME (codes "int") ∷ more_symbols args
 
+-- the arguments of a call with their types, and the end of the call
 abbrev pub args_symbols : List RawOperand → List Symbol
 args_symbols args = open_args args ++ MARK RightParen ∷ []
 
@@ -118,6 +120,7 @@ IsForm ss (Return (Some a)) = ss ≡ WORD ReturnWord ∷ operand_symbol a ∷ []
 
 -- ---- tokens with lines
 
+-- the terminal symbols of tokens
 abbrev pub symbols : List Terminal → List Symbol
 symbols ts = map (λ t. t.symbol) ts
 

@@ -5,6 +5,7 @@ use Rattle.mir_parse.specs.declared.raw.RawForm.{RawForm}
 use Rattle.mir_parse.specs.declared.raw.RawInst.{RawInst}
 use Rattle.mir_parse.specs.declared.raw.RawLabel.{RawLabel}
 
+-- a raw unit as contracts see it
 pub record RawUnitShape : Type 0 where
   pub name : List ℕ
   pub line : ℕ
@@ -19,8 +20,10 @@ HasPlaces labels body = All (λ label. label.place ≤ length body) labels
 abbrev pub unit_begun : List ℕ → ℕ → RawUnitShape
 unit_begun name line = record { name = name; line = line; labels = []; body = [] }
 
+-- the unit with one more instruction at its end
 abbrev pub unit_with_inst : RawUnitShape → ℕ → RawForm → RawUnitShape
 unit_with_inst unit line form = record unit { body = unit.body ++ record { line = line; form = form } ∷ [] }
 
+-- the unit with one more label, which stands behind its instructions
 abbrev pub unit_with_label : RawUnitShape → ℕ → List ℕ → RawUnitShape
 unit_with_label unit line name = record unit { labels = unit.labels ++ record { name = name; place = length unit.body; line = line } ∷ [] }

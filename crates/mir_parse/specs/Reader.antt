@@ -31,8 +31,11 @@ use Rattle.mir_parse.specs.declared.state.Spot.{Spot}
 use Rattle.mir_parse.specs.declared.state.Spot.TheVariants.{Named as UnitNamed, Headed, Begun, Inside, Mid, Ended}
 use Rattle.mir_parse.specs.declared.state.Reading.{Reading}
 use Rattle.mir_parse.specs.declared.state.State.{State}
+use Rattle.mir_parse.specs.declared.state.Turn.{Turn}
+use Rattle.mir_parse.specs.declared.state.Turn.TheVariants.{Goes, Ends, Stops}
 use Rattle.mir_parse.specs.declared.state.State.TheVariants.{Outside, In, Dead}
 
+-- the relation that a mark names in a test
 abbrev pub relop_of_mark : Mark → Option RelOp
 relop_of_mark Equal = Some IsEq
 relop_of_mark NotEqual = Some IsNe
@@ -42,6 +45,7 @@ relop_of_mark Greater = Some IsGt
 relop_of_mark GreaterEqual = Some IsGe
 relop_of_mark mark = None
 
+-- the operator on two operands that a mark names
 abbrev pub op_of_mark : Mark → Option Op
 op_of_mark Plus = Some Add
 op_of_mark Minus = Some Sub
@@ -55,6 +59,7 @@ op_of_mark Greater = Some Gt
 op_of_mark GreaterEqual = Some Ge
 op_of_mark mark = None
 
+-- the operator on two operands that a reserved word names
 abbrev pub op_of_word : Word → Option Op
 op_of_word ModWord = Some Mod
 op_of_word MinWord = Some Min
@@ -76,6 +81,7 @@ filled OfFails operand = Tested (Fails operand)
 filled (OfRel op left) operand = Tested (Rel op left operand)
 filled OfPrint operand = Full (Print operand)
 
+-- where only an operand may stand
 abbrev pub wants : Hole → Symbol → Next
 wants hole (NAME x) = Go (filled hole (Var x))
 wants hole (NUMBER z) = Go (filled hole (Const z))
@@ -86,10 +92,12 @@ abbrev pub comma_then : Part → Symbol → Next
 comma_then part (MARK Comma) = Go part
 comma_then part symbol = No
 
+-- where only `(` may stand
 abbrev pub open_then : Part → Symbol → Next
 open_then part (MARK LeftParen) = Go part
 open_then part symbol = No
 
+-- where only `)` may stand
 abbrev pub close_then : Part → Symbol → Next
 close_then part (MARK RightParen) = Go part
 close_then part symbol = No
@@ -99,6 +107,7 @@ abbrev pub name_then : List ℕ → Part → Symbol → Next
 name_then x part (NAME y) = if pointwise nat_eq y x then Go part else No
 name_then x part symbol = No
 
+-- the first token of an instruction
 abbrev pub fresh : Symbol → Next
 fresh (NAME x) = Go (Named x)
 fresh (WORD ReceiveWord) = Go PReceive
@@ -109,15 +118,18 @@ fresh (WORD PrintWord) = Go (Wants OfPrint)
 fresh (WORD ReturnWord) = Go PReturn
 fresh symbol = No
 
+-- behind `receive`
 abbrev pub receive_word : Symbol → Next
 receive_word (NAME x) = Go (ReceiveName x)
 receive_word symbol = No
 
+-- behind a name at the start: it is a label or is assigned to
 abbrev pub named : List ℕ → Symbol → Next
 named x (MARK Colon) = Label x
 named x (MARK Arrow) = Go (Arrowed x)
 named x symbol = No
 
+-- behind `x <-`
 abbrev pub arrowed : List ℕ → Symbol → Next
 arrowed x (NAME y) = Go (PlainName x y)
 arrowed x (NUMBER z) = Go (PlainNumber x z)
@@ -126,10 +138,12 @@ arrowed x (MARK Bang) = Go (Wants (OfUnary x Not))
 arrowed x (WORD CallWord) = Go (PCall (Some x))
 arrowed x symbol = No
 
+-- an operator behind the first of two operands
 abbrev pub binary_with : List ℕ → RawOperand → Option Op → Next
 binary_with x a None = No
 binary_with x a (Some op) = Go (Wants (OfBinary x op a))
 
+-- behind `x <- y`, where y may also be a unit that is called
 abbrev pub plain_name : List ℕ → List ℕ → Symbol → Next
 plain_name x y (MARK Comma) = Go (Opening (Some x) y)
 plain_name x y (MARK mark) = binary_with x (Var y) (op_of_mark mark)
@@ -137,62 +151,75 @@ plain_name x y (WORD word) = binary_with x (Var y) (op_of_word word)
 plain_name x y NL = Done (Assign x (Plain (Var y)))
 plain_name x y symbol = No
 
+-- behind `x <- 1`
 abbrev pub plain_number : List ℕ → ℤ → Symbol → Next
 plain_number x z (MARK mark) = binary_with x (Const z) (op_of_mark mark)
 plain_number x z (WORD word) = binary_with x (Const z) (op_of_word word)
 plain_number x z NL = Done (Assign x (Plain (Const z)))
 plain_number x z symbol = No
 
+-- behind `call`
 abbrev pub call_word : Option (List ℕ) → Symbol → Next
 call_word x (NAME f) = Go (Callee x f)
 call_word x symbol = No
 
+-- behind the `(` of a call: its end, or the first argument
 abbrev pub first_arg : Option (List ℕ) → List ℕ → Symbol → Next
 first_arg x f (MARK RightParen) = Go (Full (Call x f []))
 first_arg x f symbol = wants (OfArg x f []) symbol
 
+-- behind an argument and its type: one more argument, or the end of the call
 abbrev pub typed : Option (List ℕ) → List ℕ → List RawOperand → Symbol → Next
 typed x f args (MARK Semicolon) = Go (Wants (OfArg x f args))
 typed x f args (MARK RightParen) = Go (Full (Call x f args))
 typed x f args symbol = No
 
+-- behind `goto`
 abbrev pub goto_word : Symbol → Next
 goto_word (NAME label) = Go (Full (Goto label))
 goto_word symbol = No
 
+-- behind `if`
 abbrev pub if_word : Symbol → Next
 if_word (NAME x) = Go (IfOperand (Var x))
 if_word (NUMBER z) = Go (IfOperand (Const z))
 if_word (MARK Bang) = Go (Wants OfFails)
 if_word symbol = No
 
+-- a relation behind the first operand of a test
 abbrev pub rel_with : RawOperand → Option RelOp → Next
 rel_with a None = No
 rel_with a (Some op) = Go (Wants (OfRel op a))
 
+-- behind `if a`: the test is the operand, or a relation
 abbrev pub if_operand : RawOperand → Symbol → Next
 if_operand a (WORD GotoWord) = Go (IfGoto (Holds a))
 if_operand a (MARK mark) = rel_with a (relop_of_mark mark)
 if_operand a symbol = No
 
+-- behind a whole test
 abbrev pub tested : RawTest → Symbol → Next
 tested test (WORD GotoWord) = Go (IfGoto test)
 tested test symbol = No
 
+-- behind `if test goto`
 abbrev pub if_goto : RawTest → Symbol → Next
 if_goto test (NAME label) = Go (Full (If test label))
 if_goto test symbol = No
 
+-- behind `return`: an operand, or the end of the line
 abbrev pub return_word : Symbol → Next
 return_word (NAME x) = Go (Full (Return (Some (Var x))))
 return_word (NUMBER z) = Go (Full (Return (Some (Const z))))
 return_word NL = Done (Return None)
 return_word symbol = No
 
+-- behind a whole instruction
 abbrev pub full : RawForm → Symbol → Next
 full f NL = Done f
 full f symbol = No
 
+-- what a token makes of a part of an instruction
 abbrev pub part_step : Part → Symbol → Next
 part_step Fresh symbol = fresh symbol
 part_step PReceive symbol = receive_word symbol
@@ -219,12 +246,15 @@ part_step (IfGoto test) symbol = if_goto test symbol
 part_step PReturn symbol = return_word symbol
 part_step (Full f) symbol = full f symbol
 
+-- a unit begins with its name
 abbrev pub begin_unit : List RawUnitShape → List ℕ → ℕ → Reading
 begin_unit units name line = record { units = units; unit = unit_begun name line }
 
+-- the unit that is read, with one more instruction
 abbrev pub with_inst : Reading → ℕ → RawForm → Reading
 with_inst reading line form = record reading { unit = unit_with_inst reading.unit line form }
 
+-- the unit that is read, with one more label
 abbrev pub with_label : Reading → ℕ → List ℕ → Reading
 with_label reading line name = record reading { unit = unit_with_label reading.unit line name }
 
@@ -235,32 +265,39 @@ after reading line at (Go part) = In reading (Mid line part)
 after reading line at (Done form) = In (with_inst reading line form) (Inside false)
 after reading line at (Label name) = In (with_label reading line name) (Inside true)
 
+-- between two units
 abbrev pub outside : List RawUnitShape → Symbol → ℕ → State
 outside units (NAME x) at = In (begin_unit units x at) UnitNamed
 outside units symbol at = Dead at
 
+-- behind the name of a unit
 abbrev pub unit_named : Reading → Symbol → ℕ → State
 unit_named reading (MARK Colon) at = In reading (Headed true)
 unit_named reading symbol at = Dead at
 
+-- behind the name and the colon of a unit
 abbrev pub headed : Reading → Bool → Symbol → ℕ → State
 headed reading after_colon (WORD BeginWord) at = In reading Begun
 headed reading true NL at = In reading (Headed false)
 headed reading after_colon symbol at = Dead at
 
+-- behind `begin`
 abbrev pub begun : Reading → Symbol → ℕ → State
 begun reading NL at = In reading (Inside false)
 begun reading symbol at = Dead at
 
+-- between two instructions
 abbrev pub inside : Reading → Bool → Symbol → ℕ → State
 inside reading after_colon (WORD EndWord) at = In reading Ended
 inside reading true NL at = In reading (Inside false)
 inside reading after_colon symbol at = after reading at at (fresh symbol)
 
+-- behind `end`
 abbrev pub ended : Reading → Symbol → ℕ → State
 ended reading NL at = Outside (reading.units ++ reading.unit ∷ [])
 ended reading symbol at = Dead at
 
+-- what a token makes of the unit that is read
 abbrev pub spot_step : Reading → Spot → Symbol → ℕ → State
 spot_step reading UnitNamed symbol at = unit_named reading symbol at
 spot_step reading (Headed after_colon) symbol at = headed reading after_colon symbol at
@@ -269,10 +306,18 @@ spot_step reading (Inside after_colon) symbol at = inside reading after_colon sy
 spot_step reading (Mid line part) symbol at = after reading line at (part_step part symbol)
 spot_step reading Ended symbol at = ended reading symbol at
 
+-- what a token made of the unit that is read, which was left as it is here
+abbrev pub turned : Turn → Reading → Spot → ℕ → State
+turned Goes reading spot at = In reading spot
+turned Ends reading spot at = Outside (reading.units ++ reading.unit ∷ [])
+turned Stops reading spot at = Dead at
+
+-- what a token makes of what was read
 abbrev pub step : State → Terminal → State
 step (Outside units) token = outside units token.symbol token.line
 step (In reading spot) token = spot_step reading spot token.symbol token.line
 step (Dead line) token = Dead line
 
+-- what was read after these tokens
 abbrev pub reads : List Terminal → State
 reads ts = fold step (Outside []) ts

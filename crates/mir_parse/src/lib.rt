@@ -20,7 +20,7 @@ mod tests;
 mod units;
 
 pub use faults::{ParseFault, TextFault};
-pub use laws::raw_is_unique;
+pub use laws::{raw_is_unique, refusal_is_unique};
 pub use parsing::parse;
 pub use raw::{Raw, RawForm, RawInst, RawLabel, RawOperand, RawRhs, RawTest, RawUnit};
 pub use reading::read_text;

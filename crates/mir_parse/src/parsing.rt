@@ -13,6 +13,7 @@ use mir_base::Items;
 use mir_lex::Tokens;
 use std::alloc::Global;
 
+// The state behind the last token, or behind the first one that cannot stand where it stands.
 fn read(alloc: Global, tokens: &Tokens) -> Result<State, Memory>
     ensures { IfOk result (λ state. state ≡ reads (terminals tokens.now.text tokens.now.items)) }
 {

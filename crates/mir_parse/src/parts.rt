@@ -8,6 +8,7 @@ use mir_base::{Items, Name, Op, RelOp, UnOp};
 use mir_lex::{Mark, Symbol, Word};
 use std::alloc::Global;
 
+// The relation that a mark names in a test.
 fn relop_of_mark(mark: Mark) -> Option<RelOp>
     ensures { result ≡ relop_of_mark mark }
 {
@@ -22,6 +23,7 @@ fn relop_of_mark(mark: Mark) -> Option<RelOp>
     }
 }
 
+// The operator on two operands that a mark names.
 fn op_of_mark(mark: Mark) -> Option<Op>
     ensures { result ≡ op_of_mark mark }
 {
@@ -40,6 +42,7 @@ fn op_of_mark(mark: Mark) -> Option<Op>
     }
 }
 
+// The operator on two operands that a reserved word names.
 fn op_of_word(word: Word) -> Option<Op>
     ensures { result ≡ op_of_word word }
 {
@@ -57,6 +60,7 @@ fn op_of_word(word: Word) -> Option<Op>
     }
 }
 
+// An operand in the place that waited for one.
 fn filled(hole: Hole, operand: RawOperand) -> Result<Part, Memory>
     ensures { IfOk result (λ part. part ≡ filled hole operand) }
 {
@@ -73,6 +77,7 @@ fn filled(hole: Hole, operand: RawOperand) -> Result<Part, Memory>
     }
 }
 
+// A token where only an operand may stand.
 fn wants(hole: Hole, symbol: Symbol) -> Result<Next, Memory>
     ensures { IfOk result (λ next. next ≡ wants hole symbol) }
 {
@@ -83,6 +88,7 @@ fn wants(hole: Hole, symbol: Symbol) -> Result<Next, Memory>
     }
 }
 
+// A token where only `,` may stand, with the part that follows it.
 fn comma_then(part: Part, symbol: Symbol) -> Next
     ensures { result ≡ comma_then part symbol }
 {
@@ -92,6 +98,7 @@ fn comma_then(part: Part, symbol: Symbol) -> Next
     }
 }
 
+// A token where only `(` may stand, with the part that follows it.
 fn open_then(part: Part, symbol: Symbol) -> Next
     ensures { result ≡ open_then part symbol }
 {
@@ -101,6 +108,7 @@ fn open_then(part: Part, symbol: Symbol) -> Next
     }
 }
 
+// A token where only `)` may stand, with the part that follows it.
 fn close_then(part: Part, symbol: Symbol) -> Next
     ensures { result ≡ close_then part symbol }
 {
@@ -110,6 +118,7 @@ fn close_then(part: Part, symbol: Symbol) -> Next
     }
 }
 
+// A token where only this name may stand, with the part that follows it.
 fn name_then(word: &[u8], part: Part, symbol: Symbol) -> Next
     ensures { result ≡ name_then word.now part symbol }
 {
@@ -141,6 +150,7 @@ pub fn fresh(symbol: Symbol) -> Next
     }
 }
 
+// A token behind `receive`, where the variable stands.
 fn receive_word(symbol: Symbol) -> Next
     ensures { result ≡ receive_word symbol }
 {
@@ -150,6 +160,7 @@ fn receive_word(symbol: Symbol) -> Next
     }
 }
 
+// A token behind a name at the start: the name is a label or is assigned to.
 fn named(name: Name, symbol: Symbol) -> Next
     ensures { result ≡ named name symbol }
 {
@@ -160,6 +171,7 @@ fn named(name: Name, symbol: Symbol) -> Next
     }
 }
 
+// A token behind `x <-`.
 fn arrowed(into: Name, symbol: Symbol) -> Next
     ensures { result ≡ arrowed into symbol }
 {
@@ -173,6 +185,7 @@ fn arrowed(into: Name, symbol: Symbol) -> Next
     }
 }
 
+// An operator behind the first of two operands, where the token is one.
 fn binary_with(into: Name, left: RawOperand, op: Option<Op>) -> Next
     ensures { result ≡ binary_with into left op }
 {
@@ -182,6 +195,7 @@ fn binary_with(into: Name, left: RawOperand, op: Option<Op>) -> Next
     }
 }
 
+// A token behind `x <- y`, where y may also be a unit that is called.
 fn plain_name(into: Name, name: Name, symbol: Symbol) -> Next
     ensures { result ≡ plain_name into name symbol }
 {
@@ -194,6 +208,7 @@ fn plain_name(into: Name, name: Name, symbol: Symbol) -> Next
     }
 }
 
+// A token behind `x <- 1`.
 fn plain_number(into: Name, value: i64, symbol: Symbol) -> Next
     ensures { result ≡ plain_number into value symbol }
 {
@@ -208,6 +223,7 @@ fn plain_number(into: Name, value: i64, symbol: Symbol) -> Next
     }
 }
 
+// A token behind `call`, where the name of the called unit stands.
 fn call_word(into: Option<Name>, symbol: Symbol) -> Next
     ensures { result ≡ call_word into symbol }
 {
@@ -217,6 +233,7 @@ fn call_word(into: Option<Name>, symbol: Symbol) -> Next
     }
 }
 
+// A token behind the `(` of a call: its end, or the first argument.
 fn first_arg(
     alloc: Global,
     into: Option<Name>,
@@ -235,6 +252,7 @@ fn first_arg(
     }
 }
 
+// A token behind an argument and its type: one more argument, or the end of the call.
 fn typed(into: Option<Name>, callee: Name, args: Items<RawOperand>, symbol: Symbol) -> Next
     ensures { result ≡ typed into callee args symbol }
 {
@@ -245,6 +263,7 @@ fn typed(into: Option<Name>, callee: Name, args: Items<RawOperand>, symbol: Symb
     }
 }
 
+// A token behind `goto`, where the label stands.
 fn goto_word(symbol: Symbol) -> Next
     ensures { result ≡ goto_word symbol }
 {
@@ -254,6 +273,7 @@ fn goto_word(symbol: Symbol) -> Next
     }
 }
 
+// A token behind `if`.
 fn if_word(symbol: Symbol) -> Next
     ensures { result ≡ if_word symbol }
 {
@@ -265,6 +285,7 @@ fn if_word(symbol: Symbol) -> Next
     }
 }
 
+// A relation behind the first operand of a test, where the token is one.
 fn rel_with(left: RawOperand, op: Option<RelOp>) -> Next
     ensures { result ≡ rel_with left op }
 {
@@ -274,6 +295,7 @@ fn rel_with(left: RawOperand, op: Option<RelOp>) -> Next
     }
 }
 
+// A token behind `if a`: the test is the operand, or a relation.
 fn if_operand(left: RawOperand, symbol: Symbol) -> Next
     ensures { result ≡ if_operand left symbol }
 {
@@ -284,6 +306,7 @@ fn if_operand(left: RawOperand, symbol: Symbol) -> Next
     }
 }
 
+// A token behind a whole test, where only `goto` may stand.
 fn tested(test: RawTest, symbol: Symbol) -> Next
     ensures { result ≡ tested test symbol }
 {
@@ -293,6 +316,7 @@ fn tested(test: RawTest, symbol: Symbol) -> Next
     }
 }
 
+// A token behind `if test goto`, where the label stands.
 fn if_goto(test: RawTest, symbol: Symbol) -> Next
     ensures { result ≡ if_goto test symbol }
 {
@@ -302,6 +326,7 @@ fn if_goto(test: RawTest, symbol: Symbol) -> Next
     }
 }
 
+// A token behind `return`: an operand, or the end of the line.
 fn return_word(symbol: Symbol) -> Next
     ensures { result ≡ return_word symbol }
 {
@@ -315,6 +340,7 @@ fn return_word(symbol: Symbol) -> Next
     }
 }
 
+// A token behind a whole instruction, where only the end of the line may stand.
 fn full(form: RawForm, symbol: Symbol) -> Next
     ensures { result ≡ full form symbol }
 {

@@ -101,7 +101,7 @@ impl Model for RawUnit {
 }
 
 impl RawUnit {
-    ghost use Rattle.std.specs.Prelude.{◌≡◌, IfOk};
+    ghost use Rattle.std.specs.Prelude.{◌≡◌, OnOk};
     ghost use Rattle.mir_parse.specs.RawUnit.{unit_begun, unit_with_inst, unit_with_label};
 
     // A unit of this name, which stands on this line, with no label and no instruction.
@@ -116,31 +116,21 @@ impl RawUnit {
         }
     }
 
-    // The unit with one more instruction at its end.
-    pub(crate) fn with_inst(self, line: usize, form: RawForm) -> Result<RawUnit, Memory>
-        ensures { IfOk result (λ unit. unit ≡ unit_with_inst self line form) }
+    // Puts one more instruction at the end of the unit.
+    pub(crate) fn push_inst(&mut self, line: usize, form: RawForm) -> Result<(), Memory>
+        ensures { OnOk result (self.new ≡ unit_with_inst self.old line form) }
     {
-        let body = self.body.with(RawInst { line, form })?;
-        Ok(RawUnit {
-            name: self.name,
-            line: self.line,
-            labels: self.labels,
-            body,
-        })
+        self.body.push(RawInst { line, form })?;
+        Ok(())
     }
 
-    // The unit with one more label, which stands behind its instructions.
-    pub(crate) fn with_label(self, line: usize, name: Name) -> Result<RawUnit, Memory>
-        ensures { IfOk result (λ unit. unit ≡ unit_with_label self line name) }
+    // Puts one more label into the unit, which stands behind its instructions.
+    pub(crate) fn push_label(&mut self, line: usize, name: Name) -> Result<(), Memory>
+        ensures { OnOk result (self.new ≡ unit_with_label self.old line name) }
     {
         let place = self.body.items().len();
-        let labels = self.labels.with(RawLabel { name, place, line })?;
-        Ok(RawUnit {
-            name: self.name,
-            line: self.line,
-            labels,
-            body: self.body,
-        })
+        self.labels.push(RawLabel { name, place, line })?;
+        Ok(())
     }
 }
 

@@ -119,3 +119,14 @@ pub enum State {
     /// A token of this line that cannot stand there.
     Dead(usize),
 }
+
+/// What a token makes of the unit that is read.
+#[derive(Clone, Copy, Debug, PartialEq, Eq)]
+pub enum Turn {
+    /// It goes on.
+    Goes,
+    /// It is whole.
+    Ends,
+    /// The token cannot stand there.
+    Stops,
+}

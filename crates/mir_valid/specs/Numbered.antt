@@ -41,27 +41,33 @@ pub record Numbers : Type 0 where
   pub vars : List Entry
   pub labels : List Entry
 
+-- an operand, with its variable numbered
 abbrev pub numbered_operand : List Entry → RawOperand → Operand
 numbered_operand vars (RawVar x) = Var (number_or_zero vars x)
 numbered_operand vars (RawConst z) = Const z
 
+-- the right side of an assignment, with its variables numbered
 abbrev pub numbered_rhs : List Entry → RawRhs → Rhs
 numbered_rhs vars (RawPlain a) = Plain (numbered_operand vars a)
 numbered_rhs vars (RawUnary op a) = Unary op (numbered_operand vars a)
 numbered_rhs vars (RawBinary op a b) = Binary op (numbered_operand vars a) (numbered_operand vars b)
 
+-- a test, with its variables numbered
 abbrev pub numbered_test : List Entry → RawTest → Test
 numbered_test vars (RawRel op a b) = Rel op (numbered_operand vars a) (numbered_operand vars b)
 numbered_test vars (RawHolds a) = Holds (numbered_operand vars a)
 numbered_test vars (RawFails a) = Fails (numbered_operand vars a)
 
+-- the variable for the result of a call, numbered
 abbrev pub numbered_into : List Entry → Option (List ℕ) → Option ℕ
 numbered_into vars into = option_map (number_or_zero vars) into
 
+-- what a return gives: 0 where it names nothing
 abbrev pub numbered_return : List Entry → Option RawOperand → Operand
 numbered_return vars None = Const (pos 0)
 numbered_return vars (Some a) = numbered_operand vars a
 
+-- an instruction, with its variables, its target and its callee numbered
 abbrev pub numbered_form : Numbers → RawForm → Inst
 numbered_form numbers (RawReceive x) = Receive (number_or_zero numbers.vars x)
 numbered_form numbers (RawAssign x rhs) = Assign (number_or_zero numbers.vars x) (numbered_rhs numbers.vars rhs)
@@ -72,6 +78,7 @@ numbered_form numbers (RawCall into f operands) =
 numbered_form numbers (RawPrint a) = Print (numbered_operand numbers.vars a)
 numbered_form numbers (RawReturn a) = Return (numbered_return numbers.vars a)
 
+-- the instructions of a unit, numbered
 abbrev pub numbered_body : Numbers → List RawInst → List Inst
 numbered_body numbers body = map (λ inst. numbered_form numbers inst.form) body
 
@@ -79,6 +86,7 @@ numbered_body numbers body = map (λ inst. numbered_form numbers inst.form) body
 abbrev pub label_places : List RawLabel → List Entry
 label_places labels = map (λ label. (label.name, label.place)) labels
 
+-- the units with their numbers
 abbrev pub unit_numbers : List RawUnitShape → List Entry
 unit_numbers units = table_of (numbered 0 (unit_names units))
 
@@ -90,6 +98,7 @@ numbers_of units unit = record {
   labels = table_of (label_places unit.labels);
 }
 
+-- a unit, numbered
 abbrev pub numbered_unit : List Entry → RawUnitShape → UnitShape
 numbered_unit units unit = record {
   name = unit.name;
@@ -97,5 +106,6 @@ numbered_unit units unit = record {
   body = numbered_body (numbers_of units unit) unit.body;
 }
 
+-- the units, numbered
 abbrev pub numbered_units : List RawUnitShape → List UnitShape
 numbered_units units = map (numbered_unit (unit_numbers units)) units

@@ -41,6 +41,7 @@ refusals units =
     ∷ at_least_line WrongCount (flat_map (wrong_count_lines units) units)
     ∷ []
 
+-- the first refusal whose condition holds
 abbrev pub refusal : Raw → Option ValidFault
 refusal raw = first_of (refusals raw.units)
 
@@ -58,6 +59,7 @@ pub record AreValid (units : List RawUnitShape) : Type 0 where
   pub no_such_unit : flat_map (no_unit_lines units) units ≡ []
   pub wrong_count : flat_map (wrong_count_lines units) units ≡ []
 
+-- no condition of a refusal holds
 abbrev pub IsValid : Raw → Type 0
 IsValid raw = AreValid raw.units
 

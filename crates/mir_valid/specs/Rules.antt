@@ -14,11 +14,13 @@ abbrev pub broken_after : {A : Type 0} → (A → ℕ) → (List A → A → Boo
 broken_after line breaks earlier [] = []
 broken_after line breaks earlier (x ∷ xs) = (if breaks earlier x then line x ∷ [] else []) ++ broken_after line breaks (earlier ++ x ∷ []) xs
 
+-- the lines of all the items that break a rule
 abbrev pub broken : {A : Type 0} → (A → ℕ) → (List A → A → Bool) → List A → List ℕ
 broken line breaks xs = broken_after line breaks [] xs
 
 -- ---- units
 
+-- the names of the units
 abbrev pub unit_names : List RawUnitShape → List (List ℕ)
 unit_names units = map (λ unit. unit.name) units
 
@@ -33,6 +35,7 @@ abbrev pub received_by : RawForm → Option (List ℕ)
 received_by (Receive x) = Some x
 received_by form = None
 
+-- the instruction is a receive
 abbrev pub is_receive : RawInst → Bool
 is_receive inst = is_some (received_by inst.form)
 
@@ -66,6 +69,7 @@ too_many_insts_lines unit = line_of (slice_get unit.body 4096)
 abbrev pub is_seventeenth : List RawInst → RawInst → Bool
 is_seventeenth earlier inst = is_receive inst && nat_eq (count_by is_receive earlier) 16
 
+-- the lines of the receives beyond the sixteenth
 abbrev pub too_many_receives_lines : RawUnitShape → List ℕ
 too_many_receives_lines unit = broken (λ inst. inst.line) is_seventeenth unit.body
 
@@ -79,6 +83,7 @@ has_label_before labels place = list_any (λ label. nat_le label.place place) la
 abbrev pub is_late : List RawLabel → List RawInst → RawInst → Bool
 is_late labels earlier inst = is_receive inst && (list_any (λ other. not (is_receive other)) earlier || has_label_before labels (length earlier))
 
+-- the lines of receives behind another instruction or a label
 abbrev pub late_receive_lines : RawUnitShape → List ℕ
 late_receive_lines unit = broken (λ inst. inst.line) (is_late unit.labels) unit.body
 
@@ -90,11 +95,13 @@ received body = filter_map (λ inst. received_by inst.form) body
 abbrev pub receives_again : List RawInst → RawInst → Bool
 receives_again earlier inst = option_map_or (has_name (received earlier)) (received_by inst.form) false
 
+-- the lines of receives of a variable that is received before
 abbrev pub same_receive_lines : RawUnitShape → List ℕ
 same_receive_lines unit = broken (λ inst. inst.line) receives_again unit.body
 
 -- ---- labels
 
+-- the names of the labels
 abbrev pub label_names : List RawLabel → List (List ℕ)
 label_names labels = map (λ label. label.name) labels
 
@@ -106,6 +113,7 @@ same_label_lines unit = broken (λ label. label.line) (λ earlier label. has_nam
 abbrev pub misses_label : List RawLabel → RawForm → Bool
 misses_label labels form = option_map_or (λ l. not (has_name (label_names labels) l)) (jumped_to form) false
 
+-- the lines of jumps to a label that the unit does not have
 abbrev pub no_label_lines : RawUnitShape → List ℕ
 no_label_lines unit = lines_where (misses_label unit.labels) unit.body
 
@@ -115,6 +123,7 @@ no_label_lines unit = lines_where (misses_label unit.labels) unit.body
 abbrev pub misses_unit : List RawUnitShape → RawForm → Bool
 misses_unit units form = option_map_or (λ call. not (has_name (unit_names units) call.0)) (called_by form) false
 
+-- the lines of calls of a unit that is not there
 abbrev pub no_unit_lines : List RawUnitShape → RawUnitShape → List ℕ
 no_unit_lines units unit = lines_where (misses_unit units) unit.body
 
@@ -126,5 +135,6 @@ receive_counts units = map (λ unit. (unit.name, count_by is_receive unit.body))
 abbrev pub differs_from : List Entry → RawForm → Bool
 differs_from counts form = option_map_or (λ call. option_map_or (λ count. not (nat_eq count call.1)) (number_in counts call.0) false) (called_by form) false
 
+-- the lines of calls with another number of arguments than the unit receives
 abbrev pub wrong_count_lines : List RawUnitShape → RawUnitShape → List ℕ
 wrong_count_lines units unit = lines_where (differs_from (receive_counts units)) unit.body

@@ -44,17 +44,20 @@ IsNumber names x number = slice_get names number ≡ Some x
 abbrev pub IsPlace : List RawLabel → List ℕ → ℕ → Type 0
 IsPlace labels l place = Any (λ label. (label.name ≡ l) × (label.place ≡ place)) labels
 
+-- an operand stands for the variable of its name, or for its number
 abbrev pub OperandStands : List (List ℕ) → RawOperand → Operand → Type 0
 OperandStands vars (RawVar x) (Var number) = IsNumber vars x number
 OperandStands vars (RawConst z) (Const w) = w ≡ z
 OperandStands vars raw a = ⊥
 
+-- a right side stands for the same operator on what its operands stand for
 abbrev pub RhsStands : List (List ℕ) → RawRhs → Rhs → Type 0
 RhsStands vars (RawPlain a) (Plain b) = OperandStands vars a b
 RhsStands vars (RawUnary raw_op a) (Unary op b) = (op ≡ raw_op) × OperandStands vars a b
 RhsStands vars (RawBinary raw_op a b) (Binary op c d) = (op ≡ raw_op) × OperandStands vars a c × OperandStands vars b d
 RhsStands vars raw rhs = ⊥
 
+-- a test stands for the same relation of what its operands stand for
 abbrev pub TestStands : List (List ℕ) → RawTest → Test → Type 0
 TestStands vars (RawRel raw_op a b) (Rel op c d) = (op ≡ raw_op) × OperandStands vars a c × OperandStands vars b d
 TestStands vars (RawHolds a) (Holds b) = OperandStands vars a b
@@ -72,6 +75,7 @@ abbrev pub ReturnStands : List (List ℕ) → Option RawOperand → Operand → 
 ReturnStands vars None a = a ≡ Const (pos 0)
 ReturnStands vars (Some raw) a = OperandStands vars raw a
 
+-- an instruction stands for the same one on numbers and places
 abbrev pub FormStands : Naming → RawForm → Inst → Type 0
 FormStands naming (RawReceive x) (Receive number) = IsNumber naming.vars x number
 FormStands naming (RawAssign x raw_rhs) (Assign number rhs) = IsNumber naming.vars x number × RhsStands naming.vars raw_rhs rhs
@@ -93,5 +97,6 @@ pub record UnitStands (units : List (List ℕ)) (raw : RawUnitShape) (unit : Uni
 abbrev pub UnitsStand : List RawUnitShape → List UnitShape → Type 0
 UnitsStand raw units = EachStands (UnitStands (unit_names raw)) raw units
 
+-- a raw program stands for a program
 abbrev pub Stands : Raw → ProgramShape → Type 0
 Stands raw program = UnitsStand raw.units program.units

@@ -15,24 +15,29 @@ abbrev pub operand_names : RawOperand → List (List ℕ)
 operand_names (Var x) = x ∷ []
 operand_names (Const z) = []
 
+-- the variables of a right side, in order
 abbrev pub rhs_names : RawRhs → List (List ℕ)
 rhs_names (Plain a) = operand_names a
 rhs_names (Unary op a) = operand_names a
 rhs_names (Binary op a b) = operand_names a ++ operand_names b
 
+-- the variables of a test, in order
 abbrev pub test_names : RawTest → List (List ℕ)
 test_names (Rel op a b) = operand_names a ++ operand_names b
 test_names (Holds a) = operand_names a
 test_names (Fails a) = operand_names a
 
+-- the variable for the result of a call
 abbrev pub into_names : Option (List ℕ) → List (List ℕ)
 into_names None = []
 into_names (Some x) = x ∷ []
 
+-- the variable that is returned
 abbrev pub returned_names : Option RawOperand → List (List ℕ)
 returned_names None = []
 returned_names (Some a) = operand_names a
 
+-- the variables of an instruction, in the order of its canonical text
 abbrev pub form_names : RawForm → List (List ℕ)
 form_names (Receive x) = x ∷ []
 form_names (Assign x rhs) = x ∷ rhs_names rhs
@@ -42,6 +47,7 @@ form_names (Call into f operands) = into_names into ++ flat_map operand_names op
 form_names (Print a) = operand_names a
 form_names (Return a) = returned_names a
 
+-- the variables of a body, in the order of its canonical text
 abbrev pub body_names : List RawInst → List (List ℕ)
 body_names body = flat_map (λ inst. form_names inst.form) body
 

@@ -52,6 +52,7 @@ fn receive_counts<'a>(alloc: Global, units: &'a [RawUnit]) -> Result<Table<'a>, 
     Ok(table)
 }
 
+// How many receives a body has.
 fn count_receives(body: &[RawInst]) -> usize
     ensures { result ≡ count_by is_receive body.now }
 {
@@ -107,6 +108,7 @@ impl<'t, 'a> Rule for NoSuchUnit<'t, 'a> {
     }
 }
 
+// Whether the instruction calls a unit that the table does not have.
 fn misses_number(units: &Table, form: &RawForm) -> bool
     ensures { result ≡ misses_number units.now form.now }
 {
@@ -140,6 +142,7 @@ impl<'t, 'a> Rule for WrongCount<'t, 'a> {
     }
 }
 
+// Whether the instruction calls a unit of the table with another number of arguments.
 fn differs_from(counts: &Table, form: &RawForm) -> bool
     ensures { result ≡ differs_from counts.now form.now }
 {
@@ -149,6 +152,7 @@ fn differs_from(counts: &Table, form: &RawForm) -> bool
     }
 }
 
+// Whether there is a count, and it is not this one.
 fn is_other(count: Option<usize>, arguments: usize) -> bool
     ensures { result ≡ option_map_or (λ count. not (nat_eq count arguments)) count false }
 {

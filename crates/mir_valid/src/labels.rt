@@ -67,6 +67,7 @@ impl Rule for NoLabel {
     }
 }
 
+// Whether the instruction jumps to a label that the table does not have.
 fn misses_label(labels: &Table, form: &RawForm) -> bool
     ensures { result ≡ misses_place labels.now form.now }
 {

@@ -1,11 +1,18 @@
 // What is true of every raw program.
-ghost use Rattle.std.specs.Prelude.{◌≡◌};
+ghost use Rattle.std.specs.Prelude.{◌≡◌, Some};
 ghost use Rattle.mir_base.specs.Shapes.{ProgramShape};
 ghost use Rattle.mir_parse.specs.declared.raw.Raw.{Raw as ARaw};
-ghost use Rattle.mir_valid.specs.Refusals.{IsValid};
+ghost use Rattle.mir_valid.specs.declared.faults.ValidFault.{ValidFault as AFault};
+ghost use Rattle.mir_valid.specs.Refusals.{IsMemory, IsValid, refusal};
 ghost use Rattle.mir_valid.specs.Stands.{Stands};
 
 /// A law: no valid raw program stands for two programs. It takes no memory.
 pub fn program_is_unique()
     ensures { (raw : ARaw) → IsValid raw → (one other : ProgramShape) → Stands raw one → Stands raw other → one ≡ other }
+{}
+
+/// A law: what is refused is not valid, and a refusal is no want of memory. It takes no memory.
+pub fn refused_is_not_valid()
+    ensures valid { (raw : ARaw) → (fault : AFault) → refusal raw ≡ Some fault → IsValid raw → ⊥ }
+    ensures memory { (raw : ARaw) → (fault : AFault) → refusal raw ≡ Some fault → IsMemory fault → ⊥ }
 {}

@@ -27,7 +27,7 @@ mod variables;
 
 pub use checking::check;
 pub use faults::ValidFault;
-pub use laws::program_is_unique;
+pub use laws::{program_is_unique, refused_is_not_valid};
 
 /// Want of memory: the allocator refused.
 pub type Memory = std::alloc::AllocError;

@@ -31,6 +31,7 @@ impl<'t, 'a> Model for Numbering<'t, 'a> {
     ghost view = { λ tables. record { units = tables.units.now; vars = tables.vars.now; labels = tables.labels.now } };
 }
 
+// An operand, with its variable numbered.
 fn numbered_operand(vars: &Table, operand: &RawOperand) -> Operand
     ensures { result ≡ numbered_operand vars.now operand.now }
 {
@@ -40,6 +41,7 @@ fn numbered_operand(vars: &Table, operand: &RawOperand) -> Operand
     }
 }
 
+// The right side of an assignment, with its variables numbered.
 fn numbered_rhs(vars: &Table, rhs: &RawRhs) -> Rhs
     ensures { result ≡ numbered_rhs vars.now rhs.now }
 {
@@ -54,6 +56,7 @@ fn numbered_rhs(vars: &Table, rhs: &RawRhs) -> Rhs
     }
 }
 
+// A test, with its variables numbered.
 fn numbered_test(vars: &Table, test: &RawTest) -> Test
     ensures { result ≡ numbered_test vars.now test.now }
 {
@@ -68,6 +71,7 @@ fn numbered_test(vars: &Table, test: &RawTest) -> Test
     }
 }
 
+// The variable for the result of a call, numbered.
 fn numbered_into(vars: &Table, into: &Option<Name>) -> Option<usize>
     ensures { result ≡ numbered_into vars.now into.now }
 {
@@ -77,6 +81,7 @@ fn numbered_into(vars: &Table, into: &Option<Name>) -> Option<usize>
     }
 }
 
+// What a return gives: 0 where it names nothing.
 fn numbered_return(vars: &Table, operand: &Option<RawOperand>) -> Operand
     ensures { result ≡ numbered_return vars.now operand.now }
 {
@@ -86,6 +91,7 @@ fn numbered_return(vars: &Table, operand: &Option<RawOperand>) -> Operand
     }
 }
 
+// The arguments of a call, numbered. It fails only with `Memory`.
 fn numbered_args(alloc: Global, vars: &Table, operands: &[RawOperand]) -> Result<Args, Memory>
     ensures { IfOk result (λ args. args ≡ map (numbered_operand vars.now) operands.now) }
 {
@@ -96,6 +102,7 @@ fn numbered_args(alloc: Global, vars: &Table, operands: &[RawOperand]) -> Result
     Args::of(alloc, &numbered)
 }
 
+// An instruction, with its variables, its target and its callee numbered. It fails only with `Memory`.
 fn numbered_form(alloc: Global, tables: &Numbering, form: &RawForm) -> Result<Inst, Memory>
     ensures { IfOk result (λ inst. inst ≡ numbered_form tables.now form.now) }
 {
@@ -120,6 +127,7 @@ fn numbered_form(alloc: Global, tables: &Numbering, form: &RawForm) -> Result<In
     }
 }
 
+// The instructions of a unit, numbered. It fails only with `Memory`.
 fn numbered_body(alloc: Global, tables: &Numbering, body: &[RawInst]) -> Result<Vec<Inst>, Memory>
     ensures { IfOk result (λ insts. insts.items ≡ numbered_body tables.now body.now) }
 {
@@ -130,6 +138,7 @@ fn numbered_body(alloc: Global, tables: &Numbering, body: &[RawInst]) -> Result<
     Ok(insts)
 }
 
+// A unit, numbered. It fails only with `Memory`.
 fn numbered_unit<'a>(alloc: Global, units: &Table<'a>, unit: &'a RawUnit) -> Result<Unit, Memory>
     ensures made { IfOk result (λ made. made ≡ numbered_unit units.now unit.now) }
     ensures places { HasPlaces unit.now.labels unit.now.body }
@@ -151,6 +160,7 @@ fn numbered_unit<'a>(alloc: Global, units: &Table<'a>, unit: &'a RawUnit) -> Res
     })
 }
 
+// The units, numbered. It fails only with `Memory`.
 fn numbered_all<'a>(
     alloc: Global,
     numbers: &Table<'a>,

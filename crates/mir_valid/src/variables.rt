@@ -57,6 +57,7 @@ impl<'a> Variables<'a> {
         self.names
     }
 
+    // No variable.
     fn new(alloc: Global) -> Variables<'a>
         ensures { result ≡ [] }
     {
@@ -66,6 +67,7 @@ impl<'a> Variables<'a> {
         }
     }
 
+    // One more variable, unless it was found before.
     fn with(self, name: &'a Name) -> Result<Variables<'a>, Memory>
         ensures { IfOk result (λ vars. vars ≡ with_name self.entry name.now) }
     {
@@ -80,6 +82,7 @@ impl<'a> Variables<'a> {
         Ok(Variables { numbers, names })
     }
 
+    // The variable of an operand.
     fn with_operand(self, operand: &'a RawOperand) -> Result<Variables<'a>, Memory>
         ensures { IfOk result (λ vars. vars ≡ fold with_name self.entry (operand_names operand.now)) }
     {
@@ -89,6 +92,7 @@ impl<'a> Variables<'a> {
         }
     }
 
+    // The variables of the arguments of a call.
     fn with_operands(self, operands: &'a [RawOperand]) -> Result<Variables<'a>, Memory>
         ensures { IfOk result (λ vars. vars ≡ fold with_name self.entry (flat_map operand_names operands.now)) }
     {
@@ -99,6 +103,7 @@ impl<'a> Variables<'a> {
         Ok(vars)
     }
 
+    // The variables of the right side of an assignment.
     fn with_rhs(self, rhs: &'a RawRhs) -> Result<Variables<'a>, Memory>
         ensures { IfOk result (λ vars. vars ≡ fold with_name self.entry (rhs_names rhs.now)) }
     {
@@ -109,6 +114,7 @@ impl<'a> Variables<'a> {
         }
     }
 
+    // The variables of a test.
     fn with_test(self, test: &'a RawTest) -> Result<Variables<'a>, Memory>
         ensures { IfOk result (λ vars. vars ≡ fold with_name self.entry (test_names test.now)) }
     {
@@ -119,6 +125,7 @@ impl<'a> Variables<'a> {
         }
     }
 
+    // The variable for the result of a call.
     fn with_into(self, into: &'a Option<Name>) -> Result<Variables<'a>, Memory>
         ensures { IfOk result (λ vars. vars ≡ fold with_name self.entry (into_names into.now)) }
     {
@@ -128,6 +135,7 @@ impl<'a> Variables<'a> {
         }
     }
 
+    // The variable that is returned.
     fn with_returned(self, operand: &'a Option<RawOperand>) -> Result<Variables<'a>, Memory>
         ensures { IfOk result (λ vars. vars ≡ fold with_name self.entry (returned_names operand.now)) }
     {
@@ -137,6 +145,7 @@ impl<'a> Variables<'a> {
         }
     }
 
+    // The variables of an instruction.
     fn with_form(self, form: &'a RawForm) -> Result<Variables<'a>, Memory>
         ensures { IfOk result (λ vars. vars ≡ fold with_name self.entry (form_names form.now)) }
     {

@@ -1,15 +1,14 @@
-use Rattle.std.proofs.Common.{sym, ◌∙◌, subst, ℕ, List, w64}
-use Rattle.std.specs.Str.Parse.{ParsesSigned}
-use Rattle.mir_lex.proofs.NumberLemmas.{number_plus, number_read, number_text}
+use Rattle.std.proofs.Common.{◌≡◌, sym, ◌∙◌}
+use Rattle.mir_lex.specs.Numbers.{signed_number}
+use Rattle.mir_lex.proofs.NumberLemmas.{signed_is}
+use Rattle.mir_lex.proofs.WordLemmas.{signed_word, word_signed}
 use Rattle.mir_lex.proofs.numbers.number.Goals as goal
 
-pub returns-then-begins_with_plus : goal.returns-then-begins_with_plus
-returns-then-begins_with_plus c = number_plus c.args.bytes.now (sym c.begins_with_plus.ensures ∙ c.if-begins_with_plus.true)
+pub returns-clause-number : goal.returns-clause-number
+returns-clause-number c = c.scanned_number.ensures ∙ signed_is c.args.bytes.now
 
-pub returns-in-Ok : goal.returns-in-Ok
-returns-in-Ok c =
-    let read = subst (λ (bytes : List ℕ). ParsesSigned w64 10 bytes c.parse.result) c.in-Ok.ensures.cases.0 c.parse.ensures.value.0 in
-    c.ok.ensures.value ∙ number_read c.args.bytes.now c.parse.result (sym c.begins_with_plus.ensures ∙ c.if-begins_with_plus.false) read
-
-pub returns-in-Err : goal.returns-in-Err
-returns-in-Err c = number_text c.args.bytes.now c.in-Err.ensures.cases.0
+pub returns-clause-numeral : goal.returns-clause-numeral
+returns-clause-numeral c = λ number.
+    let word = c.args.bytes.now in
+    let whole : c.scanned_number.result ≡ signed_number word = c.scanned_number.ensures ∙ signed_is word in
+    (λ is. signed_word word number (sym whole ∙ is), λ is. whole ∙ word_signed word number is)
