@@ -3,7 +3,7 @@
 //! Bytes come in by a `Source` and go out by a `Sink`. A device outside may fail at any call, so each keeps a count of
 //! its faults: `Failed` is answered only where that count rose in the call, or stands at its last value. `StdSource`
 //! and `StdSink` are those over std's readers and writers, and `MemSource` and `MemSink` those in memory, which fail
-//! where they are told to.
+//! where they are told to. `CalmSource` and `CalmSink` never fail.
 //!
 //! The theorem is that `read_all` answers all bytes of its source to the end, and that `write_all` writes all of its
 //! piece, or that they say why not. `TooLong` comes exactly where one byte more than the limit came, and `Failed`
@@ -11,6 +11,7 @@
 //! those that there were, and no more than one byte beyond the limit is taken.
 #![tactic(auto)]
 
+mod calm;
 mod memory;
 mod sink;
 mod source;
@@ -18,6 +19,7 @@ mod source;
 mod tests;
 mod transfer;
 
+pub use calm::{CalmSink, CalmSource};
 pub use memory::{MemSink, MemSource};
 pub use sink::{Sink, StdSink};
 pub use source::{Source, StdSource};

@@ -1,5 +1,6 @@
 use crate::{
-    Failed, MemSink, MemSource, ReadFault, Sink, Source, StdSink, StdSource, read_all, write_all,
+    CalmSink, CalmSource, Failed, MemSink, MemSource, ReadFault, Sink, Source, StdSink, StdSource,
+    read_all, write_all,
 };
 use std::test::Fail;
 
@@ -87,5 +88,19 @@ fn adapts_the_readers_and_writers_of_std(rt: HostRuntime) -> Result<(), Fail> {
     let mut sink = StdSink::new(room.as_mut_slice());
     assert_eq!(rt; write_all(&mut sink, &bytes), Err(Failed));
     assert_eq!(rt; room, *b"hel");
+    Ok(())
+}
+
+#[test]
+fn calm_devices_move_everything(rt: HostRuntime) -> Result<(), Fail> {
+    let mut source = CalmSource::new(b"abcdefg".to_vec(rt.alloc())?);
+    let mut buf = *b"...";
+    assert_eq!(rt; source.read(&mut buf), Ok(3));
+    assert_eq!(rt; buf, *b"abc");
+    let rest = read_all(rt.alloc(), &mut source, 4)?;
+    assert_eq!(rt; rest.as_slice(), b"defg".as_slice());
+    let mut sink = CalmSink::new();
+    assert_eq!(rt; sink.write(&rest), Ok(4));
+    assert_eq!(rt; write_all(&mut sink, b""), Ok(()));
     Ok(())
 }

@@ -1,3 +1,4 @@
+pub mod Heights
 pub mod Follows
 pub mod Stacks
 pub mod Fits

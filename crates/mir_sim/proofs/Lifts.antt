@@ -5,13 +5,9 @@ use Rattle.mir_base.specs.Frames.{Entry, first_frame, Code}
 use Rattle.mir_base.specs.Runs.{AreNumbers, Control, Running, Ended, Stopped, State, step_at, step, steps, first_state, codes_of, run, inputs_of, IsOverAs, Follows, Same, Cheaper}
 use Rattle.mir_base.specs.UnitRuns.{machine_at, UnitFollows}
 use Rattle.mir_base.specs.FrameLaws.{first_fits}
-use Rattle.mir_sim.specs.Pairs.{AllUnitsSame, AllUnitsCheaper}
+use Rattle.mir_sim.specs.Pairs.{AllUnitsFollow, AllUnitsSame, AllUnitsCheaper}
 use Rattle.mir_sim.proofs.Stacks.{Standing, MatchControl, MatchState, steps-add, all_steps}
 use Rattle.mir_sim.proofs.Fits.{Callable, keeps}
-
--- the unit of each number follows
-record AllUnitsFollow (first second : ProgramShape) : Type 0 where
-  follows : (u : ℕ) → u < length first.units → UnitFollows (machine_at first u) (machine_at second u)
 
 enters : (Q : Type 0) (first second : ProgramShape) → AllUnitsFollow first second → (Q → AllUnitsCheaper first second) → (u : ℕ) (entry : Entry) → Callable first u entry → Standing Q (codes_of first u) (codes_of second u) (first_frame entry) (first_frame entry) 0 0
 enters Q first second units cheap u entry c = record {
@@ -41,7 +37,7 @@ over_as Q codes codes' s t (Ended v) (Ended w) E E' is same m = (is ∙ ap Ended
 over_as Q codes codes' s t (Stopped k) (Stopped l) E E' is same m = (is ∙ ap Stopped (sym m), sym same)
 over_as Q codes codes' s t _ _ E E' is same m = absurd m
 
-follows : (first second : ProgramShape) → IsProgram first.units → AllUnitsFollow first second → Follows first second
+pub follows : (first second : ProgramShape) → IsProgram first.units → AllUnitsFollow first second → Follows first second
 follows first second is units =
     record {
       follows = λ inputs long numbers n.
@@ -56,13 +52,12 @@ follows first second is units =
           );
     }
 
-pub lifts_same : (first second : ProgramShape) → IsProgram first.units → IsProgram second.units → AllUnitsSame first second → Same first second
-lifts_same first second is is' units =
-    record {
-      inputs = (units.same 0 is.some_unit).receives;
-      forth = follows first second is (record { follows = λ u h. (units.same u h).forth });
-      back = follows second first is' (record { follows = λ u h. let h' : u < length first.units = omega (arith, units.units) in (units.same u h').back });
-    }
+-- units that are the same follow each other
+pub forth : (first second : ProgramShape) → AllUnitsSame first second → AllUnitsFollow first second
+forth first second units = record { follows = λ u h. (units.same u h).forth }
+
+pub back : (first second : ProgramShape) → AllUnitsSame first second → AllUnitsFollow second first
+back first second units = record { follows = λ u h. let h' : u < length first.units = omega (arith, units.units) in (units.same u h').back }
 
 -- ---- Cheaper
 

@@ -1,7 +1,7 @@
 -- Two programs, compared unit by unit.
 use Rattle.std.specs.Prelude.{◌≡◌, ℕ, ◌<◌, length}
 use Rattle.mir_base.specs.Shapes.{ProgramShape}
-use Rattle.mir_base.specs.UnitRuns.{machine_at, UnitSame, UnitCheaper}
+use Rattle.mir_base.specs.UnitRuns.{machine_at, UnitFollows, UnitSame, UnitCheaper}
 
 -- equally many units, and those of each number do the same and receive equally many arguments
 pub record AllUnitsSame (first second : ProgramShape) : Type 0 where
@@ -11,3 +11,7 @@ pub record AllUnitsSame (first second : ProgramShape) : Type 0 where
 -- the second's unit of each number counts no more than the first's
 pub record AllUnitsCheaper (first second : ProgramShape) : Type 0 where
   pub cheaper : (u : ℕ) → u < length first.units → UnitCheaper (machine_at first u) (machine_at second u)
+
+-- the second's unit of each number does whatever the first's does
+pub record AllUnitsFollow (first second : ProgramShape) : Type 0 where
+  pub follows : (u : ℕ) → u < length first.units → UnitFollows (machine_at first u) (machine_at second u)

@@ -4,8 +4,10 @@
 //! calls and recursion to any depth, and where the units count no more, the programs count no more.
 #![tactic(auto)]
 
-ghost use Rattle.mir_base.specs.Runs.{Cheaper, Same};
-ghost use Rattle.mir_sim.specs.Pairs.{AllUnitsCheaper, AllUnitsSame};
+ghost use Rattle.std.specs.Prelude.{◌≤◌, ℕ, ℤ, List, length};
+ghost use Rattle.mir_base.specs.Runs.{Cheaper, Follows, Same, run};
+ghost use Rattle.mir_sim.specs.Calls.{CallsHigher, CallsNoMore};
+ghost use Rattle.mir_sim.specs.Pairs.{AllUnitsCheaper, AllUnitsFollow, AllUnitsSame};
 
 use mir_base::Program;
 
@@ -21,7 +23,50 @@ pub fn lift(first: &Program, second: &Program)
     ensures same { Same first.now second.now }
     ensures cheaper { AllUnitsCheaper first.now second.now → Cheaper first.now second.now }
 {
+    // The proof needs that there is a first unit, which each program keeps as its invariant.
+    let _ = &first.units;
+    follow(first, second);
+    follow(second, first);
+    count(first, second);
+}
+
+/// A law: where each unit of a second program does whatever the first's of its number does, so does the program.
+fn follow(first: &Program, second: &Program)
+    requires units { AllUnitsFollow first.now second.now }
+    ensures { Follows first.now second.now }
+{
     // The proof needs that calls fit, which each program keeps as its invariant.
     let _ = &first.units;
-    let _ = &second.units;
+}
+
+/// A law: where each unit of a second program, which is the same unit by unit, counts no more than the first's, neither
+/// does the program.
+fn count(first: &Program, second: &Program)
+    requires units { AllUnitsSame first.now second.now }
+    ensures { AllUnitsCheaper first.now second.now → Cheaper first.now second.now }
+{
+    // The proof needs that calls fit, which each program keeps as its invariant.
+    let _ = &first.units;
+}
+
+/// A law: where each unit of a program calls units of higher numbers alone, no run of it ever has more frames than the
+/// program has units. It takes no memory.
+pub fn has_few_frames(program: &Program)
+    requires { CallsHigher program.now }
+    ensures { (inputs : List ℤ) (steps : ℕ) → (run program.now inputs steps).depth ≤ length program.now.units }
+{
+    // The proof needs that calls are of units that there are, which each program keeps as its invariant.
+    let _ = &program.units;
+}
+
+/// A law: where besides each unit of a second program calls no unit that the first's of its number does not, this holds of
+/// its runs too. It takes no memory.
+pub fn both_have_few_frames(first: &Program, second: &Program)
+    requires higher { CallsHigher first.now }
+    requires no_more { CallsNoMore first.now second.now }
+    ensures first { (inputs : List ℤ) (steps : ℕ) → (run first.now inputs steps).depth ≤ length first.now.units }
+    ensures second { (inputs : List ℤ) (steps : ℕ) → (run second.now inputs steps).depth ≤ length second.now.units }
+{
+    has_few_frames(first);
+    has_few_frames(second);
 }
