@@ -1,18 +1,17 @@
 -- The places of a plan's nodes, and what it emits.
-use Rattle.std.proofs.Common.{◌≡◌, ℕ, zero, suc, ◌+◌, ◌<◌, ◌≤◌, Bool, true, false, cond, eqb, List, [], ◌∷◌, ◌++◌, map, length, take, drop, reverse, replicate, get_or, slice_get, slice_set, slice_index_or, Option, Some, None, ◌⊎◌, inl, inr, refl, sym, ap, ◌∙◌, subst, arith, append_assoc}
+use Rattle.std.proofs.Common.{◌≡◌, ℕ, zero, suc, ◌+◌, ◌<◌, ◌≤◌, cond, List, [], ◌∷◌, ◌++◌, map, length, take, reverse, replicate, slice_get, slice_set, slice_index_or, Option, Some, None, inl, inr, refl, sym, ap, ◌∙◌, subst, arith, append_assoc}
 use Rattle.std.proofs.lemmas.List.{reverse-append, length-replicate}
 use Rattle.std.proofs.lemmas.Bool.Decides.{eqb_tells}
-use Rattle.std.specs.Option.{option_to_list}
 use Rattle.mir_base.specs.declared.instructions.Inst.{Inst}
 use Rattle.mir_base.specs.declared.instructions.Inst.TheVariants as insts
 use Rattle.flow_graph.specs.declared.plan.Item.{Item}
 use Rattle.flow_graph.specs.declared.plan.Item.TheVariants.{Placed, Jump}
 use Rattle.flow_graph.specs.declared.nodes.Node.{Node}
 use Rattle.flow_graph.specs.declared.nodes.Node.TheVariants.{Start, Skip, Assign, Print, Call, Test, Return}
-use Rattle.flow_graph.specs.Graphs.{AllWithin, IsWithin, succs_of}
+use Rattle.flow_graph.specs.Graphs.{AllWithin, succs_of}
 use Rattle.flow_graph.specs.Layouts.{emitted, emitted_by, item_insts, item_size, place_in, plain_body, size}
-use Rattle.flow_graph.specs.Placing.{ArePlaces, ItemsWithin, places_after, taken_of}
-use Rattle.flow_graph.proofs.Scans.{taken_within, reverse_take, reverse_more, take_all}
+use Rattle.flow_graph.specs.Placing.{ArePlaces, ItemsWithin, places_after}
+use Rattle.flow_graph.proofs.Scans.{reverse_take, take_all}
 
 num_set_same : (xs : List ℕ) (s v : ℕ) → s < length xs → slice_index_or (slice_set xs s v) s 0 ≡ v
 num_set_same [] s v lt = absurd (omega (arith, lt))

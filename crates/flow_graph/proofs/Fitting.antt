@@ -1,21 +1,21 @@
 -- The unit of a graph can be lowered again: its receives stand first and name distinct variables, and its jumps go to
 -- places after them, within the body.
-use Rattle.std.proofs.Common.{◌≡◌, ℕ, zero, suc, ◌+◌, ◌<◌, ◌≤◌, Bool, true, false, cond, List, [], ◌∷◌, ◌++◌, map, flat_map, length, drop, slice_get, Option, Some, None, option_map, ◌⊎◌, inl, inr, refl, sym, ap, ◌∙◌, subst, arith, length-append}
+use Rattle.std.proofs.Common.{◌≡◌, ℕ, zero, suc, ◌+◌, ◌≤◌, Bool, true, false, cond, List, [], ◌∷◌, ◌++◌, map, flat_map, length, drop, slice_get, Option, Some, None, option_map, ◌⊎◌, inl, inr, refl, sym, ap, ◌∙◌, subst, arith, length-append}
 use Rattle.std.proofs.lemmas.List.{length-map}
 use Rattle.std.proofs.lemmas.Option.{slice_get-map, slice_get_within}
 use Rattle.mir_base.specs.declared.instructions.Inst.{Inst}
 use Rattle.mir_base.specs.declared.instructions.Inst.TheVariants as insts
 use Rattle.mir_base.specs.declared.instructions.Test.{Test as Condition}
-use Rattle.mir_base.specs.Shapes.{inst_vars, receives_in, AllDiffer, IsTarget}
+use Rattle.mir_base.specs.Shapes.{inst_vars, receives_in, IsTarget}
 use Rattle.flow_graph.specs.declared.plan.Item.{Item}
 use Rattle.flow_graph.specs.declared.plan.Item.TheVariants.{Placed, Jump}
 use Rattle.flow_graph.specs.declared.nodes.Node.{Node}
 use Rattle.flow_graph.specs.declared.nodes.Node.TheVariants.{Start, Skip, Assign, Print, Call, Test, Return}
 use Rattle.flow_graph.specs.Graphs.{IsGraph, following}
 use Rattle.flow_graph.specs.Lowered.{CanLower, target_of}
-use Rattle.flow_graph.specs.Plans.{IsPlan, after_node, first_open, is_placed, new_trace, next_item, start_succ}
+use Rattle.flow_graph.specs.Plans.{IsPlan, after_node, first_open, is_placed, next_item, start_succ}
 use Rattle.flow_graph.specs.Numbering.{is_in, position, renamed, renumbered, seen_in}
-use Rattle.flow_graph.specs.Layouts.{IsLaid, emitted, emitted_by, item_insts, place_in, plain_body, size}
+use Rattle.flow_graph.specs.Layouts.{IsLaid, emitted, emitted_by, item_insts, place_in, plain_body}
 use Rattle.flow_graph.proofs.Plans.{is_plan_drop, placed_at, place_at, taken_placed, is_placed_drop, size_is, emitted_drop, no_receive, all_received}
 use Rattle.flow_graph.proofs.Renames.{all_seen, inst_in, positions_differ, renamed_receives}
 

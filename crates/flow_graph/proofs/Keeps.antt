@@ -1,5 +1,5 @@
 -- To drop the nodes that are not reached changes nothing.
-use Rattle.std.proofs.Common.{◌≡◌, ℕ, zero, suc, ◌+◌, ◌<◌, ◌≤◌, Bool, true, false, List, [], ◌∷◌, map, length, slice_get, Option, Some, None, option_map, refl, sym, ap, ◌∙◌, subst, arith}
+use Rattle.std.proofs.Common.{◌≡◌, ℕ, zero, ◌<◌, List, length, slice_get, Some, option_map, refl, sym, ap, ◌∙◌, subst, arith}
 use Rattle.std.proofs.lemmas.Option.{slice_get-map, slice_get_within}
 use Rattle.mir_base.specs.Frames.{Frame}
 use Rattle.mir_base.specs.Units.{at}
@@ -9,9 +9,9 @@ use Rattle.mir_base.specs.LockstepLaws.{lockstep_same, lockstep_cheaper}
 use Rattle.flow_graph.specs.declared.nodes.Node.{Node}
 use Rattle.flow_graph.specs.Graphs.{GraphShape, Reached, at_start, along, succs_at, CanMake}
 use Rattle.flow_graph.specs.Machines.{node_transition, graph_code, graph_machine, machine_of}
-use Rattle.flow_graph.specs.Kept.{redirected, rank, marked, MarkReached, AreKept, IsMade}
+use Rattle.flow_graph.specs.Kept.{redirected, rank, marked, AreKept, IsMade}
 use Rattle.flow_graph.specs.RedirectLaws.{Shifted, redirects_alike}
-use Rattle.flow_graph.proofs.Ranks.{at_rank}
+use Rattle.flow_graph.specs.KeptLaws.{at_rank}
 
 module _ (raw nodes : List Node) (received : List ℕ) (kept : AreKept raw nodes) (some : 0 < length raw) (succs : (m slot s : ℕ) → slice_get (succs_at raw m) slot ≡ Some s → s < length raw) where
   within : (n : ℕ) → Reached raw n → n < length raw

@@ -1,11 +1,10 @@
 -- The layout of a graph is tidy and does the same.
-use Rattle.std.proofs.Common.{◌≡◌, ℕ, zero, suc, ◌+◌, ◌<◌, ◌≤◌, Bool, true, false, cond, eqb, ◌||◌, List, [], ◌∷◌, ◌++◌, map, flat_map, length, slice_get, slice_index_or, Option, Some, None, option_map, ◌⊎◌, inl, inr, refl, sym, ap, ◌∙◌, subst, arith, eqb-true}
+use Rattle.std.proofs.Common.{◌≡◌, ℕ, ◌<◌, ◌≤◌, Bool, true, false, cond, eqb, ◌||◌, List, [], ◌∷◌, ◌++◌, map, flat_map, length, slice_get, slice_index_or, Option, Some, None, option_map, refl, sym, ap, ◌∙◌, subst, arith, eqb-true}
 use Rattle.std.proofs.lemmas.Option.{slice_get-get_or}
 use Rattle.std.proofs.lemmas.Grind.{flat_map-append}
-use Rattle.mir_base.specs.declared.instructions.Operand.TheVariants.{Const}
 use Rattle.mir_base.specs.declared.instructions.Inst.{Inst}
 use Rattle.mir_base.specs.declared.instructions.Inst.TheVariants as insts
-use Rattle.mir_base.specs.UnitRuns.{UnitSame, UnitCheaper, Machine, body_machine, unit_machine}
+use Rattle.mir_base.specs.UnitRuns.{UnitSame, UnitCheaper, body_machine, unit_machine}
 use Rattle.mir_base.specs.Shapes.{UnitShape, inst_vars, AllBelow, IsTidy}
 use Rattle.mir_base.specs.UnitLaws.{same_trans, cheaper_trans}
 use Rattle.flow_graph.specs.declared.plan.Item.{Item}

@@ -17,3 +17,5 @@ pub mod Laid
 pub mod CallLaws
 pub mod Fitting
 pub mod Whole
+pub mod Edits
+pub mod Blocking

@@ -1,5 +1,5 @@
 -- The nodes of a unit's places make a graph.
-use Rattle.std.proofs.Common.{◌≡◌, ℕ, zero, suc, ◌+◌, ◌-◌, ◌<◌, ◌≤◌, ◌^◌, All, List, [], ◌∷◌, ◌++◌, map, length, slice_get, Option, Some, None, pos, ◌⊎◌, inl, inr, refl, sym, ap, ◌∙◌, subst, arith, zero-add}
+use Rattle.std.proofs.Common.{◌≡◌, ℕ, zero, suc, ◌+◌, ◌<◌, ◌≤◌, All, List, [], ◌∷◌, length, slice_get, Option, Some, None, pos, refl, sym, ap, ◌∙◌, subst, arith, zero-add}
 use Rattle.std.proofs.lemmas.Option.{slice_get_within, slice_get-get_or, get_or_from_slice_get}
 use Rattle.mir_base.specs.declared.instructions.Operand.TheVariants.{Const}
 use Rattle.mir_base.specs.declared.instructions.Inst.{Inst}
@@ -8,10 +8,9 @@ use Rattle.mir_base.specs.UnitRuns.{UnitSame, UnitCheaper, unit_machine}
 use Rattle.mir_base.specs.Shapes.{UnitShape, receives_in, inst_vars, AllBelow, AllDiffer, IsTidy}
 use Rattle.mir_base.specs.UnitLaws.{same_trans, cheaper_trans}
 use Rattle.flow_graph.specs.declared.nodes.Node.{Node}
-use Rattle.flow_graph.specs.declared.nodes.Node.TheVariants.{Start, Skip, Assign, Print, Call, Test, Return}
+use Rattle.flow_graph.specs.declared.nodes.Node.TheVariants.{Start, Return}
 use Rattle.flow_graph.specs.Graphs.{GraphShape, node_succs, succs_of, node_vars, IsEdge, IsWithin, CanMake}
 use Rattle.flow_graph.specs.Machines.{graph_machine, machine_of}
-use Rattle.flow_graph.specs.Kept.{AreKept, IsMade}
 use Rattle.flow_graph.specs.Lowered.{place_node, nodes_from, all_nodes, received_in, target_of, CanLower, IsLowered}
 use Rattle.flow_graph.proofs.Keeps.{made_same, made_cheaper}
 use Rattle.flow_graph.proofs.Lowers.{places_same, places_cheaper}

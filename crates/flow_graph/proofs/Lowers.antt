@@ -1,21 +1,17 @@
 -- A unit does the same as the graph that has a node for each of its places.
-use Rattle.std.proofs.Common.{◌≡◌, ℕ, zero, suc, ◌+◌, ◌<◌, ◌≤◌, Bool, true, false, cond, List, [], ◌∷◌, map, length, drop, slice_get, slice_index_or, ℤ, pos, Option, Some, None, ◌⊎◌, inl, inr, refl, sym, ap, ◌∙◌, subst, arith, le_refl, zero-add, w64}
-use Rattle.std.proofs.lemmas.Bool.{cases_lt}
+use Rattle.std.proofs.Common.{◌≡◌, ℕ, zero, suc, ◌+◌, ◌<◌, ◌≤◌, Bool, true, false, cond, List, [], ◌∷◌, length, drop, slice_get, slice_index_or, ℤ, pos, Option, Some, None, ◌⊎◌, inl, inr, refl, sym, ap, ◌∙◌, subst, arith, le_refl, zero-add, w64}
 use Rattle.std.proofs.lemmas.Int.{int_wrap_fits}
 use Rattle.mir_base.specs.NumberLaws.{zero_fits}
-use Rattle.mir_base.specs.declared.instructions.Operand.TheVariants.{Const}
 use Rattle.mir_base.specs.declared.instructions.Inst.{Inst}
 use Rattle.mir_base.specs.declared.instructions.Inst.TheVariants as insts
-use Rattle.mir_base.specs.Frames.{Entry, Answer, Frame, first_frame, resumed, all_zero, with_value, Continues, Returns, Code}
-use Rattle.mir_base.specs.Units.{operand_value, test_holds, at, assigned, assign_transition, inst_transition, body_code}
-use Rattle.mir_base.specs.UnitRuns.{IsEntry, Machine, UnitSame, UnitCheaper, body_machine}
+use Rattle.mir_base.specs.Frames.{Frame, first_frame, resumed, all_zero, Continues, Returns, Code}
+use Rattle.mir_base.specs.Units.{test_holds, at, assigned, inst_transition, body_code}
+use Rattle.mir_base.specs.UnitRuns.{UnitSame, UnitCheaper, body_machine}
 use Rattle.mir_base.specs.Shapes.{receives_in}
 use Rattle.mir_base.specs.Simulations.{Responds, Simulates}
 use Rattle.mir_base.specs.SimulationLaws.{simulated_same, simulated_cheaper}
 use Rattle.mir_base.specs.Locksteps.{Alike}
 use Rattle.mir_base.specs.ResponseLaws.{alike_responds, responds_past}
-use Rattle.flow_graph.specs.declared.nodes.Node.{Node}
-use Rattle.flow_graph.specs.declared.nodes.Node.TheVariants.{Start, Skip, Assign, Print, Call, Test, Return}
 use Rattle.flow_graph.specs.Machines.{received_from, node_transition, graph_code, graph_machine}
 use Rattle.flow_graph.specs.Lowered.{place_node, nodes_from, all_nodes, received_in, target_of, CanLower}
 use Rattle.flow_graph.specs.RedirectLaws.{Shifted, shifted_to, resumed_at, resumed_place, assigns_alike}

@@ -1,13 +1,12 @@
 -- The nodes that are kept make a graph.
-use Rattle.std.proofs.Common.{◌≡◌, ℕ, zero, suc, ◌+◌, ◌<◌, ◌≤◌, Bool, true, false, List, [], ◌∷◌, map, length, slice_get, Option, Some, None, option_map, refl, sym, ap, ◌∙◌, subst, arith}
+use Rattle.std.proofs.Common.{◌≡◌, ℕ, zero, suc, ◌<◌, ◌≤◌, Bool, true, false, List, [], ◌∷◌, map, length, slice_get, Option, Some, None, option_map, refl, sym, ap, ◌∙◌, subst, arith}
 use Rattle.std.proofs.lemmas.Option.{slice_get-map, slice_get_within, slice_get-get_or}
-use Rattle.std.proofs.lemmas.List.{length-map}
 use Rattle.mir_base.specs.Shapes.{AllBelow}
 use Rattle.flow_graph.specs.declared.nodes.Node.{Node}
 use Rattle.flow_graph.specs.declared.nodes.Node.TheVariants.{Start, Skip, Assign, Print, Call, Test, Return}
 use Rattle.flow_graph.specs.Graphs.{IsEdge, Reached, at_start, along, node_succs, succs_of, succs_at, node_vars, CanMake, IsGraph}
-use Rattle.flow_graph.specs.Kept.{redirected, rank, marked, MarkReached, AreKept}
-use Rattle.flow_graph.proofs.Ranks.{at_rank}
+use Rattle.flow_graph.specs.Kept.{redirected, rank, marked, AreKept}
+use Rattle.flow_graph.specs.KeptLaws.{at_rank}
 
 -- a kept one and its old number
 record Preimage {A : Type 0} (marks : List Bool) (xs : List A) (n : ℕ) (x : A) : Type 0 where

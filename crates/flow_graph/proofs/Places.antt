@@ -1,11 +1,10 @@
 -- A graph does the same as the body that its plan emits.
-use Rattle.std.proofs.Common.{◌≡◌, ℕ, zero, suc, ◌+◌, ◌<◌, ◌≤◌, Bool, true, false, cond, List, [], ◌∷◌, ◌++◌, map, length, drop, slice_get, slice_index_or, ℤ, pos, Option, Some, None, ◌⊎◌, inl, inr, refl, sym, ap, ◌∙◌, subst, arith, le_refl, zero-add}
+use Rattle.std.proofs.Common.{◌≡◌, ℕ, suc, ◌+◌, ◌<◌, ◌≤◌, Bool, true, false, cond, List, [], ◌∷◌, length, drop, slice_get, slice_index_or, ℤ, pos, Option, Some, None, ◌⊎◌, inl, inr, refl, sym, ap, ◌∙◌, subst, arith, le_refl, zero-add}
 use Rattle.mir_base.specs.declared.instructions.Inst.{Inst}
 use Rattle.mir_base.specs.declared.instructions.Inst.TheVariants as insts
-use Rattle.mir_base.specs.Frames.{Entry, Answer, Frame, Transition, first_frame, resumed, all_zero, with_value, Continues, Returns, Code}
-use Rattle.mir_base.specs.Units.{operand_value, test_holds, at, assigned, assign_transition, inst_transition, body_code}
-use Rattle.mir_base.specs.UnitRuns.{IsEntry, Machine, UnitSame, UnitCheaper, body_machine}
-use Rattle.mir_base.specs.Shapes.{receives_in}
+use Rattle.mir_base.specs.Frames.{Entry, Frame, first_frame, resumed, all_zero, with_value, Continues, Code}
+use Rattle.mir_base.specs.Units.{test_holds, at, assigned, inst_transition, body_code}
+use Rattle.mir_base.specs.UnitRuns.{UnitSame, UnitCheaper, body_machine}
 use Rattle.mir_base.specs.Simulations.{Silently, Responds, Simulates}
 use Rattle.mir_base.specs.SimulationLaws.{simulated_same, simulated_cheaper}
 use Rattle.mir_base.specs.Locksteps.{Alike}
@@ -17,7 +16,7 @@ use Rattle.flow_graph.specs.declared.nodes.Node.TheVariants.{Start, Skip, Assign
 use Rattle.flow_graph.specs.Graphs.{following}
 use Rattle.flow_graph.specs.Machines.{graph_code, graph_machine, node_transition, received_from}
 use Rattle.flow_graph.specs.Plans.{IsPlan, after_node, is_placed, next_item}
-use Rattle.flow_graph.specs.Layouts.{emitted, emitted_by, item_insts, item_size, place_in, plain_body, size}
+use Rattle.flow_graph.specs.Layouts.{emitted, emitted_by, item_size, place_in, plain_body, size}
 use Rattle.flow_graph.specs.RedirectLaws.{resumed_at, resumed_place, assigns_alike}
 use Rattle.flow_graph.proofs.Plans.{next_of, Next, last, then_, placed_at, at_placed, place_at, taken_placed, bottom, inst_at, is_placed_drop, one_older, no_receive, all_received}
 use Rattle.flow_graph.proofs.Lists.{drop_within, mapped_at}

@@ -1,5 +1,5 @@
 -- What follows of a plan.
-use Rattle.std.proofs.Common.{◌≡◌, ◌≢◌, ℕ, zero, suc, ◌+◌, ◌<◌, ◌≤◌, Bool, true, false, cond, eqb, ◌||◌, List, [], ◌∷◌, ◌++◌, map, length, drop, slice_get, Option, Some, None, option_map, ◌⊎◌, inl, inr, refl, sym, ap, ◌∙◌, subst, arith, append-nil, append_assoc, length-append, eqb-true}
+use Rattle.std.proofs.Common.{◌≡◌, ℕ, zero, suc, ◌+◌, ◌<◌, Bool, true, false, cond, eqb, ◌||◌, List, [], ◌∷◌, ◌++◌, map, length, drop, slice_get, Option, Some, None, option_map, ◌⊎◌, inl, inr, refl, sym, ap, ◌∙◌, subst, arith, append-nil, append_assoc, length-append, eqb-true}
 use Rattle.std.proofs.lemmas.Bool.{eq-eqb}
 use Rattle.std.proofs.lemmas.List.{length-map}
 use Rattle.mir_base.specs.declared.instructions.Inst.{Inst}
@@ -10,9 +10,9 @@ use Rattle.flow_graph.specs.declared.plan.Item.TheVariants.{Placed, Jump}
 use Rattle.flow_graph.specs.declared.nodes.Node.{Node}
 use Rattle.flow_graph.specs.declared.nodes.Node.TheVariants.{Start, Skip, Assign, Print, Call, Test, Return}
 use Rattle.flow_graph.specs.Graphs.{following}
-use Rattle.flow_graph.specs.Plans.{IsPlan, after_node, first_open, is_placed, new_trace, next_item, open_at, or_else}
+use Rattle.flow_graph.specs.Plans.{IsPlan, after_node, first_open, is_placed, next_item, open_at, or_else}
 use Rattle.flow_graph.specs.Layouts.{emitted, emitted_by, item_insts, item_size, place_in, size}
-use Rattle.flow_graph.proofs.Lists.{seam, front_get, drop_within, mapped_at}
+use Rattle.flow_graph.proofs.Lists.{seam}
 
 pub one_newer : {A : Type 0} (j : ℕ) (xs : List A) (y : A) (ys : List A) → drop (suc j) xs ≡ y ∷ ys → (x : A) × (drop j xs ≡ x ∷ y ∷ ys)
 one_newer zero [] y ys e = cc

@@ -1,5 +1,5 @@
 -- The numbers that the marked nodes get, and the nodes that are kept.
-use Rattle.std.proofs.Common.{◌≡◌, ℕ, zero, suc, ◌+◌, ◌<◌, ◌≤◌, Bool, true, false, cond, List, [], ◌∷◌, ◌++◌, length, slice_get, slice_index_or, Option, Some, None, inl, inr, refl, sym, ap, ◌∙◌, subst, arith, map, drop, append_assoc}
+use Rattle.std.proofs.Common.{◌≡◌, ℕ, zero, suc, ◌+◌, ◌<◌, Bool, true, false, cond, List, [], ◌∷◌, ◌++◌, length, slice_get, slice_index_or, Some, inl, inr, refl, sym, ap, ◌∙◌, arith, map, drop, append_assoc}
 use Rattle.std.proofs.lemmas.Bool.{cases_lt}
 use Rattle.std.proofs.lemmas.Option.{slice_get-get_or, get_or_from_slice_get}
 use Rattle.flow_graph.specs.declared.nodes.Node.{Node}
@@ -7,15 +7,6 @@ use Rattle.flow_graph.specs.declared.nodes.Node.TheVariants.{Start, Skip, Assign
 use Rattle.flow_graph.specs.Graphs.{AllWithin, SuccsBelow, succs_of}
 use Rattle.flow_graph.specs.Kept.{rank, marked, redirected, AreRanks}
 use Rattle.flow_graph.proofs.Lists.{seam, front_get, drop_at}
-
--- a marked one stands at its rank
-pub at_rank : {A : Type 0} (marks : List Bool) (xs : List A) (n : ℕ) → slice_get marks n ≡ Some true → length marks ≡ length xs → slice_get (marked marks xs) (rank marks n) ≡ slice_get xs n
-at_rank [] xs n e long = cc
-at_rank (b ∷ marks) [] n e long = absurd (omega arith)
-at_rank (true ∷ marks) (x ∷ xs) zero e long = refl
-at_rank (false ∷ marks) (x ∷ xs) zero e long = cc
-at_rank (true ∷ marks) (x ∷ xs) (suc n) e long = at_rank marks xs n e (omega arith)
-at_rank (false ∷ marks) (x ∷ xs) (suc n) e long = at_rank marks xs n e (omega arith)
 
 pub rank_more : (marks : List Bool) (i : ℕ) → slice_get marks i ≡ Some true → rank marks (suc i) ≡ suc (rank marks i)
 rank_more [] i e = cc

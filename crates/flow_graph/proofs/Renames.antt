@@ -1,5 +1,5 @@
 -- To number the variables of a body by their first occurrence changes nothing, and makes it tidy.
-use Rattle.std.proofs.Common.{◌≡◌, ◌≢◌, ℕ, zero, suc, ◌+◌, ◌<◌, ◌≤◌, Bool, true, false, not, int_eq, cond, eqb, nat_lt, nat_eq, ◌||◌, List, [], ◌∷◌, ◌++◌, map, flat_map, length, take, slice_get, slice_index_or, ℤ, pos, Option, Some, None, option_map, ◌⊎◌, inl, inr, refl, sym, ap, ◌∙◌, subst, arith, le_refl, append_assoc, append-nil, length-append, eqb-true}
+use Rattle.std.proofs.Common.{◌≡◌, ℕ, zero, suc, ◌+◌, ◌<◌, Bool, true, false, not, int_eq, cond, eqb, nat_eq, ◌||◌, List, [], ◌∷◌, ◌++◌, map, flat_map, length, take, slice_get, slice_index_or, ℤ, pos, Option, Some, None, option_map, inl, inr, refl, sym, ap, ◌∙◌, subst, arith, le_refl, append_assoc, append-nil, length-append, eqb-true}
 use Rattle.std.proofs.lemmas.Bool.{eq-eqb, lt-ltb, le-ltb, cases_lt}
 use Rattle.std.proofs.lemmas.Bool.Decides.{eqb_tells}
 use Rattle.std.proofs.lemmas.Option.{slice_get-map, slice_get-get_or, slice_get_within, get_or_from_slice_get}
@@ -12,12 +12,11 @@ use Rattle.mir_base.specs.declared.instructions.Rhs.TheVariants.{Plain, Unary, B
 use Rattle.mir_base.specs.declared.operators.Op.{Op}
 use Rattle.mir_base.specs.declared.instructions.Test.{Test}
 use Rattle.mir_base.specs.declared.instructions.Test.TheVariants.{Rel, Holds, Fails}
-use Rattle.mir_base.specs.declared.operators.RelOp.{RelOp}
 use Rattle.mir_base.specs.declared.operators.Trap.TheVariants.{ZeroDivisor}
 use Rattle.mir_base.specs.declared.instructions.Inst.{Inst}
 use Rattle.mir_base.specs.declared.instructions.Inst.TheVariants.{Receive, Assign, Goto, If, Call, Print, Return}
 use Rattle.mir_base.specs.Numbers.{traps, value_of_op, value_of_un_op}
-use Rattle.mir_base.specs.Frames.{Answer, Frame, Values, with_value, resumed, Continues, Traps, Code, all_zero, first_frame}
+use Rattle.mir_base.specs.Frames.{Answer, Frame, Values, with_value, resumed, Continues, Traps, all_zero}
 use Rattle.mir_base.specs.Units.{operand_value, relation_holds, test_holds, at, assigned, assign_transition, inst_transition, body_code}
 use Rattle.mir_base.specs.UnitRuns.{UnitSame, UnitCheaper, body_machine}
 use Rattle.mir_base.specs.Shapes.{receives_in, operand_vars, rhs_vars, test_vars, into_vars, inst_vars, numbered_from, AllDiffer, AllBelow, IsTidy}

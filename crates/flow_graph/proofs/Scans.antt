@@ -1,15 +1,14 @@
 -- A scan for the first open successor, and the next item of a plan.
-use Rattle.std.proofs.Common.{◌≡◌, ℕ, zero, suc, ◌+◌, ◌-◌, ◌<◌, ◌≤◌, Bool, true, false, cond, List, [], ◌∷◌, ◌++◌, length, take, drop, reverse, replicate, eqb, ◌||◌, slice_set, ◌⊎◌, inl, inr, get_or, slice_get, slice_index_or, Option, Some, None, option_map, is_some, refl, sym, ap, ◌∙◌, subst, arith}
-use Rattle.std.proofs.lemmas.Option.{slice_get_within, slice_get_past, slice_get-get_or, get_or_from_slice_get}
+use Rattle.std.proofs.Common.{◌≡◌, ℕ, zero, suc, ◌+◌, ◌-◌, ◌<◌, ◌≤◌, Bool, true, false, cond, List, [], ◌∷◌, ◌++◌, length, take, drop, reverse, replicate, eqb, ◌||◌, slice_set, inl, inr, slice_get, slice_index_or, Option, Some, None, option_map, is_some, refl, sym, ap, ◌∙◌, subst, arith}
+use Rattle.std.proofs.lemmas.Option.{slice_get_within, slice_get_past, get_or_from_slice_get}
 use Rattle.std.proofs.lemmas.List.{reverse-append, take_more, take-append-le, length-append, length-replicate}
-use Rattle.std.proofs.lemmas.Bool.{eq-eqb}
 use Rattle.std.proofs.lemmas.Bool.Decides.{eqb_tells}
 use Rattle.flow_graph.specs.declared.plan.Item.{Item}
 use Rattle.flow_graph.specs.declared.plan.Item.TheVariants.{Placed, Jump}
 use Rattle.flow_graph.specs.declared.nodes.Node.{Node}
 use Rattle.flow_graph.specs.declared.nodes.Node.TheVariants.{Start, Skip, Assign, Print, Call, Test, Return}
 use Rattle.flow_graph.specs.Graphs.{AllWithin, IsWithin, following, succs_of}
-use Rattle.flow_graph.specs.Plans.{IsPlan, after_node, first_open, is_placed, new_trace, next_item, open_at, or_else}
+use Rattle.flow_graph.specs.Plans.{after_node, first_open, is_placed, new_trace, next_item, open_at, or_else}
 use Rattle.flow_graph.specs.Walks.{unmarked}
 use Rattle.flow_graph.specs.Placing.{ArePlaced, ItemsWithin, follower_of, open_by, open_by_item, open_if, open_item, AreClosed, TellsFirstOpen, open_end, placed_after, plan_weight, taken_of}
 use Rattle.flow_graph.proofs.Walks.{set_long, unmarked_set}

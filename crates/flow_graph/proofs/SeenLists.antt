@@ -1,11 +1,9 @@
 -- The table of the variables seen keeps their places, one variable at a time.
-use Rattle.std.proofs.Common.{◌≡◌, ◌≢◌, ℕ, zero, suc, ◌+◌, ◌<◌, ◌≤◌, Bool, true, false, cond, eqb, ◌||◌, List, [], ◌∷◌, ◌++◌, length, set, slice_get, slice_set, slice_index_or, flat_map, take, drop, replicate, is_none, Option, Some, None, ◌⊎◌, inl, inr, refl, sym, ap, ◌∙◌, subst, arith, length-set, length-append}
+use Rattle.std.proofs.Common.{◌≡◌, ◌≢◌, ℕ, zero, suc, ◌<◌, Bool, true, false, cond, eqb, ◌||◌, List, [], ◌∷◌, ◌++◌, length, set, slice_get, flat_map, replicate, is_none, Option, Some, None, ◌⊎◌, inl, inr, refl, sym, ap, ◌∙◌, subst, arith, length-set}
 use Rattle.std.proofs.lemmas.Bool.{eq-eqb, eqb-true, cases_lt}
-use Rattle.std.proofs.lemmas.Option.{slice_get_within, slice_get-get_or}
 use Rattle.mir_base.specs.Shapes.{AllBelow}
-use Rattle.flow_graph.specs.Numbering.{is_in, position, seen_after}
+use Rattle.flow_graph.specs.Numbering.{is_in, position}
 use Rattle.flow_graph.specs.Placing.{ArePositions, place_of}
-use Rattle.flow_graph.proofs.Lists.{drop_suc}
 
 -- ---- the places of the variables seen
 

@@ -1,12 +1,12 @@
 -- Where the test passes, a body can be lowered.
-use Rattle.std.proofs.Common.{◌≡◌, ℕ, zero, suc, ◌+◌, ◌<◌, ◌≤◌, Bool, true, false, not, ◌&&◌, ◌||◌, eqb, nat_lt, nat_le, IsTrue, List, [], ◌∷◌, length, slice_get, Option, Some, None, refl, sym, ap, ◌∙◌, subst, arith, ltb-true}
+use Rattle.std.proofs.Common.{◌≡◌, ℕ, zero, suc, ◌+◌, ◌<◌, Bool, true, false, not, ◌&&◌, ◌||◌, eqb, nat_lt, nat_le, IsTrue, List, [], ◌∷◌, length, slice_get, Option, Some, None, refl, sym, ap, ◌∙◌, subst, arith, ltb-true}
 use Rattle.std.proofs.lemmas.Bool.{eq-eqb, leb-true}
 use Rattle.mir_base.specs.declared.instructions.Inst.{Inst}
 use Rattle.mir_base.specs.declared.instructions.Inst.TheVariants as insts
 use Rattle.mir_base.specs.Shapes.{receives_in, IsTarget}
 use Rattle.flow_graph.specs.Lowered.{CanLower, received_in, target_of}
 use Rattle.flow_graph.specs.Numbering.{is_in}
-use Rattle.flow_graph.specs.Examples.{all_differ, can_lower, fit_from, fits_at, is_target}
+use Rattle.flow_graph.specs.Examples.{all_differ, can_lower, fit_from, fits_at}
 
 first_of_two : (a b : Bool) → a && b ≡ true → a ≡ true
 first_of_two true b e = refl

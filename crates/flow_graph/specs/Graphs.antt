@@ -85,26 +85,31 @@ node_vars (Call into unit operands next) = into_vars into ++ flat_map operand_va
 node_vars (Test test taken other) = test_vars test
 node_vars (Return a) = operand_vars a
 
--- the variables that a node reads
-abbrev pub node_reads : Node → List ℕ
-node_reads (Start next) = []
-node_reads (Skip next) = []
-node_reads (Assign x rhs next) = rhs_vars rhs
-node_reads (Print a next) = operand_vars a
-node_reads (Call into unit operands next) = flat_map operand_vars operands
-node_reads (Test test taken other) = test_vars test
-node_reads (Return a) = operand_vars a
+-- the variables that a node of the graph reads
+abbrev pub node_reads : GraphShape → Node → List ℕ
+node_reads graph (Start next) = []
+node_reads graph (Skip next) = []
+node_reads graph (Assign x rhs next) = rhs_vars rhs
+node_reads graph (Print a next) = operand_vars a
+node_reads graph (Call into unit operands next) = flat_map operand_vars operands
+node_reads graph (Test test taken other) = test_vars test
+node_reads graph (Return a) = operand_vars a
 
--- whether a node assigns the variable x; Start assigns every variable
-abbrev pub assigns : ℕ → Node → Bool
-assigns x (Start next) = true
-assigns x (Skip next) = false
-assigns x (Assign y rhs next) = eqb y x
-assigns x (Print a next) = false
-assigns x (Call None unit operands next) = false
-assigns x (Call (Some y) unit operands next) = eqb y x
-assigns x (Test test taken other) = false
-assigns x (Return a) = false
+-- whether a node of the graph assigns the variable x. Start, which gives every variable its first value, assigns none
+abbrev pub assigns : GraphShape → ℕ → Node → Bool
+assigns graph x (Start next) = false
+assigns graph x (Skip next) = false
+assigns graph x (Assign y rhs next) = eqb x y
+assigns graph x (Print a next) = false
+assigns graph x (Call None unit operands next) = false
+assigns graph x (Call (Some y) unit operands next) = eqb x y
+assigns graph x (Test test taken other) = false
+assigns graph x (Return a) = false
+
+-- the node is Start
+abbrev pub is_start : Node → Bool
+is_start (Start next) = true
+is_start _ = false
 
 -- the right side of a node that has one
 abbrev pub node_rhs : Node → Option Rhs

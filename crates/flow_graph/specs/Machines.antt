@@ -1,5 +1,5 @@
 -- What one step of a graph does: a graph as a machine, whose runs are compared with those of units and other graphs.
-use Rattle.std.specs.Prelude.{◌≡◌, ℕ, suc, cond, List, [], ◌∷◌, map, length, slice_get, ℤ, pos, Option, Some, None, slice_index_or}
+use Rattle.std.specs.Prelude.{ℕ, suc, cond, List, [], ◌∷◌, map, length, slice_get, ℤ, pos, Option, Some, None, slice_index_or}
 use Rattle.mir_base.specs.Frames.{Values, all_zero, with_value, Frame, Transition, Continues, Prints, Calls, Returns, Code}
 use Rattle.mir_base.specs.Units.{operand_value, test_holds, at, assign_transition}
 use Rattle.mir_base.specs.UnitRuns.{Machine}

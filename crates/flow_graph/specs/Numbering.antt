@@ -1,5 +1,5 @@
 -- Variables numbered anew, in the order of their first occurrence.
-use Rattle.std.specs.Prelude.{ℕ, zero, suc, Bool, true, false, cond, eqb, ◌||◌, List, [], ◌∷◌, ◌++◌, map, flat_map, Option, option_map}
+use Rattle.std.specs.Prelude.{ℕ, suc, Bool, false, cond, eqb, ◌||◌, List, [], ◌∷◌, ◌++◌, map, flat_map, option_map}
 use Rattle.mir_base.specs.declared.instructions.Operand.{Operand}
 use Rattle.mir_base.specs.declared.instructions.Operand.TheVariants.{Var, Const}
 use Rattle.mir_base.specs.declared.instructions.Rhs.{Rhs}

@@ -1,6 +1,6 @@
 -- Paths of a graph: as lists of nodes in the order in which they are passed, and as the nodes before a node, the nearest
 -- first.
-use Rattle.std.specs.Prelude.{◌≡◌, ℕ, ◌<◌, Bool, true, false, List, [], ◌∷◌, length, slice_get, Option, Some, None}
+use Rattle.std.specs.Prelude.{◌≡◌, ℕ, ◌<◌, Bool, true, false, List, [], ◌∷◌, length, slice_get, Option, Some}
 use Rattle.flow_graph.specs.declared.nodes.Node.{Node}
 use Rattle.flow_graph.specs.declared.nodes.Node.TheVariants.{Return}
 use Rattle.flow_graph.specs.Graphs.{IsEdge}

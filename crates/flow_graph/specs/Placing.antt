@@ -1,6 +1,6 @@
 -- What the laying out of a graph keeps: marks of the placed nodes, the table of their places, and the table of the
 -- variables seen.
-use Rattle.std.specs.Prelude.{◌≡◌, ℕ, zero, suc, ◌+◌, ◌<◌, ◌≤◌, Bool, true, false, cond, List, [], ◌∷◌, reverse, take, length, slice_get, slice_set, slice_index_or, Option, Some, None}
+use Rattle.std.specs.Prelude.{◌≡◌, ℕ, ◌+◌, ◌<◌, ◌≤◌, Bool, true, false, cond, List, [], ◌∷◌, reverse, take, length, slice_get, slice_set, slice_index_or, Option, Some, None}
 use Rattle.flow_graph.specs.declared.plan.Item.{Item}
 use Rattle.flow_graph.specs.declared.plan.Item.TheVariants.{Placed, Jump}
 use Rattle.flow_graph.specs.declared.nodes.Node.{Node}

@@ -1,10 +1,10 @@
 -- Laws: a node with other numbers for its successors does the same, step for step, at the other numbers.
-use Rattle.std.proofs.Common.{◌≡◌, ℕ, zero, suc, ◌≤◌, Bool, true, false, cond, List, [], ◌∷◌, slice_get, ℤ, Option, Some, None, option_map, refl, sym, ap, ◌∙◌, subst, arith, le_refl}
+use Rattle.std.proofs.Common.{◌≡◌, ℕ, Bool, true, false, cond, List, slice_get, ℤ, Option, Some, None, option_map, refl, sym, ap, ◌∙◌, subst, le_refl}
 use Rattle.mir_base.specs.declared.instructions.Rhs.{Rhs}
 use Rattle.mir_base.specs.declared.instructions.Rhs.TheVariants.{Plain, Unary, Binary}
 use Rattle.mir_base.specs.declared.operators.Trap.TheVariants.{ZeroDivisor}
 use Rattle.mir_base.specs.Numbers.{traps, value_of_op}
-use Rattle.mir_base.specs.Frames.{Answer, Frame, resumed, Continues, Traps, Code}
+use Rattle.mir_base.specs.Frames.{Answer, Frame, resumed, Continues, Traps}
 use Rattle.mir_base.specs.Units.{operand_value, test_holds, at, assigned, assign_transition}
 use Rattle.mir_base.specs.Locksteps.{Alike}
 use Rattle.flow_graph.specs.declared.nodes.Node.{Node}

@@ -121,7 +121,7 @@ impl Edges {
 }
 
 /// The numbers from place `first` up to, and not including, place `end`.
-fn part(numbers: &[usize], first: usize, end: usize) -> &[usize]
+pub(crate) fn part(numbers: &[usize], first: usize, end: usize) -> &[usize]
     requires ordered { first ≤ end }
     requires within { end ≤ length numbers.now }
     ensures { result.now ≡ slice_range numbers.now first end }

@@ -88,7 +88,7 @@ pub(crate) fn emit(
     requires places { ArePlaces nodes.now (length received.now) (reverse items.now) places.now }
     ensures { IfOk result (λ body. body.items ≡ plain_body received.now nodes.now (reverse items.now)) }
 {
-    let mut body = Vec::new(alloc);
+    let mut body = Vec::with_capacity(alloc, items.len())?;
     for x in received {
         body.push(Inst::Receive(*x))?;
     }

@@ -3,6 +3,7 @@ ghost use Rattle.std.specs.Prelude.{◌≡◌, ◌<◌, length, slice_get, Some}
 ghost use Rattle.flow_graph.specs.Graphs.{IsGraph, node_succs, succs_at};
 
 use crate::Node;
+use crate::sharing::Names;
 use mir_base::{Items, Name};
 use smallvec::SmallVec;
 use std::alloc::Global;
@@ -15,7 +16,7 @@ use std::marker::Model;
 #[derive(Drop)]
 pub struct Graph {
     pub(crate) name: Name,
-    pub(crate) vars: Items<Name>,
+    pub(crate) vars: Names,
     pub(crate) received: Items<usize>,
     pub(crate) nodes: Items<Node>,
     pub(crate) alloc: Global,
@@ -77,6 +78,13 @@ impl Graph {
         ensures { result.now ≡ self.now.vars }
     {
         self.vars.items()
+    }
+
+    /// The same names, to be shared. It takes no memory.
+    pub(crate) fn shared_names(&self) -> &Names
+        ensures { result.now ≡ self.now.vars }
+    {
+        &self.vars
     }
 
     /// The received variables, in the order of the arguments. It takes no memory.

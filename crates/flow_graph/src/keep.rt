@@ -4,6 +4,7 @@ ghost use Rattle.flow_graph.specs.Graphs.{AllWithin, CanMake, SuccsBelow};
 ghost use Rattle.flow_graph.specs.Kept.{redirected, rank, marked, AreRanks, IsMade};
 
 use crate::reach::reach;
+use crate::sharing::Names;
 use crate::{Graph, Node};
 use mir_base::{Items, Memory, Name};
 use std::alloc::Global;
@@ -12,19 +13,19 @@ use std::alloc::Global;
 pub(crate) fn make(
     alloc: Global,
     name: Name,
-    vars: Vec<Name>,
+    vars: Names,
     received: Vec<usize>,
     nodes: Vec<Node>,
 ) -> Result<Graph, Memory>
-    requires { CanMake vars.items received.items nodes.items }
-    ensures { IfOk result (λ graph. IsMade name vars.items received.items nodes.items graph) }
+    requires { CanMake vars received.items nodes.items }
+    ensures { IfOk result (λ graph. IsMade name vars received.items nodes.items graph) }
 {
     let marks = reach(alloc, nodes.as_slice())?;
     let ranks = ranks(alloc, marks.as_slice())?;
     let kept = keep(alloc, nodes, marks.as_slice(), ranks.as_slice())?;
     Ok(Graph {
         name,
-        vars: Items::of(vars),
+        vars,
         received: Items::of(received),
         nodes: Items::of(kept),
         alloc,
@@ -35,7 +36,7 @@ pub(crate) fn make(
 fn ranks(alloc: Global, marks: &[bool]) -> Result<Vec<usize>, Memory>
     ensures { IfOk result (λ ranks. AreRanks marks.now ranks.items) }
 {
-    let mut ranks = Vec::new(alloc);
+    let mut ranks = Vec::with_capacity(alloc, marks.len())?;
     let mut rank = 0;
     for mark in marks {
         ranks.push(rank)?;
@@ -58,7 +59,7 @@ fn keep(
     requires within { AllWithin nodes.items }
     ensures { IfOk result (λ kept. kept.items ≡ map (redirected (rank marks.now)) (marked marks.now nodes.items)) }
 {
-    let mut kept = Vec::new(alloc);
+    let mut kept = Vec::with_capacity(alloc, nodes.len())?;
     let mut number = 0;
     for node in nodes {
         let node = redirect(node, ranks);
@@ -79,7 +80,7 @@ fn push_if(kept: &mut Vec<Node>, marked: bool, node: Node) -> Result<(), Memory>
 }
 
 /// The node with other numbers for its successors.
-fn redirect(node: Node, to: &[usize]) -> Node
+pub(crate) fn redirect(node: Node, to: &[usize]) -> Node
     requires { SuccsBelow (length to.now) node }
     ensures { result ≡ redirected (λ n. slice_index_or to.now n 0) node }
 {

@@ -3,6 +3,7 @@ ghost use Rattle.std.specs.Prelude.{◌≡◌, ℕ, ◌<◌, length, slice_get, 
 ghost use Rattle.mir_base.specs.UnitRuns.{UnitCheaper, UnitSame, unit_machine};
 ghost use Rattle.flow_graph.specs.Calls.{BodyCalls, NodesCall};
 ghost use Rattle.flow_graph.specs.Graphs.{IsGraph};
+ghost use Rattle.flow_graph.specs.Keeps.{AsGraph, AsUnit, Keeps};
 ghost use Rattle.flow_graph.specs.Layouts.{IsLaid, IsLayout};
 ghost use Rattle.flow_graph.specs.Lowered.{CanLower};
 ghost use Rattle.flow_graph.specs.Machines.{machine_of};
@@ -26,6 +27,7 @@ pub fn layout(alloc: Global, graph: &Graph) -> Result<MirUnit, Memory>
     ensures layout { IfOk result (λ unit. IsLayout graph.now unit) }
     ensures same { IfOk result (λ unit. UnitSame (machine_of graph.now) (unit_machine unit)) }
     ensures cheaper { IfOk result (λ unit. UnitCheaper (machine_of graph.now) (unit_machine unit)) }
+    ensures keeps { IfOk result (λ unit. Keeps (AsGraph graph.now) (AsUnit unit)) }
 
     // the unit can be lowered again, and makes no calls but those of the graph
     ensures lowers { IfOk result (λ unit. CanLower unit.body) }

@@ -9,8 +9,10 @@
 //! `with_nodes` answer does the same as what they take, and counts no more.
 #![tactic(auto)]
 
+mod blocks;
 mod edge_lists;
 mod edges;
+mod editor;
 mod emit;
 mod graphs;
 mod keep;
@@ -22,13 +24,18 @@ mod plan;
 mod reach;
 mod rename;
 mod seen;
+mod sharing;
 mod split;
 #[cfg(test)]
 mod tests;
+mod tidying;
 
+pub use blocks::Blocks;
 pub use edges::{Edge, Edges};
+pub use editor::Editor;
 pub use graphs::Graph;
 pub use laying::layout;
 pub use lowering::lower;
 pub use nodes::Node;
 pub use split::is_split;
+pub use tidying::tidied;

@@ -4,11 +4,12 @@ ghost use Rattle.mir_base.specs.Shapes.{inst_vars, receives_in, AllBelow, IsTidy
 ghost use Rattle.mir_base.specs.UnitRuns.{UnitCheaper, UnitSame, unit_machine};
 ghost use Rattle.flow_graph.specs.Calls.{BodyCalls, NodesCall};
 ghost use Rattle.flow_graph.specs.Graphs.{IsWithin};
+ghost use Rattle.flow_graph.specs.Keeps.{AsGraph, AsUnit, Keeps};
 ghost use Rattle.flow_graph.specs.Lowered.{CanLower, IsLowered, all_nodes, place_node, received_in, target_of};
 ghost use Rattle.flow_graph.specs.Machines.{machine_of};
 
 use crate::keep::make;
-use crate::making::joined;
+use crate::sharing::Names;
 use crate::{Graph, Node};
 use mir_base::{Inst, Memory, Operand, Unit as MirUnit};
 use std::alloc::Global;
@@ -22,6 +23,7 @@ pub fn lower(alloc: Global, unit: &MirUnit) -> Result<Graph, Memory>
     ensures lowered { IfOk result (λ graph. IsLowered unit.now graph) }
     ensures same { IfOk result (λ graph. UnitSame (unit_machine unit.now) (machine_of graph)) }
     ensures cheaper { IfOk result (λ graph. UnitCheaper (unit_machine unit.now) (machine_of graph)) }
+    ensures keeps { IfOk result (λ graph. Keeps (AsUnit unit.now) (AsGraph graph)) }
 
     // the graph makes no calls but those of the unit
     ensures calls { IfOk result (λ graph. (called count : ℕ) → NodesCall graph.nodes called count → BodyCalls unit.now.body called count) }
@@ -39,7 +41,7 @@ fn lower_unit(alloc: Global, unit: &MirUnit) -> Result<Graph, Memory>
 {
     let insts = unit.insts();
     let name = unit.name.clone()?;
-    let vars = joined(alloc, unit.vars.items(), Vec::new(alloc))?;
+    let vars = Names::copied(alloc, unit.vars.items())?;
     let received = received(alloc, insts)?;
     let nodes = all_nodes(alloc, insts, received.len())?;
     make(alloc, name, vars, received, nodes)
@@ -66,7 +68,7 @@ fn all_nodes(alloc: Global, insts: &[Inst], receives: usize) -> Result<Vec<Node>
     requires room { length insts.now + 2 < 2 ^ 64 }
     ensures { IfOk result (λ nodes. nodes.items ≡ all_nodes insts.now) }
 {
-    let mut nodes = Vec::new(alloc);
+    let mut nodes = Vec::with_capacity(alloc, insts.len().saturating_add(2))?;
     nodes.push(Node::Start(receives + 1))?;
     let mut place = 0;
     for inst in insts {

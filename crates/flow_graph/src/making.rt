@@ -50,21 +50,7 @@ fn with_all(
     ensures { IfOk result (λ made. IsMade graph.now.name (graph.now.vars ++ extra.items) graph.now.received nodes.items made) }
 {
     let name = graph.name().clone()?;
-    let vars = joined(alloc, graph.vars(), extra)?;
+    let vars = graph.shared_names().with(alloc, extra)?;
     let received = Vec::from_slice(alloc, graph.received())?;
     make(alloc, name, vars, received, nodes)
-}
-
-/// The names, and the others after them.
-pub(crate) fn joined(alloc: Global, names: &[Name], extra: Vec<Name>) -> Result<Vec<Name>, Memory>
-    ensures { IfOk result (λ all. all.items ≡ names.now ++ extra.items) }
-{
-    let mut all = Vec::new(alloc);
-    for name in names {
-        all.push(name.clone()?)?;
-    }
-    for name in extra {
-        all.push(name)?;
-    }
-    Ok(all)
 }

@@ -13,7 +13,7 @@ pub(crate) fn rename(alloc: Global, seen: &SeenVars, body: &[Inst]) -> Result<Ve
     requires { AllBelow seen.now.vars (flat_map inst_vars body.now) }
     ensures { IfOk result (λ new. new.items ≡ map (renamed (position seen.now.seen)) body.now) }
 {
-    let mut renamed = Vec::new(alloc);
+    let mut renamed = Vec::with_capacity(alloc, body.len())?;
     for inst in body {
         renamed.push(rename_inst(alloc, seen, inst)?)?;
     }
@@ -107,7 +107,7 @@ pub(crate) fn names(alloc: Global, vars: &[Name], seen: &[usize]) -> Result<Vec<
     requires { AllBelow (length vars.now) seen.now }
     ensures { IfOk result (λ names. names.items ≡ map (λ x. slice_index_or vars.now x []) seen.now) }
 {
-    let mut names = Vec::new(alloc);
+    let mut names = Vec::with_capacity(alloc, seen.len())?;
     for x in seen {
         names.push(name_at(vars, *x)?)?;
     }

@@ -1,8 +1,7 @@
-use Rattle.std.proofs.Common.{◌≡◌, ◌∙◌, ap, sym, subst, refl, arith, length, Some, [], ◌∷◌, slice_index_or}
+use Rattle.std.proofs.Common.{sym, subst, refl, length, Some, [], ◌∷◌}
 use Rattle.std.proofs.lemmas.Option.{slice_get_read}
 use Rattle.flow_graph.specs.declared.plan.Item.{Item}
 use Rattle.flow_graph.specs.Graphs.{IsWithin}
-use Rattle.flow_graph.specs.Layouts.{emitted_by, item_insts}
 use Rattle.flow_graph.specs.Placing.{ItemsWithin, taken_of}
 use Rattle.flow_graph.proofs.Scans.{taken_within}
 use Rattle.flow_graph.proofs.emit.emit_item.Goals as goal

@@ -1,9 +1,8 @@
-use Rattle.std.proofs.Common.{◌≡◌, ◌∙◌, ap, sym, subst, refl, arith, length, Some, [], ◌∷◌, slice_index_or}
+use Rattle.std.proofs.Common.{sym, subst, length, [], ◌∷◌, slice_index_or}
 use Rattle.std.proofs.lemmas.Option.{slice_get-get_or}
 use Rattle.flow_graph.specs.declared.plan.Item.TheVariants.{Placed}
 use Rattle.flow_graph.specs.Placing.{ItemsWithin}
 use Rattle.flow_graph.proofs.Scans.{item_within}
-use Rattle.flow_graph.proofs.Emits.{places_begin, places_more, size_more}
 use Rattle.flow_graph.proofs.emit.places.Goals as goal
 
 pub set_place-requires : goal.set_place-requires

@@ -1,7 +1,7 @@
-use Rattle.std.proofs.Common.{◌≡◌, ◌<◌, ◌∙◌, suc, ◌+◌, ◌++◌, ap, sym, subst, refl, arith, map, drop, length, Some, slice_get, slice_index_or, false}
+use Rattle.std.proofs.Common.{◌<◌, ◌∙◌, suc, ◌++◌, ap, sym, subst, refl, arith, map, length, slice_get, slice_index_or, false}
 use Rattle.flow_graph.specs.Kept.{rank, marked, redirected}
 use Rattle.flow_graph.specs.Graphs.{SuccsBelow}
-use Rattle.flow_graph.proofs.Ranks.{succs_below, redirects_same, keep_one, marks_index, none_marked}
+use Rattle.flow_graph.proofs.Ranks.{succs_below, redirects_same, keep_one, marks_index}
 use Rattle.flow_graph.proofs.keep.keep.Goals as goal
 
 pub loop-node-init : goal.loop-node-init
@@ -9,7 +9,7 @@ loop-node-init c =
     let all = c.into_iter-node-iterator.ensures.into_iter_gives.0 in
     let marks = c.args.marks.now in
     record {
-      all = ap (λ l. l ++ map (redirected (rank marks)) (marked marks c.into_iter-node-iterator.result.rest.items)) c.new-kept.ensures.items ∙ ap (λ l. map (redirected (rank marks)) (marked marks l)) all;
+      all = ap (λ l. l ++ map (redirected (rank marks)) (marked marks c.into_iter-node-iterator.result.rest.items)) c.in_ok-kept.ensures.items ∙ ap (λ l. map (redirected (rank marks)) (marked marks l)) all;
       count = omega (arith, ap length all, c.requires.long);
       below = λ k node e. subst (λ n. SuccsBelow n node) (sym c.requires.long) (succs_below c.args.nodes.items k node c.requires.within (sym (ap (λ l. slice_get l k) all) ∙ e));
     }

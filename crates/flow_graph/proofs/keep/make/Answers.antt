@@ -1,6 +1,6 @@
 use Rattle.std.proofs.Common.{◌≡◌, ◌∙◌, List, ap, sym, subst, map, Bool}
 use Rattle.flow_graph.specs.declared.nodes.Node.{Node}
-use Rattle.flow_graph.specs.Graphs.{IsGraph, CanMake}
+use Rattle.flow_graph.specs.Graphs.{IsGraph}
 use Rattle.flow_graph.specs.Kept.{AreKept, MarkReached, redirected, rank, marked}
 use Rattle.flow_graph.proofs.Made.{make_graph}
 use Rattle.flow_graph.proofs.keep.make.Goals as goal
@@ -15,6 +15,6 @@ kept_with raw raw' nodes marks marks' e e' m is = record {
 pub invariant_of-result : goal.invariant_of-result
 invariant_of-result c =
     let raw = c.args.nodes.items in
-    let kept = kept_with raw c.as_slice.result.now c.of-3.result c.in_ok-marks.marks.items c.as_slice-3.result.now c.as_slice.ensures.value c.as_slice-3.ensures.value c.in_ok-marks.ensures (c.of-3.ensures ∙ c.in_ok-kept.ensures) in
-    let g = make_graph c.args.vars.items c.args.received.items raw c.of-3.result c.requires kept in
-    subst (λ v. IsGraph v c.of-2.result c.of-3.result) (sym c.of.ensures) (subst (λ r. IsGraph c.args.vars.items r c.of-3.result) (sym c.of-2.ensures) g)
+    let kept = kept_with raw c.as_slice.result.now c.of-2.result c.in_ok-marks.marks.items c.as_slice-3.result.now c.as_slice.ensures.value c.as_slice-3.ensures.value c.in_ok-marks.ensures (c.of-2.ensures ∙ c.in_ok-kept.ensures) in
+    let g = make_graph c.args.vars c.args.received.items raw c.of-2.result c.requires kept in
+    subst (λ r. IsGraph c.args.vars r c.of-2.result) (sym c.of.ensures) g

@@ -1,4 +1,4 @@
-use Rattle.std.proofs.Common.{◌≡◌, ◌<◌, ◌∙◌, suc, ◌+◌, ◌++◌, ◌∷◌, [], ap, sym, arith, length, length-append, add-one, true, false}
+use Rattle.std.proofs.Common.{◌≡◌, ◌∙◌, suc, ◌+◌, ◌++◌, ◌∷◌, [], ap, arith, length, length-append, true, false}
 use Rattle.flow_graph.specs.Kept.{rank as rank_of}
 use Rattle.flow_graph.proofs.Ranks.{rank_more, rank_same, ranked, marks_index}
 use Rattle.flow_graph.proofs.keep.ranks.Goals.{then-mark, else-mark}

@@ -1,4 +1,4 @@
-use Rattle.std.proofs.Common.{◌≡◌, ◌<◌, ◌∙◌, [], ap, sym, subst, refl, map, reverse, flat_map, length, slice_index_or}
+use Rattle.std.proofs.Common.{◌<◌, ◌∙◌, [], ap, sym, subst, map, reverse, flat_map, length, slice_index_or}
 use Rattle.mir_base.specs.Shapes.{AllBelow, inst_vars}
 use Rattle.flow_graph.specs.Numbering.{position, renamed, seen_in}
 use Rattle.flow_graph.specs.Layouts.{plain_body}

@@ -15,3 +15,11 @@ returns-clause-lowers c = let laid = c.in_ok-unit.ensures.layout.laid in laid_lo
 pub returns-clause-calls : goal.returns-clause-calls
 returns-clause-calls c = λ called count.
     let laid = c.in_ok-unit.ensures.layout.laid in laid_calls c.args.graph.now.vars c.args.graph.now.received c.args.graph.now.nodes c.in_ok-unit.unit.vars c.in_ok-unit.unit.body laid called count
+
+pub returns-clause-keeps : goal.returns-clause-keeps
+returns-clause-keeps c = record {
+  name = c.in_ok-unit.ensures.layout.name;
+  same = returns-clause-same c;
+  cheaper = returns-clause-cheaper c;
+  calls = returns-clause-calls c;
+}

@@ -1,4 +1,4 @@
-use Rattle.std.proofs.Common.{◌≡◌, sym, subst}
+use Rattle.std.proofs.Common.{sym, subst}
 use Rattle.mir_base.specs.Shapes.{IsTidy}
 use Rattle.flow_graph.specs.Graphs.{IsGraph}
 use Rattle.flow_graph.proofs.Laid.{laid_tidy}

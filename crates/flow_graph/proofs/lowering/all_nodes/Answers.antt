@@ -1,4 +1,4 @@
-use Rattle.std.proofs.Common.{◌≡◌, ◌<◌, arith, refl, length}
+use Rattle.std.proofs.Common.{arith, refl, length}
 use Rattle.std.proofs.lemmas.Option.{slice_get_read}
 use Rattle.flow_graph.proofs.LowerMade.{receives_few, target_within}
 use Rattle.flow_graph.proofs.lowering.all_nodes.Goals as goal

@@ -1,4 +1,4 @@
-use Rattle.std.proofs.Common.{◌≡◌, ◌++◌, drop, suc, ◌+◌, length}
+use Rattle.std.proofs.Common.{◌≡◌, ◌++◌, drop, ◌+◌, length}
 use Rattle.flow_graph.specs.Lowered.{all_nodes as nodes_of, nodes_from}
 use Rattle.flow_graph.proofs.lowering.all_nodes.Given as goal
 

@@ -10,3 +10,11 @@ returns-clause-cheaper c = lowered_cheaper c.args.unit.now c.in_ok-graph.graph c
 
 pub returns-clause-calls : goal.returns-clause-calls
 returns-clause-calls c = λ called count. lowered_calls c.args.unit.now c.in_ok-graph.graph c.in_ok-graph.ensures.lowered called count
+
+pub returns-clause-keeps : goal.returns-clause-keeps
+returns-clause-keeps c = record {
+  name = c.in_ok-graph.ensures.lowered.made.name_is;
+  same = returns-clause-same c;
+  cheaper = returns-clause-cheaper c;
+  calls = returns-clause-calls c;
+}

@@ -1,4 +1,4 @@
-use Rattle.std.proofs.Common.{◌≡◌, ◌∙◌, ◌++◌, ap, sym, subst, arith, append-nil, length}
+use Rattle.std.proofs.Common.{◌≡◌, ◌∙◌, ap, sym, subst, arith, length}
 use Rattle.std.proofs.lemmas.Grind.{common_steps}
 use Rattle.mir_base.specs.Shapes.{UnitShape, receives_in}
 use Rattle.flow_graph.specs.Lowered.{CanLower}
@@ -11,8 +11,8 @@ make-requires c =
     let insts = c.insts-insts.result.now in
     let told = c.insts-insts.ensures in
     let can : CanLower insts = subst CanLower (sym told.value) c.requires in
-    let names = c.in_ok-vars.ensures ∙ ap (λ l. c.items.result.now ++ l) c.new.ensures.items ∙ append-nil c.items.result.now ∙ c.items.ensures ∙ ap (λ (u : UnitShape). u.vars) c.unit.view_is in
-    lower_makes c.args.unit.now.vars c.in_ok-vars.vars.items insts c.in_ok-received.received.items c.in_ok-nodes.nodes.items told.tidy told.below can names c.in_ok-received.ensures c.in_ok-nodes.ensures
+    let names = c.in_ok-vars.ensures ∙ c.items.ensures ∙ ap (λ (u : UnitShape). u.vars) c.unit.view_is in
+    lower_makes c.args.unit.now.vars c.in_ok-vars.vars insts c.in_ok-received.received.items c.in_ok-nodes.nodes.items told.tidy told.below can names c.in_ok-received.ensures c.in_ok-nodes.ensures
 
 pub all_nodes-requires-clause-receives : goal.all_nodes-requires-clause-receives
 all_nodes-requires-clause-receives c =

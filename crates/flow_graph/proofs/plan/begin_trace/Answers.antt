@@ -1,4 +1,4 @@
-use Rattle.std.proofs.Common.{◌≡◌, ◌∙◌, arith, sym, length, slice_get, Some, None}
+use Rattle.std.proofs.Common.{◌≡◌, arith, length, slice_get, Some, None}
 use Rattle.std.proofs.lemmas.Grind.{common_steps}
 use Rattle.std.proofs.lemmas.Option.{gets}
 use Rattle.flow_graph.proofs.Scans.{item_within, trace_at, trace_none}

@@ -1,9 +1,8 @@
-use Rattle.std.proofs.Common.{◌≡◌, ◌<◌, ◌∙◌, ◌-◌, ap, sym, subst, refl, arith, length, reverse, cond, Some}
-use Rattle.flow_graph.specs.declared.plan.Item.{Item}
+use Rattle.std.proofs.Common.{◌∙◌, ◌-◌, ap, sym, subst, arith, length, reverse, cond, Some}
 use Rattle.flow_graph.specs.declared.plan.Item.TheVariants.{Placed, Jump}
 use Rattle.flow_graph.specs.Graphs.{IsWithin}
 use Rattle.flow_graph.specs.Plans.{after_node}
-use Rattle.flow_graph.proofs.Scans.{item_within, follower_within, next_is, next_first}
+use Rattle.flow_graph.proofs.Scans.{item_within, follower_within, next_is}
 use Rattle.flow_graph.proofs.plan.next.Goals as goal
 
 pub follower-requires : goal.follower-requires

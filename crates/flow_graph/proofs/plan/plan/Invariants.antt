@@ -1,4 +1,4 @@
-use Rattle.std.proofs.Common.{◌≡◌, reverse, length}
+use Rattle.std.proofs.Common.{reverse, length}
 use Rattle.flow_graph.specs.Plans.{IsPlan}
 use Rattle.flow_graph.specs.Placing.{AreClosed, ArePlaced, ItemsWithin, TellsFirstOpen, plan_weight}
 use Rattle.flow_graph.proofs.plan.plan.Given as goal

@@ -1,8 +1,7 @@
-use Rattle.std.proofs.Common.{◌≡◌, ◌<◌, ◌∙◌, ◌++◌, ◌∷◌, [], ap, sym, subst, refl, arith, length, None, Some}
+use Rattle.std.proofs.Common.{◌≡◌, ◌∙◌, ◌++◌, ◌∷◌, [], ap, subst, refl, arith, None}
 use Rattle.std.proofs.lemmas.Grind.{common_steps}
 use Rattle.std.proofs.lemmas.Option.{slice_get_within}
 use Rattle.flow_graph.specs.Walks.{Walking}
-use Rattle.flow_graph.specs.Kept.{MarkReached}
 use Rattle.flow_graph.proofs.Walks.{walk_begins, walked, popped}
 use Rattle.flow_graph.proofs.reach.reach.Goals as goal
 

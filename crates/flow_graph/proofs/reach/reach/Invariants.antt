@@ -1,4 +1,4 @@
-use Rattle.std.proofs.Common.{◌≡◌, ℕ, None}
+use Rattle.std.proofs.Common.{None}
 use Rattle.flow_graph.specs.Walks.{Walking, weight}
 use Rattle.flow_graph.proofs.reach.reach.Given as goal
 

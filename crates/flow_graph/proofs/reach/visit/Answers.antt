@@ -1,6 +1,5 @@
-use Rattle.std.proofs.Common.{◌≡◌, ◌<◌, ◌≤◌, ◌∙◌, ap, sym, subst, refl, arith, length, Some, slice_get}
+use Rattle.std.proofs.Common.{◌≡◌, ◌∙◌, ap, sym, subst, refl, arith, length}
 use Rattle.std.proofs.lemmas.Option.{slice_get_read}
-use Rattle.flow_graph.specs.Walks.{weight}
 use Rattle.flow_graph.specs.Graphs.{IsWithin}
 use Rattle.flow_graph.proofs.Walks.{visit_walks, first_within, lighter_by, long_after}
 use Rattle.flow_graph.proofs.reach.visit.Goals as goal

@@ -1,4 +1,4 @@
-use Rattle.std.proofs.Common.{◌≡◌, ◌<◌, ◌∙◌, [], ap, sym, arith, refl, length, slice_index_or}
+use Rattle.std.proofs.Common.{[], length, slice_index_or}
 use Rattle.std.proofs.lemmas.Option.{slice_get-get_or}
 use Rattle.flow_graph.proofs.Renames.{below_at, names_more}
 use Rattle.flow_graph.proofs.rename.names.Goals as goal

@@ -1,4 +1,4 @@
-use Rattle.std.proofs.Common.{◌≡◌, ℕ, ◌<◌, IsTrue}
+use Rattle.std.proofs.Common.{ℕ, ◌<◌, IsTrue}
 use Rattle.flow_graph.specs.Edges.{enters_well as enters}
 use Rattle.flow_graph.proofs.split.all_enter_well.Given as goal
 

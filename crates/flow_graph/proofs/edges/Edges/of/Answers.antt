@@ -1,4 +1,4 @@
-use Rattle.std.proofs.Common.{◌≡◌, ◌∙◌, sym, subst, length}
+use Rattle.std.proofs.Common.{◌∙◌, sym, subst, length}
 use Rattle.flow_graph.specs.Edges.{AllEnter}
 use Rattle.flow_graph.proofs.EdgeOrder.{all_enter}
 use Rattle.flow_graph.proofs.edges.Edges.of.Goals as goal

@@ -1,4 +1,4 @@
-use Rattle.std.proofs.Common.{◌≡◌, ◌≤◌, ◌∙◌, ℕ, ap, arith, map, length, suc, slice_range}
+use Rattle.std.proofs.Common.{◌∙◌, ap, arith, map, length, slice_range}
 use Rattle.flow_graph.specs.Edges.{by_target, source_of}
 use Rattle.flow_graph.proofs.EdgeOrder.{row_of, row_within, sources_by_target}
 use Rattle.flow_graph.proofs.edges.Edges.preds.Goals as goal

@@ -1,4 +1,4 @@
-use Rattle.std.proofs.Common.{◌≡◌, ◌∙◌, [], sym, subst, refl, length}
+use Rattle.std.proofs.Common.{◌∙◌, [], sym, subst, refl, length}
 use Rattle.std.proofs.lemmas.Option.{slice_get_read}
 use Rattle.mir_base.specs.Shapes.{AllBelow, inst_vars}
 use Rattle.flow_graph.proofs.Renames.{seen_more}

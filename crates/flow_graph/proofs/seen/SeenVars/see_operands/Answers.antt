@@ -1,4 +1,4 @@
-use Rattle.std.proofs.Common.{◌≡◌, ◌∙◌, sym, subst, slice_index_or}
+use Rattle.std.proofs.Common.{◌∙◌, sym, subst, slice_index_or}
 use Rattle.std.proofs.lemmas.Option.{slice_get-get_or}
 use Rattle.mir_base.specs.declared.instructions.Operand.TheVariants.{Var}
 use Rattle.mir_base.specs.Shapes.{AllBelow, operand_vars}

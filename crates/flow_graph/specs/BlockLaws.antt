@@ -1,0 +1,189 @@
+-- Laws of blocks: what the calls look at says which nodes are glued, and a node of a chain that is not its first is glued to
+-- the one before.
+use Rattle.std.proofs.Common.{◌≡◌, ◌≢◌, ℕ, zero, suc, ◌<◌, ◌⊎◌, inl, inr, true, false, not, is_some, cond, List, [], ◌∷◌, ◌++◌, length, slice_get, Option, Some, None, refl, sym, ap, subst, arith, ◌∙◌}
+use Rattle.std.proofs.lemmas.Bool.{cases_lt}
+use Rattle.flow_graph.specs.declared.nodes.Node.{Node}
+use Rattle.flow_graph.specs.Edges.{preds_of}
+use Rattle.flow_graph.specs.EdgeLaws.{pred_has, pred_is}
+use Rattle.flow_graph.specs.Graphs.{IsEdge, succs_at}
+use Rattle.flow_graph.specs.Paths.{Begins, Ends, HasEdge}
+use Rattle.flow_graph.specs.Blocks.{IsBlocks, IsChain, IsFirst, IsGlued, IsLast, Stands, first_from, is_first, next_from, next_of, only}
+
+-- ---- the only item of a list
+
+pub only_is : (xs : List ℕ) (x : ℕ) → only xs ≡ Some x → xs ≡ x ∷ []
+only_is [] x e = cc
+only_is (y ∷ []) x e = cc
+only_is (y ∷ z ∷ xs) x e = cc
+
+pub only_one : (xs : List ℕ) → length xs ≡ 1 → (x : ℕ) × (xs ≡ x ∷ [])
+only_one [] e = absurd (omega (arith, e))
+only_one (x ∷ []) e = (x, refl)
+only_one (x ∷ y ∷ xs) e = absurd (omega (arith, e))
+
+pub only_none : (xs : List ℕ) → length xs ≢ 1 → only xs ≡ None
+only_none [] d = refl
+only_none (x ∷ []) d = absurd (d refl)
+only_none (x ∷ y ∷ xs) d = refl
+
+-- the only node that an edge leads to, or comes from
+only_succ : (xs : List ℕ) (slot n s : ℕ) → xs ≡ n ∷ [] → slice_get xs slot ≡ Some s → s ≡ n
+only_succ xs slot n s is e = at slot (sym (ap (λ l. slice_get l slot) is) ∙ e)
+  where
+    at : (slot : ℕ) → slice_get (n ∷ []) slot ≡ Some s → s ≡ n
+    at zero h = cc
+    at (suc slot) h = cc
+
+pub only_to : (nodes : List Node) (m n s : ℕ) → succs_at nodes m ≡ n ∷ [] → HasEdge nodes m s → s ≡ n
+only_to nodes m n s is edge = only_succ (succs_at nodes m) edge.0 n s is edge.1
+
+pub only_from : (nodes : List Node) (m n k : ℕ) → preds_of nodes n ≡ m ∷ [] → HasEdge nodes k n → k ≡ m
+only_from nodes m n k is edge = let at = pred_has nodes k n edge in only_succ (preds_of nodes n) at.0 m k is at.1
+
+pub glued_edge : (nodes : List Node) (m n : ℕ) → IsGlued nodes m n → HasEdge nodes m n
+glued_edge nodes m n glued = (0, ap (λ l. slice_get l 0) glued.leaves)
+
+-- ---- the node after
+
+next_glues : (nodes : List Node) (m n : ℕ) (succs preds : Option ℕ) → only (succs_at nodes m) ≡ succs → next_from nodes succs ≡ Some n → IsGlued nodes m n
+next_glues nodes m n None preds s e = cc
+next_glues nodes m n (Some k) preds s e = found (only (preds_of nodes k)) refl e
+  where
+    leaves : succs_at nodes m ≡ k ∷ []
+    leaves = only_is (succs_at nodes m) k s
+
+    found : (o : Option ℕ) → only (preds_of nodes k) ≡ o → cond (is_some o) (Some k) None ≡ Some n → IsGlued nodes m n
+    found None p h = cc
+    found (Some j) p h =
+        let same : k ≡ n = cc in
+        let enters = only_is (preds_of nodes k) j p in
+        let from : m ≡ j = only_from nodes j k m enters (0, ap (λ l. slice_get l 0) leaves) in
+        subst (IsGlued nodes m) same (record { leaves = leaves; enters = enters ∙ ap (λ i. i ∷ []) (sym from) })
+
+pub next_glued : (nodes : List Node) (m n : ℕ) → next_of nodes m ≡ Some n → IsGlued nodes m n
+next_glued nodes m n e = next_glues nodes m n (only (succs_at nodes m)) None refl e
+
+pub glued_next : (nodes : List Node) (m n : ℕ) → IsGlued nodes m n → next_of nodes m ≡ Some n
+glued_next nodes m n glued = ap (λ l. next_from nodes (only l)) glued.leaves ∙ ap (λ l. cond (is_some (only l)) (Some n) None) glued.enters
+
+pub next_none : (nodes : List Node) (m : ℕ) → next_of nodes m ≡ None → IsLast nodes m
+next_none nodes m none n glued = let bad = sym none ∙ glued_next nodes m n glued in cc
+
+-- ---- the node before
+
+first_glues : (nodes : List Node) (n : ℕ) (preds : Option ℕ) → only (preds_of nodes n) ≡ preds → first_from nodes preds ≡ false → (m : ℕ) × IsGlued nodes m n
+first_glues nodes n None p e = cc
+first_glues nodes n (Some m) p e = found (only (succs_at nodes m)) refl e
+  where
+    enters : preds_of nodes n ≡ m ∷ []
+    enters = only_is (preds_of nodes n) m p
+
+    found : (o : Option ℕ) → only (succs_at nodes m) ≡ o → not (is_some o) ≡ false → (m : ℕ) × IsGlued nodes m n
+    found None s h = cc
+    found (Some k) s h =
+        let leaves = only_is (succs_at nodes m) k s in
+        let to : n ≡ k = only_to nodes m k n leaves (pred_is nodes n 0 m (ap (λ l. slice_get l 0) enters)) in
+        (m, record { leaves = leaves ∙ ap (λ i. i ∷ []) (sym to); enters = enters })
+
+pub not_first : (nodes : List Node) (n : ℕ) → is_first nodes n ≡ false → (m : ℕ) × IsGlued nodes m n
+not_first nodes n e = first_glues nodes n (only (preds_of nodes n)) refl e
+
+pub glued_not_first : (nodes : List Node) (m n : ℕ) → IsGlued nodes m n → is_first nodes n ≡ false
+glued_not_first nodes m n glued = ap (λ l. first_from nodes (only l)) glued.enters ∙ ap (λ l. not (is_some (only l))) glued.leaves
+
+pub first_is : (nodes : List Node) (n : ℕ) → is_first nodes n ≡ true → IsFirst nodes n
+first_is nodes n first m glued = let bad = sym first ∙ glued_not_first nodes m n glued in cc
+
+-- ---- chains
+
+-- one more node at the end
+pub chain_more : (nodes : List Node) (chain : List ℕ) (m n : ℕ) → n < length nodes → IsChain nodes chain → Ends m chain → IsGlued nodes m n → IsChain nodes (chain ++ n ∷ [])
+chain_more nodes [] m n h is ends glued = absurd is
+chain_more nodes (k ∷ []) m n h is ends glued = (subst (λ j. IsGlued nodes j n) (sym ends) glued, h)
+chain_more nodes (j ∷ k ∷ chain) m n h is ends glued = (is.0, chain_more nodes (k ∷ chain) m n h is.1 ends glued)
+
+pub begins_more : (chain : List ℕ) (head n : ℕ) → Begins head chain → Begins head (chain ++ n ∷ [])
+begins_more [] head n b = absurd b
+begins_more (k ∷ chain) head n b = b
+
+pub ends_more : (chain : List ℕ) (m n : ℕ) → Ends m chain → Ends n (chain ++ n ∷ [])
+ends_more [] m n e = absurd e
+ends_more (k ∷ []) m n e = refl
+ends_more (j ∷ k ∷ chain) m n e = ends_more (k ∷ chain) m n e
+
+-- a node after the first is glued to the one before
+pub chain_inner : (nodes : List Node) (chain : List ℕ) (i n : ℕ) → IsChain nodes chain → slice_get chain (suc i) ≡ Some n → (m : ℕ) × (slice_get chain i ≡ Some m) × IsGlued nodes m n
+chain_inner nodes [] i n is e = absurd is
+chain_inner nodes (k ∷ []) i n is e = cc
+chain_inner nodes (k ∷ l ∷ chain) zero n is e = let same : l ≡ n = cc in (k, refl, subst (IsGlued nodes k) same is.0)
+chain_inner nodes (k ∷ l ∷ chain) (suc i) n is e = chain_inner nodes (l ∷ chain) i n is.1 e
+
+-- so the first is the only one that nothing is glued to
+pub chain_first : (nodes : List Node) (chain : List ℕ) (i head n : ℕ) → IsChain nodes chain → Begins head chain → slice_get chain i ≡ Some n → IsFirst nodes n → n ≡ head
+chain_first nodes [] i head n is b e first = absurd is
+chain_first nodes (k ∷ chain) zero head n is b e first = let same : k ≡ n = cc in sym same ∙ b
+chain_first nodes (k ∷ chain) (suc i) head n is b e first = let before = chain_inner nodes (k ∷ chain) i n is e in absurd (first before.0 before.2)
+
+-- a node that is not the last is followed in the chain
+pub chain_on : (nodes : List Node) (chain : List ℕ) (i m : ℕ) → IsChain nodes chain → slice_get chain i ≡ Some m → Ends m chain ⊎ ((n : ℕ) × (slice_get chain (suc i) ≡ Some n) × IsGlued nodes m n)
+chain_on nodes [] i m is e = absurd is
+chain_on nodes (k ∷ []) zero m is e = inl (cc)
+chain_on nodes (k ∷ []) (suc i) m is e = cc
+chain_on nodes (k ∷ l ∷ chain) zero m is e = let same : k ≡ m = cc in inr (l, refl, subst (λ j. IsGlued nodes j l) same is.0)
+chain_on nodes (k ∷ l ∷ chain) (suc i) m is e = chain_on nodes (l ∷ chain) i m is.1 e
+
+pub chain_within : (nodes : List Node) (chain : List ℕ) (i n : ℕ) → ((m k : ℕ) → HasEdge nodes m k → m < length nodes) → IsChain nodes chain → slice_get chain i ≡ Some n → n < length nodes
+chain_within nodes [] i n within is e = absurd is
+chain_within nodes (k ∷ []) zero n within is e = let same : k ≡ n = cc in subst (λ j. j < length nodes) same is
+chain_within nodes (k ∷ []) (suc i) n within is e = cc
+chain_within nodes (k ∷ l ∷ chain) zero n within is e = let same : k ≡ n = cc in subst (λ j. j < length nodes) same (within k l (glued_edge nodes k l is.0))
+chain_within nodes (k ∷ l ∷ chain) (suc i) n within is e = chain_within nodes (l ∷ chain) i n within is.1 e
+
+-- what has a successor is a node
+succ_within : (nodes : List Node) (m slot s : ℕ) → IsEdge nodes m slot s → m < length nodes
+succ_within [] m slot s e = cc
+succ_within (node ∷ nodes) zero slot s e = omega arith
+succ_within (node ∷ nodes) (suc m) slot s e = omega (arith, succ_within nodes m slot s e)
+
+pub edge_within : (nodes : List Node) (m s : ℕ) → HasEdge nodes m s → m < length nodes
+edge_within nodes m s edge = succ_within nodes m edge.0 s edge.1
+
+-- ---- each node stands in one block
+
+pub begin_of : (nodes : List Node) (chain : List ℕ) → IsChain nodes chain → (h : ℕ) × Begins h chain × (slice_get chain 0 ≡ Some h)
+begin_of nodes [] is = absurd is
+begin_of nodes (k ∷ chain) is = (k, refl, refl)
+
+-- two chains that cannot be made longer at the front, and share a node, begin alike
+same_begin : (nodes : List Node) (xs ys : List ℕ) (i j h g n : ℕ) → IsChain nodes xs → IsChain nodes ys → Begins h xs → Begins g ys → IsFirst nodes h → IsFirst nodes g → slice_get xs i ≡ Some n → slice_get ys j ≡ Some n → h ≡ g
+same_begin nodes [] ys i j h g n is is' b b' first first' e e' = absurd is
+same_begin nodes (k ∷ xs) ys zero j h g n is is' b b' first first' e e' =
+    let at : k ≡ n = cc in
+    let same : h ≡ n = sym b ∙ at in
+    same ∙ chain_first nodes ys j g n is' b' e' (subst (IsFirst nodes) same first)
+same_begin nodes xs [] (suc i) j h g n is is' b b' first first' e e' = absurd is'
+same_begin nodes xs (k ∷ ys) (suc i) zero h g n is is' b b' first first' e e' =
+    let at : k ≡ n = cc in
+    let before = chain_inner nodes xs i n is e in
+    absurd (first' before.0 (subst (IsGlued nodes before.0) (sym at ∙ b') before.2))
+same_begin nodes xs ys (suc i) (suc j) h g n is is' b b' first first' e e' =
+    let before = chain_inner nodes xs i n is e in
+    let before' = chain_inner nodes ys j n is' e' in
+    let both : before.0 ∷ [] ≡ before'.0 ∷ [] = sym before.2.enters ∙ before'.2.enters in
+    let same : before'.0 ≡ before.0 = cc in
+    same_begin nodes xs ys i j h g before.0 is is' b b' first first' before.1 (before'.1 ∙ ap Some same)
+
+pub one_block : (nodes : List Node) (lists : List (List ℕ)) (b c n : ℕ) → IsBlocks nodes lists → Stands lists b n → Stands lists c n → b ≡ c
+one_block nodes lists b c n are s t =
+    let x = are.blocks b s.list s.listed in
+    let y = are.blocks c t.list t.listed in
+    let h = begin_of nodes s.list x.chain in
+    let g = begin_of nodes t.list y.chain in
+    let same = same_begin nodes s.list t.list s.place t.place h.0 g.0 n x.chain y.chain h.1 g.1 (x.first h.0 h.1) (y.first g.0 g.1) s.is t.is in
+    elim (cases_lt b c) [
+      | inl lt ↦ absurd (omega (arith, same, are.ascend b c h.0 g.0 s.list t.list lt s.listed t.listed h.1 g.1))
+      | inr ge ↦ elim (cases_lt c b) [
+        | inl gt ↦ absurd (omega (arith, same, are.ascend c b g.0 h.0 t.list s.list gt t.listed s.listed g.1 h.1))
+        | inr le ↦ omega (arith, ge, le)
+      ]
+    ]

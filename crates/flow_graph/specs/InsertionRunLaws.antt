@@ -1,0 +1,457 @@
+-- Laws: a rewriting that preserves a relation of values keeps what the graph does; it counts no more where it counts no more
+-- on each full path; and where a run of the graph goes along a path, that of the result goes along the path over it.
+use Rattle.std.proofs.Common.{◌≡◌, ℕ, zero, suc, ◌+◌, ◌<◌, ◌≤◌, Bool, true, false, not, ◌&&◌, cond, eqb, List, [], ◌∷◌, ◌++◌, reverse, length, slice_get, ℤ, Option, Some, None, option_map, ◌⊎◌, inl, inr, refl, sym, ap, ◌∙◌, subst, arith, le_refl, append_assoc}
+use Rattle.std.proofs.lemmas.List.{reverse-append}
+use Rattle.std.proofs.lemmas.Bool.{cases_Bool, cases_lt, true≢false, false≢true}
+use Rattle.mir_base.specs.declared.instructions.Operand.{Operand}
+use Rattle.mir_base.specs.declared.instructions.Rhs.{Rhs}
+use Rattle.mir_base.specs.declared.instructions.Test.{Test as MirTest}
+use Rattle.mir_base.specs.declared.operators.Trap.TheVariants.{ZeroDivisor}
+use Rattle.mir_base.specs.Frames.{Values, with_value, all_zero, Entry, Answer, Frame, first_frame, resumed, Transition, Continues, Prints, Calls, Returns, Traps, Code}
+use Rattle.mir_base.specs.Units.{test_holds, at, assigned, assign_transition}
+use Rattle.mir_base.specs.Expressions.{rhs_traps, rhs_value, rhs_count}
+use Rattle.mir_base.specs.ExpressionLaws.{assign_is}
+use Rattle.mir_base.specs.UnitRuns.{UnitSame, UnitCheaper}
+use Rattle.mir_base.specs.Simulations.{Silently, Responds, Simulates}
+use Rattle.mir_base.specs.ResponseLaws.{responds_past}
+use Rattle.mir_base.specs.SimulationLaws.{simulated_same, simulated_cheaper}
+use Rattle.flow_graph.specs.declared.nodes.Node.{Node}
+use Rattle.flow_graph.specs.declared.nodes.Node.TheVariants.{Start, Skip, Assign, Print, Call, Test, Return}
+use Rattle.flow_graph.specs.Along.{StepsAlong, GoesAlong, RunsAlong}
+use Rattle.mir_base.specs.EqualValues.{operand_equal, operands_equal, rhs_equal, traps_equal, test_equal}
+use Rattle.flow_graph.specs.Graphs.{GraphShape, IsGraph, node_succs, succs_of, assigns}
+use Rattle.flow_graph.specs.Kept.{redirected}
+use Rattle.flow_graph.specs.Machines.{received_from, node_transition, graph_code, graph_machine}
+use Rattle.flow_graph.specs.Paths.{HasEdge, Begins, Ends, Trace, from_start, goes_on, is_return, IsReturnAt, IsFullPath}
+use Rattle.flow_graph.specs.PathLaws.{trace_path}
+use Rattle.flow_graph.specs.Sums.{sum_on, sum_append, sum_reverse}
+use Rattle.flow_graph.specs.Insertions.{Insertion, Change, Kept, Replaced, Removed, Rewriting, changed_assign, changed, put_below, entry_among, entry, rewritten_nodes, CanRewrite}
+use Rattle.flow_graph.specs.InsertionNodes.{some_at, old_get}
+use Rattle.flow_graph.specs.InsertionGraphs.{start_entry}
+use Rattle.flow_graph.specs.InsertionPaths.{IsChain, chain_is}
+use Rattle.flow_graph.specs.Over.{weigh, weigh_all, weight_at, new_weight_at, through, over_path}
+use Rattle.flow_graph.specs.InsertionRuns.{after, are_calm, ValueRelation, BothAssign, TrapsAfter, Preserves, counts, CountsNoMore}
+
+-- ---- a run along a chain
+
+-- the frame after the new assignments before node n
+abbrev landed : ℕ → List Insertion → Frame → Frame
+landed n puts f = record { place = n; arguments = f.arguments; values = after puts f.values }
+
+both_true : (b c : Bool) → b && c ≡ true → (b ≡ true) × (c ≡ true)
+both_true true c e = (refl, e)
+both_true false c e = absurd (false≢true e)
+
+not_true : (b : Bool) → not b ≡ true → b ≡ false
+not_true true e = absurd (false≢true e)
+not_true false e = refl
+
+module _ (received : List ℕ) (nodes : List Node) where
+  abbrev code_of : Code
+  code_of = graph_code received nodes
+
+  -- a new assignment that does not trap
+  one_calm : (a x next : ℕ) (rhs : Rhs) (f : Frame) → slice_get nodes a ≡ Some (Assign x rhs next) → rhs_traps f.values rhs ≡ false → code_of (at a f) ≡ Continues (rhs_count rhs) (at next (record f { values = with_value x (rhs_value f.values rhs) f.values }))
+  one_calm a x next rhs f is calm =
+      ap (λ o. node_transition received o (at a f)) is
+      ∙ assign_is x rhs next (at a f)
+      ∙ ap (λ b. cond b (Traps ZeroDivisor 1) (Continues (rhs_count rhs) (assigned x (rhs_value f.values rhs) next f))) calm
+
+  one_trap : (a x next : ℕ) (rhs : Rhs) (f : Frame) → slice_get nodes a ≡ Some (Assign x rhs next) → rhs_traps f.values rhs ≡ true → code_of (at a f) ≡ Traps ZeroDivisor 1
+  one_trap a x next rhs f is trap =
+      ap (λ o. node_transition received o (at a f)) is
+      ∙ assign_is x rhs next (at a f)
+      ∙ ap (λ b. cond b (Traps ZeroDivisor 1) (Continues (rhs_count rhs) (assigned x (rhs_value f.values rhs) next f))) trap
+
+  chain_silent : (n k : ℕ) (puts : List Insertion) → IsChain nodes n k puts → (f : Frame) → are_calm puts f.values ≡ true → Silently code_of (length puts) (at (entry_among n k puts) f) (landed n puts f) (weigh_all counts puts)
+  chain_silent n k [] c f calm = (refl, refl)
+  chain_silent n k (put ∷ puts) c f calm =
+      let g = record f { values = with_value put.var (rhs_value f.values put.rhs) f.values } in
+      let both = both_true _ _ calm in
+      (at (entry_among n (suc k) puts) g, rhs_count put.rhs, weigh_all counts puts, one_calm k put.var (entry_among n (suc k) puts) put.rhs f c.0 (not_true _ both.0), chain_silent n (suc k) puts c.1 g both.1, refl)
+
+  chain_traps : (n k : ℕ) (puts : List Insertion) → IsChain nodes n k puts → (f : Frame) → are_calm puts f.values ≡ false → (steps : ℕ) × TrapsAfter code_of steps (at (entry_among n k puts) f)
+  chain_traps n k [] c f trap = absurd (true≢false trap)
+  chain_traps n k (put ∷ puts) c f trap = elim (cases_Bool (rhs_traps f.values put.rhs)) [
+    | inl now ↦ (0, record { there = at k f; cost = 0; silent = (refl, refl); counted = 1; is = one_trap k put.var (entry_among n (suc k) puts) put.rhs f c.0 now })
+    | inr calm ↦
+        let g = record f { values = with_value put.var (rhs_value f.values put.rhs) f.values } in
+        let later = chain_traps n (suc k) puts c.1 g (sym (ap (λ b. not b && are_calm puts g.values) calm) ∙ trap) in (
+          suc later.0,
+          record {
+            there = later.1.there;
+            cost = rhs_count put.rhs + later.1.cost;
+            silent = (at (entry_among n (suc k) puts) g, rhs_count put.rhs, later.1.cost, one_calm k put.var (entry_among n (suc k) puts) put.rhs f c.0 calm, later.1.silent, refl);
+            counted = later.1.counted;
+            is = later.1.is;
+          },
+        )
+  ]
+
+-- ---- assignments
+
+with_other : (x y : ℕ) (c : ℤ) (v : Values) (b : Bool) → b ≡ false → cond b c (v y) ≡ v y
+with_other x y c v b e = ap (λ q. cond q c (v y)) e
+
+module _ (r : Rewriting) (extra : List (List ℕ)) (graph : GraphShape) (Holds : ValueRelation) (fits : CanRewrite r extra graph) (is_graph : IsGraph graph.vars graph.received graph.nodes) (preserves : Preserves graph r Holds) where
+  abbrev nodes : List Node
+  nodes = graph.nodes
+
+  abbrev raw : List Node
+  raw = rewritten_nodes r graph.nodes
+
+  abbrev code : Code
+  code = graph_code graph.received graph.nodes
+
+  abbrev code' : Code
+  code' = graph_code graph.received (rewritten_nodes r graph.nodes)
+
+  abbrev to : ℕ → ℕ
+  to = entry r.inserts (length graph.nodes)
+
+  abbrev first_new : ℕ → ℕ
+  first_new n = length graph.nodes + put_below r.inserts n
+
+  -- what a node counts, before and after
+  abbrev cost : ℕ → ℕ
+  cost = weight_at counts graph.nodes
+
+  abbrev paid : ℕ → ℕ
+  paid = new_weight_at counts r graph.nodes
+
+  -- the second frame stands before what is put before the node at which the first stands, and none of it traps
+  record NearAt (before : List ℕ) (x y : ℕ) (f g : Frame) : Type 0 where
+    trace : Trace graph.nodes f.place before
+    place : g.place ≡ to f.place
+    arguments : g.arguments ≡ f.arguments
+    holds : (f.place ≡ 0) ⊎ Holds f.place before f.values g.values
+    calm : are_calm (r.inserts f.place) g.values ≡ true
+    counted : x ≡ sum_on cost before
+    counted' : y ≡ sum_on paid before
+
+  -- both sides will trap, the first after so many steps
+  record BothTrap (z : ℕ) (f g : Frame) : Type 0 where
+    first : TrapsAfter code z f
+    steps : ℕ
+    second : TrapsAfter code' steps g
+
+  abbrev Next : List ℕ → ℕ → ℕ → Frame → Frame → Type 0
+  Next path x y f g = NearAt path x y f g ⊎ ((z : ℕ) × BothTrap z f g)
+
+  -- the transitions of the first, and of the second after what is put before the node
+  abbrev Follows : List ℕ → ℕ → ℕ → Transition → Transition → Type 0
+  Follows path x y (Continues n next) t = (m : ℕ) × (next' : Frame) × (t ≡ Continues m next') × Next path (x + n) (y + m) next next'
+  Follows path x y (Prints v next) t = (next' : Frame) × (t ≡ Prints v next') × Next path x y next next'
+  Follows path x y (Calls unit entry into next) t = (next' : Frame) × (t ≡ Calls unit entry into next') × ((answer : Answer) → Next path x y (resumed into answer next) (resumed into answer next'))
+  Follows path x y (Returns answer) t = (t ≡ Returns answer) × (CountsNoMore r graph.nodes → y ≤ x)
+  Follows path x y (Traps kind n) t = (m : ℕ) × (t ≡ Traps kind m)
+
+  -- ---- places
+
+  trace_within : (n : ℕ) (before : List ℕ) → Trace nodes n before → n < length nodes
+  trace_within n before from_start = some nodes (Start is_graph.can.start.0) is_graph.can.start.1
+    where
+      some : (xs : List Node) (x : Node) → slice_get xs 0 ≡ Some x → 0 < length xs
+      some [] x e = cc
+      some (y ∷ xs) x e = omega arith
+  trace_within n before (goes_on m k earlier trace edge) = (is_graph.can.succs m edge.0 n edge.1).1
+
+  start_trace : (n : ℕ) (before : List ℕ) → n ≡ 0 → Trace nodes n before → before ≡ []
+  start_trace n before e from_start = refl
+  start_trace n before e (goes_on m k earlier trace edge) = absurd (omega (arith, e, (is_graph.can.succs m edge.0 n edge.1).0))
+
+  -- ---- to a successor
+
+  -- where the values are related before the successor, the two are near each other, or both will trap
+  settle : (n s : ℕ) (before : List ℕ) (x y : ℕ) (arguments : List ℤ) (v w : Values) → Trace nodes n before → HasEdge nodes n s → Holds s (n ∷ before) v w → x ≡ sum_on cost (n ∷ before) → y ≡ sum_on paid (n ∷ before)
+      → Next (n ∷ before) x y (record { place = s; arguments = arguments; values = v }) (record { place = to s; arguments = arguments; values = w })
+  settle n s before x y arguments v w trace edge holds is_x is_y = elim (cases_Bool (are_calm (r.inserts s) w)) [
+    | inl calm ↦ inl (record { trace = goes_on n s before trace edge; place = refl; arguments = refl; holds = inr holds; calm = calm; counted = is_x; counted' = is_y })
+    | inr trap ↦
+        let first = preserves.traps s (n ∷ before) arguments v w (goes_on n s before trace edge) holds trap in
+        let g : Frame = record { place = to s; arguments = arguments; values = w } in
+        let second = chain_traps graph.received raw s (first_new s) (r.inserts s) (chain_is r nodes s (is_graph.can.succs n edge.0 s edge.1).1) g trap in
+        inr (first.0, record { first = first.1; steps = second.0; second = second.1 })
+  ]
+
+  -- at a node: the first side with values v, the second after what is put before it
+  module _ (n : ℕ) (before : List ℕ) (x y : ℕ) (arguments : List ℤ) (v w : Values) (trace : Trace graph.nodes n before) (calm : are_calm (r.inserts n) w ≡ true) (counted : x ≡ sum_on cost before) (counted' : y ≡ sum_on paid before) where
+    abbrev w' : Values
+    w' = after (r.inserts n) w
+
+    abbrev y' : ℕ
+    y' = y + weigh_all counts (r.inserts n)
+
+    abbrev f : Frame
+    f = record { place = n; arguments = arguments; values = v }
+
+    abbrev h : Frame
+    h = record { place = n; arguments = arguments; values = after (r.inserts n) w }
+
+    onward : (node : Node) → slice_get nodes n ≡ Some node → (s slot x1 y1 : ℕ) (v1 w1 : Values) → slice_get (node_succs node) slot ≡ Some s → x1 ≡ x + weigh counts (Some node) → y1 ≡ y' + weigh counts (Some (changed (r.changes n) node)) → Holds s (n ∷ before) v1 w1
+        → Next (n ∷ before) x1 y1 (record { place = s; arguments = arguments; values = v1 }) (record { place = to s; arguments = arguments; values = w1 })
+    onward node is s slot x1 y1 v1 w1 leads is_x is_y holds =
+        let cost_is : cost n ≡ weigh counts (Some node) = ap (weigh counts) is in
+        let paid_is : paid n ≡ weigh_all counts (r.inserts n) + weigh counts (Some (changed (r.changes n) node)) = ap (λ o. weigh_all counts (r.inserts n) + weigh counts (option_map (changed (r.changes n)) o)) is in
+        settle n s before x1 y1 arguments v1 w1 trace (slot, ap (λ o. slice_get (succs_of o) slot) is ∙ leads) holds (omega (arith, counted, is_x, cost_is)) (omega (arith, counted', is_y, paid_is))
+
+    trapping : (c d : ℕ) (next next' : Frame) (b : Bool) → (b ≡ false → Next (n ∷ before) (x + c) (y' + d) next next') → Follows (n ∷ before) x y' (cond b (Traps ZeroDivisor 1) (Continues c next)) (cond b (Traps ZeroDivisor 1) (Continues d next'))
+    trapping c d next next' true near = (1, refl)
+    trapping c d next next' false near = (d, next', refl, near refl)
+
+    -- an assignment on both sides
+    both_assign : (z : ℕ) (rhs other : Rhs) (s : ℕ) → rhs_traps v rhs ≡ rhs_traps w' other → (rhs_traps v rhs ≡ false → Next (n ∷ before) (x + rhs_count rhs) (y' + rhs_count other) (assigned z (rhs_value v rhs) s f) (assigned z (rhs_value w' other) (to s) h))
+        → Follows (n ∷ before) x y' (assign_transition z rhs s f) (assign_transition z other (to s) h)
+    both_assign z rhs other s alike near =
+        let next = assigned z (rhs_value v rhs) s f in
+        let next' = assigned z (rhs_value w' other) (to s) h in
+        subst (λ t. Follows (n ∷ before) x y' t (assign_transition z other (to s) h)) (sym (assign_is z rhs s f))
+        (subst (Follows (n ∷ before) x y' (cond (rhs_traps v rhs) (Traps ZeroDivisor 1) (Continues (rhs_count rhs) next))) (sym (assign_is z other (to s) h ∙ ap (λ b. cond b (Traps ZeroDivisor 1) (Continues (rhs_count other) next')) (sym alike))) (trapping (rhs_count rhs) (rhs_count other) next next' (rhs_traps v rhs) near))
+
+    module _ (holds : Holds n before v w) where
+      -- a node that is not changed, with the values after it
+      kept_next : (node : Node) → slice_get nodes n ≡ Some node → r.changes n ≡ Kept → (s slot x1 y1 : ℕ) (v1 w1 : Values) → slice_get (node_succs node) slot ≡ Some s → x1 ≡ x + weigh counts (Some node) → y1 ≡ y' + weigh counts (Some (changed Kept node)) → BothAssign (λ z. assigns graph z node) v (after (r.inserts n) w) v1 w1
+          → Next (n ∷ before) x1 y1 (record { place = s; arguments = arguments; values = v1 }) (record { place = to s; arguments = arguments; values = w1 })
+      kept_next node is kept s slot x1 y1 v1 w1 leads is_x is_y both =
+          let edge : HasEdge nodes n s = (slot, ap (λ o. slice_get (succs_of o) slot) is ∙ leads) in
+          onward node is s slot x1 y1 v1 w1 leads is_x (is_y ∙ ap (λ c. y' + weigh counts (Some (changed c node))) (sym kept)) (preserves.keeps n s node before v w v1 w1 trace is edge kept holds calm both)
+
+      none_assigned : (node : Node) → ((z : ℕ) → assigns graph z node ≡ false) → BothAssign (λ z. assigns graph z node) v w' v w'
+      none_assigned node none = record { same = λ z e. absurd (true≢false (sym e ∙ none z)); first_keeps = λ z e. refl; second_keeps = λ z e. refl }
+
+      one_assigned : (z : ℕ) (c d : ℤ) (node : Node) → c ≡ d → ((q : ℕ) → assigns graph q node ≡ eqb q z) → BothAssign (λ q. assigns graph q node) v w' (with_value z c v) (with_value z d w')
+      one_assigned z c d node same are = record {
+        same = λ q e. (let is : eqb q z ≡ true = sym (are q) ∙ e in ap (λ b. cond b c (v q)) is ∙ same ∙ sym (ap (λ b. cond b d (w' q)) is));
+        first_keeps = λ q e. with_other z q c v (eqb q z) (sym (are q) ∙ e);
+        second_keeps = λ q e. with_other z q d w' (eqb q z) (sym (are q) ∙ e);
+      }
+
+      follows_assign : (z : ℕ) (rhs : Rhs) (s : ℕ) → slice_get nodes n ≡ Some (Assign z rhs s) → (change : Change) → r.changes n ≡ change → Follows (n ∷ before) x y' (assign_transition z rhs s f) (node_transition graph.received (Some (redirected to (changed_assign change z rhs s))) h)
+      follows_assign z rhs s is Kept kept =
+          let equal = preserves.reads n (Assign z rhs s) before v w trace is kept holds calm in
+          both_assign z rhs rhs s (sym (traps_equal w' v rhs equal)) (λ no_trap. kept_next (Assign z rhs s) is kept s 0 (x + rhs_count rhs) (y' + rhs_count rhs) _ _ refl refl refl (one_assigned z (rhs_value v rhs) (rhs_value w' rhs) (Assign z rhs s) (sym (rhs_equal w' v rhs equal)) (λ q. refl)))
+      follows_assign z rhs s is (Replaced other) change =
+          let p = preserves.replaces n s z rhs other before v w trace is change holds calm in
+          both_assign z rhs other s p.0 (λ no_trap. onward (Assign z rhs s) is s 0 (x + rhs_count rhs) (y' + rhs_count other) _ _ refl refl (ap (λ c. y' + weigh counts (Some (changed_assign c z rhs s))) (sym change)) (p.1 no_trap))
+      follows_assign z rhs s is Removed change =
+          let p = preserves.removes n s z rhs before v w trace is change holds calm in
+          let next = assigned z (rhs_value v rhs) s f in
+          subst (λ t. Follows (n ∷ before) x y' t (Continues 0 (at (to s) h))) (sym (assign_is z rhs s f ∙ ap (λ b. cond b (Traps ZeroDivisor 1) (Continues (rhs_count rhs) next)) p.0))
+          (0, at (to s) h, refl, onward (Assign z rhs s) is s 0 (x + rhs_count rhs) (y' + 0) _ _ refl refl (ap (λ c. y' + weigh counts (Some (changed_assign c z rhs s))) (sym change)) p.1)
+
+      follows_call : (into : Option ℕ) (unit : ℕ) (operands : List Operand) (s : ℕ) → slice_get nodes n ≡ Some (Call into unit operands s) → r.changes n ≡ Kept → (answer : Answer) → Next (n ∷ before) x y' (resumed into answer (at s f)) (resumed into answer (at (to s) h))
+      follows_call None unit operands s is kept answer = kept_next (Call None unit operands s) is kept s 0 x y' v w' refl (omega arith) (omega arith) (none_assigned (Call None unit operands s) (λ z. refl))
+      follows_call (Some z) unit operands s is kept answer = kept_next (Call (Some z) unit operands s) is kept s 0 x y' (with_value z answer.value v) (with_value z answer.value w') refl (omega arith) (omega arith) (one_assigned z answer.value answer.value (Call (Some z) unit operands s) refl (λ q. refl))
+
+      follows_test : (test : MirTest) (s o : ℕ) → slice_get nodes n ≡ Some (Test test s o) → r.changes n ≡ Kept → (b : Bool) → Follows (n ∷ before) x y' (Continues 0 (at (cond b s o) f)) (Continues 0 (at (cond b (to s) (to o)) h))
+      follows_test test s o is kept true = (0, at (to s) h, refl, kept_next (Test test s o) is kept s 0 (x + 0) (y' + 0) v w' refl refl refl (none_assigned (Test test s o) (λ z. refl)))
+      follows_test test s o is kept false = (0, at (to o) h, refl, kept_next (Test test s o) is kept o 1 (x + 0) (y' + 0) v w' refl refl refl (none_assigned (Test test s o) (λ z. refl)))
+
+      follows_return : (a : Operand) → slice_get nodes n ≡ Some (Return a) → CountsNoMore r nodes → y' ≤ x
+      follows_return a is cheap =
+          let path = reverse before ++ n ∷ [] in
+          let less = cheap path (full before n trace (ap is_return is)) in
+          let cost_is : cost n ≡ 0 = ap (weigh counts) is in
+          let paid_is : paid n ≡ weigh_all counts (r.inserts n) + 0 = ap (λ o. weigh_all counts (r.inserts n) + weigh counts (option_map (changed (r.changes n)) o)) is in
+          omega (arith, less, cost_is, paid_is, counted, counted', sum_append cost (reverse before) (n ∷ []), sum_reverse cost before, sum_append paid (reverse before) (n ∷ []), sum_reverse paid before)
+        where
+          ends : (path : List ℕ) (last : ℕ) → Ends last (path ++ last ∷ [])
+          ends [] last = refl
+          ends (k ∷ []) last = refl
+          ends (k ∷ l ∷ path) last = ends (l ∷ path) last
+
+          begins : (m : ℕ) (earlier : List ℕ) (path : List ℕ) → Trace nodes m earlier → Begins 0 (reverse earlier ++ m ∷ path)
+          begins m earlier path from_start = refl
+          begins m earlier path (goes_on k l first t edge) =
+              subst (Begins 0) (sym (ap (λ l. l ++ m ∷ path) (reverse-append (k ∷ []) first) ∙ append_assoc (reverse first) (k ∷ []) (m ∷ path))) (begins k first (m ∷ path) t)
+
+          full : (earlier : List ℕ) (last : ℕ) → Trace nodes last earlier → IsReturnAt nodes last → IsFullPath nodes (reverse earlier ++ last ∷ [])
+          full earlier last t returns = record {
+            is_path = trace_path nodes (trace_within 0 [] from_start) (λ m slot s edge. (is_graph.can.succs m slot s edge).1) last earlier t;
+            begins = begins last earlier [] t;
+            last = last;
+            ends = ends (reverse earlier) last;
+            returns = returns;
+          }
+
+      -- a node other than Start
+      follows : (node : Node) → slice_get nodes n ≡ Some node → 1 ≤ n → Follows (n ∷ before) x y' (node_transition graph.received (Some node) f) (node_transition graph.received (Some (redirected to (changed (r.changes n) node))) h)
+      follows (Start s) is some = absurd (omega (arith, some, is_graph.can.only n s is))
+      follows (Assign z rhs s) is some = follows_assign z rhs s is (r.changes n) refl
+      follows (Skip s) is some = elim (preserves.changes n (Skip s) is) [
+        | inl kept ↦ (0, at (to s) h, refl, kept_next (Skip s) is kept s 0 (x + 0) (y' + 0) v w' refl refl refl (none_assigned (Skip s) (λ z. refl)))
+        | inr other ↦ let never = other.3 in absurd (cc)
+      ]
+      follows (Print a s) is some = elim (preserves.changes n (Print a s) is) [
+        | inl kept ↦
+            let equal = preserves.reads n (Print a s) before v w trace is kept holds calm in
+            (at (to s) h, ap (λ u. Prints u (at (to s) h)) (operand_equal w' v a equal), kept_next (Print a s) is kept s 0 x y' v w' refl (omega arith) (omega arith) (none_assigned (Print a s) (λ z. refl)))
+        | inr other ↦ let never = other.3 in absurd (cc)
+      ]
+      follows (Call into unit operands s) is some = elim (preserves.changes n (Call into unit operands s) is) [
+        | inl kept ↦
+            let equal = preserves.reads n (Call into unit operands s) before v w trace is kept holds calm in
+            (at (to s) h, ap (λ l. Calls unit (record { arguments = l }) into (at (to s) h)) (operands_equal w' v operands equal), follows_call into unit operands s is kept)
+        | inr other ↦ let never = other.3 in absurd (cc)
+      ]
+      follows (Test test s o) is some = elim (preserves.changes n (Test test s o) is) [
+        | inl kept ↦
+            let equal = preserves.reads n (Test test s o) before v w trace is kept holds calm in
+            subst (λ b. Follows (n ∷ before) x y' (Continues 0 (at (cond (test_holds v test) s o) f)) (Continues 0 (at (cond b (to s) (to o)) h))) (sym (test_equal w' v test equal)) (follows_test test s o is kept (test_holds v test))
+        | inr other ↦ let never = other.3 in absurd (cc)
+      ]
+      follows (Return a) is some = elim (preserves.changes n (Return a) is) [
+        | inl kept ↦
+            let equal = preserves.reads n (Return a) before v w trace is kept holds calm in
+            (ap (λ u. Returns (record { value = u })) (operand_equal w' v a equal), follows_return a is)
+        | inr other ↦ let never = other.3 in absurd (cc)
+      ]
+
+    -- Start, where both sides get the same values
+    follows_start : n ≡ 0 → Follows (n ∷ before) x y' (node_transition graph.received (slice_get nodes n) f) (node_transition graph.received (slice_get raw n) h)
+    follows_start zero_is =
+        let s = is_graph.can.start.0 in
+        let is : slice_get nodes n ≡ Some (Start s) = ap (slice_get nodes) zero_is ∙ is_graph.can.start.1 in
+        let is' : slice_get raw n ≡ Some (Start (to s)) = old_get r nodes n (Start s) is in
+        let values = received_from 0 graph.received arguments all_zero in
+        let edge : HasEdge nodes 0 s = (0, ap (λ o. slice_get (succs_of o) 0) is_graph.can.start.1) in
+        let holds : Holds s (n ∷ before) values values =
+        subst (λ l. Holds s (n ∷ l) values values) (sym (start_trace n before zero_is trace)) (subst (λ k. Holds s (k ∷ []) values values) (sym zero_is) (preserves.starts s values edge)) in
+        subst (λ o. Follows (n ∷ before) x y' (node_transition graph.received o f) (node_transition graph.received (slice_get raw n) h)) (sym is)
+        (subst (λ o. Follows (n ∷ before) x y' (node_transition graph.received (Some (Start s)) f) (node_transition graph.received o h)) (sym is')
+        (0, record { place = to s; arguments = arguments; values = values }, refl, onward (Start s) is s 0 (x + 0) (y' + 0) values values refl refl refl holds))
+
+  -- ---- from near each other
+
+  moves : (before : List ℕ) (x y : ℕ) (f g : Frame) → NearAt before x y f g → Follows (f.place ∷ before) x (y + weigh_all counts (r.inserts f.place)) (code f) (code' (landed f.place (r.inserts f.place) g))
+  moves before x y f g near =
+      let n = f.place in
+      let place = trace_within n before near.trace in
+      let node = some_at nodes n place in
+      let same : landed n (r.inserts n) g ≡ record { place = n; arguments = f.arguments; values = after (r.inserts n) g.values } = ap (λ a. (record { place = n; arguments = a; values = after (r.inserts n) g.values })) near.arguments in
+      subst (λ h. Follows (n ∷ before) x (y + weigh_all counts (r.inserts n)) (code f) (code' h)) (sym same)
+      (elim (cases_lt 0 n) [
+        | inl some ↦ elim near.holds [
+          | inl none ↦ absurd (omega (arith, none, some))
+          | inr holds ↦
+              subst (λ o. Follows (n ∷ before) x (y + weigh_all counts (r.inserts n)) (node_transition graph.received o f) (code' (record { place = n; arguments = f.arguments; values = after (r.inserts n) g.values }))) (sym node.1)
+              (subst (λ o. Follows (n ∷ before) x (y + weigh_all counts (r.inserts n)) (node_transition graph.received (Some node.0) f) (node_transition graph.received o (record { place = n; arguments = f.arguments; values = after (r.inserts n) g.values }))) (sym (old_get r nodes n node.0 node.1))
+              (follows n before x y f.arguments f.values g.values near.trace near.calm near.counted near.counted' holds node.0 node.1 some))
+        ]
+        | inr none ↦ follows_start n before x y f.arguments f.values g.values near.trace near.calm near.counted near.counted' (omega (arith, none))
+      ])
+
+  starts : (arguments : List ℤ) → NearAt [] 0 0 (record { place = 0; arguments = arguments; values = all_zero }) (record { place = 0; arguments = arguments; values = all_zero })
+  starts arguments = record { trace = from_start; place = sym (start_entry r extra graph fits); arguments = refl; holds = inl refl; calm = ap (λ l. are_calm l all_zero) fits.at_start; counted = refl; counted' = refl }
+
+  -- ---- the simulation
+
+  abbrev Near : ℕ → ℕ → ℕ → Frame → Frame → Type 0
+  Near z x y f g = ((before : List ℕ) × NearAt before x y f g) ⊎ BothTrap z f g
+
+  from_next : (path : List ℕ) (x y y1 : ℕ) (f g : Frame) → y ≡ y1 → Next path x y f g → (z : ℕ) × Near z x y1 f g
+  from_next path x y y1 f g e next = elim next [ inl near ↦ (0, inl (path, subst (λ q. NearAt path x q f g) e near)) | inr trap ↦ (trap.0, inr trap.1) ]
+
+  from_follows : (path : List ℕ) (x y : ℕ) (h : Frame) (t : Transition) → Follows path x y t (code' h) → Responds (CountsNoMore r graph.nodes) Near code' 0 x y h t
+  from_follows path x y h (Continues n next) a = let q = from_next path (x + n) (y + a.0) (y + a.0) next a.1 refl a.3 in record { steps = 1; cost = a.0; there = a.1; silent = (a.1, a.0, 0, a.2, (refl, refl), omega arith); measure = q.0; related = q.1; moves = inl (le_refl 1) }
+  from_follows path x y h (Prints v next) a = let q = from_next path x y (y + 0) next a.0 (omega arith) a.2 in record { steps = 0; cost = 0; there = h; silent = (refl, refl); second_next = a.0; is = a.1; measure = q.0; related = q.1 }
+  from_follows path x y h (Calls unit entry into next) a = record { steps = 0; cost = 0; there = h; silent = (refl, refl); second_into = into; second_next = a.0; is = a.1; related = λ answer fits. from_next path x y (y + 0) (resumed into answer next) (resumed into answer a.0) (omega arith) (a.2 answer) }
+  from_follows path x y h (Returns answer) a = record { steps = 0; cost = 0; there = h; silent = (refl, refl); is = a.0; cheaper = λ cheap. let least = a.1 cheap in omega (arith, least) }
+  from_follows path x y h (Traps kind n) a = record { steps = 0; cost = 0; there = h; silent = (refl, refl); counted = a.0; is = a.1 }
+
+  -- both will trap: the second waits until the first does
+  trap_responds : (z x y : ℕ) (f g : Frame) → BothTrap z f g → Responds (CountsNoMore r graph.nodes) Near code' z x y g (code f)
+  trap_responds zero x y f g b =
+      let is : code f ≡ Traps ZeroDivisor b.first.counted = ap code b.first.silent.0 ∙ b.first.is in
+      subst (Responds (CountsNoMore r graph.nodes) Near code' 0 x y g) (sym is) (record { steps = b.steps; cost = b.second.cost; there = b.second.there; silent = b.second.silent; counted = b.second.counted; is = b.second.is })
+  trap_responds (suc z) x y f g b =
+      let s = b.first.silent in
+      subst (Responds (CountsNoMore r graph.nodes) Near code' (suc z) x y g) (sym s.3) (record {
+        steps = 0;
+        cost = 0;
+        there = g;
+        silent = (refl, refl);
+        measure = z;
+        related = inr (record { first = record { there = b.first.there; cost = s.2; silent = s.4; counted = b.first.counted; is = b.first.is }; steps = b.steps; second = b.second });
+        moves = inr (omega arith);
+      })
+
+  near_silent : (f g : Frame) → f.place < length nodes → g.place ≡ to f.place → are_calm (r.inserts f.place) g.values ≡ true → Silently code' (length (r.inserts f.place)) g (landed f.place (r.inserts f.place) g) (weigh_all counts (r.inserts f.place))
+  near_silent f g below e calm =
+      let run = chain_silent graph.received raw f.place (first_new f.place) (r.inserts f.place) (chain_is r nodes f.place below) g calm in
+      let same : g ≡ at (to f.place) g = ap (λ q. at q g) e in
+      subst (λ q. Silently code' (length (r.inserts f.place)) q (landed f.place (r.inserts f.place) g) (weigh_all counts (r.inserts f.place))) (sym same) run
+
+  simulates : Simulates (graph_machine graph.received graph.nodes) (graph_machine graph.received (rewritten_nodes r graph.nodes)) (CountsNoMore r graph.nodes) Near
+  simulates = record {
+    receives = refl;
+    starts = λ entry is. (0, inl ([], starts entry.arguments));
+    responds = λ z x y f g related. elim related [
+      | inl near ↦
+          let k = length (r.inserts f.place) in
+          let c = weigh_all counts (r.inserts f.place) in
+          let h = landed f.place (r.inserts f.place) g in
+          responds_past (CountsNoMore r graph.nodes) Near code' k c 0 z x y g h (code f) (near_silent f g (trace_within f.place near.0 near.1.trace) near.1.place near.1.calm) (inr (omega arith)) (from_follows (f.place ∷ near.0) x (y + c) h (code f) (moves near.0 x y f g near.1))
+      | inr trap ↦ trap_responds z x y f g trap
+    ];
+  }
+
+  pub rewritten_same : UnitSame (graph_machine graph.received graph.nodes) (graph_machine graph.received (rewritten_nodes r graph.nodes))
+  rewritten_same = simulated_same _ _ (CountsNoMore r graph.nodes) Near simulates
+
+  pub rewritten_cheaper : CountsNoMore r graph.nodes → UnitCheaper (graph_machine graph.received graph.nodes) (graph_machine graph.received (rewritten_nodes r graph.nodes))
+  rewritten_cheaper cheap = simulated_cheaper _ _ (CountsNoMore r graph.nodes) Near simulates cheap
+
+  -- ---- runs along paths
+
+  along_chain : (n k : ℕ) (puts : List Insertion) → IsChain raw n k puts → (rest : List ℕ) (g : Frame) (answers : List Answer) → are_calm puts g.values ≡ true → GoesAlong code' (n ∷ rest) (landed n puts g) answers → GoesAlong code' (through k puts (n ∷ rest)) (at (entry_among n k puts) g) answers
+  along_chain n k [] c rest g answers calm goes = goes
+  along_chain n k (put ∷ puts) c rest g answers calm goes =
+      let over = through (suc k) puts (n ∷ rest) in
+      let h = record g { values = with_value put.var (rhs_value g.values put.rhs) g.values } in
+      let both = both_true _ _ calm in
+      (refl, subst (λ t. StepsAlong over (GoesAlong code' over) t answers) (sym (one_calm graph.received raw k put.var (entry_among n (suc k) puts) put.rhs g c.0 (not_true _ both.0))) (along_chain n (suc k) puts c.1 rest h answers both.1 goes))
+
+  -- no run that will trap goes along a path to a return
+  trap_returns : (z : ℕ) (path : List ℕ) (f : Frame) (answers : List Answer) → TrapsAfter code z f → GoesAlong code path f answers → ⊥
+  trap_returns z [] f answers t goes = goes
+  trap_returns zero (n ∷ path) f answers t goes = subst (λ q. StepsAlong path (GoesAlong code path) q answers) (ap code t.silent.0 ∙ t.is) goes.1
+  trap_returns (suc z) (n ∷ path) f answers t goes =
+      let s = t.silent in
+      trap_returns z path s.0 answers (record { there = t.there; cost = s.2; silent = s.4; counted = t.counted; is = t.is }) (subst (λ q. StepsAlong path (GoesAlong code path) q answers) s.3 goes.1)
+
+  abbrev over_of : List ℕ → List ℕ
+  over_of path = over_path r.inserts (length graph.nodes) path
+
+  -- the second goes along what is over the rest of the path, wherever the first goes along the rest
+  abbrev GoesOver : List ℕ → Type 0
+  GoesOver path = (before : List ℕ) (x y : ℕ) (f g : Frame) (answers : List Answer) → Next before x y f g → GoesAlong code path f answers → GoesAlong code' (over_of path) g answers
+
+  steps_over : (path : List ℕ) → GoesOver path → (passed : List ℕ) (x y : ℕ) (t t' : Transition) (answers : List Answer) → Follows passed x y t t' → StepsAlong path (GoesAlong code path) t answers → StepsAlong (over_of path) (GoesAlong code' (over_of path)) t' answers
+  steps_over path ih passed x y (Continues n next) t' answers moved steps =
+      subst (λ t. StepsAlong (over_of path) (GoesAlong code' (over_of path)) t answers) (sym moved.2) (ih passed (x + n) (y + moved.0) next moved.1 answers moved.3 steps)
+  steps_over path ih passed x y (Prints v next) t' answers moved steps =
+      subst (λ t. StepsAlong (over_of path) (GoesAlong code' (over_of path)) t answers) (sym moved.1) (ih passed x y next moved.0 answers moved.2 steps)
+  steps_over path ih passed x y (Calls unit entry into next) t' [] moved steps = absurd steps
+  steps_over path ih passed x y (Calls unit entry into next) t' (answer ∷ answers) moved steps =
+      subst (λ t. StepsAlong (over_of path) (GoesAlong code' (over_of path)) t (answer ∷ answers)) (sym moved.1) (ih passed x y (resumed into answer next) (resumed into answer moved.0) answers (moved.2 answer) steps)
+  steps_over [] ih passed x y (Returns answer) t' answers moved steps = subst (λ t. StepsAlong [] (GoesAlong code' []) t answers) (sym moved.0) tt
+  steps_over (n ∷ path) ih passed x y (Returns answer) t' answers moved steps = absurd steps
+  steps_over path ih passed x y (Traps kind n) t' answers moved steps = absurd steps
+
+  goes_over : (path : List ℕ) → GoesOver path
+  goes_over [] before x y f g answers next goes = absurd goes
+  goes_over (n ∷ path) before x y f g answers next goes = elim next [
+    | inl near ↦
+        let m = f.place in
+        let h = landed m (r.inserts m) g in
+        let moved = moves before x y f g near in
+        let steps = steps_over path (goes_over path) (m ∷ before) x (y + weigh_all counts (r.inserts m)) (code f) (code' h) answers moved goes.1 in
+        let chain = along_chain m (first_new m) (r.inserts m) (chain_is r nodes m (trace_within m before near.trace)) (over_of path) g answers near.calm (refl, steps) in
+        let stands : g ≡ at (to m) g = ap (λ q. at q g) near.place in
+        subst (λ q. GoesAlong code' (over_of (q ∷ path)) g answers) goes.0 (subst (λ q. GoesAlong code' (over_of (m ∷ path)) q answers) (sym stands) chain)
+    | inr trap ↦ absurd (trap_returns trap.0 (n ∷ path) f answers trap.1.first goes)
+  ]
+
+  pub rewritten_runs : (path : List ℕ) (entry : Entry) (answers : List Answer) → RunsAlong (graph_machine graph.received graph.nodes) entry answers path → RunsAlong (graph_machine graph.received (rewritten_nodes r graph.nodes)) entry answers (over_path r.inserts (length graph.nodes) path)
+  rewritten_runs path entry answers runs = goes_over path [] 0 0 (first_frame entry) (first_frame entry) answers (inl (starts entry.arguments)) runs

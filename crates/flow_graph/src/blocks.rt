@@ -1,0 +1,200 @@
+// The blocks of a graph.
+ghost use Rattle.std.specs.Prelude.{◌≡◌, ◌≢◌, ℕ, ◌+◌, ◌<◌, ◌++◌, [], ◌∷◌, length, replicate, slice_get, slice_index_or, slice_set, Some, IfOk, OnOk};
+ghost use Rattle.flow_graph.specs.Blocks.{AreBlocksOf, AreKept, IsFirst, IsFollowed, IsGlued, IsLast, IsPlaced, Stands, is_first, next_of, only};
+ghost use Rattle.flow_graph.specs.Edges.{edges_of};
+
+use crate::edges::part;
+use crate::{Edges, Graph};
+use mir_base::{Items, Memory};
+use std::alloc::Global;
+use std::marker::Model;
+
+/// The blocks of a graph. A block is a longest list of nodes in which each but the last is no Test and has the next as
+/// its successor, and each but the first is entered by one edge. So a path that comes to a block's first node passes all
+/// its nodes in this order, or ends in it. Every node stands in exactly one block, and the blocks are numbered from 0 in
+/// order of their first nodes. Contracts see them as the number of nodes and the list of the blocks.
+#[derive(Drop)]
+pub struct Blocks {
+    order: Items<usize>,
+    starts: Items<usize>,
+    block_of: Items<usize>,
+}
+
+impl Model for Blocks {
+    ghost use Rattle.std.specs.Prelude.{length};
+    ghost use Rattle.flow_graph.specs.Blocks.{AreParts, BlocksShape, cut};
+
+    ghost Value = { BlocksShape };
+
+    ghost view = { λ b. record { nodes = length b.block_of; lists = cut b.order b.starts } };
+
+    ghost invariant = { λ b. AreParts b.order b.starts b.block_of };
+}
+
+impl Blocks {
+    /// The blocks of a graph, in time linear in nodes and edges; `edges` are those of `graph`. Its only refusal is want
+    /// of memory.
+    pub fn of(alloc: Global, graph: &Graph, edges: &Edges) -> Result<Blocks, Memory>
+        requires { edges.now ≡ edges_of graph.now.nodes }
+        ensures { IfOk result (λ blocks. AreBlocksOf graph.now.nodes blocks) }
+    {
+        let nodes = graph.nodes().len();
+        let mut order = Vec::with_capacity(alloc, nodes)?;
+        let mut starts = filled(alloc, 0, 1)?;
+        let mut block_of = filled(alloc, nodes, nodes)?;
+        for head in 0..nodes {
+            add(graph, edges, head, &mut order, &mut starts, &mut block_of)?;
+        }
+        Ok(Blocks {
+            order: Items::of(order),
+            starts: Items::of(starts),
+            block_of: Items::of(block_of),
+        })
+    }
+
+    /// How many blocks there are. It takes no memory.
+    pub fn len(&self) -> usize
+        ensures { result ≡ length self.now.lists }
+    {
+        self.starts.items().len() - 1
+    }
+
+    /// The nodes of a block, in the order in which they are passed. It takes no memory.
+    pub fn nodes(&self, block: usize) -> &[usize]
+        requires { block < length self.now.lists }
+        ensures { slice_get self.now.lists block ≡ Some result.now }
+    {
+        let (first, end) = bounds(self.starts.items(), block);
+        part(self.order.items(), first, end)
+    }
+
+    /// The number of the block in which a node stands. It takes no memory.
+    pub fn block_of(&self, node: usize) -> usize
+        requires { node < self.now.nodes }
+        ensures { Stands self.now.lists result node }
+    {
+        self.block_of.items()[node]
+    }
+}
+
+/// A list of so many equal numbers.
+fn filled(alloc: Global, number: usize, count: usize) -> Result<Vec<usize>, Memory>
+    ensures { IfOk result (λ list. list.items ≡ replicate count number) }
+{
+    Ok(vec![in alloc; number; count]?)
+}
+
+/// Where a block begins and ends.
+fn bounds(starts: &[usize], block: usize) -> (usize, usize)
+    requires { block + 1 < length starts.now }
+    ensures first { result.0 ≡ slice_index_or starts.now block 0 }
+    ensures end { result.1 ≡ slice_index_or starts.now (block + 1) 0 }
+{
+    (starts[block], starts[block + 1])
+}
+
+/// Adds the block that begins at this node, if one does.
+fn add(
+    graph: &Graph,
+    edges: &Edges,
+    head: usize,
+    order: &mut Vec<usize>,
+    starts: &mut Vec<usize>,
+    block_of: &mut [usize],
+) -> Result<(), Memory>
+    requires edges { edges.now ≡ edges_of graph.now.nodes }
+    requires there { head < length graph.now.nodes }
+    requires before { AreKept graph.now.nodes head order.old.items starts.old.items block_of.old }
+    ensures { OnOk result (AreKept graph.now.nodes (head + 1) order.new.items starts.new.items block_of.new) }
+{
+    if !is_first(graph, edges, head) {
+        return Ok(());
+    }
+    let block = starts.len() - 1;
+    follow(graph, edges, head, block, order, block_of)?;
+    starts.push(order.len())?;
+    Ok(())
+}
+
+/// Adds the block that begins at this node, and puts its number at its nodes.
+fn follow(
+    graph: &Graph,
+    edges: &Edges,
+    head: usize,
+    block: usize,
+    order: &mut Vec<usize>,
+    block_of: &mut [usize],
+) -> Result<(), Memory>
+    requires edges { edges.now ≡ edges_of graph.now.nodes }
+    requires there { head < length graph.now.nodes }
+    requires block { block < length graph.now.nodes }
+    requires first { IsFirst graph.now.nodes head }
+    requires long { length block_of.old ≡ length graph.now.nodes }
+    requires unplaced { slice_index_or block_of.old head (length graph.now.nodes) ≡ length graph.now.nodes }
+    requires closed { (m n : ℕ) → IsGlued graph.now.nodes m n → IsPlaced (length graph.now.nodes) block_of.old n → IsPlaced (length graph.now.nodes) block_of.old m }
+    ensures { OnOk result ((node : ℕ) × IsFollowed graph.now.nodes head node block order.old.items order.new.items block_of.old block_of.new × IsLast graph.now.nodes node) }
+{
+    let _nodes = graph.nodes();
+    let mut node = head;
+    put(node, block, order, block_of)?;
+    while let Some(next) = next(graph, edges, node) {
+        put(next, block, order, block_of)?;
+        node = next;
+    }
+    Ok(())
+}
+
+/// Adds a node to the block of this number.
+fn put(
+    node: usize,
+    block: usize,
+    order: &mut Vec<usize>,
+    block_of: &mut [usize],
+) -> Result<(), Memory>
+    requires { node < length block_of.old }
+    ensures order { OnOk result (order.new.items ≡ order.old.items ++ node ∷ []) }
+    ensures block_of { OnOk result (block_of.new ≡ slice_set block_of.old node block) }
+{
+    order.push(node)?;
+    block_of[node] = block;
+    Ok(())
+}
+
+/// The node after this one in its block.
+fn next(graph: &Graph, edges: &Edges, node: usize) -> Option<usize>
+    requires edges { edges.now ≡ edges_of graph.now.nodes }
+    requires there { node < length graph.now.nodes }
+    ensures { result ≡ next_of graph.now.nodes node }
+{
+    let _nodes = graph.nodes();
+    let succs = graph.succs(node);
+    match only(succs.as_slice()) {
+        None => None,
+        Some(next) => match only(edges.preds(next)) {
+            None => None,
+            Some(_) => Some(next),
+        },
+    }
+}
+
+/// Whether a node is the first of its block.
+fn is_first(graph: &Graph, edges: &Edges, node: usize) -> bool
+    requires edges { edges.now ≡ edges_of graph.now.nodes }
+    requires there { node < length graph.now.nodes }
+    ensures { result ≡ is_first graph.now.nodes node }
+{
+    match only(edges.preds(node)) {
+        None => true,
+        Some(before) => match only(graph.succs(before).as_slice()) {
+            None => true,
+            Some(_) => false,
+        },
+    }
+}
+
+/// The only item of a list.
+fn only(list: &[usize]) -> Option<usize>
+    ensures { result ≡ only list.now }
+{
+    if list.len() == 1 { Some(list[0]) } else { None }
+}

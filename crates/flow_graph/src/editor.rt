@@ -1,0 +1,242 @@
+// Edits of a graph: new assignments before nodes, and changed assignments, with no memory but at the beginning and the end.
+ghost use Rattle.std.specs.Prelude.{◌≡◌, [], ◌∷◌, ◌++◌, ◌+◌, ◌<◌, ◌≤◌, ℕ, nat_lt, length, slice_get, slice_index_or, take, IfOk, IsTrue, OnOk, Some};
+ghost use Rattle.mir_base.specs.Shapes.{AllBelow, AllDiffer, rhs_vars};
+ghost use Rattle.node_list.specs.Lists.{is_listed, list_at, node_after};
+ghost use Rattle.flow_graph.specs.Edited.{edited_from, leads, number_in};
+ghost use Rattle.flow_graph.specs.Editing.{change_to, graph_changed, graph_extended, graph_put, is_assignment, rhs_below};
+ghost use Rattle.flow_graph.specs.Graphs.{SuccsBelow};
+ghost use Rattle.flow_graph.specs.Insertions.{changed};
+ghost use Rattle.flow_graph.specs.Kept.{redirected};
+
+use crate::keep::redirect;
+use crate::sharing::Names;
+use crate::{Graph, Node};
+use mir_base::{Items, Memory, Name, Rhs};
+use node_list::Links;
+use std::alloc::{AllocError, Global};
+use std::marker::Model;
+use std::mem;
+
+/// A graph that is being edited, with room for some more nodes. Contracts see it as the graph and how many assignments
+/// there still is room for.
+///
+/// Each old node has a list of nodes that ends with it: the new ones before it, in order, and then the node. Edges lead to
+/// lists.
+#[derive(Drop)]
+pub struct Editor {
+    name: Name,
+    vars: Names,
+    received: Items<usize>,
+    nodes: Vec<Node>,
+    olds: usize,
+    used: usize,
+    links: Links,
+    alloc: Global,
+}
+
+impl Model for Editor {
+    ghost use Rattle.std.specs.Prelude.{◌-◌, length, take};
+    ghost use Rattle.flow_graph.specs.Edited.{edited_from, HoldsEdits};
+    ghost use Rattle.flow_graph.specs.Editing.{EditorShape};
+
+    ghost Value = { EditorShape };
+
+    ghost view = { λ editor. record {
+      graph = record { name = editor.name; vars = editor.vars; received = editor.received; nodes = edited_from editor.links.lists 0 (take editor.used editor.nodes.items) };
+      spare = length editor.nodes.items - editor.used;
+    } };
+
+    ghost invariant = { λ editor. HoldsEdits editor.vars editor.received editor.nodes.items editor.olds editor.used editor.links };
+}
+
+impl Editor {
+    /// The graph with these variables after its own, and with room for so many new assignments. The memory for them is
+    /// taken here, and want of it is the only refusal.
+    pub fn open(
+        alloc: Global,
+        graph: &Graph,
+        extra: Vec<Name>,
+        room: usize,
+    ) -> Result<Editor, Memory>
+        requires { AllDiffer (graph.now.vars ++ extra.items) }
+        ensures graph { IfOk result (λ editor. editor.graph ≡ graph_extended extra.items graph.now) }
+        ensures spare { IfOk result (λ editor. editor.spare ≡ room) }
+    {
+        let Some(total) = graph.len().checked_add(room) else {
+            return Err(AllocError);
+        };
+        let name = graph.name().clone()?;
+        let vars = graph.shared_names().with(alloc, extra)?;
+        let received = Vec::from_slice(alloc, graph.received())?;
+        let nodes = with_room(alloc, graph.nodes(), room)?;
+        let links = one_each(alloc, total, graph.len())?;
+        Ok(Editor {
+            name,
+            vars,
+            received: Items::of(received),
+            nodes,
+            olds: graph.len(),
+            used: graph.len(),
+            links,
+            alloc,
+        })
+    }
+
+    /// Puts a new assignment before a node. It gets the next number, all edges that entered the node enter it, and its
+    /// successor is the node. It takes no memory.
+    pub fn put_before(&mut self, node: usize, x: usize, rhs: Rhs)
+        requires spare { 1 ≤ self.old.spare }
+        requires some { 1 ≤ node }
+        requires node { node < length self.old.graph.nodes }
+        requires x { x < length self.old.graph.vars }
+        requires rhs { AllBelow (length self.old.graph.vars) (rhs_vars rhs) }
+        ensures graph { self.new.graph ≡ graph_put node x rhs self.old.graph }
+        ensures spare { self.new.spare + 1 ≡ self.old.spare }
+    {
+        let new = self.used;
+        self.nodes[new] = Node::Assign(x, rhs, node);
+        self.links.insert_before(node, new);
+        self.used = new + 1;
+    }
+
+    /// Gives an assignment another right side, or makes it a Skip where there is none. It takes no memory.
+    pub fn change(&mut self, node: usize, rhs: Option<Rhs>)
+        requires node { IsTrue (is_assignment (slice_get self.old.graph.nodes node)) }
+        requires rhs { rhs_below (length self.old.graph.vars) rhs }
+        ensures graph { self.new.graph ≡ graph_changed node (change_to rhs) self.old.graph }
+        ensures spare { self.new.spare ≡ self.old.spare }
+    {
+        let old = mem::replace(&mut self.nodes[node], Node::Skip(0));
+        self.nodes[node] = changed(old, rhs);
+    }
+
+    /// The graph. Its only refusal is want of memory.
+    pub fn close(self) -> Result<Graph, Memory>
+        ensures { IfOk result (λ graph. graph ≡ self.graph) }
+    {
+        let mut nodes = self.nodes;
+        nodes.truncate(self.used);
+        let firsts = first_nodes(self.alloc, &self.links, self.olds)?;
+        let nodes = led_nodes(self.alloc, nodes, firsts.as_slice(), &self.links)?;
+        Ok(Graph {
+            name: self.name,
+            vars: self.vars,
+            received: self.received,
+            nodes: Items::of(nodes),
+            alloc: self.alloc,
+        })
+    }
+}
+
+/// Copies of the nodes, and so many Skips after them.
+fn with_room(alloc: Global, nodes: &[Node], room: usize) -> Result<Vec<Node>, Memory>
+    ensures all { IfOk result (λ all. take (length nodes.now) all.items ≡ nodes.now) }
+    ensures long { IfOk result (λ all. length all.items ≡ length nodes.now + room) }
+{
+    let mut all = Vec::new(alloc);
+    for node in nodes {
+        all.push(node.clone()?)?;
+    }
+    for _ in 0..room {
+        all.push(Node::Skip(0))?;
+    }
+    Ok(all)
+}
+
+/// So many lists, each with its own number, for nodes numbered below `total`.
+fn one_each(alloc: Global, total: usize, lists: usize) -> Result<Links, Memory>
+    requires { lists ≤ total }
+    ensures nodes { IfOk result (λ links. links.nodes ≡ total) }
+    ensures count { IfOk result (λ links. length links.lists ≡ lists) }
+    ensures each { IfOk result (λ links. (s : ℕ) → s < lists → list_at links.lists s ≡ s ∷ []) }
+    ensures listed { IfOk result (λ links. (n : ℕ) → is_listed links.lists n ≡ nat_lt n lists) }
+{
+    let mut links = Links::new(alloc, total, lists)?;
+    for list in 0..lists {
+        links.push_back(list, list);
+    }
+    Ok(links)
+}
+
+/// The assignment with another right side, or a Skip in its place; any other node as it is.
+fn changed(node: Node, rhs: Option<Rhs>) -> Node
+    ensures { result ≡ changed (change_to rhs) node }
+{
+    match node {
+        Node::Start(next) => Node::Start(next),
+        Node::Skip(next) => Node::Skip(next),
+        Node::Assign(x, _, next) => match rhs {
+            Some(rhs) => Node::Assign(x, rhs, next),
+            None => Node::Skip(next),
+        },
+        Node::Print(a, next) => Node::Print(a, next),
+        Node::Call(into, unit, args, next) => Node::Call(into, unit, args, next),
+        Node::Test(test, taken, other) => Node::Test(test, taken, other),
+        Node::Return(a) => Node::Return(a),
+    }
+}
+
+/// The first node of each list.
+fn first_nodes(alloc: Global, links: &Links, lists: usize) -> Result<Vec<usize>, Memory>
+    requires { length links.now.lists ≡ lists }
+    ensures long { IfOk result (λ firsts. length firsts.items ≡ lists) }
+    ensures each { IfOk result (λ firsts. (s : ℕ) → s < lists → slice_get firsts.items s ≡ Some (number_in (slice_get (list_at links.now.lists s) 0))) }
+{
+    let mut firsts = Vec::new(alloc);
+    for list in 0..lists {
+        firsts.push(links.first(list).unwrap_or(0))?;
+    }
+    Ok(firsts)
+}
+
+/// The nodes with their edges.
+fn led_nodes(
+    alloc: Global,
+    nodes: Vec<Node>,
+    firsts: &[usize],
+    links: &Links,
+) -> Result<Vec<Node>, Memory>
+    requires count { length links.now.lists ≡ length firsts.now }
+    requires firsts { (s : ℕ) → s < length firsts.now → slice_get firsts.now s ≡ Some (number_in (slice_get (list_at links.now.lists s) 0)) }
+    requires listed { (n : ℕ) → n < length nodes.items → IsTrue (is_listed links.now.lists n) }
+    requires below { (n : ℕ) (node : Node) → n < length firsts.now → slice_get nodes.items n ≡ Some node → SuccsBelow (length firsts.now) node }
+    ensures { IfOk result (λ led. led.items ≡ edited_from links.now.lists 0 nodes.items) }
+{
+    let mut led = Vec::new(alloc);
+    let mut number = 0;
+    for node in nodes {
+        led.push(led_node(number, node, firsts, links))?;
+        number += 1;
+    }
+    Ok(led)
+}
+
+/// A node with its edges.
+fn led_node(number: usize, node: Node, firsts: &[usize], links: &Links) -> Node
+    requires count { length links.now.lists ≡ length firsts.now }
+    requires firsts { (s : ℕ) → s < length firsts.now → slice_get firsts.now s ≡ Some (number_in (slice_get (list_at links.now.lists s) 0)) }
+    requires listed { IsTrue (is_listed links.now.lists number) }
+    requires below { number < length firsts.now → SuccsBelow (length firsts.now) node }
+    ensures { result ≡ redirected (leads links.now.lists number) node }
+{
+    if number < firsts.len() {
+        redirect(node, firsts)
+    } else {
+        aimed(node, links.next(number).unwrap_or(0))
+    }
+}
+
+/// The node with one number for all its successors.
+fn aimed(node: Node, to: usize) -> Node
+    ensures { result ≡ redirected (λ n. to) node }
+{
+    match node {
+        Node::Start(_) => Node::Start(to),
+        Node::Skip(_) => Node::Skip(to),
+        Node::Assign(x, rhs, _) => Node::Assign(x, rhs, to),
+        Node::Print(a, _) => Node::Print(a, to),
+        Node::Call(into, unit, args, _) => Node::Call(into, unit, args, to),
+        Node::Test(test, _, _) => Node::Test(test, to, to),
+        Node::Return(a) => Node::Return(a),
+    }
+}

@@ -1,0 +1,80 @@
+// The names of the variables of graphs: a graph shares them with the graphs that are made of it.
+ghost use Rattle.std.specs.Prelude.{◌≡◌, ◌++◌, IfOk};
+
+use mir_base::{Items, Memory, Name};
+use std::alloc::Global;
+use std::marker::Model;
+use std::rc::Rc;
+
+/// Names of variables, of which a share takes no memory. Contracts see them as the list of these.
+#[derive(Drop)]
+pub(crate) struct Names {
+    shared: Rc<Items<Name>>,
+}
+
+impl Model for Names {
+    ghost use Rattle.std.specs.Prelude.{List, ℕ};
+
+    ghost Value = { List (List ℕ) };
+
+    ghost view = { λ names. names.shared.value };
+}
+
+impl Names {
+    /// Copies of these names. Its only refusal is want of memory.
+    pub(crate) fn copied(alloc: Global, names: &[Name]) -> Result<Names, Memory>
+        ensures { IfOk result (λ copied. copied ≡ names.now) }
+    {
+        let all = joined(alloc, names, Vec::new(alloc))?;
+        Names::of(alloc, all)
+    }
+
+    /// These names. Its only refusal is want of memory.
+    fn of(alloc: Global, names: Vec<Name>) -> Result<Names, Memory>
+        ensures { IfOk result (λ made. made ≡ names.items) }
+    {
+        let shared = Rc::new(alloc, Items::of(names))?;
+        Ok(Names { shared })
+    }
+
+    /// The names and others after them; a share where there are no others. Its only refusal is want of memory.
+    pub(crate) fn with(&self, alloc: Global, extra: Vec<Name>) -> Result<Names, Memory>
+        ensures { IfOk result (λ all. all ≡ self.now ++ extra.items) }
+    {
+        if extra.is_empty() {
+            self.share()
+        } else {
+            let all = joined(alloc, self.items(), extra)?;
+            Names::of(alloc, all)
+        }
+    }
+
+    /// A share of the names. It takes no memory, and is refused only where there are too many shares to count.
+    fn share(&self) -> Result<Names, Memory>
+        ensures { IfOk result (λ share. share ≡ self.now) }
+    {
+        let shared = self.shared.clone()?;
+        Ok(Names { shared })
+    }
+
+    /// The names, in order. It takes no memory.
+    pub(crate) fn items(&self) -> &[Name]
+        ensures { result.now ≡ self.now }
+    {
+        self.shared.as_ref().items()
+    }
+}
+
+/// Copies of the names, and the others after them.
+fn joined(alloc: Global, names: &[Name], extra: Vec<Name>) -> Result<Vec<Name>, Memory>
+    ensures { IfOk result (λ all. all.items ≡ names.now ++ extra.items) }
+{
+    let mut all = Vec::with_capacity(alloc, names.len())?;
+    for name in names {
+        all.push(name.clone()?)?;
+    }
+    for name in extra {
+        all.push(name)?;
+    }
+    Ok(all)
+}
