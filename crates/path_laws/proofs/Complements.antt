@@ -1,24 +1,20 @@
--- A bit of the rows that the complements are solved by, and of their answers.
+-- A bit of the seeds that the complements are solved by, and of their answers.
 use Rattle.std.proofs.Common.{◌≡◌, ℕ, ◌<◌, Bool, true, false, not, ◌||◌, ◌&&◌, List, length, get_or, refl, sym, ap, ◌∙◌}
-use Rattle.bit_rows.specs.BitLaws.{minus_bit, not_bit, or_bit}
-use Rattle.bit_rows.specs.Bits.{minus_bits, not_bits, or_bits, row_of}
+use Rattle.bit_rows.specs.BitLaws.{minus_bit, not_bit}
+use Rattle.bit_rows.specs.Bits.{not_bits, row_of}
 use Rattle.flow_graph.specs.declared.nodes.Node.{Node}
 use Rattle.path_laws.specs.Paths.{AreRows, has_bit}
-use Rattle.path_laws.specs.Seeds.{ending_row, is_end}
-use Rattle.path_laws.proofs.Rowwise.{ending_bit, length-ending}
+use Rattle.path_laws.specs.Seeds.{ending_row, is_end, seeds_of}
+use Rattle.path_laws.specs.SeedsLaws.{length-ending, seed_is}
+use Rattle.path_laws.proofs.Rowwise.{ending_bit}
 
 module _ (against : Bool) (nodes : List Node) (bits : ℕ) (born stop : List (List Bool)) (born_rows : AreRows (length nodes) bits born) (stop_rows : AreRows (length nodes) bits stop) (b : ℕ) (b_in : b < bits) where
-  pub seed_bit : (rows : List (List Bool)) → ((n : ℕ) → n < length nodes → row_of rows n ≡ minus_bits (ending_row against nodes (row_of stop n) n) (row_of born n))
-      → (n : ℕ) → n < length nodes → has_bit rows b n ≡ ((has_bit stop b n || is_end against nodes n) && not (has_bit born b n))
-  seed_bit rows are n h =
-      let returns = is_end against nodes n in
-      let same : length (ending_row against nodes (row_of stop n) n) ≡ length (row_of born n) = length-ending returns (row_of stop n) ∙ stop_rows.each n h ∙ sym (born_rows.each n h) in
-      ap (λ (xs : List Bool). get_or xs b false) (are n h) ∙ minus_bit (ending_row against nodes (row_of stop n) n) (row_of born n) b same
-      ∙ ap (λ x. x && not (has_bit born b n)) (ending_bit returns (row_of stop n) b (rw (stop_rows.each n h) b_in))
-
-  pub block_bit : (rows : List (List Bool)) → ((n : ℕ) → n < length nodes → row_of rows n ≡ or_bits (row_of born n) (row_of stop n))
-      → (n : ℕ) → n < length nodes → has_bit rows b n ≡ (has_bit born b n || has_bit stop b n)
-  block_bit rows are n h = ap (λ (xs : List Bool). get_or xs b false) (are n h) ∙ or_bit (row_of born n) (row_of stop n) b (born_rows.each n h ∙ sym (stop_rows.each n h))
+  pub seed_bit : (n : ℕ) → n < length nodes → has_bit (seeds_of true against nodes born stop) b n ≡ ((has_bit stop b n || is_end against nodes n) && not (has_bit born b n))
+  seed_bit n h =
+      let ends = is_end against nodes n in
+      let same : length (ending_row against nodes (row_of stop n) n) ≡ length (row_of born n) = length-ending ends (row_of stop n) ∙ stop_rows.each n h ∙ sym (born_rows.each n h) in
+      ap (λ (xs : List Bool). get_or xs b false) (seed_is true against nodes born stop n h) ∙ minus_bit (ending_row against nodes (row_of stop n) n) (row_of born n) b same
+      ∙ ap (λ x. x && not (has_bit born b n)) (ending_bit ends (row_of stop n) b (rw (stop_rows.each n h) b_in))
 
 -- an answer's bit is the other one
 pub flipped_bit : (rows from : List (List Bool)) (b n : ℕ) → row_of rows n ≡ not_bits (row_of from n) → b < length (row_of from n) → has_bit rows b n ≡ not (has_bit from b n)

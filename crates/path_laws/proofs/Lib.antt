@@ -1,7 +1,16 @@
 pub mod BitNets
+pub mod Chains
+pub mod Runs
+pub mod Leaving
+pub mod RowsPassed
+pub mod Coming
 pub mod Complements
 pub mod Induction
-pub mod Joins
+pub mod Joining
 pub mod RowBits
 pub mod Rowwise
 pub mod Ways
+pub mod Places
+pub mod Filled
+pub mod Handed
+pub mod Counting

@@ -9,11 +9,11 @@ use Rattle.bit_rows.specs.Bits.{minus_bits, row_of}
 use Rattle.flow_graph.specs.declared.edges.Edge.{Edge}
 use Rattle.flow_graph.specs.declared.nodes.Node.{Node}
 use Rattle.flow_graph.specs.EdgeLaws.{by_target_from, by_target_has, edge_is, edge_number}
-use Rattle.flow_graph.specs.Edges.{by_target, edges_from, first_leaving, EdgesShape}
+use Rattle.flow_graph.specs.Edges.{by_target, edges_from, first_leaving}
 use Rattle.flow_graph.specs.Graphs.{AllWithin}
 use Rattle.path_laws.specs.Leads.{Leads, at_seed, one_more, steps_of}
-use Rattle.path_laws.specs.Nets.{IsBitFlow, bit_flow, edge_at, flow_edges, turned}
-use Rattle.path_laws.specs.NetsLaws.{flow_edges_are, turned_from}
+use Rattle.path_laws.specs.Nets.{IsBitFlow, StepAlong, bit_flow, edge_at, flow_edges, turned}
+use Rattle.path_laws.specs.NetsLaws.{turned_from}
 use Rattle.path_laws.specs.Order.{BelowBits}
 use Rattle.path_laws.specs.OrderLaws.{below_length}
 use Rattle.path_laws.specs.Paths.{has_bit}
@@ -42,7 +42,7 @@ not_true true h = absurd (cc)
 not_true false h = refl
 
 -- an edge of the flow is a step back to its source
-step_at : (against : Bool) (nodes : List Node) (e : ℕ) → e < length (flow_edges against nodes) → steps_of against nodes (edge_at (flow_edges against nodes) e).target (edge_at (flow_edges against nodes) e).source
+pub step_at : (against : Bool) (nodes : List Node) (e : ℕ) → e < length (flow_edges against nodes) → steps_of against nodes (edge_at (flow_edges against nodes) e).target (edge_at (flow_edges against nodes) e).source
 step_at true nodes e h =
     let edge = edge_at (flow_edges true nodes) e in
     let back = turned_from (by_target (length nodes) (edges_from 0 nodes)) e edge (slice_get-get_or (flow_edges true nodes) e _ h) in
@@ -51,7 +51,7 @@ step_at true nodes e h =
 step_at false nodes e h = edge_is nodes e (edge_at (edges_from 0 nodes) e) (slice_get-get_or (edges_from 0 nodes) e _ h)
 
 -- and each step back is one of these edges
-step_edge : (against : Bool) (nodes : List Node) → AllWithin nodes → (m n : ℕ) → steps_of against nodes m n
+pub step_edge : (against : Bool) (nodes : List Node) → AllWithin nodes → (m n : ℕ) → steps_of against nodes m n
     → (e : ℕ) × (e < length (flow_edges against nodes)) × ((edge_at (flow_edges against nodes) e).source ≡ n) × ((edge_at (flow_edges against nodes) e).target ≡ m)
 step_edge true nodes within m n step =
     let edge : Edge = record { source = m; target = n } in
@@ -67,33 +67,33 @@ step_edge false nodes within m n step =
     let is = get_or_from_slice_get (edges_from 0 nodes) k edge (record { source = 0; target = 0 }) there in
     (k, slice_get_within (edges_from 0 nodes) k edge there, ap (λ (x : Edge). x.source) is, ap (λ (x : Edge). x.target) is)
 
-module _ (against : Bool) (nodes : List Node) (edges : EdgesShape) (bits : ℕ) (first block : List (List Bool)) (valid : IsBitFlow nodes edges bits first block) (v : ℕ → List Bool) (least : IsLeastSolution BelowBits (bit_flow against nodes bits first block) v) (b : ℕ) (b_in : b < bits) where
+module _ (nodes : ℕ) (edges : List Edge) (out : ℕ → ℕ) (bits : ℕ) (first block : List (List Bool)) (valid : IsBitFlow nodes edges out bits first block) (v : ℕ → List Bool) (least : IsLeastSolution BelowBits (bit_flow nodes edges out bits first block) v) (b : ℕ) (b_in : b < bits) where
   abbrev src : ℕ → ℕ
-  src e = (edge_at (flow_edges against nodes) e).source
+  src e = (edge_at edges e).source
 
   abbrev tgt : ℕ → ℕ
-  tgt e = (edge_at (flow_edges against nodes) e).target
+  tgt e = (edge_at edges e).target
 
   abbrev bit_net : BitNet
   bit_net = record {
-    nodes = length nodes;
-    edges = length (flow_edges against nodes);
+    nodes = nodes;
+    edges = length edges;
     source = src;
     target = tgt;
     seed = has_bit first b;
     passes = λ e. not (has_bit block b (tgt e));
   }
 
-  ends_in : (e : ℕ) → e < length (flow_edges against nodes) → (src e < length nodes) × (tgt e < length nodes)
-  ends_in e h = (flow_edges_are nodes valid.within against).ends e (edge_at (flow_edges against nodes) e) (slice_get-get_or (flow_edges against nodes) e _ h)
+  ends_in : (e : ℕ) → e < length edges → (src e < nodes) × (tgt e < nodes)
+  ends_in e h = valid.are.ends e (edge_at edges e) (slice_get-get_or edges e _ h)
 
   bit_net_laws : BitLaws bit_net
   bit_net_laws = record { sources = λ e h. (ends_in e h).0; targets = λ e h. (ends_in e h).1 }
 
-  v_length : (n : ℕ) → n < length nodes → length (v n) ≡ bits
+  v_length : (n : ℕ) → n < nodes → length (v n) ≡ bits
   v_length n h = sym (below_length (row_of first n) (v n) (least.solves.above_first n h)) ∙ valid.first_rows.each n h
 
-  block_length : (n : ℕ) → n < length nodes → length (row_of block n) ≡ bits
+  block_length : (n : ℕ) → n < nodes → length (row_of block n) ≡ bits
   block_length n h = valid.block_rows.each n h
 
   swap_and : (x y : Bool) → (x && y) ≡ (y && x)
@@ -115,7 +115,7 @@ module _ (against : Bool) (nodes : List Node) (edges : EdgesShape) (bits : ℕ) 
   mixed : (ℕ → Bool) → ℕ → List Bool
   mixed u n = set (v n) b (u n)
 
-  mixed_same : (u : ℕ → Bool) (n : ℕ) → n < length nodes → get_or (mixed u n) b false ≡ u n
+  mixed_same : (u : ℕ → Bool) (n : ℕ) → n < nodes → get_or (mixed u n) b false ≡ u n
   unfolding mixed
   mixed_same u n h = get_or-set_same (v n) b (u n) false (rw (v_length n h) b_in)
 
@@ -127,7 +127,7 @@ module _ (against : Bool) (nodes : List Node) (edges : EdgesShape) (bits : ℕ) 
   unfolding mixed
   mixed_length u n = length-set (v n) b (u n)
 
-  mixed_solves : (u : ℕ → Bool) → BitSolves bit_net u → Solves BelowBits (bit_flow against nodes bits first block) (mixed u)
+  mixed_solves : (u : ℕ → Bool) → BitSolves bit_net u → Solves BelowBits (bit_flow nodes edges out bits first block) (mixed u)
   mixed_solves u s = record {
     above_first = λ n h. below_from_bits (row_of first n) (mixed u n) (valid.first_rows.each n h ∙ sym (v_length n h) ∙ sym (mixed_length u n))
         (λ k t. elim (cases_eq k b) as (λ _. get_or (mixed u n) k false ≡ true) [
@@ -137,8 +137,8 @@ module _ (against : Bool) (nodes : List Node) (edges : EdgesShape) (bits : ℕ) 
     above_edges = λ e h.
         let m = src e in
         let n = tgt e in
-        let m_in : src e < length nodes = (ends_in e h).0 in
-        let n_in : tgt e < length nodes = (ends_in e h).1 in
+        let m_in : src e < nodes = (ends_in e h).0 in
+        let n_in : tgt e < nodes = (ends_in e h).1 in
         let same : length (mixed u (src e)) ≡ length (row_of block (tgt e)) = mixed_length u m ∙ v_length m m_in ∙ sym (block_length n n_in) in
         let same_v : length (v (src e)) ≡ length (row_of block (tgt e)) = v_length m m_in ∙ sym (block_length n n_in) in
         below_from_bits (minus_bits (mixed u m) (row_of block n)) (mixed u n)
@@ -157,30 +157,26 @@ module _ (against : Bool) (nodes : List Node) (edges : EdgesShape) (bits : ℕ) 
     least = λ u s n h t. sym (mixed_same u n h) ∙ below_bit (v n) (mixed u n) b (least.least (mixed u) (mixed_solves u s) n h) t;
   }
 
-  -- an edge of the flow is a step, and the other way round
-  flow_step : (e : ℕ) → e < length (flow_edges against nodes) → steps_of against nodes (tgt e) (src e)
-  flow_step e h = step_at against nodes e h
-
   -- what is true at a node has come from a seed
-  pub leads_from_true : (n : ℕ) → n < length nodes → get_or (v n) b false ≡ true → Leads (steps_of against nodes) (has_bit first b) (has_bit block b) n
+  pub leads_from_true : (n : ℕ) → n < nodes → get_or (v n) b false ≡ true → Leads (StepAlong edges) (has_bit first b) (has_bit block b) n
   leads_from_true n h t =
-      least_holds bit_net bit_net_laws (λ m. get_or (v m) b false) bit_least (Leads (steps_of against nodes) (has_bit first b) (has_bit block b))
+      least_holds bit_net bit_net_laws (λ m. get_or (v m) b false) bit_least (Leads (StepAlong edges) (has_bit first b) (has_bit block b))
       (λ m seed. at_seed m seed)
-      (λ e within free before. one_more (tgt e) (src e) (flow_step e within) (not_true (has_bit block b (tgt e)) free) before)
+      (λ e within free before. one_more (tgt e) (src e) (e, within, refl, refl) (not_true (has_bit block b (tgt e)) free) before)
       n h t
 
-  pub true_from_leads : (n : ℕ) → n < length nodes → Leads (steps_of against nodes) (has_bit first b) (has_bit block b) n → get_or (v n) b false ≡ true
+  pub true_from_leads : (n : ℕ) → n < nodes → Leads (StepAlong edges) (has_bit first b) (has_bit block b) n → get_or (v n) b false ≡ true
   true_from_leads n h (at_seed k seed) = bit_solves.above_seed n h seed
   true_from_leads n h (one_more m k step free rest) =
-      let e = step_edge against nodes valid.within n k step in
+      let e = step in
       let before : get_or (v (src e.0)) b false ≡ true = rw e.2 (true_from_leads k (rw (← e.2) (ends_in e.0 e.1).0) rest) in
       rw (← e.3) (bit_solves.above_edges e.0 e.1 (rw (e.3, free, before) refl))
 
 -- the same of a list of rows
-pub rows_lead : (against : Bool) (nodes : List Node) (edges : EdgesShape) (bits : ℕ) (first block rows : List (List Bool)) → IsBitFlow nodes edges bits first block → length rows ≡ length nodes
-    → IsLeastSolution BelowBits (bit_flow against nodes bits first block) (value_at (bit_flow against nodes bits first block) rows)
-    → (n b : ℕ) → n < length nodes → b < bits → (has_bit rows b n ≡ true) ↔ Leads (steps_of against nodes) (has_bit first b) (has_bit block b) n
-rows_lead against nodes edges bits first block rows valid len least n b h b_in =
-    let v = value_at (bit_flow against nodes bits first block) rows in
+pub rows_lead : (nodes : ℕ) (edges : List Edge) (out : ℕ → ℕ) (bits : ℕ) (first block rows : List (List Bool)) → IsBitFlow nodes edges out bits first block → length rows ≡ nodes
+    → IsLeastSolution BelowBits (bit_flow nodes edges out bits first block) (value_at (bit_flow nodes edges out bits first block) rows)
+    → (n b : ℕ) → n < nodes → b < bits → (has_bit rows b n ≡ true) ↔ Leads (StepAlong edges) (has_bit first b) (has_bit block b) n
+rows_lead nodes edges out bits first block rows valid len least n b h b_in =
+    let v = value_at (bit_flow nodes edges out bits first block) rows in
     rw (get_or_default rows n [] (row_of first n) (rw len h))
-    (leads_from_true against nodes edges bits first block valid v least b b_in n h, true_from_leads against nodes edges bits first block valid v least b b_in n h)
+    (leads_from_true nodes edges out bits first block valid v least b b_in n h, true_from_leads nodes edges out bits first block valid v least b b_in n h)

@@ -1,15 +1,6 @@
 -- The rows at which the complements are seeded.
-use Rattle.std.proofs.Common.{◌≡◌, ℕ, zero, suc, ◌<◌, Bool, true, false, ◌||◌, cond, List, ◌∷◌, length, get_or, replicate, refl, ap, ◌∙◌}
-use Rattle.std.proofs.lemmas.List.{get_or-replicate, length-replicate}
-use Rattle.bit_rows.specs.Bits.{not_bits}
-
-pub not-falses : (n : ℕ) → not_bits (replicate n false) ≡ replicate n true
-not-falses zero = refl
-not-falses (suc n) = ap (λ xs. true ∷ xs) (not-falses n)
-
-pub length-ending : (b : Bool) (stop : List Bool) → length (cond b (replicate (length stop) true) stop) ≡ length stop
-length-ending true stop = length-replicate (length stop) true
-length-ending false stop = refl
+use Rattle.std.proofs.Common.{◌≡◌, ℕ, ◌<◌, Bool, true, false, ◌||◌, cond, List, length, get_or, replicate, refl, ◌∙◌}
+use Rattle.std.proofs.lemmas.List.{get_or-replicate}
 
 pub ending_bit : (b : Bool) (stop : List Bool) (k : ℕ) → k < length stop → get_or (cond b (replicate (length stop) true) stop) k false ≡ (get_or stop k false || b)
 ending_bit true stop k h = get_or-replicate (length stop) k true false h ∙ or_true (get_or stop k false)

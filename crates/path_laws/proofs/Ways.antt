@@ -42,18 +42,15 @@ not_true : (a : Bool) → not a ≡ true → a ≡ false
 not_true true h = absurd (cc)
 not_true false h = refl
 
-off_parts : (a b : Bool) → (a || b) ≡ false → (a ≡ false) × (b ≡ false)
-off_parts true b h = absurd (cc)
-off_parts false b h = (refl, h)
-
 is_on : (a b : Bool) → (a ≡ true) ⊎ (b ≡ true) → (a || b) ≡ true
 is_on true b h = refl
 is_on false b (inl h) = absurd (cc)
 is_on false b (inr h) = h
 
--- the complement is seeded where a path may end with no birth, and blocked where it meets one or ends
-module _ (nodes : List Node) (born stop seed block : ℕ → Bool)
-    (seed_is : (n : ℕ) → n < length nodes → seed n ≡ ((stop n || is_return (slice_get nodes n)) && not (born n))) (block_is : (n : ℕ) → n < length nodes → block n ≡ (born n || stop n)) where
+-- the complement is seeded where a path may end with no birth, and blocked where it meets one. A stop needs no block: with
+-- no birth it is a seed
+module _ (nodes : List Node) (born stop seed : ℕ → Bool)
+    (seed_is : (n : ℕ) → n < length nodes → seed n ≡ ((stop n || is_return (slice_get nodes n)) && not (born n))) where
   -- no node of the path has the bit born
   abbrev Misses : List ℕ → Type 0
   Misses [] = Unit {0}
@@ -85,26 +82,27 @@ module _ (nodes : List Node) (born stop seed block : ℕ → Bool)
       lengthen [] p b e q = absurd p
       lengthen (x ∷ path) p b e q = record { path = m ∷ x ∷ path; is_path = (rw b edge, p); begins = refl; ends = (free, e); misses = (unborn, q) }
 
-  missing_from_leads : ((m k : ℕ) → HasEdge nodes m k → k < length nodes) → (n : ℕ) → n < length nodes → Leads (steps_of true nodes) seed block n → Missing n
+  missing_from_leads : ((m k : ℕ) → HasEdge nodes m k → k < length nodes) → (n : ℕ) → n < length nodes → Leads (steps_of true nodes) seed born n → Missing n
   missing_from_leads within n h (at_seed k is) =
       let parts = and_parts (stop n || is_return (slice_get nodes n)) (not (born n)) (sym (seed_is n h) ∙ is) in
       record { path = n ∷ []; is_path = h; begins = refl; ends = or_parts (stop n) (is_return (slice_get nodes n)) parts.0; misses = (not_true (born n) parts.1, tt) }
-  missing_from_leads within n h (one_more m k step free rest) =
-      let parts = off_parts (born n) (stop n) (sym (block_is n h) ∙ free) in
-      miss_longer n k step parts.0 parts.1 (missing_from_leads within k (within n k step) rest)
+  missing_from_leads within n h (one_more m k step free rest) = elim (cases_Bool (stop n)) as (λ _. Missing n) [
+    | inl stopped ↦ record { path = n ∷ []; is_path = h; begins = refl; ends = inl stopped; misses = (free, tt) }
+    | inr on ↦ miss_longer n k step free on (missing_from_leads within k (within n k step) rest)
+  ]
 
-  leads_from_missing : (path : List ℕ) (n : ℕ) → IsPath nodes path → Begins n path → EndsWell nodes stop path → Misses path → Leads (steps_of true nodes) seed block n
+  leads_from_missing : (path : List ℕ) (n : ℕ) → IsPath nodes path → Begins n path → EndsWell nodes stop path → Misses path → Leads (steps_of true nodes) seed born n
   leads_from_missing [] n p b e q = absurd p
   leads_from_missing (x ∷ []) n p b e q = rw (← b) (at_seed x (seed_is x p ∙ rw (is_on (stop x) (is_return (slice_get nodes x)) e, q.0) refl))
-  leads_from_missing (x ∷ y ∷ path) n p b e q = rw (← b) (one_more x y p.0 (block_is x (node_within nodes x p.0.0 y p.0.1) ∙ rw (q.0, e.0) refl) (leads_from_missing (y ∷ path) y p.1 refl e.1 q.1))
+  leads_from_missing (x ∷ y ∷ path) n p b e q = rw (← b) (one_more x y p.0 q.0 (leads_from_missing (y ∷ path) y p.1 refl e.1 q.1))
 
-  pub after_from_none : (n : ℕ) → (Leads (steps_of true nodes) seed block n → ⊥) → BornAfter nodes born stop n
+  pub after_from_none : (n : ℕ) → (Leads (steps_of true nodes) seed born n → ⊥) → BornAfter nodes born stop n
   after_from_none n none path p b e = elim (meets_or_misses path) as (λ _. Meets born path) [
     | inl met ↦ met
     | inr missed ↦ absurd (none (leads_from_missing path n p b e missed))
   ]
 
-  pub none_from_after : ((m k : ℕ) → HasEdge nodes m k → k < length nodes) → (n : ℕ) → n < length nodes → BornAfter nodes born stop n → Leads (steps_of true nodes) seed block n → ⊥
+  pub none_from_after : ((m k : ℕ) → HasEdge nodes m k → k < length nodes) → (n : ℕ) → n < length nodes → BornAfter nodes born stop n → Leads (steps_of true nodes) seed born n → ⊥
   none_from_after within n h all leads = let m = missing_from_leads within n h leads in not_both m.path (all m.path m.is_path m.begins m.ends) m.misses
 
 -- ---- every path to a node

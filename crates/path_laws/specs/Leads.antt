@@ -2,6 +2,7 @@
 use Rattle.std.specs.Prelude.{◌≡◌, ℕ, Bool, true, false, List}
 use Rattle.flow_graph.specs.declared.nodes.Node.{Node}
 use Rattle.flow_graph.specs.Paths.{HasEdge}
+use Rattle.path_laws.specs.Paths.{has_bit}
 
 -- from node n a way along these steps comes to a seed, and none of its nodes before that one blocks
 pub data Leads (steps : ℕ → ℕ → Type 0) (seed block : ℕ → Bool) : ℕ → Type 0 where
@@ -12,3 +13,7 @@ pub data Leads (steps : ℕ → ℕ → Type 0) (seed block : ℕ → Bool) : �
 abbrev pub steps_of : Bool → List Node → ℕ → ℕ → Type 0
 steps_of true nodes m n = HasEdge nodes m n
 steps_of false nodes m n = HasEdge nodes n m
+
+-- some node one step on from node n has the bit
+abbrev pub SomeStep : Bool → List Node → List (List Bool) → ℕ → ℕ → Type 0
+SomeStep against nodes rows bit n = (m : ℕ) × steps_of against nodes n m × (has_bit rows bit m ≡ true)

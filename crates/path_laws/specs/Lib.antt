@@ -6,3 +6,7 @@ pub mod Leads
 pub mod Nets
 pub mod NetsLaws
 pub mod Seeds
+pub mod SeedsLaws
+pub mod Blockwise
+pub mod Between
+pub mod Crossings

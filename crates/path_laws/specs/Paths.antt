@@ -60,7 +60,11 @@ pub record BornAhead (nodes : List Node) (born stop : ℕ → Bool) (n : ℕ) : 
   pub begins : Begins n path
   pub ends : EndsBorn born stop path
 
--- ---- at a predecessor
+-- ---- at a neighbour
+
+-- some successor of node n has the bit
+abbrev pub SomeSucc : List Node → List (List Bool) → ℕ → ℕ → Type 0
+SomeSucc nodes rows bit n = (s : ℕ) × HasEdge nodes n s × (has_bit rows bit s ≡ true)
 
 -- some predecessor of node n has the bit
 abbrev pub SomePred : List Node → List (List Bool) → ℕ → ℕ → Type 0

@@ -2,7 +2,7 @@
 use Rattle.std.proofs.Common.{◌≡◌, ◌≢◌, ℕ, ◌<◌, Bool, List, [], length, set, sym, ap, inl, inr, arith, ◌∙◌}
 use Rattle.std.proofs.lemmas.Bool.{cases_eq}
 use Rattle.std.proofs.lemmas.List.{get_or-set_same, get_or-set_other, length-set}
-use Rattle.bit_rows.specs.Bits.{row_of}
+use Rattle.bit_rows.specs.Bits.{AreAlike, row_of}
 use Rattle.path_laws.specs.Paths.{AreRows, width}
 
 -- one row is this, and the others are as before
@@ -55,3 +55,14 @@ as_wide nodes bits first rows shape is = record { len = is.len; each = λ n h. i
 
 pub as_many : (nodes bits : ℕ) (first rows : List (List Bool)) → AreRows nodes bits first → AreRows nodes (width first) rows → AreRows nodes bits rows
 as_many nodes bits first rows shape is = record { len = is.len; each = λ n h. is.each n h ∙ width_is nodes bits n first shape h }
+
+-- ---- rows of one shape
+
+pub are_alike : (nodes bits : ℕ) (rows other : List (List Bool)) → AreRows nodes bits rows → AreRows nodes bits other → AreAlike rows other
+are_alike nodes bits rows other are is = record {
+  len = is.len ∙ sym are.len;
+  each = λ n h. let h' : n < nodes = rw are.len at h in is.each n h' ∙ sym (are.each n h');
+}
+
+pub like_rows : (nodes bits : ℕ) (rows made : List (List Bool)) → AreRows nodes bits rows → AreAlike rows made → AreRows nodes bits made
+like_rows nodes bits rows made are alike = record { len = alike.len ∙ are.len; each = λ n h. alike.each n (rw are.len h) ∙ are.each n h }

@@ -1,7 +1,14 @@
--- Where the complements of the calls on every path are seeded.
-use Rattle.std.specs.Prelude.{ℕ, Bool, true, false, nat_eq, if◌then◌else◌, List, length, replicate, slice_get}
+-- Where the bits of a path problem are seeded, and where they are blocked. The two problems on every path are solved by
+-- their complements: from where some path ends with no birth.
+use Rattle.std.specs.Prelude.{◌≡◌, ℕ, Bool, true, false, nat_eq, if◌then◌else◌, List, length, map, replicate, slice_get}
+use Rattle.std.specs.List.{range_with_len}
+use Rattle.bit_rows.specs.Bits.{minus_bits, not_bits, or_bits, row_of}
+use Rattle.flow_graph.specs.Blocks.{AreBlocksOf, BlocksShape}
 use Rattle.flow_graph.specs.declared.nodes.Node.{Node}
+use Rattle.flow_graph.specs.Edges.{EdgesShape, edges_of}
+use Rattle.flow_graph.specs.Graphs.{AllWithin}
 use Rattle.flow_graph.specs.Paths.{is_return}
+use Rattle.path_laws.specs.Paths.{AreRows}
 
 -- where paths end of themselves: at a Return those from a node, at Start, read against the edges, those to one
 abbrev pub is_end : Bool → List Node → ℕ → Bool
@@ -11,3 +18,34 @@ is_end false nodes n = nat_eq n 0
 -- all bits at such a node, and else those that the node stops
 abbrev pub ending_row : Bool → List Node → List Bool → ℕ → List Bool
 ending_row against nodes stop n = if is_end against nodes n then replicate (length stop) true else stop
+
+-- the seeds of a node: for every path the bits whose paths may end there, without those born there, and else those born
+abbrev pub seed_row : Bool → Bool → List Node → List (List Bool) → List (List Bool) → ℕ → List Bool
+seed_row true against nodes born stop n = minus_bits (ending_row against nodes (row_of stop n) n) (row_of born n)
+seed_row false against nodes born stop n = row_of born n
+
+abbrev pub seeds_of : Bool → Bool → List Node → List (List Bool) → List (List Bool) → List (List Bool)
+seeds_of true against nodes born stop = map (seed_row true against nodes born stop) (range_with_len 0 (length nodes))
+seeds_of false against nodes born stop = born
+
+-- what blocks a bit: for every path a birth, and else a stop
+abbrev pub blocks_of : Bool → List (List Bool) → List (List Bool) → List (List Bool)
+blocks_of true born stop = born
+blocks_of false born stop = stop
+
+-- the edges are those of the graph, and the rows have one shape
+pub record IsPathFlow (nodes : List Node) (edges : EdgesShape) (bits : ℕ) (born stop : List (List Bool)) : Type 0 where
+  pub within : AllWithin nodes
+  pub edges_are : edges ≡ edges_of nodes
+  pub born_rows : AreRows (length nodes) bits born
+  pub stop_rows : AreRows (length nodes) bits stop
+
+-- and the blocks are those of the graph
+pub record IsProblem (nodes : List Node) (edges : EdgesShape) (blocks : BlocksShape) (bits : ℕ) (born stop : List (List Bool)) : Type 0 where
+  pub flow : IsPathFlow nodes edges bits born stop
+  pub blocks_are : AreBlocksOf nodes blocks
+
+-- a row after a node: its seeds, and what came that it does not block
+abbrev pub passed_row : Bool → Bool → List Node → List (List Bool) → List (List Bool) → ℕ → List Bool → List Bool
+passed_row true against nodes born stop n row = if is_end against nodes n then not_bits (row_of born n) else minus_bits (or_bits row (row_of stop n)) (row_of born n)
+passed_row false against nodes born stop n row = or_bits (minus_bits row (row_of stop n)) (row_of born n)

@@ -1,179 +1,92 @@
-// The least rows of a flow of bits, and what the calls make of them.
-ghost use Rattle.std.specs.Prelude.{◌≡◌, ℕ, ◌<◌, ◌≤◌, ◌↔◌, true, length, false, if◌then◌else◌, replicate, slice_set, IfOk, OnOk, Some};
-ghost use Rattle.bit_rows.specs.Bits.{minus_bits, not_bits, or_bits, row_of};
-ghost use Rattle.flow_graph.specs.Paths.{is_return};
-ghost use Rattle.flow_graph.specs.Edges.{edges_of};
-ghost use Rattle.flow_graph.specs.Graphs.{IsGraph};
-ghost use Rattle.path_laws.specs.Leads.{Leads, steps_of};
-ghost use Rattle.path_laws.specs.Paths.{AreRows, SomePred, has_bit, width};
-ghost use Rattle.path_laws.specs.Seeds.{ending_row, is_end};
+// The answers of a problem of paths: solved over blocks, and filled in at their nodes.
+ghost use Rattle.std.specs.Prelude.{◌≡◌, ℕ, ◌+◌, ◌*◌, ◌<◌, ◌≤◌, ◌↔◌, true, false, length, IfOk, OnOk};
+ghost use Rattle.bit_rows.specs.Bits.{row_of};
+ghost use Rattle.path_laws.specs.Between.{AreBetween};
+ghost use Rattle.path_laws.specs.Blockwise.{AreAnswered, AreComing, blocks_some, flow_order, list_at, passed_all};
+ghost use Rattle.path_laws.specs.Crossings.{crossings};
+ghost use Rattle.path_laws.specs.Leads.{Leads};
+ghost use Rattle.path_laws.specs.Nets.{StepAlong};
+ghost use Rattle.path_laws.specs.Paths.{AreRows, has_bit};
+ghost use Rattle.path_laws.specs.Seeds.{IsProblem, blocks_of, seeds_of};
 
+use crate::between::{BlockEdges, between};
 use crate::bits::{BitFlow, Bits, least};
-use bit_rows::{Row, Rows};
-use fix_solve::Work;
-use flow_graph::{Edges, Graph, Node};
+use crate::filling::filled;
+use crate::joins::joined;
+use crate::problems::Problem;
+use crate::summaries::summaries;
+use bit_rows::Rows;
+use fix_solve::{Steps, Work};
 use mir_base::Memory;
 use std::alloc::Global;
-use std::marker::{Brand, PhantomData};
-use std::sync::ledger::Blank;
+use std::marker::PhantomData;
+use std::sync::ledger::Ledger;
 
-/// The row of each node.
-fn rows_of(alloc: Global, work: &Work<Bits>, nodes: usize, bits: usize) -> Result<Rows, Memory>
-    requires len { length work.now ≡ nodes }
-    requires sizes { (n : ℕ) → n < nodes → length (row_of work.now n) ≡ bits }
-    ensures { IfOk result (λ rows. rows ≡ work.now) }
+/// The answers at all nodes.
+pub(crate) fn answers<L: Ledger>(
+    alloc: Global,
+    problem: &Problem<'_>,
+    steps: &mut Steps<L>,
+) -> Result<Rows, Memory>
+    requires { IsProblem problem.now.graph.now.nodes problem.now.edges.now problem.now.blocks.now problem.now.bits problem.now.born.now problem.now.stop.now }
+    ensures answers { IfOk result (λ rows. AreAnswered problem.now.against problem.now.graph.now.nodes problem.now.bits (λ c. flow_order problem.now.against (list_at problem.now.blocks.now.lists c)) (has_bit (seeds_of problem.now.every problem.now.against problem.now.graph.now.nodes problem.now.born.now problem.now.stop.now)) (has_bit (blocks_of problem.now.every problem.now.born.now problem.now.stop.now)) rows) }
+    ensures pushes { OnOk result (steps.new ≤ steps.old + crossings problem.now.blocks.now.lists problem.now.edges.now.edges * (problem.now.bits + 1)) }
+    ensures counts { steps.old ≤ steps.new }
 {
-    let mut rows = Rows::new(alloc, nodes, bits)?;
-    for node in 0..nodes {
-        rows.copy_from(node, work.value(node).row());
-    }
+    let mut coming = coming(alloc, problem, steps)?;
+    let rows = filled(alloc, problem, &mut coming)?;
     Ok(rows)
 }
 
-/// At which nodes each bit comes from a seed: of `first`, along the edges or against them, through nodes that do not
-/// `block` it.
-pub(crate) fn leading(
+/// What comes to each block.
+fn coming<L: Ledger>(
     alloc: Global,
-    graph: &Graph,
-    edges: &Edges,
-    against: bool,
-    first: &Rows,
-    block: &Rows,
+    problem: &Problem<'_>,
+    steps: &mut Steps<L>,
 ) -> Result<Rows, Memory>
-    requires edges { edges.now ≡ edges_of graph.now.nodes }
-    requires first { AreRows (length graph.now.nodes) (width first.now) first.now }
-    requires block { AreRows (length graph.now.nodes) (width first.now) block.now }
-    ensures graph { OnOk result (IsGraph graph.now.vars graph.now.received graph.now.nodes) }
-    ensures shape { IfOk result (λ rows. AreRows (length graph.now.nodes) (width first.now) rows) }
-    ensures wide { IfOk result (λ rows. width rows ≡ width first.now) }
-    ensures leads { IfOk result (λ rows. (n b : ℕ) → n < length graph.now.nodes → b < width first.now → (has_bit rows b n ≡ true) ↔ Leads (steps_of against graph.now.nodes) (has_bit first.now b) (has_bit block.now b) n) }
+    requires { IsProblem problem.now.graph.now.nodes problem.now.edges.now problem.now.blocks.now problem.now.bits problem.now.born.now problem.now.stop.now }
+    ensures coming { IfOk result (λ rows. AreComing problem.now.against problem.now.graph.now.nodes problem.now.blocks.now.lists problem.now.bits (has_bit (seeds_of problem.now.every problem.now.against problem.now.graph.now.nodes problem.now.born.now problem.now.stop.now)) (has_bit (blocks_of problem.now.every problem.now.born.now problem.now.stop.now)) 0 rows) }
+    ensures pushes { OnOk result (steps.new ≤ steps.old + crossings problem.now.blocks.now.lists problem.now.edges.now.edges * (problem.now.bits + 1)) }
+    ensures counts { steps.old ≤ steps.new }
 {
-    let nodes = graph.nodes().len();
-    let bits = first.bits();
+    let _nodes = problem.graph.nodes();
+    let between = between(
+        alloc,
+        problem.graph,
+        problem.edges,
+        problem.blocks,
+        problem.against,
+    )?;
+    let work = led(alloc, problem, &between, steps)?;
+    let count = problem.blocks.len();
+    let rows = joined(alloc, &between.edges, count, problem.bits, &work)?;
+    Ok(rows)
+}
+
+/// From which blocks each bit comes: the least rows over the edges between blocks.
+fn led<L: Ledger>(
+    alloc: Global,
+    problem: &Problem<'_>,
+    between: &BlockEdges,
+    steps: &mut Steps<L>,
+) -> Result<Work<Bits>, Memory>
+    requires problem { IsProblem problem.now.graph.now.nodes problem.now.edges.now problem.now.blocks.now problem.now.bits problem.now.born.now problem.now.stop.now }
+    requires between { AreBetween problem.now.against problem.now.graph.now.nodes problem.now.blocks.now.lists (length problem.now.blocks.now.lists) between.now.edges.items between.now.firsts.items }
+    ensures shape { IfOk result (λ work. AreRows (length problem.now.blocks.now.lists) problem.now.bits work) }
+    ensures leads { IfOk result (λ work. (c b : ℕ) → c < length problem.now.blocks.now.lists → b < problem.now.bits → (has_bit work b c ≡ true) ↔ Leads (StepAlong between.now.edges.items) (λ k. passed_all (has_bit (seeds_of problem.now.every problem.now.against problem.now.graph.now.nodes problem.now.born.now problem.now.stop.now) b) (has_bit (blocks_of problem.now.every problem.now.born.now problem.now.stop.now) b) false (flow_order problem.now.against (list_at problem.now.blocks.now.lists k))) (λ k. blocks_some (has_bit (blocks_of problem.now.every problem.now.born.now problem.now.stop.now) b) (flow_order problem.now.against (list_at problem.now.blocks.now.lists k))) c) }
+    ensures pushes { OnOk result (steps.new ≤ steps.old + length between.now.edges.items * (problem.now.bits + 1)) }
+    ensures counts { steps.old ≤ steps.new }
+{
+    let sums = summaries(alloc, problem)?;
     let flow = BitFlow {
-        graph,
-        edges,
-        against,
-        bits,
-        first,
-        block,
-        ledger: PhantomData::<Brand>,
+        nodes: problem.blocks.len(),
+        edges: between.edges.as_slice(),
+        firsts: between.firsts.as_slice(),
+        bits: problem.bits,
+        seeds: &sums.seeds,
+        stops: &sums.stops,
+        ledger: PhantomData::<L>,
     };
-    let work = least::<Brand>(alloc, &flow, Blank::new(1))?;
-    let rows = rows_of(alloc, &work, nodes, bits)?;
-    Ok(rows)
-}
-
-/// Each bit becomes the other truth value, in the rows from this number on.
-pub(crate) fn flipped(rows: Rows, from: usize) -> Rows
-    ensures len { length result ≡ length rows }
-    ensures before { (n : ℕ) → n < from → row_of result n ≡ row_of rows n }
-    ensures after { (n : ℕ) → from ≤ n → n < length rows → row_of result n ≡ not_bits (row_of rows n) }
-{
-    let mut flipped = rows;
-    for node in from..flipped.len() {
-        flipped.flip(node);
-    }
-    flipped
-}
-
-/// Where a path may end with no birth: the bits that the node stops, or all at an end of paths, without those born
-/// there.
-pub(crate) fn ends_unmet(
-    alloc: Global,
-    graph: &Graph,
-    against: bool,
-    born: &Rows,
-    stop: &Rows,
-) -> Result<Rows, Memory>
-    requires born { AreRows (length graph.now.nodes) (width born.now) born.now }
-    requires stop { AreRows (length graph.now.nodes) (width born.now) stop.now }
-    ensures shape { IfOk result (λ rows. AreRows (length graph.now.nodes) (width born.now) rows) }
-    ensures wide { IfOk result (λ rows. width rows ≡ width born.now) }
-    ensures bits { IfOk result (λ rows. (n : ℕ) → n < length graph.now.nodes → row_of rows n ≡ minus_bits (ending_row against graph.now.nodes (row_of stop.now n) n) (row_of born.now n)) }
-{
-    let nodes = graph.nodes().len();
-    let mut rows = Rows::new(alloc, nodes, born.bits())?;
-    for node in 0..nodes {
-        put_ending(
-            &mut rows,
-            node,
-            is_end(graph, against, node),
-            stop.row(node),
-        );
-        rows.minus_into(node, born, node);
-    }
-    Ok(rows)
-}
-
-/// A row that was all false becomes all true at an end of paths, and else the row of what the node stops.
-fn put_ending(rows: &mut Rows, node: usize, ends: bool, stop: &Row)
-    requires row { node < length rows.old }
-    requires clear { row_of rows.old node ≡ replicate (length stop.now) false }
-    ensures { rows.new ≡ slice_set rows.old node (if ends then replicate (length stop.now) true else stop.now) }
-{
-    if ends {
-        rows.flip(node);
-    } else {
-        rows.copy_from(node, stop);
-    }
-}
-
-/// Whether paths end at a node of themselves.
-fn is_end(graph: &Graph, against: bool, node: usize) -> bool
-    requires { node < length graph.now.nodes }
-    ensures { result ≡ is_end against graph.now.nodes node }
-{
-    if against {
-        is_return(graph.node(node))
-    } else {
-        node == 0
-    }
-}
-
-fn is_return(node: &Node) -> bool
-    ensures { result ≡ is_return (Some node.now) }
-{
-    match node {
-        Node::Start(_) => false,
-        Node::Skip(_) => false,
-        Node::Assign(_, _, _) => false,
-        Node::Print(_, _) => false,
-        Node::Call(_, _, _, _) => false,
-        Node::Test(_, _, _) => false,
-        Node::Return(_) => true,
-    }
-}
-
-/// The disjunction of two rows a node.
-pub(crate) fn either(alloc: Global, graph: &Graph, born: &Rows, stop: &Rows) -> Result<Rows, Memory>
-    requires born { AreRows (length graph.now.nodes) (width born.now) born.now }
-    requires stop { AreRows (length graph.now.nodes) (width born.now) stop.now }
-    ensures shape { IfOk result (λ rows. AreRows (length graph.now.nodes) (width born.now) rows) }
-    ensures bits { IfOk result (λ rows. (n : ℕ) → n < length graph.now.nodes → row_of rows n ≡ or_bits (row_of born.now n) (row_of stop.now n)) }
-{
-    let nodes = graph.nodes().len();
-    let mut rows = Rows::new(alloc, nodes, born.bits())?;
-    for node in 0..nodes {
-        rows.copy_from(node, born.row(node));
-        rows.or_into(node, stop, node);
-    }
-    Ok(rows)
-}
-
-/// Bit b at node n is true exactly where some predecessor of n has it. Rows go by nodes, and have equally many bits;
-/// `edges` are those of `graph`. Its only refusal is want of memory.
-pub fn joined(alloc: Global, graph: &Graph, edges: &Edges, rows: &Rows) -> Result<Rows, Memory>
-    requires edges { edges.now ≡ edges_of graph.now.nodes }
-    requires rows { AreRows (length graph.now.nodes) (width rows.now) rows.now }
-    ensures shape { IfOk result (λ all. AreRows (length graph.now.nodes) (width rows.now) all) }
-    ensures joins { IfOk result (λ all. (n b : ℕ) → n < length graph.now.nodes → b < width rows.now → (has_bit all b n ≡ true) ↔ SomePred graph.now.nodes rows.now b n) }
-{
-    let nodes = graph.nodes().len();
-    let mut all = Rows::new(alloc, nodes, rows.bits())?;
-    for number in 0..edges.len() {
-        let edge = edges.edge(number);
-        all.or_into(edge.target, rows, edge.source);
-    }
-    Ok(all)
+    let work = least(alloc, &flow, steps)?;
+    Ok(work)
 }

@@ -1,20 +1,20 @@
-// Rows of bits as values of a flow over a graph.
-ghost use Rattle.std.specs.Prelude.{◌≡◌, ℕ, ◌<◌, ◌↔◌, true, length, IfOk};
+// Rows of bits as values of a flow over a list of edges.
+ghost use Rattle.std.specs.Prelude.{◌≡◌, ℕ, ◌+◌, ◌*◌, ◌<◌, ◌≤◌, ◌↔◌, true, length, IfOk, OnOk};
 ghost use Rattle.bit_rows.specs.Bits.{row_of};
-ghost use Rattle.path_laws.specs.Leads.{Leads, steps_of};
-ghost use Rattle.path_laws.specs.Nets.{IsBitFlow, bit_flow};
-ghost use Rattle.path_laws.specs.NetsLaws.{bit_laws};
+ghost use Rattle.path_laws.specs.Leads.{Leads};
+ghost use Rattle.path_laws.specs.Nets.{IsListedFlow, StepAlong, bit_flow, number_at};
+ghost use Rattle.path_laws.specs.NetsLaws.{bit_laws, listed_flow};
 ghost use Rattle.path_laws.specs.Order.{BelowBits, trues};
 ghost use Rattle.path_laws.specs.OrderLaws.{bits_laws};
 ghost use Rattle.path_laws.specs.Paths.{has_bit};
 
-use bit_rows::{Row, Rows};
+use bit_rows::{Row, RowView, Rows};
 use fix_solve::{Flow, Lattice, Steps, Work, solve};
-use flow_graph::{Edges, Graph};
+use flow_graph::Edge;
 use mir_base::Memory;
 use std::alloc::Global;
 use std::marker::{Model, PhantomData};
-use std::sync::ledger::{Blank, Ledger};
+use std::sync::ledger::Ledger;
 
 /// A row, ordered by implication bit by bit. Contracts see it as the row.
 #[derive(Drop)]
@@ -32,10 +32,10 @@ impl Model for Bits {
 
 impl Bits {
     /// The row. It takes no memory.
-    pub fn row(&self) -> &Row
-        ensures { result.now ≡ self.now }
+    pub fn row(&self) -> RowView<'_>
+        ensures { result ≡ self.now }
     {
-        &self.row
+        self.row.view()
     }
 }
 
@@ -47,22 +47,22 @@ impl Lattice for Bits {
     ghost rank = { trues };
 
     fn join_from(&mut self, other: &Self) -> bool {
-        self.row.or_from(&other.row)
+        self.row.or_from(&other.row.view())
     }
 
     ghost laws = { bits_laws };
 }
 
-/// Bits flow along the edges of a graph, or against them. What is true at a node comes on to the next, where that one
-/// does not block it.
+/// Bits flow along edges that are in order of their sources, from their seeds. What is true at a node comes on to the next,
+/// where that one does not stop it. `firsts` has the number of the first edge of each node, and the number of edges.
 #[derive(Drop)]
 pub struct BitFlow<'a, L: Ledger> {
-    pub(crate) graph: &'a Graph,
-    pub(crate) edges: &'a Edges,
-    pub(crate) against: bool,
+    pub(crate) nodes: usize,
+    pub(crate) edges: &'a [Edge],
+    pub(crate) firsts: &'a [usize],
     pub(crate) bits: usize,
-    pub(crate) first: &'a Rows,
-    pub(crate) block: &'a Rows,
+    pub(crate) seeds: &'a Rows,
+    pub(crate) stops: &'a Rows,
     pub(crate) ledger: PhantomData<L>,
 }
 
@@ -71,12 +71,12 @@ impl<'a, L: Ledger> Flow for BitFlow<'a, L> {
 
     type Ledger = L;
 
-    ghost valid = { λ f. IsBitFlow f.graph.now.nodes f.edges.now f.bits f.first.now f.block.now };
+    ghost valid = { λ f. IsListedFlow f.nodes f.edges.now f.firsts.now f.bits f.seeds.now f.stops.now };
 
-    ghost net = { λ f. bit_flow f.against f.graph.now.nodes f.bits f.first.now f.block.now };
+    ghost net = { λ f. bit_flow f.nodes f.edges.now (number_at f.firsts.now) f.bits f.seeds.now f.stops.now };
 
     fn nodes(&self) -> usize {
-        self.graph.len()
+        self.nodes
     }
 
     fn edges(&self) -> usize {
@@ -84,21 +84,12 @@ impl<'a, L: Ledger> Flow for BitFlow<'a, L> {
     }
 
     fn edge(&self, number: usize) -> (usize, usize) {
-        if self.against {
-            let edge = self.edges.entering_edge(number);
-            (edge.target, edge.source)
-        } else {
-            let edge = self.edges.edge(number);
-            (edge.source, edge.target)
-        }
+        let edge = self.edges[number];
+        (edge.source, edge.target)
     }
 
     fn out(&self, node: usize) -> (usize, usize) {
-        if self.against {
-            self.edges.entering(node)
-        } else {
-            self.edges.leaving(node)
-        }
+        (self.firsts[node], self.firsts[node + 1])
     }
 
     fn height(&self) -> u64 {
@@ -106,15 +97,15 @@ impl<'a, L: Ledger> Flow for BitFlow<'a, L> {
     }
 
     fn first(&self, alloc: Global, node: usize) -> Result<Bits, Memory> {
-        let mut row = Row::new(alloc, self.bits)?;
-        row.copy_from(self.first.row(node));
+        let row = Row::of(alloc, &self.seeds.row(node))?;
         Ok(Bits { row })
     }
 
     fn push(&self, number: usize, from: &Bits, into: &mut Bits, steps: &mut Steps<L>) -> bool {
         steps.tick();
         let (_, target) = self.edge(number);
-        into.row.or_minus_from(&from.row, self.block.row(target))
+        let stop = self.stops.row(target);
+        into.row.or_minus_from(&from.row.view(), &stop)
     }
 
     fn push_self(&self, _number: usize, _value: &mut Bits, steps: &mut Steps<L>) -> bool {
@@ -122,25 +113,23 @@ impl<'a, L: Ledger> Flow for BitFlow<'a, L> {
         false
     }
 
-    ghost laws = { λ f valid. bit_laws f.against f.graph.now.nodes f.edges.now f.bits f.first.now f.block.now valid };
+    ghost laws = { λ f valid. bit_laws f.nodes f.edges.now (number_at f.firsts.now) f.bits f.seeds.now f.stops.now (listed_flow f.nodes f.edges.now f.firsts.now f.bits f.seeds.now f.stops.now valid) };
 }
 
-/// The least rows.
+/// The least rows: where each bit comes from a seed. The counter rises by the pushes.
 pub(crate) fn least<L: Ledger>(
     alloc: Global,
     flow: &BitFlow<'_, L>,
-    blank: Blank,
+    steps: &mut Steps<L>,
 ) -> Result<Work<Bits>, Memory>
-    requires name { blank.name ≡ L.name }
-    requires parts { blank.parts ≡ L.parts }
-    requires some { 0 < blank.parts }
-    requires valid { IsBitFlow flow.now.graph.now.nodes flow.now.edges.now flow.now.bits flow.now.first.now flow.now.block.now }
-    ensures len { IfOk result (λ work. length work ≡ length flow.now.graph.now.nodes) }
-    ensures sizes { IfOk result (λ work. (n : ℕ) → n < length flow.now.graph.now.nodes → length (row_of work n) ≡ flow.now.bits) }
-    ensures paths { IfOk result (λ work. (n b : ℕ) → n < length flow.now.graph.now.nodes → b < flow.now.bits → (has_bit work b n ≡ true) ↔ Leads (steps_of flow.now.against flow.now.graph.now.nodes) (has_bit flow.now.first.now b) (has_bit flow.now.block.now b) n) }
+    requires { IsListedFlow flow.now.nodes flow.now.edges.now flow.now.firsts.now flow.now.bits flow.now.seeds.now flow.now.stops.now }
+    ensures len { IfOk result (λ work. length work ≡ flow.now.nodes) }
+    ensures sizes { IfOk result (λ work. (n : ℕ) → n < flow.now.nodes → length (row_of work n) ≡ flow.now.bits) }
+    ensures leads { IfOk result (λ work. (n b : ℕ) → n < flow.now.nodes → b < flow.now.bits → (has_bit work b n ≡ true) ↔ Leads (StepAlong flow.now.edges.now) (has_bit flow.now.seeds.now b) (has_bit flow.now.stops.now b) n) }
+    ensures pushes { OnOk result (steps.new ≤ steps.old + length flow.now.edges.now * (flow.now.bits + 1)) }
+    ensures counts { steps.old ≤ steps.new }
 {
     let mut work = Work::new(alloc, flow)?;
-    let mut steps = Steps::<L>::new(blank);
-    solve(&mut work, flow, &mut steps);
+    solve(&mut work, flow, steps);
     Ok(work)
 }

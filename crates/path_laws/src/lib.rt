@@ -6,10 +6,21 @@
 #![tactic(auto)]
 
 mod answers;
+mod between;
 mod bits;
 mod calls;
+mod counted;
+mod filling;
+mod graph_edges;
+mod joins;
+mod passing;
+mod problems;
+mod seeds;
+mod summaries;
 #[cfg(test)]
 mod tests;
 
-pub use answers::joined;
-pub use calls::{backward_all, backward_some, forward_all};
+pub use calls::{
+    backward_all, backward_all_in, backward_some, backward_some_in, forward_all, forward_all_in,
+};
+pub use joins::{some_predecessor, some_successor};

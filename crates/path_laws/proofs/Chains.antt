@@ -1,0 +1,199 @@
+-- A bit through blocks is a bit through their nodes.
+use Rattle.std.proofs.Common.{◌≡◌, ℕ, zero, suc, ◌<◌, ◌⊎◌, ◌↔◌, inl, inr, Bool, true, false, not, ◌||◌, ◌&&◌, List, [], ◌∷◌, ◌++◌, length, take, slice_get, Some, refl, sym, ap, subst, arith, ◌∙◌}
+use Rattle.path_laws.specs.Leads.{Leads, at_seed, one_more}
+use Rattle.path_laws.specs.Blockwise.{blocks_some, passed, passed_all}
+
+or_parts : (a b : Bool) → (a || b) ≡ true → (a ≡ true) ⊎ (b ≡ true)
+or_parts true b h = inl refl
+or_parts false b h = inr h
+
+or_left : (a b : Bool) → a ≡ true → (a || b) ≡ true
+or_left a b h = rw h refl
+
+or_right : (a b : Bool) → b ≡ true → (a || b) ≡ true
+or_right true b h = refl
+or_right false b h = h
+
+and_parts : (a b : Bool) → (a && b) ≡ true → (a ≡ true) × (b ≡ true)
+and_parts true b h = (refl, h)
+and_parts false b h = absurd (cc)
+
+not_true : (a : Bool) → not a ≡ true → a ≡ false
+not_true true h = absurd (cc)
+not_true false h = refl
+
+not_false : (a : Bool) → a ≡ false → not a ≡ true
+not_false a h = rw h refl
+
+-- what a block does as a whole: its seeds, and what comes to it where none of its nodes blocks that
+apart : (r s x k a : Bool) → (r || ((s || (x && not k)) && not a)) ≡ ((r || ((s || (false && not k)) && not a)) || (x && not (k || a)))
+apart true s x k a = refl
+apart false true x k true = and_not x k
+  where
+    and_not : (x k : Bool) → false ≡ (x && not (k || true))
+    and_not true true = refl
+    and_not true false = refl
+    and_not false k = refl
+apart false true x k false = refl
+apart false false true true a = refl
+apart false false true false true = refl
+apart false false true false false = refl
+apart false false false k a = refl
+
+pub passed_apart : (seed block : ℕ → Bool) (path : List ℕ) (x : Bool) → passed_all seed block x path ≡ (passed_all seed block false path || (x && not (blocks_some block path)))
+passed_apart seed block [] x = and_true x
+  where
+    and_true : (x : Bool) → x ≡ (false || (x && true))
+    and_true true = refl
+    and_true false = refl
+passed_apart seed block (n ∷ path) x =
+    let first = passed_apart seed block path (passed seed block n x) in
+    let empty = passed_apart seed block path (passed seed block n false) in
+    first ∙ apart (passed_all seed block false path) (seed n) x (block n) (blocks_some block path) ∙ ap (λ r. r || (x && not (block n || blocks_some block path))) (sym empty)
+
+pub passed_append : (seed block : ℕ → Bool) (xs ys : List ℕ) (x : Bool) → passed_all seed block x (xs ++ ys) ≡ passed_all seed block (passed_all seed block x xs) ys
+passed_append seed block [] ys x = refl
+passed_append seed block (n ∷ xs) ys x = passed_append seed block xs ys (passed seed block n x)
+
+pub take_next : (xs : List ℕ) (i n : ℕ) → slice_get xs i ≡ Some n → take (suc i) xs ≡ take i xs ++ n ∷ []
+take_next [] i n e = cc
+take_next (x ∷ xs) zero n e = let same : x ≡ n = cc in ap (λ k. k ∷ []) same
+take_next (x ∷ xs) (suc i) n e = ap (λ l. x ∷ l) (take_next xs i n e)
+
+pub passed_next : (seed block : ℕ → Bool) (xs : List ℕ) (i n : ℕ) (x : Bool) → slice_get xs i ≡ Some n → passed_all seed block x (take (suc i) xs) ≡ passed seed block n (passed_all seed block x (take i xs))
+passed_next seed block xs i n x e = ap (passed_all seed block x) (take_next xs i n e) ∙ passed_append seed block (take i xs) (n ∷ []) x
+
+pub blocks_append : (block : ℕ → Bool) (xs ys : List ℕ) → blocks_some block (xs ++ ys) ≡ (blocks_some block xs || blocks_some block ys)
+blocks_append block [] ys = refl
+blocks_append block (n ∷ xs) ys = ap (λ b. block n || b) (blocks_append block xs ys) ∙ or_assoc (block n) (blocks_some block xs) (blocks_some block ys)
+  where
+    or_assoc : (a b c : Bool) → (a || (b || c)) ≡ ((a || b) || c)
+    or_assoc true b c = refl
+    or_assoc false b c = refl
+
+-- each node but the first has the one before it as its only step back
+abbrev pub IsRun : (ℕ → ℕ → Type 0) → List ℕ → Type 0
+IsRun steps [] = ⊥
+IsRun steps (p ∷ []) = Unit {0}
+IsRun steps (p ∷ q ∷ path) = steps q p × ((k : ℕ) → steps q k → k ≡ p) × IsRun steps (q ∷ path)
+
+-- the nodes of each block in the order of the flow, and the edges between blocks
+pub record AreRuns (nodes count : ℕ) (steps : ℕ → ℕ → Type 0) (paths : ℕ → List ℕ) (between : ℕ → ℕ → Type 0) : Type 0 where
+  pub runs : (c : ℕ) → c < count → IsRun steps (paths c)
+  pub sound : (c d : ℕ) → between c d → (c < count) × (d < count) × ((m : ℕ) × (k : ℕ) × (i : ℕ) × (slice_get (paths c) 0 ≡ Some m) × (slice_get (paths d) i ≡ Some k) × (suc i ≡ length (paths d)) × steps m k)
+  pub complete : (c m k : ℕ) → c < count → slice_get (paths c) 0 ≡ Some m → steps m k → (d : ℕ) × (i : ℕ) × between c d × (slice_get (paths d) i ≡ Some k) × (suc i ≡ length (paths d))
+
+take_whole : (xs : List ℕ) (i : ℕ) → i ≡ length xs → take i xs ≡ xs
+take_whole [] zero e = refl
+take_whole [] (suc i) e = refl
+take_whole (x ∷ xs) zero e = absurd (omega (arith, e))
+take_whole (x ∷ xs) (suc i) e = ap (λ l. x ∷ l) (take_whole xs i (omega (arith, e)))
+
+module _ (steps : ℕ → ℕ → Type 0) (seed block : ℕ → Bool) where
+  abbrev Led : ℕ → Type 0
+  Led n = Leads steps seed block n
+
+  -- what comes out of a node has come from a seed, if what came to it has
+  run_one : (p : ℕ) (x : Bool) → (x ≡ true → block p ≡ false → Led p) → passed seed block p x ≡ true → Led p
+  run_one p x from on = elim (or_parts (seed p) (x && not (block p)) on) as (λ _. Led p) [
+    | inl here ↦ at_seed p here
+    | inr came ↦ let parts = and_parts x (not (block p)) came in from parts.0 (not_true (block p) parts.1)
+  ]
+
+  -- and so it is with a run
+  pub run_sound : (path : List ℕ) (x : Bool) (i n : ℕ) → IsRun steps path → ((m : ℕ) → slice_get path 0 ≡ Some m → x ≡ true → block m ≡ false → Led m) → slice_get path i ≡ Some n → passed_all seed block x (take (suc i) path) ≡ true → Led n
+  run_sound [] x i n is from e on = absurd is
+  run_sound (p ∷ []) x zero n is from e on = let same : p ≡ n = cc in subst Led same (run_one p x (from p refl) on)
+  run_sound (p ∷ []) x (suc i) n is from e on = cc
+  run_sound (p ∷ q ∷ path) x zero n is from e on = let same : p ≡ n = cc in subst Led same (run_one p x (from p refl) on)
+  run_sound (p ∷ q ∷ path) x (suc i) n is from e on =
+      run_sound (q ∷ path) (passed seed block p x) i n is.2
+      (λ m at came free.
+      let same : q ≡ m = cc in
+      let here = run_one p x (from p refl) came in
+      one_more m p (subst (λ j. steps j p) same is.0) free here)
+      e on
+
+  -- a node's step back in its run
+  pub run_back : (path : List ℕ) (i m : ℕ) → IsRun steps path → slice_get path (suc i) ≡ Some m → (p : ℕ) × (slice_get path i ≡ Some p) × steps m p × ((k : ℕ) → steps m k → k ≡ p)
+  run_back [] i m is e = absurd is
+  run_back (p ∷ []) i m is e = cc
+  run_back (p ∷ q ∷ path) zero m is e = let same : q ≡ m = cc in (p, refl, subst (λ j. steps j p) same is.0, subst (λ j. (k : ℕ) → steps j k → k ≡ p) same is.1)
+  run_back (p ∷ q ∷ path) (suc i) m is e = run_back (q ∷ path) i m is.2 e
+
+  module _ (nodes count : ℕ) (paths : ℕ → List ℕ) (between : ℕ → ℕ → Type 0) (are : AreRuns nodes count steps paths between) where
+    abbrev block_seed : ℕ → Bool
+    block_seed c = passed_all seed block false (paths c)
+
+    abbrev block_stop : ℕ → Bool
+    block_stop c = blocks_some block (paths c)
+
+    -- the last node of a block in the order of the flow
+    abbrev Ahead : ℕ → ℕ → Type 0
+    Ahead d k = (i : ℕ) × (slice_get (paths d) i ≡ Some k) × (suc i ≡ length (paths d))
+
+    -- a block that leads to a seed: so does the node from which the flow leaves it
+    pub last_leads : (d : ℕ) → d < count → Leads between block_seed block_stop d → (k : ℕ) → Ahead d k → Led k
+    last_leads d h (at_seed c on) k (i, at, end) = run_sound (paths d) false i k (are.runs d h) (λ m first bad free. absurd (cc)) at (ap (passed_all seed block false) (take_whole (paths d) (suc i) end) ∙ on)
+    last_leads d h (one_more c e step free rest) k (i, at, end) =
+        let s = are.sound d e step in
+        let whole : passed_all seed block true (paths d) ≡ true = passed_apart seed block (paths d) true ∙ or_right (passed_all seed block false (paths d)) (not (blocks_some block (paths d))) (not_false (blocks_some block (paths d)) free) in
+        run_sound (paths d) true i k (are.runs d h)
+        (λ m first on m_free.
+        let both : Some s.2.0 ≡ Some m = sym s.2.3 ∙ first in
+        let same : s.2.0 ≡ m = cc in
+        one_more m s.2.1 (subst (λ j. steps j s.2.1) same s.2.6) m_free (last_leads e s.1 rest s.2.1 (s.2.2, s.2.4, s.2.5)))
+        at (ap (passed_all seed block true) (take_whole (paths d) (suc i) end) ∙ whole)
+
+    -- the bits of blocks, and what comes to each
+    module _ (w x : ℕ → Bool) (w_is : (c : ℕ) → c < count → (w c ≡ true) ↔ Leads between block_seed block_stop c) (x_sound : (c : ℕ) → c < count → x c ≡ true → (d : ℕ) × between c d × (w d ≡ true)) (x_complete : (c d : ℕ) → c < count → between c d → w d ≡ true → x c ≡ true) where
+      pub comes_sound : (c m : ℕ) → c < count → slice_get (paths c) 0 ≡ Some m → x c ≡ true → (k : ℕ) × steps m k × Led k
+      comes_sound c m h first on =
+          let come = x_sound c h on in
+          let s = are.sound c come.0 come.1 in
+          let both : Some s.2.0 ≡ Some m = sym s.2.3 ∙ first in
+          let same : s.2.0 ≡ m = cc in
+          (s.2.1, subst (λ j. steps j s.2.1) same s.2.6, last_leads come.0 s.1 ((w_is come.0 s.1).0 come.2) s.2.1 (s.2.2, s.2.4, s.2.5))
+
+      pub after_sound : (c i n : ℕ) → c < count → slice_get (paths c) i ≡ Some n → passed_all seed block (x c) (take (suc i) (paths c)) ≡ true → Led n
+      after_sound c i n h at on = run_sound (paths c) (x c) i n (are.runs c h) (λ m first came free. let s = comes_sound c m h first came in one_more m s.0 s.1 free s.2) at on
+
+      last_on : (d : ℕ) → d < count → passed_all seed block (x d) (paths d) ≡ true → w d ≡ true
+      last_on d h on = elim (or_parts (block_seed d) (x d && not (block_stop d)) (sym (passed_apart seed block (paths d) (x d)) ∙ on)) as (λ _. w d ≡ true) [
+        | inl here ↦ (w_is d h).1 (at_seed d here)
+        | inr came ↦
+            let parts = and_parts (x d) (not (block_stop d)) came in
+            let from = x_sound d h parts.0 in
+            (w_is d h).1 (one_more d from.0 from.1 (not_true (block_stop d) parts.1) ((w_is from.0 (are.sound d from.0 from.1).1).0 from.2))
+      ]
+
+      pub after_complete : (n : ℕ) → Led n → (c i : ℕ) → c < count → slice_get (paths c) i ≡ Some n → passed_all seed block (x c) (take (suc i) (paths c)) ≡ true
+      after_complete n (at_seed m on) c i h at = passed_next seed block (paths c) i n (x c) at ∙ or_left (seed n) (passed_all seed block (x c) (take i (paths c)) && not (block n)) on
+      after_complete n (one_more m k step free rest) c zero h at =
+          let out = are.complete c n k h at step in
+          let d_in = (are.sound c out.0 out.2).1 in
+          let on = after_complete k rest out.0 out.1 d_in out.3 in
+          let w_on = last_on out.0 d_in (ap (passed_all seed block (x out.0)) (sym (take_whole (paths out.0) (suc out.1) out.4)) ∙ on) in
+          let x_on = x_complete c out.0 h out.2 w_on in
+          passed_next seed block (paths c) zero n (x c) at ∙ or_right (seed n) (x c && not (block n)) (rw (x_on, free) refl)
+      after_complete n (one_more m k step free rest) c (suc i) h at =
+          let back = run_back (paths c) i n (are.runs c h) at in
+          let same : k ≡ back.0 = back.3 k step in
+          let on = after_complete k rest c i h (back.1 ∙ ap Some (sym same)) in
+          passed_next seed block (paths c) (suc i) n (x c) at ∙ or_right (seed n) (passed_all seed block (x c) (take (suc i) (paths c)) && not (block n)) (rw (on, free) refl)
+
+      -- before a node: what comes to it from where it steps back to
+      pub before_sound : (c i n : ℕ) → c < count → slice_get (paths c) i ≡ Some n → passed_all seed block (x c) (take i (paths c)) ≡ true → (k : ℕ) × steps n k × Led k
+      before_sound c zero n h at on = comes_sound c n h at on
+      before_sound c (suc i) n h at on = let back = run_back (paths c) i n (are.runs c h) at in (back.0, back.2, after_sound c i back.0 h back.1 on)
+
+      pub before_complete : (c i n k : ℕ) → c < count → slice_get (paths c) i ≡ Some n → steps n k → Led k → passed_all seed block (x c) (take i (paths c)) ≡ true
+      before_complete c zero n k h at step leads =
+          let out = are.complete c n k h at step in
+          let d_in = (are.sound c out.0 out.2).1 in
+          let on = after_complete k leads out.0 out.1 d_in out.3 in
+          x_complete c out.0 h out.2 (last_on out.0 d_in (ap (passed_all seed block (x out.0)) (sym (take_whole (paths out.0) (suc out.1) out.4)) ∙ on))
+      before_complete c (suc i) n k h at step leads =
+          let back = run_back (paths c) i n (are.runs c h) at in
+          let same : k ≡ back.0 = back.3 k step in
+          after_complete k leads c i h (back.1 ∙ ap Some (sym same))

@@ -1,0 +1,85 @@
+// The edges between blocks.
+ghost use Rattle.std.specs.Prelude.{◌≡◌, ◌<◌, ℕ, ◌++◌, length, slice_get, Some, IfOk, OnOk, List};
+ghost use Rattle.flow_graph.specs.declared.edges.Edge.{Edge};
+ghost use Rattle.flow_graph.specs.Blocks.{AreBlocksOf};
+ghost use Rattle.flow_graph.specs.Edges.{edges_of};
+ghost use Rattle.path_laws.specs.Between.{AreBetween, AreOut, IsAhead, IsAheadOf};
+
+use crate::graph_edges::{flow_edge, leaving};
+use flow_graph::{Blocks, Edge, Edges, Graph};
+use mir_base::Memory;
+use std::alloc::Global;
+
+/// The edges of a flow over blocks, in order of their sources, and the number of the first edge of each block, with the
+/// number of edges at the end.
+#[derive(Drop)]
+pub(crate) struct BlockEdges {
+    pub(crate) edges: Vec<Edge>,
+    pub(crate) firsts: Vec<usize>,
+}
+
+/// The edges of the flow that leave blocks: along the edges from their last nodes, against them from their first.
+pub(crate) fn between(
+    alloc: Global,
+    graph: &Graph,
+    edges: &Edges,
+    blocks: &Blocks,
+    against: bool,
+) -> Result<BlockEdges, Memory>
+    requires edges { edges.now ≡ edges_of graph.now.nodes }
+    requires blocks { AreBlocksOf graph.now.nodes blocks.now }
+    ensures { IfOk result (λ made. AreBetween against graph.now.nodes blocks.now.lists (length blocks.now.lists) made.edges.items made.firsts.items) }
+{
+    let mut list = Vec::new(alloc);
+    let mut firsts = Vec::new(alloc);
+    firsts.push(0)?;
+    for block in 0..blocks.len() {
+        let from = ahead(blocks.nodes(block), against);
+        leave(graph, edges, blocks, against, block, from, &mut list)?;
+        firsts.push(list.len())?;
+    }
+    Ok(BlockEdges {
+        edges: list,
+        firsts,
+    })
+}
+
+/// The node from which the flow leaves a block.
+fn ahead(nodes: &[usize], against: bool) -> usize
+    requires { 0 < length nodes.now }
+    ensures { IsAhead against result nodes.now }
+{
+    if against {
+        nodes[0]
+    } else {
+        nodes[nodes.len() - 1]
+    }
+}
+
+/// Adds the edges that leave a block.
+fn leave(
+    graph: &Graph,
+    edges: &Edges,
+    blocks: &Blocks,
+    against: bool,
+    block: usize,
+    from: usize,
+    list: &mut Vec<Edge>,
+) -> Result<(), Memory>
+    requires edges { edges.now ≡ edges_of graph.now.nodes }
+    requires blocks { AreBlocksOf graph.now.nodes blocks.now }
+    requires from { from < length graph.now.nodes }
+    requires ahead { IsAheadOf against blocks.now.lists block from }
+    ensures { OnOk result ((out : List Edge) × (list.new.items ≡ list.old.items ++ out) × AreOut against graph.now.nodes blocks.now.lists block from out) }
+{
+    let _nodes = graph.nodes();
+    let (first, end) = leaving(edges, against, from);
+    for number in first..end {
+        let (_, target) = flow_edge(edges, against, number);
+        list.push(Edge {
+            source: block,
+            target: blocks.block_of(target),
+        })?;
+    }
+    Ok(())
+}

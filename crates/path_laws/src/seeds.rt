@@ -1,0 +1,32 @@
+// Where paths end of themselves.
+ghost use Rattle.std.specs.Prelude.{◌≡◌, ◌<◌, length, Some};
+ghost use Rattle.flow_graph.specs.Paths.{is_return};
+ghost use Rattle.path_laws.specs.Seeds.{is_end};
+
+use flow_graph::{Graph, Node};
+
+/// Whether paths end at a node of themselves.
+pub(crate) fn is_end(graph: &Graph, against: bool, node: usize) -> bool
+    requires { node < length graph.now.nodes }
+    ensures { result ≡ is_end against graph.now.nodes node }
+{
+    if against {
+        is_return(graph.node(node))
+    } else {
+        node == 0
+    }
+}
+
+fn is_return(node: &Node) -> bool
+    ensures { result ≡ is_return (Some node.now) }
+{
+    match node {
+        Node::Start(_) => false,
+        Node::Skip(_) => false,
+        Node::Assign(_, _, _) => false,
+        Node::Print(_, _) => false,
+        Node::Call(_, _, _, _) => false,
+        Node::Test(_, _, _) => false,
+        Node::Return(_) => true,
+    }
+}
