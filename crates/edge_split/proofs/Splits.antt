@@ -16,12 +16,12 @@ use Rattle.flow_graph.specs.CallLaws.{mapped_from}
 use Rattle.flow_graph.specs.Calls.{NodesCall, node_call}
 use Rattle.flow_graph.specs.EdgeLaws.{pred_is}
 use Rattle.flow_graph.specs.Edges.{edges_from, preds_of, IsSplit}
-use Rattle.flow_graph.specs.Graphs.{GraphShape, node_succs, node_vars, succs_of, AllWithin, IsEdge, Reached, at_start, along, CanMake, IsGraph}
+use Rattle.flow_graph.specs.Graphs.{GraphShape, node_succs, node_vars, succs_at, succs_of, AllWithin, IsEdge, Reached, at_start, along, CanMake, IsGraph}
 use Rattle.flow_graph.specs.Machines.{graph_machine, machine_of}
 use Rattle.flow_graph.specs.Paths.{HasEdge}
 use Rattle.flow_graph.specs.PredLaws.{skip_once}
-use Rattle.edge_split.specs.Split.{IsEdgeSplit, is_join, through, with_succs, rerouted, split_nodes}
-use Rattle.edge_split.proofs.Targets.{in_append, in_front, in_back, target_of, targets, edges_targets, edge_place, place_edge, times, times_append, preds_times}
+use Rattle.edge_split.specs.Split.{IsEdgeSplit, is_join, through, with_succs, rerouted, split_nodes, times}
+use Rattle.edge_split.proofs.Targets.{in_append, in_front, in_back, target_of, targets, edges_targets, edge_place, place_edge, times_append, preds_times}
 use Rattle.edge_split.proofs.Through.{with_vars, with_call, with_start, was_start, with_through, rerouted_targets, rerouted_long, in_through, through_new, AllUnder, old_times, new_once, joins_none}
 use Rattle.edge_split.proofs.Passing.{Way, Ways, Passes, passes_same, passes_cheaper}
 
@@ -323,6 +323,9 @@ all_below m (t ∷ ts) low = (low 0 t refl, all_below m ts (λ slot. low (suc sl
 
 pub succs_below : (nodes : List Node) (n : ℕ) (node : Node) → AllWithin nodes → slice_get nodes n ≡ Some node → AllBelow (length nodes) (node_succs node)
 succs_below nodes n node within here = all_below (length nodes) (node_succs node) (λ slot s e. within n slot s (ap (λ o. slice_get (succs_of o) slot) here ∙ e))
+
+pub succs_at_below : (nodes : List Node) (n : ℕ) → AllWithin nodes → AllBelow (length nodes) (succs_at nodes n)
+succs_at_below nodes n within = all_below (length nodes) (succs_at nodes n) (within n)
 
 pub all_made : (nodes old made both : List Node) → both ≡ old ++ made → old ++ [] ≡ rerouted (is_join nodes) (length nodes) nodes → made ++ [] ≡ map Skip (filter (is_join nodes) (targets nodes)) → both ≡ split_nodes nodes
 all_made nodes old made both is olds skips = is ∙ ap (λ l. l ++ made) (sym (append-nil old) ∙ olds) ∙ ap (λ l. rerouted (is_join nodes) (length nodes) nodes ++ l) (sym (append-nil made) ∙ skips) ∙ sym (split_is nodes)

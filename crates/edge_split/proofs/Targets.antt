@@ -1,15 +1,18 @@
 -- The targets of the edges of a list of nodes, in the order of the edges, and how often a number is among them.
-use Rattle.std.proofs.Common.{◌≡◌, ℕ, zero, suc, ◌+◌, ◌<◌, Bool, true, false, cond, eqb, List, [], ◌∷◌, ◌++◌, length, map, slice_get, Some, option_map, ◌⊎◌, inl, inr, refl, sym, ap, ◌∙◌, subst, arith}
-use Rattle.std.specs.Prelude.{flat_map}
-use Rattle.std.proofs.lemmas.List.{map-append}
+use Rattle.std.proofs.Common.{◌≡◌, ℕ, zero, suc, ◌+◌, ◌<◌, ◌≤◌, Bool, true, false, cond, eqb, List, [], ◌∷◌, ◌++◌, length, map, slice_get, Some, option_map, ◌⊎◌, inl, inr, refl, sym, ap, ◌∙◌, subst, arith, take, append-nil, append_assoc, ltb, min, replicate}
+use Rattle.std.specs.Prelude.{flat_map, slice_index, slice_set}
+use Rattle.std.proofs.lemmas.Bool.{cases_eq, cases_lt, eq-eqb, le-ltb, lt-ltb, ne_eqb}
+use Rattle.std.proofs.lemmas.List.{get_or-replicate, get_or-set_other, get_or-set_same, get_or_past, length-replicate, map-append}
 use Rattle.std.proofs.lemmas.Option.{slice_get-map}
+use Rattle.mir_base.specs.Shapes.{AllBelow}
 use Rattle.flow_graph.specs.declared.edges.Edge.{Edge}
 use Rattle.flow_graph.specs.declared.nodes.Node.{Node}
 use Rattle.flow_graph.specs.CallLaws.{mapped_from}
 use Rattle.flow_graph.specs.EdgeLaws.{edge_is, edge_number}
 use Rattle.flow_graph.specs.Edges.{leaving, edges_from, first_leaving, preds_among, preds_of}
-use Rattle.flow_graph.specs.Graphs.{node_succs, IsEdge}
+use Rattle.flow_graph.specs.Graphs.{node_succs, succs_at, IsEdge}
 use Rattle.flow_graph.specs.Paths.{HasEdge}
+use Rattle.edge_split.specs.Split.{hit, joins_among, through, times}
 
 -- ---- lists
 
@@ -65,13 +68,6 @@ place_edge nodes i s e =
 
 -- ---- how often a number is among them
 
-abbrev pub hit : ℕ → ℕ → ℕ
-hit t n = cond (eqb t n) 1 0
-
-abbrev pub times : ℕ → List ℕ → ℕ
-times n [] = 0
-times n (t ∷ ts) = hit t n + times n ts
-
 pub times_append : (n : ℕ) (xs ys : List ℕ) → times n (xs ++ ys) ≡ times n xs + times n ys
 times_append n [] ys = omega arith
 times_append n (t ∷ xs) ys = omega (arith, times_append n xs ys)
@@ -87,3 +83,62 @@ among_times s (edge ∷ edges) = chosen (eqb edge.target s) (among_times s edges
 -- as many edges enter s as there are targets s
 pub preds_times : (nodes : List Node) (s : ℕ) → length (preds_of nodes s) ≡ times s (targets nodes)
 preds_times nodes s = among_times s (edges_from 0 nodes) ∙ ap (times s) (edges_targets 0 nodes)
+
+-- the targets of one more node
+targets_next : (nodes : List Node) (n : ℕ) → n < length nodes → targets (take (suc n) nodes) ≡ targets (take n nodes) ++ succs_at nodes n
+targets_next [] n lt = absurd (omega (arith, lt))
+targets_next (m ∷ nodes) zero lt = append-nil (node_succs m)
+targets_next (m ∷ nodes) (suc n) lt = ap (λ l. node_succs m ++ l) (targets_next nodes n (omega (arith, lt))) ∙ sym (append_assoc (node_succs m) (targets (take n nodes)) (succs_at nodes n))
+
+pub targets_front : (nodes : List Node) (n : ℕ) → n < length nodes → targets (take (n + 1) nodes) ≡ targets (take n nodes) ++ succs_at nodes n
+targets_front nodes n lt = let next : n + 1 ≡ suc n = omega arith in ap (λ k. targets (take k nodes)) next ∙ targets_next nodes n lt
+
+-- one more of these numbers
+times_next : (s : ℕ) (ts : List ℕ) (i : ℕ) → i < length ts → times s (take (suc i) ts) ≡ times s (take i ts) + hit (slice_index ts i) s
+times_next s [] i lt = absurd (omega (arith, lt))
+times_next s (t ∷ ts) zero lt = omega arith
+times_next s (t ∷ ts) (suc i) lt = omega (arith, times_next s ts i (omega (arith, lt)))
+
+pub times_front : (s : ℕ) (ts : List ℕ) (i : ℕ) → i < length ts → times s (take (i + 1) ts) ≡ times s (take i ts) + hit (slice_index ts i) s
+times_front s ts i lt = let next : i + 1 ≡ suc i = omega arith in ap (λ k. times s (take k ts)) next ∙ times_next s ts i lt
+
+pub below_at : (n : ℕ) (ts : List ℕ) (i : ℕ) → AllBelow n ts → i < length ts → slice_index ts i < n
+below_at n [] i h lt = absurd (omega (arith, lt))
+below_at n (t ∷ ts) zero h lt = h.0
+below_at n (t ∷ ts) (suc i) h lt = below_at n ts i h.1 (omega (arith, lt))
+
+-- ---- counts up to two
+
+-- one more for node t
+pub counted_one : (counts : List ℕ) (t v : ℕ) → t < length counts → v ≡ slice_index counts t → (s : ℕ) → slice_index counts s ≤ 2 → slice_index (slice_set counts t (min 2 (v + 1))) s ≡ min 2 (slice_index counts s + hit t s)
+counted_one counts t v lt is s few = elim (cases_eq s t) as (λ _. slice_index (slice_set counts t (min 2 (v + 1))) s ≡ min 2 (slice_index counts s + hit t s)) [
+  | inl e ↦ rw (e, get_or-set_same counts t (min 2 (v + 1)) 0 lt, eq-eqb t t refl) (omega (arith, is))
+  | inr d ↦ rw (get_or-set_other counts t s (min 2 (v + 1)) 0 d, ne_eqb t s (λ e. d (sym e))) (omega (arith, few))
+]
+
+pub none_counted : (n s : ℕ) → slice_index (replicate n 0) s ≡ 0
+none_counted n s = elim (cases_lt s n) as (λ _. slice_index (replicate n 0) s ≡ 0) [
+  | inl within ↦ get_or-replicate {A = ℕ} n s 0 0 within
+  | inr past ↦ get_or_past {X = ℕ} (replicate n 0) s 0 (rw (length-replicate {A = ℕ} n 0) past)
+]
+
+-- two is more than one
+pub more_of_two : (n : ℕ) → ltb 1 (min 2 n) ≡ ltb 1 n
+more_of_two n = elim (cases_lt 1 n) as (λ _. ltb 1 (min 2 n) ≡ ltb 1 n) [
+  | inl more ↦ lt-ltb 1 (min 2 n) (omega (arith, more)) ∙ sym (lt-ltb 1 n more)
+  | inr few ↦ le-ltb 1 (min 2 n) (omega (arith, few)) ∙ sym (le-ltb 1 n few)
+]
+
+-- ---- tests that agree everywhere
+
+module _ (f g : ℕ → Bool) (same : (s : ℕ) → f s ≡ g s) where
+  pub same_joins : (xs : List ℕ) → joins_among f xs ≡ joins_among g xs
+  same_joins [] = refl
+  same_joins (x ∷ xs) = ap (λ b. cond b (x ∷ joins_among f xs) (joins_among f xs)) (same x) ∙ ap (λ l. cond (g x) (x ∷ l) l) (same_joins xs)
+
+  pub same_through : (xs : List ℕ) (k : ℕ) → through f k xs ≡ through g k xs
+  same_through [] k = refl
+  same_through (x ∷ xs) k =
+      ap (λ b. cond b (k ∷ through f (suc k) xs) (x ∷ through f k xs)) (same x)
+      ∙ ap (λ l. cond (g x) (k ∷ l) (x ∷ through f k xs)) (same_through xs (suc k))
+      ∙ ap (λ l. cond (g x) (k ∷ through g (suc k) xs) (x ∷ l)) (same_through xs k)

@@ -8,8 +8,8 @@ use Rattle.flow_graph.specs.declared.nodes.Node.{Node}
 use Rattle.flow_graph.specs.declared.nodes.Node.TheVariants.{Start, Skip, Assign, Print, Call, Test, Return}
 use Rattle.flow_graph.specs.Calls.{node_call}
 use Rattle.flow_graph.specs.Graphs.{node_succs, node_vars}
-use Rattle.edge_split.specs.Split.{through, with_succs, rerouted}
-use Rattle.edge_split.proofs.Targets.{targets, hit, times}
+use Rattle.edge_split.specs.Split.{through, with_succs, rerouted, hit, times}
+use Rattle.edge_split.proofs.Targets.{targets}
 
 -- ---- a node with other successors
 

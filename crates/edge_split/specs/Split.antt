@@ -1,5 +1,5 @@
 -- The split graph: a new Skip on each edge that enters a node with more than one entering edge.
-use Rattle.std.specs.Prelude.{◌≡◌, ℕ, suc, ◌+◌, Bool, cond, nat_lt, filter, List, [], ◌∷◌, ◌++◌, length, map}
+use Rattle.std.specs.Prelude.{◌≡◌, ℕ, suc, ◌+◌, Bool, cond, nat_eq, nat_lt, filter, List, [], ◌∷◌, ◌++◌, length, map, slice_index}
 use Rattle.flow_graph.specs.declared.edges.Edge.{Edge}
 use Rattle.flow_graph.specs.declared.nodes.Node.{Node}
 use Rattle.flow_graph.specs.declared.nodes.Node.TheVariants.{Start, Skip, Assign, Print, Call, Test}
@@ -9,6 +9,19 @@ use Rattle.flow_graph.specs.Graphs.{GraphShape, node_succs}
 -- more than one of these edges enters node s
 abbrev pub is_entered_twice : List Edge → ℕ → Bool
 is_entered_twice edges s = nat_lt 1 (length (preds_among s edges))
+
+-- this list of numbers of edges has more than one for node s
+abbrev pub has_more : List ℕ → ℕ → Bool
+has_more entries s = nat_lt 1 (slice_index entries s)
+
+-- whether this is n, as a number
+abbrev pub hit : ℕ → ℕ → ℕ
+hit t n = cond (nat_eq t n) 1 0
+
+-- how often n is among these
+abbrev pub times : ℕ → List ℕ → ℕ
+times n [] = 0
+times n (t ∷ ts) = hit t n + times n ts
 
 -- more than one edge enters node s
 abbrev pub is_join : List Node → ℕ → Bool

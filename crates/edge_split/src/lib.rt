@@ -9,6 +9,7 @@
 //! while the graph that goes in stands at a node, the split graph stands there too, or at a new Skip that leads there.
 #![tactic(auto)]
 
+mod entries;
 mod splitting;
 #[cfg(test)]
 mod tests;

@@ -4,12 +4,15 @@ ghost use Rattle.mir_base.specs.Shapes.{AllBelow};
 ghost use Rattle.mir_base.specs.UnitRuns.{UnitCheaper, UnitSame};
 ghost use Rattle.flow_graph.specs.declared.nodes.Node.TheVariants.{Skip};
 ghost use Rattle.flow_graph.specs.Calls.{NodesCall};
-ghost use Rattle.flow_graph.specs.Edges.{edges_of, IsSplit};
+ghost use Rattle.flow_graph.specs.Dividing.{DividesStay};
+ghost use Rattle.flow_graph.specs.Edges.{IsSplit};
 ghost use Rattle.flow_graph.specs.Graphs.{IsGraph, node_succs};
+ghost use Rattle.flow_graph.specs.Keeps.{AsGraph, Keeps};
 ghost use Rattle.flow_graph.specs.Machines.{machine_of};
-ghost use Rattle.edge_split.specs.Split.{IsEdgeSplit, is_entered_twice, joins_among, split_nodes, through, with_succs};
+ghost use Rattle.edge_split.specs.Split.{IsEdgeSplit, has_more, joins_among, split_nodes, through, with_succs};
 
-use flow_graph::{Edges, Graph, Node};
+use crate::entries::entries;
+use flow_graph::{Graph, Node};
 use mir_base::Memory;
 use std::alloc::Global;
 
@@ -21,6 +24,10 @@ pub fn split(alloc: Global, graph: &Graph) -> Result<Graph, Memory>
     ensures split { IfOk result (λ made. IsSplit made.nodes) }
     ensures same { IfOk result (λ made. UnitSame (machine_of graph.now) (machine_of made)) }
     ensures cheaper { IfOk result (λ made. UnitCheaper (machine_of graph.now) (machine_of made)) }
+    ensures keeps { IfOk result (λ made. Keeps (AsGraph graph.now) (AsGraph made)) }
+
+    // each dividing assignment stays
+    ensures divides { IfOk result (λ made. DividesStay graph.now.nodes made.nodes) }
 
     // it makes no calls but those of the graph
     ensures calls { IfOk result (λ made. (called count : ℕ) → NodesCall made.nodes called count → NodesCall graph.now.nodes called count) }
@@ -38,11 +45,11 @@ fn all_nodes(alloc: Global, graph: &Graph) -> Result<Vec<Node>, Memory>
 {
     let old = graph.nodes();
     let mut skips = NewSkips {
-        edges: Edges::of(alloc, graph)?,
+        entries: entries(alloc, graph)?,
         first: old.len(),
         made: Vec::new(alloc),
     };
-    let mut nodes = Vec::new(alloc);
+    let mut nodes = Vec::with_capacity(alloc, old.len())?;
     for node in old {
         let rerouted = skips.reroute(node)?;
         nodes.push(rerouted)?;
@@ -54,8 +61,8 @@ fn all_nodes(alloc: Global, graph: &Graph) -> Result<Vec<Node>, Memory>
 /// The new Skips, which are made in the order of the edges.
 #[derive(Drop)]
 struct NewSkips {
-    /// The edges of the old graph.
-    edges: Edges,
+    /// How many edges of the old graph enter each node.
+    entries: Vec<usize>,
     /// The number of the first new Skip.
     first: usize,
     /// The new Skips so far.
@@ -65,12 +72,12 @@ struct NewSkips {
 impl NewSkips {
     /// The node, of whose edges each that enters a join goes through a new Skip.
     fn reroute(&mut self, node: &Node) -> Result<Node, Memory>
-        requires within { AllBelow self.old.edges.nodes (node_succs node.now) }
+        requires within { AllBelow (length self.old.entries.items) (node_succs node.now) }
         requires room { self.old.first < 2 ^ 63 }
-        ensures edges { self.new.edges ≡ self.old.edges }
+        ensures entries { self.new.entries.items ≡ self.old.entries.items }
         ensures first { self.new.first ≡ self.old.first }
-        ensures made { OnOk result (self.new.made.items ≡ self.old.made.items ++ map Skip (joins_among (is_entered_twice self.old.edges.edges) (node_succs node.now))) }
-        ensures node { IfOk result (λ rerouted. rerouted ≡ with_succs node.now (through (is_entered_twice self.old.edges.edges) (self.old.first + length self.old.made.items) (node_succs node.now))) }
+        ensures made { OnOk result (self.new.made.items ≡ self.old.made.items ++ map Skip (joins_among (has_more self.old.entries.items) (node_succs node.now))) }
+        ensures node { IfOk result (λ rerouted. rerouted ≡ with_succs node.now (through (has_more self.old.entries.items) (self.old.first + length self.old.made.items) (node_succs node.now))) }
     {
         Ok(match node {
             Node::Start(next) => Node::Start(self.entry(*next)?),
@@ -90,14 +97,14 @@ impl NewSkips {
 
     /// Where an edge to this target leads: to a new Skip where the target is a join.
     fn entry(&mut self, target: usize) -> Result<usize, Memory>
-        requires within { target < self.old.edges.nodes }
+        requires within { target < length self.old.entries.items }
         requires room { self.old.first < 2 ^ 63 }
-        ensures edges { self.new.edges ≡ self.old.edges }
+        ensures entries { self.new.entries.items ≡ self.old.entries.items }
         ensures first { self.new.first ≡ self.old.first }
-        ensures made { OnOk result (self.new.made.items ≡ self.old.made.items ++ map Skip (joins_among (is_entered_twice self.old.edges.edges) (target ∷ []))) }
-        ensures entry { IfOk result (λ entry. entry ∷ [] ≡ through (is_entered_twice self.old.edges.edges) (self.old.first + length self.old.made.items) (target ∷ [])) }
+        ensures made { OnOk result (self.new.made.items ≡ self.old.made.items ++ map Skip (joins_among (has_more self.old.entries.items) (target ∷ []))) }
+        ensures entry { IfOk result (λ entry. entry ∷ [] ≡ through (has_more self.old.entries.items) (self.old.first + length self.old.made.items) (target ∷ [])) }
     {
-        if self.edges.preds(target).len() > 1 {
+        if self.entries[target] > 1 {
             let entry = self.first + self.made.len();
             self.made.push(Node::Skip(target))?;
             Ok(entry)

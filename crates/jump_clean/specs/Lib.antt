@@ -8,3 +8,4 @@ pub mod Following
 pub mod Classes
 pub mod Joining
 pub mod CleanLaws
+pub mod DividingLaws

@@ -1,5 +1,5 @@
 -- Lists: what stands where after one place is set, and lists that are equal place by place.
-use Rattle.std.proofs.Common.{◌≡◌, ◌≢◌, ℕ, zero, suc, ◌+◌, ◌-◌, ◌<◌, ◌≤◌, List, [], ◌∷◌, ◌++◌, length, map, take, drop, slice_get, slice_set, slice_index_or, Some, None, ◌⊎◌, inl, inr, refl, sym, ap, ◌∙◌, subst, arith, append_assoc}
+use Rattle.std.proofs.Common.{◌≡◌, ◌≢◌, ℕ, zero, suc, ◌+◌, ◌-◌, ◌<◌, ◌≤◌, List, [], ◌∷◌, ◌++◌, length, map, take, drop, slice_get, slice_set, slice_index_or, Some, ◌⊎◌, inl, inr, refl, sym, ap, ◌∙◌, subst, arith, append_assoc}
 use Rattle.std.proofs.lemmas.Bool.{cases_lt}
 
 pub same_or_not : (n m : ℕ) → (n ≡ m) ⊎ (n ≢ m)
@@ -24,18 +24,6 @@ pub set_long : {A : Type 0} (xs : List A) (n : ℕ) (x : A) → length (slice_se
 set_long [] n x = refl
 set_long (y ∷ xs) zero x = refl
 set_long (y ∷ xs) (suc n) x = ap suc (set_long xs n x)
-
-cons_same : {A : Type 0} {x y : A} {xs ys : List A} → x ≡ y → xs ≡ ys → x ∷ xs ≡ y ∷ ys
-cons_same e e' = cc
-
-some_same : {A : Type 0} {x y : A} → Some x ≡ Some y → x ≡ y
-some_same e = cc
-
-pub same_lists : {A : Type 0} (xs ys : List A) → ((n : ℕ) → slice_get xs n ≡ slice_get ys n) → xs ≡ ys
-same_lists [] [] same = refl
-same_lists [] (y ∷ ys) same = let e : None ≡ Some y = same 0 in cc
-same_lists (x ∷ xs) [] same = let e : Some x ≡ None = same 0 in cc
-same_lists (x ∷ xs) (y ∷ ys) same = cons_same (some_same (same 0)) (same_lists xs ys (λ n. same (suc n)))
 
 pub drop_at : {A : Type 0} (xs : List A) (i : ℕ) (x : A) → slice_get xs i ≡ Some x → drop i xs ≡ x ∷ drop (i + 1) xs
 drop_at {A = A} xs i x is = let one : suc i ≡ i + 1 = omega arith in by_place xs i is ∙ ap (λ k. x ∷ drop k xs) one

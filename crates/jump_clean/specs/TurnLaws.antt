@@ -6,9 +6,10 @@ use Rattle.mir_base.specs.declared.instructions.Test as tests
 use Rattle.flow_graph.specs.declared.nodes.Node.{Node}
 use Rattle.flow_graph.specs.declared.nodes.Node.TheVariants.{Skip, Test}
 use Rattle.flow_graph.specs.Graphs.{AllWithin, succs_of}
+use Rattle.flow_graph.specs.OneLaws.{same_places}
 use Rattle.jump_clean.specs.Chains.{Skips, SkipsTo, IsEnd}
 use Rattle.jump_clean.specs.Turns.{Turns, TurnsAll, AllDiffer, AreTurned}
-use Rattle.jump_clean.specs.ListLaws.{same_or_not, set_here, set_elsewhere, set_long, same_lists}
+use Rattle.jump_clean.specs.ListLaws.{same_or_not, set_here, set_elsewhere, set_long}
 use Rattle.jump_clean.specs.ChainLaws.{SkipsWithin, has_end, end_from}
 
 -- ---- edges stay within
@@ -151,4 +152,4 @@ turned_are_one nodes a b within p q =
     let b_within = all_within nodes q.order b q.turns within in
     let forth = become_last b b_within q.differ nodes p.order a (all_become nodes q.order b q.turns) p.turns in
     let back = become_last a a_within p.differ nodes q.order b (all_become nodes p.order a p.turns) q.turns in
-    same_lists a b (λ n. both_ways (slice_get a n) (slice_get b n) (forth.at_node n) (back.at_node n))
+    same_places a b (λ n. both_ways (slice_get a n) (slice_get b n) (forth.at_node n) (back.at_node n))

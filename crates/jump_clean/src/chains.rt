@@ -28,7 +28,7 @@ pub(crate) fn ends(alloc: Global, nodes: &[Node]) -> Result<Vec<usize>, Memory>
     ensures { IfOk result (λ ends. AreEnds nodes.now ends.items) }
 {
     let mut found = nothing_found(alloc, nodes.len())?;
-    let mut ends = Vec::new(alloc);
+    let mut ends = Vec::with_capacity(alloc, nodes.len())?;
     for n in 0..nodes.len() {
         let end = end_of(alloc, nodes, &mut found, n)?;
         ends.push(end)?;

@@ -5,13 +5,17 @@ ghost use Rattle.jump_clean.specs.ChainLaws.{In};
 ghost use Rattle.jump_clean.specs.Classes.{class, AreJoined, AreMoved, HasMembers};
 
 use mir_base::Memory;
+use smallvec::SmallVec;
 use std::alloc::Global;
+
+/// The members of a class, in a list that has room in itself for the one that each class begins with.
+type Members = SmallVec<usize, 1>;
 
 /// The number of the class of each node, and the members of each class.
 #[derive(Drop)]
 pub(crate) struct Classes {
     pub(crate) of: Vec<usize>,
-    pub(crate) members: Vec<Vec<usize>>,
+    pub(crate) members: Vec<Members>,
 }
 
 impl Classes {
@@ -21,19 +25,18 @@ impl Classes {
         ensures apart { IfOk result (λ classes. (n : ℕ) → n < nodes → class classes.of.items n ≡ n) }
         ensures members { IfOk result (λ classes. HasMembers classes.of.items (map (λ v. v.items) classes.members.items)) }
     {
-        let mut of = Vec::new(alloc);
-        let mut members = Vec::new(alloc);
+        let mut of = Vec::with_capacity(alloc, nodes)?;
+        let mut members = Vec::with_capacity(alloc, nodes)?;
         for n in 0..nodes {
             of.push(n)?;
-            let alone = one(alloc, n)?;
-            members.push(alone)?;
+            members.push(one(alloc, n))?;
         }
         Ok(Classes { of, members })
     }
 
     /// Joins the classes of two nodes, and answers the members of the one that went into the other: the smaller one, so
     /// that no node moves more often than the logarithm of the number of nodes.
-    pub(crate) fn join(&mut self, alloc: Global, a: usize, b: usize) -> Result<Vec<usize>, Memory>
+    pub(crate) fn join(&mut self, alloc: Global, a: usize, b: usize) -> Result<Members, Memory>
         requires members { HasMembers self.old.of.items (map (λ v. v.items) self.old.members.items) }
         requires a { a < length self.old.of.items }
         requires b { b < length self.old.of.items }
@@ -43,7 +46,7 @@ impl Classes {
         let first = self.of[a];
         let second = self.of[b];
         if first == second {
-            return Ok(Vec::new(alloc));
+            return Ok(SmallVec::new(alloc));
         }
         if self.members[first].len() < self.members[second].len() {
             self.move_all(alloc, first, second)
@@ -53,7 +56,7 @@ impl Classes {
     }
 
     /// Moves all members of a class into another one, and answers them.
-    fn move_all(&mut self, alloc: Global, from: usize, into: usize) -> Result<Vec<usize>, Memory>
+    fn move_all(&mut self, alloc: Global, from: usize, into: usize) -> Result<Members, Memory>
         requires members { HasMembers self.old.of.items (map (λ v. v.items) self.old.members.items) }
         requires from { from < length self.old.of.items }
         requires into { into < length self.old.of.items }
@@ -69,25 +72,25 @@ impl Classes {
 }
 
 /// The list of this number alone.
-fn one(alloc: Global, n: usize) -> Result<Vec<usize>, Memory>
-    ensures { IfOk result (λ list. list.items ≡ n ∷ []) }
+fn one(alloc: Global, n: usize) -> Members
+    ensures { result.items ≡ n ∷ [] }
 {
-    let mut list = Vec::new(alloc);
-    list.push(n)?;
-    Ok(list)
+    let mut list = SmallVec::new(alloc);
+    list.push_reserved(n);
+    list
 }
 
 /// Takes the members of a class away from it.
-fn take(members: &mut Vec<Vec<usize>>, alloc: Global, class: usize) -> Vec<usize>
+fn take(members: &mut Vec<Members>, alloc: Global, class: usize) -> Members
     requires { class < length members.old.items }
     ensures taken { result.items ≡ slice_index_or (map (λ v. v.items) members.old.items) class [] }
     ensures left { map (λ v. v.items) members.new.items ≡ slice_set (map (λ v. v.items) members.old.items) class [] }
 {
-    std::mem::replace(&mut members[class], Vec::new(alloc))
+    std::mem::replace(&mut members[class], SmallVec::new(alloc))
 }
 
 /// Adds members to a class.
-fn add(members: &mut Vec<Vec<usize>>, class: usize, nodes: &[usize]) -> Result<(), Memory>
+fn add(members: &mut Vec<Members>, class: usize, nodes: &[usize]) -> Result<(), Memory>
     requires { class < length members.old.items }
     ensures { OnOk result (map (λ v. v.items) members.new.items ≡ slice_set (map (λ v. v.items) members.old.items) class (slice_index_or (map (λ v. v.items) members.old.items) class [] ++ nodes.now)) }
 {

@@ -2,8 +2,10 @@
 ghost use Rattle.std.specs.Prelude.{◌≡◌, ℕ, length, map, slice_index_or, IfOk};
 ghost use Rattle.mir_base.specs.UnitRuns.{UnitCheaper, UnitSame};
 ghost use Rattle.flow_graph.specs.Calls.{NodesCall};
+ghost use Rattle.flow_graph.specs.Dividing.{DividesStay};
 ghost use Rattle.flow_graph.specs.Graphs.{AllWithin, GraphShape, IsGraph, SuccsBelow};
 ghost use Rattle.flow_graph.specs.Kept.{redirected};
+ghost use Rattle.flow_graph.specs.Keeps.{AsGraph, Keeps};
 ghost use Rattle.flow_graph.specs.Machines.{machine_of};
 ghost use Rattle.jump_clean.specs.Cleaned.{AreCleaned, HasCleanJumps, IsClean};
 
@@ -29,6 +31,10 @@ pub fn clean(alloc: Global, graph: &Graph) -> Result<Graph, Memory>
     ensures jumps { IfOk result (λ cleaned. HasCleanJumps cleaned.nodes) }
     ensures same { IfOk result (λ cleaned. UnitSame (machine_of graph.now) (machine_of cleaned)) }
     ensures cheaper { IfOk result (λ cleaned. UnitCheaper (machine_of graph.now) (machine_of cleaned)) }
+    ensures keeps { IfOk result (λ cleaned. Keeps (AsGraph graph.now) (AsGraph cleaned)) }
+
+    // each dividing assignment stays
+    ensures divides { IfOk result (λ cleaned. DividesStay graph.now.nodes cleaned.nodes) }
 
     // it makes no calls but those of the graph
     ensures calls { IfOk result (λ cleaned. (called count : ℕ) → NodesCall cleaned.nodes called count → NodesCall graph.now.nodes called count) }
@@ -56,7 +62,7 @@ fn cleaned(alloc: Global, graph: &Graph) -> Result<Vec<Node>, Memory>
 fn copied(alloc: Global, nodes: &[Node]) -> Result<Vec<Node>, Memory>
     ensures { IfOk result (λ copied. copied.items ≡ nodes.now) }
 {
-    let mut copied = Vec::new(alloc);
+    let mut copied = Vec::with_capacity(alloc, nodes.len())?;
     for node in nodes {
         copied.push(node.clone()?)?;
     }
@@ -69,7 +75,7 @@ fn redirect_all(alloc: Global, nodes: Vec<Node>, to: &[usize]) -> Result<Vec<Nod
     requires long { length to.now ≡ length nodes.items }
     ensures { IfOk result (λ redirected_nodes. redirected_nodes.items ≡ map (redirected (λ n. slice_index_or to.now n 0)) nodes.items) }
 {
-    let mut redirected = Vec::new(alloc);
+    let mut redirected = Vec::with_capacity(alloc, nodes.len())?;
     for node in nodes {
         redirected.push(redirect(node, to))?;
     }

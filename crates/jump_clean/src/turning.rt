@@ -50,7 +50,7 @@ fn numbers(alloc: Global, count: usize) -> Result<Vec<usize>, Memory>
     ensures all { IfOk result (λ numbers. (n : ℕ) → n < count → In n numbers.items) }
     ensures below { IfOk result (λ numbers. AllBelow count numbers.items) }
 {
-    let mut numbers = Vec::new(alloc);
+    let mut numbers = Vec::with_capacity(alloc, count)?;
     for n in 0..count {
         numbers.push(n)?;
     }

@@ -1,11 +1,12 @@
-use Rattle.std.proofs.Common.{◌≡◌, ◌<◌, ◌+◌, ◌++◌, ◌∙◌, [], ◌∷◌, ap, sym, subst, refl, arith, length, map, drop, length-append}
+use Rattle.std.proofs.Common.{◌≡◌, ℕ, nat_lt, slice_index, ◌<◌, ◌+◌, ◌++◌, ◌∙◌, [], ◌∷◌, ap, sym, subst, refl, arith, length, map, drop, length-append}
 use Rattle.std.proofs.lemmas.List.{drop_more, drop_all, length-map}
 use Rattle.std.proofs.lemmas.Option.{slice_get_read}
 use Rattle.mir_base.specs.Shapes.{AllBelow}
 use Rattle.flow_graph.specs.declared.nodes.Node.TheVariants.{Skip}
 use Rattle.flow_graph.specs.Graphs.{node_succs}
-use Rattle.edge_split.specs.Split.{is_entered_twice, is_join, joins_among, split_nodes, rerouted, through, with_succs}
-use Rattle.edge_split.proofs.Targets.{targets}
+use Rattle.flow_graph.specs.Edges.{preds_of}
+use Rattle.edge_split.specs.Split.{has_more, is_join, joins_among, split_nodes, rerouted, through, with_succs}
+use Rattle.edge_split.proofs.Targets.{more_of_two, same_joins, same_through, targets}
 use Rattle.edge_split.proofs.Through.{one_rerouted, one_made}
 use Rattle.edge_split.proofs.Splits.{succs_below, all_made}
 use Rattle.edge_split.proofs.splitting.all_nodes.Goals as goal
@@ -14,7 +15,7 @@ pub reroute-requires-clause-within : goal.reroute-requires-clause-within
 reroute-requires-clause-within c =
     let old = c.nodes-old.result.now in
     let here = slice_get_read old (length old) c.loop-node.node-index c.node-item.result refl c.loop-node-test.true c.node-item.is in
-    subst (λ e. AllBelow e.nodes (node_succs c.node-item.result)) (sym c.loop-node.invariant.edges) (succs_below old c.loop-node.node-index c.node-item.result (λ m slot s edge. (c.nodes-old.ensures.graph.can.succs m slot s edge).1) here)
+    subst (λ n. AllBelow n (node_succs c.node-item.result)) (sym c.loop-node.invariant.long) (succs_below old c.loop-node.node-index c.node-item.result (λ m slot s edge. (c.nodes-old.ensures.graph.can.succs m slot s edge).1) here)
 
 pub loop-node-preserved : goal.loop-node-preserved
 loop-node-preserved c =
@@ -26,12 +27,15 @@ loop-node-preserved c =
     let made = c.reroute.new.self.made.items in
     let lt : i < length old = c.loop-node-test.true in
     let taken = drop_more old i node lt ∙ ap (λ n. n ∷ drop (i + 1) old) (sym c.node-item.is) in
-    let skips = subst (λ e. made ≡ before.made.items ++ map Skip (joins_among (is_entered_twice e.edges) (node_succs node))) inv.edges c.in_ok-rerouted.ensures.made in
-    let is = subst (λ e. c.in_ok-rerouted.rerouted ≡ with_succs node (through (is_entered_twice e.edges) (before.first + length before.made.items) (node_succs node))) inv.edges c.in_ok-rerouted.ensures.node in
+    let more = has_more before.entries.items in
+    let same : (s : ℕ) → more s ≡ is_join old s = λ s. ap (nat_lt 1) (inv.entries s) ∙ more_of_two (length (preds_of old s)) in
+    let skips : made ≡ before.made.items ++ map Skip (joins_among (is_join old) (node_succs node)) = c.in_ok-rerouted.ensures.made ∙ ap (λ l. before.made.items ++ map Skip l) (same_joins more (is_join old) same (node_succs node)) in
+    let is : c.in_ok-rerouted.rerouted ≡ with_succs node (through (is_join old) (before.first + length before.made.items) (node_succs node)) = c.in_ok-rerouted.ensures.node ∙ ap (with_succs node) (same_through more (is_join old) same (node_succs node) (before.first + length before.made.items)) in
     let joins = joins_among (is_join old) (node_succs node) in
     let sum : c.reroute.new.self.first + length made ≡ before.first + length before.made.items + length joins = omega (arith, c.in_ok-rerouted.ensures.first, ap length skips, length-append before.made.items (map Skip joins), length-map joins Skip) in
     record {
-      edges = c.in_ok-rerouted.ensures.edges ∙ inv.edges;
+      long = ap length c.in_ok-rerouted.ensures.entries ∙ inv.long;
+      entries = λ s. ap (λ l. slice_index l s) c.in_ok-rerouted.ensures.entries ∙ inv.entries s;
       first = c.in_ok-rerouted.ensures.first ∙ inv.first;
       nodes = one_rerouted (is_join old) (drop i old) (drop (i + 1) old) node c.in_ok-rerouted.rerouted _ _ c.loop-node.nodes.items c.push.new.self.items _ taken c.in_ok-push.ensures.items is sum inv.nodes;
       made = one_made (is_join old) (drop i old) (drop (i + 1) old) node before.made.items made _ taken skips inv.made;

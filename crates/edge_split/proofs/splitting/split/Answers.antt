@@ -1,6 +1,7 @@
 use Rattle.std.proofs.Common.{ℕ, ◌<◌, [], ◌++◌, ◌∙◌, ap, sym, subst, length, append-nil}
 use Rattle.flow_graph.specs.Graphs.{CanMake, Reached}
 use Rattle.edge_split.specs.Split.{IsEdgeSplit}
+use Rattle.edge_split.specs.SplitLaws.{split_stay}
 use Rattle.edge_split.proofs.Splits.{split_can_make, split_reached, edge_split_splits, edge_split_same, edge_split_cheaper, edge_split_calls}
 use Rattle.edge_split.proofs.splitting.split.Goals as goal
 
@@ -38,3 +39,14 @@ returns-clause-cheaper c = edge_split_cheaper c.args.graph.now c.in_ok-nodes.ens
 
 pub returns-clause-calls : goal.returns-clause-calls
 returns-clause-calls c = edge_split_calls c.args.graph.now c.in_ok-nodes.ensures.graph c.in_ok-made.made (exact c)
+
+pub returns-clause-keeps : goal.returns-clause-keeps
+returns-clause-keeps c = record {
+  name = c.in_ok-made.ensures.made.name_is;
+  same = returns-clause-same c;
+  cheaper = returns-clause-cheaper c;
+  calls = returns-clause-calls c;
+}
+
+pub returns-clause-divides : goal.returns-clause-divides
+returns-clause-divides c = split_stay c.args.graph.now c.in_ok-made.made (exact c)

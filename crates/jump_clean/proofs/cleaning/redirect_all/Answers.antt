@@ -9,7 +9,7 @@ pub loop-node-init : goal.loop-node-init
 loop-node-init c =
     let all = c.into_iter-node-iterator.ensures.into_iter_gives.0 in
     record {
-      all = ap (λ l. l ++ map (redirected (λ n. slice_index_or c.args.to.now n 0)) c.into_iter-node-iterator.result.rest.items) c.new-redirected.ensures.items ∙ ap (map (redirected (λ n. slice_index_or c.args.to.now n 0))) all;
+      all = ap (λ l. l ++ map (redirected (λ n. slice_index_or c.args.to.now n 0)) c.into_iter-node-iterator.result.rest.items) c.in_ok-redirected.ensures.items ∙ ap (map (redirected (λ n. slice_index_or c.args.to.now n 0))) all;
       below = λ k node e. subst (λ n. SuccsBelow n node) (sym c.requires.long) (succs_below c.args.nodes.items k node c.requires.within (sym (ap (λ l. slice_get l k) all) ∙ e));
     }
 

@@ -25,7 +25,7 @@ returns-in_ok-checks-in-Some-clause-joining c = λ raw pending e j.
     let checks = c.in_ok-checks-in-Some.checks.items in
     let long = all_long raw j.order nodes j.turns in
     pending_joined raw nodes c.args.classes.now.of.items pending c.args.n j c.in-Some.next c.join.new.self.of.items c.in_ok-moved-in-Some.moved.items checks skip c.in_ok-moved-in-Some.ensures.joined
-    (λ m s slot moved edge. c.in_ok-checks-in-Some.ensures.all s m (subst (In s) (sym c.as_slice.ensures.value) moved) (subst (λ l. In m (preds_among s l)) (sym edges) (in_preds raw m s slot edge)))
+    (λ m s slot moved edge. c.in_ok-checks-in-Some.ensures.all s m (subst (In s) (sym c.as_slice.ensures) moved) (subst (λ l. In m (preds_among s l)) (sym edges) (in_preds raw m s slot edge)))
     (all_below (length nodes) checks (λ m h. let r = c.in_ok-checks-in-Some.ensures.only m h in omega (arith, preds_below raw r.0 m (subst (λ l. In m (preds_among r.0 l)) edges r.2), long)))
 
 pub returns-in-None-clause-joining : goal.returns-in-None-clause-joining

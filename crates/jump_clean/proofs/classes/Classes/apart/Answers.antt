@@ -9,7 +9,7 @@ loop-n-preserved c =
     let n = c.loop-n.n in
     let lists = map (λ v. v.items) c.loop-n.members.items in
     let pushed : map (λ v. v.items) c.push-in-loop-n.new.self.items ≡ lists ++ (n ∷ []) ∷ [] =
-    ap (map (λ v. v.items)) c.in_ok-push-2.ensures.items ∙ map_push (λ v. v.items) c.loop-n.members.items c.in_ok-alone.alone ∙ ap (λ l. lists ++ l ∷ []) c.in_ok-alone.ensures in
+    ap (map (λ v. v.items)) c.in_ok-push-2.ensures.items ∙ map_push (λ v. v.items) c.loop-n.members.items c.one.result ∙ ap (λ l. lists ++ l ∷ []) c.one.ensures in
     record {
       long = ap length c.in_ok-push.ensures.items ∙ push_long c.loop-n.of.items n ∙ ap (λ k. k + 1) inv.long;
       members_long = ap length pushed ∙ push_long lists (n ∷ []) ∙ ap (λ k. k + 1) inv.members_long;
