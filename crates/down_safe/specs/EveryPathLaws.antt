@@ -5,10 +5,11 @@ use Rattle.std.proofs.lemmas.Option.{none-some}
 use Rattle.mir_base.specs.declared.instructions.Expr.{Expr}
 use Rattle.flow_graph.specs.declared.nodes.Node.{Node}
 use Rattle.flow_graph.specs.declared.nodes.Node.TheVariants.{Start, Skip, Assign, Print, Call, Test, Return}
-use Rattle.flow_graph.specs.Graphs.{IsEdge, succs_at, succs_of}
+use Rattle.flow_graph.specs.Graphs.{GraphShape, IsEdge, succs_at, succs_of}
 use Rattle.flow_graph.specs.Paths.{HasEdge, IsReturnAt, is_return}
 use Rattle.path_laws.specs.Paths.{EndsWell}
-use Rattle.motion_rewrite.specs.Expressions.{kills, node_kills, uses}
+use Rattle.motion_rewrite.specs.Expressions.{kills, uses}
+use Rattle.motion_rewrite.specs.ExpressionLaws.{skip_keeps}
 use Rattle.motion_rewrite.specs.Placements.{DownLaws, IsAnticipatable}
 
 -- an edge leaves a node that is there
@@ -34,46 +35,46 @@ only : (s k : ℕ) (slot : ℕ) → slice_get (s ∷ []) slot ≡ Some k → k �
 only s k zero e = cc
 only s k (suc slot) e = absurd (none-some _ e)
 
-module _ (nodes : List Node) (e : Expr) where
+module _ (graph : GraphShape) (e : Expr) where
   Down : ℕ → Type 0
-  Down = IsAnticipatable nodes e
+  Down = IsAnticipatable graph e
 
   -- a node that does not use has no path to itself alone that ends well
-  not_alone : (n : ℕ) → n < length nodes → IsAnticipatable nodes e n → uses nodes e n ≡ false → EndsWell nodes (kills nodes e) (n ∷ []) → ⊥
+  not_alone : (n : ℕ) → n < length graph.nodes → IsAnticipatable graph e n → uses graph e n ≡ false → EndsWell graph.nodes (kills graph e) (n ∷ []) → ⊥
   not_alone n lt down unused ends = elim (down (n ∷ []) lt refl ends) [ inl used ↦ true≢false (sym used ∙ unused) | inr none ↦ none ]
 
-  keeps : (n : ℕ) → n < length nodes → IsAnticipatable nodes e n → uses nodes e n ≡ false → kills nodes e n ≡ false
+  keeps : (n : ℕ) → n < length graph.nodes → IsAnticipatable graph e n → uses graph e n ≡ false → kills graph e n ≡ false
   keeps n lt down unused =
-      elim (cases_Bool (kills nodes e n)) [
+      elim (cases_Bool (kills graph e n)) [
         | inl kill ↦ absurd (not_alone n lt down unused (inl kill))
         | inr keep ↦ keep
       ]
 
-  onward : (n s : ℕ) → IsAnticipatable nodes e n → uses nodes e n ≡ false → HasEdge nodes n s → IsAnticipatable nodes e s
+  onward : (n s : ℕ) → IsAnticipatable graph e n → uses graph e n ≡ false → HasEdge graph.nodes n s → IsAnticipatable graph e s
   onward n s down unused edge [] is begins ends = absurd is
   onward n s down unused edge (k ∷ path) is begins ends =
-      let to_k : HasEdge nodes n k = subst (HasEdge nodes n) (sym begins) edge in
-      let keep = keeps n (inside nodes n edge.0 edge.1) down unused in
+      let to_k : HasEdge graph.nodes n k = subst (HasEdge graph.nodes n) (sym begins) edge in
+      let keep = keeps n (inside graph.nodes n edge.0 edge.1) down unused in
       elim (down (n ∷ k ∷ path) (to_k, is) refl (keep, ends)) [ inl used ↦ absurd (true≢false (sym used ∙ unused)) | inr met ↦ met ]
 
-  skips : (n s : ℕ) → slice_get nodes n ≡ Some (Skip s) → IsAnticipatable nodes e s → IsAnticipatable nodes e n
+  skips : (n s : ℕ) → slice_get graph.nodes n ≡ Some (Skip s) → IsAnticipatable graph e s → IsAnticipatable graph e n
   skips n s here down [] is begins ends = absurd is
-  skips n s here down (m ∷ []) is begins (inl kill) = absurd (true≢false (sym kill ∙ ap (node_kills e) (ap (slice_get nodes) begins ∙ here)))
-  skips n s here down (m ∷ []) is begins (inr return) = absurd (true≢false (sym return ∙ ap is_return (ap (slice_get nodes) begins ∙ here)))
+  skips n s here down (m ∷ []) is begins (inl kill) = absurd (true≢false (sym kill ∙ skip_keeps graph e m s (ap (slice_get graph.nodes) begins ∙ here)))
+  skips n s here down (m ∷ []) is begins (inr return) = absurd (true≢false (sym return ∙ ap is_return (ap (slice_get graph.nodes) begins ∙ here)))
   skips n s here down (m ∷ k ∷ path) is begins ends =
       let to_k = is.0 in
-      let next : k ≡ s = only s k to_k.0 (sym (ap (λ o. slice_get (succs_of o) to_k.0) (ap (slice_get nodes) begins ∙ here)) ∙ to_k.1) in
+      let next : k ≡ s = only s k to_k.0 (sym (ap (λ o. slice_get (succs_of o) to_k.0) (ap (slice_get graph.nodes) begins ∙ here)) ∙ to_k.1) in
       inr (down (k ∷ path) is.1 next ends.1)
 
-  first_use : (n : ℕ) → uses nodes e n ≡ true → IsAnticipatable nodes e n
+  first_use : (n : ℕ) → uses graph e n ≡ true → IsAnticipatable graph e n
   first_use n used [] is begins ends = absurd is
-  first_use n used (m ∷ path) is begins ends = inl (ap (uses nodes e) begins ∙ used)
+  first_use n used (m ∷ path) is begins ends = inl (ap (uses graph e) begins ∙ used)
 
-  pub every_path_laws : DownLaws nodes e (IsAnticipatable nodes e)
+  pub every_path_laws : DownLaws graph e (IsAnticipatable graph e)
   every_path_laws = record {
     used = λ n lt. first_use n;
     keeps = keeps;
-    continues = λ n lt down unused none. not_alone n lt down unused (inr (returns nodes n lt none));
+    continues = λ n lt down unused none. not_alone n lt down unused (inr (returns graph.nodes n lt none));
     onward = onward;
     skips = skips;
   }

@@ -9,7 +9,7 @@ ghost use Rattle.down_safe.specs.Busy.{IsBusy};
 use crate::{DownRule, busy};
 use flow_graph::{Edges, Graph};
 use mir_base::Memory;
-use motion_rewrite::{ExprTable, Placement, use_rows};
+use motion_rewrite::{ExprTable, Placement};
 use std::alloc::Global;
 
 /// The busy placement of each expression of the table: it inserts at the earliest nodes and replaces every use. The graph
@@ -26,15 +26,14 @@ pub fn busy_placement<R: DownRule>(
     requires edges { edges.now ≡ edges_of graph.now.nodes }
     ensures insert { IfOk result (λ p. AreRows (length graph.now.nodes) (length table.now) p.insert) }
     ensures replace { IfOk result (λ p. AreRows (length graph.now.nodes) (length table.now) p.replace) }
-    ensures busy { IfOk result (λ p. (i : ℕ) (e : Expr) → slice_get table.now i ≡ Some e → IsBusy graph.now.nodes e (R.is_down rule.now graph.now.nodes e) (places_of p i)) }
-    ensures admissible { IfOk result (λ p. (i : ℕ) (e : Expr) → slice_get table.now i ≡ Some e → IsAdmissible graph.now.nodes e (R.is_down rule.now graph.now.nodes e) (places_of p i)) }
+    ensures busy { IfOk result (λ p. (i : ℕ) (e : Expr) → slice_get table.now i ≡ Some e → IsBusy graph.now e (R.is_down rule.now graph.now e) (places_of p i)) }
+    ensures admissible { IfOk result (λ p. (i : ℕ) (e : Expr) → slice_get table.now i ≡ Some e → IsAdmissible graph.now e (R.is_down rule.now graph.now e) (places_of p i)) }
 {
     let busy = busy(alloc, rule, graph, edges, table)?;
-    let uses = use_rows(alloc, graph, table)?;
     // The proof needs what holds of every graph: that each node is reached.
     let _ = graph.nodes();
     Ok(Placement {
         insert: busy.early,
-        replace: uses,
+        replace: busy.uses,
     })
 }

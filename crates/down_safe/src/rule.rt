@@ -1,40 +1,46 @@
 // Down rules.
 ghost use Rattle.std.specs.Prelude.{◌≡◌, ℕ, ◌<◌, ◌↔◌, true, List, length, slice_get, IfOk, Some};
 ghost use Rattle.mir_base.specs.declared.instructions.Expr.{Expr};
-ghost use Rattle.flow_graph.specs.declared.nodes.Node.{Node};
 ghost use Rattle.flow_graph.specs.Edges.{IsSplit, edges_of};
-ghost use Rattle.flow_graph.specs.Graphs.{IsGraph};
+ghost use Rattle.flow_graph.specs.Graphs.{GraphShape, IsGraph};
 ghost use Rattle.path_laws.specs.Paths.{AreRows, has_bit};
+ghost use Rattle.motion_rewrite.specs.Expressions.{kills, uses};
+ghost use Rattle.motion_rewrite.specs.Rows.{AreRowsOf};
 ghost use Rattle.motion_rewrite.specs.Placements.{DownLaws, IsAnticipatable};
 ghost use Rattle.down_safe.specs.EveryPathLaws.{every_path_laws};
 
 use bit_rows::Rows;
 use flow_graph::{Edges, Graph};
 use mir_base::Memory;
-use motion_rewrite::{ExprTable, kill_rows, use_rows};
+use motion_rewrite::ExprTable;
 use path_laws::backward_all;
 use std::alloc::Global;
 
 /// A down rule: at which nodes an expression may be evaluated since what follows uses it. Its meaning, `is_down`, says of
-/// the nodes of a graph and an expression which nodes are down, and keeps the laws of a down rule on every split graph.
+/// a graph and an expression which nodes are down, and keeps the laws of a down rule on every split graph.
 pub trait DownRule {
-    ghost is_down: { Self → List Node → Expr → ℕ → Type 0 };
+    ghost is_down: { Self → GraphShape → Expr → ℕ → Type 0 };
 
     /// At which nodes each expression of the table is down: one row for each node, one bit for each expression. The graph
-    /// is split, and `edges` are those of `graph`. Its only refusal is want of memory.
+    /// is split, `edges` are those of `graph`, and `used` and `killed` are the rows of where each expression is used and
+    /// killed. Its only refusal is want of memory.
     fn down(
         &self,
         alloc: Global,
         graph: &Graph,
         edges: &Edges,
         table: &ExprTable,
+        used: &Rows,
+        killed: &Rows,
     ) -> Result<Rows, Memory>
         requires split { IsSplit graph.now.nodes }
         requires edges { edges.now ≡ edges_of graph.now.nodes }
+        requires used { AreRowsOf graph.now table.now (uses graph.now) used.now }
+        requires killed { AreRowsOf graph.now table.now (kills graph.now) killed.now }
         ensures shape { IfOk result (λ rows. AreRows (length graph.now.nodes) (length table.now) rows) }
-        ensures down { IfOk result (λ rows. (n i : ℕ) (e : Expr) → n < length graph.now.nodes → slice_get table.now i ≡ Some e → (has_bit rows i n ≡ true) ↔ is_down self.now graph.now.nodes e n) };
+        ensures down { IfOk result (λ rows. (n i : ℕ) (e : Expr) → n < length graph.now.nodes → slice_get table.now i ≡ Some e → (has_bit rows i n ≡ true) ↔ is_down self.now graph.now e n) };
 
-    ghost laws: { (rule : Self) (vars : List (List ℕ)) (received : List ℕ) (nodes : List Node) → IsGraph vars received nodes → IsSplit nodes → (e : Expr) → DownLaws nodes e (is_down rule nodes e) };
+    ghost laws: { (rule : Self) (graph : GraphShape) → IsGraph graph.vars graph.received graph.nodes → IsSplit graph.nodes → (e : Expr) → DownLaws graph e (is_down rule graph e) };
 }
 
 /// The rule of anticipatable expressions: a node is down where every path from it that ends at its first killing node, or
@@ -44,20 +50,20 @@ pub trait DownRule {
 pub struct EveryPath;
 
 impl DownRule for EveryPath {
-    ghost is_down = { λ rule nodes e n. IsAnticipatable nodes e n };
+    ghost is_down = { λ rule graph e n. IsAnticipatable graph e n };
 
     fn down(
         &self,
         alloc: Global,
         graph: &Graph,
         edges: &Edges,
-        table: &ExprTable,
+        _table: &ExprTable,
+        used: &Rows,
+        killed: &Rows,
     ) -> Result<Rows, Memory> {
-        let uses = use_rows(alloc, graph, table)?;
-        let kills = kill_rows(alloc, graph, table)?;
-        let rows = backward_all(alloc, graph, edges, &uses, &kills)?;
+        let rows = backward_all(alloc, graph, edges, used, killed)?;
         Ok(rows)
     }
 
-    ghost laws = { λ rule vars received nodes graph split e. every_path_laws nodes e };
+    ghost laws = { λ rule graph is_graph split e. every_path_laws graph e };
 }

@@ -1,10 +1,6 @@
-pub mod Stable
-pub mod Walks
-pub mod Inequalities
 pub mod Admissible
 pub mod Counts
 pub mod Optimal
 pub mod Combined
-pub mod Successors
 pub mod Says
 pub mod Reading

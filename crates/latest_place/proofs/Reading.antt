@@ -1,7 +1,7 @@
 -- The rows give the lazy placement.
 use Rattle.std.proofs.Common.{◌≡◌, ◌<◌, ◌↔◌, ◌&&◌, not, ℕ, Bool, true, false, refl, sym, subst, ◌∙◌, inl, inr, List, [], ◌∷◌, length}
 use Rattle.mir_base.specs.declared.instructions.Expr.{Expr}
-use Rattle.flow_graph.specs.declared.nodes.Node.{Node}
+use Rattle.flow_graph.specs.Graphs.{GraphShape}
 use Rattle.flow_graph.specs.Paths.{Begins, HasEdge, IsPath, Trace, goes_on}
 use Rattle.path_laws.specs.Paths.{EndsBorn, Since}
 use Rattle.motion_rewrite.specs.Expressions.{uses}
@@ -11,34 +11,34 @@ use Rattle.latest_place.specs.Lazy.{ComesToUse, IsDelayed, IsIsolated, IsLatest,
 use Rattle.latest_place.specs.Rows.{IsDelayedBit, IsLatestBit, IsNeededBit}
 use Rattle.latest_place.proofs.Admissible.{IsNeeded}
 use Rattle.latest_place.proofs.Says.{both_say, not_says, off_says}
-use Rattle.latest_place.proofs.Stable.{not_both, split_bit}
-use Rattle.latest_place.proofs.Walks.{Walks}
+use Rattle.latest_place.specs.Stable.{not_both, split_bit}
+use Rattle.latest_place.specs.Walks.{Walks}
 
 -- the bits of one expression, by node, each read from those before it
-pub record AreLazyBits (nodes : List Node) (e : Expr) (Down : ℕ → Type 0) (early used delayed latest needed : ℕ → Bool) (p : Places) : Type 0 where
-  pub early_is : (n : ℕ) → n < length nodes → (early n ≡ true) ↔ IsEarliest nodes e Down n
-  pub used_is : (n : ℕ) → n < length nodes → used n ≡ uses nodes e n
-  pub delayed_is : (n : ℕ) → n < length nodes → (delayed n ≡ true) ↔ IsDelayedBit nodes early used n
-  pub latest_is : (n : ℕ) → n < length nodes → (latest n ≡ true) ↔ IsLatestBit nodes delayed used n
-  pub needed_is : (n : ℕ) → n < length nodes → (needed n ≡ true) ↔ IsNeededBit nodes latest used n
+pub record AreLazyBits (graph : GraphShape) (e : Expr) (Down : ℕ → Type 0) (early used delayed latest needed : ℕ → Bool) (p : Places) : Type 0 where
+  pub early_is : (n : ℕ) → n < length graph.nodes → (early n ≡ true) ↔ IsEarliest graph e Down n
+  pub used_is : (n : ℕ) → n < length graph.nodes → used n ≡ uses graph e n
+  pub delayed_is : (n : ℕ) → n < length graph.nodes → (delayed n ≡ true) ↔ IsDelayedBit graph.nodes early used n
+  pub latest_is : (n : ℕ) → n < length graph.nodes → (latest n ≡ true) ↔ IsLatestBit graph.nodes delayed used n
+  pub needed_is : (n : ℕ) → n < length graph.nodes → (needed n ≡ true) ↔ IsNeededBit graph.nodes latest used n
   pub inserts_is : (n : ℕ) → p.inserts n ≡ (latest n && needed n)
   pub replaces_is : (n : ℕ) → p.replaces n ≡ (used n && not (latest n && not (needed n)))
 
-module _ (nodes : List Node) (walks : Walks nodes) (e : Expr) (Down : ℕ → Type 0) (early used delayed latest needed : ℕ → Bool) (p : Places)
-    (rows : AreLazyBits nodes e Down early used delayed latest needed p) where
+module _ (graph : GraphShape) (walks : Walks graph) (e : Expr) (Down : ℕ → Type 0) (early used delayed latest needed : ℕ → Bool) (p : Places)
+    (rows : AreLazyBits graph e Down early used delayed latest needed p) where
   -- ---- delayed
 
-  since_serves : (n : ℕ) (before : List ℕ) → Trace nodes n before → Since (λ m. early m && not (used m)) used before → Serves (IsEarliest nodes e Down) (uses nodes e) before
+  since_serves : (n : ℕ) (before : List ℕ) → Trace graph.nodes n before → Since (λ m. early m && not (used m)) used before → Serves (IsEarliest graph e Down) (uses graph e) before
   since_serves n [] t h = absurd h
   since_serves n (m ∷ before) (goes_on m0 n0 before0 t edge) h =
       let below = walks.sources_below m n edge in
-      let free : used m ≡ false → uses nodes e m ≡ false = λ off. sym (rows.used_is m below) ∙ off in
+      let free : used m ≡ false → uses graph e m ≡ false = λ off. sym (rows.used_is m below) ∙ off in
       elim h [
         | inl here ↦ (let both = (both_say (early m) (not (used m))).0 here in (free ((not_says (used m)).0 both.1), inl ((rows.early_is m below).0 both.0)))
         | inr more ↦ (free more.0, inr (since_serves m before t more.1))
       ]
 
-  serves_since : (n : ℕ) (before : List ℕ) → Trace nodes n before → Serves (IsEarliest nodes e Down) (uses nodes e) before → Since (λ m. early m && not (used m)) used before
+  serves_since : (n : ℕ) (before : List ℕ) → Trace graph.nodes n before → Serves (IsEarliest graph e Down) (uses graph e) before → Since (λ m. early m && not (used m)) used before
   serves_since n [] t h = absurd h
   serves_since n (m ∷ before) (goes_on m0 n0 before0 t edge) h =
       let below = walks.sources_below m n edge in
@@ -48,16 +48,16 @@ module _ (nodes : List Node) (walks : Walks nodes) (e : Expr) (Down : ℕ → Ty
         | inr more ↦ inr (off, serves_since m before t more)
       ]
 
-  delayed_says : (n : ℕ) → n < length nodes → (delayed n ≡ true) ↔ IsDelayed nodes e Down n
+  delayed_says : (n : ℕ) → n < length graph.nodes → (delayed n ≡ true) ↔ IsDelayed graph e Down n
   delayed_says n below = (to, from)
     where
-      to : delayed n ≡ true → IsDelayed nodes e Down n
+      to : delayed n ≡ true → IsDelayed graph e Down n
       to on before t = elim ((rows.delayed_is n below).0 on) [
         | inl here ↦ inl ((rows.early_is n below).0 here)
         | inr run ↦ inr (since_serves n before t (run before t))
       ]
 
-      from : IsDelayed nodes e Down n → delayed n ≡ true
+      from : IsDelayed graph e Down n → delayed n ≡ true
       from d = (rows.delayed_is n below).1 (split_bit (early n)
           (λ on. inl on)
           (λ off. inr (λ before t. serves_since n before t (elim (d before t) [
@@ -65,7 +65,7 @@ module _ (nodes : List Node) (walks : Walks nodes) (e : Expr) (Down : ℕ → Ty
             | inr s ↦ s
           ]))))
 
-  not_delayed : (n : ℕ) → n < length nodes → (delayed n ≡ false) ↔ ¬ (IsDelayed nodes e Down n)
+  not_delayed : (n : ℕ) → n < length graph.nodes → (delayed n ≡ false) ↔ ¬ (IsDelayed graph e Down n)
   not_delayed n below = (
     λ off d. not_both ((delayed_says n below).1 d) off,
     λ nd. (off_says (delayed n)).1 (λ on. nd ((delayed_says n below).0 on)),
@@ -73,7 +73,7 @@ module _ (nodes : List Node) (walks : Walks nodes) (e : Expr) (Down : ℕ → Ty
 
   -- ---- latest
 
-  latest_says : (n : ℕ) → n < length nodes → (latest n ≡ true) ↔ IsLatest nodes e Down n
+  latest_says : (n : ℕ) → n < length graph.nodes → (latest n ≡ true) ↔ IsLatest graph e Down n
   latest_says n below = (
     λ on. let l = (rows.latest_is n below).0 on in (
       (delayed_says n below).0 l.0,
@@ -91,7 +91,7 @@ module _ (nodes : List Node) (walks : Walks nodes) (e : Expr) (Down : ℕ → Ty
     ),
   )
 
-  not_latest : (n : ℕ) → n < length nodes → (latest n ≡ false) ↔ ¬ (IsLatest nodes e Down n)
+  not_latest : (n : ℕ) → n < length graph.nodes → (latest n ≡ false) ↔ ¬ (IsLatest graph e Down n)
   not_latest n below = (
     λ off l. not_both ((latest_says n below).1 l) off,
     λ nl. (off_says (latest n)).1 (λ on. nl ((latest_says n below).0 on)),
@@ -99,58 +99,58 @@ module _ (nodes : List Node) (walks : Walks nodes) (e : Expr) (Down : ℕ → Ty
 
   -- ---- needed
 
-  ends_comes : (path : List ℕ) → IsPath nodes path → EndsBorn (λ m. used m && not (latest m)) latest path → ComesToUse nodes e Down path
+  ends_comes : (path : List ℕ) → IsPath graph.nodes path → EndsBorn (λ m. used m && not (latest m)) latest path → ComesToUse graph e Down path
   ends_comes [] is ends = absurd is
   ends_comes (n ∷ []) is ends =
       let both = (both_say (used n) (not (latest n))).0 ends in
       ((not_latest n is).0 ((not_says (latest n)).0 both.1), sym (rows.used_is n is) ∙ both.0)
   ends_comes (m ∷ n ∷ path) is ends = ((not_latest m (walks.sources_below m n is.0)).0 ends.0, ends_comes (n ∷ path) is.1 ends.1)
 
-  comes_ends : (path : List ℕ) → IsPath nodes path → ComesToUse nodes e Down path → EndsBorn (λ m. used m && not (latest m)) latest path
+  comes_ends : (path : List ℕ) → IsPath graph.nodes path → ComesToUse graph e Down path → EndsBorn (λ m. used m && not (latest m)) latest path
   comes_ends [] is comes = absurd comes
   comes_ends (n ∷ []) is comes = (both_say (used n) (not (latest n))).1 (rows.used_is n is ∙ comes.1, (not_says (latest n)).1 ((not_latest n is).1 comes.0))
   comes_ends (m ∷ n ∷ path) is comes = ((not_latest m (walks.sources_below m n is.0)).1 comes.0, comes_ends (n ∷ path) is.1 comes.1)
 
   -- an edge before a path
-  one_more : (n s : ℕ) (path : List ℕ) → HasEdge nodes n s → IsPath nodes path → Begins s path → IsPath nodes (n ∷ path)
+  one_more : (n s : ℕ) (path : List ℕ) → HasEdge graph.nodes n s → IsPath graph.nodes path → Begins s path → IsPath graph.nodes (n ∷ path)
   one_more n s [] edge is begins = absurd is
-  one_more n s (k ∷ path) edge is begins = (subst (HasEdge nodes n) (sym begins) edge, is)
+  one_more n s (k ∷ path) edge is begins = (subst (HasEdge graph.nodes n) (sym begins) edge, is)
 
-  to_needed : (n : ℕ) → IsNeededBit nodes latest used n → IsNeeded nodes e Down n
+  to_needed : (n : ℕ) → IsNeededBit graph.nodes latest used n → IsNeeded graph e Down n
   to_needed n s = (s.2.path, one_more n s.0 s.2.path s.1 s.2.is_path s.2.begins, ends_comes s.2.path s.2.is_path s.2.ends)
 
-  from_needed : (n : ℕ) (path : List ℕ) → IsPath nodes (n ∷ path) → ComesToUse nodes e Down path → IsNeededBit nodes latest used n
+  from_needed : (n : ℕ) (path : List ℕ) → IsPath graph.nodes (n ∷ path) → ComesToUse graph e Down path → IsNeededBit graph.nodes latest used n
   from_needed n [] is comes = absurd comes
   from_needed n (s ∷ path) is comes = (s, is.0, record { path = s ∷ path; is_path = is.1; begins = refl; ends = comes_ends (s ∷ path) is.1 comes })
 
   -- ---- the placement
 
-  not_isolated : (n : ℕ) → n < length nodes → needed n ≡ true → ¬ (IsIsolated nodes e Down n)
+  not_isolated : (n : ℕ) → n < length graph.nodes → needed n ≡ true → ¬ (IsIsolated graph e Down n)
   not_isolated n below on isolated = let more = to_needed n ((rows.needed_is n below).0 on) in isolated more.0 more.1 more.2
 
-  isolated : (n : ℕ) → n < length nodes → needed n ≡ false → IsIsolated nodes e Down n
+  isolated : (n : ℕ) → n < length graph.nodes → needed n ≡ false → IsIsolated graph e Down n
   isolated n below off path is comes = not_both ((rows.needed_is n below).1 (from_needed n path is comes)) off
 
-  pub rows_are_lazy : IsLazy nodes e Down p
+  pub rows_are_lazy : IsLazy graph e Down p
   rows_are_lazy = record { inserts_at = λ n below. (inserted n below, inserts n below); replaces_at = λ n below. (replaced n below, replaces n below) }
     where
-      inserted : (n : ℕ) → n < length nodes → p.inserts n ≡ true → IsLatest nodes e Down n × (IsIsolated nodes e Down n → ⊥)
+      inserted : (n : ℕ) → n < length graph.nodes → p.inserts n ≡ true → IsLatest graph e Down n × (IsIsolated graph e Down n → ⊥)
       inserted n below on =
           let both = (both_say (latest n) (needed n)).0 (sym (rows.inserts_is n) ∙ on) in
           ((latest_says n below).0 both.0, not_isolated n below both.1)
 
-      inserts : (n : ℕ) → n < length nodes → IsLatest nodes e Down n × (IsIsolated nodes e Down n → ⊥) → p.inserts n ≡ true
+      inserts : (n : ℕ) → n < length graph.nodes → IsLatest graph e Down n × (IsIsolated graph e Down n → ⊥) → p.inserts n ≡ true
       inserts n below h =
           rows.inserts_is n ∙ (both_say (latest n) (needed n)).1 ((latest_says n below).1 h.0, split_bit (needed n) (λ on. on) (λ off. absurd (h.1 (isolated n below off))))
 
-      replaced : (n : ℕ) → n < length nodes → p.replaces n ≡ true → (uses nodes e n ≡ true) × (IsLatest nodes e Down n × IsIsolated nodes e Down n → ⊥)
+      replaced : (n : ℕ) → n < length graph.nodes → p.replaces n ≡ true → (uses graph e n ≡ true) × (IsLatest graph e Down n × IsIsolated graph e Down n → ⊥)
       replaced n below on =
           let both = (both_say (used n) (not (latest n && not (needed n)))).0 (sym (rows.replaces_is n) ∙ on) in (
             sym (rows.used_is n below) ∙ both.0,
             λ h. not_both ((both_say (latest n) (not (needed n))).1 ((latest_says n below).1 h.0, (not_says (needed n)).1 ((off_says (needed n)).1 (λ needs. not_isolated n below needs h.1)))) ((not_says (latest n && not (needed n))).0 both.1),
           )
 
-      replaces : (n : ℕ) → n < length nodes → (uses nodes e n ≡ true) × (IsLatest nodes e Down n × IsIsolated nodes e Down n → ⊥) → p.replaces n ≡ true
+      replaces : (n : ℕ) → n < length graph.nodes → (uses graph e n ≡ true) × (IsLatest graph e Down n × IsIsolated graph e Down n → ⊥) → p.replaces n ≡ true
       replaces n below h =
           let off : (latest n && not (needed n)) ≡ false = (off_says (latest n && not (needed n))).1 (λ on.
           let both = (both_say (latest n) (not (needed n))).0 on in

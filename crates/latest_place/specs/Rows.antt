@@ -1,19 +1,9 @@
 -- What rows of bits say from which the lazy placement is read. A bit stands for an expression, and says by node where it is
 -- earliest, used, delayed or latest.
-use Rattle.std.specs.Prelude.{◌≡◌, ◌⊎◌, ◌<◌, ◌&&◌, ℕ, Bool, true, false, not, List, length}
-use Rattle.bit_rows.specs.Bits.{row_of}
+use Rattle.std.specs.Prelude.{◌≡◌, ◌⊎◌, ◌&&◌, ℕ, Bool, true, false, not, List}
 use Rattle.flow_graph.specs.declared.nodes.Node.{Node}
 use Rattle.flow_graph.specs.Paths.{HasEdge}
-use Rattle.path_laws.specs.Paths.{BornAhead, BornBefore, has_bit}
-
--- as many rows as the first, each with as many bits
-pub record AreAlike (rows other : List (List Bool)) : Type 0 where
-  pub len : length other ≡ length rows
-  pub each : (n : ℕ) → n < length rows → length (row_of other n) ≡ length (row_of rows n)
-
--- some successor of node n has the bit
-abbrev pub SomeSucc : List Node → List (List Bool) → ℕ → ℕ → Type 0
-SomeSucc nodes rows bit n = (s : ℕ) × HasEdge nodes n s × (has_bit rows bit s ≡ true)
+use Rattle.path_laws.specs.Paths.{BornAhead, BornBefore}
 
 -- n is earliest, or every path to n has an earliest node before n such that no node from it on uses
 abbrev pub IsDelayedBit : List Node → (ℕ → Bool) → (ℕ → Bool) → ℕ → Type 0

@@ -5,7 +5,6 @@
 //! admissible, and on no full path does it evaluate an expression more often than any other admissible placement does.
 #![tactic(auto)]
 
-mod combine;
 mod nodes;
 mod placement;
 #[cfg(test)]

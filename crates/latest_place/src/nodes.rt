@@ -3,13 +3,13 @@ ghost use Rattle.std.specs.Prelude.{◌≡◌, ℕ, ◌<◌, ◌↔◌, ◌&&◌
 ghost use Rattle.flow_graph.specs.Edges.{edges_of};
 ghost use Rattle.flow_graph.specs.Graphs.{IsGraph};
 ghost use Rattle.path_laws.specs.Paths.{AreRows, has_bit, width};
-ghost use Rattle.latest_place.specs.Rows.{AreAlike, IsDelayedBit, IsLatestBit, IsNeededBit};
+ghost use Rattle.bit_rows.specs.Bits.{AreAlike};
+ghost use Rattle.latest_place.specs.Rows.{IsDelayedBit, IsLatestBit, IsNeededBit};
 
-use crate::combine::{both, copied, either, opposite, some_successor, without};
 use bit_rows::Rows;
 use flow_graph::{Edges, Graph};
 use mir_base::Memory;
-use path_laws::{backward_some, forward_all};
+use path_laws::{backward_some, forward_all, some_successor};
 use std::alloc::Global;
 
 /// Where an evaluation at the earliest nodes can be delayed to.
@@ -26,9 +26,11 @@ pub(crate) fn delayed_rows(
     ensures shape { IfOk result (λ rows. AreRows (length graph.now.nodes) (width early.now) rows) }
     ensures bits { IfOk result (λ rows. (n b : ℕ) → n < length graph.now.nodes → b < width early.now → (has_bit rows b n ≡ true) ↔ IsDelayedBit graph.now.nodes (has_bit early.now b) (has_bit uses.now b) n) }
 {
-    let born = without(copied(alloc, early)?, uses);
-    let coming = forward_all(alloc, graph, edges, &born, uses)?;
-    Ok(either(coming, early))
+    let mut born = early.copied(alloc)?;
+    born.minus_rows(uses);
+    let mut rows = forward_all(alloc, graph, edges, &born, uses)?;
+    rows.or_rows(early);
+    Ok(rows)
 }
 
 /// Where the delay ends.
@@ -45,10 +47,12 @@ pub(crate) fn latest_rows(
     ensures shape { IfOk result (λ rows. AreRows (length graph.now.nodes) (width delayed.now) rows) }
     ensures bits { IfOk result (λ rows. (n b : ℕ) → n < length graph.now.nodes → b < width delayed.now → (has_bit rows b n ≡ true) ↔ IsLatestBit graph.now.nodes (has_bit delayed.now b) (has_bit uses.now b) n) }
 {
-    let undelayed = opposite(copied(alloc, delayed)?);
-    let onward = some_successor(alloc, graph, edges, &undelayed)?;
-    let ends = either(onward, uses);
-    Ok(both(ends, delayed))
+    let mut undelayed = delayed.copied(alloc)?;
+    undelayed.flip_rows(0);
+    let mut rows = some_successor(alloc, graph, edges, &undelayed)?;
+    rows.or_rows(uses);
+    rows.and_rows(delayed);
+    Ok(rows)
 }
 
 /// Where what is evaluated is still used after the node.
@@ -66,7 +70,8 @@ pub(crate) fn needed_rows(
     ensures shape { IfOk result (λ rows. AreRows (length graph.now.nodes) (width latest.now) rows) }
     ensures bits { IfOk result (λ rows. (n b : ℕ) → n < length graph.now.nodes → b < width latest.now → (has_bit rows b n ≡ true) ↔ IsNeededBit graph.now.nodes (has_bit latest.now b) (has_bit uses.now b) n) }
 {
-    let born = without(copied(alloc, uses)?, latest);
+    let mut born = uses.copied(alloc)?;
+    born.minus_rows(latest);
     let ahead = backward_some(alloc, graph, edges, &born, latest)?;
     let needed = some_successor(alloc, graph, edges, &ahead)?;
     Ok(needed)
@@ -78,8 +83,9 @@ pub(crate) fn inserted_rows(alloc: Global, latest: &Rows, needed: &Rows) -> Resu
     ensures alike { IfOk result (λ rows. AreAlike latest.now rows) }
     ensures bits { IfOk result (λ rows. (n b : ℕ) → has_bit rows b n ≡ (has_bit latest.now b n && has_bit needed.now b n)) }
 {
-    let rows = copied(alloc, latest)?;
-    Ok(both(rows, needed))
+    let mut rows = latest.copied(alloc)?;
+    rows.and_rows(needed);
+    Ok(rows)
 }
 
 /// The uses, without those at latest nodes that are not needed further on.
@@ -89,6 +95,9 @@ pub(crate) fn replaced_rows(uses: Rows, latest: Rows, needed: &Rows) -> Rows
     ensures alike { AreAlike uses result }
     ensures bits { (n b : ℕ) → has_bit result b n ≡ (has_bit uses b n && not (has_bit latest b n && not (has_bit needed.now b n))) }
 {
-    let isolated = without(latest, needed);
-    without(uses, &isolated)
+    let mut isolated = latest;
+    isolated.minus_rows(needed);
+    let mut replaced = uses;
+    replaced.minus_rows(&isolated);
+    replaced
 }

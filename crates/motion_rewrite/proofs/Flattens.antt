@@ -1,88 +1,96 @@
--- The rewriting by an admissible placement of movable expressions.
-use Rattle.std.proofs.Common.{◌≡◌, ℕ, List, length, slice_get, Some, sym, ap, ◌∙◌, subst}
+-- The rewriting by an placement of movable expressions.
+use Rattle.std.proofs.Common.{◌≡◌, ℕ, List, length, sym, ap, ◌∙◌, subst}
 use Rattle.mir_base.specs.declared.instructions.Expr.{Expr}
 use Rattle.mir_base.specs.Shapes.{AllDiffer}
-use Rattle.mir_base.specs.Frames.{Entry, Answer}
-use Rattle.mir_base.specs.UnitRuns.{IsEntry, AreAnswers, UnitSame, UnitCheaper}
+use Rattle.mir_base.specs.UnitRuns.{UnitSame, UnitCheaper}
 use Rattle.flow_graph.specs.declared.nodes.Node.{Node}
-use Rattle.flow_graph.specs.Graphs.{GraphShape, IsGraph}
+use Rattle.flow_graph.specs.Along.{RunsAlong, RunsFollow}
+use Rattle.flow_graph.specs.Calls.{NodesCall}
+use Rattle.flow_graph.specs.Edges.{IsSplit}
+use Rattle.flow_graph.specs.Graphs.{GraphShape}
+use Rattle.flow_graph.specs.InsertionGraphs.{rewritten_calls}
+use Rattle.flow_graph.specs.InsertionPaths.{path_within, rewritten_over, rewritten_alone}
+use Rattle.flow_graph.specs.Over.{IsOver, over_path}
+use Rattle.flow_graph.specs.InsertionRunLaws.{rewritten_same, rewritten_cheaper, rewritten_runs}
+use Rattle.flow_graph.specs.InsertionSplit.{rewritten_split}
+use Rattle.flow_graph.specs.Insertions.{Rewriting, CanRewrite, rewritten_nodes}
 use Rattle.flow_graph.specs.Machines.{graph_machine, machine_of}
 use Rattle.flow_graph.specs.Paths.{IsFullPath}
-use Rattle.path_laws.specs.Paths.{AreRows}
 use Rattle.motion_rewrite.specs.declared.placement.Placement.{Placement}
-use Rattle.motion_rewrite.specs.Placements.{IsAnticipatable, IsAdmissible, IsNoDearer, places_of}
-use Rattle.motion_rewrite.specs.Tables.{AreMovable}
+use Rattle.motion_rewrite.specs.Flatten.{inserted, by_placement, IsFlattened}
+use Rattle.motion_rewrite.specs.Over.{HasOver}
+use Rattle.motion_rewrite.specs.Placements.{IsNoDearer}
 use Rattle.motion_rewrite.specs.Temporaries.{temporary}
-use Rattle.motion_rewrite.specs.Flatten.{entry, flattened, IsFlattened}
-use Rattle.motion_rewrite.specs.Over.{IsOver, HasOver}
-use Rattle.motion_rewrite.specs.Along.{RunsAlong}
-use Rattle.motion_rewrite.proofs.Chains.{Rewrites, flattened_rewrites}
-use Rattle.motion_rewrite.proofs.Served.{IsServed, temporaries, some_node, admissible_served}
-use Rattle.motion_rewrite.proofs.Moving.{to_start, moved_same, moved_cheaper}
-use Rattle.motion_rewrite.proofs.Paying.{is_cheaper}
-use Rattle.motion_rewrite.proofs.Overs.{over_of, path_within, is_over, over_alone}
 use Rattle.motion_rewrite.proofs.Counting.{counted, others}
-use Rattle.motion_rewrite.proofs.Walks.{runs_over}
+use Rattle.motion_rewrite.proofs.Fitting.{placement_fits}
+use Rattle.motion_rewrite.proofs.Keeping.{Keeps, placement_preserves}
+use Rattle.motion_rewrite.proofs.Paying.{counts_no_more}
+use Rattle.motion_rewrite.proofs.Rewritable.{IsRewritable}
+use Rattle.motion_rewrite.proofs.RowNumbers.{AllKnown, row_known}
+use Rattle.motion_rewrite.proofs.Served.{IsServed, temporaries, placed_served}
 
 -- the machines of the two graphs have the same received variables
 machine_is : (graph result : GraphShape) (nodes : List Node) → result.received ≡ graph.received → result.nodes ≡ nodes → graph_machine graph.received nodes ≡ machine_of result
 machine_is graph result nodes received is = ap (λ l. graph_machine l nodes) (sym received) ∙ ap (graph_machine result.received) (sym is)
 
-module _ (graph result : GraphShape) (table : List Expr) (p : Placement) (is_graph : IsGraph graph.vars graph.received graph.nodes) (movable : AreMovable (length graph.vars) table) (insert : AreRows (length graph.nodes) (length table) p.insert) (replace : AreRows (length graph.nodes) (length table) p.replace) (admissible : (i : ℕ) (e : Expr) → slice_get table i ≡ Some e → IsAdmissible graph.nodes e (IsAnticipatable graph.nodes e) (places_of p i)) (flat : IsFlattened graph table p result) where
-  abbrev nodes : List Node
-  nodes = graph.nodes
-
-  abbrev temp : ℕ → ℕ
-  temp = temporary (length graph.vars) p.insert
+module _ {graph : GraphShape} {table : List Expr} {p : Placement} (r : IsRewritable graph table p) where
+  abbrev way : Rewriting
+  way = by_placement (temporary (length graph.vars) p.insert) table p
 
   abbrev nodes' : List Node
-  nodes' = flattened (temporary (length graph.vars) p.insert) table p graph.nodes
+  nodes' = rewritten_nodes way graph.nodes
 
-  abbrev to : ℕ → ℕ
-  to = entry (length graph.nodes) p.insert
+  module _ (result : GraphShape) (flat : IsFlattened graph table p result) where
+    abbrev fits : CanRewrite way flat.names graph
+    fits = placement_fits r flat.names flat.are_names
 
-  served : IsServed nodes table p
-  served = admissible_served graph.vars graph.received nodes is_graph.can table p insert replace admissible
+    abbrev known : (n : ℕ) → AllKnown table (inserted p.insert n)
+    known = row_known (length graph.nodes) table p.insert r.insert
 
-  rewrites : Rewrites nodes nodes' table temp p to
-  rewrites = flattened_rewrites nodes table temp p insert
+    abbrev served : IsServed graph table p
+    served = placed_served graph r.is_graph.can table p r.insert r.replace r.placed
 
-  pub flattened_same : UnitSame (machine_of graph) (machine_of result)
-  flattened_same =
-      subst (UnitSame (machine_of graph)) (machine_is graph result nodes' flat.received_are flat.nodes_are)
-      (moved_same graph.vars graph.received nodes nodes' table temp p to is_graph.can movable served (temporaries (length graph.vars) p) rewrites)
+    nodes_are : result.nodes ≡ nodes'
+    nodes_are = flat.nodes_are
 
-  pub flattened_cheaper : AllDiffer table → IsNoDearer graph.nodes table p → UnitCheaper (machine_of graph) (machine_of result)
-  flattened_cheaper differ no_dearer =
-      subst (UnitCheaper (machine_of graph)) (machine_is graph result nodes' flat.received_are flat.nodes_are)
-      (moved_cheaper graph.vars graph.received nodes nodes' table temp p to is_graph.can movable served (temporaries (length graph.vars) p) rewrites
-      (is_cheaper nodes table temp p differ served graph.vars graph.received is_graph.can no_dearer))
+    machines : graph_machine graph.received nodes' ≡ machine_of result
+    machines = machine_is graph result nodes' flat.received_are nodes_are
 
-  -- ---- the paths
+    pub flattened_split : IsSplit graph.nodes → IsSplit result.nodes
+    flattened_split split = subst IsSplit (sym nodes_are) (rewritten_split way graph.nodes (λ m slot s edge. (r.is_graph.can.succs m slot s edge).1) split)
 
-  starts_alike : to 0 ≡ 0
-  starts_alike = to_start graph.vars graph.received nodes nodes' table temp p to is_graph.can movable served (temporaries (length graph.vars) p) rewrites
+    pub flattened_calls : (called count : ℕ) → NodesCall result.nodes called count → NodesCall graph.nodes called count
+    flattened_calls called count calls = rewritten_calls way graph.nodes called count (subst (λ l. NodesCall l called count) nodes_are calls)
 
-  abbrev over : List ℕ → List ℕ
-  over path = over_of nodes nodes' table temp p to rewrites path
+    -- ---- what it does
 
-  only_over : (path other : List ℕ) → IsOver nodes nodes' path other → other ≡ over path
-  only_over path other is = over_alone nodes nodes' table temp p to rewrites (λ m slot s edge. (is_graph.can.succs m slot s edge).1) starts_alike (some_node graph.vars graph.received nodes is_graph.can) path other is
+    pub flattened_same : UnitSame (machine_of graph) (machine_of result)
+    flattened_same = subst (UnitSame (machine_of graph)) machines
+        (rewritten_same way flat.names graph (Keeps graph table (temporary (length graph.vars) p.insert) p r.is_graph r.movable served (temporaries (length graph.vars) p) known) fits r.is_graph (placement_preserves graph table (temporary (length graph.vars) p.insert) p r.is_graph r.movable served (temporaries (length graph.vars) p) known))
 
-  pub flattened_paths : AllDiffer table → (path : List ℕ) → IsFullPath graph.nodes path → HasOver graph.nodes result.nodes table p path
-  flattened_paths differ path full =
-      let within = path_within nodes nodes' table temp p to rewrites path full.is_path in
-      subst (λ l. HasOver nodes l table p path) (sym flat.nodes_are) (record {
-        over = over path;
-        is_over = is_over nodes nodes' table temp p to rewrites starts_alike path full;
-        alone = only_over path;
-        counted = λ i e at_i. counted nodes nodes' table temp p to differ served rewrites i e at_i path within;
-        others = λ e out. others nodes nodes' table temp p to differ served rewrites e out path within;
-      })
+    pub flattened_cheaper : AllDiffer table → IsNoDearer graph table p → UnitCheaper (machine_of graph) (machine_of result)
+    flattened_cheaper differ no_dearer = subst (UnitCheaper (machine_of graph)) machines
+        (rewritten_cheaper way flat.names graph (Keeps graph table (temporary (length graph.vars) p.insert) p r.is_graph r.movable served (temporaries (length graph.vars) p) known) fits r.is_graph (placement_preserves graph table (temporary (length graph.vars) p.insert) p r.is_graph r.movable served (temporaries (length graph.vars) p) known)
+        (counts_no_more graph table (temporary (length graph.vars) p.insert) p differ served known no_dearer))
 
-  pub flattened_runs : (path other : List ℕ) (entry : Entry) (answers : List Answer) → IsFullPath graph.nodes path → IsOver graph.nodes result.nodes path other → IsEntry (machine_of graph) entry → AreAnswers answers → RunsAlong (machine_of graph) entry answers path → RunsAlong (machine_of result) entry answers other
-  flattened_runs path other entry answers full is is_entry are runs =
-      let lies : IsOver nodes nodes' path other = subst (λ l. IsOver nodes l path other) flat.nodes_are is in
-      subst (λ m. RunsAlong m entry answers other) (machine_is graph result nodes' flat.received_are flat.nodes_are)
-      (subst (RunsAlong (graph_machine graph.received nodes') entry answers) (sym (only_over path other lies))
-      (runs_over graph.vars graph.received nodes nodes' table temp p to is_graph.can movable served (temporaries (length graph.vars) p) rewrites path entry answers runs))
+    -- ---- paths
+
+    pub flattened_paths : AllDiffer table → (path : List ℕ) → IsFullPath graph.nodes path → HasOver graph result table p path
+    flattened_paths differ path full =
+        let within = path_within way graph.nodes path full.is_path in
+        subst (λ l. HasOver graph (record result { nodes = l }) table p path) (sym nodes_are) (record {
+          over = over_path way.inserts (length graph.nodes) path;
+          is_over = rewritten_over way flat.names graph fits r.is_graph path full;
+          alone = rewritten_alone way flat.names graph fits r.is_graph path;
+          counted = λ i e at_i. counted graph table (temporary (length graph.vars) p.insert) p differ served known i e at_i path within;
+          others = λ e out. others graph table (temporary (length graph.vars) p.insert) p differ served known e out path within;
+        })
+
+    pub flattened_runs : RunsFollow graph result
+    flattened_runs = record {
+      follow = λ path other entry answers full is is_entry are runs.
+          let lies : IsOver graph.nodes nodes' path other = subst (λ l. IsOver graph.nodes l path other) nodes_are is in
+          subst (λ m. RunsAlong m entry answers other) machines
+          (subst (RunsAlong (graph_machine graph.received nodes') entry answers) (sym (rewritten_alone way flat.names graph fits r.is_graph path other lies))
+          (rewritten_runs way flat.names graph (Keeps graph table (temporary (length graph.vars) p.insert) p r.is_graph r.movable served (temporaries (length graph.vars) p) known) fits r.is_graph (placement_preserves graph table (temporary (length graph.vars) p.insert) p r.is_graph r.movable served (temporaries (length graph.vars) p) known) path entry answers runs));
+    }

@@ -5,7 +5,7 @@ use Rattle.bit_rows.specs.Bits.{row_of}
 use Rattle.path_laws.specs.Paths.{has_bit}
 use Rattle.motion_rewrite.specs.Expressions.{is_among}
 use Rattle.motion_rewrite.specs.Flatten.{set_from, inserted}
-use Rattle.motion_rewrite.proofs.Sums.{one_if, sum_on}
+use Rattle.flow_graph.specs.Sums.{one_if, sum_on}
 
 among_below : (k i : ℕ) (bits : List Bool) → i < k → is_among i (set_from k bits) ≡ false
 among_below k i [] lt = refl

@@ -13,6 +13,7 @@ use Rattle.mir_base.specs.declared.instructions.Rhs.TheVariants.{Plain, Unary, B
 use Rattle.mir_base.specs.declared.instructions.Expr.{Expr}
 use Rattle.mir_base.specs.declared.instructions.Expr.TheVariants.{Un, Bin}
 use Rattle.flow_graph.specs.declared.nodes.Node.{Node}
+use Rattle.flow_graph.specs.Graphs.{GraphShape}
 use Rattle.flow_graph.specs.declared.nodes.Node.TheVariants.{Start, Skip, Assign, Print, Call, Test, Return}
 use Rattle.motion_rewrite.specs.Expressions.{rhs_of, op_number, un_op_number, same_operand, same_expr, is_expr, rhs_at, uses}
 
@@ -97,8 +98,8 @@ rhs_is e (Unary op a) is = ap rhs_of (sym (expr_is e (Un op a) is))
 rhs_is e (Binary op a b) is = ap rhs_of (sym (expr_is e (Bin op a b) is))
 
 -- a node uses e exactly where it assigns e
-pub assign_uses : (nodes : List Node) (e : Expr) (n x next : ℕ) → slice_get nodes n ≡ Some (Assign x (rhs_of e) next) → uses nodes e n ≡ true
-assign_uses nodes e n x next here = ap (λ o. is_expr e (rhs_at o)) here ∙ of_rhs e e ∙ expr_itself e
+pub assign_uses : (graph : GraphShape) (e : Expr) (n x next : ℕ) → slice_get graph.nodes n ≡ Some (Assign x (rhs_of e) next) → uses graph e n ≡ true
+assign_uses graph e n x next here = ap (λ o. is_expr e (rhs_at o)) here ∙ of_rhs e e ∙ expr_itself e
 
 node_assigns : (e : Expr) (o : Option Node) → is_expr e (rhs_at o) ≡ true → (x : ℕ) × (next : ℕ) × (o ≡ Some (Assign x (rhs_of e) next))
 node_assigns e None is = absurd (false≢true is)
@@ -110,10 +111,10 @@ node_assigns e (Some (Call into unit operands next)) is = absurd (false≢true i
 node_assigns e (Some (Test test taken other)) is = absurd (false≢true is)
 node_assigns e (Some (Return a)) is = absurd (false≢true is)
 
-pub uses_assign : (nodes : List Node) (e : Expr) (n : ℕ) → uses nodes e n ≡ true → (x : ℕ) × (next : ℕ) × (slice_get nodes n ≡ Some (Assign x (rhs_of e) next))
-uses_assign nodes e n is = node_assigns e (slice_get nodes n) is
+pub uses_assign : (graph : GraphShape) (e : Expr) (n : ℕ) → uses graph e n ≡ true → (x : ℕ) × (next : ℕ) × (slice_get graph.nodes n ≡ Some (Assign x (rhs_of e) next))
+uses_assign graph e n is = node_assigns e (slice_get graph.nodes n) is
 
-pub used_once : (nodes : List Node) (e e' : Expr) (n : ℕ) → uses nodes e n ≡ true → uses nodes e' n ≡ true → e ≡ e'
-used_once nodes e e' n is is' =
-    let here = (uses_assign nodes e n is).2 in
+pub used_once : (graph : GraphShape) (e e' : Expr) (n : ℕ) → uses graph e n ≡ true → uses graph e' n ≡ true → e ≡ e'
+used_once graph e e' n is is' =
+    let here = (uses_assign graph e n is).2 in
     sym (expr_is e' e (sym (of_rhs e' e) ∙ ap (λ o. is_expr e' (rhs_at o)) (sym here) ∙ is'))

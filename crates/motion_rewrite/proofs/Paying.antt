@@ -1,29 +1,30 @@
 -- What the new graph counts on a path is what the placement counts.
-use Rattle.std.proofs.Common.{◌≡◌, ℕ, zero, suc, ◌+◌, ◌<◌, ◌≤◌, Bool, true, false, not, ◌&&◌, List, [], ◌∷◌, ◌++◌, length, reverse, count_by, slice_get, slice_index_or, Option, Some, None, option_map, ◌⊎◌, inl, inr, refl, sym, ap, ◌∙◌, subst, arith}
-use Rattle.std.proofs.lemmas.List.{reverse-append}
+use Rattle.std.proofs.Common.{◌≡◌, ℕ, zero, suc, ◌+◌, ◌<◌, ◌≤◌, Bool, true, false, not, ◌&&◌, List, [], ◌∷◌, length, count_by, slice_get, slice_index_or, Option, Some, None, option_map, ◌⊎◌, inl, inr, refl, sym, ap, ◌∙◌, subst, arith}
 use Rattle.std.proofs.lemmas.Bool.{cases_Bool, cases_lt, true≢false}
 use Rattle.std.proofs.lemmas.Option.{slice_get_within}
 use Rattle.mir_base.specs.declared.instructions.Expr.{Expr}
 use Rattle.mir_base.specs.Shapes.{AllDiffer}
-use Rattle.mir_base.specs.Expressions.{rhs_count}
 use Rattle.flow_graph.specs.declared.nodes.Node.{Node}
+use Rattle.flow_graph.specs.Graphs.{GraphShape}
 use Rattle.flow_graph.specs.declared.nodes.Node.TheVariants.{Start, Skip, Assign, Print, Call, Test, Return}
-use Rattle.flow_graph.specs.Graphs.{CanMake}
-use Rattle.flow_graph.specs.Paths.{Begins, Ends, IsFullPath, IsReturnAt, Trace, from_start, goes_on}
-use Rattle.flow_graph.specs.PathLaws.{trace_path}
+use Rattle.flow_graph.specs.InsertionNodes.{some_at}
+use Rattle.flow_graph.specs.Over.{weigh, weigh_all, weight_at, new_weight_at}
+use Rattle.flow_graph.specs.InsertionRuns.{counts, CountsNoMore}
+use Rattle.flow_graph.specs.Insertions.{Kept, changed}
+use Rattle.flow_graph.specs.Sums.{one_if, sum_on, count_sums, on_plus, on_same}
 use Rattle.bit_rows.specs.Bits.{row_of}
 use Rattle.path_laws.specs.Paths.{has_bit}
 use Rattle.motion_rewrite.specs.declared.placement.Placement.{Placement}
-use Rattle.motion_rewrite.specs.Expressions.{rhs_of, rhs_at, uses, is_among}
+use Rattle.motion_rewrite.specs.Expressions.{rhs_of, uses, is_among}
 use Rattle.motion_rewrite.specs.Placements.{Places, count, places_of, IsNoDearer}
-use Rattle.motion_rewrite.specs.Flatten.{set_from, inserted, read_from, replaced}
+use Rattle.motion_rewrite.specs.Flatten.{set_from, inserted, insertions_of, reading, by_placement}
 use Rattle.motion_rewrite.proofs.Matching.{uses_assign, used_once}
-use Rattle.motion_rewrite.proofs.Chains.{get_within}
 use Rattle.motion_rewrite.proofs.Insertions.{among_inserted, among_head, head_or_none}
-use Rattle.motion_rewrite.proofs.Sums.{one_if, sum_on, count_sums, sum_append, sum_reverse, on_plus, on_same, sum_below, sum_plus, sum_same, sum_least, sum_none, on_below}
+use Rattle.motion_rewrite.proofs.Rewriting.{one_more}
+use Rattle.motion_rewrite.proofs.RowNumbers.{AllKnown}
+use Rattle.motion_rewrite.proofs.Sums.{sum_below, sum_plus, sum_same, sum_least, sum_none, on_below}
 use Rattle.motion_rewrite.proofs.Values.{movable_counts}
-use Rattle.motion_rewrite.proofs.Served.{IsServed, some_node}
-use Rattle.motion_rewrite.proofs.Moving.{costs, cost, paid}
+use Rattle.motion_rewrite.proofs.Served.{IsServed}
 
 -- the first number below k with a bit, if there is one
 some_or_none : (k : ℕ) (b : ℕ → Bool) → ((i : ℕ) × (i < k) × (b i ≡ true)) ⊎ ((i : ℕ) → i < k → b i ≡ false)
@@ -53,15 +54,22 @@ set_length zero k (b ∷ bits) le = absurd (omega (arith, le))
 set_length (suc m) k (true ∷ bits) le = omega (arith, set_length m (suc k) bits (omega (arith, le)))
 set_length (suc m) k (false ∷ bits) le = omega (arith, set_length m (suc k) bits (omega (arith, le)))
 
-kept_costs : (temp : ℕ → ℕ) (o : Option Node) → costs (rhs_at (option_map (replaced temp []) o)) ≡ costs (rhs_at o)
-kept_costs temp None = refl
-kept_costs temp (Some (Start next)) = refl
-kept_costs temp (Some (Skip next)) = refl
-kept_costs temp (Some (Assign x rhs next)) = refl
-kept_costs temp (Some (Print a next)) = refl
-kept_costs temp (Some (Call into unit operands next)) = refl
-kept_costs temp (Some (Test test taken other)) = refl
-kept_costs temp (Some (Return a)) = refl
+kept_counts : (o : Option Node) → weigh counts (option_map (changed Kept) o) ≡ weigh counts o
+kept_counts None = refl
+kept_counts (Some (Start next)) = refl
+kept_counts (Some (Skip next)) = refl
+kept_counts (Some (Assign x rhs next)) = refl
+kept_counts (Some (Print a next)) = refl
+kept_counts (Some (Call into unit operands next)) = refl
+kept_counts (Some (Test test taken other)) = refl
+kept_counts (Some (Return a)) = refl
+
+-- each insertion counts one
+puts_count : (temp : ℕ → ℕ) (table : List Expr) (numbers : List ℕ) → AllKnown table numbers → weigh_all counts (insertions_of temp table numbers) ≡ length numbers
+puts_count temp table [] known = refl
+puts_count temp table (i ∷ numbers) known =
+    let all = ap (weigh_all counts) (one_more temp table i known.0.0 numbers known.0.1) in
+    omega (arith, all, movable_counts known.0.0, puts_count temp table numbers known.1)
 
 -- one expression at one node: `r` replaced, `u` used, `i` inserted
 pays_one : (i u r : Bool) → (r ≡ true → u ≡ true) → (one_if i + one_if (u && not r)) + one_if r ≡ one_if i + one_if u
@@ -69,46 +77,18 @@ pays_one i u true uses = let is = uses refl in subst (λ b. (one_if i + one_if (
 pays_one i true false uses = omega arith
 pays_one i false false uses = omega arith
 
--- ---- full paths from traces
-
-begins_append : (n : ℕ) (xs ys : List ℕ) → Begins n xs → Begins n (xs ++ ys)
-begins_append n [] ys begins = absurd begins
-begins_append n (x ∷ xs) ys begins = begins
-
-trace_begins : (nodes : List Node) (n : ℕ) (before : List ℕ) → Trace nodes n before → Begins 0 (reverse before ++ n ∷ [])
-trace_begins nodes n before from_start = refl
-trace_begins nodes n before (goes_on m k earlier trace edge) =
-    subst (λ l. Begins 0 (l ++ n ∷ [])) (sym (reverse-append (m ∷ []) earlier)) (begins_append 0 (reverse earlier ++ m ∷ []) (n ∷ []) (trace_begins nodes m earlier trace))
-
-ends_last : (n : ℕ) (xs : List ℕ) → Ends n (xs ++ n ∷ [])
-ends_last n [] = refl
-ends_last n (x ∷ []) = refl
-ends_last n (x ∷ y ∷ xs) = ends_last n (y ∷ xs)
-
-full_path : (names : List (List ℕ)) (received : List ℕ) (nodes : List Node) → CanMake names received nodes → (last : ℕ) (before : List ℕ) → Trace nodes last before → IsReturnAt nodes last → IsFullPath nodes (reverse before ++ last ∷ [])
-full_path names received nodes can n before trace returning = record {
-  is_path = trace_path nodes (some_node names received nodes can) (λ m slot s edge. (can.succs m slot s edge).1) n before trace;
-  begins = trace_begins nodes n before trace;
-  last = n;
-  ends = ends_last n (reverse before);
-  returns = returning;
-}
-
-sum_forward : (f : ℕ → ℕ) (last : ℕ) (before : List ℕ) → sum_on f (reverse before ++ last ∷ []) ≡ sum_on f (last ∷ before)
-sum_forward f last before = let split = sum_append f (reverse before) (last ∷ []) in let same = sum_reverse f before in omega (arith, split, same)
-
 -- ---- counts
 
-abbrev pub used : List Node → Option Expr → ℕ → Bool
-used nodes None n = false
-used nodes (Some e) n = uses nodes e n
+abbrev pub used : GraphShape → Option Expr → ℕ → Bool
+used graph None n = false
+used graph (Some e) n = uses graph e n
 
 -- what a placement counts, as a sum
-pub count_sum : (nodes : List Node) (e : Expr) (q : Places) (path : List ℕ) → count nodes e q path ≡ sum_on (λ n. one_if (q.inserts n) + one_if (uses nodes e n && not (q.replaces n))) path
-count_sum nodes e q path =
+pub count_sum : (graph : GraphShape) (e : Expr) (q : Places) (path : List ℕ) → count graph e q path ≡ sum_on (λ n. one_if (q.inserts n) + one_if (uses graph e n && not (q.replaces n))) path
+count_sum graph e q path =
     let inserts = count_sums q.inserts path in
-    let kept = count_sums (λ n. uses nodes e n && not (q.replaces n)) path in
-    let both = on_plus (λ n. one_if (q.inserts n)) (λ n. one_if (uses nodes e n && not (q.replaces n))) path in
+    let kept = count_sums (λ n. uses graph e n && not (q.replaces n)) path in
+    let both = on_plus (λ n. one_if (q.inserts n)) (λ n. one_if (uses graph e n && not (q.replaces n))) path in
     omega (arith, inserts, kept, both)
 
 -- the number of an expression of the table is its only one
@@ -128,33 +108,36 @@ lists_none rows n unset = elim (head_or_none (inserted rows n)) [
   | inr first ↦ absurd (true≢false (sym (ap (is_among first.0) first.2 ∙ among_head first.0 first.1) ∙ among_inserted rows n first.0 ∙ unset first.0))
 ]
 
-module _ (nodes : List Node) (table : List Expr) (temp : ℕ → ℕ) (p : Placement) (differ : AllDiffer table) (served : IsServed nodes table p) where
+module _ (graph : GraphShape) (table : List Expr) (temp : ℕ → ℕ) (p : Placement) (differ : AllDiffer table) (served : IsServed graph table p) (known : (n : ℕ) → AllKnown table (inserted p.insert n)) where
   abbrev size : ℕ
   size = length table
 
   abbrev without : ℕ → ℕ → ℕ
-  without i n = one_if (used nodes (slice_get table i) n)
+  without i n = one_if (used graph (slice_get table i) n)
 
   abbrev pays : ℕ → ℕ → ℕ
-  pays i n = one_if (has_bit p.insert i n) + one_if (used nodes (slice_get table i) n && not (has_bit p.replace i n))
+  pays i n = one_if (has_bit p.insert i n) + one_if (used graph (slice_get table i) n && not (has_bit p.replace i n))
 
   -- a node replaces one expression at most
   pub replaced_alone : (n i j : ℕ) → has_bit p.replace i n ≡ true → has_bit p.replace j n ≡ true → j ≡ i
   replaced_alone n i j at_i at_j =
       let a = served.uses_it n i at_i in
       let b = served.uses_it n j at_j in
-      only_number table differ j i a.0 (b.1 ∙ ap Some (used_once nodes b.0 a.0 n b.2 a.2)) a.1
+      only_number table differ j i a.0 (b.1 ∙ ap Some (used_once graph b.0 a.0 n b.2 a.2)) a.1
 
   -- a node's own count falls by one where it is replaced
-  own_count : (n : ℕ) → costs (rhs_at (option_map (replaced temp (inserted p.replace n)) (slice_get nodes n))) + sum_below size (λ i. one_if (has_bit p.replace i n)) ≡ cost nodes n
+  abbrev own : ℕ → ℕ
+  own n = weigh counts (option_map (changed (reading temp (inserted p.replace n))) (slice_get graph.nodes n))
+
+  own_count : (n : ℕ) → own n + sum_below size (λ i. one_if (has_bit p.replace i n)) ≡ weight_at counts graph.nodes n
   own_count n = elim (some_or_none size (λ i. has_bit p.replace i n)) [
     | inl r ↦
         let u = served.uses_it n r.0 r.2 in
-        let found = uses_assign nodes u.0 n u.2 in
+        let found = uses_assign graph u.0 n u.2 in
         let one = one_alone size (λ i. has_bit p.replace i n) r.0 r.1 r.2 (λ j. replaced_alone n r.0 j r.2) in
         let first = lists_some p.replace n r.0 r.2 in
-        let free : costs (rhs_at (option_map (replaced temp (inserted p.replace n)) (slice_get nodes n))) ≡ 0 = ap (λ o. costs (rhs_at (option_map (replaced temp (inserted p.replace n)) o))) found.2 ∙ ap (λ l. rhs_count (read_from temp l (rhs_of u.0))) first.2 in
-        let full : cost nodes n ≡ 1 = ap (λ o. costs (rhs_at o)) found.2 ∙ movable_counts u.0 in
+        let free : own n ≡ 0 = ap (λ o. weigh counts (option_map (changed (reading temp (inserted p.replace n))) o)) found.2 ∙ ap (λ l. weigh counts (Some (changed (reading temp l) (Assign found.0 (rhs_of u.0) found.1)))) first.2 in
+        let full : weight_at counts graph.nodes n ≡ 1 = ap (weigh counts) found.2 ∙ movable_counts u.0 in
         omega (arith, one, free, full)
     | inr none ↦
         let all : (i : ℕ) → has_bit p.replace i n ≡ false = λ i. elim (cases_Bool (has_bit p.replace i n)) [
@@ -162,46 +145,43 @@ module _ (nodes : List Node) (table : List Expr) (temp : ℕ → ℕ) (p : Place
           | inr no_one ↦ no_one
         ] in
         let zero_sum = sum_none size (λ i. one_if (has_bit p.replace i n)) (λ i. ap one_if (all i)) in
-        let same : costs (rhs_at (option_map (replaced temp (inserted p.replace n)) (slice_get nodes n))) ≡ cost nodes n = ap (λ l. costs (rhs_at (option_map (replaced temp l) (slice_get nodes n)))) (lists_none p.replace n all) ∙ kept_costs temp (slice_get nodes n) in
+        let same : own n ≡ weight_at counts graph.nodes n = ap (λ l. weigh counts (option_map (changed (reading temp l)) (slice_get graph.nodes n))) (lists_none p.replace n all) ∙ kept_counts (slice_get graph.nodes n) in
         omega (arith, zero_sum, same)
   ]
 
-  replaced_used : (n i : ℕ) → has_bit p.replace i n ≡ true → used nodes (slice_get table i) n ≡ true
-  replaced_used n i set = let u = served.uses_it n i set in ap (λ o. used nodes o n) u.1 ∙ u.2
+  replaced_used : (n i : ℕ) → has_bit p.replace i n ≡ true → used graph (slice_get table i) n ≡ true
+  replaced_used n i set = let u = served.uses_it n i set in ap (λ o. used graph o n) u.1 ∙ u.2
 
-  at_node : (n : ℕ) → paid nodes temp p n + sum_below size (λ i. without i n) ≡ cost nodes n + sum_below size (λ i. pays i n)
+  at_node : (n : ℕ) → new_weight_at counts (by_placement temp table p) graph.nodes n + sum_below size (λ i. without i n) ≡ weight_at counts graph.nodes n + sum_below size (λ i. pays i n)
   at_node n =
       let insertions = set_length size 0 (row_of p.insert n) (served.short n) in
-      let own = own_count n in
-      let each = sum_same size (λ i. pays i n + one_if (has_bit p.replace i n)) (λ i. one_if (has_bit p.insert i n) + without i n) (λ i lt. pays_one (has_bit p.insert i n) (used nodes (slice_get table i) n) (has_bit p.replace i n) (replaced_used n i)) in
+      let own_is = own_count n in
+      let puts = puts_count temp table (inserted p.insert n) (known n) in
+      let each = sum_same size (λ i. pays i n + one_if (has_bit p.replace i n)) (λ i. one_if (has_bit p.insert i n) + without i n) (λ i lt. pays_one (has_bit p.insert i n) (used graph (slice_get table i) n) (has_bit p.replace i n) (replaced_used n i)) in
       let left = sum_plus size (λ i. pays i n) (λ i. one_if (has_bit p.replace i n)) in
       let right = sum_plus size (λ i. one_if (has_bit p.insert i n)) (λ i. without i n) in
-      omega (arith, insertions, own, each, left, right)
+      omega (arith, insertions, puts, own_is, each, left, right)
 
-  on_path : (path : List ℕ) → sum_on (paid nodes temp p) path + sum_below size (λ i. sum_on (without i) path) ≡ sum_on (cost nodes) path + sum_below size (λ i. sum_on (pays i) path)
+  on_path : (path : List ℕ) → sum_on (new_weight_at counts (by_placement temp table p) graph.nodes) path + sum_below size (λ i. sum_on (without i) path) ≡ sum_on (weight_at counts graph.nodes) path + sum_below size (λ i. sum_on (pays i) path)
   on_path path =
-      let same = on_same (λ n. paid nodes temp p n + sum_below size (λ i. without i n)) (λ n. cost nodes n + sum_below size (λ i. pays i n)) path at_node in
-      let left = on_plus (paid nodes temp p) (λ n. sum_below size (λ i. without i n)) path in
-      let right = on_plus (cost nodes) (λ n. sum_below size (λ i. pays i n)) path in
+      let same = on_same (λ n. new_weight_at counts (by_placement temp table p) graph.nodes n + sum_below size (λ i. without i n)) (λ n. weight_at counts graph.nodes n + sum_below size (λ i. pays i n)) path at_node in
+      let left = on_plus (new_weight_at counts (by_placement temp table p) graph.nodes) (λ n. sum_below size (λ i. without i n)) path in
+      let right = on_plus (weight_at counts graph.nodes) (λ n. sum_below size (λ i. pays i n)) path in
       omega (arith, same, left, right, on_below size without path, on_below size pays path)
 
-  counts_pays : (i : ℕ) (e : Expr) (path : List ℕ) → slice_get table i ≡ Some e → count nodes e (places_of p i) path ≡ sum_on (pays i) path
+  counts_pays : (i : ℕ) (e : Expr) (path : List ℕ) → slice_get table i ≡ Some e → count graph e (places_of p i) path ≡ sum_on (pays i) path
   counts_pays i e path at_i =
-      count_sum nodes e (places_of p i) path
-      ∙ sym (on_same (pays i) (λ n. one_if (has_bit p.insert i n) + one_if (uses nodes e n && not (has_bit p.replace i n))) path (λ n. ap (λ o. one_if (has_bit p.insert i n) + one_if (used nodes o n && not (has_bit p.replace i n))) at_i))
+      count_sum graph e (places_of p i) path
+      ∙ sym (on_same (pays i) (λ n. one_if (has_bit p.insert i n) + one_if (uses graph e n && not (has_bit p.replace i n))) path (λ n. ap (λ o. one_if (has_bit p.insert i n) + one_if (used graph o n && not (has_bit p.replace i n))) at_i))
 
-  counts_without : (i : ℕ) (e : Expr) (path : List ℕ) → slice_get table i ≡ Some e → count_by (uses nodes e) path ≡ sum_on (without i) path
-  counts_without i e path at_i = count_sums (uses nodes e) path ∙ sym (on_same (without i) (λ n. one_if (uses nodes e n)) path (λ n. ap (λ o. one_if (used nodes o n)) at_i))
+  counts_without : (i : ℕ) (e : Expr) (path : List ℕ) → slice_get table i ≡ Some e → count_by (uses graph e) path ≡ sum_on (without i) path
+  counts_without i e path at_i = count_sums (uses graph e) path ∙ sym (on_same (without i) (λ n. one_if (uses graph e n)) path (λ n. ap (λ o. one_if (used graph o n)) at_i))
 
-  pub is_cheaper : (names : List (List ℕ)) (received : List ℕ) → CanMake names received nodes → IsNoDearer nodes table p → (last : ℕ) (before : List ℕ) → Trace nodes last before → IsReturnAt nodes last → sum_on (paid nodes temp p) (last ∷ before) ≤ sum_on (cost nodes) (last ∷ before)
-  is_cheaper names received can no_dearer last before trace returns =
-      let path = reverse before ++ last ∷ [] in
-      let least = sum_least size (λ i. sum_on (pays i) (last ∷ before)) (λ i. sum_on (without i) (last ∷ before)) (λ i lt.
-      let e = get_within table i lt in
-      let fewer = no_dearer.no_dearer i e.0 e.1 path (full_path names received nodes can last before trace returns) in
+  pub counts_no_more : IsNoDearer graph table p → CountsNoMore (by_placement temp table p) graph.nodes
+  counts_no_more no_dearer path full =
+      let least = sum_least size (λ i. sum_on (pays i) path) (λ i. sum_on (without i) path) (λ i lt. (let e = some_at table i lt in
+      let fewer = no_dearer.no_dearer i e.0 e.1 path full in
       let left = counts_pays i e.0 path e.1 in
       let right = counts_without i e.0 path e.1 in
-      let left' = sum_forward (pays i) last before in
-      let right' = sum_forward (without i) last before in
-      omega (arith, fewer, left, right, left', right')) in
-      omega (arith, on_path (last ∷ before), least)
+      omega (arith, fewer, left, right))) in
+      omega (arith, on_path path, least)

@@ -4,16 +4,16 @@ use Rattle.std.proofs.lemmas.Bool.{cases_lt}
 use Rattle.mir_base.specs.declared.instructions.Expr.{Expr}
 use Rattle.flow_graph.specs.declared.nodes.Node.{Node}
 use Rattle.flow_graph.specs.Graphs.{GraphShape, IsGraph}
-use Rattle.flow_graph.specs.Paths.{from_start}
 use Rattle.flow_graph.specs.PathLaws.{reached_trace}
 use Rattle.path_laws.specs.Paths.{AreRows, has_bit}
 use Rattle.motion_rewrite.specs.declared.placement.Placement.{Placement}
-use Rattle.motion_rewrite.specs.Expressions.{uses, kills, node_kills, is_expr, rhs_at}
+use Rattle.motion_rewrite.specs.Expressions.{kills}
 use Rattle.motion_rewrite.specs.Flatten.{inserted}
-use Rattle.motion_rewrite.specs.Placements.{Serves, IsAdmissible, IsAnticipatable, places_of}
+use Rattle.motion_rewrite.specs.Placements.{Serves, CanFlatten, places_of}
 use Rattle.motion_rewrite.specs.Tables.{AreMovable}
 use Rattle.motion_rewrite.specs.Temporaries.{has_insertion, temporaries_before, temporary}
-use Rattle.motion_rewrite.proofs.NewNodes.{some_at, inserted_bit, set_within}
+use Rattle.flow_graph.specs.InsertionNodes.{some_at}
+use Rattle.motion_rewrite.proofs.RowNumbers.{inserted_bit, set_within}
 
 -- what `flatten` asks
 pub record IsRewritable (graph : GraphShape) (table : List Expr) (p : Placement) : Type 0 where
@@ -21,11 +21,11 @@ pub record IsRewritable (graph : GraphShape) (table : List Expr) (p : Placement)
   pub movable : AreMovable (length graph.vars) table
   pub insert : AreRows (length graph.nodes) (length table) p.insert
   pub replace : AreRows (length graph.nodes) (length table) p.replace
-  pub admissible : (i : ℕ) (e : Expr) → slice_get table i ≡ Some e → IsAdmissible graph.nodes e (IsAnticipatable graph.nodes e) (places_of p i)
+  pub placed : (i : ℕ) (e : Expr) → slice_get table i ≡ Some e → CanFlatten graph e (places_of p i)
 
 pub rewritable : (graph : GraphShape) (table : List Expr) (p : Placement) (nodes : List Node) → nodes ≡ graph.nodes → IsGraph graph.vars graph.received nodes → AreMovable (length graph.vars) table → AreRows (length graph.nodes) (length table) p.insert → AreRows (length graph.nodes) (length table) p.replace
-    → ((i : ℕ) (e : Expr) → slice_get table i ≡ Some e → IsAdmissible graph.nodes e (IsAnticipatable graph.nodes e) (places_of p i)) → IsRewritable graph table p
-rewritable graph table p nodes is is_graph movable insert replace admissible = record { is_graph = subst (IsGraph graph.vars graph.received) is is_graph; movable = movable; insert = insert; replace = replace; admissible = admissible }
+    → ((i : ℕ) (e : Expr) → slice_get table i ≡ Some e → CanFlatten graph e (places_of p i)) → IsRewritable graph table p
+rewritable graph table p nodes is is_graph movable insert replace placed = record { is_graph = subst (IsGraph graph.vars graph.received) is is_graph; movable = movable; insert = insert; replace = replace; placed = placed }
 
 -- ---- temporaries
 
@@ -66,25 +66,17 @@ module _ {graph : GraphShape} {table : List Expr} {p : Placement} (r : IsRewrita
       let w = set_within (length graph.nodes) (length table) p.replace r.replace n i set in
       let e = some_at table i w.1 in
       let trace = reached_trace graph.nodes n (r.is_graph.reached n w.0) in
-      elim ((r.admissible i e.0 e.1).served n trace.0 set trace.1) [
+      elim ((r.placed i e.0 e.1).served n trace.0 set trace.1) [
         | inl here ↦ (n, here)
-        | inr earlier ↦ serves_some (λ m. has_bit p.insert i m ≡ true) (kills graph.nodes e.0) trace.0 earlier
+        | inr earlier ↦ serves_some (λ m. has_bit p.insert i m ≡ true) (kills graph e.0) trace.0 earlier
       ]
 
   start_clear : (i : ℕ) → has_bit p.insert i 0 ≡ true → ⊥
   start_clear i set =
       let w = set_within (length graph.nodes) (length table) p.insert r.insert 0 i set in
       let e = some_at table i w.1 in
-      let start = r.is_graph.can.start in
-      let killed : kills graph.nodes e.0 0 ≡ true = ap (node_kills e.0) start.1 in
-      let unused : uses graph.nodes e.0 0 ≡ false = ap (λ o. is_expr e.0 (rhs_at o)) start.1 in
-      elim ((r.admissible i e.0 e.1).safe 0 w.0 set) [
-        | inl available ↦ available [] from_start
-        | inr down ↦ elim (down (0 ∷ []) w.0 refl (inl killed)) [
-          | inl used ↦ let never = sym unused ∙ used in absurd (cc)
-          | inr later ↦ later
-        ]
-      ]
+      let never = sym set ∙ (r.placed i e.0 e.1).at_start in
+      absurd (cc)
 
   -- nothing is inserted before Start
   pub start_free : inserted p.insert 0 ≡ []

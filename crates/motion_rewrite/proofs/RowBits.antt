@@ -11,9 +11,10 @@ use Rattle.mir_base.specs.Shapes.{AllBelow, AllDiffer}
 use Rattle.bit_rows.specs.Bits.{not_bits, row_of}
 use Rattle.flow_graph.specs.declared.nodes.Node.{Node}
 use Rattle.flow_graph.specs.declared.nodes.Node.TheVariants.{Start, Skip, Assign, Print, Call, Test, Return}
-use Rattle.flow_graph.specs.Graphs.{node_vars}
+use Rattle.flow_graph.specs.Graphs.{GraphShape, node_vars}
 use Rattle.path_laws.specs.Paths.{AreRows, has_bit}
-use Rattle.motion_rewrite.specs.Expressions.{expr_vars, is_among, is_expr, node_kills, rhs_at, same_expr, uses}
+use Rattle.motion_rewrite.specs.Expressions.{expr_vars, is_among, is_expr, node_kills, node_uses, rhs_at, same_expr}
+use Rattle.motion_rewrite.specs.ExpressionLaws.{assigns_none}
 use Rattle.motion_rewrite.specs.Rows.{kill_row, written_expr}
 use Rattle.motion_rewrite.proofs.Equal.{written-same, written-self}
 
@@ -76,23 +77,23 @@ length-kill_row operands bits (Some (Call (Some x) unit arguments next)) each be
 length-kill_row operands bits (Some (Test test taken other)) each below = length-replicate bits false
 length-kill_row operands bits (Some (Return a)) each below = length-replicate bits false
 
-pub kill-bit : (operands : List (List Bool)) (bits i : ℕ) (e : Expr) (node : Option Node) → i < bits → ((x : ℕ) → x < length operands → has_bit operands i x ≡ is_among x (expr_vars e)) → ((n : Node) → node ≡ Some n → AllBelow (length operands) (node_vars n))
-    → get_or (kill_row operands bits node) i false ≡ node_kills e node
-kill-bit operands bits i e None i_in among below = false-bit bits i
-kill-bit operands bits i e (Some (Start next)) i_in among below = get_or-replicate bits i true false i_in
-kill-bit operands bits i e (Some (Skip next)) i_in among below = false-bit bits i
-kill-bit operands bits i e (Some (Assign x rhs next)) i_in among below = among x (below (Assign x rhs next) refl).0
-kill-bit operands bits i e (Some (Print a next)) i_in among below = false-bit bits i
-kill-bit operands bits i e (Some (Call None unit arguments next)) i_in among below = false-bit bits i
-kill-bit operands bits i e (Some (Call (Some x) unit arguments next)) i_in among below = among x (below (Call (Some x) unit arguments next) refl).0
-kill-bit operands bits i e (Some (Test test taken other)) i_in among below = false-bit bits i
-kill-bit operands bits i e (Some (Return a)) i_in among below = false-bit bits i
+pub kill-bit : (graph : GraphShape) (operands : List (List Bool)) (bits i : ℕ) (e : Expr) (node : Option Node) → i < bits → ((x : ℕ) → x < length operands → has_bit operands i x ≡ is_among x (expr_vars e)) → ((n : Node) → node ≡ Some n → AllBelow (length operands) (node_vars n))
+    → get_or (kill_row operands bits node) i false ≡ node_kills graph e node
+kill-bit graph operands bits i e None i_in among below = false-bit bits i
+kill-bit graph operands bits i e (Some (Start next)) i_in among below = get_or-replicate bits i true false i_in
+kill-bit graph operands bits i e (Some (Skip next)) i_in among below = false-bit bits i ∙ sym (assigns_none (expr_vars e))
+kill-bit graph operands bits i e (Some (Assign x rhs next)) i_in among below = among x (below (Assign x rhs next) refl).0
+kill-bit graph operands bits i e (Some (Print a next)) i_in among below = false-bit bits i ∙ sym (assigns_none (expr_vars e))
+kill-bit graph operands bits i e (Some (Call None unit arguments next)) i_in among below = false-bit bits i ∙ sym (assigns_none (expr_vars e))
+kill-bit graph operands bits i e (Some (Call (Some x) unit arguments next)) i_in among below = among x (below (Call (Some x) unit arguments next) refl).0
+kill-bit graph operands bits i e (Some (Test test taken other)) i_in among below = false-bit bits i ∙ sym (assigns_none (expr_vars e))
+kill-bit graph operands bits i e (Some (Return a)) i_in among below = false-bit bits i ∙ sym (assigns_none (expr_vars e))
 
 -- ---- rows of uses, as far as node n
 
 pub record AreUses (table : List Expr) (nodes : List Node) (n : ℕ) (rows : List (List Bool)) : Type 0 where
   pub shape : AreRows (length nodes) (length table) rows
-  pub done : (m i : ℕ) (e : Expr) → m < n → slice_get table i ≡ Some e → has_bit rows i m ≡ uses nodes e m
+  pub done : (m i : ℕ) (e : Expr) → m < n → slice_get table i ≡ Some e → has_bit rows i m ≡ node_uses e (slice_get nodes m)
   pub later : (m i : ℕ) → n ≤ m → m < length nodes → has_bit rows i m ≡ false
 
 pub false-rows : (nodes bits : ℕ) (rows : List (List Bool)) → rows ≡ replicate nodes (replicate bits false) → AreRows nodes bits rows × ((m i : ℕ) → m < nodes → has_bit rows i m ≡ false)
@@ -137,21 +138,21 @@ uses-more table nodes n node found rows new at within exact is before = rw is (b
     long : length (row_of rows n) ≡ length table
     long = before.shape.each n (slice_get_within nodes n node at)
 
-    here : (i : ℕ) (e : Expr) → slice_get table i ≡ Some e → uses nodes e n ≡ is_expr e (rhs_at (Some node))
+    here : (i : ℕ) (e : Expr) → slice_get table i ≡ Some e → node_uses e (slice_get nodes n) ≡ is_expr e (rhs_at (Some node))
     here i e e_at = ap (λ o. is_expr e (rhs_at o)) at
 
-    bit : (k : ℕ) → k < length (row_of rows n) → found ≡ Some k → (i : ℕ) (e : Expr) → slice_get table i ≡ Some e → get_or (set (row_of rows n) k true) i false ≡ uses nodes e n
-    bit k k_in f i e e_at = elim (cases_eq i k) as (λ _. get_or (set (row_of rows n) k true) i false ≡ uses nodes e n) [
+    bit : (k : ℕ) → k < length (row_of rows n) → found ≡ Some k → (i : ℕ) (e : Expr) → slice_get table i ≡ Some e → get_or (set (row_of rows n) k true) i false ≡ node_uses e (slice_get nodes n)
+    bit k k_in f i e e_at = elim (cases_eq i k) as (λ _. get_or (set (row_of rows n) k true) i false ≡ node_uses e (slice_get nodes n)) [
       | inl same ↦ rw same (get_or-set_same (row_of rows n) k true false k_in) ∙ sym (here i e e_at ∙ (exact i e e_at).1 (f ∙ ap Some (sym same)))
       | inr other ↦ get_or-set_other (row_of rows n) k i true false other ∙ before.later n i (omega arith) (slice_get_within nodes n node at)
-          ∙ by_truth false (uses nodes e n) (λ h. cc) (λ u. let one : found ≡ Some i = (exact i e e_at).0 (sym (here i e e_at) ∙ u) in let same : k ≡ i = some_number k i (sym f ∙ one) in absurd (other (sym same)))
+          ∙ by_truth false (node_uses e (slice_get nodes n)) (λ h. cc) (λ u. let one : found ≡ Some i = (exact i e e_at).0 (sym (here i e e_at) ∙ u) in let same : k ≡ i = some_number k i (sym f ∙ one) in absurd (other (sym same)))
     ]
 
     by : (o : Option ℕ) → found ≡ o → AreUses table nodes (n + 1) (with_bit rows n o)
     by None f = record {
       shape = before.shape;
-      done = λ m i e m_in e_at. elim (cases_eq m n) as (λ _. has_bit rows i m ≡ uses nodes e m) [
-        | inl same ↦ rw same (by_truth (has_bit rows i n) (uses nodes e n) (λ t. absurd (true≢false (sym t ∙ before.later n i (omega arith) (slice_get_within nodes n node at))))
+      done = λ m i e m_in e_at. elim (cases_eq m n) as (λ _. has_bit rows i m ≡ node_uses e (slice_get nodes m)) [
+        | inl same ↦ rw same (by_truth (has_bit rows i n) (node_uses e (slice_get nodes n)) (λ t. absurd (true≢false (sym t ∙ before.later n i (omega arith) (slice_get_within nodes n node at))))
             (λ u. let no : found ≡ Some i = (exact i e e_at).0 (sym (here i e e_at) ∙ u) in cc))
         | inr other ↦ before.done m i e (omega (arith, m_in, other)) e_at
       ];
@@ -170,7 +171,7 @@ uses-more table nodes n node found rows new at within exact is before = rw is (b
               | inr other ↦ rw (at_m m other) (before.shape.each m m_in)
             ];
           };
-          done = λ m i e m_in e_at. elim (cases_eq m n) as (λ _. has_bit (set rows n row) i m ≡ uses nodes e m) [
+          done = λ m i e m_in e_at. elim (cases_eq m n) as (λ _. has_bit (set rows n row) i m ≡ node_uses e (slice_get nodes m)) [
             | inl same ↦ rw (same, at_n) (bit k k_in f i e e_at)
             | inr other ↦ rw (at_m m other) (before.done m i e (omega (arith, m_in, other)) e_at)
           ];

@@ -1,26 +1,26 @@
--- An admissible placement is served, and its temporaries are new.
-use Rattle.std.proofs.Common.{◌≡◌, ℕ, zero, suc, ◌+◌, ◌<◌, ◌≤◌, Bool, true, false, cond, List, [], ◌∷◌, length, slice_get, slice_index_or, Some, ◌⊎◌, inl, inr, refl, sym, ap, ◌∙◌, subst, arith, le_refl}
+-- A placement that can be flattened by is served, and its temporaries are new.
+use Rattle.std.proofs.Common.{◌≡◌, ℕ, zero, suc, ◌+◌, ◌<◌, ◌≤◌, Bool, true, false, cond, List, [], ◌∷◌, length, slice_get, slice_index_or, Some, ◌⊎◌, inl, inr, sym, ap, ◌∙◌, subst, arith, le_refl}
 use Rattle.std.proofs.lemmas.List.{get_or_past}
 use Rattle.std.proofs.lemmas.Option.{slice_get_within}
 use Rattle.std.proofs.lemmas.Bool.{cases_Bool, cases_lt, cases_order, or_left, or_right, true≢false, false≢true}
 use Rattle.mir_base.specs.declared.instructions.Expr.{Expr}
-use Rattle.flow_graph.specs.declared.nodes.Node.{Node}
-use Rattle.flow_graph.specs.Graphs.{CanMake}
-use Rattle.flow_graph.specs.Paths.{Trace, from_start}
+use Rattle.flow_graph.specs.Graphs.{GraphShape, CanMake}
+use Rattle.flow_graph.specs.Paths.{Trace}
 use Rattle.bit_rows.specs.Bits.{row_of}
 use Rattle.path_laws.specs.Paths.{has_bit, AreRows}
 use Rattle.motion_rewrite.specs.declared.placement.Placement.{Placement}
-use Rattle.motion_rewrite.specs.Expressions.{is_expr, rhs_at, uses, kills, node_kills}
-use Rattle.motion_rewrite.specs.Placements.{Serves, IsAnticipatable, IsAdmissible, places_of}
+use Rattle.motion_rewrite.specs.Expressions.{uses, kills}
+use Rattle.motion_rewrite.specs.Placements.{Serves, CanFlatten, places_of}
 use Rattle.motion_rewrite.specs.Temporaries.{has_insertion, temporaries_before, temporary}
-use Rattle.motion_rewrite.proofs.Chains.{get_within, row_short}
+use Rattle.flow_graph.specs.InsertionNodes.{some_at}
+use Rattle.motion_rewrite.proofs.RowNumbers.{row_short}
 
 -- what the rewriting needs of a placement: no row of insertions is longer than the table and none is at Start, each replaced node uses its
 -- expression, and on each path to it an insertion serves
-pub record IsServed (nodes : List Node) (table : List Expr) (p : Placement) : Type 0 where
+pub record IsServed (graph : GraphShape) (table : List Expr) (p : Placement) : Type 0 where
   pub short : (n : ℕ) → length (row_of p.insert n) ≤ length table
-  pub uses_it : (n i : ℕ) → has_bit p.replace i n ≡ true → (e : Expr) × (slice_get table i ≡ Some e) × (uses nodes e n ≡ true)
-  pub served : (n i : ℕ) (e : Expr) → slice_get table i ≡ Some e → has_bit p.replace i n ≡ true → (before : List ℕ) → Trace nodes n before → (has_bit p.insert i n ≡ true) ⊎ Serves (λ m. has_bit p.insert i m ≡ true) (kills nodes e) before
+  pub uses_it : (n i : ℕ) → has_bit p.replace i n ≡ true → (e : Expr) × (slice_get table i ≡ Some e) × (uses graph e n ≡ true)
+  pub served : (n i : ℕ) (e : Expr) → slice_get table i ≡ Some e → has_bit p.replace i n ≡ true → (before : List ℕ) → Trace graph.nodes n before → (has_bit p.insert i n ≡ true) ⊎ Serves (λ m. has_bit p.insert i m ≡ true) (kills graph e) before
   pub at_start : (i : ℕ) → has_bit p.insert i 0 ≡ false
 
 -- temporaries are new, and those with an insertion differ
@@ -63,7 +63,7 @@ temporaries vars p = record {
   ];
 }
 
--- ---- admissible placements
+-- ---- placements that can be flattened by
 
 row_past : (rows : List (List Bool)) (n : ℕ) → length rows ≤ n → row_of rows n ≡ []
 row_past rows n le = get_or_past rows n [] le
@@ -77,35 +77,23 @@ bit_within nodes bits rows are n i set = elim (cases_lt n nodes) [
   | inr past ↦ absurd (false≢true (sym (ap (λ row. slice_index_or row i false) (row_past rows n (omega (arith, past, are.len)))) ∙ set))
 ]
 
-module _ (names : List (List ℕ)) (received : List ℕ) (nodes : List Node) (can : CanMake names received nodes) where
-  pub some_node : 0 < length nodes
-  some_node = slice_get_within nodes 0 _ can.start.1
+module _ (graph : GraphShape) (can : CanMake graph.vars graph.received graph.nodes) where
+  pub some_node : 0 < length graph.nodes
+  some_node = slice_get_within graph.nodes 0 _ can.start.1
 
-  start_kills : (e : Expr) → kills nodes e 0 ≡ true
-  start_kills e = ap (node_kills e) can.start.1
-
-  start_unused : (e : Expr) → uses nodes e 0 ≡ false
-  start_unused e = ap (λ o. is_expr e (rhs_at o)) can.start.1
-
-  start_anticipates : (e : Expr) → IsAnticipatable nodes e 0 → ⊥
-  start_anticipates e down = elim (down (0 ∷ []) some_node refl (inl (start_kills e))) [
-    | inl used ↦ true≢false (sym used ∙ start_unused e)
-    | inr none ↦ none
-  ]
-
-  pub admissible_served : (table : List Expr) (p : Placement) → AreRows (length nodes) (length table) p.insert → AreRows (length nodes) (length table) p.replace → ((i : ℕ) (e : Expr) → slice_get table i ≡ Some e → IsAdmissible nodes e (IsAnticipatable nodes e) (places_of p i)) → IsServed nodes table p
-  admissible_served table p insert replace admissible = record {
-    short = row_short (length nodes) (length table) p.insert insert;
+  pub placed_served : (table : List Expr) (p : Placement) → AreRows (length graph.nodes) (length table) p.insert → AreRows (length graph.nodes) (length table) p.replace → ((i : ℕ) (e : Expr) → slice_get table i ≡ Some e → CanFlatten graph e (places_of p i)) → IsServed graph table p
+  placed_served table p insert replace placed = record {
+    short = row_short (length graph.nodes) (length table) p.insert insert;
     uses_it = λ n i set.
-        let within = bit_within (length nodes) (length table) p.replace replace n i set in
-        let e = get_within table i within.1 in
-        (e.0, e.1, (admissible i e.0 e.1).replaced_uses n within.0 set);
-    served = λ n i e at_i set before. (admissible i e at_i).served n before set;
+        let within = bit_within (length graph.nodes) (length table) p.replace replace n i set in
+        let e = some_at table i within.1 in
+        (e.0, e.1, (placed i e.0 e.1).replaced_uses n within.0 set);
+    served = λ n i e at_i set before. (placed i e at_i).served n before set;
     at_start = λ i. elim (cases_Bool (has_bit p.insert i 0)) [
       | inl set ↦
-          let within = bit_within (length nodes) (length table) p.insert insert 0 i set in
-          let e = get_within table i within.1 in
-          elim ((admissible i e.0 e.1).safe 0 within.0 set) [ inl available ↦ absurd (available [] from_start) | inr down ↦ absurd (start_anticipates e.0 down) ]
+          let within = bit_within (length graph.nodes) (length table) p.insert insert 0 i set in
+          let e = some_at table i within.1 in
+          absurd (true≢false (sym set ∙ (placed i e.0 e.1).at_start))
       | inr none ↦ none
     ];
   }

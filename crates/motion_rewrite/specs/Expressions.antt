@@ -1,6 +1,7 @@
 -- What a node does with an expression: it uses it where its right side is exactly this expression, and kills it where it
--- assigns an operand of it. A node that does both uses before it kills.
-use Rattle.std.specs.Prelude.{ℕ, Bool, true, false, ◌&&◌, ◌||◌, eqb, List, [], ◌∷◌, ◌++◌, slice_get, Option, Some, None}
+-- assigns a variable that the expression reads, or is Start. A node that does both uses before it kills.
+use Rattle.std.specs.Prelude.{ℕ, Bool, false, ◌&&◌, ◌||◌, eqb, List, ◌++◌, slice_get, Option, Some, None}
+use Rattle.std.specs.List.{list_any}
 use Rattle.std.specs.Ordering.{int_eq}
 use Rattle.mir_base.specs.declared.operators.Op.{Op}
 use Rattle.mir_base.specs.declared.operators.Op.TheVariants.{Add, Sub, Mul, Div, Mod, Min, Max, Eq, Ne, Lt, Le, Gt, Ge, Shl, Shr, Shra, And, Or, Xor}
@@ -14,8 +15,7 @@ use Rattle.mir_base.specs.declared.instructions.Expr.{Expr}
 use Rattle.mir_base.specs.declared.instructions.Expr.TheVariants.{Un, Bin}
 use Rattle.mir_base.specs.Shapes.{operand_vars}
 use Rattle.flow_graph.specs.declared.nodes.Node.{Node}
-use Rattle.flow_graph.specs.declared.nodes.Node.TheVariants.{Start, Skip, Assign, Print, Call, Test, Return}
-use Rattle.flow_graph.specs.Graphs.{node_rhs}
+use Rattle.flow_graph.specs.Graphs.{GraphShape, assigns, is_start, node_rhs}
 
 -- ---- expressions
 
@@ -82,26 +82,23 @@ abbrev pub rhs_at : Option Node → Option Rhs
 rhs_at None = None
 rhs_at (Some node) = node_rhs node
 
+-- the node, where there is one, has e as its right side
+abbrev pub node_uses : Expr → Option Node → Bool
+node_uses e node = is_expr e (rhs_at node)
+
 -- node n uses e
-abbrev pub uses : List Node → Expr → ℕ → Bool
-uses nodes e n = is_expr e (rhs_at (slice_get nodes n))
+abbrev pub uses : GraphShape → Expr → ℕ → Bool
+uses graph e n = node_uses e (slice_get graph.nodes n)
 
+-- x is one of these
 abbrev pub is_among : ℕ → List ℕ → Bool
-is_among x [] = false
-is_among x (y ∷ ys) = eqb y x || is_among x ys
+is_among x ys = list_any (λ y. eqb y x) ys
 
--- the node assigns an operand of e; Start kills every expression
-abbrev pub node_kills : Expr → Option Node → Bool
-node_kills e None = false
-node_kills e (Some (Start next)) = true
-node_kills e (Some (Skip next)) = false
-node_kills e (Some (Assign x rhs next)) = is_among x (expr_vars e)
-node_kills e (Some (Print a next)) = false
-node_kills e (Some (Call None unit operands next)) = false
-node_kills e (Some (Call (Some x) unit operands next)) = is_among x (expr_vars e)
-node_kills e (Some (Test test taken other)) = false
-node_kills e (Some (Return a)) = false
+-- the node, where there is one, assigns a variable that e reads, or is Start, which kills every expression
+abbrev pub node_kills : GraphShape → Expr → Option Node → Bool
+node_kills graph e None = false
+node_kills graph e (Some node) = is_start node || list_any (λ x. assigns graph x node) (expr_vars e)
 
 -- node n kills e
-abbrev pub kills : List Node → Expr → ℕ → Bool
-kills nodes e n = node_kills e (slice_get nodes n)
+abbrev pub kills : GraphShape → Expr → ℕ → Bool
+kills graph e n = node_kills graph e (slice_get graph.nodes n)

@@ -1,13 +1,11 @@
 -- The graph that a placement makes: new assignments to temporaries before nodes, and uses that read them.
 use Rattle.std.specs.Prelude.{◌≡◌, ℕ, zero, suc, ◌+◌, Bool, cond, List, [], ◌∷◌, ◌++◌, length, slice_get, Option, Some, None}
 use Rattle.mir_base.specs.declared.instructions.Operand.TheVariants.{Var}
-use Rattle.mir_base.specs.declared.instructions.Rhs.{Rhs}
 use Rattle.mir_base.specs.declared.instructions.Rhs.TheVariants.{Plain}
 use Rattle.mir_base.specs.declared.instructions.Expr.{Expr}
 use Rattle.flow_graph.specs.declared.nodes.Node.{Node}
-use Rattle.flow_graph.specs.declared.nodes.Node.TheVariants.{Start, Skip, Assign, Print, Call, Test, Return}
 use Rattle.flow_graph.specs.Graphs.{GraphShape}
-use Rattle.flow_graph.specs.Kept.{redirected}
+use Rattle.flow_graph.specs.Insertions.{Insertion, Change, Kept, Replaced, Rewriting, rewritten_nodes}
 use Rattle.bit_rows.specs.Bits.{row_of}
 use Rattle.motion_rewrite.specs.declared.placement.Placement.{Placement}
 use Rattle.motion_rewrite.specs.Expressions.{rhs_of}
@@ -29,72 +27,31 @@ abbrev pub inserted_below : List (List Bool) → ℕ → ℕ
 inserted_below rows zero = 0
 inserted_below rows (suc n) = inserted_below rows n + length (inserted rows n)
 
--- ---- new nodes
+-- the expression, where the table has one, assigned to a variable
+abbrev pub insertion_of : ℕ → Option Expr → List Insertion
+insertion_of x None = []
+insertion_of x (Some e) = record { var = x; rhs = rhs_of e } ∷ []
 
--- The new nodes take the next numbers, in order of the nodes and then of the table. The edges that enter node n, of so
--- many nodes, enter the first of the new nodes before it, where there is one
-abbrev pub entry_among : ℕ → ℕ → List ℕ → ℕ
-entry_among n first [] = n
-entry_among n first (i ∷ numbers) = first
-
-abbrev pub entry : ℕ → List (List Bool) → ℕ → ℕ
-entry nodes rows n = entry_among n (nodes + inserted_below rows n) (inserted rows n)
-
--- the right side of the expression of this number; never asked beyond the table
-abbrev pub rhs_in : Option Expr → List Rhs
-rhs_in None = []
-rhs_in (Some e) = rhs_of e ∷ []
-
--- where the new node of number k leads: to the next new node, or after the last one to node n
-abbrev pub next_of : ℕ → ℕ → List ℕ → ℕ
-next_of n k [] = n
-next_of n k (i ∷ numbers) = suc k
-
-abbrev pub assigning : ℕ → List Rhs → ℕ → List Node
-assigning x [] next = []
-assigning x (rhs ∷ rest) next = Assign x rhs next ∷ []
-
--- the new nodes before node n, numbered from k on, which lead on to each other and then to n; expression i is assigned to
--- the variable `temp i`
-abbrev pub chain : (ℕ → ℕ) → List Expr → ℕ → ℕ → List ℕ → List Node
-chain temp table n k [] = []
-chain temp table n k (i ∷ numbers) = assigning (temp i) (rhs_in (slice_get table i)) (next_of n k numbers) ++ chain temp table n (suc k) numbers
-
--- the new nodes before all nodes from n on, numbered from k on
-abbrev pub chains : (ℕ → ℕ) → List Expr → ℕ → ℕ → List (List Bool) → List Node
-chains temp table n k [] = []
-chains temp table n k (row ∷ rows) = chain temp table n k (set_from 0 row) ++ chains temp table (suc n) (k + length (set_from 0 row)) rows
+-- the expressions of these numbers, each assigned to its temporary
+abbrev pub insertions_of : (ℕ → ℕ) → List Expr → List ℕ → List Insertion
+insertions_of temp table [] = []
+insertions_of temp table (i ∷ numbers) = insertion_of (temp i) (slice_get table i) ++ insertions_of temp table numbers
 
 -- ---- replaced right sides
 
--- the right side, read from the temporary of the first of these expressions
-abbrev pub read_from : (ℕ → ℕ) → List ℕ → Rhs → Rhs
-read_from temp [] rhs = rhs
-read_from temp (i ∷ numbers) rhs = Plain (Var (temp i))
-
--- the list of one number, or none
-abbrev pub first_set : Option ℕ → List ℕ
-first_set None = []
-first_set (Some i) = i ∷ []
-
-abbrev pub replaced : (ℕ → ℕ) → List ℕ → Node → Node
-replaced temp numbers (Start next) = Start next
-replaced temp numbers (Skip next) = Skip next
-replaced temp numbers (Assign x rhs next) = Assign x (read_from temp numbers rhs) next
-replaced temp numbers (Print a next) = Print a next
-replaced temp numbers (Call into unit operands next) = Call into unit operands next
-replaced temp numbers (Test test taken other) = Test test taken other
-replaced temp numbers (Return a) = Return a
-
--- the old nodes from number n on, with their replaced right sides and redirected edges
-abbrev pub olds : (ℕ → ℕ) → (ℕ → ℕ) → List (List Bool) → ℕ → List Node → List Node
-olds temp to rows n [] = []
-olds temp to rows n (node ∷ nodes) = redirected to (replaced temp (inserted rows n) node) ∷ olds temp to rows (suc n) nodes
+-- the temporary of the first of these expressions is read
+abbrev pub reading : (ℕ → ℕ) → List ℕ → Change
+reading temp [] = Kept
+reading temp (i ∷ numbers) = Replaced (Plain (Var (temp i)))
 
 -- ---- the whole
 
+-- before each node stand the expressions that are inserted there, and a replaced use reads its temporary
+abbrev pub by_placement : (ℕ → ℕ) → List Expr → Placement → Rewriting
+by_placement temp table p = record { inserts = λ n. insertions_of temp table (inserted p.insert n); changes = λ n. reading temp (inserted p.replace n) }
+
 abbrev pub flattened : (ℕ → ℕ) → List Expr → Placement → List Node → List Node
-flattened temp table p nodes = olds temp (entry (length nodes) p.insert) p.replace 0 nodes ++ chains temp table 0 (length nodes) p.insert
+flattened temp table p nodes = rewritten_nodes (by_placement temp table p) nodes
 
 -- the graph with the temporaries, in which old nodes keep their numbers
 pub record IsFlattened (graph : GraphShape) (table : List Expr) (p : Placement) (result : GraphShape) : Type 0 where

@@ -1,8 +1,10 @@
 pub mod Expressions
+pub mod ExpressionLaws
 pub mod Placements
+pub mod PlacementLaws
 pub mod Tables
 pub mod Rows
 pub mod Temporaries
 pub mod Flatten
 pub mod Over
-pub mod Along
+pub mod FlattenLaws

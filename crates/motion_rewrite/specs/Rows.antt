@@ -1,5 +1,5 @@
 -- The rows of what nodes use and kill.
-use Rattle.std.specs.Prelude.{◌≡◌, ℕ, ◌<◌, Bool, true, false, eqb, ◌&&◌, ◌||◌, List, length, replicate, Option, Some, None}
+use Rattle.std.specs.Prelude.{◌≡◌, ℕ, ◌<◌, Bool, true, false, eqb, ◌&&◌, ◌||◌, List, length, replicate, slice_get, Option, Some, None}
 use Rattle.mir_base.specs.declared.instructions.Rhs.{Rhs}
 use Rattle.mir_base.specs.declared.instructions.Rhs.TheVariants.{Plain, Unary, Binary}
 use Rattle.mir_base.specs.declared.instructions.Expr.{Expr}
@@ -7,7 +7,8 @@ use Rattle.mir_base.specs.declared.instructions.Expr.TheVariants.{Un, Bin}
 use Rattle.bit_rows.specs.Bits.{row_of}
 use Rattle.flow_graph.specs.declared.nodes.Node.{Node}
 use Rattle.flow_graph.specs.declared.nodes.Node.TheVariants.{Start, Skip, Assign, Print, Call, Test, Return}
-use Rattle.path_laws.specs.Paths.{has_bit}
+use Rattle.flow_graph.specs.Graphs.{GraphShape}
+use Rattle.path_laws.specs.Paths.{AreRows, has_bit}
 use Rattle.motion_rewrite.specs.Expressions.{is_among}
 
 -- the right side as an expression, movable or not
@@ -16,6 +17,11 @@ written_expr None = None
 written_expr (Some (Plain a)) = None
 written_expr (Some (Unary op a)) = Some (Un op a)
 written_expr (Some (Binary op a b)) = Some (Bin op a b)
+
+-- one row for each node and one bit for each expression: whether this holds of the expression at the node
+pub record AreRowsOf (graph : GraphShape) (table : List Expr) (holds : Expr → ℕ → Bool) (rows : List (List Bool)) : Type 0 where
+  pub shape : AreRows (length graph.nodes) (length table) rows
+  pub bits : (n i : ℕ) (e : Expr) → n < length graph.nodes → slice_get table i ≡ Some e → has_bit rows i n ≡ holds e n
 
 -- where each variable has a row of the expressions that have it as an operand: the row of what a node kills
 abbrev pub kill_row : List (List Bool) → ℕ → Option Node → List Bool

@@ -1,27 +1,27 @@
 // The rewriting of a graph by a placement.
-ghost use Rattle.std.specs.Prelude.{◌≡◌, ℕ, List, length, slice_get, slice_index_or, IfOk, OnOk, Some};
-ghost use Rattle.mir_base.specs.Frames.{Answer, Entry};
+ghost use Rattle.std.specs.Prelude.{◌≡◌, ℕ, List, length, slice_get, IfOk, OnOk, Some};
 ghost use Rattle.mir_base.specs.Shapes.{AllDiffer};
-ghost use Rattle.mir_base.specs.UnitRuns.{AreAnswers, IsEntry, UnitCheaper, UnitSame};
+ghost use Rattle.mir_base.specs.UnitRuns.{UnitCheaper, UnitSame};
 ghost use Rattle.mir_base.specs.declared.instructions.Expr.{Expr};
+ghost use Rattle.flow_graph.specs.Along.{RunsFollow};
 ghost use Rattle.flow_graph.specs.Calls.{NodesCall};
+ghost use Rattle.flow_graph.specs.Dividing.{DividesStay};
 ghost use Rattle.flow_graph.specs.Edges.{IsSplit};
-ghost use Rattle.flow_graph.specs.Graphs.{AllWithin, IsGraph};
+ghost use Rattle.flow_graph.specs.Graphs.{IsGraph};
+ghost use Rattle.flow_graph.specs.Keeps.{AsGraph, Keeps};
 ghost use Rattle.flow_graph.specs.Machines.{machine_of};
 ghost use Rattle.flow_graph.specs.Paths.{IsFullPath};
 ghost use Rattle.path_laws.specs.Paths.{AreRows};
-ghost use Rattle.motion_rewrite.specs.Along.{RunsAlong};
-ghost use Rattle.motion_rewrite.specs.Flatten.{IsFlattened, flattened};
-ghost use Rattle.motion_rewrite.specs.Over.{HasOver, IsOver};
-ghost use Rattle.motion_rewrite.specs.Placements.{IsAdmissible, IsAnticipatable, IsNoDearer, places_of};
+ghost use Rattle.motion_rewrite.specs.Flatten.{IsFlattened};
+ghost use Rattle.motion_rewrite.specs.Over.{HasOver};
+ghost use Rattle.motion_rewrite.specs.Placements.{CanFlatten, IsNoDearer, places_of};
 ghost use Rattle.motion_rewrite.specs.Tables.{AreMovable};
 
-use crate::inserting::new_nodes;
+use crate::editing::{insertions_in, put_evaluations, read_temporaries};
 use crate::naming::temporary_names;
-use crate::olds::old_nodes;
 use crate::temporaries::number_temporaries;
 use crate::{ExprTable, Memory, Placement};
-use flow_graph::{Graph, Node};
+use flow_graph::{Editor, Graph};
 use std::alloc::Global;
 
 /// The graph rewritten by a placement. Each expression with an insertion gets a temporary: a new variable with the next
@@ -32,8 +32,10 @@ use std::alloc::Global;
 /// plain assignment of the temporary. Old nodes keep their numbers.
 ///
 /// The expressions are movable and over the graph's variables; the placement has one row for each node and one bit for each
-/// expression, and is admissible for each. Its only refusal is want of memory. The rewriting is that of Knoop, Ruething and
-/// Steffen, *Optimal Code Motion: Theory and Practice*, TOPLAS 1994, for nodes of one instruction.
+/// expression, and for each no insertion stands before Start, and each replaced node uses the expression and is served by
+/// an insertion on every path to it. So it is with every placement that is admissible by some down rule. It fails only with
+/// `Memory`. The rewriting is that of Knoop, Ruething and Steffen, *Optimal Code Motion: Theory and Practice*, TOPLAS 1994,
+/// for nodes of one instruction.
 pub fn flatten(
     alloc: Global,
     graph: &Graph,
@@ -43,22 +45,25 @@ pub fn flatten(
     requires movable { AreMovable (length graph.now.vars) table.now }
     requires insert { AreRows (length graph.now.nodes) (length table.now) placement.now.insert }
     requires replace { AreRows (length graph.now.nodes) (length table.now) placement.now.replace }
-    requires admissible { (i : ℕ) (e : Expr) → slice_get table.now i ≡ Some e → IsAdmissible graph.now.nodes e (IsAnticipatable graph.now.nodes e) (places_of placement.now i) }
+    requires placed { (i : ℕ) (e : Expr) → slice_get table.now i ≡ Some e → CanFlatten graph.now e (places_of placement.now i) }
     ensures flattened { IfOk result (λ flat. IsFlattened graph.now table.now placement.now flat) }
     ensures same { IfOk result (λ flat. UnitSame (machine_of graph.now) (machine_of flat)) }
 
     // where the placement evaluates no expression more often than the graph, the result counts no more
-    ensures cheaper { IfOk result (λ flat. IsNoDearer graph.now.nodes table.now placement.now → UnitCheaper (machine_of graph.now) (machine_of flat)) }
+    ensures cheaper { IfOk result (λ flat. IsNoDearer graph.now table.now placement.now → UnitCheaper (machine_of graph.now) (machine_of flat)) }
+    ensures keeps { IfOk result (λ flat. IsNoDearer graph.now table.now placement.now → Keeps (AsGraph graph.now) (AsGraph flat)) }
 
     // one path of the result lies over each full path, with the counts of the placement
-    ensures paths { IfOk result (λ flat. (path : List ℕ) → IsFullPath graph.now.nodes path → HasOver graph.now.nodes flat.nodes table.now placement.now path) }
+    ensures paths { IfOk result (λ flat. (path : List ℕ) → IsFullPath graph.now.nodes path → HasOver graph.now flat table.now placement.now path) }
 
     // where a run of the graph goes along a full path to its return, that of the result goes along the path over it
-    ensures runs { IfOk result (λ flat. (path over : List ℕ) (entry : Entry) (answers : List Answer) → IsFullPath graph.now.nodes path → IsOver graph.now.nodes flat.nodes path over → IsEntry (machine_of graph.now) entry → AreAnswers answers
-        → RunsAlong (machine_of graph.now) entry answers path → RunsAlong (machine_of flat) entry answers over) }
+    ensures runs { IfOk result (λ flat. RunsFollow graph.now flat) }
 
     // a split graph stays split
     ensures split { IfOk result (λ flat. IsSplit graph.now.nodes → IsSplit flat.nodes) }
+
+    // each dividing assignment stays
+    ensures divides { IfOk result (λ flat. DividesStay graph.now.nodes flat.nodes) }
 
     // the result makes no calls but those of the graph
     ensures calls { IfOk result (λ flat. (called count : ℕ) → NodesCall flat.nodes called count → NodesCall graph.now.nodes called count) }
@@ -77,7 +82,7 @@ fn rewritten(
     requires movable { AreMovable (length graph.now.vars) table.now }
     requires insert { AreRows (length graph.now.nodes) (length table.now) placement.now.insert }
     requires replace { AreRows (length graph.now.nodes) (length table.now) placement.now.replace }
-    requires admissible { (i : ℕ) (e : Expr) → slice_get table.now i ≡ Some e → IsAdmissible graph.now.nodes e (IsAnticipatable graph.now.nodes e) (places_of placement.now i) }
+    requires placed { (i : ℕ) (e : Expr) → slice_get table.now i ≡ Some e → CanFlatten graph.now e (places_of placement.now i) }
     ensures graph { OnOk result (IsGraph graph.now.vars graph.now.received graph.now.nodes) }
     ensures differ { OnOk result (AllDiffer table.now) }
     ensures flattened { IfOk result (λ flat. IsFlattened graph.now table.now placement.now flat) }
@@ -86,31 +91,12 @@ fn rewritten(
     let temporaries = number_temporaries(alloc, graph.vars().len(), table.len(), insert)?;
     let names = temporary_names(alloc, graph.vars(), temporaries.count)?;
     let temps = temporaries.numbers.as_slice();
-    let nodes = flat_nodes(alloc, graph.nodes(), table, placement, temps)?;
-    let flat = graph.with_nodes(alloc, names, nodes)?;
-    Ok(flat)
-}
-
-/// The nodes rewritten by a placement, where each expression of the table has its temporary: the old ones, and then the
-/// new ones.
-fn flat_nodes(
-    alloc: Global,
-    nodes: &[Node],
-    table: &ExprTable,
-    placement: &Placement,
-    temps: &[usize],
-) -> Result<Vec<Node>, Memory>
-    requires within { AllWithin nodes.now }
-    requires temps { length temps.now ≡ length table.now }
-    requires insert { AreRows (length nodes.now) (length table.now) placement.now.insert }
-    requires replace { AreRows (length nodes.now) (length table.now) placement.now.replace }
-    ensures { IfOk result (λ flat. flat.items ≡ flattened (λ i. slice_index_or temps.now i 0) table.now placement.now nodes.now) }
-{
-    let new = new_nodes(alloc, table, temps, &placement.insert)?;
-    let entries = new.entries.as_slice();
-    let mut flat = old_nodes(alloc, nodes, entries, temps, &placement.replace)?;
-    for node in new.nodes {
-        flat.push(node)?;
-    }
+    let _nodes = graph.nodes();
+    let _differ = table.len();
+    let room = insertions_in(insert)?;
+    let mut editor = Editor::open(alloc, graph, names, room)?;
+    read_temporaries(&mut editor, temps, &placement.replace);
+    put_evaluations(&mut editor, table, temps, insert);
+    let flat = editor.close()?;
     Ok(flat)
 }

@@ -6,14 +6,13 @@
 //! optimal.
 //!
 //! The theorem that this crate carries is the contract of `flatten`: for every admissible placement of movable
-//! expressions, whoever made it, the result does the same as the graph, and on the path over each full path each
+//! expressions, by whatever down rule and whoever made it, the result does the same as the graph, and on the path over each full path each
 //! expression is evaluated as often as the placement counts.
 #![tactic(auto)]
 
+mod editing;
 mod flattening;
-mod inserting;
 mod naming;
-mod olds;
 mod placement;
 mod rows;
 mod table;

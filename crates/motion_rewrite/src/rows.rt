@@ -21,7 +21,7 @@ use std::alloc::Global;
 /// refusal is want of memory.
 pub fn use_rows(alloc: Global, graph: &Graph, table: &ExprTable) -> Result<Rows, Memory>
     ensures shape { IfOk result (λ rows. AreRows (length graph.now.nodes) (length table.now) rows) }
-    ensures uses { IfOk result (λ rows. (n i : ℕ) (e : Expr) → n < length graph.now.nodes → slice_get table.now i ≡ Some e → has_bit rows i n ≡ uses graph.now.nodes e n) }
+    ensures uses { IfOk result (λ rows. (n i : ℕ) (e : Expr) → n < length graph.now.nodes → slice_get table.now i ≡ Some e → has_bit rows i n ≡ uses graph.now e n) }
 {
     let nodes = graph.nodes();
     let mut rows = Rows::new(alloc, nodes.len(), table.len())?;
@@ -59,7 +59,7 @@ fn written_expr(node: &Node) -> Option<Expr>
 /// refusal is want of memory.
 pub fn kill_rows(alloc: Global, graph: &Graph, table: &ExprTable) -> Result<Rows, Memory>
     ensures shape { IfOk result (λ rows. AreRows (length graph.now.nodes) (length table.now) rows) }
-    ensures kills { IfOk result (λ rows. (n i : ℕ) (e : Expr) → n < length graph.now.nodes → slice_get table.now i ≡ Some e → has_bit rows i n ≡ kills graph.now.nodes e n) }
+    ensures kills { IfOk result (λ rows. (n i : ℕ) (e : Expr) → n < length graph.now.nodes → slice_get table.now i ≡ Some e → has_bit rows i n ≡ kills graph.now e n) }
 {
     let operands = operand_rows(alloc, graph.vars().len(), table)?;
     let rows = kills_by_operands(alloc, graph.nodes(), &operands, table.len())?;
@@ -98,8 +98,8 @@ fn put_kills(rows: &mut Rows, row: usize, node: &Node, operands: &Rows)
 {
     match node {
         Node::Start(_) => rows.flip(row),
-        Node::Assign(x, _, _) => rows.copy_from(row, operands.row(*x)),
-        Node::Call(Some(x), _, _, _) => rows.copy_from(row, operands.row(*x)),
+        Node::Assign(x, _, _) => rows.copy_from(row, &operands.row(*x)),
+        Node::Call(Some(x), _, _, _) => rows.copy_from(row, &operands.row(*x)),
         _ => {}
     }
 }

@@ -57,7 +57,7 @@ fn inserted_somewhere(alloc: Global, exprs: usize, insert: &Rows) -> Result<Row,
 {
     let mut inserted = Row::new(alloc, exprs)?;
     for node in 0..insert.len() {
-        let _changed = inserted.or_from(insert.row(node));
+        let _changed = inserted.or_from(&insert.row(node));
     }
     Ok(inserted)
 }

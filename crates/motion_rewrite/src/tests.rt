@@ -4,7 +4,7 @@ ghost use Rattle.mir_base.specs.Shapes.{inst_vars, numbered_from};
 ghost use Rattle.mir_base.specs.declared.instructions.Expr.{Expr};
 ghost use Rattle.flow_graph.specs.Examples.{can_lower};
 ghost use Rattle.path_laws.specs.Paths.{AreRows};
-ghost use Rattle.motion_rewrite.specs.Placements.{IsAdmissible, IsAnticipatable, places_of};
+ghost use Rattle.motion_rewrite.specs.Placements.{CanFlatten, places_of};
 
 use crate::{ExprTable, Memory, Placement, exprs, flatten, use_rows};
 use flow_graph::{Graph, lower};
@@ -68,8 +68,10 @@ fn graph_of(alloc: Global, body: Vec<Inst>) -> Result<Graph, Fail>
 fn everywhere(alloc: Global, graph: &Graph, table: &ExprTable) -> Result<Placement, Memory>
     ensures insert { IfOk result (λ placement. AreRows (length graph.now.nodes) (length table.now) placement.insert) }
     ensures replace { IfOk result (λ placement. AreRows (length graph.now.nodes) (length table.now) placement.replace) }
-    ensures admissible { IfOk result (λ placement. (i : ℕ) (e : Expr) → slice_get table.now i ≡ Some e → IsAdmissible graph.now.nodes e (IsAnticipatable graph.now.nodes e) (places_of placement i)) }
+    ensures placed { IfOk result (λ placement. (i : ℕ) (e : Expr) → slice_get table.now i ≡ Some e → CanFlatten graph.now e (places_of placement i)) }
 {
+    // The proof needs what holds of every graph: that node 0 is Start.
+    let _ = graph.nodes();
     Ok(Placement {
         insert: use_rows(alloc, graph, table)?,
         replace: use_rows(alloc, graph, table)?,

@@ -2,7 +2,7 @@ use Rattle.std.proofs.Common.{◌≡◌, ◌↔◌, ℕ, ◌<◌, true, length, 
 use Rattle.std.proofs.lemmas.Option.{slice_get_within}
 use Rattle.mir_base.specs.declared.instructions.Expr.{Expr}
 use Rattle.path_laws.specs.Paths.{has_bit, width}
-use Rattle.path_laws.specs.RowLaws.{width_is}
+use Rattle.path_laws.specs.RowLaws.{as_many, width_is}
 use Rattle.motion_rewrite.specs.Expressions.{kills, uses}
 use Rattle.motion_rewrite.specs.Placements.{IsAvailable}
 use Rattle.down_safe.proofs.Alike.{served_alike}
@@ -10,7 +10,7 @@ use Rattle.down_safe.proofs.Earliest.{earliest_from_early, early_from_earliest}
 use Rattle.down_safe.proofs.nodes.busy.Goals as goal
 use Rattle.down_safe.proofs.nodes.busy.Goals.{In_ok-up}
 
-up_is : (g : _) (c : In_ok-up g) (n i : ℕ) (e : Expr) → n < length c.args.graph.now.nodes → slice_get c.args.table.now i ≡ Some e → (has_bit c.in_ok-up.up i n ≡ true) ↔ IsAvailable c.args.graph.now.nodes e n
+up_is : (g : _) (c : In_ok-up g) (n i : ℕ) (e : Expr) → n < length c.args.graph.now.nodes → slice_get c.args.table.now i ≡ Some e → (has_bit c.in_ok-up.up i n ≡ true) ↔ IsAvailable c.args.graph.now e n
 up_is g c n i e h there =
     let nodes = c.args.graph.now.nodes in
     let table = c.args.table.now in
@@ -19,8 +19,8 @@ up_is g c n i e h there =
     let served = c.in_ok-up.ensures.served n i h (rw wide i_in) in
     let used = has_bit c.in_ok-uses.uses i in
     let killed = has_bit c.in_ok-kills.kills i in (
-      λ on. served_alike nodes used (uses nodes e) killed (kills nodes e) (λ m m_in. c.in_ok-uses.ensures.uses m i e m_in there) (λ m m_in. c.in_ok-kills.ensures.kills m i e m_in there) n (served.0 on),
-      λ all. served.1 (served_alike nodes (uses nodes e) used (kills nodes e) killed (λ m m_in. sym (c.in_ok-uses.ensures.uses m i e m_in there)) (λ m m_in. sym (c.in_ok-kills.ensures.kills m i e m_in there)) n all),
+      λ on. served_alike nodes used (uses c.args.graph.now e) killed (kills c.args.graph.now e) (λ m m_in. c.in_ok-uses.ensures.uses m i e m_in there) (λ m m_in. c.in_ok-kills.ensures.kills m i e m_in there) n (served.0 on),
+      λ all. served.1 (served_alike nodes (uses c.args.graph.now e) used (kills c.args.graph.now e) killed (λ m m_in. sym (c.in_ok-uses.ensures.uses m i e m_in there)) (λ m m_in. sym (c.in_ok-kills.ensures.kills m i e m_in there)) n all),
     )
 
 pub returns-clause-up : goal.returns-clause-up
@@ -33,13 +33,19 @@ returns-clause-early g c = λ n i e h there.
     let i_in : i < length c.args.table.now = slice_get_within table i e there in
     let wide : width c.in_ok-kills.kills ≡ length c.args.table.now = width_is (length nodes) (length table) n c.in_ok-kills.kills c.in_ok-kills.ensures.shape h in
     let early = c.in_ok-early.ensures.early n i h (rw wide i_in) in
-    let Down : ℕ → Type 0 = g.R.DownRule.is_down c.args.rule.now nodes e in
+    let Down : ℕ → Type 0 = g.R.DownRule.is_down c.args.rule.now c.args.graph.now e in
     let kill_is = λ (m : ℕ) (m_in : m < length c.args.graph.now.nodes). c.in_ok-kills.ensures.kills m i e m_in there in
     let up_at = λ (m : ℕ) (m_in : m < length c.args.graph.now.nodes). up_is g (goal.at.returns-clause-early g c).In_ok-up m i e m_in there in
     let down_at = λ (m : ℕ) (m_in : m < length c.args.graph.now.nodes). c.in_ok-down.ensures.down m i e m_in there in
     let killed = has_bit c.in_ok-kills.kills i in
     let up = has_bit c.in_ok-up.up i in
     let down = has_bit c.in_ok-down.down i in (
-      λ on. earliest_from_early nodes e Down killed up down kill_is up_at down_at n h (early.0 on),
-      λ is. early.1 (early_from_earliest nodes e Down killed up down kill_is up_at down_at n h is),
+      λ on. earliest_from_early c.args.graph.now e Down killed up down kill_is up_at down_at n h (early.0 on),
+      λ is. early.1 (early_from_earliest c.args.graph.now e Down killed up down kill_is up_at down_at n h is),
     )
+
+pub returns-clause-up_shape : goal.returns-clause-up_shape
+returns-clause-up_shape g c = as_many (length c.args.graph.now.nodes) (length c.args.table.now) c.in_ok-kills.kills c.in_ok-up.up c.in_ok-kills.ensures.shape c.in_ok-up.ensures.shape
+
+pub returns-clause-early_shape : goal.returns-clause-early_shape
+returns-clause-early_shape g c = as_many (length c.args.graph.now.nodes) (length c.args.table.now) c.in_ok-kills.kills c.in_ok-early.early c.in_ok-kills.ensures.shape c.in_ok-early.ensures.shape

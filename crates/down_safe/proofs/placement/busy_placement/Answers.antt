@@ -6,24 +6,24 @@ use Rattle.motion_rewrite.specs.Placements.{IsAvailable, places_of}
 use Rattle.down_safe.specs.Busy.{IsBusy}
 use Rattle.down_safe.proofs.Admit.{busy_admissible, told}
 use Rattle.down_safe.proofs.placement.busy_placement.Goals as goal
-use Rattle.down_safe.proofs.placement.busy_placement.Goals.{In_ok-uses}
+use Rattle.down_safe.proofs.placement.busy_placement.Goals.{In_ok-busy}
 
-busy_is : (g : _) (c : In_ok-uses g) (i : ℕ) (e : Expr) → slice_get c.args.table.now i ≡ Some e
-    → IsBusy c.args.graph.now.nodes e (g.R.DownRule.is_down c.args.rule.now c.args.graph.now.nodes e) (places_of record { insert = c.in_ok-busy.busy.early; replace = c.in_ok-uses.uses } i)
+busy_is : (g : _) (c : In_ok-busy g) (i : ℕ) (e : Expr) → slice_get c.args.table.now i ≡ Some e
+    → IsBusy c.args.graph.now e (g.R.DownRule.is_down c.args.rule.now c.args.graph.now e) (places_of record { insert = c.in_ok-busy.busy.early; replace = c.in_ok-busy.busy.uses } i)
 busy_is g c i e there = record {
   inserts_at = λ n h. c.in_ok-busy.ensures.early n i e h there;
-  replaces_at = λ n h. c.in_ok-uses.ensures.uses n i e h there;
+  replaces_at = λ n h. c.in_ok-busy.ensures.uses n i e h there;
 }
 
 pub returns-clause-busy : goal.returns-clause-busy
-returns-clause-busy g c = busy_is g (goal.at.returns-clause-busy g c).In_ok-uses
+returns-clause-busy g c = busy_is g (goal.at.returns-clause-busy g c).In_ok-busy
 
 pub returns-clause-admissible : goal.returns-clause-admissible
 returns-clause-admissible g c = λ i e there.
     let nodes = c.args.graph.now.nodes in
     let busy = c.in_ok-busy.busy in
-    let graph : IsGraph c.args.graph.now.vars c.args.graph.now.received c.args.graph.now.nodes = rw (← c.nodes.ensures.value) c.nodes.ensures.graph in
-    let Down : ℕ → Type 0 = g.R.DownRule.is_down c.args.rule.now nodes e in
-    let laws = g.met.R.DownRule.laws c.args.rule.now c.args.graph.now.vars c.args.graph.now.received nodes graph c.requires.split e in
-    busy_admissible c.args.graph.now.vars c.args.graph.now.received nodes graph e Down laws (places_of record { insert = busy.early; replace = c.in_ok-uses.uses } i) (busy_is g (goal.at.returns-clause-admissible g c).In_ok-uses i e there)
-    (λ m h. told (has_bit busy.up i m) (has_bit busy.down i m) (IsAvailable nodes e m) (Down m) (c.in_ok-busy.ensures.up m i e h there) (c.in_ok-busy.ensures.down m i e h there))
+    let is_graph : IsGraph c.args.graph.now.vars c.args.graph.now.received c.args.graph.now.nodes = rw (← c.nodes.ensures.value) c.nodes.ensures.graph in
+    let Down : ℕ → Type 0 = g.R.DownRule.is_down c.args.rule.now c.args.graph.now e in
+    let laws = g.met.R.DownRule.laws c.args.rule.now c.args.graph.now is_graph c.requires.split e in
+    busy_admissible c.args.graph.now is_graph e Down laws (places_of record { insert = busy.early; replace = c.in_ok-busy.busy.uses } i) (busy_is g (goal.at.returns-clause-admissible g c).In_ok-busy i e there)
+    (λ m h. told (has_bit busy.up i m) (has_bit busy.down i m) (IsAvailable c.args.graph.now e m) (Down m) (c.in_ok-busy.ensures.up m i e h there) (c.in_ok-busy.ensures.down m i e h there))

@@ -1,4 +1,4 @@
-use Rattle.std.proofs.Common.{◌≡◌, not, ℕ, Bool, List, inl, inr, sym, ap, ◌∙◌}
+use Rattle.std.proofs.Common.{◌≡◌, arith, not, ℕ, Bool, List, inl, inr, sym, ap, ◌∙◌}
 use Rattle.flow_graph.specs.Paths.{HasEdge}
 use Rattle.path_laws.specs.Paths.{has_bit}
 use Rattle.latest_place.proofs.Says.{both_say, either_says, not_says}
@@ -9,16 +9,16 @@ returns-clause-bits c = λ n b h l.
     let nodes = c.args.graph.now.nodes in
     let delayed = has_bit c.args.delayed.now b in
     let uses = has_bit c.args.uses.now b in
-    let graph = c.in_ok-onward.ensures.graph in
-    let copy : c.in_ok-copied.field-0 ≡ c.args.delayed.now = c.in_ok-copied.ensures in
-    let turned : (s : ℕ) → HasEdge c.args.graph.now.nodes n s → has_bit c.opposite-undelayed.result b s ≡ not (has_bit c.args.delayed.now b s) = λ s edge.
+    let graph = c.in_ok-rows.ensures.graph in
+    let copy : c.in_ok-undelayed.undelayed ≡ c.args.delayed.now = c.in_ok-undelayed.ensures in
+    let turned : (s : ℕ) → HasEdge c.args.graph.now.nodes n s → has_bit c.flip_rows.new.self b s ≡ not (has_bit c.args.delayed.now b s) = λ s edge.
     let below = (graph.can.succs n edge.0 s edge.1).1 in
-    c.opposite-undelayed.ensures.bits s b (rw (copy, c.requires.delayed.len) below) (rw (copy, c.requires.delayed.each s below) l) ∙ ap (λ (rows : List (List Bool)). not (has_bit rows b s)) copy in
-    let joins = c.in_ok-onward.ensures.joins n b h in
-    let both = both_say (has_bit c.either-ends.result b n) (delayed n) in
-    let either = either_says (has_bit c.in_ok-onward.onward b n) (uses n) in
-    let result = c.both.ensures.bits n b in
-    let ends = c.either-ends.ensures.bits n b in (
+    c.flip_rows.ensures.bits s b (omega arith) (rw (copy, c.requires.delayed.len) below) (rw (copy, c.requires.delayed.each s below) l) ∙ ap (λ (rows : List (List Bool)). not (has_bit rows b s)) copy in
+    let joins = c.in_ok-rows.ensures.joins n b h in
+    let both = both_say (has_bit c.or_rows.new.self b n) (delayed n) in
+    let either = either_says (has_bit c.in_ok-rows.rows b n) (uses n) in
+    let result = c.and_rows.ensures.bits n b in
+    let ends = c.or_rows.ensures.bits n b in (
       λ on.
           let parts = both.0 (sym result ∙ on) in (
             parts.1,

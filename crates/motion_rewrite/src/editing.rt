@@ -1,0 +1,130 @@
+// The edits that a placement asks for: uses that read temporaries, and evaluations before nodes.
+ghost use Rattle.std.specs.Prelude.{◌≡◌, ◌⊎◌, [], ◌+◌, ◌<◌, ◌≤◌, ℕ, length, slice_get, slice_index_or, IfOk, IsTrue};
+ghost use Rattle.bit_rows.specs.Bits.{row_of};
+ghost use Rattle.flow_graph.specs.Editing.{graph_change_each, graph_changed, graph_put_all, graph_put_each, is_assignment};
+ghost use Rattle.flow_graph.specs.Insertions.{ChangeBelow, InsertionsBelow, Kept};
+ghost use Rattle.motion_rewrite.specs.Expressions.{rhs_of};
+ghost use Rattle.motion_rewrite.specs.Flatten.{inserted, inserted_below, insertions_of, reading, set_from};
+ghost use Rattle.path_laws.specs.Paths.{AreRows};
+
+use crate::{ExprTable, Memory};
+use bit_rows::{RowView, Rows};
+use flow_graph::Editor;
+use mir_base::{Expr, Operand, Rhs};
+use std::alloc::AllocError;
+
+/// How many insertions there are. Its only refusal is want of memory, where there are more than any memory holds.
+pub(crate) fn insertions_in(insert: &Rows) -> Result<usize, Memory>
+    ensures { IfOk result (λ room. room ≡ inserted_below insert.now (length insert.now)) }
+{
+    let mut room: usize = 0;
+    for node in 0..insert.len() {
+        room = room
+            .checked_add(set_in(&insert.row(node)))
+            .ok_or(AllocError)?;
+    }
+    Ok(room)
+}
+
+/// How many bits are set.
+fn set_in(row: &RowView<'_>) -> usize
+    ensures { result ≡ length (set_from 0 row.now) }
+{
+    let mut count = 0;
+    let mut from = 0;
+    while from < row.len() {
+        match row.next_true(from) {
+            Some(number) => {
+                count += 1;
+                from = number + 1;
+            }
+            None => return count,
+        }
+    }
+    count
+}
+
+/// Lets each use whose bit is set read the temporary of its expression.
+pub(crate) fn read_temporaries(editor: &mut Editor, temps: &[usize], replace: &Rows)
+    requires rows { AreRows (length editor.old.graph.nodes) (length temps.now) replace.now }
+    requires uses { (n : ℕ) → n < length replace.now → (reading (λ i. slice_index_or temps.now i 0) (inserted replace.now n) ≡ Kept) ⊎ IsTrue (is_assignment (slice_get editor.old.graph.nodes n)) }
+    requires vars { (n : ℕ) → n < length replace.now → ChangeBelow (length editor.old.graph.vars) (reading (λ i. slice_index_or temps.now i 0) (inserted replace.now n)) }
+    ensures graph { editor.new.graph ≡ graph_change_each (λ n. reading (λ i. slice_index_or temps.now i 0) (inserted replace.now n)) (length replace.now) editor.old.graph }
+    ensures spare { editor.new.spare ≡ editor.old.spare }
+{
+    for node in 0..replace.len() {
+        read_temporary(editor, node, temps, &replace.row(node));
+    }
+}
+
+/// Lets one use read the temporary of its expression, where a bit of the row is set.
+fn read_temporary(editor: &mut Editor, node: usize, temps: &[usize], row: &RowView<'_>)
+    requires width { length row.now ≡ length temps.now }
+    requires uses { (reading (λ i. slice_index_or temps.now i 0) (set_from 0 row.now) ≡ Kept) ⊎ IsTrue (is_assignment (slice_get editor.old.graph.nodes node)) }
+    requires vars { ChangeBelow (length editor.old.graph.vars) (reading (λ i. slice_index_or temps.now i 0) (set_from 0 row.now)) }
+    ensures graph { editor.new.graph ≡ graph_changed node (reading (λ i. slice_index_or temps.now i 0) (set_from 0 row.now)) editor.old.graph }
+    ensures spare { editor.new.spare ≡ editor.old.spare }
+{
+    match row.next_true(0) {
+        Some(number) => editor.change(node, Some(Rhs::Plain(Operand::Var(temps[number])))),
+        None => {}
+    }
+}
+
+/// Puts the evaluations before the nodes, in order.
+pub(crate) fn put_evaluations(
+    editor: &mut Editor,
+    table: &ExprTable,
+    temps: &[usize],
+    insert: &Rows,
+)
+    requires rows { AreRows (length editor.old.graph.nodes) (length table.now) insert.now }
+    requires temps { length temps.now ≡ length table.now }
+    requires start { inserted insert.now 0 ≡ [] }
+    requires vars { (n : ℕ) → n < length insert.now → InsertionsBelow (length editor.old.graph.vars) (insertions_of (λ i. slice_index_or temps.now i 0) table.now (inserted insert.now n)) }
+    requires room { editor.old.spare ≡ inserted_below insert.now (length insert.now) }
+    ensures { editor.new.graph ≡ graph_put_each (λ n. insertions_of (λ i. slice_index_or temps.now i 0) table.now (inserted insert.now n)) (length insert.now) editor.old.graph }
+{
+    for node in 0..insert.len() {
+        put_before(editor, node, table, temps, &insert.row(node));
+    }
+}
+
+/// Puts the evaluations of the expressions whose bits are set before a node, in order of the table.
+fn put_before(
+    editor: &mut Editor,
+    node: usize,
+    table: &ExprTable,
+    temps: &[usize],
+    row: &RowView<'_>,
+)
+    requires width { length row.now ≡ length table.now }
+    requires temps { length temps.now ≡ length table.now }
+    requires node { node < length editor.old.graph.nodes }
+    requires some { 0 < length (set_from 0 row.now) → 1 ≤ node }
+    requires vars { InsertionsBelow (length editor.old.graph.vars) (insertions_of (λ i. slice_index_or temps.now i 0) table.now (set_from 0 row.now)) }
+    requires room { length (set_from 0 row.now) ≤ editor.old.spare }
+    ensures graph { editor.new.graph ≡ graph_put_all node (insertions_of (λ i. slice_index_or temps.now i 0) table.now (set_from 0 row.now)) editor.old.graph }
+    ensures spare { editor.new.spare + length (set_from 0 row.now) ≡ editor.old.spare }
+{
+    let mut from = 0;
+    while from < row.len() {
+        match row.next_true(from) {
+            Some(number) => {
+                editor.put_before(node, temps[number], rhs_of(table.get(number)));
+                from = number + 1;
+            }
+            None => return,
+        }
+    }
+}
+
+/// The expression as a right side.
+fn rhs_of(expr: &Expr) -> Rhs
+    ensures { result ≡ rhs_of expr.now }
+{
+    match expr {
+        Expr::Un(op, a) => Rhs::Unary(*op, *a),
+        Expr::Bin(op, a, b) => Rhs::Binary(*op, *a, *b),
+    }
+}
