@@ -1,15 +1,19 @@
 -- A unit of a program can be lowered, and the units that the passes made fit together as a program.
 use Rattle.std.proofs.Common.{◌≡◌, ℕ, zero, suc, ◌<◌, List, [], ◌∷◌, length, slice_get, Option, Some, None, option_map, refl, sym, ap, ◌∙◌, subst, arith}
+use Rattle.std.specs.List.{AllZip}
 use Rattle.std.proofs.lemmas.Option.{slice_get_within}
+use Rattle.std.proofs.lemmas.Slice.Zip.{AllZip-long}
 use Rattle.mir_base.specs.declared.instructions.Inst.{Inst}
 use Rattle.mir_base.specs.declared.instructions.Inst.TheVariants.{Receive, Assign, Goto, If, Call, Print, Return}
 use Rattle.mir_base.specs.Shapes.{UnitShape, receives_in, body_at, body_or_empty, names_of, AllDiffer, InstFits, BodyFits, IsProgram, IsTarget}
 use Rattle.mir_base.specs.UnitRuns.{UnitSame, UnitCheaper, body_machine, unit_machine, machine_at}
+use Rattle.mir_sim.specs.Calls.{HasCall, CallsNoMore}
 use Rattle.mir_sim.specs.Pairs.{AllUnitsSame, AllUnitsCheaper}
 use Rattle.flow_graph.specs.Calls.{BodyCalls, inst_call}
+use Rattle.flow_graph.specs.InsertionNodes.{some_at}
 use Rattle.flow_graph.specs.Lowered.{CanLower, target_of}
-use Rattle.mir_opt.specs.Links.{AllLinked}
-use Rattle.mir_opt.specs.Made.{AllKept, AllMade, IsKept, MadeAt}
+use Rattle.mir_opt.specs.Made.{IsKept}
+use Rattle.mir_opt.proofs.Zips.{zip_at}
 
 -- ---- a unit of a program can be lowered
 
@@ -58,53 +62,11 @@ names_long : (units : List UnitShape) → length (names_of units) ≡ length uni
 names_long [] = refl
 names_long (unit ∷ units) = ap suc (names_long units)
 
-within_get : {A : Type 0} (xs : List A) (n : ℕ) → n < length xs → (x : A) × (slice_get xs n ≡ Some x)
-within_get [] n lt = absurd (omega (arith, lt))
-within_get (x ∷ xs) zero lt = (x, refl)
-within_get (x ∷ xs) (suc n) lt = within_get xs n (omega (arith, lt))
-
--- what was made of all units, as each unit of the target keeps that of the source, and is linked to it
-module _ {T : Type 0} (Made : UnitShape → T → UnitShape → Type 0) (sources : List UnitShape) (units : List T) (targets : List UnitShape) (all : AllMade Made sources units targets) where
-  at_units : (n : ℕ) (source target : UnitShape) (unit : T) → slice_get sources n ≡ Some source → slice_get units n ≡ Some unit → slice_get targets n ≡ Some target → Made source unit target
-  at_units n source target unit at at' at'' =
-      let m = all.made n (slice_get_within sources n source at) in
-      let one : Some m.source ≡ Some source = sym m.source_at ∙ at in
-      let two : Some m.unit ≡ Some unit = sym m.unit_at ∙ at' in
-      let three : Some m.target ≡ Some target = sym m.target_at ∙ at'' in
-      let source_is : m.source ≡ source = cc in
-      let unit_is : m.unit ≡ unit = cc in
-      let target_is : m.target ≡ target = cc in
-      subst (λ s. Made s unit target) source_is (subst (λ u. Made m.source u target) unit_is (subst (Made m.source m.unit) target_is m.made))
-
-  pub made_kept : ((source : UnitShape) (unit : T) (target : UnitShape) → Made source unit target → IsKept source target) → AllKept sources targets
-  made_kept keep = record {
-    long = all.targets_long;
-    kept = λ n source target at at'.
-        let m = all.made n (slice_get_within sources n source at) in
-        let one : Some m.source ≡ Some source = sym m.source_at ∙ at in
-        let source_is : m.source ≡ source = cc in
-        keep source m.unit target (at_units n source target m.unit at m.unit_at at');
-  }
-
-  pub made_linked : (Linked : UnitShape → T → UnitShape → Type 0) → ((source : UnitShape) (unit : T) (target : UnitShape) → Made source unit target → Linked source unit target)
-      → (sources' targets' : List UnitShape) → sources' ≡ sources → targets' ≡ targets → AllLinked Linked sources' units targets'
-  made_linked Linked link sources' targets' is is' = record {
-    units_long = all.units_long ∙ sym (ap length is);
-    targets_long = ap length is' ∙ all.targets_long ∙ sym (ap length is);
-    linked = λ n source unit target at at' at''. link source unit target (at_units n source target unit (ap (λ l. slice_get l n) (sym is) ∙ at) at' (ap (λ l. slice_get l n) (sym is') ∙ at''));
-  }
-
-  -- what is true of each unit that was made
-  pub made_each : (Holds : T → Type 0) → ((source : UnitShape) (unit : T) (target : UnitShape) → Made source unit target → Holds unit) → (n : ℕ) (unit : T) → slice_get units n ≡ Some unit → Holds unit
-  made_each Holds holds n unit at =
-      let lt = slice_get_within units n unit at in
-      let m = all.made n (omega (arith, lt, all.units_long)) in
-      let two : Some m.unit ≡ Some unit = sym m.unit_at ∙ at in
-      let unit_is : m.unit ≡ unit = cc in
-      subst Holds unit_is (holds m.source m.unit m.target m.made)
-
 -- units of a program, each kept
-module _ (sources targets : List UnitShape) (all : AllKept sources targets) where
+module _ (sources targets : List UnitShape) (all : AllZip IsKept sources targets) where
+  targets_long : length targets ≡ length sources
+  targets_long = AllZip-long IsKept sources targets all
+
   body_is : (units : List UnitShape) (n : ℕ) (unit : UnitShape) → slice_get units n ≡ Some unit → body_at units n ≡ unit.body
   body_is units n unit at = ap body_or_empty at
 
@@ -118,23 +80,23 @@ module _ (sources targets : List UnitShape) (all : AllKept sources targets) wher
 
   kept_at : (n : ℕ) → n < length sources → KeptAt n
   kept_at n lt =
-      let s = within_get sources n lt in
-      let t = within_get targets n (omega (arith, lt, all.long)) in
-      record { source = s.0; target = t.0; source_at = s.1; target_at = t.1; kept = all.kept n s.0 t.0 s.1 t.1 }
+      let s = some_at sources n lt in
+      let t = some_at targets n (omega (arith, lt, targets_long)) in
+      record { source = s.0; target = t.0; source_at = s.1; target_at = t.1; kept = zip_at IsKept sources targets all n s.0 t.0 s.1 t.1 }
 
   same_at : (n : ℕ) → n < length sources → UnitSame (machine_at (record { units = sources }) n) (machine_at (record { units = targets }) n)
   same_at n lt =
       let m = kept_at n lt in
       let source : unit_machine m.source ≡ machine_at (record { units = sources }) n = ap body_machine (sym (body_is sources n m.source m.source_at)) in
       let target : unit_machine m.target ≡ machine_at (record { units = targets }) n = ap body_machine (sym (body_is targets n m.target m.target_at)) in
-      subst (λ a. UnitSame a (machine_at (record { units = targets }) n)) source (subst (UnitSame (unit_machine m.source)) target m.kept.same)
+      subst (λ a. UnitSame a (machine_at (record { units = targets }) n)) source (subst (UnitSame (unit_machine m.source)) target m.kept.keeps.same)
 
   cheaper_at : (n : ℕ) → n < length sources → UnitCheaper (machine_at (record { units = sources }) n) (machine_at (record { units = targets }) n)
   cheaper_at n lt =
       let m = kept_at n lt in
       let source : unit_machine m.source ≡ machine_at (record { units = sources }) n = ap body_machine (sym (body_is sources n m.source m.source_at)) in
       let target : unit_machine m.target ≡ machine_at (record { units = targets }) n = ap body_machine (sym (body_is targets n m.target m.target_at)) in
-      subst (λ a. UnitCheaper a (machine_at (record { units = targets }) n)) source (subst (UnitCheaper (unit_machine m.source)) target m.kept.cheaper)
+      subst (λ a. UnitCheaper a (machine_at (record { units = targets }) n)) source (subst (UnitCheaper (unit_machine m.source)) target m.kept.keeps.cheaper)
 
   same_receives : (n : ℕ) → n < length sources → receives_in (body_at sources n) ≡ receives_in (body_at targets n)
   same_receives n lt = (same_at n lt).receives
@@ -142,13 +104,13 @@ module _ (sources targets : List UnitShape) (all : AllKept sources targets) wher
   same_name : (n : ℕ) → n < length sources → slice_get (names_of targets) n ≡ slice_get (names_of sources) n
   same_name n lt =
       let m = kept_at n lt in
-      names_at targets n ∙ ap (option_map (λ (u : UnitShape). u.name)) m.target_at ∙ ap Some m.kept.name ∙ sym (names_at sources n ∙ ap (option_map (λ (u : UnitShape). u.name)) m.source_at)
+      names_at targets n ∙ ap (option_map (λ (u : UnitShape). u.name)) m.target_at ∙ ap Some m.kept.keeps.name ∙ sym (names_at sources n ∙ ap (option_map (λ (u : UnitShape). u.name)) m.source_at)
 
   within : (n : ℕ) → n < length (names_of targets) → n < length sources
-  within n lt = omega (arith, lt, names_long targets, all.long)
+  within n lt = omega (arith, lt, names_long targets, targets_long)
 
   pub kept_same : AllUnitsSame (record { units = sources }) (record { units = targets })
-  kept_same = record { units = sym all.long; same = same_at }
+  kept_same = record { units = sym targets_long; same = same_at }
 
   pub kept_cheaper : AllUnitsCheaper (record { units = sources }) (record { units = targets })
   kept_cheaper = record { cheaper = cheaper_at }
@@ -161,7 +123,7 @@ module _ (sources targets : List UnitShape) (all : AllKept sources targets) wher
 
   kept_fits : IsProgram sources → (n : ℕ) (unit : UnitShape) → slice_get targets n ≡ Some unit → BodyFits targets unit.body
   kept_fits program n unit at =
-      let lt : n < length sources = omega (arith, slice_get_within targets n unit at, all.long) in
+      let lt : n < length sources = omega (arith, slice_get_within targets n unit at, targets_long) in
       let m = kept_at n lt in
       let one : Some unit ≡ Some m.target = sym at ∙ m.target_at in
       let same : m.target ≡ unit = cc in
@@ -176,14 +138,46 @@ module _ (sources targets : List UnitShape) (all : AllKept sources targets) wher
       inst_fits n m place (Goto to) here fits = m.kept.lowers.targets place to (ap target_of here)
       inst_fits n m place (If test to) here fits = m.kept.lowers.targets place to (ap target_of here)
       inst_fits n m place (Call into called operands) here fits =
-          let source = called_fits sources m.source.body called (length operands) fits (m.kept.calls called (length operands) (record { place = place; inst = Call into called operands; here = here; calls = refl })) in
-          (omega (arith, source.0, all.long), source.1 ∙ same_receives called source.0)
+          let source = called_fits sources m.source.body called (length operands) fits (m.kept.keeps.calls called (length operands) (record { place = place; inst = Call into called operands; here = here; calls = refl })) in
+          (omega (arith, source.0, targets_long), source.1 ∙ same_receives called source.0)
       inst_fits n m place (Print a) here fits = tt
       inst_fits n m place (Return a) here fits = tt
 
   pub kept_program : IsProgram sources → IsProgram targets
   kept_program program = record {
-    some_unit = omega (arith, program.some_unit, all.long);
+    some_unit = omega (arith, program.some_unit, targets_long);
     names = names_differ program;
     bodies = kept_fits program;
   }
+
+  -- ---- the targets call no other units
+
+  -- a call of a body of the sources, as the programs have it
+  has_call : (n : ℕ) (m : KeptAt n) (called count : ℕ) (place : ℕ) (inst : Inst) → slice_get m.source.body place ≡ Some inst → inst_call inst ≡ Some (called, count) → HasCall (record { units = sources }) n called
+  has_call n m called count place (Receive x) here is = absurd (cc)
+  has_call n m called count place (Assign x rhs) here is = absurd (cc)
+  has_call n m called count place (Goto to) here is = absurd (cc)
+  has_call n m called count place (If test to) here is = absurd (cc)
+  has_call n m called count place (Call into unit operands) here is =
+      let both : (unit, length operands) ≡ (called, count) = cc in
+      let same : unit ≡ called = ap (λ (p : ℕ × ℕ). p.0) both in
+      record {
+        place = place;
+        into = into;
+        operands = operands;
+        at = ap (λ (o : Option UnitShape). slice_get (body_or_empty o) place) m.source_at ∙ here ∙ ap (λ (u : ℕ). Some (Call into u operands)) same;
+      }
+  has_call n m called count place (Print a) here is = absurd (cc)
+  has_call n m called count place (Return a) here is = absurd (cc)
+
+  pub kept_calls : CallsNoMore (record { units = sources }) (record { units = targets })
+  kept_calls n called call = go (slice_get targets n) refl
+    where
+      go : (o : Option UnitShape) → slice_get targets n ≡ o → HasCall (record { units = sources }) n called
+      go None none = absurd (let e : Some (Call call.into called call.operands) ≡ None = sym call.at ∙ ap (λ (o : Option UnitShape). slice_get (body_or_empty o) call.place) none in cc)
+      go (Some unit) some =
+          let lt : n < length sources = omega (arith, slice_get_within targets n unit some, targets_long) in
+          let m = kept_at n lt in
+          let here : slice_get m.target.body call.place ≡ Some (Call call.into called call.operands) = ap (λ (o : Option UnitShape). slice_get (body_or_empty o) call.place) (sym m.target_at) ∙ call.at in
+          let source = m.kept.keeps.calls called (length call.operands) (record { place = call.place; inst = Call call.into called call.operands; here = here; calls = refl }) in
+          has_call n m called (length call.operands) source.place source.inst source.here source.calls

@@ -1,3 +1,4 @@
-mod Making
+mod Zips
 mod Fits
-mod Placing
+mod Linking
+mod Walks

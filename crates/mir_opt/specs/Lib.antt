@@ -1,3 +1,5 @@
+pub mod Stages
 pub mod Links
 pub mod Best
 pub mod Made
+pub mod OneLaws

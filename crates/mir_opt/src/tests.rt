@@ -1,5 +1,5 @@
-// The passes on one small program: its trail has a graph for each unit before and after its jumps were cleaned.
-use crate::optimise;
+// The passes on one small program: the graphs of its unit at each stage, and the program of a stage.
+use crate::{Stage, motion, optimise, stage_program};
 use mir_base::{Inst, Items, Name, Operand, Program, Unit as MirUnit};
 use std::test::Fail;
 
@@ -20,8 +20,14 @@ fn a_print_and_a_return(rt: HostRuntime) -> Result<(), Fail> {
     let trail = optimise(alloc, &program)?;
     let units = trail.units.items();
     assert_eq!(rt; units.len(), 1);
-    assert_eq!(rt; (units[0].lowered.len(), units[0].cleaned.len()), (3, 3));
+    assert_eq!(rt;
+        (units[0].lowered.len(), units[0].graph(Stage::Result).len()),
+        (3, 3)
+    );
     assert_eq!(rt; trail.target.unit(0).insts().len(), 2);
     assert_eq!(rt; trail.source.unit(0).insts().len(), 3);
+    let lowered = stage_program(alloc, &trail, Stage::Lower)?;
+    assert_eq!(rt; lowered.unit(0).insts().len(), 2);
+    assert_eq!(rt; motion(alloc, &program)?.units.items().len(), 1);
     Ok(())
 }

@@ -33,24 +33,9 @@ pub struct Trail {
     pub target: Program,
 }
 
-/// What code motion alone made of one unit, in its steps.
-#[derive(Drop)]
-pub struct MoveUnit {
-    /// The graph of the source's unit.
-    pub lowered: Graph,
-    /// This graph with clean jumps.
-    pub cleaned: Graph,
-    /// The same with a Skip on each edge into a join.
-    pub split: Graph,
-    /// The movable expressions of `split`.
-    pub table: ExprTable,
-    /// The lazy placement of these in `split`.
-    pub placement: Placement,
-    /// `split` rewritten by the placement.
-    pub moved: Graph,
-    /// `moved` with clean jumps.
-    pub swept: Graph,
-}
+/// What code motion alone made of one unit. No pass stands yet that `optimise` has beside code motion, so its steps are
+/// those of `optimise`.
+pub type MoveUnit = UnitTrail;
 
 /// What code motion alone made of a program.
 #[derive(Drop)]
