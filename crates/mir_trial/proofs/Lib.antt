@@ -1,0 +1,4 @@
+mod Growing
+mod Spelled
+mod Valid
+mod Listed

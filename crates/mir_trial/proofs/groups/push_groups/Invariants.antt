@@ -1,0 +1,7 @@
+use Rattle.std.proofs.Common.{◌-◌}
+use Rattle.mir_trial.proofs.Growing.{SoFar}
+use Rattle.mir_trial.proofs.groups.push_groups.Given as goal
+
+-- what there is and what is still to come are all of it
+abbrev pub invariant-loop-turn : goal.invariant-loop-turn
+invariant-loop-turn l = SoFar l.count l.fn.body.items l.fn.draws.state (l.count - l.turn) l.body.items l.draws.state

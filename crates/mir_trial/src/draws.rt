@@ -1,0 +1,39 @@
+// The numbers that are drawn.
+ghost use Rattle.std.specs.Prelude.{◌≡◌, ◌+◌, ◌<◌, ◌^◌};
+ghost use Rattle.mir_trial.specs.Draws.{drawn, next};
+
+/// The state that the numbers are drawn from.
+#[derive(Drop)]
+pub struct Draws {
+    /// The state.
+    pub state: u64,
+}
+
+impl Draws {
+    /// Draws a number below `k`.
+    pub fn draw(&mut self, k: u64) -> u64
+        requires { 0 < k }
+        ensures value { result ≡ drawn k (next self.old.state) }
+        ensures below { result < k }
+        ensures state { self.new.state ≡ next self.old.state }
+    {
+        self.state = next(self.state);
+        drawn(self.state, k)
+    }
+}
+
+fn next(state: u64) -> u64
+    ensures { result ≡ next state }
+{
+    state
+        .wrapping_mul(6_364_136_223_846_793_005)
+        .wrapping_add(1_442_695_040_888_963_407)
+}
+
+fn drawn(state: u64, k: u64) -> u64
+    requires { 0 < k }
+    ensures value { result ≡ drawn k state }
+    ensures below { result < k }
+{
+    (state >> 33) % k
+}
