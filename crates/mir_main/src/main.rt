@@ -3,16 +3,19 @@
 //! memory and with status 1 otherwise.
 #![tactic(auto)]
 
+ghost use Rattle.std.specs.Prelude.{◌≡◌, ◌≢◌, ◌≤◌, map, string_bytes, None};
+ghost use Rattle.mir_top.specs.Commands.{command_of};
+
 use mir_outside::{StdSink, StdSource};
 use mir_top::top;
+use std::io::ErrorKind;
 use std::process::ExitCode;
 use std::{env, io};
 
 fn main(rt: HostRuntime) -> ExitCode {
     match words(&rt) {
         Ok(words) => ExitCode::from(status(&rt, &words)),
-        Err(refused) if refused.kind() == io::ErrorKind::OutOfMemory => ExitCode::from(8),
-        Err(_) => ExitCode::from(1),
+        Err(refused) => ExitCode::from(status_without_words(refused.kind())),
     }
 }
 
@@ -25,8 +28,22 @@ fn words(rt: &HostRuntime) -> io::Result<Vec<String>> {
     Ok(words)
 }
 
-/// The status of the top call over the standard streams.
-fn status(rt: &HostRuntime, words: &[String]) -> u8 {
+/// The status where the words cannot be got: 8 for want of memory, and otherwise 1.
+fn status_without_words(kind: ErrorKind) -> u8
+    ensures memory { kind ≡ ErrorKind.OutOfMemory → result ≡ 8 }
+    ensures other { kind ≢ ErrorKind.OutOfMemory → result ≡ 1 }
+{
+    match kind {
+        ErrorKind::OutOfMemory => 8,
+        _ => 1,
+    }
+}
+
+/// The status of the top call over the standard streams. With wrong words it is 1.
+fn status(rt: &HostRuntime, words: &[String]) -> u8
+    ensures usage { command_of (map string_bytes words.now) ≡ None → result ≡ 1 }
+    ensures most { result ≤ 8 }
+{
     let mut source = StdSource::new(rt.stdin());
     let mut out = StdSink::new(rt.stdout());
     let mut err = StdSink::new(rt.stderr());

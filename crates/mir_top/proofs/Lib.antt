@@ -1,4 +1,5 @@
-mod Complete
-mod Laws
 mod Pieces
-mod TextLaws
+mod MadeLaws
+mod Judgements
+mod Endings
+mod Promised

@@ -1,7 +1,8 @@
 pub mod Streams
 pub mod Commands
 pub mod Texts
+pub mod Complaints
 pub mod Outputs
-pub mod Readings
-pub mod Statuses
-pub mod Messages
+pub mod Due
+pub mod Calls
+pub mod Promises

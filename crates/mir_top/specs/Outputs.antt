@@ -1,44 +1,61 @@
--- What each command makes of the program that was read, and why it may make nothing.
-use Rattle.std.specs.Prelude.{ℕ, ℤ, ◌≡◌, ◌≢◌, ◌<◌, ◌≤◌, List, length, ◌++◌, codes, decimal, flat_map, Some}
+-- What each command makes of the program that it works on.
+use Rattle.std.specs.Prelude.{ℕ, ℤ, ◌≡◌, ◌≢◌, ◌<◌, ◌≤◌, List, All, length, ◌++◌, codes, decimal, flat_map}
+use Rattle.std.specs.declared.alloc.AllocError.{AllocError}
 use Rattle.std.specs.Fmt.{signed_decimal}
 use Rattle.mir_base.specs.declared.operators.Trap.TheVariants.{ZeroDivisor}
 use Rattle.mir_base.specs.Shapes.{ProgramShape}
-use Rattle.mir_base.specs.Runs.{Same, run, inputs_of}
+use Rattle.mir_base.specs.Runs.{Same, Cheaper, run, inputs_of}
 use Rattle.mir_base.specs.Text.{canonical_text}
 use Rattle.mir_interp.specs.declared.report.Finish.{Finish}
 use Rattle.mir_interp.specs.declared.report.Finish.TheVariants.{Running, Ended, Trapped}
 use Rattle.mir_interp.specs.declared.report.Report.{Report}
+use Rattle.mir_interp.specs.declared.report.RunFault.{RunFault}
+use Rattle.mir_interp.specs.declared.report.RunFault.TheVariants.{WrongInputs, Deep, Memory}
 use Rattle.mir_interp.specs.Reports.{report_of, most_frames}
-use Rattle.mir_top.specs.declared.command.Command.TheVariants.{Optimise, Move, Run}
 use Rattle.mir_opt.specs.declared.trails.Trail.{Trail}
 use Rattle.mir_opt.specs.declared.trails.MoveTrail.{MoveTrail}
+use Rattle.mir_opt.specs.declared.trails.UnitTrail.{UnitTrail}
 use Rattle.mir_opt.specs.Links.{IsLinked, IsMoveLinked}
-use Rattle.mir_opt.specs.Best.{TrailIsBest, MoveTrailIsBest}
+use Rattle.mir_opt.specs.Best.{MovesBest}
+use Rattle.mir_sim.specs.Pairs.{AllUnitsSame}
+use Rattle.mir_top.specs.declared.command.Command.{Command}
+use Rattle.mir_top.specs.declared.command.Command.TheVariants.{Optimise, Move, Run}
 use Rattle.mir_top.specs.declared.outcome.Outcome.{Outcome}
 use Rattle.mir_top.specs.declared.outcome.Outcome.TheVariants.{Optimised, Moved, Ran}
-use Rattle.mir_top.specs.declared.cause.Cause.{Cause}
-use Rattle.mir_top.specs.declared.cause.Cause.TheVariants.{Usage, WrongInputs, ReadFault, TooLong, Unreadable, Invalid, Deep, WriteFault, Memory}
-use Rattle.mir_top.specs.Commands.{command_of, inputs_in}
 
--- ---- `optimise`
+-- ---- trails
 
--- the trail of the program is linked, its target is the same program, and its code motion is the best
-pub record Optimises (program : ProgramShape) (trail : Trail) : Type 0 where
-  pub source : trail.source ≡ program
-  pub linked : IsLinked trail
-  pub same : Same trail.source trail.target
-  pub best : TrailIsBest trail
+-- from a program to its target: each part between them is the exact result of its pass, and no
+-- other parts are; the target does what the program does, whole and unit by unit; over whole runs
+-- that end it evaluates no more operators; and the code motion of each unit is the best
+pub record Improves
+    (Linked Only : Type 0) (parts : List UnitTrail) (source target : ProgramShape) : Type 0 where
+  pub linked : Linked
+  pub only : Only
+  pub same : Same source target
+  pub units : AllUnitsSame source target
+  pub cheaper : Cheaper source target
+  pub best : All MovesBest parts
 
--- ---- `move`
+-- no other trail of its source is linked
+abbrev pub IsOnlyTrail : Trail → Type 0
+IsOnlyTrail trail = (other : Trail) → other.source ≡ trail.source → IsLinked other → trail ≡ other
 
--- the same of the trail of code motion alone
-pub record MovesCode (program : ProgramShape) (trail : MoveTrail) : Type 0 where
-  pub source : trail.source ≡ program
-  pub linked : IsMoveLinked trail
-  pub same : Same trail.source trail.target
-  pub best : MoveTrailIsBest trail
+abbrev pub IsOnlyMove : MoveTrail → Type 0
+IsOnlyMove trail = (other : MoveTrail)
+    → other.source ≡ trail.source → IsMoveLinked other → trail ≡ other
 
--- ---- `run`
+-- so it is of the trail of all passes
+abbrev pub Optimises : Trail → Type 0
+Optimises trail =
+    Improves (IsLinked trail) (IsOnlyTrail trail) trail.units trail.source trail.target
+
+-- and of that of code motion alone
+abbrev pub MovesCode : MoveTrail → Type 0
+MovesCode trail =
+    Improves (IsMoveLinked trail) (IsOnlyMove trail) trail.units trail.source trail.target
+
+-- ---- reports
 
 abbrev pub number_line : ℤ → List ℕ
 number_line number = signed_decimal number ++ codes "\n"
@@ -50,35 +67,44 @@ finish_text (Trapped ZeroDivisor) = codes "trapped zero divisor\n"
 
 -- the printed numbers, one a line, then how the run stands, then its evaluations
 abbrev pub report_text : Report → List ℕ
-report_text report = flat_map number_line report.lines ++ finish_text report.finish ++ codes "evals " ++ decimal report.evals ++ codes "\n"
+report_text report =
+    flat_map number_line report.lines ++ finish_text report.finish
+    ++ codes "evals " ++ decimal report.evals ++ codes "\n"
 
--- the report of the run of so many steps with the inputs of the words
-abbrev pub reported : List (List ℕ) → ProgramShape → ℕ → Report
-reported words program steps = report_of (run program (inputs_in words) steps)
+-- the report of the run of so many steps
+abbrev pub reported : ProgramShape → List ℤ → ℕ → Report
+reported program inputs steps = report_of (run program inputs steps)
 
--- the inputs are as many as the program receives, and the run of so many steps stays within the most frames
-pub record Runs (words : List (List ℕ)) (program : ProgramShape) (steps : ℕ) : Type 0 where
-  pub inputs : length (inputs_in words) ≡ inputs_of program
-  pub shallow : (run program (inputs_in words) steps).depth ≤ most_frames
+-- the inputs are as many as the program receives, and the run stays within the most frames
+pub record Runs (program : ProgramShape) (inputs : List ℤ) (steps : ℕ) : Type 0 where
+  pub enough : length inputs ≡ inputs_of program
+  pub shallow : (run program inputs steps).depth ≤ most_frames
 
--- ---- all commands
+-- ---- by command
 
--- the words ask for this outcome of the program, whose text is the output
-abbrev pub Makes : List (List ℕ) → ProgramShape → Outcome → List ℕ → Type 0
-Makes words program (Optimised trail) output = (command_of words ≡ Some Optimise) × Optimises program trail × (output ≡ canonical_text trail.target)
-Makes words program (Moved trail) output = (command_of words ≡ Some Move) × MovesCode program trail × (output ≡ canonical_text trail.target)
-Makes words program (Ran finish) output =
-    (steps : ℕ) × (command_of words ≡ Some (Run steps)) × Runs words program steps × (finish ≡ (reported words program steps).finish) × (output ≡ report_text (reported words program steps))
+-- the command, with these inputs, makes this of the program, with this output
+pub data Makes (inputs : List ℤ) (program : ProgramShape)
+    : Command → Outcome → List ℕ → Type 0 where
+  optimised : (trail : Trail) → trail.source ≡ program → Optimises trail
+      → Makes inputs program Optimise (Optimised trail) (canonical_text trail.target)
+  moved : (trail : MoveTrail) → trail.source ≡ program → MovesCode trail
+      → Makes inputs program Move (Moved trail) (canonical_text trail.target)
+  ran : (steps : ℕ) → Runs program inputs steps
+      → (report : Report) → report ≡ reported program inputs steps
+      → Makes inputs program (Run steps) (Ran report.finish) (report_text report)
 
--- why nothing is made of a program that was read
-abbrev pub Stops : List (List ℕ) → ProgramShape → Cause → Type 0
-Stops words program Usage = ⊥
-Stops words program ReadFault = ⊥
-Stops words program TooLong = ⊥
-Stops words program (Unreadable fault) = ⊥
-Stops words program (Invalid fault) = ⊥
-Stops words program (WrongInputs wanted) = (steps : ℕ) × (command_of words ≡ Some (Run steps)) × (wanted ≡ inputs_of program) × (length (inputs_in words) ≢ wanted)
-Stops words program Deep =
-    (steps : ℕ) × (command_of words ≡ Some (Run steps)) × (length (inputs_in words) ≡ inputs_of program) × (most_frames < (run program (inputs_in words) steps).depth)
-Stops words program WriteFault = ⊥
-Stops words program Memory = Unit {0}
+-- the command, with these inputs, makes nothing of the program, for this cause
+pub data Stops (inputs : List ℤ) (program : ProgramShape) : Command → RunFault → Type 0 where
+  too_few_or_many : (steps : ℕ) → length inputs ≢ inputs_of program
+      → Stops inputs program (Run steps) (WrongInputs (inputs_of program))
+  too_deep : (steps : ℕ) → length inputs ≡ inputs_of program
+      → most_frames < (run program inputs steps).depth
+      → Stops inputs program (Run steps) Deep
+  no_memory : (command : Command) (refusal : AllocError)
+      → Stops inputs program command (Memory refusal)
+
+-- the command, with these inputs, has no other output for the program
+abbrev pub IsOnlyOutput : List ℤ → ProgramShape → Command → List ℕ → Type 0
+IsOnlyOutput inputs program command output =
+    (outcome : Outcome) (other : List ℕ)
+    → Makes inputs program command outcome other → output ≡ other

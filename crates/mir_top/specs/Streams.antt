@@ -4,7 +4,8 @@ use Rattle.std.specs.Io.KnownBytes.{Appends, Consumes, IsAtEnd}
 use Rattle.mir_outside.specs.Causes.{Rose}
 use Rattle.mir_outside.specs.Transfer.{AppendsPart}
 
--- the bytes that are left or written, where they are told, and the count of faults: before the call and after it
+-- the bytes that are left or written, where they are told, and the count of faults: before the call
+-- and after it
 pub record Stream : Type 0 where
   pub old : Option (List ℕ)
   pub new : Option (List ℕ)
@@ -13,7 +14,16 @@ pub record Stream : Type 0 where
 
 -- a stream as the members of its trait tell it
 abbrev pub seen : {T : Type 0} → (T → Option (List ℕ)) → (T → ℕ) → T → T → Stream
-seen bytes faults old new = record { old = bytes old; new = bytes new; before = faults old; after = faults new }
+seen bytes faults old new = record {
+  old = bytes old;
+  new = bytes new;
+  before = faults old;
+  after = faults new;
+}
+
+-- a stream that never fails, whose count of faults is always 0
+abbrev pub calm : Option (List ℕ) → Option (List ℕ) → Stream
+calm old new = record { old = old; new = new; before = 0; after = 0 }
 
 -- the bytes and the count are as before the call
 abbrev pub Untouched : Stream → Type 0

@@ -1,14 +1,14 @@
 // The commands, by their words.
-ghost use Rattle.std.specs.Prelude.{◌≡◌, ◌==◌, map, slice_index, string_bytes, IfOk};
+ghost use Rattle.std.specs.Prelude.{◌≡◌, map, string_bytes, IfOk};
 ghost use Rattle.std.specs.List.{list_all};
-ghost use Rattle.mir_top.specs.Commands.{command_of, alone_of, run_of, steps_in, steps_of, is_number, is_word, number_or_zero, inputs_in};
+ghost use Rattle.mir_top.specs.Commands.{command_of, alone_of, run_of, at_most, most_steps, steps_of, is_number, is_word, number_or_zero, inputs_in};
 
 use mir_base::Memory;
-use mir_lex::number;
+use mir_lex::{number, unsigned};
 use std::alloc::Global;
 
 /// The most steps of a run.
-const MOST_STEPS: i64 = 1_000_000;
+const MOST_STEPS: u64 = 1_000_000;
 
 /// What the words ask for.
 #[derive(Clone, Copy, Debug, PartialEq, Eq)]
@@ -92,34 +92,22 @@ fn run(arguments: &[String]) -> Option<Command>
 fn steps_of(word: &[u8]) -> Option<u64>
     ensures { result ≡ steps_of word.now }
 {
-    if begins_with_minus(word) {
-        None
-    } else {
-        steps_in(number(word))
-    }
+    within(unsigned(word))
 }
 
-fn steps_in(number: Option<i64>) -> Option<u64>
-    ensures { result ≡ steps_in number }
+/// The number, where it is at most the most steps.
+fn within(number: Option<u64>) -> Option<u64>
+    ensures { result ≡ at_most most_steps number }
 {
     match number {
         None => None,
         Some(steps) => {
-            if steps >= 0 && steps <= MOST_STEPS {
-                Some(steps as u64)
+            if steps <= MOST_STEPS {
+                Some(steps)
             } else {
                 None
             }
         }
-    }
-}
-
-fn begins_with_minus(word: &[u8]) -> bool
-    ensures { result ≡ (slice_index word.now 0 == 45) }
-{
-    match word {
-        [first, ..] => *first == b'-',
-        [] => false,
     }
 }
 

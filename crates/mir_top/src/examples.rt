@@ -586,4 +586,65 @@ end
 @ 0
 result 0
 evals 0
+# a name of sixty-four bytes
+optimise
+main: begin
+print nnnnnnnnnnnnnnnnnnnnnnnnnnnnnnnnnnnnnnnnnnnnnnnnnnnnnnnnnnnnnnnn
+end
+@ 0
+main: begin
+print nnnnnnnnnnnnnnnnnnnnnnnnnnnnnnnnnnnnnnnnnnnnnnnnnnnnnnnnnnnnnnnn
+return 0
+end
+# a loop of one test
+optimise
+main: begin
+receive a(val)
+L1: if a goto L1
+return a
+end
+@ 0
+main: begin
+receive a(val)
+L1: if a goto L1
+return a
+end
+# a comment with a byte 0
+run 9
+main: begin || \x00 || ?
+print 3
+end
+@ 0
+3
+result 0
+evals 0
+# carriage returns and tabs
+run 9
+main:\tbegin\r
+\tprint\t3\r
+end\r
+@ 0
+3
+result 0
+evals 0
+# no line end at the end
+run 9
+main: begin
+print 3
+end@ 0
+3
+result 0
+evals 0
+# a comment at the end, and empty lines
+run 9
+
+
+main: begin
+
+print 3
+
+end || last@ 0
+3
+result 0
+evals 0
 ";

@@ -8,17 +8,20 @@
 //! its cause.
 #![tactic(auto)]
 
+mod answer;
 mod call;
+mod calm;
 mod cause;
 mod command;
+mod complaint;
+mod ending;
 #[cfg(test)]
 mod examples;
+mod laws;
 mod making;
-mod message;
 #[cfg(test)]
 mod motion_examples;
 mod outcome;
-mod reading;
 #[cfg(test)]
 mod refusals;
 mod report_text;
@@ -26,7 +29,11 @@ mod report_text;
 mod tests;
 mod work;
 
-pub use call::{Answer, top};
+pub use answer::Answer;
+pub use call::top;
+pub use calm::calm_top;
 pub use cause::Cause;
 pub use command::Command;
+pub use ending::Ending;
+pub use laws::{one_thing_is_due, text_has_one_reading};
 pub use outcome::Outcome;

@@ -1,96 +1,95 @@
 // From a program to the output.
-ghost use Rattle.std.specs.Prelude.{◌≡◌, map, string_bytes, Some, IfOk, IfErr};
-ghost use Rattle.mir_top.specs.Commands.{command_of};
-ghost use Rattle.mir_top.specs.Outputs.{Makes, Stops};
+ghost use Rattle.std.specs.Prelude.{◌≡◌, map, string_bytes, IfOk, IfErr};
+ghost use Rattle.mir_base.specs.Text.{canonical_text};
+ghost use Rattle.mir_top.specs.Commands.{inputs_in};
+ghost use Rattle.mir_top.specs.Outputs.{Makes, MovesCode, Optimises, Stops};
 
 use crate::command::inputs;
 use crate::report_text::text_of_report;
-use crate::{Cause, Command, Outcome};
-use mir_base::Program;
+use crate::{Command, Outcome};
+use mir_base::{Memory, Program};
 use mir_interp::{RunFault, run};
-use mir_opt::{motion, optimise};
+use mir_opt::{MoveTrail, Trail, motion, optimise};
 use mir_print::print;
 use std::alloc::Global;
 
-/// What the words ask of the program, with its output.
+/// What was made of a program, with the bytes that are to be written.
+#[derive(Drop)]
+pub struct Made {
+    /// What was made.
+    pub outcome: Outcome,
+    /// The bytes that are to be written.
+    pub output: Vec<u8>,
+}
+
+/// What the command makes of the program. The words are those of the command, for the inputs of a run.
 pub fn make(
     alloc: Global,
-    words: &[String],
     command: Command,
+    words: &[String],
     program: &Program,
-) -> Result<(Outcome, Vec<u8>), Cause>
-    requires { command_of (map string_bytes words.now) ≡ Some command }
-    ensures made { IfOk result (λ made. Makes (map string_bytes words.now) program.now made.0 made.1.items) }
-    ensures stopped { IfErr result (Stops (map string_bytes words.now) program.now) }
+) -> Result<Made, RunFault>
+    ensures made { IfOk result (λ made. Makes (inputs_in (map string_bytes words.now)) program.now command made.outcome made.output.items) }
+    ensures stopped { IfErr result (Stops (inputs_in (map string_bytes words.now)) program.now command) }
 {
     match command {
-        Command::Optimise => optimised_text(alloc, words, program),
-        Command::Move => moved_text(alloc, words, program),
-        Command::Run(steps) => report(alloc, words, steps, program),
+        Command::Optimise => match optimised(alloc, program) {
+            Ok((trail, output)) => Ok(Made {
+                outcome: Outcome::Optimised(trail),
+                output,
+            }),
+            Err(refusal) => Err(RunFault::Memory(refusal)),
+        },
+        Command::Move => match moved(alloc, program) {
+            Ok((trail, output)) => Ok(Made {
+                outcome: Outcome::Moved(trail),
+                output,
+            }),
+            Err(refusal) => Err(RunFault::Memory(refusal)),
+        },
+        Command::Run(steps) => match inputs(alloc, words) {
+            Ok(inputs) => ran(alloc, program, &inputs, steps),
+            Err(refusal) => Err(RunFault::Memory(refusal)),
+        },
     }
 }
 
-/// The text of the target of the passes.
-fn optimised_text(
-    alloc: Global,
-    words: &[String],
-    source: &Program,
-) -> Result<(Outcome, Vec<u8>), Cause>
-    requires { command_of (map string_bytes words.now) ≡ Some Command.Optimise }
-    ensures made { IfOk result (λ made. Makes (map string_bytes words.now) source.now made.0 made.1.items) }
-    ensures stopped { IfErr result (Stops (map string_bytes words.now) source.now) }
+/// What the passes make of the program, and the text of its target.
+fn optimised(alloc: Global, program: &Program) -> Result<(Trail, Vec<u8>), Memory>
+    ensures source { IfOk result (λ made. made.0.source ≡ program.now) }
+    ensures optimises { IfOk result (λ made. Optimises made.0) }
+    ensures output { IfOk result (λ made. made.1.items ≡ canonical_text made.0.target) }
 {
-    let _ = words;
-    let Ok(trail) = optimise(alloc, source) else {
-        return Err(Cause::Memory);
-    };
-    match print(alloc, &trail.target) {
-        Ok(output) => Ok((Outcome::Optimised(trail), output)),
-        Err(_) => Err(Cause::Memory),
-    }
+    let trail = optimise(alloc, program)?;
+    let output = print(alloc, &trail.target)?;
+    Ok((trail, output))
 }
 
-/// The text of the target of code motion alone.
-fn moved_text(
-    alloc: Global,
-    words: &[String],
-    source: &Program,
-) -> Result<(Outcome, Vec<u8>), Cause>
-    requires { command_of (map string_bytes words.now) ≡ Some Command.Move }
-    ensures made { IfOk result (λ made. Makes (map string_bytes words.now) source.now made.0 made.1.items) }
-    ensures stopped { IfErr result (Stops (map string_bytes words.now) source.now) }
+/// What code motion alone makes of the program, and the text of its target.
+fn moved(alloc: Global, program: &Program) -> Result<(MoveTrail, Vec<u8>), Memory>
+    ensures source { IfOk result (λ made. made.0.source ≡ program.now) }
+    ensures moves { IfOk result (λ made. MovesCode made.0) }
+    ensures output { IfOk result (λ made. made.1.items ≡ canonical_text made.0.target) }
 {
-    let _ = words;
-    let Ok(moved) = motion(alloc, source) else {
-        return Err(Cause::Memory);
-    };
-    match print(alloc, &moved.target) {
-        Ok(output) => Ok((Outcome::Moved(moved), output)),
-        Err(_) => Err(Cause::Memory),
-    }
+    let trail = motion(alloc, program)?;
+    let output = print(alloc, &trail.target)?;
+    Ok((trail, output))
 }
 
-fn report(
-    alloc: Global,
-    words: &[String],
-    steps: u64,
-    program: &Program,
-) -> Result<(Outcome, Vec<u8>), Cause>
-    requires { command_of (map string_bytes words.now) ≡ Some (Command.Run steps) }
-    ensures made { IfOk result (λ made. Makes (map string_bytes words.now) program.now made.0 made.1.items) }
-    ensures stopped { IfErr result (Stops (map string_bytes words.now) program.now) }
+/// The report of the run of so many steps with these inputs.
+fn ran(alloc: Global, program: &Program, inputs: &[i64], steps: u64) -> Result<Made, RunFault>
+    ensures made { IfOk result (λ made. Makes inputs.now program.now (Command.Run steps) made.outcome made.output.items) }
+    ensures stopped { IfErr result (Stops inputs.now program.now (Command.Run steps)) }
 {
-    let Ok(inputs) = inputs(alloc, words) else {
-        return Err(Cause::Memory);
-    };
-    let report = match run(alloc, program, &inputs, steps) {
+    let report = match run(alloc, program, inputs, steps) {
         Ok(report) => report,
-        Err(RunFault::WrongInputs { wanted }) => return Err(Cause::WrongInputs(wanted)),
-        Err(RunFault::Deep) => return Err(Cause::Deep),
-        Err(RunFault::Memory(_)) => return Err(Cause::Memory),
+        Err(fault) => return Err(fault),
     };
     match text_of_report(alloc, &report) {
-        Ok(output) => Ok((Outcome::Ran(report.finish), output)),
-        Err(_) => Err(Cause::Memory),
+        Ok(output) => Ok(Made {
+            outcome: Outcome::Ran(report.finish),
+            output,
+        }),
+        Err(refusal) => Err(RunFault::Memory(refusal)),
     }
 }

@@ -1,12 +1,13 @@
 // What was made of a program.
 ghost use Rattle.std.specs.Prelude.{◌≡◌};
-ghost use Rattle.mir_top.specs.Statuses.{moved_of, status_of_finish, status_of_outcome, trail_of};
+ghost use Rattle.mir_top.specs.Calls.{answer_of};
+ghost use Rattle.mir_top.specs.Due.{status_of_finish};
 
 use crate::Answer;
 use mir_interp::Finish;
 use mir_opt::{MoveTrail, Trail};
 
-/// What was made of a program that was read, and written.
+/// What was made of a program, and written.
 #[derive(Drop)]
 pub enum Outcome {
     /// What the passes made of it.
@@ -20,9 +21,7 @@ pub enum Outcome {
 impl Outcome {
     /// The answer of a call with this outcome.
     pub fn answer(self) -> Answer
-        ensures status { result.status ≡ status_of_outcome self }
-        ensures trail { result.trail ≡ trail_of self }
-        ensures moved { result.moved ≡ moved_of self }
+        ensures { result ≡ answer_of self }
     {
         match self {
             Outcome::Optimised(trail) => Answer {

@@ -66,6 +66,13 @@ x <- ?
 end
 @ 2
 line 2: bad byte
+# a byte 0
+optimise
+main: begin
+x <- \x00
+end
+@ 2
+line 2: bad byte
 # a single bar
 optimise
 main: begin
@@ -206,4 +213,64 @@ f: begin
 end
 @ 2
 line 2: wrong number of arguments
+# other words: none
+
+@ 1
+usage: mir optimise | move | run STEPS [N ..]
+# other words: optimize
+optimize
+@ 1
+usage: mir optimise | move | run STEPS [N ..]
+# other words: Optimise
+Optimise
+@ 1
+usage: mir optimise | move | run STEPS [N ..]
+# other words: optimise x
+optimise x
+@ 1
+usage: mir optimise | move | run STEPS [N ..]
+# other words: Move
+Move
+@ 1
+usage: mir optimise | move | run STEPS [N ..]
+# other words: move 1
+move 1
+@ 1
+usage: mir optimise | move | run STEPS [N ..]
+# other words: run
+run
+@ 1
+usage: mir optimise | move | run STEPS [N ..]
+# other words: run x
+run x
+@ 1
+usage: mir optimise | move | run STEPS [N ..]
+# other words: run 1000001
+run 1000001
+@ 1
+usage: mir optimise | move | run STEPS [N ..]
+# other words: run -1
+run -1
+@ 1
+usage: mir optimise | move | run STEPS [N ..]
+# other words: run +5
+run +5
+@ 1
+usage: mir optimise | move | run STEPS [N ..]
+# other words: run 5 x
+run 5 x
+@ 1
+usage: mir optimise | move | run STEPS [N ..]
+# other words: run 5 9223372036854775808
+run 5 9223372036854775808
+@ 1
+usage: mir optimise | move | run STEPS [N ..]
+# other words: run 5 --1
+run 5 --1
+@ 1
+usage: mir optimise | move | run STEPS [N ..]
+# other words: run 5 +1
+run 5 +1
+@ 1
+usage: mir optimise | move | run STEPS [N ..]
 ";

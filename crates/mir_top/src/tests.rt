@@ -2,8 +2,8 @@
 use crate::examples::EXAMPLES;
 use crate::motion_examples::{MOTION_EXAMPLES, diamonds, moved_diamonds};
 use crate::refusals::REFUSALS;
-use crate::top;
-use mir_outside::{MemSink, MemSource};
+use crate::{calm_top, top};
+use mir_outside::{CalmSink, CalmSource, MemSink, MemSource};
 use std::alloc::{AllocError, Global};
 use std::process::Abort;
 use std::test::Fail;
@@ -36,15 +36,15 @@ const CALM: Devices = Devices {
 #[derive(Drop)]
 struct Seen {
     status: u8,
-    has_trail: bool,
     out: MemSink,
     err: MemSink,
 }
 
-fn one(alloc: Global, number: u64) -> Result<Vec<u64>, AllocError> {
-    let mut numbers = Vec::new(alloc);
-    numbers.push(number)?;
-    Ok(numbers)
+impl Seen {
+    /// Whether the call left this status, these bytes on the output and these on the error output.
+    fn left(&self, status: u8, out: &[u8], err: &[u8]) -> bool {
+        self.status == status && self.out.written() == out && self.err.written() == err
+    }
 }
 
 /// The words between the blanks.
@@ -56,64 +56,128 @@ fn owned(alloc: Global, words: &str) -> Result<Vec<String>, AllocError> {
     Ok(owned)
 }
 
-fn call(alloc: Global, words: &str, text: &[u8], on: Devices) -> Result<Seen, AllocError> {
-    let words = owned(alloc, words)?;
-    let fails = one(alloc, on.failing_read)?;
-    let mut source = MemSource::new(text.to_vec(alloc)?, on.read_piece.max(1), fails);
-    let fails = one(alloc, on.failing_write)?;
-    let mut out = MemSink::new(alloc, on.write_piece.max(1), fails, 60_000)?;
-    let fails = one(alloc, on.failing_line)?;
-    let mut err = MemSink::new(alloc, 4, fails, 100)?;
-    let answer = top(alloc, &words, &mut source, &mut out, &mut err);
-    Ok(Seen {
-        status: answer.status,
-        has_trail: answer.trail.is_some(),
-        out,
-        err,
-    })
+/// A sink that fails at one call.
+fn sink(alloc: Global, piece: usize, failing: u64, room: usize) -> Result<MemSink, AllocError> {
+    let fails = [failing].to_vec(alloc)?;
+    MemSink::new(alloc, piece.max(1), fails, room)
 }
 
-impl Seen {
-    /// Whether the call left this status, these bytes on the output and these on the error output.
-    fn left(&self, status: u8, out: &[u8], err: &[u8]) -> bool {
-        self.status == status && self.out.written() == out && self.err.written() == err
+fn source(alloc: Global, text: &[u8], on: Devices) -> Result<MemSource, AllocError> {
+    let fails = [on.failing_read].to_vec(alloc)?;
+    let text = text.to_vec(alloc)?;
+    Ok(MemSource::new(text, on.read_piece.max(1), fails))
+}
+
+fn call(alloc: Global, words: &str, text: &[u8], on: Devices) -> Result<Seen, AllocError> {
+    let words = owned(alloc, words)?;
+    let mut source = source(alloc, text, on)?;
+    let out = sink(alloc, on.write_piece, on.failing_write, 60_000)?;
+    let err = sink(alloc, 4, on.failing_line, 100)?;
+    Ok(left_by(alloc, &words, &mut source, out, err))
+}
+
+fn left_by(
+    alloc: Global,
+    words: &[String],
+    source: &mut MemSource,
+    mut out: MemSink,
+    mut err: MemSink,
+) -> Seen {
+    let answer = top(alloc, words, source, &mut out, &mut err);
+    Seen {
+        status: answer.status,
+        out,
+        err,
     }
 }
 
-/// The first example that a call does not answer as the table says.
-fn first_wrong<'a>(
-    alloc: Global,
-    examples: &'a str,
-    writes_output: bool,
-) -> Result<Option<&'a str>, Fail> {
+/// The first example that a call does not answer as the table says: its words, its text, and after `@` its status and what
+/// is written, on the output with the statuses 0, 3 and 4, and else on the error output.
+fn first_wrong<'a>(alloc: Global, examples: &'a str) -> Result<Option<&'a str>, Fail> {
     for example in examples.split("# ").skip(1) {
-        let (name, rest) = example.split_once('\n').ok_or("no name")?;
-        let (words, rest) = rest.split_once('\n').ok_or("no words")?;
-        let (text, rest) = rest.split_once("@ ").ok_or("no status")?;
-        let (status, written) = rest.split_once('\n').ok_or("nothing written")?;
-        let status = status.parse::<u8>().ok().ok_or("no number")?;
-        let seen = call(alloc, words, text.as_bytes(), CALM)?;
-        let right = if writes_output {
-            seen.left(status, written.as_bytes(), b"")
-        } else {
-            seen.left(status, b"", written.as_bytes())
-        };
-        if !right {
-            return Ok(Some(name));
+        if !is_right(alloc, example)? {
+            return Ok(Some(example));
         }
     }
     Ok(None)
 }
 
+fn is_right(alloc: Global, example: &str) -> Result<bool, Fail> {
+    let (_, rest) = example.split_once('\n').ok_or("no name")?;
+    let (words, rest) = rest.split_once('\n').ok_or("no words")?;
+    let (text, rest) = rest.split_once("@ ").ok_or("no status")?;
+    let (status, written) = rest.split_once('\n').ok_or("nothing written")?;
+    let status = status.parse::<u8>().ok().ok_or("no number")?;
+    let written = written.as_bytes();
+    let seen = call(alloc, words, text.as_bytes(), CALM)?;
+    if matches!(status, 0 | 3 | 4) {
+        Ok(seen.left(status, written, b""))
+    } else {
+        Ok(seen.left(status, b"", written))
+    }
+}
+
 #[test]
 fn worked_examples(rt: HostRuntime) -> Result<(), Fail> {
-    assert_eq!(rt; first_wrong(rt.alloc(), EXAMPLES, true)?, None);
+    for examples in [EXAMPLES, MOTION_EXAMPLES, REFUSALS] {
+        assert_eq!(rt; first_wrong(rt.alloc(), examples)?, None);
+    }
+    Ok(())
+}
+
+/// Whether the text is refused with this line.
+fn is_refused(alloc: Global, text: &[u8], line: &[u8]) -> Result<bool, AllocError> {
+    let seen = call(alloc, "optimise", text, CALM)?;
+    Ok(seen.left(2, b"", line))
+}
+
+/// A text that has the same piece so many times, between a start and an end.
+fn repeated(
+    alloc: Global,
+    start: &[u8],
+    piece: &[u8],
+    count: usize,
+    end: &[u8],
+) -> Result<Vec<u8>, AllocError> {
+    let mut text = start.to_vec(alloc)?;
+    for _ in 0..count {
+        text.extend_from_slice(piece)?;
+    }
+    text.extend_from_slice(end)?;
+    Ok(text)
+}
+
+/// A body of so many prints.
+fn prints(alloc: Global, count: usize, end: &[u8]) -> Result<Vec<u8>, AllocError> {
+    repeated(alloc, b"main: begin\n", b"print 1\n", count, end)
+}
+
+#[test]
+fn limits(rt: HostRuntime) -> Result<(), Fail> {
+    let alloc = rt.alloc();
+    let longest = prints(alloc, 4096, b"end\n")?;
+    let seen = call(alloc, "optimise", &longest, CALM)?;
+    let output = prints(alloc, 4096, b"return 0\nend\n")?;
+    assert!(rt; seen.left(0, &output, b""));
+    let longer = prints(alloc, 4097, b"end\n")?;
+    assert!(rt; is_refused(alloc, &longer, b"line 4098: too many instructions\n")?);
+    let units = repeated(alloc, b"", b"u: begin\nend\n", 257, b"")?;
+    assert!(rt; is_refused(alloc, &units, b"too many units\n")?);
     Ok(())
 }
 
 #[test]
-fn worked_examples_of_code_motion(rt: HostRuntime) -> Result<(), Fail> {
-    assert_eq!(rt; first_wrong(rt.alloc(), MOTION_EXAMPLES, true)?, None);
+fn texts_of_one_byte(rt: HostRuntime) -> Result<(), Fail> {
+    let texts: [(u8, usize, &[u8]); 4] = [
+        (b' ', 1_048_577, b"text longer than 1048576 bytes\n"),
+        (b' ', 1_048_576, b"no unit\n"),
+        (b'(', 1_048_576, b"line 1: unexpected\n"),
+        (255, 1_048_576, b"line 1: bad byte\n"),
+    ];
+    for (byte, count, line) in texts {
+        let text = vec![in rt.alloc(); byte; count]?;
+        assert!(rt; is_refused(rt.alloc(), &text, line)?, "at {line:?}");
+    }
     Ok(())
 }
 
@@ -127,105 +191,17 @@ fn a_thousand_diamonds(rt: HostRuntime) -> Result<(), Fail> {
 }
 
 #[test]
-fn refusals(rt: HostRuntime) -> Result<(), Fail> {
-    assert_eq!(rt; first_wrong(rt.alloc(), REFUSALS, false)?, None);
-    Ok(())
-}
-
-#[test]
-fn bytes_that_a_table_of_texts_cannot_show(rt: HostRuntime) -> Result<(), Fail> {
-    let output = b"3\nresult 0\nevals 0\n";
-    let texts: [&[u8]; 4] = [
-        // a comment with any bytes
-        b"main: begin || \x00\xff\xe2 || ?\nprint 3\nend\n",
-        // carriage returns and tabs
-        b"main:\tbegin\r\n\tprint\t3\r\nend\r\n",
-        // no line end at the end
-        b"main: begin\nprint 3\nend",
-        // a comment at the end, and empty lines
-        b"\n\nmain: begin\n\nprint 3\n\nend || last",
-    ];
-    for text in texts {
-        let seen = call(rt.alloc(), "run 9", text, CALM)?;
-        assert!(rt; seen.left(0, output, b""));
-    }
-    Ok(())
-}
-
-#[test]
-fn other_words_are_a_usage_fault(rt: HostRuntime) -> Result<(), Fail> {
-    for words in [
-        "",
-        "optimize",
-        "Optimise",
-        "optimise x",
-        "Move",
-        "move 1",
-        "run",
-        "run x",
-        "run 1000001",
-        "run -1",
-        "run 5 x",
-        "run 5 9223372036854775808",
-        "run 5 --1",
-        "run 5 +1",
-        "run +5",
-    ] {
-        let seen = call(rt.alloc(), words, SMALLEST, CALM)?;
-        assert!(rt;
-            seen.left(1, b"", b"usage: mir optimise | move | run STEPS [N ..]\n"),
-            "at {words}"
-        );
-    }
-    Ok(())
-}
-
-/// So many units.
-fn units(alloc: Global, count: usize) -> Result<Vec<u8>, AllocError> {
-    let mut text = Vec::new(alloc);
-    for number in 0..count {
-        text.extend_from_slice(format!(in alloc; "u{number}: begin\nend\n")?.as_bytes())?;
-    }
-    Ok(text)
-}
-
-/// A program of so many instructions.
-fn prints(alloc: Global, count: usize) -> Result<Vec<u8>, AllocError> {
-    let mut text = b"main: begin\n".as_slice().to_vec(alloc)?;
-    for _ in 0..count {
-        text.extend_from_slice(b"print 1\n")?;
-    }
-    text.extend_from_slice(b"end\n")?;
-    Ok(text)
-}
-
-#[test]
-fn limits(rt: HostRuntime) -> Result<(), Fail> {
-    let text = prints(rt.alloc(), 4096)?;
-    let seen = call(rt.alloc(), "optimise", &text, CALM)?;
-    assert_eq!(rt; (seen.status, seen.out.written().len()), (0, 32_793));
-    let text = prints(rt.alloc(), 4097)?;
-    let seen = call(rt.alloc(), "optimise", &text, CALM)?;
-    assert!(rt; seen.left(2, b"", b"line 4098: too many instructions\n"));
-    let text = units(rt.alloc(), 257)?;
-    let seen = call(rt.alloc(), "optimise", &text, CALM)?;
-    assert!(rt; seen.left(2, b"", b"too many units\n"));
-    let spaces = vec![in rt.alloc(); b' '; 1_048_577]?;
-    let seen = call(rt.alloc(), "optimise", &spaces, CALM)?;
-    assert!(rt; seen.left(2, b"", b"text longer than 1048576 bytes\n"));
-    let seen = call(rt.alloc(), "optimise", &spaces[1..], CALM)?;
-    assert!(rt; seen.left(2, b"", b"no unit\n"));
-    Ok(())
-}
-
-#[test]
 fn devices_that_fail(rt: HostRuntime) -> Result<(), Fail> {
     // The failing read, write and line, and what is left. A fault of the error output changes neither the status nor
     // the output, and cuts the line.
-    let cases: [(u64, u64, u64, u8, &[u8], &[u8]); 5] = [
+    let cases: [(u64, u64, u64, u8, &[u8], &[u8]); 9] = [
         (0, 0, 0, 0, SMALLEST_OUTPUT, b""),
+        (1, 0, 0, 6, b"", b"read fault\n"),
         (2, 0, 0, 6, b"", b"read fault\n"),
+        (5, 0, 0, 6, b"", b"read fault\n"),
+        (0, 1, 0, 7, b"", b"write fault\n"),
         (0, 11, 0, 7, b"main: begi", b"write fault\n"),
+        (0, 25, 0, 7, b"main: begin\nreturn 0\nend", b"write fault\n"),
         (0, 11, 2, 7, b"main: begi", b"writ"),
         (0, 0, 1, 0, SMALLEST_OUTPUT, b""),
     ];
@@ -238,8 +214,10 @@ fn devices_that_fail(rt: HostRuntime) -> Result<(), Fail> {
             failing_line,
         };
         let seen = call(rt.alloc(), "optimise", SMALLEST, on)?;
-        assert!(rt; seen.left(status, out, err));
-        assert_eq!(rt; seen.has_trail, status == 0);
+        assert!(rt;
+            seen.left(status, out, err),
+            "at {failing_read} {failing_write}"
+        );
     }
     Ok(())
 }
@@ -260,4 +238,20 @@ fn memory_that_is_refused(rt: HostRuntime) {
             assert!(rt; seen.left(0, output, b"") || seen.left(8, b"", b"out of memory\n"));
         }
     }
+}
+
+#[test]
+fn calm_devices(rt: HostRuntime) -> Result<(), Fail> {
+    let words = owned(rt.alloc(), "optimise")?;
+    let mut source = CalmSource::new(SMALLEST.to_vec(rt.alloc())?);
+    let mut err = sink(rt.alloc(), 1, 0, 100)?;
+    let answer = calm_top(
+        rt.alloc(),
+        &words,
+        &mut source,
+        &mut CalmSink::new(),
+        &mut err,
+    );
+    assert_eq!(rt; answer.status, 0);
+    Ok(())
 }

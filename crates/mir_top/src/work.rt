@@ -1,31 +1,25 @@
 // From the words and the source to the output.
 ghost use Rattle.std.specs.Prelude.{◌+◌, map, IfOk, IfErr, string_bytes};
 ghost use Rattle.mir_outside.specs.Transfer.{TakesAtMost};
-ghost use Rattle.mir_top.specs.Streams.{seen};
+ghost use Rattle.mir_top.specs.Calls.{IsMade, Prevents};
+ghost use Rattle.mir_top.specs.Commands.{Reads};
+ghost use Rattle.mir_top.specs.Streams.{seen, Untouched};
 ghost use Rattle.mir_top.specs.Texts.{text_limit};
-ghost use Rattle.mir_top.specs.Statuses.{IsMade, Prevents};
 
-use crate::making::make;
-use crate::reading::read_program;
-use crate::{Cause, Command, Outcome};
-use mir_outside::{ReadFault, Source, read_all};
+use crate::making::{Made, make};
+use crate::{Cause, Command};
+use mir_outside::{Source, read_all};
+use mir_parse::read_text;
+use mir_valid::check;
 use std::alloc::Global;
 
 /// The most bytes that a text may have.
 const TEXT_LIMIT: usize = 1_048_576;
 
-/// What is made of a text.
-#[derive(Drop)]
-pub struct Made {
-    /// What was made.
-    pub outcome: Outcome,
-    /// The bytes that are to be written.
-    pub output: Vec<u8>,
-}
-
 /// Reads the text and makes the output, or tells why not. It is given no sink, so nothing is written yet.
 pub fn prepare<S: Source>(alloc: Global, words: &[String], source: &mut S) -> Result<Made, Cause>
     ensures most { TakesAtMost (S.left source.old) (S.left source.new) (text_limit + 1) }
+    ensures unread { ¬ Reads (map string_bytes words.now) → Untouched (seen S.left S.faults source.old source.new) }
     ensures made { IfOk result (λ made. IsMade (map string_bytes words.now) (seen S.left S.faults source.old source.new) made.outcome made.output.items) }
     ensures prevented { IfErr result (Prevents (map string_bytes words.now) (seen S.left S.faults source.old source.new)) }
 {
@@ -34,16 +28,18 @@ pub fn prepare<S: Source>(alloc: Global, words: &[String], source: &mut S) -> Re
     };
     let text = match read_all(alloc, source, TEXT_LIMIT) {
         Ok(text) => text,
-        Err(ReadFault::Failed) => return Err(Cause::ReadFault),
-        Err(ReadFault::TooLong) => return Err(Cause::TooLong),
-        Err(ReadFault::Memory(_)) => return Err(Cause::Memory),
+        Err(fault) => return Err(Cause::Reading(fault)),
     };
-    let program = match read_program(alloc, &text) {
+    let raw = match read_text(alloc, &text) {
+        Ok(raw) => raw,
+        Err(fault) => return Err(Cause::Text(fault)),
+    };
+    let program = match check(alloc, &raw) {
         Ok(program) => program,
-        Err(cause) => return Err(cause),
+        Err(fault) => return Err(Cause::Program(fault)),
     };
-    match make(alloc, words, command, &program) {
-        Ok((outcome, output)) => Ok(Made { outcome, output }),
-        Err(cause) => Err(cause),
+    match make(alloc, command, words, &program) {
+        Ok(made) => Ok(made),
+        Err(fault) => Err(Cause::Making(fault)),
     }
 }

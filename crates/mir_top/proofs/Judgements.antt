@@ -1,0 +1,195 @@
+-- A text is that of one program, or it is refused for one cause; so for words and a text one thing is due.
+use Rattle.std.proofs.Common.{◌≡◌, ◌≢◌, ◌<◌, ◌≤◌, ℕ, ℤ, List, length, Option, None, Some, IsTrue, refl, sym, ◌∙◌, ap, subst, arith}
+use Rattle.mir_base.specs.Shapes.{ProgramShape}
+use Rattle.mir_base.specs.Runs.{run, inputs_of}
+use Rattle.mir_interp.specs.Reports.{most_frames}
+use Rattle.mir_base.specs.Text.{canonical_text}
+use Rattle.mir_opt.specs.declared.trails.Trail.{Trail}
+use Rattle.mir_opt.specs.declared.trails.MoveTrail.{MoveTrail}
+use Rattle.mir_parse.specs.declared.raw.Raw.{Raw}
+use Rattle.mir_valid.specs.Refusals.{refusal}
+use Rattle.mir_valid.specs.Stands.{Stands}
+use Rattle.mir_valid.specs.Texts.{IsTextOf}
+use Rattle.mir_top.specs.declared.command.Command.{Command}
+use Rattle.mir_top.specs.declared.command.Command.TheVariants.{Optimise, Move, Run}
+use Rattle.mir_top.specs.declared.outcome.Outcome.{Outcome}
+use Rattle.mir_top.specs.Calls.{answer_of}
+use Rattle.mir_top.specs.Commands.{command_of, inputs_in, reads_text, Reads}
+use Rattle.mir_top.specs.Complaints.{Complaint, wrong_inputs, deep, of_text, of_program}
+use Rattle.mir_top.specs.Due.{IsWithin, WorksOn, IsRefused, long, unreadable, invalid, Refuses, no_command, no_text, wrong_number, too_deep, Completes, of_optimise, of_move, of_run, status_of_finish}
+use Rattle.mir_top.specs.Outputs.{Runs, reported, report_text, IsOnlyOutput, Makes, optimised, moved, ran}
+use Rattle.mir_top.specs.Texts.{OneReading}
+
+-- ---- commands
+
+pub no_command_of : (command : Command) (asked : Option Command) → asked ≡ None → asked ≡ Some command → ⊥
+no_command_of command asked none some = absurd (let e = sym none ∙ some in cc)
+
+pub same_command : (one other : Command) (asked : Option Command) → asked ≡ Some one → asked ≡ Some other → one ≡ other
+same_command one other asked first second = let e = sym first ∙ second in cc
+
+pub same_steps : (one other : ℕ) (asked : Option Command) → asked ≡ Some (Run one) → asked ≡ Some (Run other) → one ≡ other
+same_steps one other asked first second = let e = sym first ∙ second in cc
+
+-- a command that reads the text works on the program of the text
+pub within_of : (command : Command) (text : List ℕ) (program : ProgramShape) → IsTrue (reads_text command) → WorksOn command text program → IsWithin text program
+within_of Optimise text program reads on = on
+within_of Move text program reads on = on
+within_of (Run steps) text program reads on = on
+
+pub works_on : (command : Command) (text : List ℕ) (program : ProgramShape) → IsTrue (reads_text command) → IsWithin text program → WorksOn command text program
+works_on Optimise text program reads within = within
+works_on Move text program reads within = within
+works_on (Run steps) text program reads within = within
+
+-- where the words are of this command, and read the text, so does the command
+reads_of : (words : List (List ℕ)) (command : Command) → command_of words ≡ Some command → Reads words → IsTrue (reads_text command)
+reads_of words command asked reads = subst (λ (c : Command). IsTrue (reads_text c)) (same_command reads.0 command (command_of words) reads.1 asked) reads.2
+
+-- ---- texts
+
+pub program_same : OneReading → (text : List ℕ) (one other : ProgramShape) → IsTextOf text one → IsTextOf text other → one ≡ other
+program_same laws text one other is also =
+    let same = laws.raw_one text also.raw is.raw also.spelled is.spelled in
+    laws.program_one is.raw is.valid one other is.stands (subst (λ (raw : Raw). Stands raw other) same also.stands)
+
+not_refused : OneReading → (text : List ℕ) (program : ProgramShape) (complaint : Complaint) → IsWithin text program → IsRefused text complaint → ⊥
+not_refused laws text program _ within (long above) = let h = within.short in omega (arith, above, h)
+not_refused laws text program _ within (unreadable fault short refused) = laws.fault_none text fault refused within.parsed.raw within.parsed.spelled
+not_refused laws text program _ within (invalid fault short refused) =
+    let parsed = within.parsed in
+    let same = laws.raw_one text refused.raw parsed.raw refused.spelled parsed.spelled in
+    laws.valid_none parsed.raw fault (subst (λ (raw : Raw). refusal raw ≡ Some fault) same refused.refused) parsed.valid
+
+refused_same : OneReading → (text : List ℕ) (one other : Complaint) → IsRefused text one → IsRefused text other → one ≡ other
+refused_same laws text _ _ (long above) (long again) = refl
+refused_same laws text _ _ (long above) (unreadable fault short refused) = absurd (omega (arith, above, short))
+refused_same laws text _ _ (long above) (invalid fault short refused) = absurd (omega (arith, above, short))
+refused_same laws text _ _ (unreadable fault short refused) (long above) = absurd (omega (arith, above, short))
+refused_same laws text _ _ (unreadable fault short refused) (unreadable other again also) = ap of_text (laws.fault_one text fault other refused also)
+refused_same laws text _ _ (unreadable fault short refused) (invalid other again also) = absurd (laws.fault_none text fault refused also.raw also.spelled)
+refused_same laws text _ _ (invalid fault short refused) (long above) = absurd (omega (arith, above, short))
+refused_same laws text _ _ (invalid fault short refused) (unreadable other again also) = absurd (laws.fault_none text other also refused.raw refused.spelled)
+refused_same laws text _ _ (invalid fault short refused) (invalid other again also) =
+    let same = laws.raw_one text refused.raw also.raw refused.spelled also.spelled in
+    let e : Some fault ≡ Some other = sym (subst (λ (raw : Raw). refusal raw ≡ Some fault) same refused.refused) ∙ also.refused in
+    let f : fault ≡ other = cc in ap of_program f
+
+-- ---- what is due
+
+-- a refusal, told apart by what it needs of a program
+abbrev Refused : List (List ℕ) → List ℕ → ℕ → ProgramShape → Complaint → Type 0
+Refused words text steps program complaint =
+    (length (inputs_in words) ≢ inputs_of program → complaint ≡ wrong_inputs (inputs_of program))
+    × (length (inputs_in words) ≡ inputs_of program → (most_frames < (run program (inputs_in words) steps).depth) × (complaint ≡ deep))
+
+-- the refusal of a run of the program of the text is that of its inputs or its frames
+refused_run : OneReading → (words : List (List ℕ)) (text : List ℕ) (steps : ℕ) (program : ProgramShape) (complaint : Complaint) → command_of words ≡ Some (Run steps) → IsWithin text program → Refuses words text complaint → Refused words text steps program complaint
+refused_run laws words text steps program _ asked within (no_command none) = absurd (no_command_of (Run steps) (command_of words) none asked)
+refused_run laws words text steps program _ asked within (no_text complaint reads refused) = absurd (not_refused laws text program complaint within refused)
+refused_run laws words text steps program _ asked within (wrong_number n other also on wrong) =
+    let same = program_same laws text other program on.parsed within.parsed in
+    (λ _. ap (λ (p : ProgramShape). wrong_inputs (inputs_of p)) same, λ right. absurd (wrong (right ∙ ap inputs_of (sym same))))
+refused_run laws words text steps program _ asked within (too_deep n other also on right above) =
+    let same = program_same laws text other program on.parsed within.parsed in
+    let steps_same = same_steps n steps (command_of words) also asked in
+    let over : most_frames < (run program (inputs_in words) n).depth = subst (λ (p : ProgramShape). most_frames < (run p (inputs_in words) n).depth) same above in
+    (λ wrong. absurd (wrong (right ∙ ap inputs_of same)), λ _. (subst (λ (k : ℕ). most_frames < (run program (inputs_in words) k).depth) steps_same over, refl))
+
+-- for words and a text one refusal is due at most
+pub refuses_same : OneReading → (words : List (List ℕ)) (text : List ℕ) (one other : Complaint) → Refuses words text one → Refuses words text other → one ≡ other
+refuses_same laws words text _ _ (no_command none) (no_command again) = refl
+refuses_same laws words text _ _ (no_command none) (no_text complaint reads refused) = absurd (no_command_of reads.0 (command_of words) none reads.1)
+refuses_same laws words text _ _ (no_command none) (wrong_number n program asked on wrong) = absurd (no_command_of (Run n) (command_of words) none asked)
+refuses_same laws words text _ _ (no_command none) (too_deep n program asked on right above) = absurd (no_command_of (Run n) (command_of words) none asked)
+refuses_same laws words text _ _ (no_text complaint reads refused) (no_command none) = absurd (no_command_of reads.0 (command_of words) none reads.1)
+refuses_same laws words text _ _ (no_text complaint reads refused) (no_text other again also) = refused_same laws text complaint other refused also
+refuses_same laws words text _ _ (no_text complaint reads refused) (wrong_number n program asked on wrong) = absurd (not_refused laws text program complaint on refused)
+refuses_same laws words text _ _ (no_text complaint reads refused) (too_deep n program asked on right above) = absurd (not_refused laws text program complaint on refused)
+refuses_same laws words text _ other (wrong_number n program asked on wrong) also = sym ((refused_run laws words text n program other asked on also).0 wrong)
+refuses_same laws words text _ other (too_deep n program asked on right above) also = sym ((refused_run laws words text n program other asked on also).1 right).1
+
+-- what a run makes
+runs_of : (inputs : List ℤ) (program : ProgramShape) (command : Command) (outcome : Outcome) (output : List ℕ) (steps : ℕ) → Makes inputs program command outcome output → command ≡ Run steps
+    → Runs program inputs steps × ((answer_of outcome).status ≡ status_of_finish (reported program inputs steps).finish)
+runs_of inputs program _ _ _ steps (optimised trail source optimises) is = absurd (cc)
+runs_of inputs program _ _ _ steps (moved trail source moves) is = absurd (cc)
+runs_of inputs program _ _ _ steps (ran n runs report reports) is =
+    let same : n ≡ steps = cc in (
+      subst (Runs program inputs) same runs,
+      ap (λ r. status_of_finish r.finish) reports ∙ ap (λ (k : ℕ). status_of_finish (reported program inputs k).finish) same,
+    )
+
+-- where something is made, nothing is refused
+pub makes_no_refusal : OneReading → (words : List (List ℕ)) (text : List ℕ) (command : Command) (program : ProgramShape) (outcome : Outcome) (output : List ℕ) (complaint : Complaint) → command_of words ≡ Some command → WorksOn command text program
+    → Makes (inputs_in words) program command outcome output → Refuses words text complaint → ⊥
+makes_no_refusal laws words text command program outcome output _ asked on makes (no_command none) = no_command_of command (command_of words) none asked
+makes_no_refusal laws words text command program outcome output _ asked on makes (no_text complaint reads refused) =
+    not_refused laws text program complaint (within_of command text program (reads_of words command asked reads) on) refused
+makes_no_refusal laws words text command program outcome output _ asked on makes (wrong_number n other also within wrong) =
+    let is = same_command command (Run n) (command_of words) asked also in
+    let runs = runs_of (inputs_in words) program command outcome output n makes is in
+    let same = program_same laws text program other (subst (λ (c : Command). WorksOn c text program) is on).parsed within.parsed in
+    wrong (runs.0.enough ∙ ap inputs_of same)
+makes_no_refusal laws words text command program outcome output _ asked on makes (too_deep n other also within right above) =
+    let is = same_command command (Run n) (command_of words) asked also in
+    let runs = runs_of (inputs_in words) program command outcome output n makes is in
+    let same = program_same laws text program other (subst (λ (c : Command). WorksOn c text program) is on).parsed within.parsed in
+    let shallow : (run other (inputs_in words) n).depth ≤ most_frames = subst (λ (p : ProgramShape). (run p (inputs_in words) n).depth ≤ most_frames) same runs.0.shallow in
+    omega (arith, shallow, above)
+
+-- a command that is no run is refused for its text alone
+other_refusal : OneReading → (words : List (List ℕ)) (text : List ℕ) (command : Command) (program : ProgramShape) (complaint : Complaint) → command_of words ≡ Some command → IsWithin text program → ((n : ℕ) → command ≡ Run n → ⊥) → Refuses words text complaint → ⊥
+other_refusal laws words text command program _ asked within no_run (no_command none) = no_command_of command (command_of words) none asked
+other_refusal laws words text command program _ asked within no_run (no_text complaint reads refused) = not_refused laws text program complaint within refused
+other_refusal laws words text command program _ asked within no_run (wrong_number n other also on wrong) = no_run n (same_command command (Run n) (command_of words) asked also)
+other_refusal laws words text command program _ asked within no_run (too_deep n other also on right above) = no_run n (same_command command (Run n) (command_of words) asked also)
+
+-- where an output is due, no refusal is
+pub completes_no_refusal : OneReading → (words : List (List ℕ)) (text : List ℕ) (status : ℕ) (complaint : Complaint) → Completes words text status → Refuses words text complaint → ⊥
+completes_no_refusal laws words text _ complaint (of_optimise program asked on) refuses = other_refusal laws words text Optimise program complaint asked on (λ n is. absurd (cc)) refuses
+completes_no_refusal laws words text _ complaint (of_move program asked on) refuses = other_refusal laws words text Move program complaint asked on (λ n is. absurd (cc)) refuses
+completes_no_refusal laws words text _ complaint (of_run n program asked on runs) refuses =
+    let refused = refused_run laws words text n program complaint asked on refuses in
+    let over = (refused.1 runs.enough).0 in let shallow = runs.shallow in omega (arith, over, shallow)
+
+-- and what is made has its status
+status_of_text : (inputs : List ℤ) (program : ProgramShape) (command : Command) (outcome : Outcome) (output : List ℕ) → Makes inputs program command outcome output → ((n : ℕ) → command ≡ Run n → ⊥) → (answer_of outcome).status ≡ 0
+status_of_text inputs program _ _ _ (optimised trail source optimises) no_run = refl
+status_of_text inputs program _ _ _ (moved trail source moves) no_run = refl
+status_of_text inputs program _ _ _ (ran n runs report reports) no_run = absurd (no_run n refl)
+
+pub completes_status : OneReading → (words : List (List ℕ)) (text : List ℕ) (status : ℕ) (command : Command) (program : ProgramShape) (outcome : Outcome) (output : List ℕ) → Completes words text status → command_of words ≡ Some command → WorksOn command text program
+    → Makes (inputs_in words) program command outcome output → (answer_of outcome).status ≡ status
+completes_status laws words text _ command program outcome output (of_optimise other also within) asked on makes =
+    status_of_text (inputs_in words) program command outcome output makes (λ n is. let e = sym (same_command command Optimise (command_of words) asked also) ∙ is in absurd (cc))
+completes_status laws words text _ command program outcome output (of_move other also within) asked on makes =
+    status_of_text (inputs_in words) program command outcome output makes (λ n is. let e = sym (same_command command Move (command_of words) asked also) ∙ is in absurd (cc))
+completes_status laws words text _ command program outcome output (of_run n other also within runs) asked on makes =
+    let is = same_command command (Run n) (command_of words) asked also in
+    let same = program_same laws text program other (subst (λ (c : Command). WorksOn c text program) is on).parsed within.parsed in
+    (runs_of (inputs_in words) program command outcome output n makes is).1 ∙ ap (λ (p : ProgramShape). status_of_finish (reported p (inputs_in words) n).finish) same
+
+-- where an output is due, it is due with one status
+pub completes_same : OneReading → (words : List (List ℕ)) (text : List ℕ) (one other : ℕ) → Completes words text one → Completes words text other → one ≡ other
+completes_same laws words text _ _ (of_optimise program asked on) (of_optimise again also within) = refl
+completes_same laws words text _ _ (of_optimise program asked on) (of_move again also within) = refl
+completes_same laws words text _ _ (of_optimise program asked on) (of_run n again also within runs) = absurd (let e = same_command Optimise (Run n) (command_of words) asked also in cc)
+completes_same laws words text _ _ (of_move program asked on) (of_optimise again also within) = refl
+completes_same laws words text _ _ (of_move program asked on) (of_move again also within) = refl
+completes_same laws words text _ _ (of_move program asked on) (of_run n again also within runs) = absurd (let e = same_command Move (Run n) (command_of words) asked also in cc)
+completes_same laws words text _ _ (of_run n program asked on runs) (of_optimise again also within) = absurd (let e = same_command (Run n) Optimise (command_of words) asked also in cc)
+completes_same laws words text _ _ (of_run n program asked on runs) (of_move again also within) = absurd (let e = same_command (Run n) Move (command_of words) asked also in cc)
+completes_same laws words text _ _ (of_run n program asked on runs) (of_run m again also within runs') =
+    ap (λ (p : ProgramShape). status_of_finish (reported p (inputs_in words) n).finish) (program_same laws text program again on.parsed within.parsed)
+    ∙ ap (λ (k : ℕ). status_of_finish (reported again (inputs_in words) k).finish) (same_steps n m (command_of words) asked also)
+
+-- ---- outputs
+
+-- a command makes one output of a program
+pub only_output : (inputs : List ℤ) (program : ProgramShape) (command : Command) (outcome : Outcome) (output : List ℕ) → Makes inputs program command outcome output → IsOnlyOutput inputs program command output
+only_output inputs program _ _ _ (optimised trail source optimises) _ _ (optimised other also improves) =
+    ap (λ (t : Trail). canonical_text t.target) (optimises.only other (also ∙ sym source) improves.linked)
+only_output inputs program _ _ _ (moved trail source moves) _ _ (moved other also improves) =
+    ap (λ (t : MoveTrail). canonical_text t.target) (moves.only other (also ∙ sym source) improves.linked)
+only_output inputs program _ _ _ (ran steps runs report reports) _ _ (ran _ again report' reports') = ap report_text (reports ∙ sym reports')

@@ -1,0 +1,111 @@
+-- The status of each cause, and its line on the error output.
+use Rattle.std.specs.Prelude.{ℕ, ◌≡◌, List, [], ◌++◌, codes, decimal, Option, None, Some}
+use Rattle.mir_interp.specs.declared.report.RunFault.{RunFault}
+use Rattle.mir_interp.specs.declared.report.RunFault.TheVariants.{WrongInputs, Deep, Memory as NoMemoryForRun}
+use Rattle.mir_lex.specs.declared.faults.LexFault.{LexFault}
+use Rattle.mir_lex.specs.declared.faults.LexFault.TheVariants.{BadByte, BadNumber, LongName, Memory as NoMemoryForTokens}
+use Rattle.mir_outside.specs.declared.transfer.ReadFault.{ReadFault}
+use Rattle.mir_outside.specs.declared.transfer.ReadFault.TheVariants.{Failed, TooLong, Memory as NoMemoryForText}
+use Rattle.mir_parse.specs.declared.faults.ParseFault.{ParseFault}
+use Rattle.mir_parse.specs.declared.faults.ParseFault.TheVariants.{Unexpected, Ended, Memory as NoMemoryForRaw}
+use Rattle.mir_parse.specs.declared.faults.TextFault.{TextFault}
+use Rattle.mir_parse.specs.declared.faults.TextFault.TheVariants.{Lex, Parse}
+use Rattle.mir_valid.specs.declared.faults.ValidFault.{ValidFault}
+use Rattle.mir_valid.specs.declared.faults.ValidFault.TheVariants.{NoUnit, TooManyUnits, SameUnit, TooManyInsts, LateReceive, SameReceive, TooManyReceives, SameLabel, NoLabel, NoSuchUnit, WrongCount, Memory as NoMemoryForProgram}
+use Rattle.mir_top.specs.declared.cause.Cause.{Cause}
+use Rattle.mir_top.specs.declared.cause.Cause.TheVariants.{Usage, Reading, Text, Program, Making}
+
+-- a status and a line, with its line feed
+pub record Complaint : Type 0 where
+  pub status : ℕ
+  pub line : List ℕ
+
+abbrev pub number_text : Option ℕ → List ℕ
+number_text None = []
+number_text (Some number) = decimal number
+
+-- the complaint, with its line in three pieces
+pub record Says
+    (status : ℕ) (before : List ℕ) (number : Option ℕ) (after : List ℕ)
+    (complaint : Complaint) : Type 0 where
+  pub status_is : status ≡ complaint.status
+  pub line_is : before ++ number_text number ++ after ≡ complaint.line
+
+abbrev pub usage : Complaint
+usage = record { status = 1; line = codes "usage: mir optimise | move | run STEPS [N ..]\n" }
+
+abbrev pub wrong_inputs : ℕ → Complaint
+wrong_inputs wanted = record {
+  status = 1;
+  line = codes "wrong inputs: " ++ decimal wanted ++ codes " wanted\n";
+}
+
+abbrev pub too_long : Complaint
+too_long = record { status = 2; line = codes "text longer than 1048576 bytes\n" }
+
+abbrev pub deep : Complaint
+deep = record { status = 5; line = codes "deep: more than 10000 frames\n" }
+
+abbrev pub read_fault : Complaint
+read_fault = record { status = 6; line = codes "read fault\n" }
+
+abbrev pub write_fault : Complaint
+write_fault = record { status = 7; line = codes "write fault\n" }
+
+abbrev pub out_of_memory : Complaint
+out_of_memory = record { status = 8; line = codes "out of memory\n" }
+
+-- what is wrong with a text, or at a line of it
+abbrev pub refused : List ℕ → Complaint
+refused what = record { status = 2; line = what }
+
+abbrev pub refused_at : ℕ → List ℕ → Complaint
+refused_at line what = refused (codes "line " ++ decimal line ++ what)
+
+-- ---- by the stage at which a call ends
+
+abbrev pub of_reading : ReadFault → Complaint
+of_reading Failed = read_fault
+of_reading TooLong = too_long
+of_reading (NoMemoryForText refusal) = out_of_memory
+
+abbrev pub of_bytes : LexFault → Complaint
+of_bytes (BadByte line) = refused_at line (codes ": bad byte\n")
+of_bytes (BadNumber line) = refused_at line (codes ": bad number\n")
+of_bytes (LongName line) = refused_at line (codes ": long name\n")
+of_bytes (NoMemoryForTokens refusal) = out_of_memory
+
+abbrev pub of_tokens : ParseFault → Complaint
+of_tokens (Unexpected line) = refused_at line (codes ": unexpected\n")
+of_tokens Ended = refused (codes "text ends inside a unit\n")
+of_tokens (NoMemoryForRaw refusal) = out_of_memory
+
+abbrev pub of_text : TextFault → Complaint
+of_text (Lex fault) = of_bytes fault
+of_text (Parse fault) = of_tokens fault
+
+abbrev pub of_program : ValidFault → Complaint
+of_program NoUnit = refused (codes "no unit\n")
+of_program TooManyUnits = refused (codes "too many units\n")
+of_program (SameUnit line) = refused_at line (codes ": unit named twice\n")
+of_program (TooManyInsts line) = refused_at line (codes ": too many instructions\n")
+of_program (LateReceive line) = refused_at line (codes ": late receive\n")
+of_program (SameReceive line) = refused_at line (codes ": variable received twice\n")
+of_program (TooManyReceives line) = refused_at line (codes ": too many receives\n")
+of_program (SameLabel line) = refused_at line (codes ": label named twice\n")
+of_program (NoLabel line) = refused_at line (codes ": no such label\n")
+of_program (NoSuchUnit line) = refused_at line (codes ": no such unit\n")
+of_program (WrongCount line) = refused_at line (codes ": wrong number of arguments\n")
+of_program (NoMemoryForProgram refusal) = out_of_memory
+
+abbrev pub of_run : RunFault → Complaint
+of_run (WrongInputs wanted) = wrong_inputs wanted
+of_run Deep = deep
+of_run (NoMemoryForRun refusal) = out_of_memory
+
+abbrev pub complaint_of : Cause → Complaint
+complaint_of Usage = usage
+complaint_of (Reading fault) = of_reading fault
+complaint_of (Text fault) = of_text fault
+complaint_of (Program fault) = of_program fault
+complaint_of (Making fault) = of_run fault

@@ -1,0 +1,64 @@
+-- What is due for the words and a text: a refusal with its status and line, or an output with its status.
+use Rattle.std.specs.Prelude.{ℕ, ◌≡◌, ◌≢◌, ◌<◌, ◌≤◌, List, length, Some, None}
+use Rattle.mir_base.specs.Shapes.{ProgramShape}
+use Rattle.mir_base.specs.Runs.{run, inputs_of}
+use Rattle.mir_interp.specs.Reports.{most_frames}
+use Rattle.mir_interp.specs.declared.report.Finish.{Finish}
+use Rattle.mir_interp.specs.declared.report.Finish.TheVariants.{Running, Ended, Trapped}
+use Rattle.mir_parse.specs.declared.faults.TextFault.{TextFault}
+use Rattle.mir_parse.specs.Spells.{IsTextRefusal}
+use Rattle.mir_valid.specs.declared.faults.ValidFault.{ValidFault}
+use Rattle.mir_valid.specs.Texts.{IsTextOf}
+use Rattle.mir_top.specs.declared.command.Command.{Command}
+use Rattle.mir_top.specs.declared.command.Command.TheVariants.{Optimise, Move, Run}
+use Rattle.mir_top.specs.Commands.{command_of, inputs_in, Reads}
+use Rattle.mir_top.specs.Complaints.{Complaint, usage, wrong_inputs, too_long, deep, of_text, of_program}
+use Rattle.mir_top.specs.Outputs.{Runs, reported}
+use Rattle.mir_top.specs.Texts.{text_limit, IsInvalid}
+
+-- the text is that of this program, and within the limit
+pub record IsWithin (text : List ℕ) (program : ProgramShape) : Type 0 where
+  pub short : length text ≤ text_limit
+  pub parsed : IsTextOf text program
+
+-- the program that a command works on, for the commands that read the text that of the text
+abbrev pub WorksOn : Command → List ℕ → ProgramShape → Type 0
+WorksOn Optimise text program = IsWithin text program
+WorksOn Move text program = IsWithin text program
+WorksOn (Run steps) text program = IsWithin text program
+
+-- why a text is of no program: it is too long, it spells no raw program, or one that is not valid
+pub data IsRefused (text : List ℕ) : Complaint → Type 0 where
+  long : text_limit < length text → IsRefused text too_long
+  unreadable : (fault : TextFault) → length text ≤ text_limit → IsTextRefusal text fault
+      → IsRefused text (of_text fault)
+  invalid : (fault : ValidFault) → length text ≤ text_limit → IsInvalid text fault
+      → IsRefused text (of_program fault)
+
+-- no output is due, but a complaint
+pub data Refuses (words : List (List ℕ)) (text : List ℕ) : Complaint → Type 0 where
+  no_command : command_of words ≡ None → Refuses words text usage
+  no_text : (complaint : Complaint) → Reads words → IsRefused text complaint
+      → Refuses words text complaint
+  wrong_number : (steps : ℕ) (program : ProgramShape) → command_of words ≡ Some (Run steps)
+      → WorksOn (Run steps) text program → length (inputs_in words) ≢ inputs_of program
+      → Refuses words text (wrong_inputs (inputs_of program))
+  too_deep : (steps : ℕ) (program : ProgramShape) → command_of words ≡ Some (Run steps)
+      → WorksOn (Run steps) text program → length (inputs_in words) ≡ inputs_of program
+      → most_frames < (run program (inputs_in words) steps).depth
+      → Refuses words text deep
+
+abbrev pub status_of_finish : Finish → ℕ
+status_of_finish (Ended result) = 0
+status_of_finish (Trapped kind) = 3
+status_of_finish Running = 4
+
+-- an output is due, with this status
+pub data Completes (words : List (List ℕ)) (text : List ℕ) : ℕ → Type 0 where
+  of_optimise : (program : ProgramShape) → command_of words ≡ Some Optimise
+      → WorksOn Optimise text program → Completes words text 0
+  of_move : (program : ProgramShape) → command_of words ≡ Some Move
+      → WorksOn Move text program → Completes words text 0
+  of_run : (steps : ℕ) (program : ProgramShape) → command_of words ≡ Some (Run steps)
+      → WorksOn (Run steps) text program → Runs program (inputs_in words) steps
+      → Completes words text (status_of_finish (reported program (inputs_in words) steps).finish)
