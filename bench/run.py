@@ -20,7 +20,7 @@ from pathlib import Path
 from typing import Callable, Iterable, Iterator, NamedTuple, Optional
 
 TOP = Path(__file__).resolve().parent.parent
-PROGRAM = TOP / 'crates' / 'mir_main' / 'out' / 'mir_main'
+MIR, PROGRAM = str(TOP / 'mir'), TOP / 'crates' / 'mir_main' / 'out' / 'mir_main'
 
 # The lengths of texts: a quarter, a half and the whole of what a text may have.
 LENGTHS = (262_144, 524_288, 1_048_576)
@@ -55,7 +55,7 @@ class Workload(NamedTuple):
     about: str
     unit: str
     cases: Callable[[], list[Case]]
-    # Two cases whose instructions are counted under `--callgrind`, where that is of use.
+    # Cases whose instructions are counted under `--callgrind`, where that is of use.
     counted: Optional[Callable[[], list[Case]]] = None
 
 
@@ -193,6 +193,58 @@ def nested_loops(unit: str, instructions: int, depth: int) -> tuple[str, str]:
     return head + ''.join(text) + tail, head + ''.join(before) + ''.join(moved) + tail
 
 
+
+def joins_used_at_end(unit: str, count: int) -> str:
+    """A unit of so many joins, one after the other, with a variable each that is assigned on one of the ways to it, and
+    after the last one a sum of each of these variables. It is its own layout, and no sum moves."""
+    lines = [f'{unit}: begin\nreceive a(val)\n']
+    lines.extend(f'if a goto L{number}\nv{number} <- a\nL{number}: ' for number in range(1, count + 1))
+    lines.extend(f'x <- v{number} + 1\n' for number in range(1, count + 1))
+    return ''.join(lines) + 'return x\nend\n'
+
+
+def joins_used_in_arms(unit: str, count: int) -> str:
+    """A unit of so many joins, one after the other: the two arms before each evaluate the same sum, another one at each
+    join. It is its own layout, and no sum moves."""
+    lines, others = [f'{unit}: begin\nreceive a(val)\n'], []
+    for number in range(1, count + 1):
+        lines.append(f'if a goto L{count + number}\nx <- a + {number}\nL{number}: ')
+        others.append(f'L{count + number}: x <- a + {number}\ngoto L{number}\n')
+    return ''.join(lines) + 'return x\n' + ''.join(others) + 'end\n'
+
+
+def tests_over_one(unit: str, count: int) -> str:
+    """A unit of so many tests, each of which jumps over one sum. It is its own layout, and no sum moves."""
+    lines = [f'{unit}: begin\nreceive a(val)\n']
+    for number in range(1, count + 1):
+        lines.append(f'if a goto L{number}\nx <- a + {number}\nL{number}: ')
+    return ''.join(lines) + 'return x\nend\n'
+
+
+def loops_in_a_row(unit: str, loops: int, sums: int) -> tuple[str, str]:
+    """A unit of so many repeat-until loops, one after the other, each full of so many different sums that do not change
+    in it; and the unit with moved code, which evaluates them before their loop."""
+    text, moved = ([f'{unit}: begin\nreceive a(val)\n'] for _ in range(2))
+    for loop in range(loops):
+        numbers = range(loop * sums + 1, (loop + 1) * sums + 1)
+        test = f'i <- i + 1\nif i < 5 goto L{loop + 1}\n'
+        text.append(f'L{loop + 1}: ' + ''.join(f'x <- a + {number}\n' for number in numbers) + test)
+        moved.extend(f'h{number} <- a + {number}\n' for number in numbers)
+        moved.append(f'L{loop + 1}: ' + ''.join(f'x <- h{number}\n' for number in numbers) + test)
+    return ''.join(text) + 'return x\nend\n', ''.join(moved) + 'return x\nend\n'
+
+
+def edges_into_one_join(unit: str, count: int) -> tuple[str, str]:
+    """A unit of so many tests that all jump to one sum, which the last path to it has evaluated; and the unit with moved
+    code, which evaluates it on each of the edges."""
+    head = f'{unit}: begin\nreceive a(val)\nreceive b(val)\n'
+    text = ''.join(f'if a < {number} goto L1\n' for number in range(count)) + 'x <- a + b\nL1: y <- a + b\nreturn y\n'
+    tests = ''.join(f'if a < {number} goto L{number + 2}\n' for number in range(count))
+    edges = ''.join(f'L{number + 2}: h1 <- a + b\ngoto L1\n' for number in range(count))
+    moved = f'{tests}h1 <- a + b\nx <- h1\nL1: y <- h1\nreturn y\n{edges}'
+    return f'{head}{text}end\n', f'{head}{moved}end\n'
+
+
 LOOP = """\
 main: begin
 again: sum <- sum + i
@@ -283,6 +335,19 @@ def units_by(word: str) -> list[Case]:
     return cases
 
 
+def stays(text: str) -> tuple[str, str]:
+    """A text that is its own layout and in which no code moves: what goes in and what comes out."""
+    return text, text
+
+
+def sized_by(sizes: tuple[int, ...], texts: Callable[[int], tuple[str, str]]) -> Callable[[str], list[Case]]:
+    """The cases of a command on the texts of these sizes: what goes in, and what comes out."""
+    return lambda word: [Case(size, [word], text, ENDED, moved) for size in sizes for text, moved in [texts(size)]]
+
+
+# How many joins, tests, loops and sums: a quarter, a half and all that a unit has room for, or nearly so.
+JOINS, TESTS, LOOPS, SUMS = (250, 500, 1000), (300, 600, 1200), (55, 110, 220), (1000, 2000, 4000)
+
 # What code motion is measured on: under `move`, which does nothing else, and as one of the passes of `optimise`.
 MOTION = [
     Workload(
@@ -290,11 +355,48 @@ MOTION = [
         f'{about}, under {word}',
         unit,
         lambda cases=cases, word=word: cases(word),
+        lambda cases=cases, word=word: cases(word),
     )
     for name, about, unit, cases in (
         ('diamonds', 'code is moved in a chain of diamonds', 'insts', diamonds_by),
         ('nested', 'thousands of expressions are moved out of nested loops', 'insts', nested_by),
         ('units', 'code is moved in many units', 'units', units_by),
+        (
+            'joins-end',
+            'an expression for each join, used once, after the last join',
+            'joins',
+            sized_by(JOINS, lambda joins: stays(joins_used_at_end('main', joins))),
+        ),
+        (
+            'joins-arms',
+            'an expression for each join, used in both arms before it',
+            'joins',
+            sized_by(JOINS, lambda joins: stays(joins_used_in_arms('main', joins))),
+        ),
+        (
+            'tests',
+            'tests that jump over one sum',
+            'tests',
+            sized_by(TESTS, lambda tests: stays(tests_over_one('main', tests))),
+        ),
+        (
+            'loops-row',
+            'loops in a row, each with 15 sums that are moved before it',
+            'loops',
+            sized_by(LOOPS, lambda loops: loops_in_a_row('main', loops, 15)),
+        ),
+        (
+            'inserts-one',
+            'different sums that are all moved before one node',
+            'sums',
+            sized_by(SUMS, lambda sums: nested_loops('main', sums + 4, 1)),
+        ),
+        (
+            'inserts-each',
+            'one sum that is put before each of many nodes',
+            'nodes',
+            sized_by(SUMS, lambda count: edges_into_one_join('main', count)),
+        ),
     )
     for word in ('move', 'optimise')
 ]
@@ -388,10 +490,10 @@ def measure(command: list[str], case: Case, folder: Path, repeat: int) -> Measur
     return Measure(min(m.seconds for m in measures), max(m.bytes for m in measures))
 
 
-def instructions(case: Case, folder: Path) -> int:
+def instructions(program: str, case: Case, folder: Path) -> int:
     """How many instructions of the processor the program takes for the case, by callgrind."""
     counts = folder / 'counts'
-    valgrind = ['valgrind', '--quiet', '--tool=callgrind', f'--callgrind-out-file={counts}', str(PROGRAM)]
+    valgrind = ['valgrind', '--quiet', '--tool=callgrind', f'--callgrind-out-file={counts}', program]
     call(valgrind, case, folder)
     for line in counts.read_text().splitlines():
         if line.startswith('totals:'):
@@ -424,12 +526,15 @@ def show(workload: Workload, measures: list[tuple[int, Measure]], start: Measure
         )
 
 
-def show_instructions(workload: Workload, folder: Path) -> None:
-    """Prints the instructions for each byte or step: the difference of two runs over the difference of their sizes."""
-    less, more = workload.counted()
-    counted = instructions(more, folder) - instructions(less, folder)
-    each = counted / (more.size - less.size)
-    print(f'{each:,.1f} instructions for each of the {workload.unit}, from {less.size:,} to {more.size:,}')
+def show_instructions(workload: Workload, counts: list[tuple[int, int]]) -> None:
+    """Prints the instructions of each case, and those for each byte, step or join: the difference of the last case and the
+    first over the difference of their sizes."""
+    first_size, first = counts[0]
+    last_size, last = counts[-1]
+    for size, count in counts:
+        print(f'{size:>12,}{count:>21,} instructions{ratio(count, first, 1):>9}')
+    each = (last - first) / (last_size - first_size)
+    print(f'{each:,.1f} instructions for each of the {workload.unit}, from {first_size:,} to {last_size:,}')
 
 
 # ---- the command line
@@ -439,7 +544,7 @@ def options() -> argparse.Namespace:
     """What the command line asks."""
     parser = argparse.ArgumentParser(description='Measures mir: wall time, peak memory, and how both grow.')
     parser.add_argument('workloads', nargs='*', metavar='WORKLOAD', help=', '.join(w.name for w in WORKLOADS))
-    parser.add_argument('--mir', default=str(TOP / 'mir'), metavar='PATH', help='the command to measure (./mir)')
+    parser.add_argument('--mir', default=MIR, metavar='PATH', help='the command to measure (./mir)')
     parser.add_argument('--repeat', type=int, default=3, metavar='N', help='take the least time of N calls (3)')
     parser.add_argument('--callgrind', action='store_true', help='count the instructions of the processor too')
     asked = parser.parse_args()
@@ -453,6 +558,7 @@ def main() -> int:
     """Measures the workloads that were asked for."""
     asked = options()
     command = [str(Path(asked.mir).resolve())]
+    program = command[0] if asked.mir != MIR else str(PROGRAM)
     warm_up(command)
     adopt_orphans()
     with tempfile.TemporaryDirectory(prefix='mir-bench-') as name:
@@ -465,7 +571,8 @@ def main() -> int:
             measures = [(case.size, measure(command, case, folder, asked.repeat)) for case in workload.cases()]
             show(workload, measures, start)
             if asked.callgrind and workload.counted:
-                show_instructions(workload, folder)
+                counts = [(case.size, instructions(program, case, folder)) for case in workload.counted()]
+                show_instructions(workload, counts)
     return 0
 
 
