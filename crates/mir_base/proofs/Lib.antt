@@ -1,4 +1,3 @@
 pub mod Tidy
-pub mod FirstFits
-pub mod CutRuns
 pub mod Words
+pub mod Reserved

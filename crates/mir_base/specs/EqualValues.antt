@@ -1,5 +1,6 @@
--- What is read has the same value on two sides where the variables that are read have.
-use Rattle.std.proofs.Common.{◌≡◌, ℕ, ◌<◌, cond, not, List, [], ◌∷◌, ◌++◌, map, flat_map, ℤ, pos, refl, ap, ◌∙◌}
+-- What is read has the same value on two sides where the variables that are read have. `EqualOn` is cited by contracts,
+-- the rest is for proofs only.
+use Rattle.std.proofs.Common.{◌≡◌, ℕ, ◌<◌, not, List, [], ◌∷◌, ◌++◌, map, flat_map, pos, refl, ap, ◌∙◌}
 use Rattle.std.specs.Ordering.{int_eq}
 use Rattle.mir_base.specs.declared.instructions.Operand.{Operand}
 use Rattle.mir_base.specs.declared.instructions.Operand.TheVariants.{Var, Const}
@@ -7,9 +8,9 @@ use Rattle.mir_base.specs.declared.instructions.Rhs.{Rhs}
 use Rattle.mir_base.specs.declared.instructions.Rhs.TheVariants.{Plain, Unary, Binary}
 use Rattle.mir_base.specs.declared.instructions.Test.{Test}
 use Rattle.mir_base.specs.declared.instructions.Test.TheVariants.{Rel, Holds, Fails}
-use Rattle.mir_base.specs.Numbers.{value_of_op, value_of_un_op, traps}
+use Rattle.mir_base.specs.Numbers.{relation_holds, value_of_op, value_of_un_op, traps}
 use Rattle.mir_base.specs.Frames.{Values}
-use Rattle.mir_base.specs.Units.{operand_value, relation_holds, test_holds}
+use Rattle.mir_base.specs.Units.{operand_value, test_holds}
 use Rattle.mir_base.specs.Shapes.{AllBelow, operand_vars, rhs_vars, test_vars}
 use Rattle.mir_base.specs.Expressions.{rhs_traps, rhs_value}
 
@@ -18,10 +19,12 @@ abbrev pub EqualOn : List ℕ → Values → Values → Type 0
 EqualOn [] v w = Unit {0}
 EqualOn (x ∷ xs) v w = (v x ≡ w x) × EqualOn xs v w
 
+-- of the first part of a joined list
 pub equal_left : (xs ys : List ℕ) (v w : Values) → EqualOn (xs ++ ys) v w → EqualOn xs v w
 equal_left [] ys v w equal = tt
 equal_left (x ∷ xs) ys v w equal = (equal.0, equal_left xs ys v w equal.1)
 
+-- of the second part
 pub equal_right : (xs ys : List ℕ) (v w : Values) → EqualOn (xs ++ ys) v w → EqualOn ys v w
 equal_right [] ys v w equal = equal
 equal_right (x ∷ xs) ys v w equal = equal_right xs ys v w equal.1
@@ -32,6 +35,7 @@ equal_below m [] v w below equal = tt
 equal_below m (x ∷ xs) v w below equal = (equal x below.0, equal_below m xs v w below.1 equal)
 
 module _ (v w : Values) where
+  -- operands, right sides, traps and tests that read these variables alone
   pub operand_equal : (a : Operand) → EqualOn (operand_vars a) v w → operand_value v a ≡ operand_value w a
   operand_equal (Var x) equal = equal.0
   operand_equal (Const c) equal = refl

@@ -1,4 +1,5 @@
 -- Which right sides divide, which are movable, the expression of a movable one, and what the evaluation of one gives.
+-- Cited by contracts.
 use Rattle.std.specs.Prelude.{ℕ, Bool, true, false, ◌&&◌, not, ℤ, pos, Option, Some, None, if◌then◌else◌}
 use Rattle.std.specs.Ordering.{int_eq}
 use Rattle.mir_base.specs.declared.instructions.Operand.{Operand}

@@ -1,7 +1,11 @@
+pub mod Limits
+pub mod Operators
 pub mod Names
 pub mod Numbers
 pub mod Expressions
 pub mod Shapes
+pub mod ExpressionVars
+pub mod SameExpressions
 pub mod Text
 pub mod Frames
 pub mod Units
@@ -9,8 +13,6 @@ pub mod Runs
 pub mod UnitRuns
 pub mod Simulations
 pub mod Locksteps
-pub mod Cuts
-pub mod FirstForm
 pub mod NumberLaws
 pub mod ExpressionLaws
 pub mod FrameLaws
@@ -20,3 +22,8 @@ pub mod ResponseLaws
 pub mod LockstepLaws
 pub mod UnitLaws
 pub mod EqualValues
+pub mod RunLaws
+pub mod BelowLaws
+pub mod DecimalLaws
+pub mod Appending
+pub mod ItemLaws

@@ -1,4 +1,5 @@
--- The laws of the lockstep rule: machines in lockstep do the same, and the second counts no more.
+-- The laws of the lockstep rule: machines in lockstep do the same, and the second evaluates no more operators.
+-- For proofs only.
 use Rattle.std.proofs.Common.{◌≡◌, ℕ, ◌≤◌, refl, subst, le_refl}
 use Rattle.mir_base.specs.Frames.{Frame, Transition, Continues, Prints, Calls, Returns, Traps}
 use Rattle.mir_base.specs.UnitRuns.{Machine, UnitSame, UnitCheaper}
@@ -7,10 +8,12 @@ use Rattle.mir_base.specs.SimulationLaws.{simulated_same, simulated_cheaper}
 use Rattle.mir_base.specs.Locksteps.{Alike, Lockstep}
 use Rattle.mir_base.specs.ResponseLaws.{alike_responds}
 
+-- the relation of the simulation that a lockstep is
 record Stepping (S : Frame → Frame → Type 0) (z x y : ℕ) (f g : Frame) : Type 0 where
   related : S f g
   counted : y ≤ x
 
+-- one step of the second for each step of the first is a simulation
 lockstep_simulates : (first second : Machine) (S : Frame → Frame → Type 0) → Lockstep first second S → Simulates first second (Unit {0}) (Stepping S)
 lockstep_simulates first second S l = record {
   receives = l.receives;
@@ -18,14 +21,17 @@ lockstep_simulates first second S l = record {
   responds = λ z x y f g r. alike_responds (Unit {0}) (Stepping S) S second.code (λ x' y' f' g' le s. (0, record { related = s; counted = le })) z x y g (first.code f) (second.code g) r.counted refl (l.steps f g r.related);
 }
 
+-- machines in lockstep do the same
 pub lockstep_same : (first second : Machine) (S : Frame → Frame → Type 0) → Lockstep first second S → UnitSame first second
 lockstep_same first second S l = simulated_same first second (Unit {0}) (Stepping S) (lockstep_simulates first second S l)
 
+-- and the second evaluates no more operators
 pub lockstep_cheaper : (first second : Machine) (S : Frame → Frame → Type 0) → Lockstep first second S → UnitCheaper first second
 lockstep_cheaper first second S l = simulated_cheaper first second (Unit {0}) (Stepping S) (lockstep_simulates first second S l) tt
 
 -- ---- a machine goes in lockstep with itself
 
+-- a transition compared with itself
 alike_itself : (t : Transition) → Alike (λ f g. f ≡ g) t t
 alike_itself (Continues n f) = (le_refl n, refl)
 alike_itself (Prints v f) = (refl, refl)
@@ -33,6 +39,7 @@ alike_itself (Calls u entry into f) = (refl, refl, λ answer is. refl)
 alike_itself (Returns answer) = refl
 alike_itself (Traps kind n) = refl
 
+-- a machine compared with itself, all frames being equal
 with_itself : (a : Machine) → Lockstep a a (λ f g. f ≡ g)
 with_itself a = record {
   receives = refl;

@@ -1,7 +1,9 @@
--- How a name is spelled: an ASCII letter and then ASCII letters, digits and `_`, at most 64 bytes, no reserved word.
+-- How a name is spelled: an ASCII letter and then ASCII letters, digits and `_`, at most 64 bytes, and no reserved word.
+-- Cited by contracts.
 use Rattle.std.specs.Prelude.{ℕ, Bool, false, ◌&&◌, ◌||◌, not, nat_le, nat_eq, List, [], ◌∷◌, length, codes, IsTrue}
 use Rattle.std.specs.List.{list_all, list_any}
 use Rattle.std.specs.Cmp.Lexicographic.{pointwise}
+use Rattle.mir_base.specs.Limits.{most_name_bytes}
 
 -- an ASCII letter
 abbrev pub is_letter : ℕ → Bool
@@ -15,6 +17,10 @@ is_digit byte = nat_le 48 byte && nat_le byte 57
 abbrev pub is_name_byte : ℕ → Bool
 is_name_byte byte = is_letter byte || is_digit byte || nat_eq byte 95
 
+-- the bytes are this text
+abbrev pub is_text : List ℕ → List ℕ → Bool
+is_text text bytes = pointwise nat_eq text bytes
+
 -- the words that no name is
 abbrev pub reserved_words : List (List ℕ)
 reserved_words =
@@ -22,16 +28,19 @@ reserved_words =
     ∷ codes "max" ∷ codes "shl" ∷ codes "shr" ∷ codes "shra" ∷ codes "and" ∷ codes "or" ∷ codes "xor" ∷ codes "trap" ∷ codes "global" ∷ codes "sequence"
     ∷ []
 
+-- the bytes are a reserved word
 unfoldable pub is_reserved : List ℕ → Bool
-is_reserved bytes = list_any (λ word. pointwise nat_eq word bytes) reserved_words
+is_reserved bytes = list_any (λ word. is_text word bytes) reserved_words
 
 -- the first byte is a letter
 abbrev pub begins_as_name : List ℕ → Bool
 begins_as_name [] = false
 begins_as_name (byte ∷ bytes) = is_letter byte
 
+-- the bytes are spelled as a name
 abbrev pub is_name : List ℕ → Bool
-is_name bytes = begins_as_name bytes && list_all is_name_byte bytes && nat_le (length bytes) 64 && not (is_reserved bytes)
+is_name bytes = begins_as_name bytes && list_all is_name_byte bytes && nat_le (length bytes) most_name_bytes && not (is_reserved bytes)
 
+-- the same, as a fact
 abbrev pub IsName : List ℕ → Type 0
 IsName bytes = IsTrue (is_name bytes)

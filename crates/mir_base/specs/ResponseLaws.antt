@@ -1,4 +1,4 @@
--- What responds to a transition: a step that is like it, and silent steps before a response.
+-- What responds to a transition: a step that is like it, and silent steps before a response. For proofs only.
 use Rattle.std.proofs.Common.{◌≡◌, ℕ, ◌+◌, ◌≤◌, ◌<◌, ◌⊎◌, inl, inr, refl, sym, ap, ◌∙◌, subst, arith}
 use Rattle.mir_base.specs.Frames.{Frame, resumed, Transition, Continues, Prints, Calls, Returns, Traps, Code}
 use Rattle.mir_base.specs.Simulations.{Silently, Relation, Responds}

@@ -1,4 +1,5 @@
--- Runs of a program as a stack of frames, when two programs are the same, and when one counts no more than the other.
+-- Runs of a program as a stack of frames, when two programs are the same, and when one evaluates no more operators than
+-- the other. Cited by contracts.
 use Rattle.std.specs.Prelude.{◌≡◌, ℕ, zero, suc, ◌+◌, ◌≤◌, max, List, [], ◌∷◌, ◌++◌, length, ℤ, Option, All, FitsSigned}
 use Rattle.mir_base.specs.declared.operators.Trap.{Trap}
 use Rattle.mir_base.specs.Shapes.{ProgramShape, body_at, receives_in}
@@ -22,6 +23,7 @@ pub record Caller : Type 0 where
   pub into : Option ℕ
   pub frame : Frame
 
+-- where a run stands
 pub data Control : Type 0 where
   -- the frame of this unit steps next; the callers wait, the latest first
   Running : (unit : ℕ) (frame : Frame) (callers : List Caller) → Control
@@ -35,6 +37,7 @@ pub record State : Type 0 where
   pub counted : ℕ
   pub depth : ℕ
 
+-- a frame of the first unit, whose arguments are the inputs, and nothing printed or counted
 abbrev pub first_state : List ℤ → State
 first_state inputs = record { printed = []; control = Running 0 (first_frame (record { arguments = inputs })) []; counted = 0; depth = 1 }
 
@@ -63,15 +66,18 @@ step_at codes (Running unit frame callers) state = state_after unit callers (cod
 step_at codes (Ended result) state = state
 step_at codes (Stopped kind) state = state
 
+-- one step of a run
 abbrev pub step : (ℕ → Code) → State → State
 step codes state = step_at codes state.control state
 
+-- n steps, one after the other
 abbrev pub steps : (ℕ → Code) → ℕ → State → State
 steps codes zero state = state
 steps codes (suc n) state = steps codes n (step codes state)
 
 -- ---- programs
 
+-- what each unit does, by number
 abbrev pub codes_of : ProgramShape → ℕ → Code
 codes_of program number = body_code (body_at program.units number)
 
@@ -91,7 +97,7 @@ IsOverAs first second (Running unit frame callers) = Unit {0}
 IsOverAs first second (Ended result) = (second.control ≡ Ended result) × (second.printed ≡ first.printed)
 IsOverAs first second (Stopped kind) = (second.control ≡ Stopped kind) × (second.printed ≡ first.printed)
 
--- what the first run printed is a front of what the second did, which is over where the first is
+-- what the first run printed is a prefix of what the second did, which is over where the first is
 pub record IsMatched (first second : State) : Type 0 where
   pub prints : IsPrefix first.printed second.printed
   pub over : IsOverAs first second first.control
@@ -100,7 +106,8 @@ pub record IsMatched (first second : State) : Type 0 where
 pub record Follows (first second : ProgramShape) : Type 0 where
   pub follows : (inputs : List ℤ) → length inputs ≡ inputs_of first → AreNumbers inputs → (n : ℕ) → (m : ℕ) × IsMatched (run first inputs n) (run second inputs m)
 
--- the two take equally many inputs, and on all of them print the same, end the same, trap alike or run on alike
+-- the two take equally many inputs, and on all of them print the same, end the same, raise the same trap or run on
+-- alike
 pub record Same (first second : ProgramShape) : Type 0 where
   pub inputs : inputs_of first ≡ inputs_of second
   pub forth : Follows first second

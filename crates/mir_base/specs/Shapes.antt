@@ -1,5 +1,5 @@
--- Units and programs as contracts see them, and what is true of each.
-use Rattle.std.specs.Prelude.{◌≡◌, ℕ, suc, ◌<◌, ◌≤◌, cond, nat_lt, nat_eq, List, [], ◌∷◌, ◌++◌, length, flat_map, slice_get, Option, Some, None}
+-- Units and programs as contracts see them, and what is true of each. Cited by contracts.
+use Rattle.std.specs.Prelude.{◌≡◌, ℕ, suc, ◌<◌, ◌≤◌, if◌then◌else◌, nat_lt, nat_eq, List, [], ◌∷◌, ◌++◌, length, flat_map, slice_get, Option, Some, None}
 use Rattle.mir_base.specs.declared.instructions.Operand.{Operand}
 use Rattle.mir_base.specs.declared.instructions.Operand.TheVariants.{Var, Const}
 use Rattle.mir_base.specs.declared.instructions.Rhs.{Rhs}
@@ -9,30 +9,36 @@ use Rattle.mir_base.specs.declared.instructions.Test.TheVariants.{Rel, Holds, Fa
 use Rattle.mir_base.specs.declared.instructions.Inst.{Inst}
 use Rattle.mir_base.specs.declared.instructions.Inst.TheVariants.{Receive, Assign, Goto, If, Call, Print, Return}
 
+-- a unit: its name, the names of its variables by number, and its instructions by place
 pub record UnitShape : Type 0 where
   pub name : List ℕ
   pub vars : List (List ℕ)
   pub body : List Inst
 
+-- a program: its units by number, of which a run begins with the first
 pub record ProgramShape : Type 0 where
   pub units : List UnitShape
 
 -- ---- tidy units
 
+-- the variable of an operand, where it is one
 abbrev pub operand_vars : Operand → List ℕ
 operand_vars (Var x) = x ∷ []
 operand_vars (Const c) = []
 
+-- the variables of a right side, in the order of its text
 abbrev pub rhs_vars : Rhs → List ℕ
 rhs_vars (Plain a) = operand_vars a
 rhs_vars (Unary op a) = operand_vars a
 rhs_vars (Binary op a b) = operand_vars a ++ operand_vars b
 
+-- the variables of a test, in the order of its text
 abbrev pub test_vars : Test → List ℕ
 test_vars (Rel op a b) = operand_vars a ++ operand_vars b
 test_vars (Holds a) = operand_vars a
 test_vars (Fails a) = operand_vars a
 
+-- the variable that gets the answer of a call, where there is one
 abbrev pub into_vars : Option ℕ → List ℕ
 into_vars None = []
 into_vars (Some x) = x ∷ []
@@ -55,11 +61,13 @@ AllBelow m (x ∷ xs) = (x < m) × AllBelow m xs
 -- each variable that is new after the first n is number n; how many there are in the end
 abbrev pub numbered_from : ℕ → List ℕ → Option ℕ
 numbered_from n [] = Some n
-numbered_from n (x ∷ xs) = cond (nat_lt x n) (numbered_from n xs) (cond (nat_eq x n) (numbered_from (suc n) xs) None)
+numbered_from n (x ∷ xs) = if nat_lt x n then numbered_from n xs else (if nat_eq x n then numbered_from (suc n) xs else None)
 
+-- no item stands at two places
 abbrev pub AllDiffer : {A : Type 0} → List A → Type 0
 AllDiffer xs = (i j : ℕ) → i < length xs → j < length xs → slice_get xs i ≡ slice_get xs j → i ≡ j
 
+-- the variables are those that occur in the body, numbered in the order in which they first occur, with distinct names
 pub record IsTidy (vars : List (List ℕ)) (body : List Inst) : Type 0 where
   pub numbered : numbered_from 0 (flat_map inst_vars body) ≡ Some (length vars)
   pub differ : AllDiffer vars
@@ -72,6 +80,7 @@ receives_in [] = 0
 receives_in (Receive x ∷ insts) = suc (receives_in insts)
 receives_in (_ ∷ insts) = 0
 
+-- the body of the unit, and none where there is no unit
 abbrev pub body_or_empty : Option UnitShape → List Inst
 body_or_empty None = []
 body_or_empty (Some unit) = unit.body
@@ -80,6 +89,7 @@ body_or_empty (Some unit) = unit.body
 abbrev pub body_at : List UnitShape → ℕ → List Inst
 body_at units number = body_or_empty (slice_get units number)
 
+-- the names of the units
 abbrev pub names_of : List UnitShape → List (List ℕ)
 names_of [] = []
 names_of (unit ∷ units) = unit.name ∷ names_of units
@@ -98,10 +108,12 @@ InstFits units body place (Call into called operands) = (called < length units) 
 InstFits units body place (Print a) = Unit {0}
 InstFits units body place (Return a) = Unit {0}
 
+-- each instruction fits at its place, and the receives name distinct variables
 pub record BodyFits (units : List UnitShape) (body : List Inst) : Type 0 where
   pub insts : (place : ℕ) (inst : Inst) → slice_get body place ≡ Some inst → InstFits units body place inst
   pub received : (i j x : ℕ) → slice_get body i ≡ Some (Receive x) → slice_get body j ≡ Some (Receive x) → i ≡ j
 
+-- there is a unit, the names of the units are distinct, and each body fits
 pub record IsProgram (units : List UnitShape) : Type 0 where
   pub some_unit : 0 < length units
   pub names : AllDiffer (names_of units)

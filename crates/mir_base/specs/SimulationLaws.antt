@@ -1,14 +1,15 @@
--- The laws of the simulation rule: machines that simulate do the same, and the second counts no more where P holds.
+-- The laws of the simulation rule: machines that simulate do the same, and the second evaluates no more operators where
+-- P holds. For proofs only.
 use Rattle.std.proofs.Common.{◌≡◌, ℕ, zero, suc, ◌+◌, ◌-◌, ◌<◌, ◌≤◌, List, [], ◌∷◌, ◌++◌, inl, inr, refl, sym, ap, ◌∙◌, subst, arith, le_refl, not-suc-le-zero}
 use Rattle.std.proofs.lemmas.Bool.{cases_lt}
 use Rattle.std.proofs.lemmas.List.Elements.{All-head, All-tail}
 use Rattle.mir_base.specs.Frames.{Answer, Frame, resumed, Transition, Continues, Prints, Calls, Returns, Traps, Code}
 use Rattle.mir_base.specs.Runs.{IsPrefix}
-use Rattle.mir_base.specs.UnitRuns.{Event, Printed, Called, Returned, Trapped, Shown, after_transition, frame_run, EndsInReturn, Machine, IsAnswer, AreAnswers, UnitSame, UnitCheaper}
+use Rattle.mir_base.specs.UnitRuns.{Event, Printed, Called, Returned, Trapped, Shown, after_transition, frame_run, EndsInReturn, Machine, IsCallAnswer, AreAnswers, UnitSame, UnitCheaper}
 use Rattle.mir_base.specs.Simulations.{Silently, Relation, Responds, Simulates}
 use Rattle.mir_base.specs.SilentLaws.{nil_prefix, cons_prefix, past_events, past_counted, quiet, shown_from, counted_from}
 
--- these events are a front of what a run from this frame shows
+-- these events are a prefix of what a run from this frame shows
 abbrev ComeIn : List Event → Code → Frame → List Answer → Type 0
 ComeIn events code frame answers = (m : ℕ) × IsPrefix events (frame_run code m frame answers).events
 
@@ -39,8 +40,8 @@ module _ (c d : Code) (P : Type 0) (R : Relation) (responds : (z x y : ℕ) (f g
       let shown = shown_from d a.steps g a.there a.cost a.silent (Calls u entry a.second_into a.second_next) a.is 0 [] in
       (a.steps + suc 0, subst (IsPrefix (Called u entry ∷ [])) (sym shown) ([], refl))
   forth_after n ih z x y g (Calls u entry into next) a (answer ∷ answers) are =
-      let r' = a.related answer (All-head IsAnswer answer answers are) in
-      let r = ih r'.0 x (y + a.cost) (resumed into answer next) (resumed a.second_into answer a.second_next) r'.1 answers (All-tail IsAnswer answer answers are) in
+      let r' = a.related answer (All-head IsCallAnswer answer answers are) in
+      let r = ih r'.0 x (y + a.cost) (resumed into answer next) (resumed a.second_into answer a.second_next) r'.1 answers (All-tail IsCallAnswer answer answers are) in
       let shown = shown_from d a.steps g a.there a.cost a.silent (Calls u entry a.second_into a.second_next) a.is r.0 (answer ∷ answers) in
       (a.steps + suc r.0, subst (IsPrefix (Called u entry ∷ (frame_run c n (resumed into answer next) answers).events)) (sym shown) (cons_prefix (Called u entry) _ _ r.1))
   forth_after n ih z x y g (Returns answer) a answers are =
@@ -81,6 +82,7 @@ module _ (c d : Code) (P : Type 0) (R : Relation) (responds : (z x y : ℕ) (f g
       let q : (frame_run c 1 f answers).events ≡ e ∷ [] = ap (λ u. (after_transition (frame_run c 0) u answers).events) is ∙ shows (frame_run c 0) in
       (1, ([], q ∙ ap (λ l. l ++ []) (sym e1)))
 
+  -- where M is within them: nothing is shown
   still : (M : ℕ) (f g h : Frame) (m k : ℕ) (answers : List Answer) → Silently d k g h m → M ≤ k → ComeIn (frame_run d M g answers).events c f answers
   still M f g h m k answers s le = (0, ([], ap (λ l. l ++ []) (sym (quiet d k g h m s M answers le))))
 
@@ -118,9 +120,9 @@ module _ (c d : Code) (P : Type 0) (R : Relation) (responds : (z x y : ℕ) (f g
         | inr over ↦ still M f g a.there a.cost a.steps [] a.silent over
       ]
   back_after M b ih lower z x y f g lt (Calls u entry into next) is a (answer ∷ answers) are =
-      let r = a.related answer (All-head IsAnswer answer answers are) in
+      let r = a.related answer (All-head IsCallAnswer answer answers are) in
       elim (cases_lt a.steps M) [
-        | inl within ↦ back_shown M g a.there a.cost a.steps (answer ∷ answers) answers (Calls u entry into next) (Calls u entry a.second_into a.second_next) (Called u entry) f (resumed into answer next) (resumed a.second_into answer a.second_next) is a.is a.silent within (λ go. refl) (λ go. refl) (ih (M - suc a.steps) (omega arith) r.0 x (y + a.cost) (resumed into answer next) (resumed a.second_into answer a.second_next) r.1 answers (All-tail IsAnswer answer answers are))
+        | inl within ↦ back_shown M g a.there a.cost a.steps (answer ∷ answers) answers (Calls u entry into next) (Calls u entry a.second_into a.second_next) (Called u entry) f (resumed into answer next) (resumed a.second_into answer a.second_next) is a.is a.silent within (λ go. refl) (λ go. refl) (ih (M - suc a.steps) (omega arith) r.0 x (y + a.cost) (resumed into answer next) (resumed a.second_into answer a.second_next) r.1 answers (All-tail IsCallAnswer answer answers are))
         | inr over ↦ still M f g a.there a.cost a.steps (answer ∷ answers) a.silent over
       ]
   back_after M b ih lower z x y f g lt (Returns answer) is a answers are =
@@ -167,7 +169,7 @@ module _ (c d : Code) (P : Type 0) (R : Relation) (responds : (z x y : ℕ) (f g
         | inr over ↦ absurd (subst EndsInReturn (quiet d k g h m s M answers over) ends)
       ]
 
-  -- where n steps of the first from related frames end in a return, the second counts no more in all
+  -- where n steps of the first from related frames end in a return, the second evaluates no more operators in all
   abbrev CountsNoMore : ℕ → Type 0
   CountsNoMore n = (z x y : ℕ) (f g : Frame) → R z x y f g → (answers : List Answer) → AreAnswers answers → (M : ℕ) → EndsInReturn (frame_run c n f answers).events → EndsInReturn (frame_run d M g answers).events → y + (frame_run d M g answers).counted ≤ x + (frame_run c n f answers).counted
 
@@ -179,9 +181,9 @@ module _ (c d : Code) (P : Type 0) (R : Relation) (responds : (z x y : ℕ) (f g
       omega (arith, q.2, ih a.measure x (y + a.cost) next a.second_next a.related answers are q.0 ends q.1)
   cheaper_after p n ih z x y g (Calls u entry into next) a [] are M ends ends' = absurd ends
   cheaper_after p n ih z x y g (Calls u entry into next) a (answer ∷ answers) are M ends ends' =
-      let r = a.related answer (All-head IsAnswer answer answers are) in
+      let r = a.related answer (All-head IsCallAnswer answer answers are) in
       let q = at_event g a.there a.cost a.steps M (answer ∷ answers) (Calls u entry a.second_into a.second_next) a.is a.silent ends' in
-      omega (arith, q.2, ih r.0 x (y + a.cost) (resumed into answer next) (resumed a.second_into answer a.second_next) r.1 answers (All-tail IsAnswer answer answers are) q.0 ends q.1)
+      omega (arith, q.2, ih r.0 x (y + a.cost) (resumed into answer next) (resumed a.second_into answer a.second_next) r.1 answers (All-tail IsCallAnswer answer answers are) q.0 ends q.1)
   cheaper_after p n ih z x y g (Returns answer) a answers are M ends ends' =
       let q = at_event g a.there a.cost a.steps M answers (Returns answer) a.is a.silent ends' in
       omega (arith, q.2, a.cheaper p)
@@ -193,6 +195,7 @@ module _ (c d : Code) (P : Type 0) (R : Relation) (responds : (z x y : ℕ) (f g
 
 -- ---- the laws
 
+-- the two do the same
 pub simulated_same : (first second : Machine) (P : Type 0) (R : Relation) → Simulates first second P R → UnitSame first second
 simulated_same first second P R s = record {
   receives = s.receives;
@@ -208,6 +211,7 @@ simulated_same first second P R s = record {
   };
 }
 
+-- and the second evaluates no more operators where P holds
 pub simulated_cheaper : (first second : Machine) (P : Type 0) (R : Relation) → Simulates first second P R → P → UnitCheaper first second
 simulated_cheaper first second P R s p =
     record {

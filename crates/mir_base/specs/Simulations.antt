@@ -1,9 +1,10 @@
 -- The rule by which a rewriting is shown to keep what a unit or a graph does: one relation between the frames of the
--- two sides, which holds at the start, and which the second side keeps up at each transition of the first.
+-- two sides, which holds at the start, and which the second side keeps up at each transition of the first. Cited by
+-- contracts.
 use Rattle.std.specs.Prelude.{◌≡◌, ℕ, zero, suc, ◌+◌, ◌≤◌, ◌<◌, ◌⊎◌, ℤ, Option}
 use Rattle.mir_base.specs.declared.operators.Trap.{Trap}
-use Rattle.mir_base.specs.Frames.{Entry, Answer, Frame, first_frame, resumed, Transition, Continues, Prints, Calls, Returns, Traps, Code}
-use Rattle.mir_base.specs.UnitRuns.{Machine, IsEntry, IsAnswer}
+use Rattle.mir_base.specs.Frames.{CallEntry, Answer, Frame, first_frame, resumed, Transition, Continues, Prints, Calls, Returns, Traps, Code}
+use Rattle.mir_base.specs.UnitRuns.{Machine, IsEntry, IsCallAnswer}
 
 -- so many steps lead from the one frame to the other, show nothing, and count so many evaluations
 abbrev pub Silently : Code → ℕ → Frame → Frame → ℕ → Type 0
@@ -16,7 +17,7 @@ abbrev pub Relation : Type 1
 Relation = ℕ → ℕ → ℕ → Frame → Frame → Type 0
 
 -- Where the first side goes on with no event, the second takes some silent steps to a related frame. It takes at least
--- one, or the measure falls, so that it cannot stand still for ever
+-- one, or the measure falls, so that it cannot take none for ever
 pub record AfterContinuing (R : Relation) (second : Code) (z x y : ℕ) (g : Frame) (n : ℕ) (next : Frame) : Type 0 where
   pub steps : ℕ
   pub cost : ℕ
@@ -39,7 +40,7 @@ pub record AfterPrinting (R : Relation) (second : Code) (x y : ℕ) (g : Frame) 
 
 -- Where the first side calls, the second makes the same call after some silent steps, and the two are related again
 -- with each answer, at a measure that may depend on it
-pub record AfterCalling (R : Relation) (second : Code) (x y : ℕ) (g : Frame) (unit : ℕ) (entry : Entry) (into : Option ℕ) (next : Frame) : Type 0 where
+pub record AfterCalling (R : Relation) (second : Code) (x y : ℕ) (g : Frame) (unit : ℕ) (entry : CallEntry) (into : Option ℕ) (next : Frame) : Type 0 where
   pub steps : ℕ
   pub cost : ℕ
   pub there : Frame
@@ -47,7 +48,7 @@ pub record AfterCalling (R : Relation) (second : Code) (x y : ℕ) (g : Frame) (
   pub second_into : Option ℕ
   pub second_next : Frame
   pub is : second there ≡ Calls unit entry second_into second_next
-  pub related : (answer : Answer) → IsAnswer answer → (measure : ℕ) × R measure x (y + cost) (resumed into answer next) (resumed second_into answer second_next)
+  pub related : (answer : Answer) → IsCallAnswer answer → (measure : ℕ) × R measure x (y + cost) (resumed into answer next) (resumed second_into answer second_next)
 
 -- Where the first side returns, the second returns the same after some silent steps, and under P it has counted no more
 pub record AfterReturning (P : Type 0) (second : Code) (x y : ℕ) (g : Frame) (answer : Answer) : Type 0 where
@@ -58,7 +59,7 @@ pub record AfterReturning (P : Type 0) (second : Code) (x y : ℕ) (g : Frame) (
   pub is : second there ≡ Returns answer
   pub cheaper : P → y + cost ≤ x
 
--- Where the first side traps, the second traps alike after some silent steps
+-- Where the first side traps, the second raises the same trap after some silent steps
 pub record AfterTrapping (second : Code) (g : Frame) (kind : Trap) : Type 0 where
   pub steps : ℕ
   pub cost : ℕ
@@ -77,9 +78,9 @@ Responds P R second z x y g (Returns answer) = AfterReturning P second x y g ans
 Responds P R second z x y g (Traps kind n) = AfterTrapping second g kind
 
 -- The rule: R holds at the start, with nothing counted, and the second machine responds to each transition of the
--- first. It shows that the two do the same (`simulated_same`), for any P, and that the second counts no more where P
--- holds (`simulated_cheaper`). A rewriting that is always cheaper takes `Unit {0}` for P
+-- first. It shows that the two do the same (`simulated_same`), for any P, and that the second evaluates no more
+-- operators where P holds (`simulated_cheaper`). A rewriting that is always cheaper takes `Unit {0}` for P
 pub record Simulates (first second : Machine) (P : Type 0) (R : Relation) : Type 0 where
   pub receives : first.receives ≡ second.receives
-  pub starts : (entry : Entry) → IsEntry first entry → (measure : ℕ) × R measure 0 0 (first_frame entry) (first_frame entry)
+  pub starts : (entry : CallEntry) → IsEntry first entry → (measure : ℕ) × R measure 0 0 (first_frame entry) (first_frame entry)
   pub responds : (z x y : ℕ) (f g : Frame) → R z x y f g → Responds P R second.code z x y g (first.code f)

@@ -1,13 +1,9 @@
--- The canonical text of a program: for each unit `NAME: begin`, a line for each instruction, and `end`.
+-- The canonical text of a program: for each unit `NAME: begin`, a line for each instruction, and `end`. Cited by
+-- contracts.
 use Rattle.std.specs.Prelude.{ℕ, zero, suc, ◌+◌, Bool, false, if◌then◌else◌, List, [], ◌∷◌, ◌++◌, map, codes, decimal, length, nat_eq, slice_index_or, Option, Some, None}
 use Rattle.std.specs.List.{flat_map, list_any, join_with_byte}
 use Rattle.std.specs.Fmt.{signed_decimal}
-use Rattle.mir_base.specs.declared.operators.Op.{Op}
-use Rattle.mir_base.specs.declared.operators.Op.TheVariants.{Add, Sub, Mul, Div, Mod, Min, Max, Eq, Ne, Lt, Le, Gt, Ge, Shl, Shr, Shra, And, Or, Xor}
-use Rattle.mir_base.specs.declared.operators.UnOp.{UnOp}
-use Rattle.mir_base.specs.declared.operators.UnOp.TheVariants.{Neg, Not}
-use Rattle.mir_base.specs.declared.operators.RelOp.{RelOp}
-use Rattle.mir_base.specs.declared.operators.RelOp.TheVariants.{Eq as Equal, Ne as Differ, Lt as Below, Le as AtMost, Gt as Above, Ge as AtLeast}
+pub use Rattle.mir_base.specs.Operators.{op_text, un_op_text, rel_op_text}
 use Rattle.mir_base.specs.declared.instructions.Operand.{Operand}
 use Rattle.mir_base.specs.declared.instructions.Operand.TheVariants.{Var, Const}
 use Rattle.mir_base.specs.declared.instructions.Rhs.{Rhs}
@@ -18,43 +14,9 @@ use Rattle.mir_base.specs.declared.instructions.Inst.{Inst}
 use Rattle.mir_base.specs.declared.instructions.Inst.TheVariants.{Receive, Assign, Goto, If, Call, Print, Return}
 use Rattle.mir_base.specs.Shapes.{UnitShape, ProgramShape}
 
--- ---- operators
-
-abbrev pub op_text : Op → List ℕ
-op_text Add = codes "+"
-op_text Sub = codes "-"
-op_text Mul = codes "*"
-op_text Div = codes "/"
-op_text Mod = codes "mod"
-op_text Min = codes "min"
-op_text Max = codes "max"
-op_text Eq = codes "="
-op_text Ne = codes "!="
-op_text Lt = codes "<"
-op_text Le = codes "<="
-op_text Gt = codes ">"
-op_text Ge = codes ">="
-op_text Shl = codes "shl"
-op_text Shr = codes "shr"
-op_text Shra = codes "shra"
-op_text And = codes "and"
-op_text Or = codes "or"
-op_text Xor = codes "xor"
-
-abbrev pub un_op_text : UnOp → List ℕ
-un_op_text Neg = codes "-"
-un_op_text Not = codes "!"
-
-abbrev pub rel_op_text : RelOp → List ℕ
-rel_op_text Equal = codes "="
-rel_op_text Differ = codes "!="
-rel_op_text Below = codes "<"
-rel_op_text AtMost = codes "<="
-rel_op_text Above = codes ">"
-rel_op_text AtLeast = codes ">="
-
 -- ---- labels
 
+-- the instruction jumps to this place
 abbrev pub jumps_to : ℕ → Inst → Bool
 jumps_to place (Receive x) = false
 jumps_to place (Assign x rhs) = false
@@ -89,34 +51,41 @@ pub record Naming : Type 0 where
   pub vars : List (List ℕ)
   pub body : List Inst
 
+-- the name of a variable
 abbrev pub var_text : Naming → ℕ → List ℕ
 var_text naming x = slice_index_or naming.vars x []
 
+-- the name of a unit
 abbrev pub called_text : Naming → ℕ → List ℕ
 called_text naming unit = slice_index_or naming.units unit []
 
+-- `x`, or a number in decimal
 abbrev pub operand_text : Naming → Operand → List ℕ
 operand_text naming (Var x) = var_text naming x
 operand_text naming (Const z) = signed_decimal z
 
+-- `a`, `- a` or `a + b`
 abbrev pub rhs_text : Naming → Rhs → List ℕ
 rhs_text naming (Plain a) = operand_text naming a
 rhs_text naming (Unary op a) = un_op_text op ++ codes " " ++ operand_text naming a
 rhs_text naming (Binary op a b) = operand_text naming a ++ codes " " ++ op_text op ++ codes " " ++ operand_text naming b
 
+-- `a < b`, `a` or `! a`
 abbrev pub test_text : Naming → Test → List ℕ
 test_text naming (Rel op a b) = operand_text naming a ++ codes " " ++ rel_op_text op ++ codes " " ++ operand_text naming b
 test_text naming (Holds a) = operand_text naming a
 test_text naming (Fails a) = codes "! " ++ operand_text naming a
 
--- `(a,int;b,int)`
+-- `(a,int;b,int)`; 59 is the semicolon
 abbrev pub args_text : Naming → List Operand → List ℕ
 args_text naming operands = codes "(" ++ join_with_byte 59 (map (λ a. operand_text naming a ++ codes ",int") operands) ++ codes ")"
 
+-- `call f,(a,int)` or `x <- f,(a,int)`
 abbrev pub call_text : Naming → Option ℕ → ℕ → List Operand → List ℕ
 call_text naming None unit operands = codes "call " ++ called_text naming unit ++ codes "," ++ args_text naming operands
 call_text naming (Some x) unit operands = var_text naming x ++ codes " <- " ++ called_text naming unit ++ codes "," ++ args_text naming operands
 
+-- the line of an instruction, without its label
 abbrev pub inst_text : Naming → Inst → List ℕ
 inst_text naming (Receive x) = codes "receive " ++ var_text naming x ++ codes "(val)"
 inst_text naming (Assign x rhs) = var_text naming x ++ codes " <- " ++ rhs_text naming rhs
@@ -139,5 +108,6 @@ unit_text units unit =
     let naming : Naming = record { units = units; vars = unit.vars; body = unit.body } in
     unit.name ++ codes ": begin\n" ++ lines_text naming 0 unit.body ++ label_before unit.body (length unit.body) ++ codes "end\n"
 
+-- the units, one after the other
 abbrev pub canonical_text : ProgramShape → List ℕ
 canonical_text program = flat_map (unit_text (map (λ unit. unit.name) program.units)) program.units

@@ -1,23 +1,28 @@
--- Sameness of units is an equivalence, and units that are the same and cheaper can be chained.
+-- Sameness of units is an equivalence, and units that are the same and cheaper can be chained. For proofs only.
 use Rattle.std.proofs.Common.{◌≡◌, ℕ, zero, suc, List, [], ◌∷◌, ◌++◌, refl, sym, ap, ◌∙◌, subst, arith, append-nil, append_assoc}
-use Rattle.mir_base.specs.Frames.{Entry, Answer, Frame, first_frame, resumed, Transition, Continues, Prints, Calls, Returns, Traps, Code}
+use Rattle.mir_base.specs.Frames.{CallEntry, Answer, Frame, first_frame, resumed, Transition, Continues, Prints, Calls, Returns, Traps, Code}
 use Rattle.mir_base.specs.UnitRuns.{Event, Printed, Called, Shown, after_transition, frame_run, EndsInReturn, Machine, unit_run, IsEntry, AreAnswers, UnitFollows, UnitSame, UnitCheaper}
 use Rattle.mir_base.specs.SilentLaws.{prefix_trans}
 
 -- ---- UnitSame
 
+-- each run is matched by itself
 follows_refl : (a : Machine) → UnitFollows a a
 follows_refl a = record { follows = λ entry answers is are n. (n, ([], sym (append-nil (unit_run a entry answers n).events))) }
 
+-- each machine does the same as itself
 pub same_refl : (a : Machine) → UnitSame a a
 same_refl a = record { receives = refl; forth = follows_refl a; back = follows_refl a }
 
+-- the other way round
 pub same_sym : (a b : Machine) → UnitSame a b → UnitSame b a
 same_sym a b s = record { receives = sym s.receives; forth = s.back; back = s.forth }
 
-entered : (a b : Machine) → a.receives ≡ b.receives → (entry : Entry) → IsEntry a entry → IsEntry b entry
+-- who receives as many arguments is entered with the same ones
+entered : (a b : Machine) → a.receives ≡ b.receives → (entry : CallEntry) → IsEntry a entry → IsEntry b entry
 entered a b same entry is = record { long = is.long ∙ same; numbers = is.numbers }
 
+-- two comparisons, one after the other
 follows_trans : (a b c : Machine) → a.receives ≡ b.receives → UnitFollows a b → UnitFollows b c → UnitFollows a c
 follows_trans a b c same s t =
     record {
@@ -27,6 +32,7 @@ follows_trans a b c same s t =
           (q.0, prefix_trans (unit_run a entry answers n).events (unit_run b entry answers p.0).events (unit_run c entry answers q.0).events p.1 q.1);
     }
 
+-- through a third machine
 pub same_trans : (a b c : Machine) → UnitSame a b → UnitSame b c → UnitSame a c
 same_trans a b c s t = record {
   receives = s.receives ∙ t.receives;
@@ -36,6 +42,7 @@ same_trans a b c s t = record {
 
 -- ---- after a return nothing is shown
 
+-- if a joined list is empty, so is its second half
 nothing_after : (xs rest : List Event) → [] ≡ xs ++ rest → rest ≡ []
 nothing_after [] rest e = sym e
 nothing_after (x ∷ xs) rest e = cc
@@ -61,18 +68,20 @@ module _ (go : Frame → List Answer → Shown) (ih : (f : Frame) (answers : Lis
       let tail : [] ≡ xs ++ rest = cc in
       nothing_after xs rest tail
 
+-- a run that returned shows nothing more: by its transitions, one after the other
 return_last : (code : Code) (n : ℕ) (f : Frame) (answers : List Answer) (xs rest : List Event) → (frame_run code n f answers).events ≡ xs ++ rest → EndsInReturn xs → rest ≡ []
 return_last code n f answers [] rest e ends = absurd ends
 return_last code zero f answers (x ∷ xs) rest e ends = cc
 return_last code (suc n) f answers (x ∷ xs) rest e ends = last_after (frame_run code n) (return_last code n) (code f) answers x xs rest e ends
 
+-- if a joined list is empty, so is its first half
 front_none : (xs ys : List Event) → xs ++ ys ≡ [] → xs ≡ []
 front_none [] ys e = refl
 front_none (x ∷ xs) ys e = cc
 
 -- of two machines that do the same, the second returns where the first does: what it shows more, the first would show
 -- after its return
-ends_too : (a b : Machine) → UnitSame a b → (entry : Entry) (answers : List Answer) → IsEntry a entry → AreAnswers answers → (n : ℕ) → EndsInReturn (unit_run a entry answers n).events → (m : ℕ) × EndsInReturn (unit_run b entry answers m).events
+ends_too : (a b : Machine) → UnitSame a b → (entry : CallEntry) (answers : List Answer) → IsEntry a entry → AreAnswers answers → (n : ℕ) → EndsInReturn (unit_run a entry answers n).events → (m : ℕ) × EndsInReturn (unit_run b entry answers m).events
 ends_too a b same entry answers is are n ends =
     let shown : List Event = (unit_run a entry answers n).events in
     let p = same.forth.follows entry answers is are n in

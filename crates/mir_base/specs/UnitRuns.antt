@@ -1,9 +1,10 @@
--- Runs of one frame of a unit or of a graph, when two of them do the same, and when one counts no more than the other.
+-- Runs of one frame of a unit or of a graph, when two of them do the same, and when one evaluates no more operators
+-- than the other. Cited by contracts.
 use Rattle.std.specs.Prelude.{◌≡◌, ℕ, zero, suc, ◌+◌, ◌≤◌, List, [], ◌∷◌, length, ℤ, All, FitsSigned}
 use Rattle.mir_base.specs.declared.operators.Trap.{Trap}
 use Rattle.mir_base.specs.declared.instructions.Inst.{Inst}
 use Rattle.mir_base.specs.Shapes.{UnitShape, ProgramShape, body_at, receives_in}
-use Rattle.mir_base.specs.Frames.{Entry, Answer, Frame, first_frame, resumed, Transition, Continues, Prints, Calls, Returns, Traps, Code}
+use Rattle.mir_base.specs.Frames.{CallEntry, Answer, Frame, first_frame, resumed, Transition, Continues, Prints, Calls, Returns, Traps, Code}
 use Rattle.mir_base.specs.Units.{body_code}
 use Rattle.mir_base.specs.Runs.{AreNumbers, IsPrefix}
 use mir.Syntax.{w64}
@@ -13,7 +14,7 @@ use mir.Syntax.{w64}
 -- what others see of a frame
 pub data Event : Type 0 where
   Printed : (value : ℤ) → Event
-  Called : (unit : ℕ) (entry : Entry) → Event
+  Called : (unit : ℕ) (entry : CallEntry) → Event
   Returned : (answer : Answer) → Event
   Trapped : (kind : Trap) → Event
 
@@ -22,17 +23,20 @@ pub record Shown : Type 0 where
   pub events : List Event
   pub counted : ℕ
 
+-- no event, and no evaluation
 abbrev pub nothing : Shown
 nothing = record { events = []; counted = 0 }
 
+-- so many evaluations before what is shown
 abbrev pub counting : ℕ → Shown → Shown
 counting n shown = record shown { counted = n + shown.counted }
 
+-- an event before what is shown
 abbrev pub showing : Event → Shown → Shown
 showing event shown = record shown { events = event ∷ shown.events }
 
--- what a transition shows, and what is shown after it. A call takes the next answer; where there is none, the run
--- stands still after the call's event, as it does after a return and after a trap
+-- what a transition shows, and what is shown after it. A call takes the next answer; where there is none, nothing is
+-- shown after the call's event, as after a return and after a trap
 abbrev pub after_transition : (Frame → List Answer → Shown) → Transition → List Answer → Shown
 after_transition go (Continues counted next) answers = counting counted (go next answers)
 after_transition go (Prints value next) answers = showing (Printed value) (go next answers)
@@ -62,9 +66,11 @@ pub record Machine : Type 0 where
   pub receives : ℕ
   pub code : Code
 
+-- the machine of a body
 abbrev pub body_machine : List Inst → Machine
 body_machine body = record { receives = receives_in body; code = body_code body }
 
+-- the machine of a unit's body
 abbrev pub unit_machine : UnitShape → Machine
 unit_machine unit = body_machine unit.body
 
@@ -73,27 +79,28 @@ abbrev pub machine_at : ProgramShape → ℕ → Machine
 machine_at program number = body_machine (body_at program.units number)
 
 -- n steps from the machine's first frame
-abbrev pub unit_run : Machine → Entry → List Answer → ℕ → Shown
+abbrev pub unit_run : Machine → CallEntry → List Answer → ℕ → Shown
 unit_run machine entry answers n = frame_run machine.code n (first_frame entry) answers
 
 -- a call of this machine may hand this over: signed 64-bit numbers, as many as it receives
-pub record IsEntry (machine : Machine) (entry : Entry) : Type 0 where
+pub record IsEntry (machine : Machine) (entry : CallEntry) : Type 0 where
   pub long : length entry.arguments ≡ machine.receives
   pub numbers : AreNumbers entry.arguments
 
 -- a call may be answered so: by a signed 64-bit number
-abbrev pub IsAnswer : Answer → Type 0
-IsAnswer answer = FitsSigned w64 answer.value
+abbrev pub IsCallAnswer : Answer → Type 0
+IsCallAnswer answer = FitsSigned w64 answer.value
 
+-- each of these may answer a call
 abbrev pub AreAnswers : List Answer → Type 0
-AreAnswers answers = All IsAnswer answers
+AreAnswers answers = All IsCallAnswer answers
 
 -- ---- sameness
 
--- for all arguments and answers, the events of the first after any number of steps are a front of the events of the
+-- for all arguments and answers, the events of the first after any number of steps are a prefix of the events of the
 -- second after some number of steps
 pub record UnitFollows (first second : Machine) : Type 0 where
-  pub follows : (entry : Entry) (answers : List Answer) → IsEntry first entry → AreAnswers answers → (n : ℕ) → (m : ℕ) × IsPrefix (unit_run first entry answers n).events (unit_run second entry answers m).events
+  pub follows : (entry : CallEntry) (answers : List Answer) → IsEntry first entry → AreAnswers answers → (n : ℕ) → (m : ℕ) × IsPrefix (unit_run first entry answers n).events (unit_run second entry answers m).events
 
 -- the two take equally many arguments, and on all of them, with all answers to their calls, show the same events
 pub record UnitSame (first second : Machine) : Type 0 where
@@ -103,4 +110,4 @@ pub record UnitSame (first second : Machine) : Type 0 where
 
 -- where both return, the second has counted at most as many evaluations as the first
 pub record UnitCheaper (first second : Machine) : Type 0 where
-  pub cheaper : (entry : Entry) (answers : List Answer) → IsEntry first entry → AreAnswers answers → (n m : ℕ) → EndsInReturn (unit_run first entry answers n).events → EndsInReturn (unit_run second entry answers m).events → (unit_run second entry answers m).counted ≤ (unit_run first entry answers n).counted
+  pub cheaper : (entry : CallEntry) (answers : List Answer) → IsEntry first entry → AreAnswers answers → (n m : ℕ) → EndsInReturn (unit_run first entry answers n).events → EndsInReturn (unit_run second entry answers m).events → (unit_run second entry answers m).counted ≤ (unit_run first entry answers n).counted

@@ -1,18 +1,17 @@
 -- What one step of a unit does: the instruction at the place of the frame, or the return of 0 at the place of `end`.
-use Rattle.std.specs.Prelude.{ℕ, ◌+◌, Bool, not, cond, List, map, slice_get, ℤ, pos, int_lt, int_le, Option, Some, None, slice_index_or}
+-- Cited by contracts.
+use Rattle.std.specs.Prelude.{ℕ, ◌+◌, Bool, not, List, map, slice_get, ℤ, pos, Option, Some, None, slice_index_or, if◌then◌else◌}
 use Rattle.std.specs.Ordering.{int_eq}
 use Rattle.mir_base.specs.declared.instructions.Operand.{Operand}
 use Rattle.mir_base.specs.declared.instructions.Operand.TheVariants.{Var, Const}
 use Rattle.mir_base.specs.declared.instructions.Rhs.{Rhs}
 use Rattle.mir_base.specs.declared.instructions.Rhs.TheVariants.{Plain, Unary, Binary}
-use Rattle.mir_base.specs.declared.operators.RelOp.{RelOp}
-use Rattle.mir_base.specs.declared.operators.RelOp.TheVariants.{Eq, Ne, Lt, Le, Gt, Ge}
 use Rattle.mir_base.specs.declared.instructions.Test.{Test}
 use Rattle.mir_base.specs.declared.instructions.Test.TheVariants.{Rel, Holds, Fails}
 use Rattle.mir_base.specs.declared.operators.Trap.TheVariants.{ZeroDivisor}
 use Rattle.mir_base.specs.declared.instructions.Inst.{Inst}
 use Rattle.mir_base.specs.declared.instructions.Inst.TheVariants.{Receive, Assign, Goto, If, Call, Print, Return}
-use Rattle.mir_base.specs.Numbers.{wrapped, traps, value_of_op, value_of_un_op}
+use Rattle.mir_base.specs.Numbers.{wrapped, relation_holds, traps, value_of_op, value_of_un_op}
 use Rattle.mir_base.specs.Frames.{Values, with_value, Frame, Transition, Continues, Prints, Calls, Returns, Traps, Code}
 
 -- the value of an operand; a constant is read as a signed 64-bit number, which it is in every program
@@ -20,23 +19,17 @@ abbrev pub operand_value : Values → Operand → ℤ
 operand_value values (Var x) = values x
 operand_value values (Const c) = wrapped c
 
-abbrev pub relation_holds : RelOp → ℤ → ℤ → Bool
-relation_holds Eq a b = int_eq a b
-relation_holds Ne a b = not (int_eq a b)
-relation_holds Lt a b = int_lt a b
-relation_holds Le a b = int_le a b
-relation_holds Gt a b = int_lt b a
-relation_holds Ge a b = int_le b a
-
+-- the test of a conditional jump
 abbrev pub test_holds : Values → Test → Bool
 test_holds values (Rel op a b) = relation_holds op (operand_value values a) (operand_value values b)
 test_holds values (Holds a) = not (int_eq (operand_value values a) (pos 0))
 test_holds values (Fails a) = int_eq (operand_value values a) (pos 0)
 
--- the frame at another place, and with another value of a variable
+-- the frame at another place
 abbrev pub at : ℕ → Frame → Frame
 at place frame = record frame { place = place }
 
+-- and besides with another value of a variable
 abbrev pub assigned : ℕ → ℤ → ℕ → Frame → Frame
 assigned x v place frame = record frame { place = place; values = with_value x v frame.values }
 
@@ -45,9 +38,8 @@ abbrev pub assign_transition : ℕ → Rhs → ℕ → Frame → Transition
 assign_transition x (Plain a) place frame = Continues 0 (assigned x (operand_value frame.values a) place frame)
 assign_transition x (Unary op a) place frame = Continues 1 (assigned x (value_of_un_op op (operand_value frame.values a)) place frame)
 assign_transition x (Binary op a b) place frame =
-    cond (traps op (operand_value frame.values b))
-    (Traps ZeroDivisor 1)
-    (Continues 1 (assigned x (value_of_op op (operand_value frame.values a) (operand_value frame.values b)) place frame))
+    if traps op (operand_value frame.values b) then Traps ZeroDivisor 1
+    else Continues 1 (assigned x (value_of_op op (operand_value frame.values a) (operand_value frame.values b)) place frame)
 
 -- one instruction, or the end where there is none. Receives stand first, so receive number i is at place i
 abbrev pub inst_transition : Option Inst → Frame → Transition
@@ -55,10 +47,11 @@ inst_transition None frame = Returns (record { value = pos 0 })
 inst_transition (Some (Receive x)) frame = Continues 0 (assigned x (slice_index_or frame.arguments frame.place (pos 0)) (frame.place + 1) frame)
 inst_transition (Some (Assign x rhs)) frame = assign_transition x rhs (frame.place + 1) frame
 inst_transition (Some (Goto place)) frame = Continues 0 (at place frame)
-inst_transition (Some (If test place)) frame = Continues 0 (at (cond (test_holds frame.values test) place (frame.place + 1)) frame)
+inst_transition (Some (If test place)) frame = Continues 0 (at (if test_holds frame.values test then place else frame.place + 1) frame)
 inst_transition (Some (Call into unit operands)) frame = Calls unit (record { arguments = map (operand_value frame.values) operands }) into (at (frame.place + 1) frame)
 inst_transition (Some (Print a)) frame = Prints (operand_value frame.values a) (at (frame.place + 1) frame)
 inst_transition (Some (Return a)) frame = Returns (record { value = operand_value frame.values a })
 
+-- what a body does at a frame
 abbrev pub body_code : List Inst → Code
 body_code body frame = inst_transition (slice_get body frame.place) frame

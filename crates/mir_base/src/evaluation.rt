@@ -2,12 +2,12 @@
 ghost use Rattle.std.specs.Prelude.{◌≡◌, ◌<◌, ◌↔◌, IfSome, IsSome, IsTrue, false};
 ghost use Rattle.mir_base.specs.Expressions.{divides, expr_of, is_movable, may_be_zero, rhs_traps};
 ghost use Rattle.mir_base.specs.Frames.{Values};
-ghost use Rattle.mir_base.specs.Numbers.{distance, evaluation, is_dividing, value_of_un_op};
+ghost use Rattle.mir_base.specs.Numbers.{distance, evaluation, is_dividing, relation_holds, value_of_un_op};
 
-use crate::{Expr, Op, Operand, Rhs, Trap, UnOp};
+use crate::{Expr, Op, Operand, RelOp, Rhs, Trap, UnOp};
 
-/// The value of an operator on two numbers, after Muchnick, chapter 4, on signed 64-bit numbers. The only refusal is
-/// `ZeroDivisor`, which comes exactly where the operator is `Div` or `Mod` and `b` is 0. It takes no memory.
+/// The value of an operator on two signed 64-bit numbers. The only refusal is `ZeroDivisor`, which comes exactly where
+/// the operator is `Div` or `Mod` and `b` is 0. It does not allocate.
 pub fn eval(op: Op, a: i64, b: i64) -> Result<i64, Trap>
     ensures { result ≡ evaluation op a b }
 {
@@ -31,12 +31,12 @@ pub fn eval(op: Op, a: i64, b: i64) -> Result<i64, Trap>
         }
         Op::Min => Ok(a.min(b)),
         Op::Max => Ok(a.max(b)),
-        Op::Eq => Ok((a == b) as i64),
-        Op::Ne => Ok((a != b) as i64),
-        Op::Lt => Ok((a < b) as i64),
-        Op::Le => Ok((a <= b) as i64),
-        Op::Gt => Ok((a > b) as i64),
-        Op::Ge => Ok((a >= b) as i64),
+        Op::Eq => Ok(relates(RelOp::Eq, a, b) as i64),
+        Op::Ne => Ok(relates(RelOp::Ne, a, b) as i64),
+        Op::Lt => Ok(relates(RelOp::Lt, a, b) as i64),
+        Op::Le => Ok(relates(RelOp::Le, a, b) as i64),
+        Op::Gt => Ok(relates(RelOp::Gt, a, b) as i64),
+        Op::Ge => Ok(relates(RelOp::Ge, a, b) as i64),
         Op::Shl => Ok(a.wrapping_shl(distance(b))),
         Op::Shr => Ok(a.cast_unsigned().wrapping_shr(distance(b)).cast_signed()),
         Op::Shra => Ok(a.wrapping_shr(distance(b))),
@@ -46,7 +46,7 @@ pub fn eval(op: Op, a: i64, b: i64) -> Result<i64, Trap>
     }
 }
 
-/// The value of an operator on one number. It takes no memory.
+/// The value of an operator on one number. It does not allocate.
 pub fn eval1(op: UnOp, a: i64) -> i64
     ensures { result ≡ value_of_un_op op a }
 {
@@ -56,8 +56,22 @@ pub fn eval1(op: UnOp, a: i64) -> i64
     }
 }
 
-/// Whether the right side divides: its operator is `Div` or `Mod`, and its second operand is a variable or the
-/// constant 0, so that its evaluation may trap. It takes no memory.
+/// Whether the relation holds between the two numbers. It does not allocate.
+pub fn relates(relation: RelOp, a: i64, b: i64) -> bool
+    ensures { result ≡ relation_holds relation a b }
+{
+    match relation {
+        RelOp::Eq => a == b,
+        RelOp::Ne => a != b,
+        RelOp::Lt => a < b,
+        RelOp::Le => a <= b,
+        RelOp::Gt => a > b,
+        RelOp::Ge => a >= b,
+    }
+}
+
+/// Whether the right side divides: its operator is `Div` or `Mod`, and its second operand is a variable or the constant
+/// 0, so that its evaluation may trap. It does not allocate.
 pub fn divides(rhs: &Rhs) -> bool
     ensures { result ≡ divides rhs.now }
 {
@@ -69,11 +83,12 @@ pub fn divides(rhs: &Rhs) -> bool
 }
 
 /// The expression of a right side that is unary or binary and does not divide, and `None` exactly where it is plain or
-/// divides. Its evaluation never traps. It takes no memory.
+/// divides. Its evaluation never traps. It does not allocate.
 pub fn expr_of(rhs: &Rhs) -> Option<Expr>
     ensures value { result ≡ expr_of rhs.now }
     ensures movable { IsSome result ↔ IsTrue (is_movable rhs.now) }
-    ensures calm { IfSome result (λ _. (values : Values) → rhs_traps values rhs.now ≡ false) }
+    ensures never_traps { IfSome result (λ _.
+        (values : Values) → rhs_traps values rhs.now ≡ false) }
 {
     if divides(rhs) {
         return None;
@@ -93,55 +108,19 @@ fn distance(by: i64) -> u32
     by.rem_euclid(64) as u32
 }
 
+/// Whether the operator divides, so that a divisor of 0 traps.
 fn is_dividing(op: Op) -> bool
     ensures { result ≡ is_dividing op }
 {
     matches!(op, Op::Div | Op::Mod)
 }
 
+/// Whether the operand is a variable or the constant 0.
 fn may_be_zero(divisor: Operand) -> bool
     ensures { result ≡ may_be_zero divisor }
 {
     match divisor {
         Operand::Var(_) => true,
         Operand::Const(c) => c == 0,
-    }
-}
-
-#[cfg(test)]
-mod tests {
-    use super::*;
-
-    #[test]
-    fn evaluates(rt: HostRuntime) {
-        for (op, a, b, value) in [
-            (Op::Add, i64::MAX, 1, i64::MIN),
-            (Op::Mul, i64::MIN, -1, i64::MIN),
-            (Op::Div, -7, 2, -3),
-            (Op::Div, i64::MIN, -1, i64::MIN),
-            (Op::Mod, -7, 2, -1),
-            (Op::Mod, 7, -2, 1),
-            (Op::Mod, i64::MIN, -1, 0),
-            (Op::Min, -1, 1, -1),
-            (Op::Le, 3, 3, 1),
-            (Op::Shl, 3, 63, i64::MIN),
-            (Op::Shl, 3, 64, 3),
-            (Op::Shr, -1, -1, 1),
-            (Op::Shra, -5, 1, -3),
-            (Op::Xor, -1, 1, -2),
-        ] {
-            assert_eq!(rt; eval(op, a, b), Ok(value), "{op:?} of {a} and {b}");
-        }
-        assert_eq!(rt; eval(Op::Mod, 1, 0), Err(Trap::ZeroDivisor));
-        assert_eq!(rt; eval1(UnOp::Neg, i64::MIN), i64::MIN);
-        assert_eq!(rt; eval1(UnOp::Not, 0), 1);
-        let quotient = Rhs::Binary(Op::Div, Operand::Var(0), Operand::Const(0));
-        assert!(rt; divides(&quotient));
-        assert_eq!(rt; expr_of(&quotient), None);
-        let negation = Rhs::Unary(UnOp::Neg, Operand::Var(0));
-        assert_eq!(rt;
-            expr_of(&negation),
-            Some(Expr::Un(UnOp::Neg, Operand::Var(0)))
-        );
     }
 }

@@ -53,7 +53,7 @@ pub enum Test {
     Fails(Operand),
 }
 
-/// The arguments of a call, in order. Contracts see them as the list of the operands. Up to four take no memory of
+/// The arguments of a call, in order. Contracts see them as the list of the operands. Up to four do not allocate of
 /// their own.
 #[derive(Drop)]
 pub struct Args {
@@ -70,7 +70,7 @@ impl Model for Args {
 }
 
 impl Args {
-    /// The list of these operands. Its only refusal is want of memory.
+    /// The list of these operands. It fails only with `Memory`.
     pub fn of(alloc: Global, items: &[Operand]) -> Result<Args, Memory>
         ensures { IfOk result (λ args. args ≡ items.now) }
     {
@@ -78,7 +78,7 @@ impl Args {
         Ok(Args { operands })
     }
 
-    /// The operands, in order. It takes no memory.
+    /// The operands, in order. It does not allocate.
     pub fn items(&self) -> &[Operand]
         ensures { result.now ≡ self.now }
     {

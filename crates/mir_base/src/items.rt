@@ -5,7 +5,7 @@ use crate::Memory;
 use std::alloc::{AllocError, Global};
 use std::marker::Model;
 
-/// A list in a program or in what a pass answers. Contracts see it as the list of its items, so that two lists with
+/// A list in a program or in the result of a pass. Contracts see it as the list of its items, so that two lists with
 /// equal items are equal, whatever room they have for more.
 #[derive(Drop)]
 pub struct Items<T> {
@@ -24,14 +24,14 @@ impl<T> Model for Items<T> {
 }
 
 impl<T> Items<T> {
-    /// The list of these items, in their order. It takes no memory.
+    /// The list of these items, in their order. It does not allocate.
     pub fn of(items: Vec<T>) -> Items<T>
         ensures { result ≡ items.items }
     {
         Items { items }
     }
 
-    /// The empty list. It takes no memory; `alloc` is where the list takes it from when it grows.
+    /// The empty list. It does not allocate; `alloc` is where the list takes it from when it grows.
     pub fn new(alloc: Global) -> Items<T>
         ensures { result ≡ [] }
     {
@@ -40,7 +40,7 @@ impl<T> Items<T> {
         }
     }
 
-    /// The items, in order. It takes no memory.
+    /// The items, in order. It does not allocate.
     pub fn items(&self) -> &[T]
         ensures { result.now ≡ self.now }
     {
@@ -58,8 +58,7 @@ impl<T: Drop> Items<T> {
         Ok(())
     }
 
-    /// The list with one more item at its end. Its only refusal is want of memory, and then the list and the item are
-    /// dropped.
+    /// The list with one more item at its end. It fails only with `Memory`, and then the list and the item are dropped.
     pub fn with(self, item: T) -> Result<Items<T>, Memory>
         ensures { IfOk result (λ items. items ≡ self ++ item ∷ []) }
     {
@@ -71,7 +70,8 @@ impl<T: Drop> Items<T> {
 
 /// Where the clone of an item is equal to it, the clone of a list is equal to the list.
 impl<T: Clone + Drop> Clone for Items<T> {
-    ghost is_clone = { λ list copy. ((item other : T) → T.is_clone item other → other ≡ item) → copy ≡ list };
+    ghost is_clone = { λ list copy.
+        ((item other : T) → T.is_clone item other → other ≡ item) → copy ≡ list };
 
     fn clone(&self) -> Result<Items<T>, AllocError> {
         let items = self.items.as_slice().to_vec(*self.items.allocator())?;

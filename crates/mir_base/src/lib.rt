@@ -2,31 +2,32 @@
 //!
 //! In go names, numbers and lists of instructions; out come programs whose parts are known to fit together. The
 //! definitions in `specs/` say what a program means (the values of operators, one step of a frame, a run as a stack of
-//! frames), when two programs are the same, and what the text of a program is. They also say when a unit and what it was
-//! rewritten to do the same and count no more, by runs of one frame with answers to its calls (`UnitSame`,
-//! `UnitCheaper`), and give the two rules by which the crates above prove it: `Simulates` and `Lockstep`.
+//! frames), when two programs are the same, and what the text of a program is. They also say when a unit and what it
+//! was rewritten to do the same and evaluate no more operators, by runs of one frame with answers to its calls
+//! (`UnitSame`, `UnitCheaper`), and give the two rules by which the crates above prove it: `Simulates` and `Lockstep`.
 //!
-//! The theorem that this crate carries is `cut_is_same`: what stands after the first return of a body without jumps
-//! can be cut off, and the return of 0 at its end written out, and no run changes.
+//! What is proved here is that code and definitions agree (`eval` gives the value of each operator, and traps exactly
+//! where a divisor is 0), and that the two rules hold: what `Simulates` or goes in `Lockstep` does the same and
+//! evaluates no more operators.
 #![tactic(auto)]
 
-mod cuts;
 mod evaluation;
 mod instructions;
 mod items;
+mod limits;
 mod names;
 mod operators;
 mod programs;
-#[cfg(test)]
-mod tests;
 
-pub use cuts::cut_is_same;
-pub use evaluation::{divides, eval, eval1, expr_of};
+pub use evaluation::{divides, eval, eval1, expr_of, relates};
 pub use instructions::{Args, Expr, Inst, Operand, Rhs, Test};
 pub use items::Items;
-pub use names::Name;
-pub use operators::{Op, RelOp, Trap, UnOp};
+pub use limits::{
+    MOST_BYTES, MOST_FRAMES, MOST_INSTS, MOST_NAME_BYTES, MOST_RECEIVES, MOST_STEPS, MOST_UNITS,
+};
+pub use names::{Name, is_letter, is_name_byte, is_text};
+pub use operators::{Op, RelOp, Trap, UnOp, op_of_relation, op_text, rel_op_text, un_op_text};
 pub use programs::{Program, Unit};
 
-/// Want of memory: the allocator refused.
+/// There is not enough memory: the allocator refused.
 pub type Memory = std::alloc::AllocError;

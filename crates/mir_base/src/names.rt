@@ -1,14 +1,11 @@
-// Names of variables, labels and units.
-ghost use Rattle.std.specs.Prelude.{◌≡◌, ◌↔◌, IfSome, IsSome, nat_eq};
+// Names of variables, labels and units, and what bytes may stand in one.
+ghost use Rattle.std.specs.Prelude.{◌≡◌, ◌↔◌, IfSome, IsSome};
 ghost use Rattle.std.specs.List.{list_all, list_any};
-ghost use Rattle.std.specs.Cmp.Lexicographic.{pointwise};
-ghost use Rattle.mir_base.specs.Names.{is_name_byte, is_reserved, is_name, IsName, begins_as_name};
+ghost use Rattle.mir_base.specs.Names.{IsName, begins_as_name, is_letter, is_name, is_name_byte, is_reserved, is_text};
 
+use crate::MOST_NAME_BYTES;
 use std::alloc::AllocError;
 use std::marker::Model;
-
-/// The most bytes that a name has.
-const LONGEST_NAME: usize = 64;
 
 /// A name: an ASCII letter and then ASCII letters, digits and `_`, at most 64 bytes, and no reserved word. Contracts
 /// see it as the list of its bytes.
@@ -29,8 +26,8 @@ impl Model for Name {
 }
 
 impl Name {
-    /// The name of these bytes, and `None` exactly where they are not spelled as a name or are more than 64; the bytes
-    /// are then dropped. It takes no memory.
+    /// The name of these bytes, and `None` exactly where they are not spelled as a name or are more than
+    /// `MOST_NAME_BYTES`; the bytes are then dropped. It does not allocate.
     pub fn new(bytes: Vec<u8>) -> Option<Name>
         ensures spelled { IsSome result ↔ IsName bytes.items }
         ensures same { IfSome result (λ name. name ≡ bytes.items) }
@@ -50,7 +47,7 @@ impl Name {
         Name { bytes }
     }
 
-    /// The bytes, which are spelled as a name. It takes no memory.
+    /// The bytes, which are spelled as a name. It does not allocate.
     pub fn bytes(&self) -> &[u8]
         ensures value { result.now ≡ self.now }
         ensures spelled { IsName result.now }
@@ -58,13 +55,13 @@ impl Name {
         &self.bytes
     }
 
-    /// Whether the bytes are spelled as a name and are at most 64. It takes no memory.
+    /// Whether the bytes are spelled as a name and are at most `MOST_NAME_BYTES`. It does not allocate.
     pub fn is_spelled(bytes: &[u8]) -> bool
         ensures { result ≡ is_name bytes.now }
     {
         begins_as_name(bytes)
             && has_name_bytes(bytes)
-            && bytes.len() <= LONGEST_NAME
+            && bytes.len() <= MOST_NAME_BYTES
             && !is_reserved(bytes)
     }
 }
@@ -79,59 +76,80 @@ impl Clone for Name {
     }
 }
 
+/// Whether the first byte is a letter.
 fn begins_as_name(bytes: &[u8]) -> bool
     ensures { result ≡ begins_as_name bytes.now }
 {
     match bytes {
-        [first, ..] => first.is_ascii_alphabetic(),
+        [first, ..] => is_letter(*first),
         [] => false,
     }
 }
 
+/// Whether each byte may stand in a name.
 fn has_name_bytes(bytes: &[u8]) -> bool
     ensures { result ≡ list_all is_name_byte bytes.now }
 {
     bytes.iter().all(|byte| is_name_byte(*byte))
 }
 
-fn is_name_byte(byte: u8) -> bool
+/// Whether the byte is an ASCII letter, with which a name begins. It does not allocate.
+pub fn is_letter(byte: u8) -> bool
+    ensures { result ≡ is_letter byte }
+{
+    byte.is_ascii_alphabetic()
+}
+
+/// Whether the byte may stand in a name: an ASCII letter or digit, or `_`. It does not allocate.
+pub fn is_name_byte(byte: u8) -> bool
     ensures { result ≡ is_name_byte byte }
 {
     byte.is_ascii_alphabetic() || byte.is_ascii_digit() || byte == b'_'
 }
 
-const RESERVED: [&[u8]; 20] = [
-    b"begin",
-    b"end",
-    b"receive",
-    b"goto",
-    b"if",
-    b"call",
-    b"return",
-    b"print",
-    b"mod",
-    b"min",
-    b"max",
-    b"shl",
-    b"shr",
-    b"shra",
-    b"and",
-    b"or",
-    b"xor",
-    b"trap",
-    b"global",
-    b"sequence",
-];
+/// Whether the bytes are this text. It does not allocate.
+pub fn is_text(text: &[u8], bytes: &[u8]) -> bool
+    ensures { result ≡ is_text text.now bytes.now }
+{
+    text == bytes
+}
 
-#[tactic(auto, unfolding(crate::specs::Names::is_reserved))]
+/// Whether the bytes are a reserved word. Only the words of their length are looked at.
 fn is_reserved(bytes: &[u8]) -> bool
     ensures { result ≡ is_reserved bytes.now }
 {
-    is_among(&RESERVED, bytes)
+    match bytes.len() {
+        2 => is_among(&OF_2, bytes),
+        3 => is_among(&OF_3, bytes),
+        4 => is_among(&OF_4, bytes),
+        5 => is_among(&OF_5, bytes),
+        6 => is_among(&OF_6, bytes),
+        7 => is_among(&OF_7, bytes),
+        8 => is_among(&OF_8, bytes),
+        _ => false,
+    }
 }
 
+// The reserved words of so many bytes.
+const OF_2: [&[u8]; 2] = [b"if", b"or"];
+
+const OF_3: [&[u8]; 8] = [
+    b"end", b"mod", b"min", b"max", b"shl", b"shr", b"and", b"xor",
+];
+
+const OF_4: [&[u8]; 4] = [b"goto", b"call", b"shra", b"trap"];
+
+const OF_5: [&[u8]; 2] = [b"begin", b"print"];
+
+const OF_6: [&[u8]; 2] = [b"return", b"global"];
+
+const OF_7: [&[u8]; 1] = [b"receive"];
+
+const OF_8: [&[u8]; 1] = [b"sequence"];
+
+/// Whether the bytes are one of the words.
 fn is_among(words: &[&[u8]], bytes: &[u8]) -> bool
-    ensures { result ≡ list_any (λ word. pointwise nat_eq word.now bytes.now) words.now }
+    ensures { result ≡ list_any (λ word. is_text word.now bytes.now) words.now }
 {
-    words.iter().any(|word| *word == bytes)
+    words.iter().any(|word| is_text(word, bytes))
 }

@@ -1,4 +1,6 @@
-// The operators of the language, by name.
+// The operators of the language, and how each is spelled.
+ghost use Rattle.std.specs.Prelude.{◌≡◌};
+ghost use Rattle.mir_base.specs.Operators.{op_of_relation, op_text, rel_op_text, un_op_text};
 
 /// An operator on two numbers. All numbers are signed and have 64 bits.
 #[derive(Clone, Copy, Debug, PartialEq, Eq, Hash)]
@@ -11,7 +13,7 @@ pub enum Op {
     Mul,
     /// The quotient, truncated toward zero. A divisor of 0 traps; the least number by -1 gives the least number.
     Div,
-    /// The rest of that division, with the sign of the dividend. A divisor of 0 traps.
+    /// The remainder of that division, with the sign of the dividend. A divisor of 0 traps.
     Mod,
     /// The lesser of the two.
     Min,
@@ -74,4 +76,62 @@ pub enum RelOp {
 pub enum Trap {
     /// The divisor of a division was 0.
     ZeroDivisor,
+}
+
+/// The bytes that an operator on two numbers is spelled with. It does not allocate.
+pub fn op_text(op: Op) -> &'static [u8]
+    ensures { result.now ≡ op_text op }
+{
+    match op {
+        Op::Add => b"+",
+        Op::Sub => b"-",
+        Op::Mul => b"*",
+        Op::Div => b"/",
+        Op::Mod => b"mod",
+        Op::Min => b"min",
+        Op::Max => b"max",
+        Op::Eq => b"=",
+        Op::Ne => b"!=",
+        Op::Lt => b"<",
+        Op::Le => b"<=",
+        Op::Gt => b">",
+        Op::Ge => b">=",
+        Op::Shl => b"shl",
+        Op::Shr => b"shr",
+        Op::Shra => b"shra",
+        Op::And => b"and",
+        Op::Or => b"or",
+        Op::Xor => b"xor",
+    }
+}
+
+/// The bytes that an operator on one number is spelled with. It does not allocate.
+pub fn un_op_text(op: UnOp) -> &'static [u8]
+    ensures { result.now ≡ un_op_text op }
+{
+    match op {
+        UnOp::Neg => b"-",
+        UnOp::Not => b"!",
+    }
+}
+
+/// The bytes that a relation is spelled with: those of its operator. It does not allocate.
+pub fn rel_op_text(relation: RelOp) -> &'static [u8]
+    ensures { result.now ≡ rel_op_text relation }
+{
+    op_text(op_of_relation(relation))
+}
+
+/// The operator that gives 1 where the relation holds, else 0. It does not allocate.
+pub fn op_of_relation(relation: RelOp) -> Op
+    ensures { result ≡ op_of_relation relation }
+{
+    match relation {
+        RelOp::Eq => Op::Eq,
+        RelOp::Ne => Op::Ne,
+        RelOp::Lt => Op::Lt,
+        RelOp::Le => Op::Le,
+        RelOp::Gt => Op::Gt,
+        RelOp::Ge => Op::Ge,
+    }
 }

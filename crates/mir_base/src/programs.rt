@@ -1,7 +1,6 @@
 // Units and programs, whose parts are known to fit together.
 ghost use Rattle.std.specs.Prelude.{◌≡◌, ◌+◌, ◌<◌, ◌^◌, [], ◌∷◌, length, slice_get, Some, None, IfNone, IfOk, IfSome, All};
 ghost use Rattle.mir_base.specs.Shapes.{BodyFits, IsTidy, AllBelow, inst_vars, receives_in};
-ghost use Rattle.mir_base.specs.FirstForm.{IsFirstBody};
 ghost use Rattle.mir_base.specs.Runs.{inputs_of};
 
 use crate::{Inst, Items, Memory, Name};
@@ -33,8 +32,8 @@ impl Model for Unit {
 }
 
 impl Unit {
-    /// The instructions, by place. Their variables have names, and are numbered in the order in which they first
-    /// occur. It takes no memory.
+    /// The instructions, by place. Their variables have names, and are numbered in the order in which they first occur.
+    /// It does not allocate.
     pub fn insts(&self) -> &[Inst]
         ensures value { result.now ≡ self.now.body }
         ensures tidy { IsTidy self.now.vars result.now }
@@ -43,12 +42,13 @@ impl Unit {
         self.body.items()
     }
 
-    /// The instruction at this place, and `None` exactly where there is none. Its variables have names. It takes no
-    /// memory.
+    /// The instruction at this place, and `None` exactly where there is none. Its variables have names. It does not
+    /// allocate.
     pub fn inst(&self, place: usize) -> Option<&Inst>
         ensures none { IfNone result (slice_get self.now.body place ≡ None) }
         ensures some { IfSome result (λ inst. slice_get self.now.body place ≡ Some inst.now) }
-        ensures below { IfSome result (λ inst. AllBelow (length self.now.vars) (inst_vars inst.now)) }
+        ensures below { let count = length self.now.vars in
+            IfSome result (λ inst. AllBelow count (inst_vars inst.now)) }
         ensures next { IfSome result (λ _. place + 1 < 2 ^ 64) }
     {
         match self.body.items().get(place) {
@@ -90,10 +90,11 @@ impl Model for Program {
 }
 
 impl Program {
-    /// The program of this one unit, whose instructions are plain, `+` and `-` assignments, prints and returns alone.
-    /// Its only refusal is want of memory.
-    pub fn of_first_form(alloc: Global, unit: Unit) -> Result<Program, Memory>
-        requires { IsFirstBody unit.body }
+    /// The program of this one unit, whose body fits on its own: its receives stand first and name distinct variables,
+    /// its jumps go to places after them and at most to its end, and it calls none but itself, with as many arguments
+    /// as it has receives. It fails only with `Memory`.
+    pub fn of_unit(alloc: Global, unit: Unit) -> Result<Program, Memory>
+        requires { BodyFits (unit ∷ []) unit.body }
         ensures { IfOk result (λ program. program.units ≡ unit ∷ []) }
     {
         let mut units = Vec::new(alloc);
@@ -103,7 +104,7 @@ impl Program {
         })
     }
 
-    /// The unit of this number. It takes no memory.
+    /// The unit of this number. It does not allocate.
     pub fn unit(&self, number: usize) -> &Unit
         requires { number < length self.now.units }
         ensures unit { slice_get self.now.units number ≡ Some result.now }
@@ -112,7 +113,7 @@ impl Program {
         &self.units.items()[number]
     }
 
-    /// How many inputs a run takes: as many as the first unit has receives. It takes no memory.
+    /// How many inputs a run takes: as many as the first unit has receives. It does not allocate.
     pub fn inputs(&self) -> usize
         ensures inputs { result ≡ inputs_of self.now }
         ensures some_unit { 0 < length self.now.units }

@@ -10,29 +10,33 @@ use Rattle.mir_interp.specs.declared.report.Report.{Report}
 use Rattle.mir_interp.specs.declared.report.RunFault.{RunFault}
 use Rattle.mir_interp.specs.declared.report.RunFault.TheVariants.{WrongInputs, Deep, Memory}
 use Rattle.mir_interp.specs.Machines.{control_of, state_of, IsMachine, StopsBefore}
-use Rattle.mir_interp.specs.Reports.{finish_of, report_of, most_frames, IsAnswer}
+use Rattle.mir_base.specs.Limits.{most_frames}
+use Rattle.mir_interp.specs.Reports.{finish_of, report_of, IsRunAnswer}
 use Rattle.mir_interp.proofs.Steps.{deep_within}
 
+-- how a run finished can be read back from its last state
 finish_same : (stack : Stack) (finish : Finish) → finish_of (control_of stack finish) ≡ finish
 finish_same stack Running = refl
 finish_same stack (Ended result) = refl
 finish_same stack (Trapped kind) = refl
 
+-- the report of these
 abbrev report_with : List ℤ → Finish → ℕ → Report
 report_with lines finish evals = record { lines = lines; finish = finish; evals = evals }
 
+-- reports with equal fields are equal
 report_same : (lines lines' : List ℤ) (finish finish' : Finish) (evals evals' : ℕ) → lines ≡ lines' → finish ≡ finish' → evals ≡ evals' → report_with lines finish evals ≡ report_with lines' finish' evals'
 report_same lines lines' finish finish' evals evals' same_lines same_finish same_evals = cc
 
 -- the report of the machine's state, where the run comes to it
-pub reported : (program : ProgramShape) (inputs : List ℤ) (n : ℕ) (machine : Machine) (finish : Finish) (report : Report) → length inputs ≡ inputs_of program → run program inputs n ≡ state_of machine finish → IsMachine program machine → report.lines ≡ machine.printed.items → report.finish ≡ finish → report.evals ≡ machine.counted → IsAnswer program inputs n (Ok report)
-reported program inputs n machine finish report right comes fits lines finishes evals =
+pub finish_reported : (program : ProgramShape) (inputs : List ℤ) (n : ℕ) (machine : Machine) (finish : Finish) (report : Report) → length inputs ≡ inputs_of program → run program inputs n ≡ state_of machine finish → IsMachine program machine → report.lines ≡ machine.printed.items → report.finish ≡ finish → report.evals ≡ machine.counted → IsRunAnswer program inputs n (Ok report)
+finish_reported program inputs n machine finish report right comes fits lines finishes evals =
     let shallow : (run program inputs n).depth ≤ most_frames = omega (arith, ap (λ s. s.depth) comes, fits.depth) in
     let told : report ≡ report_of (state_of machine finish) = report_same _ _ _ _ _ _ lines (finishes ∙ sym (finish_same machine.stack finish)) evals in
     (right, shallow, told ∙ ap report_of (sym comes))
 
 -- the fault of the step that follows the first i
-pub refused : (program : ProgramShape) (inputs : List ℤ) (i n : ℕ) (state : State) (fault : RunFault) → length inputs ≡ inputs_of program → i < n → steps (codes_of program) i (first_state inputs) ≡ state → StopsBefore (step (codes_of program) state) fault → IsAnswer program inputs n (Err fault)
-refused program inputs i n state (WrongInputs wanted) right within so_far stops = absurd stops
-refused program inputs i n state Deep right within so_far stops = (right, deep_within (codes_of program) i n most_frames (first_state inputs) state within so_far stops)
-refused program inputs i n state (Memory refusal) right within so_far stops = right
+pub fault_reported : (program : ProgramShape) (inputs : List ℤ) (i n : ℕ) (state : State) (fault : RunFault) → length inputs ≡ inputs_of program → i < n → steps (codes_of program) i (first_state inputs) ≡ state → StopsBefore (step (codes_of program) state) fault → IsRunAnswer program inputs n (Err fault)
+fault_reported program inputs i n state (WrongInputs wanted) right within so_far stops = absurd stops
+fault_reported program inputs i n state Deep right within so_far stops = (right, deep_within (codes_of program) i n most_frames (first_state inputs) state within so_far stops)
+fault_reported program inputs i n state (Memory refusal) right within so_far stops = right

@@ -14,20 +14,25 @@ use Rattle.mir_interp.specs.declared.stack.Stack.{Stack}
 use Rattle.mir_interp.specs.Machines.{values_of, frame_of, callers_of, waiting, vars_at, AreCallers}
 use Rattle.mir_base.specs.Shapes.{ProgramShape, AllBelow, into_vars}
 
+-- the frame of these
 abbrev frame_state : ℕ → List ℤ → Values → FrameState
 frame_state place arguments values = record { place = place; arguments = arguments; values = values }
 
+-- a run stands the same with equal frames
 pub running_same : (unit : ℕ) (f g : FrameState) (cs ds : List CallerState) → f ≡ g → cs ≡ ds → Running unit f cs ≡ Running unit g ds
 running_same unit f g cs ds same_frame same_callers = cc
 
+-- frames at one place with equal variables are equal
 frame_same : (place : ℕ) (xs ys : List ℤ) (f g : Values) → xs ≡ ys → f ≡ g → frame_state place xs f ≡ frame_state place ys g
 frame_same place xs ys f g same_arguments same_values = cc
 
 -- ---- writes
 
+-- a variable read after a write: the written one, or as before
 set_value : (values : List ℤ) (x : ℕ) (v : ℤ) (y : ℕ) → x < length values → values_of (set values x v) y ≡ with_value x v (values_of values) y
 set_value values x v y low = grind (arith, common_steps)
 
+-- the same for all variables at once
 set_values : (values : List ℤ) (x : ℕ) (v : ℤ) → x < length values → values_of (set values x v) ≡ with_value x v (values_of values)
 set_values values x v low = fun_ext (λ y. set_value values x v y low)
 
@@ -38,36 +43,44 @@ assigned_is values frame x place v low =
     let there : x < length (drop frame.variables values) = omega (arith, length-drop frame.variables values) in
     frame_same place _ _ _ _ (ap (drop frame.arguments) written) (ap values_of (drop-set-add frame.variables values x v) ∙ set_values (drop frame.variables values) x v there)
 
+-- the answer of a call, written into the caller's variables
 resumed_is : (values : List ℤ) (frame : Frame) (x : ℕ) (v : ℤ) → frame.variables + x < length values → frame_of (set values (frame.variables + x) v) frame ≡ resumed (Some x) (record { value = v }) (frame_of values frame)
 resumed_is values frame x v low = assigned_is values frame x frame.place v low
 
 -- ---- pushes
 
+-- the arguments lie between the variables of the caller and the zeros
 arguments_of : (values arguments zeros : List ℤ) → drop (length values) (take (length (values ++ arguments)) ((values ++ arguments) ++ zeros)) ≡ arguments
 arguments_of values arguments zeros = ap (drop (length values)) (take-append_seam (values ++ arguments) zeros) ∙ drop-append_seam values arguments
 
+-- no item of a list of zeros is anything else, nor is what lies past it
 zero_at : (n x : ℕ) → get_or (replicate n (pos 0)) x (pos 0) ≡ pos 0
 zero_at zero x = refl
 zero_at (suc n) zero = refl
 zero_at (suc n) (suc x) = zero_at n x
 
+-- so a list of zeros is the variables of a new frame
 zeros_are : (n : ℕ) → values_of (replicate n (pos 0)) ≡ all_zero
 zeros_are n = fun_ext (λ x. zero_at n x)
 
+-- which stand after those of the caller
 fresh_values : (values : List ℤ) (n : ℕ) → values_of (drop (length values) (values ++ replicate n (pos 0))) ≡ all_zero
 fresh_values values n = ap values_of (drop-append_seam values (replicate n (pos 0))) ∙ zeros_are n
 
 -- ---- the frames that wait
 
-callers-push : (values : List ℤ) (callers : List Caller) (caller : Caller) → callers_of values (reverse (callers ++ caller ∷ [])) ≡ callers_of values (caller ∷ reverse callers)
-callers-push values callers caller = ap (callers_of values) (reverse-append callers (caller ∷ []))
+-- the caller that is pushed last comes first in the stack
+callers_push : (values : List ℤ) (callers : List Caller) (caller : Caller) → callers_of values (reverse (callers ++ caller ∷ [])) ≡ callers_of values (caller ∷ reverse callers)
+callers_push values callers caller = ap (callers_of values) (reverse-append callers (caller ∷ []))
 
-length-callers_of : (values : List ℤ) (callers : List Caller) → length (callers_of values callers) ≡ length callers
-length-callers_of values [] = refl
-length-callers_of values (caller ∷ callers) = omega (arith, length-callers_of (take caller.frame.arguments values) callers)
+-- each caller has one frame
+length_callers_of : (values : List ℤ) (callers : List Caller) → length (callers_of values callers) ≡ length callers
+length_callers_of values [] = refl
+length_callers_of values (caller ∷ callers) = omega (arith, length_callers_of (take caller.frame.arguments values) callers)
 
-pub length-waiting : (stack : Stack) → length (waiting stack) ≡ length stack.callers.items
-length-waiting stack = length-callers_of _ (reverse stack.callers.items) ∙ length-reverse stack.callers.items
+-- as many frames wait as the stack has callers
+pub length_waiting : (stack : Stack) → length (waiting stack) ≡ length stack.callers.items
+length_waiting stack = length_callers_of _ (reverse stack.callers.items) ∙ length-reverse stack.callers.items
 
 -- ---- calls and returns
 
@@ -78,7 +91,7 @@ entered values arguments read pushed n base first called callers more caller is_
     let own : drop base (take first pushed) ≡ arguments = rw (is_pushed, is_base, is_first, is_read) (arguments_of values arguments zeros) in
     let fresh : values_of (drop first pushed) ≡ all_zero = rw (is_pushed, is_first, is_read) (fresh_values (values ++ arguments) n) in
     let cut : take base pushed ≡ values = rw (is_pushed, is_base, is_read, append_assoc) (take-append_seam values (arguments ++ zeros)) in
-    running_same called _ _ _ _ (frame_same 0 _ _ _ _ own fresh) (ap (λ vs. callers_of vs (reverse more)) cut ∙ ap (λ cs. callers_of values (reverse cs)) is_more ∙ callers-push values callers caller)
+    running_same called _ _ _ _ (frame_same 0 _ _ _ _ own fresh) (ap (λ vs. callers_of vs (reverse more)) cut ∙ ap (λ cs. callers_of values (reverse cs)) is_more ∙ callers_push values callers caller)
 
 -- the latest caller goes on, with the answer in its variable
 pub resumes : (program : ProgramShape) (values cut : List ℤ) (start : ℕ) (callers rest : List Caller) (caller : Caller) (x : ℕ) (answer v : ℤ) → callers ≡ rest ++ caller ∷ [] → cut ≡ take start values → caller.into ≡ Some x → v ≡ answer → AreCallers program (take start values) (reverse callers) → Running caller.frame.unit (frame_of (set cut (caller.frame.variables + x) v) caller.frame) (callers_of (take caller.frame.arguments (set cut (caller.frame.variables + x) v)) (reverse rest)) ≡ returned (record { value = answer }) (callers_of (take start values) (reverse callers))

@@ -1,29 +1,17 @@
 -- Operands whose variables are below a bound.
-use Rattle.std.proofs.Common.{◌≡◌, ℕ, zero, suc, ◌+◌, ◌-◌, ◌<◌, ◌≤◌, List, [], ◌∷◌, ◌++◌, length, get_or, take, drop, map, flat_map, ℤ, pos, refl, sym, ap, ◌∙◌, arith, append_assoc, length-drop}
+use Rattle.std.proofs.Common.{◌≡◌, ℕ, ◌+◌, ◌-◌, ◌<◌, ◌≤◌, List, [], ◌∷◌, ◌++◌, length, get_or, take, drop, map, flat_map, ℤ, pos, refl, sym, ap, ◌∙◌, arith, append_assoc, length-drop}
+use Rattle.std.proofs.lemmas.Option.{slice_get-get_or}
 use Rattle.std.proofs.lemmas.List.{get_or_append_left, take_all, drop-append-le, take_more, map_push}
 use Rattle.mir_base.specs.declared.instructions.Operand.{Operand}
 use Rattle.mir_base.specs.declared.instructions.Operand.TheVariants.{Var, Const}
 use Rattle.mir_base.specs.Shapes.{AllBelow, operand_vars}
+use Rattle.mir_base.specs.BelowLaws.{all_below_item}
 use Rattle.mir_base.specs.Units.{operand_value}
 use Rattle.mir_interp.specs.Machines.{values_of}
 
-pub front_below : (m : ℕ) (xs ys : List ℕ) → AllBelow m (xs ++ ys) → AllBelow m xs
-front_below m [] ys below = tt
-front_below m (x ∷ xs) ys below = (below.0, front_below m xs ys below.1)
-
-pub back_below : (m : ℕ) (xs ys : List ℕ) → AllBelow m (xs ++ ys) → AllBelow m ys
-back_below m [] ys below = below
-back_below m (x ∷ xs) ys below = back_below m xs ys below.1
-
 -- each of the operands
 pub operand_below : (m : ℕ) (operands : List Operand) (i : ℕ) (d : Operand) → i < length operands → AllBelow m (flat_map operand_vars operands) → AllBelow m (operand_vars (get_or operands i d))
-operand_below m [] i d low below = absurd (omega arith)
-operand_below m (a ∷ operands) zero d low below = front_below m (operand_vars a) (flat_map operand_vars operands) below
-operand_below m (a ∷ operands) (suc i) d low below = operand_below m operands i d (omega arith) (back_below m (operand_vars a) (flat_map operand_vars operands) below)
-
-pub below_more : (m n : ℕ) (a : Operand) → m ≤ n → AllBelow m (operand_vars a) → AllBelow n (operand_vars a)
-below_more m n (Var x) more below = (omega (arith, below.0), tt)
-below_more m n (Const c) more below = tt
+operand_below m operands i d low below = all_below_item operand_vars m operands i (get_or operands i d) below (slice_get-get_or operands i d low)
 
 -- what is pushed behind the variables does not change an operand's value
 pub value_kept : (xs ys : List ℤ) (a : Operand) → AllBelow (length xs) (operand_vars a) → operand_value (values_of (xs ++ ys)) a ≡ operand_value (values_of xs) a

@@ -1,5 +1,6 @@
--- What a run answers: the report of the state that it comes to, or why there is none.
+-- What a run returns: the report of the state that it comes to, or why there is none. Cited by contracts.
 use Rattle.std.specs.Prelude.{◌≡◌, ◌≢◌, ℕ, ◌<◌, ◌≤◌, List, length, ℤ, Result, Ok, Err}
+pub use Rattle.mir_base.specs.Limits.{most_frames}
 use Rattle.mir_base.specs.Shapes.{ProgramShape}
 use Rattle.mir_base.specs.Runs.{Control, Running, Ended, Stopped, State, run, inputs_of}
 use Rattle.mir_interp.specs.declared.report.Finish.{Finish}
@@ -18,14 +19,10 @@ finish_of (Stopped kind) = Trapped kind
 abbrev pub report_of : State → Report
 report_of state = record { lines = state.printed; finish = finish_of state.control; evals = state.counted }
 
--- the most frames that a run may have
-abbrev pub most_frames : ℕ
-most_frames = 10000
-
--- what may be answered for so many steps: the number of inputs is judged first, and want of memory is free
-abbrev pub IsAnswer : ProgramShape → List ℤ → ℕ → Result Report RunFault → Type 0
-IsAnswer program inputs steps (Ok report) =
+-- what may be answered for so many steps: the number of inputs is judged first, and running out of memory is free
+abbrev pub IsRunAnswer : ProgramShape → List ℤ → ℕ → Result Report RunFault → Type 0
+IsRunAnswer program inputs steps (Ok report) =
     (length inputs ≡ inputs_of program) × ((run program inputs steps).depth ≤ most_frames) × (report ≡ report_of (run program inputs steps))
-IsAnswer program inputs steps (Err (WrongInputs wanted)) = (wanted ≡ inputs_of program) × (length inputs ≢ wanted)
-IsAnswer program inputs steps (Err Deep) = (length inputs ≡ inputs_of program) × (most_frames < (run program inputs steps).depth)
-IsAnswer program inputs steps (Err (Memory refusal)) = length inputs ≡ inputs_of program
+IsRunAnswer program inputs steps (Err (WrongInputs wanted)) = (wanted ≡ inputs_of program) × (length inputs ≢ wanted)
+IsRunAnswer program inputs steps (Err Deep) = (length inputs ≡ inputs_of program) × (most_frames < (run program inputs steps).depth)
+IsRunAnswer program inputs steps (Err (Memory refusal)) = length inputs ≡ inputs_of program

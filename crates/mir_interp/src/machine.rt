@@ -1,17 +1,13 @@
 // One step of a run.
-ghost use Rattle.std.specs.Prelude.{◌≡◌, ◌+◌, ◌<◌, ◌≤◌, ◌^◌, ◌⊎◌, length, slice_get, Some, IfOk, IfErr};
+ghost use Rattle.std.specs.Prelude.{◌≡◌, ◌+◌, ◌<◌, ◌≤◌, ◌^◌, ◌⊎◌, length, Some, IfOk, IfErr};
 ghost use Rattle.mir_base.specs.Frames.{Prints};
-ghost use Rattle.mir_base.specs.Runs.{codes_of, state_after, step};
-ghost use Rattle.mir_base.specs.Shapes.{AllBelow, InstFits, ProgramShape, body_at, inst_vars, rhs_vars, test_vars};
-ghost use Rattle.mir_base.specs.Units.{at, relation_holds, test_holds};
-ghost use Rattle.mir_interp.specs.Machines.{IsMachine, SameRoom, StopsBefore, TakesMemory, evaluations_of, state_of, state_past, value_of_rhs, running, values_of, vars_at, waiting};
+ghost use Rattle.mir_base.specs.Shapes.{AllBelow, InstFits, body_at, inst_vars, rhs_vars, test_vars};
+ghost use Rattle.mir_base.specs.Units.{test_holds};
+ghost use Rattle.mir_interp.specs.Machines.{IsMachine, SameRoom, StaysMachine, StopsBefore, TakesMemory, at_next, evaluations_of, running_inst, running_vars, state_by, state_of, state_past, state_stepped, value_of_rhs, values_of};
 
 use crate::stack::{Stack, operand};
 use crate::{Finish, RunFault};
-use mir_base::{Inst, Memory, Program, RelOp, Rhs, Test, Trap, eval, eval1};
-
-/// The most frames that a run may have.
-const MOST_FRAMES: usize = 10_000;
+use mir_base::{Inst, MOST_FRAMES, Memory, Program, Rhs, Test, Trap, eval, eval1, relates};
 
 /// A run on its way: what it printed, its frames, the evaluations so far, and the greatest number of frames so far.
 #[derive(Drop)]
@@ -24,16 +20,19 @@ pub(crate) struct Machine {
 
 impl Machine {
     /// One step: the instruction at which the running frame stands, or the return of 0 at its end. Only a call and a
-    /// print take memory.
+    /// print allocate. `Deep` comes before the step that would pass `MOST_FRAMES` frames.
     pub(crate) fn step(&mut self, program: &Program) -> Result<Finish, RunFault>
         requires machine { IsMachine program.now self.old }
         requires count { self.old.counted + 1 < 2 ^ 64 }
-        ensures state { IfOk result (λ finish. state_of self.new finish ≡ step (codes_of program.now) (state_of self.old Finish.Running)) }
+        ensures state { IfOk result (λ finish.
+            state_of self.new finish ≡ state_stepped program.now self.old) }
         ensures kept { IfOk result (λ _. IsMachine program.now self.new) }
         ensures few { IfOk result (λ _. self.new.counted ≤ self.old.counted + 1) }
-        ensures fault { IfErr result (StopsBefore (step (codes_of program.now) (state_of self.old Finish.Running))) }
-        ensures memory { IfErr result (λ _. TakesMemory (slice_get (body_at program.now.units self.old.stack.running.unit) self.old.stack.running.place)) }
-        ensures room { IfOk result (λ _. TakesMemory (slice_get (body_at program.now.units self.old.stack.running.unit) self.old.stack.running.place) ⊎ SameRoom self.old self.new) }
+        ensures fault { IfErr result (StopsBefore (state_stepped program.now self.old)) }
+        ensures memory { let inst = running_inst program.now self.old.stack in
+            IfErr result (λ _. TakesMemory inst) }
+        ensures room { let inst = running_inst program.now self.old.stack in
+            IfOk result (λ _. TakesMemory inst ⊎ SameRoom self.old self.new) }
     {
         let unit = program.unit(self.stack.running.unit);
         match unit.inst(self.stack.running.place) {
@@ -45,11 +44,13 @@ impl Machine {
     /// One instruction of the running frame.
     fn execute(&mut self, program: &Program, inst: &Inst) -> Result<Finish, RunFault>
         requires machine { IsMachine program.now self.old }
-        requires below { AllBelow (length (vars_at program.now.units self.old.stack.running.unit)) (inst_vars inst.now) }
-        requires fits { InstFits program.now.units (body_at program.now.units self.old.stack.running.unit) self.old.stack.running.place inst.now }
+        requires below { AllBelow (running_vars program.now self.old.stack) (inst_vars inst.now) }
+        requires fits { let frame = self.old.stack.running in
+            InstFits program.now.units (body_at program.now.units frame.unit) frame.place inst.now }
         requires next { self.old.stack.running.place + 1 < 2 ^ 64 }
         requires count { self.old.counted + 1 < 2 ^ 64 }
-        ensures state { IfOk result (λ finish. state_of self.new finish ≡ state_past self.old (Some inst.now)) }
+        ensures state { IfOk result (λ finish.
+            state_of self.new finish ≡ state_past self.old (Some inst.now)) }
         ensures kept { IfOk result (λ _. IsMachine program.now self.new) }
         ensures few { IfOk result (λ _. self.new.counted ≤ self.old.counted + 1) }
         ensures fault { IfErr result (StopsBefore (state_past self.old (Some inst.now))) }
@@ -108,8 +109,9 @@ impl Machine {
     /// The running frame prints the value, and goes on at the next place.
     fn print(&mut self, value: i64) -> Result<(), Memory>
         requires { self.old.stack.running.place + 1 < 2 ^ 64 }
-        ensures state { IfOk result (λ _. state_of self.new Finish.Running ≡ state_after self.old.stack.running.unit (waiting self.old.stack) (Prints value (at (self.old.stack.running.place + 1) (running self.old.stack))) (state_of self.old Finish.Running)) }
-        ensures kept { IfOk result (λ _. (program : ProgramShape) → IsMachine program self.old → IsMachine program self.new) }
+        ensures state { IfOk result (λ _. state_of self.new Finish.Running ≡
+            state_by self.old (Prints value (at_next self.old.stack))) }
+        ensures kept { IfOk result (λ _. StaysMachine self.old self.new) }
         ensures counted { IfOk result (λ _. self.new.counted ≡ self.old.counted) }
     {
         self.printed.push(value)?;
@@ -153,18 +155,5 @@ fn holds(variables: &[i64], test: Test) -> bool
         }
         Test::Holds(a) => operand(variables, a) != 0,
         Test::Fails(a) => operand(variables, a) == 0,
-    }
-}
-
-fn relates(relation: RelOp, a: i64, b: i64) -> bool
-    ensures { result ≡ relation_holds relation a b }
-{
-    match relation {
-        RelOp::Eq => a == b,
-        RelOp::Ne => a != b,
-        RelOp::Lt => a < b,
-        RelOp::Le => a <= b,
-        RelOp::Gt => a > b,
-        RelOp::Ge => a >= b,
     }
 }

@@ -1,4 +1,4 @@
-// What a run answers.
+// What a run returns.
 use mir_base::{Items, Memory, Trap};
 use thiserror::Error;
 
@@ -34,10 +34,10 @@ pub enum RunFault {
         /// How many inputs the program takes.
         wanted: usize,
     },
-    /// Within the steps the number of frames passes 10,000.
+    /// Within the steps the number of frames passes `MOST_FRAMES`.
     #[error("deep: more than 10000 frames")]
     Deep,
-    /// Want of memory.
+    /// There is not enough memory.
     #[error("out of memory")]
     Memory(Memory),
 }

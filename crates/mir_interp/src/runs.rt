@@ -2,7 +2,7 @@
 ghost use Rattle.std.specs.Prelude.{◌≡◌, ◌<◌, length, IfOk};
 ghost use Rattle.mir_base.specs.Runs.{first_state, inputs_of};
 ghost use Rattle.mir_interp.specs.Machines.{IsMachine, state_of};
-ghost use Rattle.mir_interp.specs.Reports.{IsAnswer};
+ghost use Rattle.mir_interp.specs.Reports.{IsRunAnswer};
 
 use crate::machine::Machine;
 use crate::stack::Stack;
@@ -10,14 +10,14 @@ use crate::{Finish, Report, RunFault};
 use mir_base::{Items, Memory, Program};
 use std::alloc::Global;
 
-/// Runs the program for so many steps, or to its end if that comes first, and answers the report of the run by the
+/// Runs the program for so many steps, or to its end if that comes first, and returns the report of the run by the
 /// definition. A step is one instruction, or the end of a unit's body.
 ///
 /// Its refusals, in this order: `WrongInputs`, exactly where the number of inputs is not that of the receives of the
-/// first unit, which it names; `Deep`, exactly where within the steps the number of frames passes 10,000; and want of
-/// memory, which may come in place of a report or of `Deep`.
+/// first unit, which it names; `Deep`, exactly where within the steps the number of frames passes `MOST_FRAMES`; and
+/// `Memory`, which may come in place of a report or of `Deep`.
 pub fn run(alloc: Global, program: &Program, inputs: &[i64], steps: u64) -> Result<Report, RunFault>
-    ensures { IsAnswer program.now inputs.now steps result }
+    ensures { IsRunAnswer program.now inputs.now steps result }
 {
     let wanted = program.inputs();
     if inputs.len() != wanted {
@@ -38,7 +38,8 @@ pub fn run(alloc: Global, program: &Program, inputs: &[i64], steps: u64) -> Resu
 fn start(alloc: Global, program: &Program, inputs: &[i64]) -> Result<Machine, Memory>
     requires some_unit { 0 < length program.now.units }
     requires inputs { length inputs.now ≡ inputs_of program.now }
-    ensures state { IfOk result (λ machine. state_of machine Finish.Running ≡ first_state inputs.now) }
+    ensures state { IfOk result (λ machine.
+        state_of machine Finish.Running ≡ first_state inputs.now) }
     ensures machine { IfOk result (λ machine. IsMachine program.now machine) }
 {
     Ok(Machine {
@@ -49,6 +50,7 @@ fn start(alloc: Global, program: &Program, inputs: &[i64]) -> Result<Machine, Me
     })
 }
 
+/// The report of a machine whose run stands so.
 fn report(machine: Machine, finish: Finish) -> Report
     ensures lines { result.lines ≡ machine.printed.items }
     ensures finish { result.finish ≡ finish }

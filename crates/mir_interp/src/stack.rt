@@ -4,7 +4,7 @@ ghost use Rattle.mir_base.specs.Frames.{first_frame};
 ghost use Rattle.mir_base.specs.Runs.{Control, inputs_of, returned};
 ghost use Rattle.mir_base.specs.Shapes.{AllBelow, ProgramShape, body_at, into_vars, operand_vars, receives_in};
 ghost use Rattle.mir_base.specs.Units.{assigned, at, operand_value};
-ghost use Rattle.mir_interp.specs.Machines.{IsStack, SameStackRoom, control_of, running, values_of, vars_at, waiting};
+ghost use Rattle.mir_interp.specs.Machines.{IsStack, SameStackRoom, StaysStack, caller_of, control_of, entry_of, running, running_vars, values_of, waiting, with_running};
 
 use crate::Finish;
 use mir_base::{Memory, Operand, Program};
@@ -40,7 +40,8 @@ impl Stack {
     pub(crate) fn new(alloc: Global, program: &Program, inputs: &[i64]) -> Result<Stack, Memory>
         requires some_unit { 0 < length program.now.units }
         requires inputs { length inputs.now ≡ inputs_of program.now }
-        ensures control { IfOk result (λ stack. control_of stack Finish.Running ≡ Control.Running 0 (first_frame (record { arguments = inputs.now })) []) }
+        ensures control { IfOk result (λ stack. control_of stack Finish.Running ≡
+            Control.Running 0 (first_frame (record { arguments = inputs.now })) []) }
         ensures fits { IfOk result (λ stack. IsStack program.now stack) }
         ensures callers { IfOk result (λ stack. stack.callers.items ≡ []) }
     {
@@ -70,17 +71,20 @@ impl Stack {
 
     /// The argument of the receive at which the running frame stands.
     pub(crate) fn argument(&self) -> i64
-        requires there { self.now.running.arguments + self.now.running.place < self.now.running.variables }
+        requires there { let frame = self.now.running in
+            frame.arguments + frame.place < frame.variables }
         requires long { self.now.running.variables ≤ length self.now.values.items }
-        ensures { result ≡ slice_index_or (running self.now).arguments self.now.running.place (pos 0) }
+        ensures { let frame = running self.now in
+            result ≡ slice_index_or frame.arguments frame.place (pos 0) }
     {
         self.values[self.running.arguments + self.running.place]
     }
 
     /// The running frame goes on at this place.
     pub(crate) fn go_to(&mut self, place: usize)
-        ensures control { control_of self.new Finish.Running ≡ Control.Running self.old.running.unit (at place (running self.old)) (waiting self.old) }
-        ensures kept { (program : ProgramShape) → IsStack program self.old → IsStack program self.new }
+        ensures control { control_of self.new Finish.Running ≡
+            with_running self.old (at place (running self.old)) }
+        ensures kept { StaysStack self.old self.new }
         ensures callers { self.new.callers.items ≡ self.old.callers.items }
         ensures room { SameStackRoom self.old self.new }
     {
@@ -92,8 +96,10 @@ impl Stack {
         requires there { self.old.running.variables + x < length self.old.values.items }
         requires ordered { self.old.running.arguments ≤ self.old.running.variables }
         requires next { self.old.running.place + 1 < 2 ^ 64 }
-        ensures control { control_of self.new Finish.Running ≡ Control.Running self.old.running.unit (assigned x value (self.old.running.place + 1) (running self.old)) (waiting self.old) }
-        ensures kept { (program : ProgramShape) → IsStack program self.old → IsStack program self.new }
+        ensures control { let next = self.old.running.place + 1 in
+            control_of self.new Finish.Running ≡
+            with_running self.old (assigned x value next (running self.old)) }
+        ensures kept { StaysStack self.old self.new }
         ensures callers { self.new.callers.items ≡ self.old.callers.items }
         ensures room { SameStackRoom self.old self.new }
     {
@@ -113,12 +119,17 @@ impl Stack {
         requires stack { IsStack program.now self.old }
         requires called { called < length program.now.units }
         requires count { length operands.now ≡ receives_in (body_at program.now.units called) }
-        requires into { AllBelow (length (vars_at program.now.units self.old.running.unit)) (into_vars into) }
-        requires operands { AllBelow (length (vars_at program.now.units self.old.running.unit)) (flat_map operand_vars operands.now) }
+        requires into { AllBelow (running_vars program.now self.old) (into_vars into) }
+        requires operands { let used = flat_map operand_vars operands.now in
+            AllBelow (running_vars program.now self.old) used }
         requires next { self.old.running.place + 1 < 2 ^ 64 }
-        ensures control { IfOk result (λ _. control_of self.new Finish.Running ≡ Control.Running called (first_frame (record { arguments = map (operand_value (values_of (drop self.old.running.variables self.old.values.items))) operands.now })) (record { unit = self.old.running.unit; into = into; frame = at (self.old.running.place + 1) (running self.old) } ∷ waiting self.old)) }
+        ensures control { let entry = entry_of self.old operands.now in
+            IfOk result (λ _. control_of self.new Finish.Running ≡
+            Control.Running called (first_frame entry)
+            (caller_of self.old into ∷ waiting self.old)) }
         ensures kept { IfOk result (λ _. IsStack program.now self.new) }
-        ensures callers { IfOk result (λ _. length self.new.callers.items ≡ length self.old.callers.items + 1) }
+        ensures callers { IfOk result (λ _.
+            length self.new.callers.items ≡ length self.old.callers.items + 1) }
     {
         let arguments = self.values.len();
         push_operands(&mut self.values, self.running.variables, operands)?;
@@ -141,8 +152,9 @@ impl Stack {
     /// The running frame is done, and its answer goes to the latest caller; where there is none, it is the result.
     pub(crate) fn leave(&mut self, answer: i64) -> Finish
         requires { (program : ProgramShape) × IsStack program self.old }
-        ensures control { control_of self.new result ≡ returned (record { value = answer }) (waiting self.old) }
-        ensures kept { (program : ProgramShape) → IsStack program self.old → IsStack program self.new }
+        ensures control { control_of self.new result ≡
+            returned (record { value = answer }) (waiting self.old) }
+        ensures kept { StaysStack self.old self.new }
         ensures callers { length self.new.callers.items ≤ length self.old.callers.items }
         ensures room { SameStackRoom self.old self.new }
     {
@@ -177,9 +189,12 @@ fn push_operands(
     variables: usize,
     operands: &[Operand],
 ) -> Result<(), Memory>
-    requires below { AllBelow (length (drop variables values.old.items)) (flat_map operand_vars operands.now) }
+    requires below { let used = flat_map operand_vars operands.now in
+        AllBelow (length (drop variables values.old.items)) used }
     requires long { variables ≤ length values.old.items }
-    ensures { IfOk result (λ _. values.new.items ≡ values.old.items ++ map (operand_value (values_of (drop variables values.old.items))) operands.now) }
+    ensures { let before = values_of (drop variables values.old.items) in
+        IfOk result (λ _. values.new.items ≡
+        values.old.items ++ map (operand_value before) operands.now) }
 {
     for a in operands {
         let value = operand(&values[variables..], *a);

@@ -2,8 +2,9 @@
 use Rattle.std.proofs.Common.{ℕ, arith}
 use Rattle.mir_outside.specs.Causes.{NeverFalls}
 
+-- a count that never falls in two calls never falls in both
 pub falls_never_on : (a b c : ℕ) → NeverFalls a b → NeverFalls b c → NeverFalls a c
 falls_never_on a b c first second = record {
   later = omega (arith, first.later, second.later);
-  still = λ is. second.still (first.still is);
+  saturates = λ is. second.saturates (first.saturates is);
 }

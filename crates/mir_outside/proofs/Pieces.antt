@@ -1,15 +1,8 @@
--- Bytes that are taken from a source, or appended to a sink, in pieces.
+-- Bytes that are taken from a source in pieces, and the pieces of a list.
 use Rattle.std.proofs.Common.{◌≡◌, ℕ, ◌+◌, ◌-◌, ◌≤◌, List, ◌++◌, length, take, drop, Option, None, Some, sym, ◌∙◌, ap, arith, append_assoc, length-drop, take-append-drop}
 use Rattle.std.proofs.lemmas.List.{take_at, take_rest, length-take-le, drop-drop}
 use Rattle.std.proofs.Math.Seq.{take-add}
-use Rattle.std.specs.Io.KnownBytes.{Appends, Consumes}
-
--- two appends are one
-pub appends_on : (old mid new : Option (List ℕ)) (xs ys zs : List ℕ) → Appends old mid xs → Appends mid new ys → zs ≡ xs ++ ys → Appends old new zs
-appends_on None mid new xs ys zs first second is = tt
-appends_on (Some a) None new xs ys zs first second is = absurd first
-appends_on (Some a) (Some b) None xs ys zs first second is = absurd second
-appends_on (Some a) (Some b) (Some c) xs ys zs first second is = second ∙ ap (λ (l : List ℕ). l ++ ys) first ∙ append_assoc a xs ys ∙ ap (λ (l : List ℕ). a ++ l) (sym is)
+use Rattle.std.specs.Io.KnownBytes.{Consumes}
 
 -- two takes are one
 pub consumes_on : (old mid new : Option (List ℕ)) (xs ys : List ℕ) → Consumes old mid xs → Consumes mid new ys → Consumes old new (xs ++ ys)
@@ -22,7 +15,7 @@ consumes_on (Some a) (Some b) (Some c) xs ys first second = first ∙ ap (λ (l 
 pub take_seam : (xs : List ℕ) (i n : ℕ) → take (i + n) xs ≡ take i xs ++ take n (take (length xs - i) (drop i xs))
 take_seam xs i n = take-add i n xs ∙ ap (λ (l : List ℕ). take i xs ++ take n l) (sym (take_rest xs i))
 
--- what is left is the copied front, and then the rest
+-- what is left is the bytes that were copied, and then the remainder
 pub split_left : (bytes copied rest : List ℕ) (at n : ℕ) → at + n ≤ length bytes → copied ≡ take (at + n - at) (drop at bytes) → drop at bytes ≡ take n (copied ++ rest) ++ drop (at + n) bytes
 split_left bytes copied rest at n le is =
     let front : copied ≡ take n (drop at bytes) = is ∙ ap (λ (k : ℕ). take k (drop at bytes)) (omega arith) in

@@ -1,4 +1,4 @@
--- What contracts see of a source and of a sink in memory.
+-- What contracts see of a source and of a sink in memory. Cited by contracts.
 use Rattle.std.specs.Prelude.{ℕ, List}
 
 -- A source: the bytes that are left, how many a call gives at most, the numbers of the calls that fail, and how many

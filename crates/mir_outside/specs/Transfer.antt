@@ -1,16 +1,17 @@
--- What reading all and writing all do to the bytes of a source or a sink, where these are told.
+-- What reading all and writing all do to the bytes of a source or a sink, where these can be observed. Cited by
+-- contracts.
 use Rattle.std.specs.Prelude.{◌≡◌, ℕ, ◌<◌, ◌≤◌, Option, None, Some, List, length, take}
 use Rattle.std.specs.Io.KnownBytes.{Appends, Consumes}
 
--- bytes were taken from the front, at most so many
+-- the first bytes were taken, at most so many
 abbrev pub TakesAtMost : Option (List ℕ) → Option (List ℕ) → ℕ → Type 0
 TakesAtMost old new most = (bytes : List ℕ) × Consumes old new bytes × (length bytes ≤ most)
 
--- bytes were taken from the front, exactly so many
+-- the first bytes were taken, exactly so many
 abbrev pub TakesExactly : Option (List ℕ) → Option (List ℕ) → ℕ → Type 0
 TakesExactly old new count = (bytes : List ℕ) × Consumes old new bytes × (length bytes ≡ count)
 
--- the bytes are told, and there are at most so many
+-- the bytes can be observed, and there are at most so many
 abbrev pub FitsWithin : Option (List ℕ) → ℕ → Type 0
 FitsWithin None limit = ⊥
 FitsWithin (Some bytes) limit = length bytes ≤ limit

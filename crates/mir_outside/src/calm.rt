@@ -28,7 +28,7 @@ impl Model for CalmSource {
 }
 
 impl CalmSource {
-    /// A source of these bytes. It takes no memory.
+    /// A source of these bytes. It does not allocate.
     pub fn new(bytes: Vec<u8>) -> Self
         ensures { result ≡ bytes.items }
     {
@@ -57,12 +57,12 @@ impl Source for CalmSource {
     }
 }
 
-/// A sink that takes every piece whole, keeps none of it, and never fails. It does not tell its bytes.
+/// A sink that takes every piece whole, keeps none of it, and never fails. Its bytes cannot be observed.
 #[derive(Clone, Copy, Debug, PartialEq, Eq)]
 pub struct CalmSink;
 
 impl CalmSink {
-    /// It takes no memory.
+    /// A sink that never fails. It does not allocate.
     pub fn new() -> Self {
         CalmSink
     }
@@ -73,7 +73,7 @@ impl Sink for CalmSink {
 
     ghost faults = { λ s. 0 };
 
-    /// Takes the whole piece. It takes no memory.
+    /// Takes the whole piece. It does not allocate.
     fn write(&mut self, piece: &[u8]) -> Result<usize, Failed>
         ensures bound { WritesAtMost result piece.now }
         ensures progress { 0 < length piece.now → IfOk result (λ n. 0 < n) }

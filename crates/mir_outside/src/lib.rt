@@ -1,22 +1,20 @@
 //! The outside of the program: where its bytes come from, and where they go.
 //!
 //! Bytes come in by a `Source` and go out by a `Sink`. A device outside may fail at any call, so each keeps a count of
-//! its faults: `Failed` is answered only where that count rose in the call, or stands at its last value. `StdSource`
-//! and `StdSink` are those over std's readers and writers, and `MemSource` and `MemSink` those in memory, which fail
-//! where they are told to. `CalmSource` and `CalmSink` never fail.
+//! its faults: `Failed` is returned only where that count rose in the call, or has saturated. `StdSource` and `StdSink`
+//! are those over std's readers and writers, and `MemSource` and `MemSink` those in memory, which fail at the calls that
+//! are listed when they are made. `CalmSource` and `CalmSink` never fail.
 //!
-//! The theorem is that `read_all` answers all bytes of its source to the end, and that `write_all` writes all of its
-//! piece, or that they say why not. `TooLong` comes exactly where one byte more than the limit came, and `Failed`
-//! where the device failed. Where a source or a sink tells its bytes, those that were then taken or written are a front of
-//! those that there were, and no more than one byte beyond the limit is taken.
+//! The theorem is that `read_all` returns all bytes of its source to the end, and that `write_all` writes all of its
+//! piece, or that they say why not. `TooLong` comes exactly where one byte more than the limit came, and `Failed` where
+//! the device failed. Where the bytes of a source or a sink can be observed, those that were then taken or written are a
+//! prefix of those that there were, and no more than one byte beyond the limit is taken.
 #![tactic(auto)]
 
 mod calm;
 mod memory;
 mod sink;
 mod source;
-#[cfg(test)]
-mod tests;
 mod transfer;
 
 pub use calm::{CalmSink, CalmSource};
@@ -27,11 +25,10 @@ use std::alloc::AllocError;
 use thiserror::Error;
 pub use transfer::{ReadFault, read_all, write_all};
 
-/// Want of memory: the allocator refused.
+/// There is not enough memory: the allocator refused.
 pub type Memory = AllocError;
 
-/// A call of a source or a sink failed. It comes only where the count of faults rose in that call, or stands at its
-/// last value.
+/// A call of a source or a sink failed. It comes only where the count of faults rose in that call, or has saturated.
 #[derive(Clone, Copy, Debug, PartialEq, Eq, Error)]
 #[error("the call failed")]
 pub struct Failed;

@@ -1,4 +1,4 @@
-// A source and a sink in memory, which fail at the calls that they are told to fail at.
+// A source and a sink in memory, which fail at the calls that are listed when they are made.
 ghost use Rattle.std.specs.Prelude.{◌≡◌, ◌+◌, ◌-◌, ◌<◌, ◌≤◌, ◌^◌, ◌↔◌, ◌⊎◌, min, [], ◌++◌, length, take, drop, Contains, Some, OnOk, OnErr, IfOk, IsErr, MatchResult};
 ghost use Rattle.std.specs.Io.{ReadsAtMost, WritesAtMost};
 ghost use Rattle.std.specs.Io.KnownBytes.{ReadConsumes, WriteAppends};
@@ -11,7 +11,7 @@ use std::marker::Model;
 
 /// A source that gives bytes from memory in small pieces, and fails at chosen calls.
 ///
-/// Contracts see a `SourceState`. Both its counts, of calls and of faults, stand still at 2^64 - 1.
+/// Contracts see a `SourceState`. Both its counts, of calls and of faults, saturate at 2^64 - 1.
 #[derive(Drop)]
 pub struct MemSource {
     bytes: Vec<u8>,
@@ -79,8 +79,9 @@ impl Source for MemSource {
         ensures fails { IsErr result ↔ Contains self.old.fails self.new.calls }
         ensures count { IfOk result (λ n.
             n ≡ min (length buf.old) (min self.old.piece (length self.old.left))) }
-        ensures rest { MatchResult result (λ n. drop n buf.new ≡ drop n buf.old) (λ _. buf.new ≡ buf.old) }
-        ensures calm { OnOk result (self.new.faults ≡ self.old.faults) }
+        ensures rest { MatchResult result
+            (λ n. drop n buf.new ≡ drop n buf.old) (λ _. buf.new ≡ buf.old) }
+        ensures no_fault { OnOk result (self.new.faults ≡ self.old.faults) }
         ensures rises { OnErr result (self.new.faults ≡ next_count self.old.faults) }
         ensures same { (self.new.piece ≡ self.old.piece) × (self.new.fails ≡ self.old.fails) }
     {
@@ -99,7 +100,7 @@ impl Source for MemSource {
 
 /// A sink that keeps its bytes in memory, takes them in small pieces, and fails at chosen calls or when it is full.
 ///
-/// Contracts see a `SinkState`. Both its counts, of calls and of faults, stand still at 2^64 - 1.
+/// Contracts see a `SinkState`. Both its counts, of calls and of faults, saturate at 2^64 - 1.
 #[derive(Drop)]
 pub struct MemSink {
     bytes: Vec<u8>,
@@ -125,14 +126,15 @@ impl Model for MemSink {
       faults = s.faults;
     } };
 
-    // The room is there from the start, so no write takes memory.
-    ghost invariant = { λ s. (vec_len s.bytes ≤ s.room) × (s.room ≤ vec_capacity s.bytes) × (0 < s.piece) };
+    // The room is there from the start, so no write allocates.
+    ghost invariant = { λ s.
+        (vec_len s.bytes ≤ s.room) × (s.room ≤ vec_capacity s.bytes) × (0 < s.piece) };
 }
 
 impl MemSink {
-    /// An empty sink with the memory for `room` bytes, which takes at most `piece` of them in a call, which is at
-    /// least 1. A call fails exactly where its number, counted from 1, stands in `fails`, or its piece is not empty
-    /// and `room` bytes are already written. The only refusal is want of memory.
+    /// An empty sink with the memory for `room` bytes, which takes at most `piece` of them in a call, which is at least
+    /// 1. A call fails exactly where its number, counted from 1, stands in `fails`, or its piece is not empty and
+    /// `room` bytes are already written. It fails only with `Memory`.
     pub fn new(alloc: Global, piece: usize, fails: Vec<u64>, room: usize) -> Result<Self, Memory>
         requires { 0 < piece }
         ensures { IfOk result (λ s. s ≡ record {
@@ -167,11 +169,12 @@ impl Sink for MemSink {
 
     ghost faults = { λ s. s.faults };
 
-    /// Takes as many bytes as the piece has, there is room for and are allowed in one call. It takes no memory.
+    /// Takes as many bytes as the piece has, there is room for and are allowed in one call. It does not allocate.
     fn write(&mut self, piece: &[u8]) -> Result<usize, Failed>
         ensures bound { WritesAtMost result piece.now }
         ensures progress { 0 < length piece.now → IfOk result (λ n. 0 < n) }
-        ensures bytes { WriteAppends (Some self.old.written) (Some self.new.written) result piece.now }
+        ensures bytes { let written = ⟦<MemSink as Sink>⟧.written in
+            WriteAppends (written self.old) (written self.new) result piece.now }
         ensures cause { HasCause self.old.faults self.new.faults result }
 
         ensures calls { self.new.calls ≡ next_count self.old.calls }
@@ -179,7 +182,7 @@ impl Sink for MemSink {
             ((0 < length piece.now) × (length self.old.written ≡ self.old.room))) }
         ensures count { IfOk result (λ n. n ≡
             min (length piece.now) (min self.old.piece (self.old.room - length self.old.written))) }
-        ensures calm { OnOk result (self.new.faults ≡ self.old.faults) }
+        ensures no_fault { OnOk result (self.new.faults ≡ self.old.faults) }
         ensures rises { OnErr result (self.new.faults ≡ next_count self.old.faults) }
         ensures same { (self.new.piece ≡ self.old.piece) × (self.new.fails ≡ self.old.fails) ×
             (self.new.room ≡ self.old.room) }

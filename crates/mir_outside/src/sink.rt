@@ -13,20 +13,20 @@ use std::io::Write;
 /// Contracts know a sink by two things that no code sees: the bytes that were written to it, and a count of its
 /// faults. The count gives each failure a cause, as that of a `Source` does.
 pub trait Sink {
-    /// The bytes that were written so far, the first one first. `None` where the sink does not tell them, as over
+    /// The bytes that were written so far, the first one first. `None` where they cannot be observed, as over
     /// standard output: then no clause says anything of bytes.
     ghost written: { Self → Option (List ℕ) };
 
-    /// The count of faults so far. It never falls, and stands still at 2^64 - 1, its last value.
+    /// The count of faults so far. It never falls, and saturates at 2^64 - 1.
     ghost faults: { Self → ℕ };
 
-    /// Appends a front of the piece.
+    /// Appends a prefix of the piece.
     ///
     /// `Ok(n)` says that `piece[..n]` was appended. It is at least one byte where `piece` is not empty, and at most
     /// all of it.
     ///
-    /// `Failed` comes only where the count of faults rose in this call, or stands at its last value. This call then
-    /// appended nothing, and a later one may go on.
+    /// `Failed` comes only where the count of faults rose in this call, or has saturated. This call then appended
+    /// nothing, and a later one may go on.
     fn write(&mut self, piece: &[u8]) -> Result<usize, Failed>
         ensures bound { WritesAtMost result piece.now }
         ensures progress { 0 < length piece.now → IfOk result (λ n. 0 < n) }
@@ -34,8 +34,8 @@ pub trait Sink {
         ensures cause { HasCause (faults self.old) (faults self.new) result };
 }
 
-/// A sink over any writer of std. It tells the bytes that the writer tells. Each error of the writer is a fault, and
-/// so is `Ok(0)` for a piece that is not empty.
+/// A sink over any writer of std. Its bytes can be observed where those of the writer can. Each error of the writer is
+/// a fault, and so is `Ok(0)` for a piece that is not empty.
 #[derive(Drop)]
 pub struct StdSink<W> {
     inner: W,
@@ -67,7 +67,7 @@ impl<W: Write> Sink for StdSink<W> {
         ensures cause { let faults = ⟦<StdSink<W> as Sink>⟧.faults in
             HasCause (faults self.old) (faults self.new) result }
 
-        ensures calm { let faults = ⟦<StdSink<W> as Sink>⟧.faults in
+        ensures no_fault { let faults = ⟦<StdSink<W> as Sink>⟧.faults in
             OnOk result (faults self.new ≡ faults self.old) }
         ensures rises { let faults = ⟦<StdSink<W> as Sink>⟧.faults in
             OnErr result (faults self.new ≡ next_count (faults self.old)) }

@@ -12,29 +12,30 @@ use std::io::Read;
 ///
 /// Contracts know a source by two things that no code sees: the bytes that are left in it, and a count of its faults.
 /// The count gives each failure a cause, so that no call can blame a device that did not fail: a caller that sees
-/// `Failed` knows that the count rose in this very call, or that there were so many faults that it stands still.
+/// `Failed` knows that the count rose in this very call, or that there were so many faults that it saturates.
 pub trait Source {
-    /// The bytes that are left, the next one first. `None` where the source does not tell them, as over standard
-    /// input: then no clause says anything of bytes.
+    /// The bytes that are left, the next one first. `None` where they cannot be observed, as over standard input:
+    /// then no clause says anything of bytes.
     ghost left: { Self → Option (List ℕ) };
 
-    /// The count of faults so far. It never falls, and stands still at 2^64 - 1, its last value.
+    /// The count of faults so far. It never falls, and saturates at 2^64 - 1.
     ghost faults: { Self → ℕ };
 
-    /// Moves the next bytes into the front of `buf`.
+    /// Moves the next bytes to the start of `buf`.
     ///
     /// `Ok(n)` says that `n` bytes came, at most the length of `buf`. They stand in `buf[..n]`, and are left no more.
     /// `Ok(0)` on a `buf` that is not empty is the end: no byte is left.
     ///
-    /// `Failed` comes only where the count of faults rose in this call, or stands at its last value. No byte is then
-    /// taken, and a later call may go on.
+    /// `Failed` comes only where the count of faults rose in this call, or has saturated. No byte is then taken, and a
+    /// later call may go on.
     fn read(&mut self, buf: &mut [u8]) -> Result<usize, Failed>
         ensures bound { ReadsAtMost result buf.new }
         ensures bytes { ReadConsumes (left self.old) (left self.new) result buf.new }
         ensures cause { HasCause (faults self.old) (faults self.new) result };
 }
 
-/// A source over any reader of std. It tells the bytes that the reader tells, and each error of the reader is a fault.
+/// A source over any reader of std. Its bytes can be observed where those of the reader can, and each error of the
+/// reader is a fault.
 #[derive(Drop)]
 pub struct StdSource<R> {
     inner: R,
@@ -64,7 +65,7 @@ impl<R: Read> Source for StdSource<R> {
         ensures cause { let faults = ⟦<StdSource<R> as Source>⟧.faults in
             HasCause (faults self.old) (faults self.new) result }
 
-        ensures calm { let faults = ⟦<StdSource<R> as Source>⟧.faults in
+        ensures no_fault { let faults = ⟦<StdSource<R> as Source>⟧.faults in
             OnOk result (faults self.new ≡ faults self.old) }
         ensures rises { let faults = ⟦<StdSource<R> as Source>⟧.faults in
             OnErr result (faults self.new ≡ next_count (faults self.old)) }

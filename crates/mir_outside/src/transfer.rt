@@ -22,17 +22,17 @@ pub enum ReadFault {
     Memory(Memory),
 }
 
-// How many bytes are asked for in one call.
+/// How many bytes are asked for in one call.
 const CHUNK: usize = 4096;
 
-/// Reads a source to its end, and answers all its bytes, where there are at most `limit`, which is below the greatest
+/// Reads a source to its end, and returns all its bytes, where there are at most `limit`, which is below the greatest
 /// `usize`.
 ///
-/// Never more than `limit + 1` bytes are taken, and where the source tells its bytes, exactly those that were taken
-/// are gone after any answer. The refusals:
+/// Never more than `limit + 1` bytes are taken, and where the bytes can be observed, exactly those that were taken are
+/// gone after any answer. The refusals:
 ///
-/// - `Failed`, only where the source's count of faults rose in this call or stands at its last value. At most `limit`
-///   bytes were then taken.
+/// - `Failed`, only where the source's count of faults rose in this call or has saturated. At most `limit` bytes were
+///   then taken.
 /// - `TooLong`, exactly where `limit + 1` bytes came.
 /// - `Memory`, at any point.
 pub fn read_all<S: Source>(
@@ -52,7 +52,8 @@ pub fn read_all<S: Source>(
         TakesAtMost (S.left source.old) (S.left source.new) limit }
 
     ensures count { NeverFalls (S.faults source.old) (S.faults source.new) }
-    ensures failed { IsErrOf result ReadFault.Failed → Rose (S.faults source.old) (S.faults source.new) }
+    ensures failed { IsErrOf result ReadFault.Failed →
+        Rose (S.faults source.old) (S.faults source.new) }
 
     // With bytes that fit and no fault, only memory can be missing.
     ensures complete { FitsWithin (S.left source.old) limit →
@@ -77,10 +78,10 @@ pub fn read_all<S: Source>(
     Err(ReadFault::TooLong)
 }
 
-/// Writes the whole piece. It takes no memory.
+/// Writes the whole piece. It does not allocate.
 ///
-/// `Failed` comes only where the sink's count of faults rose in this call or stands at its last value. A proper prefix
-/// of the piece was then appended.
+/// `Failed` comes only where the sink's count of faults rose in this call or has saturated. A proper prefix of the piece
+/// was then appended.
 pub fn write_all<K: Sink>(sink: &mut K, piece: &[u8]) -> Result<(), Failed>
     ensures whole { OnOk result (Appends (K.written sink.old) (K.written sink.new) piece.now) }
     ensures part { OnErr result (AppendsPart (K.written sink.old) (K.written sink.new) piece.now) }

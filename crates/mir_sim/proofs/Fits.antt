@@ -6,7 +6,7 @@ use Rattle.mir_base.specs.declared.instructions.Rhs.{Rhs}
 use Rattle.mir_base.specs.declared.instructions.Inst.{Inst}
 use Rattle.mir_base.specs.declared.instructions.Inst.TheVariants.{Receive, Assign, Goto, If, Call, Print, Return}
 use Rattle.mir_base.specs.Shapes.{UnitShape, ProgramShape, IsProgram, body_or_empty}
-use Rattle.mir_base.specs.Frames.{Entry, Values, Frame, Continues, Traps}
+use Rattle.mir_base.specs.Frames.{CallEntry, Values, Frame, Continues, Traps}
 use Rattle.mir_base.specs.Units.{operand_value, assigned, assign_transition, inst_transition, body_code}
 use Rattle.mir_base.specs.Runs.{codes_of}
 use Rattle.mir_base.specs.UnitRuns.{machine_at, IsEntry}
@@ -17,10 +17,11 @@ use Rattle.mir_base.specs.FrameLaws.{FrameFits, operand_fits, operands_fit, rhs_
 use Rattle.mir_sim.proofs.Stacks.{Kept}
 
 -- the unit is there, and this may be handed over to it
-pub record Callable (program : ProgramShape) (u : ℕ) (entry : Entry) : Type 0 where
+pub record Callable (program : ProgramShape) (u : ℕ) (entry : CallEntry) : Type 0 where
   pub there : u < length program.units
   pub entry_is : IsEntry (machine_at program u) entry
 
+-- each operand has one value
 operands_long : (values : Values) (operands : List Operand) → length (map (operand_value values) operands) ≡ length operands
 operands_long values [] = refl
 operands_long values (a ∷ operands) = ap suc (operands_long values operands)

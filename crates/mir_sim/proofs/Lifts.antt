@@ -1,15 +1,16 @@
 -- From units to programs.
 use Rattle.std.proofs.Common.{◌≡◌, ℕ, zero, suc, ◌+◌, ◌<◌, ◌≤◌, List, [], length, ℤ, refl, sym, ap, ◌∙◌, subst, arith, append-nil, add_comm}
 use Rattle.mir_base.specs.Shapes.{ProgramShape, IsProgram}
-use Rattle.mir_base.specs.Frames.{Entry, first_frame, Code}
-use Rattle.mir_base.specs.Runs.{AreNumbers, Control, Running, Ended, Stopped, State, step_at, step, steps, first_state, codes_of, run, inputs_of, IsOverAs, Follows, Same, Cheaper}
-use Rattle.mir_base.specs.UnitRuns.{machine_at, UnitFollows}
+use Rattle.mir_base.specs.Frames.{CallEntry, first_frame, Code}
+use Rattle.mir_base.specs.Runs.{AreNumbers, Control, Running, Ended, Stopped, State, step_at, step, steps, first_state, codes_of, run, inputs_of, IsOverAs, Follows, Cheaper}
 use Rattle.mir_base.specs.FrameLaws.{first_fits}
 use Rattle.mir_sim.specs.Pairs.{AllUnitsFollow, AllUnitsSame, AllUnitsCheaper}
-use Rattle.mir_sim.proofs.Stacks.{Standing, MatchControl, MatchState, steps-add, all_steps}
+use Rattle.mir_base.specs.RunLaws.{steps_add}
+use Rattle.mir_sim.proofs.Stacks.{Standing, MatchControl, MatchState, all_steps}
 use Rattle.mir_sim.proofs.Fits.{Callable, keeps}
 
-enters : (Q : Type 0) (first second : ProgramShape) → AllUnitsFollow first second → (Q → AllUnitsCheaper first second) → (u : ℕ) (entry : Entry) → Callable first u entry → Standing Q (codes_of first u) (codes_of second u) (first_frame entry) (first_frame entry) 0 0
+-- a call starts both units with the same arguments and no cost
+enters : (Q : Type 0) (first second : ProgramShape) → AllUnitsFollow first second → (Q → AllUnitsCheaper first second) → (u : ℕ) (entry : CallEntry) → Callable first u entry → Standing Q (codes_of first u) (codes_of second u) (first_frame entry) (first_frame entry) 0 0
 enters Q first second units cheap u entry c = record {
   pair = record {
     follows = record { by = λ answers are n. (units.follows u c.there).follows entry answers c.entry_is are n };
@@ -31,12 +32,14 @@ matched Q first second is units cheap inputs long numbers n =
 
 -- ---- Same
 
+-- where the first run is over, the second is over in the same way
 over_as : (Q : Type 0) (codes codes' : ℕ → Code) (s t : State) (c d : Control) (E E' : ℕ) → t.control ≡ d → s.printed ≡ t.printed → MatchControl Q codes codes' c d E E' → IsOverAs s t c
 over_as Q codes codes' s t (Running u f ps) d E E' is same m = tt
 over_as Q codes codes' s t (Ended v) (Ended w) E E' is same m = (is ∙ ap Ended (sym m.0), sym same)
 over_as Q codes codes' s t (Stopped k) (Stopped l) E E' is same m = (is ∙ ap Stopped (sym m), sym same)
 over_as Q codes codes' s t _ _ E E' is same m = absurd m
 
+-- the second program does whatever the first does
 pub follows : (first second : ProgramShape) → IsProgram first.units → AllUnitsFollow first second → Follows first second
 follows first second is units =
     record {
@@ -56,6 +59,7 @@ follows first second is units =
 pub forth : (first second : ProgramShape) → AllUnitsSame first second → AllUnitsFollow first second
 forth first second units = record { follows = λ u h. (units.same u h).forth }
 
+-- where units do the same, those of the first do whatever those of the second do
 pub back : (first second : ProgramShape) → AllUnitsSame first second → AllUnitsFollow second first
 back first second units = record { follows = λ u h. let h' : u < length first.units = omega (arith, units.units) in (units.same u h').back }
 
@@ -68,18 +72,21 @@ stays codes (suc k) s v is =
     let same : step codes s ≡ s = ap (λ c. step_at codes c s) is in
     ap (steps codes k) same ∙ stays codes k s v is
 
+-- a run that has ended stays as it is, so it has one last state
 one_end : (codes : ℕ → Code) (k m : ℕ) (s : State) (v w : ℤ) → (steps codes k s).control ≡ Ended v → (steps codes m s).control ≡ Ended w → steps codes k s ≡ steps codes m s
 one_end codes k m s v w is is' =
-    let one : steps codes (k + m) s ≡ steps codes k s = steps-add codes k m s ∙ stays codes m (steps codes k s) v is in
-    let two : steps codes (m + k) s ≡ steps codes m s = steps-add codes m k s ∙ stays codes k (steps codes m s) w is' in
+    let one : steps codes (k + m) s ≡ steps codes k s = steps_add codes k m s ∙ stays codes m (steps codes k s) v is in
+    let two : steps codes (m + k) s ≡ steps codes m s = steps_add codes m k s ∙ stays codes k (steps codes m s) w is' in
     sym one ∙ ap (λ n. steps codes n s) (add_comm k m) ∙ two
 
+-- where the first run ended, the second one ended with the same answer, at no greater cost
 ends_cheaper : (Q : Type 0) (codes codes' : ℕ → Code) (v : ℤ) (c d : Control) (E E' : ℕ) → c ≡ Ended v → Q → MatchControl Q codes codes' c d E E' → (d ≡ Ended v) × (E' ≤ E)
 ends_cheaper Q codes codes' v (Running u f ps) d E E' is q m = cc
 ends_cheaper Q codes codes' v (Stopped k) d E E' is q m = cc
 ends_cheaper Q codes codes' v (Ended w) (Ended x) E E' is q m = (ap Ended (sym m.0) ∙ is, m.1 q)
 ends_cheaper Q codes codes' v (Ended w) _ E E' is q m = absurd m
 
+-- the second program evaluates no more operators
 pub lifts_cheaper : (first second : ProgramShape) → IsProgram first.units → AllUnitsSame first second → AllUnitsCheaper first second → Cheaper first second
 lifts_cheaper first second is units cheap =
     record {

@@ -1,15 +1,17 @@
 -- One stack of frames follows another, where each frame of the one follows the frame of the other at the same height.
-use Rattle.std.proofs.Common.{◌≡◌, ℕ, zero, suc, ◌+◌, ◌≤◌, List, [], ◌∷◌, ℤ, Option, refl, sym, ap, ◌∙◌, subst, arith, zero-add, suc-add, add-zero}
+use Rattle.std.proofs.Common.{◌≡◌, ℕ, zero, suc, ◌+◌, ◌≤◌, List, [], ◌∷◌, ℤ, Option, refl, sym, ap, ◌∙◌, subst, arith, add-zero}
 use Rattle.mir_base.specs.declared.operators.Trap.{Trap}
-use Rattle.mir_base.specs.Frames.{Entry, Answer, Frame, first_frame, resumed, Transition, Continues, Prints, Calls, Returns, Traps, Code}
+use Rattle.mir_base.specs.Frames.{CallEntry, Answer, Frame, first_frame, resumed, Transition, Continues, Prints, Calls, Returns, Traps, Code}
 use Rattle.mir_base.specs.Runs.{Caller, Control, Running, Ended, Stopped, State, returned, state_after, step, steps}
-use Rattle.mir_base.specs.UnitRuns.{Printed, Called, Returned, Trapped, IsAnswer}
+use Rattle.mir_base.specs.UnitRuns.{Printed, Called, Returned, Trapped, IsCallAnswer}
 use Rattle.mir_base.specs.Simulations.{Silently}
+use Rattle.mir_base.specs.RunLaws.{steps_add}
 use Rattle.mir_base.specs.FrameLaws.{FrameFits, resumed_fits}
 use Rattle.mir_sim.proofs.Follows.{Shows, catches_up, pair_on_left, pair_on_right, pair_after_prints, pair_after_call, pair_at_return, Pair}
 
 -- ---- the only transitions that show an event
 
+-- only a print shows a printed value
 shows_print : (v : ℤ) (t : Transition) → Shows (Printed v) t → (next : Frame) × (t ≡ Prints v next)
 shows_print v (Continues n next) s = absurd s
 shows_print v (Prints w next) s = (next, cc)
@@ -17,13 +19,15 @@ shows_print v (Calls u entry into next) s = cc
 shows_print v (Returns answer) s = cc
 shows_print v (Traps kind n) s = cc
 
-shows_call : (u : ℕ) (entry : Entry) (t : Transition) → Shows (Called u entry) t → (into : Option ℕ) × (next : Frame) × (t ≡ Calls u entry into next)
+-- only a call shows a call
+shows_call : (u : ℕ) (entry : CallEntry) (t : Transition) → Shows (Called u entry) t → (into : Option ℕ) × (next : Frame) × (t ≡ Calls u entry into next)
 shows_call u entry (Continues n next) s = absurd s
 shows_call u entry (Prints w next) s = cc
 shows_call u entry (Calls u' entry' into next) s = (into, next, cc)
 shows_call u entry (Returns answer) s = cc
 shows_call u entry (Traps kind n) s = cc
 
+-- only a return shows an answer
 shows_return : (answer : Answer) (t : Transition) → Shows (Returned answer) t → t ≡ Returns answer
 shows_return answer (Continues n next) s = absurd s
 shows_return answer (Prints w next) s = cc
@@ -31,6 +35,7 @@ shows_return answer (Calls u entry into next) s = cc
 shows_return answer (Returns w) s = cc
 shows_return answer (Traps kind n) s = cc
 
+-- only a trap shows a trap
 shows_trap : (kind : Trap) (t : Transition) → Shows (Trapped kind) t → (n : ℕ) × (t ≡ Traps kind n)
 shows_trap kind (Continues n next) s = absurd s
 shows_trap kind (Prints w next) s = cc
@@ -41,11 +46,11 @@ shows_trap kind (Traps l n) s = (n, cc)
 -- ---- two stacks that match
 
 -- what a transition keeps: values stay signed 64-bit numbers, and only what may be called is called
-abbrev pub Kept : (ℕ → Entry → Type 0) → Transition → Type 0
+abbrev pub Kept : (ℕ → CallEntry → Type 0) → Transition → Type 0
 Kept Callable (Continues n next) = FrameFits next
 Kept Callable (Prints v next) = FrameFits next
 Kept Callable (Calls u entry into next) = Callable u entry × FrameFits next
-Kept Callable (Returns answer) = IsAnswer answer
+Kept Callable (Returns answer) = IsCallAnswer answer
 Kept Callable (Traps kind n) = Unit {0}
 
 -- Two frames in stacks that have counted E and E' in all, without the frames above: what the two frames counted of that
@@ -67,17 +72,20 @@ pub record Standing (Q : Type 0) (c d : Code) (f g : Frame) (x y : ℕ) : Type 0
 
 -- two callers, of which the second follows the first with every answer
 pub record Waiting (Q : Type 0) (codes codes' : ℕ → Code) (p q : Caller) (x y : ℕ) : Type 0 where
-  pub goes_on : (answer : Answer) → IsAnswer answer → Pair Q (codes p.unit) (codes' q.unit) x y (resumed p.into answer p.frame) (resumed q.into answer q.frame)
+  pub goes_on : (answer : Answer) → IsCallAnswer answer → Pair Q (codes p.unit) (codes' q.unit) x y (resumed p.into answer p.frame) (resumed q.into answer q.frame)
   pub fits : FrameFits p.frame
 
+-- each caller follows the one of the same height
 abbrev pub MatchCallers : (Q : Type 0) (codes codes' : ℕ → Code) → List Caller → List Caller → ℕ → ℕ → Type 0
 MatchCallers Q codes codes' [] [] E E' = Q → E' ≤ E
 MatchCallers Q codes codes' (p ∷ ps) (q ∷ qs) E E' = Layer E E' (MatchCallers Q codes codes' ps qs) (Waiting Q codes codes' p q)
 MatchCallers Q codes codes' _ _ E E' = ⊥
 
+-- and so does the running frame
 abbrev pub MatchRunning : (Q : Type 0) (codes codes' : ℕ → Code) → ℕ → Frame → List Caller → ℕ → Frame → List Caller → ℕ → ℕ → Type 0
 MatchRunning Q codes codes' u f ps u' g qs E E' = Layer E E' (MatchCallers Q codes codes' ps qs) (Standing Q (codes u) (codes' u') f g)
 
+-- the runs stand alike
 abbrev pub MatchControl : (Q : Type 0) (codes codes' : ℕ → Code) → Control → Control → ℕ → ℕ → Type 0
 MatchControl Q codes codes' (Running u f ps) (Running u' g qs) E E' = MatchRunning Q codes codes' u f ps u' g qs E E'
 MatchControl Q codes codes' (Ended v) (Ended w) E E' = (v ≡ w) × (Q → E' ≤ E)
@@ -91,10 +99,7 @@ pub record MatchState (Q : Type 0) (codes codes' : ℕ → Code) (s t : State) :
 
 -- ---- steps of a stack
 
-pub steps-add : (codes : ℕ → Code) (k m : ℕ) (s : State) → steps codes (k + m) s ≡ steps codes m (steps codes k s)
-steps-add codes zero m s = rw (zero-add m)
-steps-add codes (suc k) m s = rw (suc-add k m) (steps-add codes k m (step codes s))
-
+-- a state of these
 abbrev state : List ℤ → Control → ℕ → ℕ → State
 state printed control counted depth = record { printed = printed; control = control; counted = counted; depth = depth }
 
@@ -110,11 +115,11 @@ silent_steps codes u (suc k) g h n s printed callers counted depth =
 -- silent steps, and then a transition
 then_step : (codes : ℕ → Code) (u k : ℕ) (g h : Frame) (n : ℕ) → Silently (codes u) k g h n → (t : Transition) → codes u h ≡ t → (printed : List ℤ) (callers : List Caller) (counted depth : ℕ) → steps codes (k + 1) (state printed (Running u g callers) counted depth) ≡ state_after u callers t (state printed (Running u h callers) (counted + n) depth)
 then_step codes u k g h n s t is printed callers counted depth =
-    steps-add codes k 1 _ ∙ ap (steps codes 1) (silent_steps codes u k g h n s printed callers counted depth) ∙ ap (λ t'. state_after u callers t' (state printed (Running u h callers) (counted + n) depth)) is
+    steps_add codes k 1 _ ∙ ap (steps codes 1) (silent_steps codes u k g h n s printed callers counted depth) ∙ ap (λ t'. state_after u callers t' (state printed (Running u h callers) (counted + n) depth)) is
 
-module _ (Q : Type 0) (codes codes' : ℕ → Code) (Callable : ℕ → Entry → Type 0)
+module _ (Q : Type 0) (codes codes' : ℕ → Code) (Callable : ℕ → CallEntry → Type 0)
     (keeps : (u : ℕ) (f : Frame) → FrameFits f → Kept Callable (codes u f))
-    (enters : (u : ℕ) (entry : Entry) → Callable u entry → Standing Q (codes u) (codes' u) (first_frame entry) (first_frame entry) 0 0) where
+    (enters : (u : ℕ) (entry : CallEntry) → Callable u entry → Standing Q (codes u) (codes' u) (first_frame entry) (first_frame entry) 0 0) where
   -- what a frame that returns leaves to its callers
   more_counted : (ps qs : List Caller) (A A' a b : ℕ) → (Q → b ≤ a) → MatchCallers Q codes codes' ps qs A A' → MatchCallers Q codes codes' ps qs (A + a) (A' + b)
   more_counted [] [] A A' a b h m = λ q. omega (arith, h q, m q)
@@ -132,7 +137,7 @@ module _ (Q : Type 0) (codes codes' : ℕ → Code) (Callable : ℕ → Entry �
         below = more_counted ps qs m.others m.others' a b h m.below;
       }
 
-  returns_alike : (answer : Answer) → IsAnswer answer → (ps qs : List Caller) (E E' : ℕ) → MatchCallers Q codes codes' ps qs E E' → MatchControl Q codes codes' (returned answer ps) (returned answer qs) E E'
+  returns_alike : (answer : Answer) → IsCallAnswer answer → (ps qs : List Caller) (E E' : ℕ) → MatchCallers Q codes codes' ps qs E E' → MatchControl Q codes codes' (returned answer ps) (returned answer qs) E E'
   returns_alike answer is [] [] E E' m = (refl, m)
   returns_alike answer is [] (q ∷ qs) E E' m = absurd m
   returns_alike answer is (p ∷ ps) [] E E' m = absurd m
@@ -146,6 +151,11 @@ module _ (Q : Type 0) (codes codes' : ℕ → Code) (Callable : ℕ → Entry �
     here = record { pair = m.here.goes_on answer is; fits = resumed_fits p.into answer p.frame is m.here.fits };
     below = m.below;
   }
+
+  -- where the second frame comes, after silent steps, to a transition that leads to a matching state, so does the second
+  -- stack, with one step more
+  matches_after : (s : State) (printed : List ℤ) (u k : ℕ) (g h : Frame) (n : ℕ) (qs : List Caller) (E D : ℕ) (t : Transition) → Silently (codes' u) k g h n → codes' u h ≡ t → MatchState Q codes codes' s (state_after u qs t (state printed (Running u h qs) (E + n) D)) → (j : ℕ) × MatchState Q codes codes' s (steps codes' j (state printed (Running u g qs) E D))
+  matches_after s printed u k g h n qs E D t silent is done = (k + 1, subst (MatchState Q codes codes' s) (sym (then_step codes' u k g h n silent t is printed qs E D)) done)
 
   -- one step of the first stack: some number of steps of the second match it
   one_transition : (printed : List ℤ) (u : ℕ) (f : Frame) (ps : List Caller) (u' : ℕ) (g : Frame) (qs : List Caller) (E E' D D' : ℕ) (t : Transition) → codes u f ≡ t → MatchRunning Q codes codes' u f ps u' g qs E E' → (k : ℕ) × MatchState Q codes codes' (state_after u ps t (state printed (Running u f ps) E D)) (steps codes' k (state printed (Running u' g qs) E' D'))
@@ -170,9 +180,8 @@ module _ (Q : Type 0) (codes codes' : ℕ → Code) (Callable : ℕ → Entry �
       let kept = subst (Kept Callable) is (keeps u f m.here.fits) in
       let c = catches_up (codes u) (codes' u') f g (Printed v) (Prints v next) is refl m.here.pair.follows in
       let w = shows_print v (codes' u' c.h) c.shows in
-      let goes = then_step codes' u' c.k g c.h c.n c.silent (Prints v w.0) w.1 printed qs E' D' in
       let caught = pair_on_right Q (codes u) (codes' u') m.own m.own' f g c.h c.k c.n c.silent m.here.pair in
-      let done : MatchState Q codes codes' (state_after u ps (Prints v next) (state printed (Running u f ps) E D)) (state_after u' qs (Prints v w.0) (state printed (Running u' c.h qs) (E' + c.n) D')) =
+      matches_after (state_after u ps (Prints v next) (state printed (Running u f ps) E D)) printed u' c.k g c.h c.n qs E' D' (Prints v w.0) c.silent w.1 (
       record {
         prints = refl;
         control = record {
@@ -185,15 +194,14 @@ module _ (Q : Type 0) (codes codes' : ℕ → Code) (Callable : ℕ → Entry �
           here = record { pair = pair_after_prints Q (codes u) (codes' u') m.own (m.own' + c.n) f next c.h w.0 v is w.1 caught; fits = kept };
           below = m.below;
         };
-      } in
-      (c.k + 1, subst (MatchState Q codes codes' _) (sym goes) done)
+      }
+      )
   one_transition printed u f ps u' g qs E E' D D' (Calls called entry into next) is m =
       let kept = subst (Kept Callable) is (keeps u f m.here.fits) in
       let c = catches_up (codes u) (codes' u') f g (Called called entry) (Calls called entry into next) is refl m.here.pair.follows in
       let s = shows_call called entry (codes' u' c.h) c.shows in
-      let goes = then_step codes' u' c.k g c.h c.n c.silent (Calls called entry s.0 s.1) s.2 printed qs E' D' in
       let caught = pair_on_right Q (codes u) (codes' u') m.own m.own' f g c.h c.k c.n c.silent m.here.pair in
-      let done : MatchState Q codes codes' (state_after u ps (Calls called entry into next) (state printed (Running u f ps) E D)) (state_after u' qs (Calls called entry s.0 s.1) (state printed (Running u' c.h qs) (E' + c.n) D')) =
+      matches_after (state_after u ps (Calls called entry into next) (state printed (Running u f ps) E D)) printed u' c.k g c.h c.n qs E' D' (Calls called entry s.0 s.1) c.silent s.2 (
       record {
         prints = refl;
         control = record {
@@ -218,28 +226,26 @@ module _ (Q : Type 0) (codes codes' : ℕ → Code) (Callable : ℕ → Entry �
             below = m.below;
           };
         };
-      } in
-      (c.k + 1, subst (MatchState Q codes codes' _) (sym goes) done)
+      }
+      )
   one_transition printed u f ps u' g qs E E' D D' (Returns answer) is m =
       let kept = subst (Kept Callable) is (keeps u f m.here.fits) in
       let c = catches_up (codes u) (codes' u') f g (Returned answer) (Returns answer) is refl m.here.pair.follows in
       let w = shows_return answer (codes' u' c.h) c.shows in
-      let goes = then_step codes' u' c.k g c.h c.n c.silent (Returns answer) w printed qs E' D' in
       let caught = pair_on_right Q (codes u) (codes' u') m.own m.own' f g c.h c.k c.n c.silent m.here.pair in
       let less = pair_at_return Q (codes u) (codes' u') m.own (m.own' + c.n) f c.h answer is w caught in
       let below = more_counted ps qs m.others m.others' m.own (m.own' + c.n) less m.below in
       let sum' : m.others' + (m.own' + c.n) ≡ E' + c.n = omega (arith, m.sum') in
       let below' = subst (λ e'. MatchCallers Q codes codes' ps qs E e') sum' (subst (λ e. MatchCallers Q codes codes' ps qs e (m.others' + (m.own' + c.n))) (sym m.sum) below) in
-      let done : MatchState Q codes codes' (state_after u ps (Returns answer) (state printed (Running u f ps) E D)) (state_after u' qs (Returns answer) (state printed (Running u' c.h qs) (E' + c.n) D')) =
-      record { prints = refl; control = returns_alike answer kept ps qs E (E' + c.n) below' } in
-      (c.k + 1, subst (MatchState Q codes codes' _) (sym goes) done)
+      matches_after (state_after u ps (Returns answer) (state printed (Running u f ps) E D)) printed u' c.k g c.h c.n qs E' D' (Returns answer) c.silent w (
+      record { prints = refl; control = returns_alike answer kept ps qs E (E' + c.n) below' }
+      )
   one_transition printed u f ps u' g qs E E' D D' (Traps kind n) is m =
       let c = catches_up (codes u) (codes' u') f g (Trapped kind) (Traps kind n) is refl m.here.pair.follows in
       let w = shows_trap kind (codes' u' c.h) c.shows in
-      let goes = then_step codes' u' c.k g c.h c.n c.silent (Traps kind w.0) w.1 printed qs E' D' in
-      let done : MatchState Q codes codes' (state_after u ps (Traps kind n) (state printed (Running u f ps) E D)) (state_after u' qs (Traps kind w.0) (state printed (Running u' c.h qs) (E' + c.n) D')) =
-      record { prints = refl; control = refl } in
-      (c.k + 1, subst (MatchState Q codes codes' _) (sym goes) done)
+      matches_after (state_after u ps (Traps kind n) (state printed (Running u f ps) E D)) printed u' c.k g c.h c.n qs E' D' (Traps kind w.0) c.silent w.1 (
+      record { prints = refl; control = refl }
+      )
 
   one_control : (printed : List ℤ) (cs ct : Control) (E E' D D' : ℕ) → MatchControl Q codes codes' cs ct E E' → (k : ℕ) × MatchState Q codes codes' (step codes (state printed cs E D)) (steps codes' k (state printed ct E' D'))
   one_control printed (Running u f ps) (Running u' g qs) E E' D D' m = one_transition printed u f ps u' g qs E E' D D' (codes u f) refl m
@@ -257,4 +263,4 @@ module _ (Q : Type 0) (codes codes' : ℕ → Code) (Callable : ℕ → Entry �
   all_steps (suc n) s t m =
       let r = one_step s t m in
       let rest = all_steps n (step codes s) (steps codes' r.0 t) r.1 in
-      (r.0 + rest.0, subst (MatchState Q codes codes' (steps codes (suc n) s)) (sym (steps-add codes' r.0 rest.0 t)) rest.1)
+      (r.0 + rest.0, subst (MatchState Q codes codes' (steps codes (suc n) s)) (sym (steps_add codes' r.0 rest.0 t)) rest.1)

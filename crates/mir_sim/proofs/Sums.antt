@@ -15,23 +15,28 @@ use Rattle.mir_base.specs.Locksteps.{Alike, Lockstep}
 use Rattle.mir_base.specs.LockstepLaws.{lockstep_same, lockstep_cheaper}
 use Rattle.mir_sim.specs.Pairs.{AllUnitsSame, AllUnitsCheaper}
 
+-- the body that adds
 abbrev sum_body : List Inst
 sum_body = Assign 0 (Binary Add (Const (pos 1)) (Const (pos 2))) ∷ Return (Var 0) ∷ []
 
+-- the body that has the sum
 abbrev three_body : List Inst
 three_body = Assign 0 (Plain (Const (pos 3))) ∷ Return (Var 0) ∷ []
 
+-- 1 and 2 are 3 in words of 64 bits
 sum_is : wrapped (wrapped (pos 1) +ℤ wrapped (pos 2)) ≡ wrapped (pos 3)
 sum_is =
     let one : wrapped (pos 1) ≡ pos 1 = int_wrap_fits w64 (pos 1) (record { sfits = omega arith }) in
     let two : wrapped (pos 2) ≡ pos 2 = int_wrap_fits w64 (pos 2) (record { sfits = omega arith }) in
     ap (λ z. wrapped (z +ℤ wrapped (pos 2))) one ∙ ap (λ z. wrapped (pos 1 +ℤ z)) two
 
+-- both bodies do alike at each place
 alike_at : (place : ℕ) (f : Frame) → Alike (λ g h. g ≡ h) (inst_transition (slice_get sum_body place) f) (inst_transition (slice_get three_body place) f)
 alike_at zero f = (omega arith, ap (λ z. assigned 0 z (f.place + 1) f) sum_is)
 alike_at (suc zero) f = refl
 alike_at (suc (suc place)) f = refl
 
+-- so they go step by step together, from equal frames to equal frames
 lockstep : Lockstep (body_machine sum_body) (body_machine three_body) (λ f g. f ≡ g)
 lockstep = record {
   receives = refl;
@@ -39,6 +44,7 @@ lockstep = record {
   steps = λ f g same. subst (λ h. Alike (λ f' g'. f' ≡ g') ((body_machine sum_body).code f) ((body_machine three_body).code h)) same (alike_at f.place f);
 }
 
+-- a program of one body has one unit, which has this body
 only_body : (units : List UnitShape) (body : List Inst) → map (λ unit. unit.body) units ≡ body ∷ [] → (length units ≡ 1) × (body_at units 0 ≡ body)
 only_body [] body is = cc
 only_body (unit ∷ []) body is = (refl, cc)

@@ -1,4 +1,4 @@
--- Two programs, compared unit by unit.
+-- Two programs, compared unit by unit. Cited by contracts.
 use Rattle.std.specs.Prelude.{◌≡◌, ℕ, ◌<◌, length}
 use Rattle.mir_base.specs.Shapes.{ProgramShape}
 use Rattle.mir_base.specs.UnitRuns.{machine_at, UnitFollows, UnitSame, UnitCheaper}
@@ -8,7 +8,7 @@ pub record AllUnitsSame (first second : ProgramShape) : Type 0 where
   pub units : length first.units ≡ length second.units
   pub same : (u : ℕ) → u < length first.units → UnitSame (machine_at first u) (machine_at second u)
 
--- the second's unit of each number counts no more than the first's
+-- the second's unit of each number evaluates no more operators than the first's
 pub record AllUnitsCheaper (first second : ProgramShape) : Type 0 where
   pub cheaper : (u : ℕ) → u < length first.units → UnitCheaper (machine_at first u) (machine_at second u)
 

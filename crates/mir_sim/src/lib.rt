@@ -1,12 +1,11 @@
 //! From units to programs. In go two programs that are compared unit by unit; out comes a law and no value.
 //!
-//! The theorem that this crate carries is the contract of `lift`: programs whose units do the same do the same, through
-//! calls and recursion to any depth, and where the units count no more, the programs count no more.
+//! The theorem of this crate is the contract of `lift`: programs whose units do the same do the same, through calls and
+//! recursion to any depth, and where the units evaluate no more operators, the programs evaluate no more operators.
 #![tactic(auto)]
 
-ghost use Rattle.std.specs.Prelude.{◌≤◌, ℕ, ℤ, List, length};
-ghost use Rattle.mir_base.specs.Runs.{Cheaper, Follows, Same, run};
-ghost use Rattle.mir_sim.specs.Calls.{CallsHigher, CallsNoMore};
+ghost use Rattle.mir_base.specs.Runs.{Cheaper, Follows, Same};
+ghost use Rattle.mir_sim.specs.Calls.{CallsHigher, CallsNoMore, HasFewFrames};
 ghost use Rattle.mir_sim.specs.Pairs.{AllUnitsCheaper, AllUnitsFollow, AllUnitsSame};
 
 use mir_base::Program;
@@ -14,10 +13,10 @@ use mir_base::Program;
 #[cfg(test)]
 mod tests;
 
-/// A law: where two programs have equally many units, and the units of each number receive equally many arguments and
-/// do the same, for all arguments and all answers to their calls, the programs are the same. Where each unit of the
-/// second besides counts no more than the first's, the second program counts no more on any inputs on which both end.
-/// It takes no memory.
+/// Has no effect; carries the theorem that where two programs have equally many units, and the units of each number
+/// receive equally many arguments and do the same, for all arguments and all answers to their calls, the programs are
+/// the same. Where each unit of the second besides evaluates no more operators than the first's, the second program
+/// evaluates no more operators on any inputs on which both end. It does not allocate.
 pub fn lift(first: &Program, second: &Program)
     requires units { AllUnitsSame first.now second.now }
     ensures same { Same first.now second.now }
@@ -30,7 +29,8 @@ pub fn lift(first: &Program, second: &Program)
     count(first, second);
 }
 
-/// A law: where each unit of a second program does whatever the first's of its number does, so does the program.
+/// Has no effect; carries the theorem that where each unit of a second program does whatever the first's of its number
+/// does, so does the program.
 fn follow(first: &Program, second: &Program)
     requires units { AllUnitsFollow first.now second.now }
     ensures { Follows first.now second.now }
@@ -39,8 +39,8 @@ fn follow(first: &Program, second: &Program)
     let _ = &first.units;
 }
 
-/// A law: where each unit of a second program, which is the same unit by unit, counts no more than the first's, neither
-/// does the program.
+/// Has no effect; carries the theorem that where each unit of a second program, which is the same unit by unit,
+/// evaluates no more operators than the first's, neither does the program.
 fn count(first: &Program, second: &Program)
     requires units { AllUnitsSame first.now second.now }
     ensures { AllUnitsCheaper first.now second.now → Cheaper first.now second.now }
@@ -49,23 +49,23 @@ fn count(first: &Program, second: &Program)
     let _ = &first.units;
 }
 
-/// A law: where each unit of a program calls units of higher numbers alone, no run of it ever has more frames than the
-/// program has units. It takes no memory.
+/// Has no effect; carries the theorem that where each unit of a program calls units of higher numbers alone, no run of it
+/// ever has more frames than the program has units. It does not allocate.
 pub fn has_few_frames(program: &Program)
     requires { CallsHigher program.now }
-    ensures { (inputs : List ℤ) (steps : ℕ) → (run program.now inputs steps).depth ≤ length program.now.units }
+    ensures { HasFewFrames program.now }
 {
     // The proof needs that calls are of units that there are, which each program keeps as its invariant.
     let _ = &program.units;
 }
 
-/// A law: where besides each unit of a second program calls no unit that the first's of its number does not, this holds of
-/// its runs too. It takes no memory.
+/// Has no effect; carries the theorem that where besides each unit of a second program calls no unit that the first's of
+/// its number does not, this holds of its runs too. It does not allocate.
 pub fn both_have_few_frames(first: &Program, second: &Program)
     requires higher { CallsHigher first.now }
     requires no_more { CallsNoMore first.now second.now }
-    ensures first { (inputs : List ℤ) (steps : ℕ) → (run first.now inputs steps).depth ≤ length first.now.units }
-    ensures second { (inputs : List ℤ) (steps : ℕ) → (run second.now inputs steps).depth ≤ length second.now.units }
+    ensures first { HasFewFrames first.now }
+    ensures second { HasFewFrames second.now }
 {
     has_few_frames(first);
     has_few_frames(second);

@@ -1,10 +1,9 @@
 // The law on two programs that differ: one adds two constants, the other has their sum.
-ghost use Rattle.std.specs.Prelude.{◌≡◌, pos, true, List, [], ◌∷◌, map, IfOk, IsTrue};
+ghost use Rattle.std.specs.Prelude.{◌≡◌, pos, List, [], ◌∷◌, map, IfOk, IsTrue};
 ghost use Rattle.mir_base.specs.declared.instructions.Inst.TheVariants.{Assign, Return};
 ghost use Rattle.mir_base.specs.declared.instructions.Operand.TheVariants.{Const, Var};
 ghost use Rattle.mir_base.specs.declared.instructions.Rhs.TheVariants.{Binary, Plain};
 ghost use Rattle.mir_base.specs.declared.operators.Op.TheVariants.{Add};
-ghost use Rattle.mir_base.specs.FirstForm.{is_first_rhs};
 ghost use Rattle.mir_base.specs.Runs.{Cheaper, Same};
 ghost use Rattle.mir_base.specs.Shapes.{rhs_vars};
 
@@ -15,9 +14,9 @@ use std::test::Fail;
 
 /// The program that assigns this right side, which has no variables, and returns it.
 fn program(alloc: Global, rhs: Rhs) -> Result<Program, Fail>
-    requires first { is_first_rhs rhs ≡ true }
-    requires constant { rhs_vars rhs ≡ [] }
-    ensures { IfOk result (λ program. map (λ unit. unit.body) program.units ≡ (Assign 0 rhs ∷ Return (Var 0) ∷ []) ∷ []) }
+    requires { rhs_vars rhs ≡ [] }
+    ensures { let body = Assign 0 rhs ∷ Return (Var 0) ∷ [] in
+        IfOk result (λ program. map (λ unit. unit.body) program.units ≡ body ∷ []) }
 {
     let body = Items::new(alloc)
         .with(Inst::Assign(0, rhs))?
@@ -31,20 +30,22 @@ fn program(alloc: Global, rhs: Rhs) -> Result<Program, Fail>
         name,
         body,
     };
-    let program = Program::of_first_form(alloc, unit)?;
-    Ok(program)
+    Ok(Program::of_unit(alloc, unit)?)
 }
 
 /// What is added can be worked out in advance: the units go in lockstep, and the second counts one evaluation less.
 fn a_sum_is_worked_out(first: &Program, second: &Program)
-    requires sum { map (λ unit. unit.body) first.now.units ≡ (Assign 0 (Binary Add (Const (pos 1)) (Const (pos 2))) ∷ Return (Var 0) ∷ []) ∷ [] }
-    requires worked_out { map (λ unit. unit.body) second.now.units ≡ (Assign 0 (Plain (Const (pos 3))) ∷ Return (Var 0) ∷ []) ∷ [] }
+    requires sum { let rhs = Binary Add (Const (pos 1)) (Const (pos 2)) in
+        map (λ unit. unit.body) first.now.units ≡ (Assign 0 rhs ∷ Return (Var 0) ∷ []) ∷ [] }
+    requires worked_out { let rhs = Plain (Const (pos 3)) in
+        map (λ unit. unit.body) second.now.units ≡ (Assign 0 rhs ∷ Return (Var 0) ∷ []) ∷ [] }
     ensures same { Same first.now second.now }
     ensures cheaper { Cheaper first.now second.now }
 {
     lift(first, second)
 }
 
+/// The law on the two programs.
 #[test]
 fn sums_that_are_worked_out(rt: HostRuntime) -> Result<(), Fail> {
     let alloc = rt.alloc();

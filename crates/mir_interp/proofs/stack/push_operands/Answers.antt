@@ -1,5 +1,6 @@
 use Rattle.std.proofs.Common.{◌-◌, ap, ◌∙◌, arith, rules, length, drop, length-drop, length-take, length-append, SFits, w64, to_z-of_z}
-use Rattle.mir_interp.proofs.Operands.{operand_below, below_more, read_is, pushed_more}
+use Rattle.mir_base.specs.BelowLaws.{all_below_more}
+use Rattle.mir_interp.proofs.Operands.{operand_below, read_is, pushed_more}
 use Rattle.mir_interp.proofs.stack.push_operands.Goals as goal
 
 pub operand-value-requires : goal.operand-value-requires
@@ -7,7 +8,7 @@ operand-value-requires c =
     let read = c.deref.result.now in
     let values = c.args.values.now.items in
     let long = ap length (c.deref.ensures.value ∙ c.loop-a.invariant) ∙ length-append values _ in
-    below_more _ _ _
+    all_below_more _ _ _
     (omega (arith, long, length-take (length read - c.args.variables) (drop c.args.variables read), length-drop c.args.variables read, length-drop c.args.variables values))
     (operand_below _ c.args.operands.now c.loop-a.a-index _ c.loop-a-test.true c.requires.below)
 

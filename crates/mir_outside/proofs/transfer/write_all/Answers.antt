@@ -1,6 +1,7 @@
 use Rattle.std.proofs.Common.{arith, length-drop}
 use Rattle.mir_outside.proofs.Counts.{falls_never_on}
-use Rattle.mir_outside.proofs.Pieces.{appends_on, take_seam}
+use Rattle.mir_outside.specs.SinkLaws.{appends_on}
+use Rattle.mir_outside.proofs.Pieces.{take_seam}
 use Rattle.mir_outside.proofs.transfer.write_all.Goals as goal
 
 pub loop-done-preserved : goal.loop-done-preserved

@@ -1,6 +1,6 @@
 use Rattle.std.proofs.Common.{◌≡◌, ◌+◌, ℕ, suc, max, List, ℤ, arith, sym, ◌∙◌}
 use Rattle.mir_base.specs.Runs.{Control, State}
-use Rattle.mir_interp.proofs.Frames.{length-waiting}
+use Rattle.mir_interp.proofs.Frames.{length_waiting}
 use Rattle.mir_interp.proofs.machine.Machine.execute.Goals as goal
 
 -- the depth that the code finds is that of the definition
@@ -15,9 +15,9 @@ same_state printed counted c d m n same_control same_depth = cc
 
 pub returns-then-self-gt-MOST_FRAMES-clause-fault : goal.returns-then-self-gt-MOST_FRAMES-clause-fault
 returns-then-self-gt-MOST_FRAMES-clause-fault c =
-    rw c.in-Call.is (omega (arith, c.if-self-gt-MOST_FRAMES.true, depth_is _ _ _ _ _ c.max-self.ensures c.len.ensures (length-waiting c.args.self.now.stack ∙ sym c.args.self.now.stack.callers.ok.0)))
+    rw c.in-Call.is (omega (arith, c.if-self-gt-MOST_FRAMES.true, depth_is _ _ _ _ _ c.max-self.ensures c.len.ensures (length_waiting c.args.self.now.stack ∙ sym c.args.self.now.stack.callers.ok.0)))
 
 pub returns-in_ok-enter-in-Call-clause-state : goal.returns-in_ok-enter-in-Call-clause-state
 returns-in_ok-enter-in-Call-clause-state c =
     let args = c.items.ensures in
-    rw (c.in-Call.is, ← args) (same_state _ _ _ _ _ _ c.in_ok-enter-in-Call.ensures.control (depth_is _ _ _ _ _ c.max-self.ensures c.len.ensures (length-waiting c.args.self.now.stack ∙ sym c.args.self.now.stack.callers.ok.0)))
+    rw (c.in-Call.is, ← args) (same_state _ _ _ _ _ _ c.in_ok-enter-in-Call.ensures.control (depth_is _ _ _ _ _ c.max-self.ensures c.len.ensures (length_waiting c.args.self.now.stack ∙ sym c.args.self.now.stack.callers.ok.0)))

@@ -1,0 +1,22 @@
+// The limits of the language and of the command, each said once. `specs/Limits.antt` has a word for each.
+
+/// The most bytes of a text.
+pub const MOST_BYTES: usize = 1_048_576;
+
+/// The most bytes of a name.
+pub const MOST_NAME_BYTES: usize = 64;
+
+/// The most units of a program.
+pub const MOST_UNITS: usize = 256;
+
+/// The most instructions of a unit.
+pub const MOST_INSTS: usize = 4096;
+
+/// The most receives of a unit.
+pub const MOST_RECEIVES: usize = 16;
+
+/// The most steps that a run may be asked for.
+pub const MOST_STEPS: u64 = 1_000_000;
+
+/// The most frames that a run may have at a time.
+pub const MOST_FRAMES: usize = 10_000;
