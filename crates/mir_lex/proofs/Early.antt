@@ -7,15 +7,16 @@ use Rattle.mir_lex.specs.declared.scan.Scan.{Scan}
 use Rattle.mir_lex.specs.declared.scan.Scanned.{Scanned}
 use Rattle.mir_lex.specs.declared.scan.Scanned.TheVariants.{Going, Stopped}
 use Rattle.mir_lex.specs.declared.faults.LexFault.{LexFault}
-use Rattle.mir_lex.specs.Scanner.{start, step_as, step, scan}
-use Rattle.mir_lex.proofs.Complete.{stopped-run}
+use Rattle.mir_lex.specs.Scanner.{start, step_as, scan_step, scan}
+use Rattle.mir_lex.proofs.Runs.{stopped_run}
 
-pub stops-early : (text : List ℕ) (count : ℕ) (state : Scan) (bad : LexFault) → count < length text → Going state ≡ scan text (take count text) → Stopped bad ≡ step_as text state (get_or text count 0) state.pending
+-- a fault at a byte of the text is the fault of the scan of all of it
+pub stops_early : (text : List ℕ) (count : ℕ) (state : Scan) (bad : LexFault) → count < length text → Going state ≡ scan text (take count text) → Stopped bad ≡ step_as text state (get_or text count 0) state.pending
     → Stopped bad ≡ scan text text
-stops-early text count state bad short before stops =
-    let front : List ℕ = take (count + 1) text in
+stops_early text count state bad short before stops =
+    let prefix : List ℕ = take (count + 1) text in
     let rest : List ℕ = drop (count + 1) text in
-    let longer : front ≡ take count text ++ get_or text count 0 ∷ [] = take_more text count 0 short in
-    let there : Stopped bad ≡ scan text front =
-    stops ∙ ap (λ (r : Scanned). step text r (get_or text count 0)) before ∙ sym (fold-append (step text) (Going start) (take count text) (get_or text count 0 ∷ [])) ∙ ap (scan text) (sym longer) in
-    sym (ap (scan text) (sym (take-append-drop (count + 1) text)) ∙ fold-append (step text) (Going start) front rest ∙ ap (λ (r : Scanned). fold (step text) r rest) (sym there) ∙ stopped-run text bad rest)
+    let longer : prefix ≡ take count text ++ get_or text count 0 ∷ [] = take_more text count 0 short in
+    let there : Stopped bad ≡ scan text prefix =
+    stops ∙ ap (λ (r : Scanned). scan_step text r (get_or text count 0)) before ∙ sym (fold-append (scan_step text) (Going start) (take count text) (get_or text count 0 ∷ [])) ∙ ap (scan text) (sym longer) in
+    sym (ap (scan text) (sym (take-append-drop (count + 1) text)) ∙ fold-append (scan_step text) (Going start) prefix rest ∙ ap (λ (r : Scanned). fold (scan_step text) r rest) (sym there) ∙ stopped_run text bad rest)

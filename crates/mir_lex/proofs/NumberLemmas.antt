@@ -1,6 +1,6 @@
 -- What std reads as a number, and what the grammar does.
 use Rattle.std.proofs.Common.{◌≡◌, ℕ, ℤ, ◌^◌, ◌<◌, ◌==◌, Bool, true, false, cond, List, [], ◌∷◌, drop, length, None, Some, Result, Ok, Err, refl, sym, ◌∙◌, ap, subst, arith, not, ◌&&◌, nat_lt, slice_index, w64, inl, inr}
-use Rattle.std.proofs.lemmas.Bool.{cases_Bool, ltb-true, lt-ltb, eqb-true}
+use Rattle.std.proofs.lemmas.Bool.{cases_Bool, ltb-true, lt-ltb, eqb-true, and_from, and_parts, not-true}
 use Rattle.std.specs.Result.{result_ok}
 use Rattle.std.proofs.lemmas.Str.{IsUtf8-from_ascii}
 use Rattle.std.proofs.lemmas.Str.Ascii.{IsAscii-nil, IsAscii-cons}
@@ -13,36 +13,32 @@ use Rattle.std.proofs.lemmas.Str.Parse.{IsNumeralModel, numerals_by_value, tells
 use Rattle.mir_lex.specs.Numbers.{is_digits, without_minus, fits_signed, signed_number, unsigned_number}
 use Rattle.mir_lex.specs.Scanner.{is_number, number_of}
 
+-- ---- an optional sign and digits
+
+-- std's lemmas on digits, for the test that all bytes are digits
 own : IsNumeralModel (λ ds. all_ascii_digits ds ≡ true) (digits_value 10)
 own = numerals_by_value _ tells_all_ascii_digits
 
-pub record Spells (bytes : List ℕ) : Type 0 where
+-- what the scanner tests of a number, as facts
+pub record SpellsNumber (bytes : List ℕ) : Type 0 where
   pub plus : (slice_index bytes 0 == 43) ≡ false
   pub some : 0 < length (without_leading_sign bytes)
   pub digits : all_ascii_digits (without_leading_sign bytes) ≡ true
   pub fits : mag (signed_digits_value 10 bytes) < 2 ^ 63
 
-pub and_true : (a b : Bool) → (a && b) ≡ true → (a ≡ true) × (b ≡ true)
-and_true true b h = (refl, h)
-and_true false b h = absurd (cc)
-
-not_true : (a : Bool) → not a ≡ true → a ≡ false
-not_true true h = absurd (cc)
-not_true false h = refl
-
-pub spells : (bytes : List ℕ) → is_number bytes ≡ true → Spells bytes
+-- the test gives the facts
+pub spells : (bytes : List ℕ) → is_number bytes ≡ true → SpellsNumber bytes
 spells bytes holds =
-    let three = and_true _ (nat_lt (mag (signed_digits_value 10 bytes)) (2 ^ 63)) holds in
-    let two = and_true _ (all_ascii_digits (without_leading_sign bytes)) three.0 in
-    let one = and_true (not (slice_index bytes 0 == 43)) (nat_lt 0 (length (without_leading_sign bytes))) two.0 in
-    record { plus = not_true _ one.0; some = ltb-true _ _ one.1; digits = two.1; fits = ltb-true _ _ three.1 }
+    let three = and_parts _ (nat_lt (mag (signed_digits_value 10 bytes)) (2 ^ 63)) holds in
+    let two = and_parts _ (all_ascii_digits (without_leading_sign bytes)) three.0 in
+    let one = and_parts (not (slice_index bytes 0 == 43)) (nat_lt 0 (length (without_leading_sign bytes))) two.0 in
+    record { plus = not-true _ one.0; some = ltb-true _ _ one.1; digits = two.1; fits = ltb-true _ _ three.1 }
 
-both : (a b : Bool) → a ≡ true → b ≡ true → (a && b) ≡ true
-both a b p q = ap (λ (x : Bool). x && b) p ∙ q
+-- the facts give the test
+is_spelled : (bytes : List ℕ) → SpellsNumber bytes → is_number bytes ≡ true
+is_spelled bytes h = and_from _ _ (and_from _ _ (and_from _ _ (ap not h.plus) (lt-ltb _ _ h.some)) h.digits) (lt-ltb _ _ h.fits)
 
-is_spelled : (bytes : List ℕ) → Spells bytes → is_number bytes ≡ true
-is_spelled bytes h = both _ _ (both _ _ (both _ _ (ap not h.plus) (lt-ltb _ _ h.some)) h.digits) (lt-ltb _ _ h.fits)
-
+-- what begins with a plus is no number
 pub number_plus : (bytes : List ℕ) → (slice_index bytes 0 == 43) ≡ true → None ≡ number_of bytes
 unfolding number_of
 number_plus bytes plus = elim (cases_Bool (is_number bytes)) [
@@ -50,6 +46,7 @@ number_plus bytes plus = elim (cases_Bool (is_number bytes)) [
   | inr fails ↦ sym (ap (λ (b : Bool). cond b (Some (signed_digits_value 10 bytes)) None) fails)
 ]
 
+-- otherwise the number is what std parses
 pub number_read : {E : Type 0} (bytes : List ℕ) (r : Result ℤ E) → (slice_index bytes 0 == 43) ≡ false → ParsesSigned w64 10 bytes r → result_ok r ≡ number_of bytes
 unfolding number_of
 number_read bytes (Ok z) plus h =
@@ -61,14 +58,16 @@ number_read bytes (Err e) plus h = elim (cases_Bool (is_number bytes)) [
   | inr fails ↦ sym (ap (λ (b : Bool). cond b (Some (signed_digits_value 10 bytes)) None) fails)
 ]
 
+-- digits are ASCII
 ascii_digits : (ds : List ℕ) → all_ascii_digits ds ≡ true → IsAscii ds
 ascii_digits [] h = IsAscii-nil
-ascii_digits (d ∷ ds) h = let parts = and_true (is_ascii_digit d) _ h in IsAscii-cons d ds (ascii_digit d parts.0) (ascii_digits ds parts.1)
+ascii_digits (d ∷ ds) h = let parts = and_parts (is_ascii_digit d) _ h in IsAscii-cons d ds (ascii_digit d parts.0) (ascii_digits ds parts.1)
   where
     ascii_digit : (d : ℕ) → is_ascii_digit d ≡ true → d < 128
     ascii_digit d h = grind (arith, nat_tests)
 
-ascii_number : (bytes : List ℕ) → Spells bytes → IsAscii bytes
+-- a number is ASCII
+ascii_number : (bytes : List ℕ) → SpellsNumber bytes → IsAscii bytes
 ascii_number [] h = IsAscii-nil
 ascii_number (b ∷ bytes) h = elim (cases_Bool (b == 45)) [
   | inl minus ↦ IsAscii-cons b bytes (omega (arith, eqb-true b 45 minus)) (ascii_digits bytes (ap all_ascii_digits (sym (signed true minus)) ∙ h.digits))
@@ -78,9 +77,10 @@ ascii_number (b ∷ bytes) h = elim (cases_Bool (b == 45)) [
     signed : (t : Bool) → (b == 45) ≡ t → without_leading_sign (b ∷ bytes) ≡ cond t bytes (drop (cond (b == 43) 1 0) (b ∷ bytes))
     signed t is = ap (λ (c : Bool). cond c bytes (drop (cond (b == 43) 1 0) (b ∷ bytes))) is
 
-pub number_text : (bytes : List ℕ) → (IsUtf8 bytes → ⊥) → None ≡ number_of bytes
+-- what is no UTF-8 is no number
+pub no_number_unless_text : (bytes : List ℕ) → (IsUtf8 bytes → ⊥) → None ≡ number_of bytes
 unfolding number_of
-number_text bytes not_text = elim (cases_Bool (is_number bytes)) [
+no_number_unless_text bytes not_text = elim (cases_Bool (is_number bytes)) [
   | inl holds ↦ absurd (not_text (IsUtf8-from_ascii bytes (ascii_number bytes (spells bytes holds))))
   | inr fails ↦ sym (ap (λ (b : Bool). cond b (Some (signed_digits_value 10 bytes)) None) fails)
 ]
@@ -117,26 +117,31 @@ same_test (b ∷ bytes) = go (b == 45) (b == 43) refl refl
         ∙ sym (ap right is ∙ ap (λ (t : Bool). t && v) (no_digits b bytes 43 also refl))
     go false false is also = ap (λ (t : Bool). left t (b == 43)) is ∙ ap (left false) also ∙ sym (ap right is)
 
+-- the number of the scanner is the one that contracts name
 pub signed_is : (bytes : List ℕ) → number_of bytes ≡ signed_number bytes
 unfolding number_of signed_number
 signed_is bytes = ap (λ (t : Bool). cond t (Some (signed_digits_value 10 bytes)) None) (same_test bytes)
 
 -- ---- digits below 2^64
 
+-- what is tested of a number without a sign, as facts
 record SpellsUnsigned (bytes : List ℕ) : Type 0 where
   some : 0 < length bytes
   digits : all_ascii_digits bytes ≡ true
   fits : digits_value 10 bytes < 2 ^ 64
 
+-- the test gives the facts
 unsigned_spells : (bytes : List ℕ) → (is_digits bytes && nat_lt (digits_value 10 bytes) (2 ^ 64)) ≡ true → SpellsUnsigned bytes
 unsigned_spells bytes holds =
-    let two = and_true (is_digits bytes) (nat_lt (digits_value 10 bytes) (2 ^ 64)) holds in
-    let one = and_true (nat_lt 0 (length bytes)) (all_ascii_digits bytes) two.0 in
+    let two = and_parts (is_digits bytes) (nat_lt (digits_value 10 bytes) (2 ^ 64)) holds in
+    let one = and_parts (nat_lt 0 (length bytes)) (all_ascii_digits bytes) two.0 in
     record { some = ltb-true _ _ one.0; digits = one.1; fits = ltb-true _ _ two.1 }
 
+-- the facts give the test
 unsigned_is_spelled : (bytes : List ℕ) → SpellsUnsigned bytes → (is_digits bytes && nat_lt (digits_value 10 bytes) (2 ^ 64)) ≡ true
-unsigned_is_spelled bytes h = both _ _ (both _ _ (lt-ltb _ _ h.some) h.digits) (lt-ltb _ _ h.fits)
+unsigned_is_spelled bytes h = and_from _ _ (and_from _ _ (lt-ltb _ _ h.some) h.digits) (lt-ltb _ _ h.fits)
 
+-- what begins with a plus is no such number
 pub unsigned_plus : (bytes : List ℕ) → (slice_index bytes 0 == 43) ≡ true → None ≡ unsigned_number bytes
 unfolding unsigned_number
 unsigned_plus [] plus = refl
@@ -147,6 +152,7 @@ unsigned_plus (b ∷ bytes) plus =
 plain : (bytes : List ℕ) → (slice_index bytes 0 == 43) ≡ false → without_leading_plus bytes ≡ bytes
 plain bytes is = ap (λ (t : Bool). drop (cond t 1 0) bytes) is
 
+-- otherwise the number is what std parses
 pub unsigned_read : {E : Type 0} (bytes : List ℕ) (r : Result ℕ E) → (slice_index bytes 0 == 43) ≡ false → ParsesUnsigned 64 10 bytes r → result_ok r ≡ unsigned_number bytes
 unfolding unsigned_number
 unsigned_read bytes (Ok n) is h =
@@ -163,6 +169,7 @@ unsigned_read bytes (Err e) is h = elim (cases_Bool (is_digits bytes && nat_lt (
   | inr fails ↦ sym (ap (λ (b : Bool). cond b (Some (digits_value 10 bytes)) None) fails)
 ]
 
+-- what is no UTF-8 is no such number
 pub unsigned_text : (bytes : List ℕ) → (IsUtf8 bytes → ⊥) → None ≡ unsigned_number bytes
 unfolding unsigned_number
 unsigned_text bytes not_text = elim (cases_Bool (is_digits bytes && nat_lt (digits_value 10 bytes) (2 ^ 64))) [

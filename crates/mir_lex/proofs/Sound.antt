@@ -1,8 +1,7 @@
 -- What the scanner has read is a row of pieces, or has a place where no token stands.
-use Rattle.std.specs.List.{list_all}
+use Rattle.std.specs.List.{list_all, fold}
 use Rattle.std.specs.Char.{is_ascii_digit}
-use Rattle.std.specs.Str.{all_ascii_digits}
-use Rattle.mir_base.specs.Names.{is_name_byte, is_letter, is_digit, begins_as_name}
+use Rattle.mir_base.specs.Names.{is_name_byte, is_letter, begins_as_name}
 use Rattle.mir_lex.specs.declared.words.Mark.{Mark}
 use Rattle.mir_lex.specs.declared.words.Mark.TheVariants.{Colon, Comma, Semicolon, LeftParen, RightParen, Plus, Minus, Star, Slash, Equal, NotEqual, Less, LessEqual, Greater, GreaterEqual, Bang, Arrow}
 use Rattle.mir_lex.specs.declared.words.Kind.{Kind}
@@ -17,88 +16,90 @@ use Rattle.mir_lex.specs.declared.scan.Scanned.{Scanned}
 use Rattle.mir_lex.specs.declared.scan.Scanned.TheVariants.{Going, Stopped}
 use Rattle.mir_lex.specs.declared.faults.LexFault.{LexFault}
 use Rattle.mir_lex.specs.declared.faults.LexFault.TheVariants.{BadByte, BadNumber, LongName}
-use Rattle.std.specs.List.{fold}
-use Rattle.std.proofs.Common.{◌≡◌, ℕ, ℤ, ◌+◌, ◌<◌, ◌==◌, Bool, true, false, ◌||◌, ◌&&◌, not, List, [], ◌∷◌, ◌++◌, length, take, drop, Option, None, Some, refl, sym, ◌∙◌, ap, subst, append_assoc, inl, inr, arith, nat_eq}
-use Rattle.std.proofs.lemmas.Bool.{eqb-true}
-use Rattle.std.proofs.lemmas.List.{append-nil, take_at, drop_at, length-append}
-use Rattle.std.proofs.lemmas.List.Folds.{list_all-append}
-use Rattle.mir_lex.specs.Spelling.{IsDigits, CanBeSigned, IsNumeral, with_line_end, is_blank, previous_of, HasNoLineFeed}
-use Rattle.mir_lex.specs.Scanner.{number_of, word_kind, single_mark, extend, push, skip, push_word, push_number, pending_bytes, emit_as, emit, end_line, next_line, line_feed, begin_minus, push_mark, begin, begin_after, complete, step_as, step, start, scan, finish_with, finish, scanned}
-use Rattle.mir_lex.proofs.Pieces.{minus_open, continues, NotContinued, IsPieceToken, Pieces, no_piece, token_piece, blank_piece, comment_piece, feed_piece, PiecesTokens, ByteBeginsNone, PieceStops, PieceRefusal}
-use Rattle.mir_lex.proofs.KindLemmas.{by_if, both_true, and_true, KindIs, kind-is, NumberIs, number-is, numeral-shape}
+use Rattle.std.proofs.Common.{◌≡◌, ℕ, ℤ, ◌+◌, ◌<◌, ◌==◌, true, false, not, List, [], ◌∷◌, ◌++◌, length, Option, None, Some, refl, sym, ◌∙◌, ap, subst, append_assoc, inl, inr, arith}
+use Rattle.std.proofs.lemmas.Bool.{eqb-true, and_from, cond_both, or_from}
+use Rattle.std.proofs.lemmas.List.{append-nil, length-append}
+use Rattle.mir_lex.specs.Spelling.{with_token, IsDigits, CanBeSigned, IsNumeral, with_line_end, is_blank, previous_of, HasNoLineFeed}
+use Rattle.mir_lex.specs.Scanner.{number_of, word_kind, single_mark, extend, push, skip, push_word, push_number, pending_bytes, emit_as, emit, end_line, next_line, line_feed, minus_after, push_mark, begin, begin_after, complete, step_as, scan_step, start, scan, finish_with, finish, scanned}
+use Rattle.mir_lex.proofs.Pieces.{ByteBeginsNone, IsPieceToken, NotContinued, PieceRefusal, PieceStops, Pieces, PiecesTokens, begins_closed, blank_piece, comment_piece, continues, ends_append, feed_piece, minus_open, no_piece, token_piece}
+use Rattle.mir_lex.proofs.KindLemmas.{KindIs, NumberIs, kind_is, named_some, number_is, numeral_shape, numeral_some}
+use Rattle.mir_lex.proofs.Classes.{all_push, digits_all, letter_name}
+use Rattle.mir_lex.proofs.Runs.{last_line, since}
+
+-- ---- what was read
 
 -- what the bytes since the start of a token are
-abbrev pub Reads : Previous → Pending → Pending → List ℕ → Type 0
-Reads previous tail Idle s = (s ≡ []) × (tail ≡ Idle)
-Reads previous tail PWord s = (begins_as_name s ≡ true) × (list_all is_name_byte s ≡ true)
-Reads previous tail PNumber s = IsNumeral previous s
-Reads previous tail PMinus s = (s ≡ 45 ∷ []) × CanBeSigned previous
-Reads previous tail PLess s = s ≡ 60 ∷ []
-Reads previous tail PGreater s = s ≡ 62 ∷ []
-Reads previous tail PBang s = s ≡ 33 ∷ []
-Reads previous tail Bar s = s ≡ 124 ∷ []
-Reads previous tail Comment s = (body : List ℕ) × (s ≡ 124 ∷ 124 ∷ body) × HasNoLineFeed body
-Reads previous tail ArrowFirst s = s ≡ 226 ∷ []
-Reads previous tail ArrowSecond s = s ≡ 226 ∷ 134 ∷ []
+abbrev pub ReadsBytes : Previous → Pending → Pending → List ℕ → Type 0
+ReadsBytes previous tail Idle s = (s ≡ []) × (tail ≡ Idle)
+ReadsBytes previous tail PWord s = (begins_as_name s ≡ true) × (list_all is_name_byte s ≡ true)
+ReadsBytes previous tail PNumber s = IsNumeral previous s
+ReadsBytes previous tail PMinus s = (s ≡ 45 ∷ []) × CanBeSigned previous
+ReadsBytes previous tail PLess s = s ≡ 60 ∷ []
+ReadsBytes previous tail PGreater s = s ≡ 62 ∷ []
+ReadsBytes previous tail PBang s = s ≡ 33 ∷ []
+ReadsBytes previous tail Bar s = s ≡ 124 ∷ []
+ReadsBytes previous tail Comment s = (body : List ℕ) × (s ≡ 124 ∷ 124 ∷ body) × HasNoLineFeed body
+ReadsBytes previous tail ArrowFirst s = s ≡ 226 ∷ []
+ReadsBytes previous tail ArrowSecond s = s ≡ 226 ∷ 134 ∷ []
 
-pub record StandsAs (front : List ℕ) (st : Scan) (p : Pending) : Type 0 where
+-- what was read is a row of pieces and the bytes of what is pending
+pub record StandsAs (prefix : List ℕ) (st : Scan) (p : Pending) : Type 0 where
   pub base : List ℕ
   pub own : List ℕ
   pub tail : Pending
-  pub is : front ≡ base ++ own
+  pub is : prefix ≡ base ++ own
   pub row : Pieces base st.items st.previous st.line tail
   pub ends : NotContinued tail own
   pub starts : st.start ≡ length base
   pub size : st.length ≡ length own
-  pub reads : Reads st.previous tail p own
+  pub reads : ReadsBytes st.previous tail p own
 
 -- the scan is at the end of a row
-pub record Fresh (front : List ℕ) (st : Scan) (tail : Pending) : Type 0 where
-  pub row : Pieces front st.items st.previous st.line tail
-  pub starts : st.start ≡ length front
+pub record Fresh (prefix : List ℕ) (st : Scan) (tail : Pending) : Type 0 where
+  pub row : Pieces prefix st.items st.previous st.line tail
+  pub starts : st.start ≡ length prefix
   pub size : st.length ≡ 0
 
-abbrev pub Keeps : List ℕ → List ℕ → Scanned → Type 0
-Keeps text front (Going st) = StandsAs front st st.pending
-Keeps text front (Stopped bad) = PieceRefusal text bad
+-- what was read is so, or has a place where no token stands
+abbrev pub KeepsBytes : List ℕ → List ℕ → Scanned → Type 0
+KeepsBytes text prefix (Going st) = StandsAs prefix st st.pending
+KeepsBytes text prefix (Stopped bad) = PieceRefusal text bad
 
+-- after what is pending was handed over
 abbrev pub Emits : List ℕ → List ℕ → Pending → Scanned → Type 0
-Emits text front tail (Going st) = Fresh front st tail
-Emits text front tail (Stopped bad) = PieceRefusal text bad
+Emits text prefix tail (Going st) = Fresh prefix st tail
+Emits text prefix tail (Stopped bad) = PieceRefusal text bad
 
-pub ends-append : (tail : Pending) (s rest : List ℕ) → 0 < length s → NotContinued tail s → NotContinued tail (s ++ rest)
-ends-append tail [] rest some h = absurd (omega arith)
-ends-append tail (b ∷ s) rest some h = h
+-- ---- what is pending is handed over
 
 -- the token of the bytes since the start
-row-put : (base own : List ℕ) (st : Scan) (tail next : Pending) (k : Kind) → Pieces base st.items st.previous st.line tail → NotContinued tail own → st.start ≡ length base → st.length ≡ length own → IsPieceToken st.previous own k next
-    → Pieces (base ++ own) (st.items ++ record { kind = k; start = st.start; length = st.length; line = st.line } ∷ []) (previous_of k) st.line next
-row-put base own st tail next k row ends starts size is =
-    subst (λ (n : ℕ). Pieces (base ++ own) (st.items ++ record { kind = k; start = n; length = st.length; line = st.line } ∷ []) (previous_of k) st.line next) (sym starts)
-    (subst (λ (n : ℕ). Pieces (base ++ own) (st.items ++ record { kind = k; start = length base; length = n; line = st.line } ∷ []) (previous_of k) st.line next) (sym size)
+row_put : (base own : List ℕ) (st : Scan) (tail next : Pending) (k : Kind) → Pieces base st.items st.previous st.line tail → NotContinued tail own → st.start ≡ length base → st.length ≡ length own → IsPieceToken st.previous own k next
+    → Pieces (base ++ own) (with_token st.items k st.start st.length st.line) (previous_of k) st.line next
+row_put base own st tail next k row ends starts size is =
+    subst (λ (n : ℕ). Pieces (base ++ own) (with_token st.items k n st.length st.line) (previous_of k) st.line next) (sym starts)
+    (subst (λ (n : ℕ). Pieces (base ++ own) (with_token st.items k (length base) n st.line) (previous_of k) st.line next) (sym size)
     (token_piece own k next row ends is))
 
 -- the place after the bytes since the start
-place : (front base own : List ℕ) (st : Scan) → front ≡ base ++ own → st.start ≡ length base → st.length ≡ length own → st.start + st.length ≡ length front
-place front base own st is starts size = let e : length front ≡ length base + length own = ap length is ∙ length-append base own in omega (arith, e, starts, size)
+place : (prefix base own : List ℕ) (st : Scan) → prefix ≡ base ++ own → st.start ≡ length base → st.length ≡ length own → st.start + st.length ≡ length prefix
+place prefix base own st is starts size = let e : length prefix ≡ length base + length own = ap length is ∙ length-append base own in omega (arith, e, starts, size)
 
-put-fresh : (front : List ℕ) (st : Scan) (p next : Pending) (k : Kind) (h : StandsAs front st p) → IsPieceToken st.previous h.own k next → Fresh front (push st k) next
-put-fresh front st p next k h is = record {
-  row = subst (λ (l : List ℕ). Pieces l (push st k).items (previous_of k) st.line next) (sym h.is) (row-put h.base h.own st h.tail next k h.row h.ends h.starts h.size is);
-  starts = place front h.base h.own st h.is h.starts h.size;
+-- what is pending is a token
+put_fresh : (prefix : List ℕ) (st : Scan) (p next : Pending) (k : Kind) (h : StandsAs prefix st p) → IsPieceToken st.previous h.own k next → Fresh prefix (push st k) next
+put_fresh prefix st p next k h is = record {
+  row = subst (λ (l : List ℕ). Pieces l (push st k).items (previous_of k) st.line next) (sym h.is) (row_put h.base h.own st h.tail next k h.row h.ends h.starts h.size is);
+  starts = place prefix h.base h.own st h.is h.starts h.size;
   size = refl;
 }
 
 -- the bytes since the start, in the text
-since : (text front rest : List ℕ) (st : Scan) (p : Pending) → text ≡ front ++ rest → (h : StandsAs front st p) → pending_bytes text st ≡ h.own
-since text front rest st p is h =
-    let whole : text ≡ h.base ++ (h.own ++ rest) = is ∙ ap (λ (l : List ℕ). l ++ rest) h.is ∙ append_assoc h.base h.own rest in
-    ap (λ (l : List ℕ). take st.length (drop st.start l)) whole ∙ ap (take st.length) (drop_at h.base (h.own ++ rest) st.start (sym h.starts)) ∙ take_at h.own rest st.length (sym h.size)
+own_bytes : (text prefix rest : List ℕ) (st : Scan) (p : Pending) → text ≡ prefix ++ rest → (h : StandsAs prefix st p) → pending_bytes text st ≡ h.own
+own_bytes text prefix rest st p is h = since text h.base h.own rest (is ∙ ap (λ (l : List ℕ). l ++ rest) h.is) st h.starts h.size
 
 -- a place that is no token, from the start of what was read
-bad-at : (text front rest : List ℕ) (st : Scan) (p : Pending) (bad : LexFault) → text ≡ front ++ rest → (h : StandsAs front st p) → 0 < length h.own → PieceStops st.previous (h.own ++ rest) st.line bad → PieceRefusal text bad
-bad-at text front rest st p bad is h some stops = record {
-  front = h.base;
+bad_at : (text prefix rest : List ℕ) (st : Scan) (p : Pending) (bad : LexFault) → text ≡ prefix ++ rest → (h : StandsAs prefix st p) → 0 < length h.own → PieceStops st.previous (h.own ++ rest) st.line bad → PieceRefusal text bad
+bad_at text prefix rest st p bad is h some stops = record {
+  prefix = h.base;
   rest = h.own ++ rest;
   items = st.items;
   previous = st.previous;
@@ -106,80 +107,79 @@ bad-at text front rest st p bad is h some stops = record {
   tail = h.tail;
   is = is ∙ ap (λ (l : List ℕ). l ++ rest) h.is ∙ append_assoc h.base h.own rest;
   row = h.row;
-  ends = ends-append h.tail h.own rest some h.ends;
+  ends = ends_append h.tail h.own rest some h.ends;
   stops = stops;
 }
 
+-- one byte is not none
 one : (s : List ℕ) (b : ℕ) → s ≡ b ∷ [] → 0 < length s
 one s b h = omega (arith, ap length h)
 
-pub named-some : (s : List ℕ) → begins_as_name s ≡ true → 0 < length s
-named-some [] h = absurd (cc)
-named-some (b ∷ s) h = omega arith
+-- a word is handed over, or is too long
+word_emits : (text prefix rest : List ℕ) (st : Scan) (o : Option Kind) → text ≡ prefix ++ rest → (h : StandsAs prefix st PWord) → KindIs st.previous h.own o → NotContinued PWord rest → Emits text prefix PWord (push_word st o)
+word_emits text prefix rest st None is h kind ends = bad_at text prefix rest st PWord (LongName st.line) is h (named_some h.own h.reads.0) (refl, record { s = h.own; rest = rest; is = refl; begins = h.reads.0; all = h.reads.1; ends = ends; long = kind })
+word_emits text prefix rest st (Some k) is h kind ends = put_fresh prefix st PWord PWord k h kind
 
-pub numeral-some : (previous : Previous) (s : List ℕ) → IsNumeral previous s → 0 < length s
-numeral-some previous s (inl h) = h.0
-numeral-some previous s (inr h) = omega (arith, ap length h.1)
+-- a number is handed over, or is out of range
+number_emits : (text prefix rest : List ℕ) (st : Scan) (o : Option ℤ) → text ≡ prefix ++ rest → (h : StandsAs prefix st PNumber) → NumberIs h.own o → NotContinued PNumber rest → Emits text prefix PNumber (push_number st o)
+number_emits text prefix rest st None is h number ends = bad_at text prefix rest st PNumber (BadNumber st.line) is h (numeral_some st.previous h.own h.reads) (refl, record { s = h.own; rest = rest; is = refl; numeral = h.reads; why = inl (number, ends) })
+number_emits text prefix rest st (Some z) is h number ends = put_fresh prefix st PNumber PNumber (NumberKind z) h (h.reads, number.0, number.1, refl)
 
-word-emits : (text front rest : List ℕ) (st : Scan) (o : Option Kind) → text ≡ front ++ rest → (h : StandsAs front st PWord) → KindIs st.previous h.own o → NotContinued PWord rest → Emits text front PWord (push_word st o)
-word-emits text front rest st None is h kind ends = bad-at text front rest st PWord (LongName st.line) is h (named-some h.own h.reads.0) (refl, record { s = h.own; rest = rest; is = refl; begins = h.reads.0; all = h.reads.1; ends = ends; long = kind })
-word-emits text front rest st (Some k) is h kind ends = put-fresh front st PWord PWord k h kind
+-- a minus that can be a sign is open behind the token
+minus_open_is : (previous : Previous) → CanBeSigned previous → PMinus ≡ minus_open previous
+minus_open_is AfterOperand h = absurd h
+minus_open_is AfterLineEnd h = refl
+minus_open_is AfterOther h = refl
 
-number-emits : (text front rest : List ℕ) (st : Scan) (o : Option ℤ) → text ≡ front ++ rest → (h : StandsAs front st PNumber) → NumberIs h.own o → NotContinued PNumber rest → Emits text front PNumber (push_number st o)
-number-emits text front rest st None is h number ends = bad-at text front rest st PNumber (BadNumber st.line) is h (numeral-some st.previous h.own h.reads) (refl, record { s = h.own; rest = rest; is = refl; numeral = h.reads; why = inl (number, ends) })
-number-emits text front rest st (Some z) is h number ends = put-fresh front st PNumber PNumber (NumberKind z) h (h.reads, number.0, number.1, refl)
-
-minus-open : (previous : Previous) → CanBeSigned previous → PMinus ≡ minus_open previous
-minus-open AfterOperand h = absurd h
-minus-open AfterLineEnd h = refl
-minus-open AfterOther h = refl
-
-drop-idle : (front : List ℕ) (st : Scan) → StandsAs front st Idle → Fresh front (skip st) Idle
-drop-idle front st h = record {
+-- where nothing is pending, nothing is handed over
+drop_idle : (prefix : List ℕ) (st : Scan) → StandsAs prefix st Idle → Fresh prefix (skip st) Idle
+drop_idle prefix st h = record {
   row = subst (λ (l : List ℕ). Pieces l st.items st.previous st.line Idle) (sym (h.is ∙ ap (λ (l : List ℕ). h.base ++ l) h.reads.0 ∙ append-nil h.base))
       (subst (λ (t : Pending). Pieces h.base st.items st.previous st.line t) h.reads.1 h.row);
-  starts = place front h.base h.own st h.is h.starts h.size;
+  starts = place prefix h.base h.own st h.is h.starts h.size;
   size = refl;
 }
 
-bar-ends : (tail : Pending) (s : List ℕ) (b : ℕ) (more : List ℕ) → s ≡ b ∷ more → NotContinued tail s → continues tail b ≡ false
-bar-ends tail s b more is h = subst (NotContinued tail) is h
-
-drop-comment : (front : List ℕ) (st : Scan) → StandsAs front st Comment → Fresh front (skip st) Comment
-drop-comment front st h = record {
+-- a comment is handed over as nothing
+drop_comment : (prefix : List ℕ) (st : Scan) → StandsAs prefix st Comment → Fresh prefix (skip st) Comment
+drop_comment prefix st h = record {
   row = subst (λ (l : List ℕ). Pieces l st.items st.previous st.line Comment) (sym (h.is ∙ ap (λ (l : List ℕ). h.base ++ l) h.reads.1))
-      (comment_piece h.reads.0 h.row (bar-ends h.tail h.own 124 (124 ∷ h.reads.0) h.reads.1 h.ends) h.reads.2);
-  starts = place front h.base h.own st h.is h.starts h.size;
+      (comment_piece h.reads.0 h.row (begins_closed h.tail h.own 124 (124 ∷ h.reads.0) h.reads.1 h.ends) h.reads.2);
+  starts = place prefix h.base h.own st h.is h.starts h.size;
   size = refl;
 }
 
-byte-emits : (text front rest : List ℕ) (st : Scan) (p : Pending) (s : List ℕ) (b : ℕ) (more : List ℕ) → text ≡ front ++ rest → (h : StandsAs front st p) → h.own ≡ s → s ≡ b ∷ more → ByteBeginsNone (s ++ rest) → PieceRefusal text (BadByte st.line)
-byte-emits text front rest st p s b more is h own some nothing = bad-at text front rest st p (BadByte st.line) is h (omega (arith, ap length own, ap length some)) (refl, subst (λ (l : List ℕ). ByteBeginsNone (l ++ rest)) (sym own) nothing)
+-- bytes that begin nothing are refused
+byte_emits : (text prefix rest : List ℕ) (st : Scan) (p : Pending) (s : List ℕ) (b : ℕ) (more : List ℕ) → text ≡ prefix ++ rest → (h : StandsAs prefix st p) → h.own ≡ s → s ≡ b ∷ more → ByteBeginsNone (s ++ rest) → PieceRefusal text (BadByte st.line)
+byte_emits text prefix rest st p s b more is h own some nothing = bad_at text prefix rest st p (BadByte st.line) is h (omega (arith, ap length own, ap length some)) (refl, subst (λ (l : List ℕ). ByteBeginsNone (l ++ rest)) (sym own) nothing)
 
-emit_as-keeps : (text front rest : List ℕ) (st : Scan) (p : Pending) → text ≡ front ++ rest → StandsAs front st p → NotContinued p rest → Emits text front p (emit_as text st p)
-emit_as-keeps text front rest st Idle is h ends = drop-idle front st h
-emit_as-keeps text front rest st Comment is h ends = drop-comment front st h
-emit_as-keeps text front rest st PWord is h ends = word-emits text front rest st (word_kind (pending_bytes text st)) is h
-    (subst (λ (l : List ℕ). KindIs st.previous h.own (word_kind l)) (sym (since text front rest st PWord is h)) (kind-is st.previous h.own h.reads.0 h.reads.1)) ends
-emit_as-keeps text front rest st PNumber is h ends = number-emits text front rest st (number_of (pending_bytes text st)) is h
-    (subst (λ (l : List ℕ). NumberIs h.own (number_of l)) (sym (since text front rest st PNumber is h)) (number-is h.own (numeral-shape st.previous h.own h.reads))) ends
-emit_as-keeps text front rest st PMinus is h ends = put-fresh front st PMinus PMinus (MarkKind Minus) h (h.reads.0, minus-open st.previous h.reads.1)
-emit_as-keeps text front rest st PLess is h ends = put-fresh front st PLess PLess (MarkKind Less) h (h.reads, refl)
-emit_as-keeps text front rest st PGreater is h ends = put-fresh front st PGreater PGreater (MarkKind Greater) h (h.reads, refl)
-emit_as-keeps text front rest st PBang is h ends = put-fresh front st PBang PBang (MarkKind Bang) h (h.reads, refl)
-emit_as-keeps text front rest st Bar is h ends = byte-emits text front rest st Bar (124 ∷ []) 124 [] is h h.reads refl (inl (refl, ends))
-emit_as-keeps text front rest st ArrowFirst is h ends = byte-emits text front rest st ArrowFirst (226 ∷ []) 226 [] is h h.reads refl (inr (inl (refl, inl ends)))
-emit_as-keeps text front rest st ArrowSecond is h ends = byte-emits text front rest st ArrowSecond (226 ∷ 134 ∷ []) 226 (134 ∷ []) is h h.reads refl (inr (inl (refl, inr (rest, refl, ends))))
+-- by what is pending
+emit_as_keeps : (text prefix rest : List ℕ) (st : Scan) (p : Pending) → text ≡ prefix ++ rest → StandsAs prefix st p → NotContinued p rest → Emits text prefix p (emit_as text st p)
+emit_as_keeps text prefix rest st Idle is h ends = drop_idle prefix st h
+emit_as_keeps text prefix rest st Comment is h ends = drop_comment prefix st h
+emit_as_keeps text prefix rest st PWord is h ends = word_emits text prefix rest st (word_kind (pending_bytes text st)) is h
+    (subst (λ (l : List ℕ). KindIs st.previous h.own (word_kind l)) (sym (own_bytes text prefix rest st PWord is h)) (kind_is st.previous h.own h.reads.0 h.reads.1)) ends
+emit_as_keeps text prefix rest st PNumber is h ends = number_emits text prefix rest st (number_of (pending_bytes text st)) is h
+    (subst (λ (l : List ℕ). NumberIs h.own (number_of l)) (sym (own_bytes text prefix rest st PNumber is h)) (number_is h.own (numeral_shape st.previous h.own h.reads))) ends
+emit_as_keeps text prefix rest st PMinus is h ends = put_fresh prefix st PMinus PMinus (MarkKind Minus) h (h.reads.0, minus_open_is st.previous h.reads.1)
+emit_as_keeps text prefix rest st PLess is h ends = put_fresh prefix st PLess PLess (MarkKind Less) h (h.reads, refl)
+emit_as_keeps text prefix rest st PGreater is h ends = put_fresh prefix st PGreater PGreater (MarkKind Greater) h (h.reads, refl)
+emit_as_keeps text prefix rest st PBang is h ends = put_fresh prefix st PBang PBang (MarkKind Bang) h (h.reads, refl)
+emit_as_keeps text prefix rest st Bar is h ends = byte_emits text prefix rest st Bar (124 ∷ []) 124 [] is h h.reads refl (inl (refl, ends))
+emit_as_keeps text prefix rest st ArrowFirst is h ends = byte_emits text prefix rest st ArrowFirst (226 ∷ []) 226 [] is h h.reads refl (inr (inl (refl, inl ends)))
+emit_as_keeps text prefix rest st ArrowSecond is h ends = byte_emits text prefix rest st ArrowSecond (226 ∷ 134 ∷ []) 226 (134 ∷ []) is h h.reads refl (inr (inl (refl, inr (rest, refl, ends))))
 
-pub emit-keeps : (text front rest : List ℕ) (st : Scan) → text ≡ front ++ rest → StandsAs front st st.pending → NotContinued st.pending rest → Emits text front st.pending (emit text st)
+-- what is pending is handed over, where the next byte does not continue it
+pub emit_keeps : (text prefix rest : List ℕ) (st : Scan) → text ≡ prefix ++ rest → StandsAs prefix st st.pending → NotContinued st.pending rest → Emits text prefix st.pending (emit text st)
 unfolding emit
-emit-keeps text front rest st is h ends = emit_as-keeps text front rest st st.pending is h ends
+emit_keeps text prefix rest st is h ends = emit_as_keeps text prefix rest st st.pending is h ends
 
--- a first byte
+-- ---- the first byte of a piece
 
-opened : (front : List ℕ) (st : Scan) (tail p : Pending) (b : ℕ) → Fresh front st tail → continues tail b ≡ false → Reads st.previous tail p (b ∷ []) → StandsAs (front ++ b ∷ []) (extend st p) p
-opened front st tail p b h ends reads = record {
-  base = front;
+-- the byte is pending
+opened : (prefix : List ℕ) (st : Scan) (tail p : Pending) (b : ℕ) → Fresh prefix st tail → continues tail b ≡ false → ReadsBytes st.previous tail p (b ∷ []) → StandsAs (prefix ++ b ∷ []) (extend st p) p
+opened prefix st tail p b h ends reads = record {
+  base = prefix;
   own = b ∷ [];
   tail = tail;
   is = refl;
@@ -191,210 +191,218 @@ opened front st tail p b h ends reads = record {
 }
 
 -- the scan is again at the end of a row
-settled : (front : List ℕ) (st : Scan) → Pieces front st.items st.previous st.line Idle → st.start ≡ length front → st.length ≡ 0 → StandsAs front st Idle
-settled front st row starts size = record { base = front; own = []; tail = Idle; is = sym (append-nil front); row = row; ends = tt; starts = starts; size = size; reads = (refl, refl) }
+settled : (prefix : List ℕ) (st : Scan) → Pieces prefix st.items st.previous st.line Idle → st.start ≡ length prefix → st.length ≡ 0 → StandsAs prefix st Idle
+settled prefix st row starts size = record { base = prefix; own = []; tail = Idle; is = sym (append-nil prefix); row = row; ends = tt; starts = starts; size = size; reads = (refl, refl) }
 
-next-place : (front : List ℕ) (b : ℕ) (n m : ℕ) → n ≡ length front → m ≡ 0 → n + (m + 1) ≡ length (front ++ b ∷ [])
-next-place front b n m p q = omega (arith, length-append front (b ∷ []), p, q)
+-- the place behind the byte
+next_place : (prefix : List ℕ) (b : ℕ) (n m : ℕ) → n ≡ length prefix → m ≡ 0 → n + (m + 1) ≡ length (prefix ++ b ∷ [])
+next_place prefix b n m p q = omega (arith, length-append prefix (b ∷ []), p, q)
 
 -- a token of one byte
-single : (front : List ℕ) (st : Scan) (tail : Pending) (b : ℕ) (k : Kind) → Fresh front st tail → continues tail b ≡ false → IsPieceToken st.previous (b ∷ []) k Idle → StandsAs (front ++ b ∷ []) (push (extend st Idle) k) Idle
-single front st tail b k h ends is =
-    settled (front ++ b ∷ []) (push (extend st Idle) k) (row-put front (b ∷ []) (extend st Idle) tail Idle k h.row ends h.starts (omega (arith, h.size)) is) (next-place front b st.start st.length h.starts h.size) refl
+single : (prefix : List ℕ) (st : Scan) (tail : Pending) (b : ℕ) (k : Kind) → Fresh prefix st tail → continues tail b ≡ false → IsPieceToken st.previous (b ∷ []) k Idle → StandsAs (prefix ++ b ∷ []) (push (extend st Idle) k) Idle
+single prefix st tail b k h ends is =
+    settled (prefix ++ b ∷ []) (push (extend st Idle) k) (row_put prefix (b ∷ []) (extend st Idle) tail Idle k h.row ends h.starts (omega (arith, h.size)) is) (next_place prefix b st.start st.length h.starts h.size) refl
 
+-- the tokens with a line end, unless the last of them is one
 with_end : (st : Scan) (previous : Previous) (n : ℕ) → List Token
 with_end st previous n = with_line_end st.items previous st.line n 1
 
-feed-row : (front : List ℕ) (st : Scan) (tail : Pending) → Fresh front st tail → continues tail 10 ≡ false → Pieces (front ++ 10 ∷ []) (with_line_end st.items st.previous st.line st.start (st.length + 1)) AfterLineEnd (st.line + 1) Idle
-feed-row front st tail h ends =
-    subst (λ (n : ℕ). Pieces (front ++ 10 ∷ []) (with_line_end st.items st.previous st.line n (st.length + 1)) AfterLineEnd (st.line + 1) Idle) (sym h.starts)
-    (subst (λ (n : ℕ). Pieces (front ++ 10 ∷ []) (with_line_end st.items st.previous st.line (length front) (n + 1)) AfterLineEnd (st.line + 1) Idle) (sym h.size)
+-- the row with the line feed
+feed_row : (prefix : List ℕ) (st : Scan) (tail : Pending) → Fresh prefix st tail → continues tail 10 ≡ false → Pieces (prefix ++ 10 ∷ []) (with_line_end st.items st.previous st.line st.start (st.length + 1)) AfterLineEnd (st.line + 1) Idle
+feed_row prefix st tail h ends =
+    subst (λ (n : ℕ). Pieces (prefix ++ 10 ∷ []) (with_line_end st.items st.previous st.line n (st.length + 1)) AfterLineEnd (st.line + 1) Idle) (sym h.starts)
+    (subst (λ (n : ℕ). Pieces (prefix ++ 10 ∷ []) (with_line_end st.items st.previous st.line (length prefix) (n + 1)) AfterLineEnd (st.line + 1) Idle) (sym h.size)
     (feed_piece h.row ends))
 
-feed-as : (front : List ℕ) (st : Scan) (tail : Pending) (previous : Previous) → st.previous ≡ previous → Fresh front st tail → Pieces (front ++ 10 ∷ []) (with_line_end st.items previous st.line st.start (st.length + 1)) AfterLineEnd (st.line + 1) Idle
-    → StandsAs (front ++ 10 ∷ []) (next_line (skip (end_line (extend st Idle) previous))) Idle
-feed-as front st tail AfterLineEnd is h row = settled (front ++ 10 ∷ []) (next_line (skip (extend st Idle)))
-    (subst (λ (l : Previous). Pieces (front ++ 10 ∷ []) st.items l (st.line + 1) Idle) (sym is) row) (next-place front 10 st.start st.length h.starts h.size) refl
-feed-as front st tail AfterOperand is h row = settled (front ++ 10 ∷ []) (next_line (skip (push (extend st Idle) LineEndKind))) row (let e = next-place front 10 st.start st.length h.starts h.size in omega (arith, e)) refl
-feed-as front st tail AfterOther is h row = settled (front ++ 10 ∷ []) (next_line (skip (push (extend st Idle) LineEndKind))) row (let e = next-place front 10 st.start st.length h.starts h.size in omega (arith, e)) refl
+-- a line feed, by the token before it
+feed_as : (prefix : List ℕ) (st : Scan) (tail : Pending) (previous : Previous) → st.previous ≡ previous → Fresh prefix st tail → Pieces (prefix ++ 10 ∷ []) (with_line_end st.items previous st.line st.start (st.length + 1)) AfterLineEnd (st.line + 1) Idle
+    → StandsAs (prefix ++ 10 ∷ []) (next_line (skip (end_line (extend st Idle) previous))) Idle
+feed_as prefix st tail AfterLineEnd is h row = settled (prefix ++ 10 ∷ []) (next_line (skip (extend st Idle)))
+    (subst (λ (l : Previous). Pieces (prefix ++ 10 ∷ []) st.items l (st.line + 1) Idle) (sym is) row) (next_place prefix 10 st.start st.length h.starts h.size) refl
+feed_as prefix st tail AfterOperand is h row = settled (prefix ++ 10 ∷ []) (next_line (skip (push (extend st Idle) LineEndKind))) row (let e = next_place prefix 10 st.start st.length h.starts h.size in omega (arith, e)) refl
+feed_as prefix st tail AfterOther is h row = settled (prefix ++ 10 ∷ []) (next_line (skip (push (extend st Idle) LineEndKind))) row (let e = next_place prefix 10 st.start st.length h.starts h.size in omega (arith, e)) refl
 
-minus-as : (front : List ℕ) (st : Scan) (tail : Pending) (previous : Previous) → st.previous ≡ previous → Fresh front st tail → continues tail 45 ≡ false → Keeps front (front ++ 45 ∷ []) (Going (begin_minus st previous))
-minus-as front st tail AfterOperand is h ends = single front st tail 45 (MarkKind Minus) h ends (refl, ap minus_open (sym is))
-minus-as front st tail AfterLineEnd is h ends = opened front st tail PMinus 45 h ends (refl, subst CanBeSigned (sym is) tt)
-minus-as front st tail AfterOther is h ends = opened front st tail PMinus 45 h ends (refl, subst CanBeSigned (sym is) tt)
+-- a minus, by the token before it
+minus_as : (prefix : List ℕ) (st : Scan) (tail : Pending) (previous : Previous) → st.previous ≡ previous → Fresh prefix st tail → continues tail 45 ≡ false → KeepsBytes prefix (prefix ++ 45 ∷ []) (Going (minus_after st previous))
+minus_as prefix st tail AfterOperand is h ends = single prefix st tail 45 (MarkKind Minus) h ends (refl, ap minus_open (sym is))
+minus_as prefix st tail AfterLineEnd is h ends = opened prefix st tail PMinus 45 h ends (refl, subst CanBeSigned (sym is) tt)
+minus_as prefix st tail AfterOther is h ends = opened prefix st tail PMinus 45 h ends (refl, subst CanBeSigned (sym is) tt)
 
+-- a mark that is found for a byte is that byte
 abbrev pub MarkIs : Previous → ℕ → Option Mark → Type 0
 MarkIs previous b None = Unit {0}
 MarkIs previous b (Some m) = IsPieceToken previous (b ∷ []) (MarkKind m) Idle
 
+-- the byte by its test
 here : (b n : ℕ) → (b == n) ≡ true → b ∷ [] ≡ n ∷ []
 here b n h = ap (λ (x : ℕ). x ∷ []) (eqb-true b n h)
 
-pub single-is : (previous : Previous) (b : ℕ) → MarkIs previous b (single_mark b)
-single-is previous b =
-    by_if (MarkIs previous b) (b == 58) (Some Colon) _ (λ h. (here b 58 h, refl)) (λ _.
-    by_if (MarkIs previous b) (b == 44) (Some Comma) _ (λ h. (here b 44 h, refl)) (λ _.
-    by_if (MarkIs previous b) (b == 59) (Some Semicolon) _ (λ h. (here b 59 h, refl)) (λ _.
-    by_if (MarkIs previous b) (b == 40) (Some LeftParen) _ (λ h. (here b 40 h, refl)) (λ _.
-    by_if (MarkIs previous b) (b == 41) (Some RightParen) _ (λ h. (here b 41 h, refl)) (λ _.
-    by_if (MarkIs previous b) (b == 43) (Some Plus) _ (λ h. (here b 43 h, refl)) (λ _.
-    by_if (MarkIs previous b) (b == 42) (Some Star) _ (λ h. (here b 42 h, refl)) (λ _.
-    by_if (MarkIs previous b) (b == 47) (Some Slash) _ (λ h. (here b 47 h, refl)) (λ _.
-    by_if (MarkIs previous b) (b == 61) (Some Equal) None (λ h. (here b 61 h, refl)) (λ _. tt)))))))))
+-- a mark of one byte is spelled as this byte
+pub single_is : (previous : Previous) (b : ℕ) → MarkIs previous b (single_mark b)
+single_is previous b =
+    cond_both (b == 58) (Some Colon) _ (MarkIs previous b) (λ h. (here b 58 h, refl)) (λ _.
+    cond_both (b == 44) (Some Comma) _ (MarkIs previous b) (λ h. (here b 44 h, refl)) (λ _.
+    cond_both (b == 59) (Some Semicolon) _ (MarkIs previous b) (λ h. (here b 59 h, refl)) (λ _.
+    cond_both (b == 40) (Some LeftParen) _ (MarkIs previous b) (λ h. (here b 40 h, refl)) (λ _.
+    cond_both (b == 41) (Some RightParen) _ (MarkIs previous b) (λ h. (here b 41 h, refl)) (λ _.
+    cond_both (b == 43) (Some Plus) _ (MarkIs previous b) (λ h. (here b 43 h, refl)) (λ _.
+    cond_both (b == 42) (Some Star) _ (MarkIs previous b) (λ h. (here b 42 h, refl)) (λ _.
+    cond_both (b == 47) (Some Slash) _ (MarkIs previous b) (λ h. (here b 47 h, refl)) (λ _.
+    cond_both (b == 61) (Some Equal) None (MarkIs previous b) (λ h. (here b 61 h, refl)) (λ _. tt)))))))))
 
-mark-keeps : (text front rest : List ℕ) (st : Scan) (tail : Pending) (b : ℕ) (o : Option Mark) → text ≡ front ++ b ∷ rest → Fresh front st tail → continues tail b ≡ false → MarkIs st.previous b o → (o ≡ None → ByteBeginsNone (b ∷ rest)) → Keeps text (front ++ b ∷ []) (push_mark st o)
-mark-keeps text front rest st tail b None is h ends mark bad = record { front = front; rest = b ∷ rest; items = st.items; previous = st.previous; line = st.line; tail = tail; is = is; row = h.row; ends = ends; stops = (refl, bad refl) }
-mark-keeps text front rest st tail b (Some m) is h ends mark bad = single front st tail b (MarkKind m) h ends mark
+-- a byte that is a mark, or begins nothing
+mark_keeps : (text prefix rest : List ℕ) (st : Scan) (tail : Pending) (b : ℕ) (o : Option Mark) → text ≡ prefix ++ b ∷ rest → Fresh prefix st tail → continues tail b ≡ false → MarkIs st.previous b o → (o ≡ None → ByteBeginsNone (b ∷ rest)) → KeepsBytes text (prefix ++ b ∷ []) (push_mark st o)
+mark_keeps text prefix rest st tail b None is h ends mark bad = record { prefix = prefix; rest = b ∷ rest; items = st.items; previous = st.previous; line = st.line; tail = tail; is = is; row = h.row; ends = ends; stops = (refl, bad refl) }
+mark_keeps text prefix rest st tail b (Some m) is h ends mark bad = single prefix st tail b (MarkKind m) h ends mark
 
 -- facts of one byte, at that byte
-at-byte : (P : ℕ → Type 0) (b n : ℕ) → (b == n) ≡ true → P n → P b
-at-byte P b n is h = subst P (sym (eqb-true b n is)) h
+at_byte : (P : ℕ → Type 0) (b n : ℕ) → (b == n) ≡ true → P n → P b
+at_byte P b n is h = subst P (sym (eqb-true b n is)) h
 
-pub letter-name : (b : ℕ) → is_letter b ≡ true → (is_name_byte b && true) ≡ true
-letter-name b h = ap (λ (t : Bool). (t || is_digit b || nat_eq b 95) && true) h
-
-begin-keeps : (text front rest : List ℕ) (st : Scan) (tail : Pending) (b : ℕ) → text ≡ front ++ b ∷ rest → Fresh front st tail → continues tail b ≡ false → Keeps text (front ++ b ∷ []) (begin st b)
+-- by the tests of the first byte
+begin_keeps : (text prefix rest : List ℕ) (st : Scan) (tail : Pending) (b : ℕ) → text ≡ prefix ++ b ∷ rest → Fresh prefix st tail → continues tail b ≡ false → KeepsBytes text (prefix ++ b ∷ []) (begin st b)
 unfolding begin
-begin-keeps text front rest st tail b is h ends =
-    let P : Scanned → Type 0 = Keeps text (front ++ b ∷ []) in
-    by_if P (b == 10) (Going (line_feed st)) _ (λ e. at-byte (λ b. continues tail b ≡ false → Keeps text (front ++ b ∷ []) (Going (line_feed st))) b 10 e (λ ends. feed-as front st tail st.previous refl h (feed-row front st tail h ends)) ends) (λ n10.
-    by_if P (is_blank b) (Going (skip (extend st Idle))) _ (λ e. settled (front ++ b ∷ []) (skip (extend st Idle)) (blank_piece b h.row ends e) (next-place front b st.start st.length h.starts h.size) refl) (λ nblank.
-    by_if P (is_letter b) (Going (extend st PWord)) _ (λ e. opened front st tail PWord b h ends (e, letter-name b e)) (λ nletter.
-    by_if P (is_ascii_digit b) (Going (extend st PNumber)) _ (λ e. opened front st tail PNumber b h ends (inl (omega arith, and_true _ _ e refl))) (λ ndigit.
-    by_if P (b == 45) (Going (begin_minus st st.previous)) _ (λ e. at-byte (λ b. continues tail b ≡ false → Keeps text (front ++ b ∷ []) (Going (begin_minus st st.previous))) b 45 e (λ ends. minus-as front st tail st.previous refl h ends) ends) (λ n45.
-    by_if P (b == 60) (Going (extend st PLess)) _ (λ e. opened front st tail PLess b h ends (here b 60 e)) (λ n60.
-    by_if P (b == 62) (Going (extend st PGreater)) _ (λ e. opened front st tail PGreater b h ends (here b 62 e)) (λ n62.
-    by_if P (b == 33) (Going (extend st PBang)) _ (λ e. opened front st tail PBang b h ends (here b 33 e)) (λ n33.
-    by_if P (b == 124) (Going (extend st Bar)) _ (λ e. opened front st tail Bar b h ends (here b 124 e)) (λ n124.
-    by_if P (b == 226) (Going (extend st ArrowFirst)) (push_mark st (single_mark b)) (λ e. opened front st tail ArrowFirst b h ends (here b 226 e)) (λ n226.
-    mark-keeps text front rest st tail b (single_mark b) is h ends (single-is st.previous b) (λ nothing. inr (inr (n10, nblank, nletter, ndigit, n45, n60, n62, n33, n124, n226, nothing)))))))))))))
+begin_keeps text prefix rest st tail b is h ends =
+    let P : Scanned → Type 0 = KeepsBytes text (prefix ++ b ∷ []) in
+    cond_both (b == 10) (Going (line_feed st)) _ P (λ e. at_byte (λ b. continues tail b ≡ false → KeepsBytes text (prefix ++ b ∷ []) (Going (line_feed st))) b 10 e (λ ends. feed_as prefix st tail st.previous refl h (feed_row prefix st tail h ends)) ends) (λ n10.
+    cond_both (is_blank b) (Going (skip (extend st Idle))) _ P (λ e. settled (prefix ++ b ∷ []) (skip (extend st Idle)) (blank_piece b h.row ends e) (next_place prefix b st.start st.length h.starts h.size) refl) (λ nblank.
+    cond_both (is_letter b) (Going (extend st PWord)) _ P (λ e. opened prefix st tail PWord b h ends (e, letter_name b e)) (λ nletter.
+    cond_both (is_ascii_digit b) (Going (extend st PNumber)) _ P (λ e. opened prefix st tail PNumber b h ends (inl (omega arith, and_from _ _ e refl))) (λ ndigit.
+    cond_both (b == 45) (Going (minus_after st st.previous)) _ P (λ e. at_byte (λ b. continues tail b ≡ false → KeepsBytes text (prefix ++ b ∷ []) (Going (minus_after st st.previous))) b 45 e (λ ends. minus_as prefix st tail st.previous refl h ends) ends) (λ n45.
+    cond_both (b == 60) (Going (extend st PLess)) _ P (λ e. opened prefix st tail PLess b h ends (here b 60 e)) (λ n60.
+    cond_both (b == 62) (Going (extend st PGreater)) _ P (λ e. opened prefix st tail PGreater b h ends (here b 62 e)) (λ n62.
+    cond_both (b == 33) (Going (extend st PBang)) _ P (λ e. opened prefix st tail PBang b h ends (here b 33 e)) (λ n33.
+    cond_both (b == 124) (Going (extend st Bar)) _ P (λ e. opened prefix st tail Bar b h ends (here b 124 e)) (λ n124.
+    cond_both (b == 226) (Going (extend st ArrowFirst)) (push_mark st (single_mark b)) P (λ e. opened prefix st tail ArrowFirst b h ends (here b 226 e)) (λ n226.
+    mark_keeps text prefix rest st tail b (single_mark b) is h ends (single_is st.previous b) (λ nothing. inr (inr (n10, nblank, nletter, ndigit, n45, n60, n62, n33, n124, n226, nothing)))))))))))))
 
-begin_after-keeps : (text front rest : List ℕ) (r : Scanned) (tail : Pending) (b : ℕ) → text ≡ front ++ b ∷ rest → Emits text front tail r → continues tail b ≡ false → Keeps text (front ++ b ∷ []) (begin_after r b)
-begin_after-keeps text front rest (Going st) tail b is h ends = begin-keeps text front rest st tail b is h ends
-begin_after-keeps text front rest (Stopped bad) tail b is h ends = h
+-- the same where what was pending may have been refused
+begin_after_keeps : (text prefix rest : List ℕ) (r : Scanned) (tail : Pending) (b : ℕ) → text ≡ prefix ++ b ∷ rest → Emits text prefix tail r → continues tail b ≡ false → KeepsBytes text (prefix ++ b ∷ []) (begin_after r b)
+begin_after_keeps text prefix rest (Going st) tail b is h ends = begin_keeps text prefix rest st tail b is h ends
+begin_after_keeps text prefix rest (Stopped bad) tail b is h ends = h
+
+-- ---- one more byte of what is pending
 
 -- a byte more
-grows : (front : List ℕ) (st : Scan) (p q : Pending) (b : ℕ) (h : StandsAs front st p) → 0 < length h.own → Reads st.previous h.tail q (h.own ++ b ∷ []) → StandsAs (front ++ b ∷ []) (extend st q) q
-grows front st p q b h some reads = record {
+grows : (prefix : List ℕ) (st : Scan) (p q : Pending) (b : ℕ) (h : StandsAs prefix st p) → 0 < length h.own → ReadsBytes st.previous h.tail q (h.own ++ b ∷ []) → StandsAs (prefix ++ b ∷ []) (extend st q) q
+grows prefix st p q b h some reads = record {
   base = h.base;
   own = h.own ++ b ∷ [];
   tail = h.tail;
   is = ap (λ (l : List ℕ). l ++ b ∷ []) h.is ∙ append_assoc h.base h.own (b ∷ []);
   row = h.row;
-  ends = ends-append h.tail h.own (b ∷ []) some h.ends;
+  ends = ends_append h.tail h.own (b ∷ []) some h.ends;
   starts = h.starts;
   size = omega (arith, h.size, length-append h.own (b ∷ []));
   reads = reads;
 }
 
-close-keeps : (front : List ℕ) (st : Scan) (p : Pending) (b : ℕ) (m : Mark) (h : StandsAs front st p) → 0 < length h.own → IsPieceToken st.previous (h.own ++ b ∷ []) (MarkKind m) Idle → StandsAs (front ++ b ∷ []) (push (extend st Idle) (MarkKind m)) Idle
-close-keeps front st p b m h some is =
-    let whole : front ++ b ∷ [] ≡ h.base ++ (h.own ++ b ∷ []) = ap (λ (l : List ℕ). l ++ b ∷ []) h.is ∙ append_assoc h.base h.own (b ∷ []) in
+-- the byte ends a mark
+close_keeps : (prefix : List ℕ) (st : Scan) (p : Pending) (b : ℕ) (m : Mark) (h : StandsAs prefix st p) → 0 < length h.own → IsPieceToken st.previous (h.own ++ b ∷ []) (MarkKind m) Idle → StandsAs (prefix ++ b ∷ []) (push (extend st Idle) (MarkKind m)) Idle
+close_keeps prefix st p b m h some is =
+    let whole : prefix ++ b ∷ [] ≡ h.base ++ (h.own ++ b ∷ []) = ap (λ (l : List ℕ). l ++ b ∷ []) h.is ∙ append_assoc h.base h.own (b ∷ []) in
     let size : st.length + 1 ≡ length (h.own ++ b ∷ []) = omega (arith, h.size, length-append h.own (b ∷ [])) in
-    settled (front ++ b ∷ []) (push (extend st Idle) (MarkKind m))
+    settled (prefix ++ b ∷ []) (push (extend st Idle) (MarkKind m))
     (subst (λ (l : List ℕ). Pieces l (push (extend st Idle) (MarkKind m)).items AfterOther st.line Idle) (sym whole)
-    (row-put h.base (h.own ++ b ∷ []) (extend st Idle) h.tail Idle (MarkKind m) h.row (ends-append h.tail h.own (b ∷ []) some h.ends) h.starts size is))
-    (place (front ++ b ∷ []) h.base (h.own ++ b ∷ []) (extend st Idle) whole h.starts size) refl
+    (row_put h.base (h.own ++ b ∷ []) (extend st Idle) h.tail Idle (MarkKind m) h.row (ends_append h.tail h.own (b ∷ []) some h.ends) h.starts size is))
+    (place (prefix ++ b ∷ []) h.base (h.own ++ b ∷ []) (extend st Idle) whole h.starts size) refl
 
+-- one byte more than one byte
 two : (own : List ℕ) (a b n : ℕ) → own ≡ a ∷ [] → (b == n) ≡ true → own ++ b ∷ [] ≡ a ∷ n ∷ []
 two own a b n is e = ap (λ (l : List ℕ). l ++ b ∷ []) is ∙ ap (λ (c : ℕ). a ∷ c ∷ []) (eqb-true b n e)
 
-pub digits-snoc : (s : List ℕ) (b : ℕ) → IsDigits s → is_ascii_digit b ≡ true → IsDigits (s ++ b ∷ [])
-digits-snoc s b h is = (omega (arith, length-append s (b ∷ [])), all s h.1)
-  where
-    all : (s : List ℕ) → all_ascii_digits s ≡ true → all_ascii_digits (s ++ b ∷ []) ≡ true
-    all [] h = and_true _ _ is refl
-    all (d ∷ s) h = let parts = both_true (is_ascii_digit d) (all_ascii_digits s) h in and_true _ _ parts.0 (all s parts.1)
+-- one more digit
+pub digits_snoc : (s : List ℕ) (b : ℕ) → IsDigits s → is_ascii_digit b ≡ true → IsDigits (s ++ b ∷ [])
+digits_snoc s b h is = (omega (arith, length-append s (b ∷ [])), digits_all (s ++ b ∷ []) ∙ all_push is_ascii_digit s b (sym (digits_all s) ∙ h.1) is)
 
-pub numeral-snoc : (previous : Previous) (s : List ℕ) (b : ℕ) → IsNumeral previous s → is_ascii_digit b ≡ true → IsNumeral previous (s ++ b ∷ [])
-numeral-snoc previous s b (inl h) is = inl (digits-snoc s b h is)
-numeral-snoc previous s b (inr h) is = inr (h.0 ++ b ∷ [], ap (λ (l : List ℕ). l ++ b ∷ []) h.1, digits-snoc h.0 b h.2 is, h.3)
+-- one more digit of a numeral
+pub numeral_snoc : (previous : Previous) (s : List ℕ) (b : ℕ) → IsNumeral previous s → is_ascii_digit b ≡ true → IsNumeral previous (s ++ b ∷ [])
+numeral_snoc previous s b (inl h) is = inl (digits_snoc s b h is)
+numeral_snoc previous s b (inr h) is = inr (h.0 ++ b ∷ [], ap (λ (l : List ℕ). l ++ b ∷ []) h.1, digits_snoc h.0 b h.2 is, h.3)
 
-pub begins-snoc : (s : List ℕ) (b : ℕ) → begins_as_name s ≡ true → begins_as_name (s ++ b ∷ []) ≡ true
-begins-snoc [] b h = absurd (cc)
-begins-snoc (c ∷ s) b h = h
+-- one more byte of a word
+pub begins_snoc : (s : List ℕ) (b : ℕ) → begins_as_name s ≡ true → begins_as_name (s ++ b ∷ []) ≡ true
+begins_snoc [] b h = absurd (cc)
+begins_snoc (c ∷ s) b h = h
 
-pub name-snoc : (s : List ℕ) (b : ℕ) → list_all is_name_byte s ≡ true → is_name_byte b ≡ true → list_all is_name_byte (s ++ b ∷ []) ≡ true
-name-snoc s b h is = list_all-append is_name_byte s (b ∷ []) ∙ and_true _ _ h (and_true _ _ is refl)
+-- ---- each byte, and the whole text
 
-comment-snoc : (s : List ℕ) (b : ℕ) → HasNoLineFeed s → (b == 10) ≡ false → HasNoLineFeed (s ++ b ∷ [])
-comment-snoc s b h is = list_all-append (λ b. not (b == 10)) s (b ∷ []) ∙ and_true _ _ h (and_true _ _ (ap not is) refl)
+-- by what is pending
+step_as_keeps : (text prefix rest : List ℕ) (st : Scan) (b : ℕ) (p : Pending) → text ≡ prefix ++ b ∷ rest → StandsAs prefix st p → (continues p b ≡ false → Emits text prefix p (emit text st)) → KeepsBytes text (prefix ++ b ∷ []) (step_as text st b p)
+step_as_keeps text prefix rest st b Idle is h out = begin_keeps text prefix rest (skip st) Idle b is (drop_idle prefix st h) refl
+step_as_keeps text prefix rest st b PWord is h out = cond_both (is_name_byte b) (Going (extend st PWord)) (begin_after (emit text st) b) (KeepsBytes text (prefix ++ b ∷ []))
+    (λ e. grows prefix st PWord PWord b h (named_some h.own h.reads.0) (begins_snoc h.own b h.reads.0, all_push is_name_byte h.own b h.reads.1 e))
+    (λ e. begin_after_keeps text prefix rest (emit text st) PWord b is (out e) e)
+step_as_keeps text prefix rest st b PNumber is h out = cond_both (is_ascii_digit b) (Going (extend st PNumber)) _ (KeepsBytes text (prefix ++ b ∷ []))
+    (λ e. grows prefix st PNumber PNumber b h (numeral_some st.previous h.own h.reads) (numeral_snoc st.previous h.own b h.reads e))
+    (λ digit. cond_both (is_name_byte b) (Stopped (BadNumber st.line)) (begin_after (emit text st) b) (KeepsBytes text (prefix ++ b ∷ []))
+    (λ e. bad_at text prefix (b ∷ rest) st PNumber (BadNumber st.line) is h (numeral_some st.previous h.own h.reads) (refl, record { s = h.own; rest = b ∷ rest; is = refl; numeral = h.reads; why = inr (b, rest, refl, digit, e) }))
+    (λ e. begin_after_keeps text prefix rest (emit text st) PNumber b is (out e) e))
+step_as_keeps text prefix rest st b PMinus is h out = cond_both (is_ascii_digit b) (Going (extend st PNumber)) (begin_after (emit text st) b) (KeepsBytes text (prefix ++ b ∷ []))
+    (λ e. grows prefix st PMinus PNumber b h (one h.own 45 h.reads.0) (inr (b ∷ [], ap (λ (l : List ℕ). l ++ b ∷ []) h.reads.0, (omega arith, and_from _ _ e refl), h.reads.1)))
+    (λ e. begin_after_keeps text prefix rest (emit text st) PMinus b is (out e) e)
+step_as_keeps text prefix rest st b PLess is h out = cond_both (b == 45) (complete st Arrow) _ (KeepsBytes text (prefix ++ b ∷ []))
+    (λ e. close_keeps prefix st PLess b Arrow h (one h.own 60 h.reads) (inl (two h.own 60 b 45 h.reads e), refl))
+    (λ no_arrow. cond_both (b == 61) (complete st LessEqual) (begin_after (emit text st) b) (KeepsBytes text (prefix ++ b ∷ []))
+    (λ e. close_keeps prefix st PLess b LessEqual h (one h.own 60 h.reads) (two h.own 60 b 61 h.reads e, refl))
+    (λ e. begin_after_keeps text prefix rest (emit text st) PLess b is (out (or_from _ _ no_arrow e)) (or_from _ _ no_arrow e)))
+step_as_keeps text prefix rest st b PGreater is h out = cond_both (b == 61) (complete st GreaterEqual) (begin_after (emit text st) b) (KeepsBytes text (prefix ++ b ∷ []))
+    (λ e. close_keeps prefix st PGreater b GreaterEqual h (one h.own 62 h.reads) (two h.own 62 b 61 h.reads e, refl))
+    (λ e. begin_after_keeps text prefix rest (emit text st) PGreater b is (out e) e)
+step_as_keeps text prefix rest st b PBang is h out = cond_both (b == 61) (complete st NotEqual) (begin_after (emit text st) b) (KeepsBytes text (prefix ++ b ∷ []))
+    (λ e. close_keeps prefix st PBang b NotEqual h (one h.own 33 h.reads) (two h.own 33 b 61 h.reads e, refl))
+    (λ e. begin_after_keeps text prefix rest (emit text st) PBang b is (out e) e)
+step_as_keeps text prefix rest st b Bar is h out = cond_both (b == 124) (Going (extend st Comment)) (Stopped (BadByte st.line)) (KeepsBytes text (prefix ++ b ∷ []))
+    (λ e. grows prefix st Bar Comment b h (one h.own 124 h.reads) ([], two h.own 124 b 124 h.reads e, refl))
+    (λ e. byte_emits text prefix (b ∷ rest) st Bar (124 ∷ []) 124 [] is h h.reads refl (inl (refl, e)))
+step_as_keeps text prefix rest st b Comment is h out = cond_both (not (b == 10)) (Going (extend st Comment)) (begin_after (emit text st) b) (KeepsBytes text (prefix ++ b ∷ []))
+    (λ e. grows prefix st Comment Comment b h (omega (arith, ap length h.reads.1)) (h.reads.0 ++ b ∷ [], ap (λ (l : List ℕ). l ++ b ∷ []) h.reads.1, all_push (λ b. not (b == 10)) h.reads.0 b h.reads.2 e))
+    (λ e. begin_after_keeps text prefix rest (emit text st) Comment b is (out e) e)
+step_as_keeps text prefix rest st b ArrowFirst is h out = cond_both (b == 134) (Going (extend st ArrowSecond)) (Stopped (BadByte st.line)) (KeepsBytes text (prefix ++ b ∷ []))
+    (λ e. grows prefix st ArrowFirst ArrowSecond b h (one h.own 226 h.reads) (two h.own 226 b 134 h.reads e))
+    (λ e. byte_emits text prefix (b ∷ rest) st ArrowFirst (226 ∷ []) 226 [] is h h.reads refl (inr (inl (refl, inl e))))
+step_as_keeps text prefix rest st b ArrowSecond is h out = cond_both (b == 144) (complete st Arrow) (Stopped (BadByte st.line)) (KeepsBytes text (prefix ++ b ∷ []))
+    (λ e. close_keeps prefix st ArrowSecond b Arrow h (omega (arith, ap length h.reads)) (inr (ap (λ (l : List ℕ). l ++ b ∷ []) h.reads ∙ ap (λ (c : ℕ). 226 ∷ 134 ∷ c ∷ []) (eqb-true b 144 e)), refl))
+    (λ e. byte_emits text prefix (b ∷ rest) st ArrowSecond (226 ∷ 134 ∷ []) 226 (134 ∷ []) is h h.reads refl (inr (inl (refl, inr (b ∷ rest, refl, e)))))
 
-neither : (a b : Bool) → a ≡ false → b ≡ false → (a || b) ≡ false
-neither a b p q = ap (λ (t : Bool). t || b) p ∙ q
+-- one more byte
+step_keeps : (text prefix rest : List ℕ) (r : Scanned) (b : ℕ) → text ≡ prefix ++ b ∷ rest → KeepsBytes text prefix r → KeepsBytes text (prefix ++ b ∷ []) (scan_step text r b)
+step_keeps text prefix rest (Going st) b is h = step_as_keeps text prefix rest st b st.pending is h (λ ends. emit_keeps text prefix (b ∷ rest) st is h ends)
+step_keeps text prefix rest (Stopped bad) b is h = h
 
-step_as-keeps : (text front rest : List ℕ) (st : Scan) (b : ℕ) (p : Pending) → text ≡ front ++ b ∷ rest → StandsAs front st p → (continues p b ≡ false → Emits text front p (emit text st)) → Keeps text (front ++ b ∷ []) (step_as text st b p)
-step_as-keeps text front rest st b Idle is h out = begin_after-keeps text front rest (emit text st) Idle b is (out refl) refl
-step_as-keeps text front rest st b PWord is h out = by_if (Keeps text (front ++ b ∷ [])) (is_name_byte b) (Going (extend st PWord)) (begin_after (emit text st) b)
-    (λ e. grows front st PWord PWord b h (named-some h.own h.reads.0) (begins-snoc h.own b h.reads.0, name-snoc h.own b h.reads.1 e))
-    (λ e. begin_after-keeps text front rest (emit text st) PWord b is (out e) e)
-step_as-keeps text front rest st b PNumber is h out = by_if (Keeps text (front ++ b ∷ [])) (is_ascii_digit b) (Going (extend st PNumber)) _
-    (λ e. grows front st PNumber PNumber b h (numeral-some st.previous h.own h.reads) (numeral-snoc st.previous h.own b h.reads e))
-    (λ digit. by_if (Keeps text (front ++ b ∷ [])) (is_name_byte b) (Stopped (BadNumber st.line)) (begin_after (emit text st) b)
-    (λ e. bad-at text front (b ∷ rest) st PNumber (BadNumber st.line) is h (numeral-some st.previous h.own h.reads) (refl, record { s = h.own; rest = b ∷ rest; is = refl; numeral = h.reads; why = inr (b, rest, refl, digit, e) }))
-    (λ e. begin_after-keeps text front rest (emit text st) PNumber b is (out e) e))
-step_as-keeps text front rest st b PMinus is h out = by_if (Keeps text (front ++ b ∷ [])) (is_ascii_digit b) (Going (extend st PNumber)) (begin_after (emit text st) b)
-    (λ e. grows front st PMinus PNumber b h (one h.own 45 h.reads.0) (inr (b ∷ [], ap (λ (l : List ℕ). l ++ b ∷ []) h.reads.0, (omega arith, and_true _ _ e refl), h.reads.1)))
-    (λ e. begin_after-keeps text front rest (emit text st) PMinus b is (out e) e)
-step_as-keeps text front rest st b PLess is h out = by_if (Keeps text (front ++ b ∷ [])) (b == 45) (complete st Arrow) _
-    (λ e. close-keeps front st PLess b Arrow h (one h.own 60 h.reads) (inl (two h.own 60 b 45 h.reads e), refl))
-    (λ no_arrow. by_if (Keeps text (front ++ b ∷ [])) (b == 61) (complete st LessEqual) (begin_after (emit text st) b)
-    (λ e. close-keeps front st PLess b LessEqual h (one h.own 60 h.reads) (two h.own 60 b 61 h.reads e, refl))
-    (λ e. begin_after-keeps text front rest (emit text st) PLess b is (out (neither _ _ no_arrow e)) (neither _ _ no_arrow e)))
-step_as-keeps text front rest st b PGreater is h out = by_if (Keeps text (front ++ b ∷ [])) (b == 61) (complete st GreaterEqual) (begin_after (emit text st) b)
-    (λ e. close-keeps front st PGreater b GreaterEqual h (one h.own 62 h.reads) (two h.own 62 b 61 h.reads e, refl))
-    (λ e. begin_after-keeps text front rest (emit text st) PGreater b is (out e) e)
-step_as-keeps text front rest st b PBang is h out = by_if (Keeps text (front ++ b ∷ [])) (b == 61) (complete st NotEqual) (begin_after (emit text st) b)
-    (λ e. close-keeps front st PBang b NotEqual h (one h.own 33 h.reads) (two h.own 33 b 61 h.reads e, refl))
-    (λ e. begin_after-keeps text front rest (emit text st) PBang b is (out e) e)
-step_as-keeps text front rest st b Bar is h out = by_if (Keeps text (front ++ b ∷ [])) (b == 124) (Going (extend st Comment)) (Stopped (BadByte st.line))
-    (λ e. grows front st Bar Comment b h (one h.own 124 h.reads) ([], two h.own 124 b 124 h.reads e, refl))
-    (λ e. byte-emits text front (b ∷ rest) st Bar (124 ∷ []) 124 [] is h h.reads refl (inl (refl, e)))
-step_as-keeps text front rest st b Comment is h out = by_if (Keeps text (front ++ b ∷ [])) (b == 10) (begin_after (emit text st) b) (Going (extend st Comment))
-    (λ e. begin_after-keeps text front rest (emit text st) Comment b is (out (ap not e)) (ap not e))
-    (λ e. grows front st Comment Comment b h (omega (arith, ap length h.reads.1)) (h.reads.0 ++ b ∷ [], ap (λ (l : List ℕ). l ++ b ∷ []) h.reads.1, comment-snoc h.reads.0 b h.reads.2 e))
-step_as-keeps text front rest st b ArrowFirst is h out = by_if (Keeps text (front ++ b ∷ [])) (b == 134) (Going (extend st ArrowSecond)) (Stopped (BadByte st.line))
-    (λ e. grows front st ArrowFirst ArrowSecond b h (one h.own 226 h.reads) (two h.own 226 b 134 h.reads e))
-    (λ e. byte-emits text front (b ∷ rest) st ArrowFirst (226 ∷ []) 226 [] is h h.reads refl (inr (inl (refl, inl e))))
-step_as-keeps text front rest st b ArrowSecond is h out = by_if (Keeps text (front ++ b ∷ [])) (b == 144) (complete st Arrow) (Stopped (BadByte st.line))
-    (λ e. close-keeps front st ArrowSecond b Arrow h (omega (arith, ap length h.reads)) (inr (ap (λ (l : List ℕ). l ++ b ∷ []) h.reads ∙ ap (λ (c : ℕ). 226 ∷ 134 ∷ c ∷ []) (eqb-true b 144 e)), refl))
-    (λ e. byte-emits text front (b ∷ rest) st ArrowSecond (226 ∷ 134 ∷ []) 226 (134 ∷ []) is h h.reads refl (inr (inl (refl, inr (b ∷ rest, refl, e)))))
+-- all bytes that are left
+run_keeps : (text prefix rest : List ℕ) (r : Scanned) → text ≡ prefix ++ rest → KeepsBytes text prefix r → KeepsBytes text text (fold (scan_step text) r rest)
+run_keeps text prefix [] r is h = subst (λ (l : List ℕ). KeepsBytes text l r) (sym (is ∙ append-nil prefix)) h
+run_keeps text prefix (b ∷ rest) r is h = run_keeps text (prefix ++ b ∷ []) rest (scan_step text r b) (is ∙ sym (append_assoc prefix (b ∷ []) rest)) (step_keeps text prefix rest r b is h)
 
-step-keeps : (text front rest : List ℕ) (r : Scanned) (b : ℕ) → text ≡ front ++ b ∷ rest → Keeps text front r → Keeps text (front ++ b ∷ []) (step text r b)
-step-keeps text front rest (Going st) b is h = step_as-keeps text front rest st b st.pending is h (λ ends. emit-keeps text front (b ∷ rest) st is h ends)
-step-keeps text front rest (Stopped bad) b is h = h
+-- the scan of a whole text
+scan_keeps : (text : List ℕ) → KeepsBytes text text (scan text text)
+scan_keeps text = run_keeps text [] text (Going start) refl (settled [] start no_piece refl refl)
 
-run-keeps : (text front rest : List ℕ) (r : Scanned) → text ≡ front ++ rest → Keeps text front r → Keeps text text (fold (step text) r rest)
-run-keeps text front [] r is h = subst (λ (l : List ℕ). Keeps text l r) (sym (is ∙ append-nil front)) h
-run-keeps text front (b ∷ rest) r is h = run-keeps text (front ++ b ∷ []) rest (step text r b) (is ∙ sym (append_assoc front (b ∷ []) rest)) (step-keeps text front rest r b is h)
+-- ---- the end of the text
 
-scan-keeps : (text : List ℕ) → Keeps text text (scan text text)
-scan-keeps text = run-keeps text [] text (Going start) refl (settled [] start no_piece refl refl)
+-- the tokens of a row of pieces, or a place where no token stands
+abbrev pub EndsScan : List ℕ → Scanned → Type 0
+EndsScan text (Going st) = PiecesTokens text st.items
+EndsScan text (Stopped bad) = PieceRefusal text bad
 
-abbrev pub Ends : List ℕ → Scanned → Type 0
-Ends text (Going st) = PiecesTokens text st.items
-Ends text (Stopped bad) = PieceRefusal text bad
-
-last-line : (st : Scan) (previous : Previous) → (end_line st previous).items ≡ with_line_end st.items previous st.line st.start st.length
-last-line st AfterLineEnd = refl
-last-line st AfterOperand = refl
-last-line st AfterOther = refl
-
-finish_with-ends : (text : List ℕ) (r : Scanned) (tail : Pending) → Emits text text tail r → Ends text (finish_with r)
-finish_with-ends text (Going st) tail h = record {
+-- one more line end, unless the last token is one
+finish_with_ends : (text : List ℕ) (r : Scanned) (tail : Pending) → Emits text text tail r → EndsScan text (finish_with r)
+finish_with_ends text (Going st) tail h = record {
   before = st.items;
   previous = st.previous;
   line = st.line;
   tail = tail;
   row = h.row;
-  items_are = last-line st st.previous ∙ ap (λ (n : ℕ). with_line_end st.items st.previous st.line n st.length) h.starts ∙ ap (λ (n : ℕ). with_line_end st.items st.previous st.line (length text) n) h.size;
+  items_are = last_line st st.previous ∙ ap (λ (n : ℕ). with_line_end st.items st.previous st.line n st.length) h.starts ∙ ap (λ (n : ℕ). with_line_end st.items st.previous st.line (length text) n) h.size;
 }
-finish_with-ends text (Stopped bad) tail h = h
+finish_with_ends text (Stopped bad) tail h = h
 
-finish-ends : (text : List ℕ) (r : Scanned) → Keeps text text r → Ends text (finish text r)
-finish-ends text (Going st) h = finish_with-ends text (emit text st) st.pending (emit-keeps text text [] st (sym (append-nil text)) h tt)
-finish-ends text (Stopped bad) h = h
+-- the end of the text
+finish_ends : (text : List ℕ) (r : Scanned) → KeepsBytes text text r → EndsScan text (finish text r)
+finish_ends text (Going st) h = finish_with_ends text (emit text st) st.pending (emit_keeps text text [] st (sym (append-nil text)) h tt)
+finish_ends text (Stopped bad) h = h
 
 -- a scan is a row of tokens, or it stops at a place that is no token
-pub scanned-ends : (text : List ℕ) → Ends text (scanned text)
-scanned-ends text = finish-ends text (scan text text) (scan-keeps text)
+pub scanned_ends : (text : List ℕ) → EndsScan text (scanned text)
+scanned_ends text = finish_ends text (scan text text) (scan_keeps text)

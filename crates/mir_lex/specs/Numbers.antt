@@ -1,4 +1,4 @@
--- The numbers that decimal digits spell.
+-- The numbers that decimal digits spell. Cited by contracts.
 use Rattle.std.specs.Prelude.{ℕ, ℤ, ◌≡◌, ◌<◌, ◌^◌, ◌==◌, Bool, ◌&&◌, nat_lt, List, [], ◌∷◌, length, Option, None, Some, if◌then◌else◌}
 use Rattle.std.specs.Int.Signed.{mag}
 use Rattle.std.specs.Str.{all_ascii_digits}

@@ -1,16 +1,14 @@
--- The scanner: what each byte makes of what was scanned before it.
-use Rattle.std.specs.Prelude.{◌≡◌, ℕ, ℤ, ◌+◌, ◌≤◌, ◌^◌, ◌==◌, Bool, ◌&&◌, not, nat_lt, nat_eq, List, [], ◌∷◌, ◌++◌, length, take, drop, codes, slice_index, fold, Option, None, Some, if◌then◌else◌}
+-- The scanner: what each byte makes of what was scanned before it. Cited by contracts of this crate's own functions.
+use Rattle.std.specs.Prelude.{◌≡◌, ℕ, ℤ, ◌+◌, ◌≤◌, ◌<◌, ◌^◌, ◌==◌, Bool, false, ◌&&◌, not, nat_lt, List, [], ◌∷◌, length, take, drop, slice_index, fold, Option, None, Some, if◌then◌else◌}
 use Rattle.std.specs.Option.{option_map}
 use Rattle.std.specs.Char.{is_ascii_digit}
 use Rattle.std.specs.Str.{all_ascii_digits}
-use Rattle.std.specs.Cmp.Lexicographic.{pointwise}
 use Rattle.std.specs.Str.Parse.{without_leading_sign, signed_digits_value}
 use Rattle.std.specs.Int.Signed.{mag}
-use Rattle.mir_base.specs.Names.{is_name, is_name_byte, is_letter}
+use Rattle.mir_base.specs.Names.{is_name, is_name_byte, is_letter, is_text}
 use Rattle.mir_lex.specs.declared.words.Mark.{Mark}
 use Rattle.mir_lex.specs.declared.words.Mark.TheVariants.{Colon, Comma, Semicolon, LeftParen, RightParen, Plus, Minus, Star, Slash, Equal, NotEqual, Less, LessEqual, Greater, GreaterEqual, Bang, Arrow}
 use Rattle.mir_lex.specs.declared.words.Word.{Word}
-use Rattle.mir_lex.specs.declared.words.Word.TheVariants.{Begin, End, Receive, Goto, If, Call, Return, Print, Mod, Min, Max, Shl, Shr, Shra, And, Or, Xor, Trap, Global, Sequence}
 use Rattle.mir_lex.specs.declared.words.Kind.{Kind}
 use Rattle.mir_lex.specs.declared.words.Kind.TheVariants.{Name as NameKind, Word as WordKind, Number as NumberKind, Mark as MarkKind, LineEnd as LineEndKind}
 use Rattle.mir_lex.specs.declared.scan.Pending.{Pending}
@@ -22,48 +20,34 @@ use Rattle.mir_lex.specs.declared.scan.Scanned.{Scanned}
 use Rattle.mir_lex.specs.declared.scan.Scanned.TheVariants.{Going, Stopped}
 use Rattle.mir_lex.specs.declared.faults.LexFault.{LexFault}
 use Rattle.mir_lex.specs.declared.faults.LexFault.TheVariants.{BadByte, BadNumber, LongName}
-use Rattle.mir_lex.specs.Spelling.{is_blank, previous_of}
+use Rattle.mir_lex.specs.Spelling.{word_text, words, with_token, is_blank, previous_of}
+
+-- ---- words, numbers and marks
 
 -- an optional minus and decimal digits, of a signed number of 64 bits
 abbrev pub is_number : List ℕ → Bool
-is_number bytes = not (slice_index bytes 0 == 43) && nat_lt 0 (length (without_leading_sign bytes)) && all_ascii_digits (without_leading_sign bytes)
+is_number bytes =
+    not (slice_index bytes 0 == 43) && nat_lt 0 (length (without_leading_sign bytes)) && all_ascii_digits (without_leading_sign bytes)
     && nat_lt (mag (signed_digits_value 10 bytes)) (2 ^ 63)
 
 -- the number that these bytes spell, if they spell one
 unfoldable pub number_of : List ℕ → Option ℤ
 number_of bytes = if is_number bytes then Some (signed_digits_value 10 bytes) else None
 
--- the bytes are this text
-abbrev pub is_text : List ℕ → List ℕ → Bool
-is_text text bytes = pointwise nat_eq text bytes
+-- the bytes are one letter
+abbrev pub is_lone_letter : List ℕ → Bool
+is_lone_letter [] = false
+is_lone_letter (byte ∷ []) = is_letter byte
+is_lone_letter (byte ∷ next ∷ bytes) = false
 
--- the words of operators, and those that no instruction begins with
-abbrev pub operator_word : List ℕ → Option Word
-operator_word bytes =
-    if is_text (codes "mod") bytes then Some Mod else
-    if is_text (codes "min") bytes then Some Min else
-    if is_text (codes "max") bytes then Some Max else
-    if is_text (codes "shl") bytes then Some Shl else
-    if is_text (codes "shr") bytes then Some Shr else
-    if is_text (codes "shra") bytes then Some Shra else
-    if is_text (codes "and") bytes then Some And else
-    if is_text (codes "or") bytes then Some Or else
-    if is_text (codes "xor") bytes then Some Xor else
-    if is_text (codes "trap") bytes then Some Trap else
-    if is_text (codes "global") bytes then Some Global else
-    if is_text (codes "sequence") bytes then Some Sequence else None
+-- the word of the first entry whose spelling the bytes are
+abbrev pub first_word : {Entry : Type 0} → (Entry → List ℕ) → (Entry → Word) → List ℕ → List Entry → Option Word
+first_word text word bytes [] = None
+first_word text word bytes (entry ∷ entries) = if is_text (text entry) bytes then Some (word entry) else first_word text word bytes entries
 
 -- the reserved word that these bytes are
 unfoldable pub reserved_word : List ℕ → Option Word
-reserved_word bytes =
-    if is_text (codes "begin") bytes then Some Begin else
-    if is_text (codes "end") bytes then Some End else
-    if is_text (codes "receive") bytes then Some Receive else
-    if is_text (codes "goto") bytes then Some Goto else
-    if is_text (codes "if") bytes then Some If else
-    if is_text (codes "call") bytes then Some Call else
-    if is_text (codes "return") bytes then Some Return else
-    if is_text (codes "print") bytes then Some Print else operator_word bytes
+reserved_word bytes = first_word word_text (λ word. word) bytes words
 
 -- what a word is; none where it is too long
 unfoldable pub word_kind : List ℕ → Option Kind
@@ -82,6 +66,28 @@ single_mark byte =
     if byte == 47 then Some Slash else
     if byte == 61 then Some Equal else None
 
+-- ---- the range of places and lines
+
+-- the text is so short that each of its places and lines fits 64 bits
+abbrev pub IsShort : List ℕ → Type 0
+IsShort text = length text < 2 ^ 60
+
+-- the place so many bytes behind the pending ones fits 64 bits
+abbrev pub HasRoom : ℕ → Scan → Type 0
+HasRoom count state = state.start + state.length + count < 2 ^ 62
+
+-- the line and the next one fit 64 bits
+abbrev pub HasLine : Scan → Type 0
+HasLine state = state.line < 2 ^ 62
+
+-- the pending bytes lie in a short text, and the line is at most one behind its last
+pub record IsInText (text : List ℕ) (state : Scan) : Type 0 where
+  pub within : state.start + state.length ≤ length text
+  pub short : IsShort text
+  pub lines : state.line ≤ length text + 1
+
+-- ---- what is done with the pending bytes
+
 -- what a step makes: the scan, or why it stops
 abbrev pub outcome : Option LexFault → Scan → Scanned
 outcome None state = Going state
@@ -94,7 +100,7 @@ extend state pending = record state { length = state.length + 1; pending = pendi
 -- the bytes since the start are a token
 abbrev pub push : Scan → Kind → Scan
 push state kind = record {
-  items = state.items ++ record { kind = kind; start = state.start; length = state.length; line = state.line } ∷ [];
+  items = with_token state.items kind state.start state.length state.line;
   previous = previous_of kind;
   line = state.line;
   start = state.start + state.length;
@@ -136,7 +142,9 @@ emit_as text state pending = Stopped (BadByte state.line)
 unfoldable pub emit : List ℕ → Scan → Scanned
 emit text state = emit_as text state state.pending
 
--- a line end, unless none is wanted
+-- ---- the first byte of a piece
+
+-- a line end, unless the token before is one or there is none
 abbrev pub end_line : Scan → Previous → Scan
 end_line state AfterLineEnd = state
 end_line state previous = push state LineEndKind
@@ -149,10 +157,18 @@ next_line state = record state { line = state.line + 1 }
 abbrev pub line_feed : Scan → Scan
 line_feed state = next_line (skip (end_line (extend state Idle) state.previous))
 
+-- one more byte is pending, and the scan goes on
+abbrev pub extend_going : Scan → Pending → Scanned
+extend_going state pending = Going (extend state pending)
+
 -- a minus behind a name or a number is an operator; else it may begin a number
-abbrev pub begin_minus : Scan → Previous → Scan
-begin_minus state AfterOperand = push (extend state Idle) (MarkKind Minus)
-begin_minus state previous = extend state PMinus
+abbrev pub minus_after : Scan → Previous → Scan
+minus_after state AfterOperand = push (extend state Idle) (MarkKind Minus)
+minus_after state previous = extend state PMinus
+
+-- the first byte `-`, by the token before it
+abbrev pub begin_minus : Scan → Scanned
+begin_minus state = Going (minus_after state state.previous)
 
 -- one more byte is this mark, or begins nothing
 abbrev pub push_mark : Scan → Option Mark → Scanned
@@ -166,7 +182,7 @@ begin state byte =
     if is_blank byte then Going (skip (extend state Idle)) else
     if is_letter byte then Going (extend state PWord) else
     if is_ascii_digit byte then Going (extend state PNumber) else
-    if byte == 45 then Going (begin_minus state state.previous) else
+    if byte == 45 then begin_minus state else
     if byte == 60 then Going (extend state PLess) else
     if byte == 62 then Going (extend state PGreater) else
     if byte == 33 then Going (extend state PBang) else
@@ -178,46 +194,81 @@ abbrev pub begin_after : Scanned → ℕ → Scanned
 begin_after (Going state) byte = begin state byte
 begin_after (Stopped bad) byte = Stopped bad
 
+-- the bytes since the start end before this byte, which begins something new
+abbrev pub restart : List ℕ → Scan → ℕ → Scanned
+restart text state byte = begin_after (emit text state) byte
+
 -- the bytes since the start and one more are this mark
 abbrev pub complete : Scan → Mark → Scanned
 complete state mark = Going (push (extend state Idle) (MarkKind mark))
 
+-- ---- one more byte
+
 -- `=` makes the mark longer
 abbrev pub step_equal : List ℕ → Scan → ℕ → Mark → Scanned
-step_equal text state byte mark = if byte == 61 then complete state mark else begin_after (emit text state) byte
+step_equal text state byte mark = if byte == 61 then complete state mark else restart text state byte
 
 -- only this byte can follow
 abbrev pub step_only : Scan → ℕ → ℕ → Pending → Scanned
 step_only state byte wanted pending = if byte == wanted then Going (extend state pending) else Stopped (BadByte state.line)
 
--- one more byte, by what is pending
+-- a byte behind a number that is no digit
+abbrev pub turn_number : List ℕ → Scan → ℕ → Scanned
+turn_number text state byte = if is_name_byte byte then Stopped (BadNumber state.line) else restart text state byte
+
+-- a byte behind a `-` that may begin a number
+abbrev pub turn_minus : List ℕ → Scan → ℕ → Scanned
+turn_minus text state byte = if is_ascii_digit byte then Going (extend state PNumber) else restart text state byte
+
+-- one more byte that does not stay in what is pending, where this is pending
+abbrev pub turn_as : List ℕ → Scan → ℕ → Pending → Scanned
+turn_as text state byte Idle = begin (skip state) byte
+turn_as text state byte PWord = restart text state byte
+turn_as text state byte PNumber = turn_number text state byte
+turn_as text state byte PMinus = turn_minus text state byte
+turn_as text state byte PLess = if byte == 45 then complete state Arrow else step_equal text state byte LessEqual
+turn_as text state byte PGreater = step_equal text state byte GreaterEqual
+turn_as text state byte PBang = step_equal text state byte NotEqual
+turn_as text state byte Bar = step_only state byte 124 Comment
+turn_as text state byte Comment = restart text state byte
+turn_as text state byte ArrowFirst = step_only state byte 134 ArrowSecond
+turn_as text state byte ArrowSecond = if byte == 144 then complete state Arrow else Stopped (BadByte state.line)
+
+-- one more byte that does not stay in what is pending
+abbrev pub turn : List ℕ → Scan → ℕ → Scanned
+turn text state byte = turn_as text state byte state.pending
+
+-- whether the byte belongs to what is pending, of which no other byte of the text has to be known
+abbrev pub stays : Pending → ℕ → Bool
+stays PWord byte = is_name_byte byte
+stays PNumber byte = is_ascii_digit byte
+stays Comment byte = not (byte == 10)
+stays pending byte = false
+
+-- one more byte, where this is pending
 abbrev pub step_as : List ℕ → Scan → ℕ → Pending → Scanned
-step_as text state byte Idle = begin_after (emit text state) byte
-step_as text state byte PWord = if is_name_byte byte then Going (extend state PWord) else begin_after (emit text state) byte
-step_as text state byte PNumber = if is_ascii_digit byte then Going (extend state PNumber) else if is_name_byte byte then Stopped (BadNumber state.line) else begin_after (emit text state) byte
-step_as text state byte PMinus = if is_ascii_digit byte then Going (extend state PNumber) else begin_after (emit text state) byte
-step_as text state byte PLess = if byte == 45 then complete state Arrow else if byte == 61 then complete state LessEqual else begin_after (emit text state) byte
-step_as text state byte PGreater = step_equal text state byte GreaterEqual
-step_as text state byte PBang = step_equal text state byte NotEqual
-step_as text state byte Bar = step_only state byte 124 Comment
-step_as text state byte Comment = if byte == 10 then begin_after (emit text state) byte else Going (extend state Comment)
-step_as text state byte ArrowFirst = step_only state byte 134 ArrowSecond
-step_as text state byte ArrowSecond = if byte == 144 then complete state Arrow else Stopped (BadByte state.line)
+step_as text state byte pending = if stays pending byte then Going (extend state pending) else turn_as text state byte pending
+
+-- one more byte
+abbrev pub byte_step : List ℕ → Scan → ℕ → Scanned
+byte_step text state byte = step_as text state byte state.pending
+
+-- ---- a whole text
 
 -- one more byte, where the scan goes on
-abbrev pub step : List ℕ → Scanned → ℕ → Scanned
-step text (Going state) byte = step_as text state byte state.pending
-step text (Stopped bad) byte = Stopped bad
+abbrev pub scan_step : List ℕ → Scanned → ℕ → Scanned
+scan_step text (Going state) byte = byte_step text state byte
+scan_step text (Stopped bad) byte = Stopped bad
 
 -- the scan of no byte
 abbrev pub start : Scan
 start = record { items = []; previous = AfterLineEnd; line = 1; start = 0; length = 0; pending = Idle }
 
--- the scan of the bytes of a front of the text
+-- the scan of the bytes of a prefix of the text
 abbrev pub scan : List ℕ → List ℕ → Scanned
-scan text front = fold (step text) (Going start) front
+scan text prefix = fold (scan_step text) (Going start) prefix
 
--- one more line end stands at the end, unless none is wanted
+-- one more line end at the end, unless the token before is one or there is none
 abbrev pub finish_with : Scanned → Scanned
 finish_with (Going state) = Going (end_line state state.previous)
 finish_with (Stopped bad) = Stopped bad
@@ -231,6 +282,8 @@ finish text (Stopped bad) = Stopped bad
 abbrev pub scanned : List ℕ → Scanned
 scanned text = finish text (scan text text)
 
+-- ---- where the scan stands
+
 -- the scan has come to this place, and its line is not beyond this one
 abbrev pub HasPlace : ℕ → ℕ → Scanned → Type 0
 HasPlace n line (Going state) = (state.start + state.length ≡ n) × (state.line ≤ line)
@@ -243,3 +296,7 @@ IsSamePlace before state = HasPlace (before.start + before.length) before.line s
 -- the scan stands one byte behind where this one stood, and its line is not beyond the next
 abbrev pub IsNextPlace : Scan → Scanned → Type 0
 IsNextPlace before state = HasPlace (before.start + before.length + 1) (before.line + 1) state
+
+-- the scan has come to the end of the text, and its line is at most one behind the last
+abbrev pub IsAtEnd : List ℕ → Scanned → Type 0
+IsAtEnd text state = HasPlace (length text) (length text + 1) state

@@ -1,9 +1,11 @@
 -- How a text is spelled: from the left, a row of tokens, blanks, comments and line feeds, each token as long as it can be.
+-- Cited by contracts.
 use Rattle.std.specs.Prelude.{ℕ, ◌≡◌, ◌≢◌, ◌<◌, ◌==◌, Bool, true, false, ◌||◌, not, ◌⊎◌, List, [], ◌∷◌, ◌++◌, length, codes, IsTrue, FitsSigned}
 use Rattle.std.specs.List.{list_all}
 use Rattle.std.specs.Str.{all_ascii_digits}
 use Rattle.std.specs.Int.{w64}
 use Rattle.std.specs.Str.Parse.{signed_digits_value}
+use Rattle.mir_base.specs.Limits.{most_name_bytes}
 use Rattle.mir_base.specs.Names.{IsName, is_name_byte, begins_as_name}
 use Rattle.mir_lex.specs.declared.words.Word.{Word}
 use Rattle.mir_lex.specs.declared.words.Word.TheVariants.{Begin, End, Receive, Goto, If, Call, Return, Print, Mod, Min, Max, Shl, Shr, Shra, And, Or, Xor, Trap, Global, Sequence}
@@ -42,6 +44,12 @@ word_text Xor = codes "xor"
 word_text Trap = codes "trap"
 word_text Global = codes "global"
 word_text Sequence = codes "sequence"
+
+-- the reserved words
+abbrev pub words : List Word
+words =
+    Begin ∷ End ∷ Receive ∷ Goto ∷ If ∷ Call ∷ Return ∷ Print ∷ Mod ∷ Min ∷ Max ∷ Shl ∷ Shr ∷ Shra ∷ And ∷ Or ∷ Xor ∷ Trap ∷ Global ∷ Sequence
+    ∷ []
 
 -- how a mark is spelled
 abbrev pub mark_text : Mark → List ℕ
@@ -119,10 +127,14 @@ previous_of (NumberKind value) = AfterOperand
 previous_of LineEndKind = AfterLineEnd
 previous_of kind = AfterOther
 
+-- the tokens and one more
+abbrev pub with_token : List Token → Kind → ℕ → ℕ → ℕ → List Token
+with_token items kind start length line = items ++ record { kind = kind; start = start; length = length; line = line } ∷ []
+
 -- a line end is no token at the start of a text and behind another line end
 abbrev pub with_line_end : List Token → Previous → ℕ → ℕ → ℕ → List Token
 with_line_end items AfterLineEnd line start length = items
-with_line_end items previous line start length = items ++ record { kind = LineEndKind; start = start; length = length; line = line } ∷ []
+with_line_end items previous line start length = with_token items LineEndKind start length line
 
 -- ---- texts
 
@@ -143,21 +155,21 @@ abbrev pub EndsLine : List ℕ → Type 0
 EndsLine [] = Unit {0}
 EndsLine (byte ∷ bytes) = byte ≡ 10
 
--- the front of the text is a row of tokens, blanks, comments and line feeds, with these tokens, the last of them as said
+-- the prefix of the text is a row of tokens, blanks, comments and line feeds, with these tokens, the last of them as said
 pub data Row : List ℕ → List ℕ → List Token → Previous → Type 0 where
   start : {text : List ℕ} → Row text [] [] AfterLineEnd
-  token : {text front : List ℕ} {items : List Token} {previous : Previous} (bytes after : List ℕ) (kind : Kind)
-      → Row text front items previous → text ≡ front ++ bytes ++ after → IsToken previous bytes after kind → IsLongest previous bytes after
-      → Row text (front ++ bytes) (items ++ record { kind = kind; start = length front; length = length bytes; line = line_after front } ∷ []) (previous_of kind)
-  blank : {text front : List ℕ} {items : List Token} {previous : Previous} (byte : ℕ) (after : List ℕ)
-      → Row text front items previous → text ≡ front ++ byte ∷ after → IsTrue (is_blank byte)
-      → Row text (front ++ byte ∷ []) items previous
-  comment : {text front : List ℕ} {items : List Token} {previous : Previous} (body after : List ℕ)
-      → Row text front items previous → text ≡ front ++ comment_text body ++ after → HasNoLineFeed body → EndsLine after
-      → Row text (front ++ comment_text body) items previous
-  line_feed : {text front : List ℕ} {items : List Token} {previous : Previous} (after : List ℕ)
-      → Row text front items previous → text ≡ front ++ 10 ∷ after
-      → Row text (front ++ 10 ∷ []) (with_line_end items previous (line_after front) (length front) 1) AfterLineEnd
+  token : {text prefix : List ℕ} {items : List Token} {previous : Previous} (bytes after : List ℕ) (kind : Kind)
+      → Row text prefix items previous → text ≡ prefix ++ bytes ++ after → IsToken previous bytes after kind → IsLongest previous bytes after
+      → Row text (prefix ++ bytes) (with_token items kind (length prefix) (length bytes) (line_after prefix)) (previous_of kind)
+  blank : {text prefix : List ℕ} {items : List Token} {previous : Previous} (byte : ℕ) (after : List ℕ)
+      → Row text prefix items previous → text ≡ prefix ++ byte ∷ after → IsTrue (is_blank byte)
+      → Row text (prefix ++ byte ∷ []) items previous
+  comment : {text prefix : List ℕ} {items : List Token} {previous : Previous} (body after : List ℕ)
+      → Row text prefix items previous → text ≡ prefix ++ comment_text body ++ after → HasNoLineFeed body → EndsLine after
+      → Row text (prefix ++ comment_text body) items previous
+  line_feed : {text prefix : List ℕ} {items : List Token} {previous : Previous} (after : List ℕ)
+      → Row text prefix items previous → text ≡ prefix ++ 10 ∷ after
+      → Row text (prefix ++ 10 ∷ []) (with_line_end items previous (line_after prefix) (length prefix) 1) AfterLineEnd
 
 -- these are the tokens of the text: one more line end stands behind a last line that has no line feed
 pub record IsTokens (text : List ℕ) (items : List Token) : Type 0 where
@@ -184,33 +196,47 @@ pub record IsBadNumber (previous : Previous) (text : List ℕ) : Type 0 where
   pub longest : IsLongest previous bytes after
   pub bad : ¬ IsInRange bytes ⊎ BeginsWith is_name_byte after
 
--- a name of more than 64 bytes is here
+-- a name of more bytes than a name may have is here
 pub record IsLongName (previous : Previous) (text : List ℕ) : Type 0 where
   pub bytes : List ℕ
   pub after : List ℕ
   pub split : text ≡ bytes ++ after
   pub word : IsWord bytes
   pub longest : IsLongest previous bytes after
-  pub long : 64 < length bytes
+  pub long : most_name_bytes < length bytes
 
--- no token stands here, behind this front of the text, for this cause
-abbrev pub Stops : List ℕ → Previous → List ℕ → LexFault → Type 0
-Stops front previous after (BadByte line) = (line ≡ line_after front) × ((byte : ℕ) × (rest : List ℕ) × (after ≡ byte ∷ rest) × BeginsNone previous byte rest)
-Stops front previous after (BadNumber line) = (line ≡ line_after front) × IsBadNumber previous after
-Stops front previous after (LongName line) = (line ≡ line_after front) × IsLongName previous after
-Stops front previous after (Memory refused) = ⊥
+-- no token stands here, behind this prefix of the text, for this cause
+abbrev pub StopsLexing : List ℕ → Previous → List ℕ → LexFault → Type 0
+StopsLexing prefix previous after (BadByte line) = (line ≡ line_after prefix) × ((byte : ℕ) × (rest : List ℕ) × (after ≡ byte ∷ rest) × BeginsNone previous byte rest)
+StopsLexing prefix previous after (BadNumber line) = (line ≡ line_after prefix) × IsBadNumber previous after
+StopsLexing prefix previous after (LongName line) = (line ≡ line_after prefix) × IsLongName previous after
+StopsLexing prefix previous after (Memory refused) = ⊥
 
 -- the first place from the left where no token stands
 pub record IsRefusal (text : List ℕ) (fault : LexFault) : Type 0 where
-  pub front : List ℕ
+  pub prefix : List ℕ
   pub after : List ℕ
   pub items : List Token
   pub previous : Previous
-  pub split : text ≡ front ++ after
-  pub row : Row text front items previous
-  pub stops : Stops front previous after fault
+  pub split : text ≡ prefix ++ after
+  pub row : Row text prefix items previous
+  pub stops : StopsLexing prefix previous after fault
 
--- want of memory
-abbrev pub IsMemory : LexFault → Type 0
-IsMemory (Memory refused) = Unit {0}
-IsMemory fault = ⊥
+-- the call ran out of memory
+abbrev pub IsLexMemory : LexFault → Type 0
+IsLexMemory (Memory refused) = Unit {0}
+IsLexMemory fault = ⊥
+
+-- ---- no two answers
+
+-- the text has at most one list of tokens
+abbrev pub TokensAreUnique : List ℕ → Type 0
+TokensAreUnique text = (one other : List Token) → IsTokens text one → IsTokens text other → one ≡ other
+
+-- the text is refused for at most one cause
+abbrev pub RefusalIsUnique : List ℕ → Type 0
+RefusalIsUnique text = (one other : LexFault) → IsRefusal text one → IsRefusal text other → one ≡ other
+
+-- a text that is refused has no tokens
+abbrev pub HasNoTokensIfRefused : List ℕ → Type 0
+HasNoTokensIfRefused text = (fault : LexFault) → IsRefusal text fault → (items : List Token) → IsTokens text items → ⊥

@@ -1,4 +1,4 @@
--- The tokens of a text: each lies in the text, after the one before it, and has its line.
+-- The tokens of a text: each lies in the text, after the one before it, and has its line. Cited by contracts.
 use Rattle.std.specs.Prelude.{ℕ, ◌≡◌, ◌+◌, ◌≤◌, ◌==◌, List, length, take, drop}
 use Rattle.std.specs.List.{All, AllPairs, count_by}
 use Rattle.mir_base.specs.Names.{IsName}
@@ -13,11 +13,11 @@ pub record TokensShape : Type 0 where
 
 -- the line of what stands after these bytes: 1 and the line feeds among them
 abbrev pub line_after : List ℕ → ℕ
-line_after front = 1 + count_by (λ byte. byte == 10) front
+line_after prefix = 1 + count_by (λ byte. byte == 10) prefix
 
 -- the bytes of a token
-abbrev pub bytes_of : List ℕ → Token → List ℕ
-bytes_of text token = take token.length (drop token.start text)
+abbrev pub token_bytes : List ℕ → Token → List ℕ
+token_bytes text token = take token.length (drop token.start text)
 
 -- the bytes of a name are spelled as a name
 abbrev pub NameIsSpelled : Kind → List ℕ → Type 0
@@ -28,7 +28,7 @@ NameIsSpelled kind bytes = Unit {0}
 pub record IsTokenOf (text : List ℕ) (token : Token) : Type 0 where
   pub inside : token.start + token.length ≤ length text
   pub line : token.line ≡ line_after (take token.start text)
-  pub name : NameIsSpelled token.kind (bytes_of text token)
+  pub name : NameIsSpelled token.kind (token_bytes text token)
 
 -- the first token ends where the second begins, or before
 abbrev pub EndsBefore : Token → Token → Type 0

@@ -11,10 +11,10 @@ pub enum LexFault {
     /// A number that does not fit 64 bits with a sign, or is directly followed by a letter or `_`.
     #[error("line {0}: bad number")]
     BadNumber(usize),
-    /// A name of more than 64 bytes.
+    /// A name of more than `mir_base::MOST_NAME_BYTES` bytes.
     #[error("line {0}: long name")]
     LongName(usize),
-    /// Want of memory.
+    /// The call ran out of memory.
     #[error(transparent)]
     Memory(Memory),
 }

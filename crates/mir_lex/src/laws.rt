@@ -1,16 +1,15 @@
 // What is true of every text.
-ghost use Rattle.std.specs.Prelude.{◌≡◌, ℕ, List};
-ghost use Rattle.mir_lex.specs.declared.tokens.Token.{Token as AToken};
-ghost use Rattle.mir_lex.specs.declared.faults.LexFault.{LexFault as AFault};
-ghost use Rattle.mir_lex.specs.Spelling.{IsTokens, IsRefusal};
+ghost use Rattle.std.specs.Prelude.{ℕ, List};
+ghost use Rattle.mir_lex.specs.Spelling.{TokensAreUnique, RefusalIsUnique, HasNoTokensIfRefused};
 
-/// A law: no text has two lists of tokens. It takes no memory.
+/// No text has two lists of tokens. Has no effect; carries the theorem for callers.
 pub fn tokens_are_unique()
-    ensures { (text : List ℕ) → (one other : List AToken) → IsTokens text one → IsTokens text other → one ≡ other }
+    ensures { (text : List ℕ) → TokensAreUnique text }
 {}
 
-/// A law: no text is refused for two causes, and none that has tokens is refused. It takes no memory.
+/// No text is refused for two causes, and none that has tokens is refused. Has no effect; carries the theorem for
+/// callers.
 pub fn refusal_is_unique()
-    ensures one { (text : List ℕ) → (one other : AFault) → IsRefusal text one → IsRefusal text other → one ≡ other }
-    ensures none { (text : List ℕ) → (fault : AFault) → IsRefusal text fault → (items : List AToken) → IsTokens text items → ⊥ }
+    ensures one { (text : List ℕ) → RefusalIsUnique text }
+    ensures none { (text : List ℕ) → HasNoTokensIfRefused text }
 {}

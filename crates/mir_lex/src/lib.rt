@@ -15,8 +15,6 @@ mod lexing;
 mod numbers;
 mod scan;
 mod terminals;
-#[cfg(test)]
-mod tests;
 mod tokens;
 mod words;
 
@@ -28,5 +26,5 @@ pub use terminals::{Symbol, Terminal};
 pub use tokens::{Token, Tokens};
 pub use words::{Kind, Mark, Word};
 
-/// Want of memory: the allocator refused.
+/// The call ran out of memory: the allocator refused.
 pub type Memory = std::alloc::AllocError;

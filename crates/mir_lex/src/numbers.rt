@@ -6,7 +6,7 @@ ghost use Rattle.mir_lex.specs.Scanner.{number_of};
 use std::str;
 
 /// The number that an optional `-` and decimal digits spell, and `None` where the bytes are no such, or the number does
-/// not fit 64 bits with a sign. It takes no memory.
+/// not fit 64 bits with a sign. It does not allocate.
 pub fn number(bytes: &[u8]) -> Option<i64>
     ensures number { result ≡ signed_number bytes.now }
     ensures numeral { (number : ℤ) → (result ≡ Some number) ↔ IsSignedWord bytes.now number }
@@ -15,7 +15,7 @@ pub fn number(bytes: &[u8]) -> Option<i64>
 }
 
 /// The number that decimal digits spell, and `None` where the bytes are no such, or the number does not fit 64 bits. It
-/// takes no memory.
+/// does not allocate.
 pub fn unsigned(bytes: &[u8]) -> Option<u64>
     ensures number { result ≡ unsigned_number bytes.now }
     ensures numeral { (number : ℕ) → (result ≡ Some number) ↔ IsUnsignedWord bytes.now number }
@@ -23,6 +23,7 @@ pub fn unsigned(bytes: &[u8]) -> Option<u64>
     parsed_unsigned(bytes)
 }
 
+// The same as `unsigned`, without the fact that a numeral stands there.
 fn parsed_unsigned(bytes: &[u8]) -> Option<u64>
     ensures { result ≡ unsigned_number bytes.now }
 {

@@ -1,12 +1,12 @@
-// The scanner: one step for each byte, which never goes back.
-ghost use Rattle.std.specs.Prelude.{◌≡◌, ◌≤◌, ◌<◌, ◌+◌, ◌^◌, length, IfOk, OnOk};
+// The scanner: one step for each byte, which never goes back. The public call is `scan_text`.
+ghost use Rattle.std.specs.Prelude.{◌≡◌, ◌≤◌, ◌+◌, length, IfOk, OnOk};
 ghost use Rattle.mir_lex.specs.Spelling.{previous_of};
-ghost use Rattle.mir_lex.specs.Scanner.{outcome, start, extend, push, skip, push_word, push_number, emit, end_line, line_feed, begin_minus, push_mark, begin, begin_after, complete, step_equal, step_only, step_as, HasPlace, IsSamePlace, IsNextPlace, scan, finish, scanned};
+ghost use Rattle.mir_lex.specs.Scanner.{outcome, start, extend, push, skip, push_word, push_number, emit, end_line, line_feed, begin_minus, push_mark, begin, complete, extend_going, restart, step_equal, step_only, turn_number, turn_minus, turn, stays, byte_step, IsShort, HasRoom, HasLine, IsInText, IsAtEnd, IsSamePlace, IsNextPlace, scan, finish, scanned};
 
-use crate::bytes::{is_blank, is_letter, is_name_byte, single_mark, word_kind};
+use crate::bytes::{is_blank, single_mark, word_kind};
 use crate::numbers::scanned_number;
 use crate::{Kind, LexFault, Mark, Memory, Token};
-use mir_base::Items;
+use mir_base::{Items, is_letter, is_name_byte};
 use std::alloc::Global;
 
 /// What the bytes since the end of the last token, blank, comment or line end have begun.
@@ -50,30 +50,70 @@ pub enum Previous {
 /// What was scanned so far: the tokens, and the bytes that are pending.
 #[derive(Drop)]
 pub struct Scan {
+    /// The tokens so far.
     pub items: Items<Token>,
+    /// The last of them.
     pub previous: Previous,
+    /// The line of the next byte, counted from 1.
     pub line: usize,
+    /// The place of the first pending byte, counted from 0.
     pub start: usize,
+    /// How many bytes are pending.
     pub length: usize,
+    /// What they have begun.
     pub pending: Pending,
 }
 
 /// A scan that goes on, or has come to a place where no token stands.
 #[derive(Drop)]
 pub enum Scanned {
+    /// It goes on.
     Going(Scan),
+    /// No token stands at that place, for this cause.
     Stopped(LexFault),
 }
 
-// What the token after one of this kind knows of it.
-fn previous_of(kind: Kind) -> Previous
-    ensures { result ≡ previous_of kind }
+/// The scan of a whole text.
+pub fn scan_text(alloc: Global, text: &[u8]) -> Result<Scanned, Memory>
+    requires { IsShort text.now }
+    ensures { IfOk result (λ finished. finished ≡ scanned text.now) }
 {
-    match kind {
-        Kind::Name => Previous::Operand,
-        Kind::Number(_) => Previous::Operand,
-        Kind::LineEnd => Previous::LineEnd,
-        _ => Previous::Other,
+    match scan_all(alloc, text)? {
+        Scanned::Going(scan) => finish(scan, text),
+        Scanned::Stopped(fault) => Ok(Scanned::Stopped(fault)),
+    }
+}
+
+// The scan of the bytes, without what is pending at their end.
+fn scan_all(alloc: Global, text: &[u8]) -> Result<Scanned, Memory>
+    requires { IsShort text.now }
+    ensures value { IfOk result (λ scanned. scanned ≡ scan text.now text.now) }
+    ensures place { IfOk result (λ scanned. IsAtEnd text.now scanned) }
+{
+    let mut scan = Scan::start(alloc);
+    for (i, byte) in text.iter().enumerate() {
+        match scan.step(text, *byte)? {
+            None => {}
+            Some(fault) => return Ok(Scanned::Stopped(fault)),
+        }
+    }
+    Ok(Scanned::Going(scan))
+}
+
+// The end of a text: the pending bytes end there, and one more line end stands there where the text does not end with a
+// line feed.
+fn finish(scan: Scan, text: &[u8]) -> Result<Scanned, Memory>
+    requires within { scan.start + scan.length ≤ length text.now }
+    requires short { IsShort text.now }
+    ensures { IfOk result (λ finished. finished ≡ finish text.now (Scanned.Going scan)) }
+{
+    let mut scan = scan;
+    match scan.emit(text)? {
+        None => {
+            scan.end_line()?;
+            Ok(Scanned::Going(scan))
+        }
+        Some(fault) => Ok(Scanned::Stopped(fault)),
     }
 }
 
@@ -93,179 +133,126 @@ impl Scan {
         }
     }
 
-    // One more byte is pending.
-    fn extend(&mut self, pending: Pending)
-        requires { self.old.length < 2 ^ 62 }
-        ensures { self.new ≡ extend self.old pending }
+    // One more byte, by what is pending.
+    fn step(&mut self, text: &[u8], byte: u8) -> Result<Option<LexFault>, Memory>
+        requires { IsInText text.now self.old }
+        ensures value { IfOk result (λ s. outcome s self.new ≡ byte_step text.now self.old byte) }
+        ensures next { IfOk result (λ stop. IsNextPlace self.old (outcome stop self.new)) }
     {
-        self.length += 1;
-        self.pending = pending;
-    }
-
-    // The pending bytes are a blank, a comment or a line end.
-    fn skip(&mut self)
-        requires { self.old.start + self.old.length < 2 ^ 62 }
-        ensures { self.new ≡ skip self.old }
-    {
-        self.start += self.length;
-        self.length = 0;
-        self.pending = Pending::Idle;
-    }
-
-    // The pending bytes are a token.
-    fn push(&mut self, kind: Kind) -> Result<(), Memory>
-        requires { self.old.start + self.old.length < 2 ^ 62 }
-        ensures { OnOk result (self.new ≡ push self.old kind) }
-    {
-        let token = Token {
-            kind,
-            start: self.start,
-            length: self.length,
-            line: self.line,
-        };
-        self.items.push(token)?;
-        self.previous = previous_of(kind);
-        self.skip();
-        Ok(())
-    }
-
-    // The pending bytes are a token, and the scan goes on.
-    fn push_going(&mut self, kind: Kind) -> Result<Option<LexFault>, Memory>
-        requires { self.old.start + self.old.length < 2 ^ 62 }
-        ensures { IfOk result (λ stop. outcome stop self.new ≡ Scanned.Going (push self.old kind)) }
-    {
-        self.push(kind)?;
-        Ok(None)
-    }
-
-    // The pending bytes are a word of this kind, or too long.
-    fn push_word(&mut self, kind: Option<Kind>) -> Result<Option<LexFault>, Memory>
-        requires { self.old.start + self.old.length < 2 ^ 62 }
-        ensures { IfOk result (λ stop. outcome stop self.new ≡ push_word self.old kind) }
-    {
-        match kind {
-            None => Ok(Some(LexFault::LongName(self.line))),
-            Some(kind) => self.push_going(kind),
+        if stays(self.pending, byte) {
+            self.extend_going(self.pending)
+        } else {
+            self.turn(text, byte)
         }
     }
 
-    // The pending bytes are this number, or no number.
-    fn push_number(&mut self, value: Option<i64>) -> Result<Option<LexFault>, Memory>
-        requires { self.old.start + self.old.length < 2 ^ 62 }
-        ensures { IfOk result (λ stop. outcome stop self.new ≡ push_number self.old value) }
-    {
-        match value {
-            None => Ok(Some(LexFault::BadNumber(self.line))),
-            Some(value) => self.push_going(Kind::Number(value)),
-        }
-    }
-
-    // The next byte does not belong to the pending ones.
-    #[tactic(auto, unfolding(crate::specs::Scanner::emit))]
-    fn emit(&mut self, text: &[u8]) -> Result<Option<LexFault>, Memory>
-        requires within { self.old.start + self.old.length ≤ length text.now }
-        requires small { length text.now < 2 ^ 61 }
-        ensures value { IfOk result (λ stop. outcome stop self.new ≡ emit text.now self.old) }
-        ensures place { IfOk result (λ stop. IsSamePlace self.old (outcome stop self.new)) }
+    // One more byte that does not stay in what is pending, by what that is.
+    fn turn(&mut self, text: &[u8], byte: u8) -> Result<Option<LexFault>, Memory>
+        requires { IsInText text.now self.old }
+        ensures value { IfOk result (λ stop. outcome stop self.new ≡ turn text.now self.old byte) }
+        ensures next { IfOk result (λ stop. IsNextPlace self.old (outcome stop self.new)) }
     {
         match self.pending {
-            Pending::Idle => {
-                self.skip();
-                Ok(None)
-            }
-            Pending::Comment => {
-                self.skip();
-                Ok(None)
-            }
-            Pending::Word => {
-                let kind = word_kind(&text[self.start..self.start + self.length]);
-                self.push_word(kind)
-            }
-            Pending::Number => {
-                let value = scanned_number(&text[self.start..self.start + self.length]);
-                self.push_number(value)
-            }
-            Pending::Minus => self.push_going(Kind::Mark(Mark::Minus)),
-            Pending::Less => self.push_going(Kind::Mark(Mark::Less)),
-            Pending::Greater => self.push_going(Kind::Mark(Mark::Greater)),
-            Pending::Bang => self.push_going(Kind::Mark(Mark::Bang)),
-            Pending::Bar => Ok(Some(LexFault::BadByte(self.line))),
-            Pending::ArrowFirst => Ok(Some(LexFault::BadByte(self.line))),
+            Pending::Idle => self.begin_idle(byte),
+            Pending::Word => self.restart(text, byte),
+            Pending::Number => self.turn_number(text, byte),
+            Pending::Minus => self.turn_minus(text, byte),
+            Pending::Less if byte == b'-' => self.complete(Mark::Arrow),
+            Pending::Less => self.step_equal(text, byte, Mark::LessEqual),
+            Pending::Greater => self.step_equal(text, byte, Mark::GreaterEqual),
+            Pending::Bang => self.step_equal(text, byte, Mark::NotEqual),
+            Pending::Bar => Ok(self.step_only(byte, b'|', Pending::Comment)),
+            Pending::Comment => self.restart(text, byte),
+            Pending::ArrowFirst => Ok(self.step_only(byte, 0x86, Pending::ArrowSecond)),
+            Pending::ArrowSecond if byte == 0x90 => self.complete(Mark::Arrow),
             Pending::ArrowSecond => Ok(Some(LexFault::BadByte(self.line))),
         }
     }
 
-    // The pending bytes end a line, which is no token at the start of a text or behind another line end.
-    fn end_line(&mut self) -> Result<(), Memory>
-        requires { self.old.start + self.old.length < 2 ^ 62 }
-        ensures { OnOk result (self.new ≡ end_line self.old self.old.previous) }
-    {
-        match self.previous {
-            Previous::LineEnd => Ok(()),
-            _ => self.push(Kind::LineEnd),
-        }
-    }
-
-    // A line feed: what follows stands on the next line.
-    fn line_feed(&mut self) -> Result<(), Memory>
-        requires place { self.old.start + self.old.length + 1 < 2 ^ 62 }
-        requires lines { self.old.line < 2 ^ 62 }
-        ensures { OnOk result (self.new ≡ line_feed self.old) }
-    {
-        self.extend(Pending::Idle);
-        self.end_line()?;
-        self.skip();
-        self.line += 1;
-        Ok(())
-    }
-
-    // A `-` behind a name or a number of its line is an operator; else it may begin a number.
-    fn begin_minus(&mut self) -> Result<Option<LexFault>, Memory>
-        requires { self.old.start + self.old.length + 1 < 2 ^ 62 }
-        ensures { IfOk result (λ stop. outcome stop self.new ≡ Scanned.Going (begin_minus self.old self.old.previous)) }
-    {
-        match self.previous {
-            Previous::Operand => self.complete(Mark::Minus),
-            _ => self.extend_going(Pending::Minus),
-        }
-    }
-
-    // The next byte is this mark, or begins nothing.
-    fn push_mark(&mut self, mark: Option<Mark>) -> Result<Option<LexFault>, Memory>
-        requires { self.old.start + self.old.length + 1 < 2 ^ 62 }
-        ensures { IfOk result (λ stop. outcome stop self.new ≡ push_mark self.old mark) }
-    {
-        match mark {
-            None => Ok(Some(LexFault::BadByte(self.line))),
-            Some(mark) => self.complete(mark),
-        }
-    }
-
-    // The pending bytes and one more are this mark.
-    fn complete(&mut self, mark: Mark) -> Result<Option<LexFault>, Memory>
-        requires { self.old.start + self.old.length + 1 < 2 ^ 62 }
-        ensures value { IfOk result (λ stop. outcome stop self.new ≡ complete self.old mark) }
+    // A byte behind a number that is no digit.
+    fn turn_number(&mut self, text: &[u8], byte: u8) -> Result<Option<LexFault>, Memory>
+        requires { IsInText text.now self.old }
+        ensures value { IfOk result (λ stop.
+            outcome stop self.new ≡ turn_number text.now self.old byte) }
         ensures next { IfOk result (λ stop. IsNextPlace self.old (outcome stop self.new)) }
     {
-        self.extend(Pending::Idle);
-        self.push(Kind::Mark(mark))?;
-        Ok(None)
+        if is_name_byte(byte) {
+            Ok(Some(LexFault::BadNumber(self.line)))
+        } else {
+            self.restart(text, byte)
+        }
     }
 
-    // One more byte is pending, and the scan goes on.
-    fn extend_going(&mut self, pending: Pending) -> Result<Option<LexFault>, Memory>
-        requires { self.old.length < 2 ^ 62 }
-        ensures { IfOk result (λ stop. outcome stop self.new ≡ Scanned.Going (extend self.old pending)) }
+    // A byte behind a `-` that may begin a number.
+    fn turn_minus(&mut self, text: &[u8], byte: u8) -> Result<Option<LexFault>, Memory>
+        requires { IsInText text.now self.old }
+        ensures value { IfOk result (λ stop.
+            outcome stop self.new ≡ turn_minus text.now self.old byte) }
+        ensures next { IfOk result (λ stop. IsNextPlace self.old (outcome stop self.new)) }
     {
-        self.extend(pending);
-        Ok(None)
+        if byte.is_ascii_digit() {
+            self.extend_going(Pending::Number)
+        } else {
+            self.restart(text, byte)
+        }
+    }
+
+    // The pending bytes and this one are the mark where it is `=`; else it begins something new.
+    fn step_equal(&mut self, text: &[u8], byte: u8, mark: Mark) -> Result<Option<LexFault>, Memory>
+        requires { IsInText text.now self.old }
+        ensures value { IfOk result (λ stop.
+            outcome stop self.new ≡ step_equal text.now self.old byte mark) }
+        ensures next { IfOk result (λ stop. IsNextPlace self.old (outcome stop self.new)) }
+    {
+        if byte == b'=' {
+            self.complete(mark)
+        } else {
+            self.restart(text, byte)
+        }
+    }
+
+    // A byte where only this one may follow, with what it then makes of the scan.
+    fn step_only(&mut self, byte: u8, wanted: u8, pending: Pending) -> Option<LexFault>
+        requires { HasRoom 0 self.old }
+        ensures { outcome result self.new ≡ step_only self.old byte wanted pending }
+    {
+        if byte == wanted {
+            self.extend(pending);
+            None
+        } else {
+            Some(LexFault::BadByte(self.line))
+        }
+    }
+
+    // The pending bytes end before this byte, which begins something new.
+    fn restart(&mut self, text: &[u8], byte: u8) -> Result<Option<LexFault>, Memory>
+        requires { IsInText text.now self.old }
+        ensures value { IfOk result (λ stop.
+            outcome stop self.new ≡ restart text.now self.old byte) }
+        ensures next { IfOk result (λ stop. IsNextPlace self.old (outcome stop self.new)) }
+    {
+        match self.emit(text)? {
+            None => self.begin(byte),
+            Some(fault) => Ok(Some(fault)),
+        }
+    }
+
+    // The first byte where nothing is pending.
+    fn begin_idle(&mut self, byte: u8) -> Result<Option<LexFault>, Memory>
+        requires place { HasRoom 1 self.old }
+        requires lines { HasLine self.old }
+        ensures value { IfOk result (λ stop. outcome stop self.new ≡ begin (skip self.old) byte) }
+        ensures next { IfOk result (λ stop. IsNextPlace self.old (outcome stop self.new)) }
+    {
+        self.skip();
+        self.begin(byte)
     }
 
     // The first byte of a token, a blank, a comment or a line end.
     #[tactic(auto, unfolding(crate::specs::Scanner::begin))]
     fn begin(&mut self, byte: u8) -> Result<Option<LexFault>, Memory>
-        requires place { self.old.start + self.old.length + 1 < 2 ^ 62 }
-        requires lines { self.old.line < 2 ^ 62 }
+        requires place { HasRoom 1 self.old }
+        requires lines { HasLine self.old }
         ensures value { IfOk result (λ stop. outcome stop self.new ≡ begin self.old byte) }
         ensures next { IfOk result (λ stop. IsNextPlace self.old (outcome stop self.new)) }
     {
@@ -297,197 +284,195 @@ impl Scan {
         }
     }
 
-    // The pending bytes end before this byte, which begins something new.
-    fn restart(&mut self, text: &[u8], byte: u8) -> Result<Option<LexFault>, Memory>
-        requires within { self.old.start + self.old.length ≤ length text.now }
-        requires small { length text.now < 2 ^ 61 }
-        requires lines { self.old.line < 2 ^ 61 }
-        ensures value { IfOk result (λ stop. outcome stop self.new ≡ begin_after (emit text.now self.old) byte) }
-        ensures next { IfOk result (λ stop. IsNextPlace self.old (outcome stop self.new)) }
+    // A `-` behind a name or a number of its line is an operator; else it may begin a number.
+    fn begin_minus(&mut self) -> Result<Option<LexFault>, Memory>
+        requires { HasRoom 1 self.old }
+        ensures { IfOk result (λ stop. outcome stop self.new ≡ begin_minus self.old) }
     {
-        match self.emit(text)? {
-            None => self.begin(byte),
-            Some(fault) => Ok(Some(fault)),
+        match self.previous {
+            Previous::Operand => self.complete(Mark::Minus),
+            _ => self.extend_going(Pending::Minus),
         }
     }
 
-    // A byte behind a name or a reserved word.
-    fn step_word(&mut self, text: &[u8], byte: u8) -> Result<Option<LexFault>, Memory>
-        requires within { self.old.start + self.old.length ≤ length text.now }
-        requires small { length text.now < 2 ^ 61 }
-        requires lines { self.old.line < 2 ^ 61 }
-        ensures value { IfOk result (λ stop. outcome stop self.new ≡ step_as text.now self.old byte Pending.Word) }
-        ensures next { IfOk result (λ stop. IsNextPlace self.old (outcome stop self.new)) }
+    // The next byte is this mark, or begins nothing.
+    fn push_mark(&mut self, mark: Option<Mark>) -> Result<Option<LexFault>, Memory>
+        requires { HasRoom 1 self.old }
+        ensures { IfOk result (λ stop. outcome stop self.new ≡ push_mark self.old mark) }
     {
-        if is_name_byte(byte) {
-            self.extend_going(Pending::Word)
-        } else {
-            self.restart(text, byte)
+        match mark {
+            None => Ok(Some(LexFault::BadByte(self.line))),
+            Some(mark) => self.complete(mark),
         }
     }
 
-    // A byte behind a number.
-    fn step_number(&mut self, text: &[u8], byte: u8) -> Result<Option<LexFault>, Memory>
-        requires within { self.old.start + self.old.length ≤ length text.now }
-        requires small { length text.now < 2 ^ 61 }
-        requires lines { self.old.line < 2 ^ 61 }
-        ensures value { IfOk result (λ stop. outcome stop self.new ≡ step_as text.now self.old byte Pending.Number) }
+    // The pending bytes and one more are this mark.
+    fn complete(&mut self, mark: Mark) -> Result<Option<LexFault>, Memory>
+        requires { HasRoom 1 self.old }
+        ensures value { IfOk result (λ stop. outcome stop self.new ≡ complete self.old mark) }
         ensures next { IfOk result (λ stop. IsNextPlace self.old (outcome stop self.new)) }
     {
-        if byte.is_ascii_digit() {
-            self.extend_going(Pending::Number)
-        } else if is_name_byte(byte) {
-            Ok(Some(LexFault::BadNumber(self.line)))
-        } else {
-            self.restart(text, byte)
+        self.extend(Pending::Idle);
+        self.push(Kind::Mark(mark))?;
+        Ok(None)
+    }
+
+    // A line feed: what follows stands on the next line.
+    fn line_feed(&mut self) -> Result<(), Memory>
+        requires place { HasRoom 1 self.old }
+        requires lines { HasLine self.old }
+        ensures { OnOk result (self.new ≡ line_feed self.old) }
+    {
+        self.extend(Pending::Idle);
+        self.end_line()?;
+        self.skip();
+        self.line += 1;
+        Ok(())
+    }
+
+    // The pending bytes end a line, which is no token at the start of a text or behind another line end.
+    fn end_line(&mut self) -> Result<(), Memory>
+        requires { HasRoom 0 self.old }
+        ensures { OnOk result (self.new ≡ end_line self.old self.old.previous) }
+    {
+        match self.previous {
+            Previous::LineEnd => Ok(()),
+            _ => self.push(Kind::LineEnd),
         }
     }
 
-    // A byte behind a `-` that may begin a number.
-    fn step_minus(&mut self, text: &[u8], byte: u8) -> Result<Option<LexFault>, Memory>
+    // The next byte does not belong to the pending ones.
+    #[tactic(auto, unfolding(crate::specs::Scanner::emit))]
+    fn emit(&mut self, text: &[u8]) -> Result<Option<LexFault>, Memory>
         requires within { self.old.start + self.old.length ≤ length text.now }
-        requires small { length text.now < 2 ^ 61 }
-        requires lines { self.old.line < 2 ^ 61 }
-        ensures value { IfOk result (λ stop. outcome stop self.new ≡ step_as text.now self.old byte Pending.Minus) }
-        ensures next { IfOk result (λ stop. IsNextPlace self.old (outcome stop self.new)) }
-    {
-        if byte.is_ascii_digit() {
-            self.extend_going(Pending::Number)
-        } else {
-            self.restart(text, byte)
-        }
-    }
-
-    // A byte behind `<`.
-    fn step_less(&mut self, text: &[u8], byte: u8) -> Result<Option<LexFault>, Memory>
-        requires within { self.old.start + self.old.length ≤ length text.now }
-        requires small { length text.now < 2 ^ 61 }
-        requires lines { self.old.line < 2 ^ 61 }
-        ensures value { IfOk result (λ stop. outcome stop self.new ≡ step_as text.now self.old byte Pending.Less) }
-        ensures next { IfOk result (λ stop. IsNextPlace self.old (outcome stop self.new)) }
-    {
-        if byte == b'-' {
-            self.complete(Mark::Arrow)
-        } else if byte == b'=' {
-            self.complete(Mark::LessEqual)
-        } else {
-            self.restart(text, byte)
-        }
-    }
-
-    // A byte behind `>` or `!`, which is this mark where the byte is `=`.
-    fn step_equal(&mut self, text: &[u8], byte: u8, mark: Mark) -> Result<Option<LexFault>, Memory>
-        requires within { self.old.start + self.old.length ≤ length text.now }
-        requires small { length text.now < 2 ^ 61 }
-        requires lines { self.old.line < 2 ^ 61 }
-        ensures value { IfOk result (λ stop. outcome stop self.new ≡ step_equal text.now self.old byte mark) }
-        ensures next { IfOk result (λ stop. IsNextPlace self.old (outcome stop self.new)) }
-    {
-        if byte == b'=' {
-            self.complete(mark)
-        } else {
-            self.restart(text, byte)
-        }
-    }
-
-    // A byte behind `||` and more of its line.
-    fn step_comment(&mut self, text: &[u8], byte: u8) -> Result<Option<LexFault>, Memory>
-        requires within { self.old.start + self.old.length ≤ length text.now }
-        requires small { length text.now < 2 ^ 61 }
-        requires lines { self.old.line < 2 ^ 61 }
-        ensures value { IfOk result (λ stop. outcome stop self.new ≡ step_as text.now self.old byte Pending.Comment) }
-        ensures next { IfOk result (λ stop. IsNextPlace self.old (outcome stop self.new)) }
-    {
-        if byte != b'\n' {
-            self.extend_going(Pending::Comment)
-        } else {
-            self.restart(text, byte)
-        }
-    }
-
-    // A byte where only this one may follow, with what it then makes of the scan.
-    fn step_only(&mut self, byte: u8, wanted: u8, pending: Pending) -> Option<LexFault>
-        requires { self.old.length < 2 ^ 62 }
-        ensures { outcome result self.new ≡ step_only self.old byte wanted pending }
-    {
-        if byte == wanted {
-            self.extend(pending);
-            None
-        } else {
-            Some(LexFault::BadByte(self.line))
-        }
-    }
-
-    // One more byte, by what is pending.
-    fn step(&mut self, text: &[u8], byte: u8) -> Result<Option<LexFault>, Memory>
-        requires within { self.old.start + self.old.length ≤ length text.now }
-        requires small { length text.now < 2 ^ 61 }
-        requires lines { self.old.line < 2 ^ 61 }
-        ensures value { IfOk result (λ stop. outcome stop self.new ≡ step_as text.now self.old byte self.old.pending) }
-        ensures next { IfOk result (λ stop. IsNextPlace self.old (outcome stop self.new)) }
+        requires short { IsShort text.now }
+        ensures value { IfOk result (λ stop. outcome stop self.new ≡ emit text.now self.old) }
+        ensures place { IfOk result (λ stop. IsSamePlace self.old (outcome stop self.new)) }
     {
         match self.pending {
-            Pending::Idle => self.restart(text, byte),
-            Pending::Word => self.step_word(text, byte),
-            Pending::Number => self.step_number(text, byte),
-            Pending::Minus => self.step_minus(text, byte),
-            Pending::Less => self.step_less(text, byte),
-            Pending::Greater => self.step_equal(text, byte, Mark::GreaterEqual),
-            Pending::Bang => self.step_equal(text, byte, Mark::NotEqual),
-            Pending::Bar => Ok(self.step_only(byte, b'|', Pending::Comment)),
-            Pending::Comment => self.step_comment(text, byte),
-            Pending::ArrowFirst => Ok(self.step_only(byte, 0x86, Pending::ArrowSecond)),
-            Pending::ArrowSecond => {
-                if byte == 0x90 {
-                    self.complete(Mark::Arrow)
-                } else {
-                    Ok(Some(LexFault::BadByte(self.line)))
-                }
+            Pending::Idle => {
+                self.skip();
+                Ok(None)
             }
+            Pending::Comment => {
+                self.skip();
+                Ok(None)
+            }
+            Pending::Word => {
+                let kind = word_kind(&text[self.start..self.start + self.length]);
+                self.push_word(kind)
+            }
+            Pending::Number => {
+                let value = scanned_number(&text[self.start..self.start + self.length]);
+                self.push_number(value)
+            }
+            Pending::Minus => self.push_going(Kind::Mark(Mark::Minus)),
+            Pending::Less => self.push_going(Kind::Mark(Mark::Less)),
+            Pending::Greater => self.push_going(Kind::Mark(Mark::Greater)),
+            Pending::Bang => self.push_going(Kind::Mark(Mark::Bang)),
+            Pending::Bar => Ok(Some(LexFault::BadByte(self.line))),
+            Pending::ArrowFirst => Ok(Some(LexFault::BadByte(self.line))),
+            Pending::ArrowSecond => Ok(Some(LexFault::BadByte(self.line))),
         }
+    }
+
+    // The pending bytes are a word of this kind, or too long.
+    fn push_word(&mut self, kind: Option<Kind>) -> Result<Option<LexFault>, Memory>
+        requires { HasRoom 0 self.old }
+        ensures { IfOk result (λ stop. outcome stop self.new ≡ push_word self.old kind) }
+    {
+        match kind {
+            None => Ok(Some(LexFault::LongName(self.line))),
+            Some(kind) => self.push_going(kind),
+        }
+    }
+
+    // The pending bytes are this number, or no number.
+    fn push_number(&mut self, value: Option<i64>) -> Result<Option<LexFault>, Memory>
+        requires { HasRoom 0 self.old }
+        ensures { IfOk result (λ stop. outcome stop self.new ≡ push_number self.old value) }
+    {
+        match value {
+            None => Ok(Some(LexFault::BadNumber(self.line))),
+            Some(value) => self.push_going(Kind::Number(value)),
+        }
+    }
+
+    // The pending bytes are a token, and the scan goes on.
+    fn push_going(&mut self, kind: Kind) -> Result<Option<LexFault>, Memory>
+        requires { HasRoom 0 self.old }
+        ensures { IfOk result (λ stop. outcome stop self.new ≡ Scanned.Going (push self.old kind)) }
+    {
+        self.push(kind)?;
+        Ok(None)
+    }
+
+    // One more byte is pending, and the scan goes on.
+    fn extend_going(&mut self, pending: Pending) -> Result<Option<LexFault>, Memory>
+        requires { HasRoom 0 self.old }
+        ensures { IfOk result (λ stop. outcome stop self.new ≡ extend_going self.old pending) }
+    {
+        self.extend(pending);
+        Ok(None)
+    }
+
+    // The pending bytes are a token, which is kept.
+    fn push(&mut self, kind: Kind) -> Result<(), Memory>
+        requires { HasRoom 0 self.old }
+        ensures { OnOk result (self.new ≡ push self.old kind) }
+    {
+        let token = Token {
+            kind,
+            start: self.start,
+            length: self.length,
+            line: self.line,
+        };
+        self.items.push(token)?;
+        self.previous = previous_of(kind);
+        self.skip();
+        Ok(())
+    }
+
+    // The pending bytes are a blank, a comment or a line end.
+    fn skip(&mut self)
+        requires { HasRoom 0 self.old }
+        ensures { self.new ≡ skip self.old }
+    {
+        self.start += self.length;
+        self.length = 0;
+        self.pending = Pending::Idle;
+    }
+
+    // One more byte is pending.
+    fn extend(&mut self, pending: Pending)
+        requires { HasRoom 0 self.old }
+        ensures { self.new ≡ extend self.old pending }
+    {
+        self.length += 1;
+        self.pending = pending;
     }
 }
 
-// The scan of the bytes, without what is pending at their end.
-fn scan_all(alloc: Global, text: &[u8]) -> Result<Scanned, Memory>
-    requires { length text.now < 2 ^ 60 }
-    ensures value { IfOk result (λ scanned. scanned ≡ scan text.now text.now) }
-    ensures place { IfOk result (λ scanned. HasPlace (length text.now) (length text.now + 1) scanned) }
+// Whether the byte belongs to what is pending, of which no other byte of the text has to be known.
+fn stays(pending: Pending, byte: u8) -> bool
+    ensures { result ≡ stays pending byte }
 {
-    let mut scan = Scan::start(alloc);
-    for (i, byte) in text.iter().enumerate() {
-        match scan.step(text, *byte)? {
-            None => {}
-            Some(fault) => return Ok(Scanned::Stopped(fault)),
-        }
-    }
-    Ok(Scanned::Going(scan))
-}
-
-// The end of a text: the pending bytes end there, and one more line end stands there where the text does not end with a
-// line feed.
-fn finish(scan: Scan, text: &[u8]) -> Result<Scanned, Memory>
-    requires within { scan.start + scan.length ≤ length text.now }
-    requires small { length text.now < 2 ^ 60 }
-    ensures { IfOk result (λ finished. finished ≡ finish text.now (Scanned.Going scan)) }
-{
-    let mut scan = scan;
-    match scan.emit(text)? {
-        None => {
-            scan.end_line()?;
-            Ok(Scanned::Going(scan))
-        }
-        Some(fault) => Ok(Scanned::Stopped(fault)),
+    match pending {
+        Pending::Word => is_name_byte(byte),
+        Pending::Number => byte.is_ascii_digit(),
+        Pending::Comment => byte != b'\n',
+        _ => false,
     }
 }
 
-/// The scan of a whole text.
-pub fn scan_text(alloc: Global, text: &[u8]) -> Result<Scanned, Memory>
-    requires { length text.now < 2 ^ 60 }
-    ensures { IfOk result (λ finished. finished ≡ scanned text.now) }
+// What the token after one of this kind knows of it.
+fn previous_of(kind: Kind) -> Previous
+    ensures { result ≡ previous_of kind }
 {
-    match scan_all(alloc, text)? {
-        Scanned::Going(scan) => finish(scan, text),
-        Scanned::Stopped(fault) => Ok(Scanned::Stopped(fault)),
+    match kind {
+        Kind::Name => Previous::Operand,
+        Kind::Number(_) => Previous::Operand,
+        Kind::LineEnd => Previous::LineEnd,
+        _ => Previous::Other,
     }
 }

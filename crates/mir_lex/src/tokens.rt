@@ -42,13 +42,15 @@ impl Model for Tokens {
 }
 
 impl Tokens {
-    ghost use Rattle.std.specs.Prelude.{◌≡◌, ◌<◌, length, slice_get, Some, IfOk};
-    ghost use Rattle.mir_lex.specs.Terminals.{terminals};
+    ghost use Rattle.std.specs.Prelude.{◌<◌, length, IfOk};
+    ghost use Rattle.mir_lex.specs.Terminals.{IsTerminalAt};
 
-    /// The token of this number, counted from 0, as the grammar reads it. Its only refusal is want of memory.
+    /// The token of this number, counted from 0 and below the number of tokens, as the grammar reads it. It fails only
+    /// with `Memory`.
     pub fn terminal(&self, alloc: Global, number: usize) -> Result<Terminal, Memory>
         requires { number < length self.now.items }
-        ensures { IfOk result (λ terminal. slice_get (terminals self.now.text self.now.items) number ≡ Some terminal) }
+        ensures { IfOk result (λ terminal.
+            IsTerminalAt self.now.text self.now.items number terminal) }
     {
         let token = self.items.items()[number];
         let text = self.text.items();

@@ -1,49 +1,53 @@
 // The kinds of tokens.
 
-/// A reserved word: it is no name.
+/// A reserved word, which is no name. `WORDS` says how each is spelled.
 #[derive(Clone, Copy, Debug, PartialEq, Eq)]
 pub enum Word {
-    /// `begin`
     Begin,
-    /// `end`
     End,
-    /// `receive`
     Receive,
-    /// `goto`
     Goto,
-    /// `if`
     If,
-    /// `call`
     Call,
-    /// `return`
     Return,
-    /// `print`
     Print,
-    /// `mod`
     Mod,
-    /// `min`
     Min,
-    /// `max`
     Max,
-    /// `shl`
     Shl,
-    /// `shr`
     Shr,
-    /// `shra`
     Shra,
-    /// `and`
     And,
-    /// `or`
     Or,
-    /// `xor`
     Xor,
-    /// `trap`
     Trap,
-    /// `global`
     Global,
-    /// `sequence`
     Sequence,
 }
+
+/// The reserved words, each behind its spelling.
+pub(crate) const WORDS: [(&[u8], Word); 20] = [
+    (b"begin", Word::Begin),
+    (b"end", Word::End),
+    (b"receive", Word::Receive),
+    (b"goto", Word::Goto),
+    (b"if", Word::If),
+    (b"call", Word::Call),
+    (b"return", Word::Return),
+    (b"print", Word::Print),
+    (b"mod", Word::Mod),
+    (b"min", Word::Min),
+    (b"max", Word::Max),
+    (b"shl", Word::Shl),
+    (b"shr", Word::Shr),
+    (b"shra", Word::Shra),
+    (b"and", Word::And),
+    (b"or", Word::Or),
+    (b"xor", Word::Xor),
+    (b"trap", Word::Trap),
+    (b"global", Word::Global),
+    (b"sequence", Word::Sequence),
+];
 
 /// A mark of punctuation or an operator.
 #[derive(Clone, Copy, Debug, PartialEq, Eq)]

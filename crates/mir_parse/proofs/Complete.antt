@@ -33,261 +33,290 @@ use Rattle.mir_parse.specs.declared.state.Reading.{Reading}
 use Rattle.mir_parse.specs.declared.state.State.{State}
 use Rattle.mir_parse.specs.declared.state.State.TheVariants.{Outside, In}
 use Rattle.mir_parse.specs.Grammar.{operand_symbol, relop_symbol, binop_symbol, rhs_symbols, test_symbols, more_symbols, open_args, args_symbols, IsCallStart, IsForm, symbols, IsBreak, IsLabel, IsInst, Body, IsHead, IsUnit, IsText, bare, label, inst, no_unit, more}
-use Rattle.mir_parse.specs.Reader.{filled, wants, fresh, named, plain_name, plain_number, first_arg, if_operand, part_step, begin_unit, with_inst, with_label, after, outside, inside, step, reads}
+use Rattle.mir_parse.specs.Reader.{filled, wants, fresh, named, plain_name, plain_number, first_arg, if_operand, part_step, begin_unit, with_inst, with_label, reading_after, outside, inside, read_step, reads}
 
 -- the parts of one instruction, token by token
 abbrev pub next_step : Next → Symbol → Next
 next_step (Go p) s = part_step p s
 next_step n s = No
 
+-- the part after these symbols
 abbrev pub part_run : Next → List Symbol → Next
 part_run n ss = fold next_step n ss
 
-no-run : (ss : List Symbol) (n : Next) → part_run No ss ≡ n → n ≡ No
-no-run [] n h = sym h
-no-run (s ∷ ss) n h = no-run ss n h
+-- once refused, more symbols do not help
+no_run : (ss : List Symbol) (n : Next) → part_run No ss ≡ n → n ≡ No
+no_run [] n h = sym h
+no_run (s ∷ ss) n h = no_run ss n h
 
-pub after-run : (b : Reading) (line : ℕ) (form : RawForm) (n : Next) (ts : List Terminal) (at : ℕ) → part_run n (symbols ts) ≡ Done form → fold step (after b line at n) ts ≡ In (with_inst b line form) (Inside false)
-after-run b line form No ts at h = absurd (let e = no-run (symbols ts) (Done form) h in cc)
-after-run b line form (Go p) [] at h = absurd (cc)
-after-run b line form (Go p) (t ∷ ts) at h = after-run b line form (part_step p t.symbol) ts t.line h
-after-run b line form (Done f) [] at h = let e : f ≡ form = cc in ap (λ (g : RawForm). In (with_inst b line g) (Inside false)) e
-after-run b line form (Done f) (t ∷ ts) at h = absurd (let e = no-run (symbols ts) (Done form) h in cc)
-after-run b line form (Label x) [] at h = absurd (cc)
-after-run b line form (Label x) (t ∷ ts) at h = absurd (let e = no-run (symbols ts) (Done form) h in cc)
+-- the reader keeps an instruction that its parts make whole
+pub after_run : (b : Reading) (line : ℕ) (form : RawForm) (n : Next) (ts : List Terminal) (at : ℕ) → part_run n (symbols ts) ≡ Done form → fold read_step (reading_after b line at n) ts ≡ In (with_inst b line form) (Inside false)
+after_run b line form No ts at h = absurd (let e = no_run (symbols ts) (Done form) h in cc)
+after_run b line form (Go p) [] at h = absurd (cc)
+after_run b line form (Go p) (t ∷ ts) at h = after_run b line form (part_step p t.symbol) ts t.line h
+after_run b line form (Done f) [] at h = let e : f ≡ form = cc in ap (λ (g : RawForm). In (with_inst b line g) (Inside false)) e
+after_run b line form (Done f) (t ∷ ts) at h = absurd (let e = no_run (symbols ts) (Done form) h in cc)
+after_run b line form (Label x) [] at h = absurd (cc)
+after_run b line form (Label x) (t ∷ ts) at h = absurd (let e = no_run (symbols ts) (Done form) h in cc)
 
-inside-run : (b : Reading) (colon : Bool) (form : RawForm) (s : Symbol) (ts : List Terminal) (at : ℕ) → part_run (fresh s) (symbols ts) ≡ Done form → fold step (inside b colon s at) ts ≡ In (with_inst b at form) (Inside false)
-inside-run b colon form (WORD EndWord) ts at h = absurd (let e = no-run (symbols ts) (Done form) h in cc)
-inside-run b true form NL ts at h = absurd (let e = no-run (symbols ts) (Done form) h in cc)
-inside-run b colon form s ts at h = after-run b at form (fresh s) ts at h
+-- the first symbol of an instruction, read between two instructions, begins it
+inside_run : (b : Reading) (colon : Bool) (form : RawForm) (s : Symbol) (ts : List Terminal) (at : ℕ) → part_run (fresh s) (symbols ts) ≡ Done form → fold read_step (inside b colon s at) ts ≡ In (with_inst b at form) (Inside false)
+inside_run b colon form (WORD EndWord) ts at h = absurd (let e = no_run (symbols ts) (Done form) h in cc)
+inside_run b true form NL ts at h = absurd (let e = no_run (symbols ts) (Done form) h in cc)
+inside_run b colon form s ts at h = after_run b at form (fresh s) ts at h
 
-plain-op : (x y : List ℕ) (op : Op) → plain_name x y (binop_symbol op) ≡ Go (Wants (OfBinary x op (Var y)))
-plain-op x y Add = refl
-plain-op x y Sub = refl
-plain-op x y Mul = refl
-plain-op x y Div = refl
-plain-op x y Mod = refl
-plain-op x y Min = refl
-plain-op x y Max = refl
-plain-op x y Eq = refl
-plain-op x y Ne = refl
-plain-op x y Lt = refl
-plain-op x y Le = refl
-plain-op x y Gt = refl
-plain-op x y Ge = refl
-plain-op x y Shl = refl
-plain-op x y Shr = refl
-plain-op x y Shra = refl
-plain-op x y And = refl
-plain-op x y Or = refl
-plain-op x y Xor = refl
+-- an operator after a first operand makes the reader wait for the second one: after a variable
+plain_op : (x y : List ℕ) (op : Op) → plain_name x y (binop_symbol op) ≡ Go (Wants (OfBinary x op (Var y)))
+plain_op x y Add = refl
+plain_op x y Sub = refl
+plain_op x y Mul = refl
+plain_op x y Div = refl
+plain_op x y Mod = refl
+plain_op x y Min = refl
+plain_op x y Max = refl
+plain_op x y Eq = refl
+plain_op x y Ne = refl
+plain_op x y Lt = refl
+plain_op x y Le = refl
+plain_op x y Gt = refl
+plain_op x y Ge = refl
+plain_op x y Shl = refl
+plain_op x y Shr = refl
+plain_op x y Shra = refl
+plain_op x y And = refl
+plain_op x y Or = refl
+plain_op x y Xor = refl
 
-number-op : (x : List ℕ) (z : ℤ) (op : Op) → plain_number x z (binop_symbol op) ≡ Go (Wants (OfBinary x op (Const z)))
-number-op x y Add = refl
-number-op x y Sub = refl
-number-op x y Mul = refl
-number-op x y Div = refl
-number-op x y Mod = refl
-number-op x y Min = refl
-number-op x y Max = refl
-number-op x y Eq = refl
-number-op x y Ne = refl
-number-op x y Lt = refl
-number-op x y Le = refl
-number-op x y Gt = refl
-number-op x y Ge = refl
-number-op x y Shl = refl
-number-op x y Shr = refl
-number-op x y Shra = refl
-number-op x y And = refl
-number-op x y Or = refl
-number-op x y Xor = refl
+-- after a number
+number_op : (x : List ℕ) (z : ℤ) (op : Op) → plain_number x z (binop_symbol op) ≡ Go (Wants (OfBinary x op (Const z)))
+number_op x y Add = refl
+number_op x y Sub = refl
+number_op x y Mul = refl
+number_op x y Div = refl
+number_op x y Mod = refl
+number_op x y Min = refl
+number_op x y Max = refl
+number_op x y Eq = refl
+number_op x y Ne = refl
+number_op x y Lt = refl
+number_op x y Le = refl
+number_op x y Gt = refl
+number_op x y Ge = refl
+number_op x y Shl = refl
+number_op x y Shr = refl
+number_op x y Shra = refl
+number_op x y And = refl
+number_op x y Or = refl
+number_op x y Xor = refl
 
-rel-op : (a : RawOperand) (op : RelOp) → if_operand a (relop_symbol op) ≡ Go (Wants (OfRel op a))
-rel-op a IsEq = refl
-rel-op a IsNe = refl
-rel-op a IsLt = refl
-rel-op a IsLe = refl
-rel-op a IsGt = refl
-rel-op a IsGe = refl
+-- after the first operand of a test
+rel_op : (a : RawOperand) (op : RelOp) → if_operand a (relop_symbol op) ≡ Go (Wants (OfRel op a))
+rel_op a IsEq = refl
+rel_op a IsNe = refl
+rel_op a IsLt = refl
+rel_op a IsLe = refl
+rel_op a IsGt = refl
+rel_op a IsGe = refl
 
-wants-operand : (hole : Hole) (a : RawOperand) → wants hole (operand_symbol a) ≡ Go (filled hole a)
-wants-operand hole (Var x) = refl
-wants-operand hole (Const z) = refl
+-- where an operand is awaited, each operand is taken
+wants_operand : (hole : Hole) (a : RawOperand) → wants hole (operand_symbol a) ≡ Go (filled hole a)
+wants_operand hole (Var x) = refl
+wants_operand hole (Const z) = refl
 
 -- an operand where one is wanted, and then the rest
-hole-run : (hole : Hole) (a : RawOperand) (rest : List Symbol) → part_run (Go (Wants hole)) (operand_symbol a ∷ rest) ≡ part_run (Go (filled hole a)) rest
-hole-run hole a rest = ap (λ (n : Next). part_run n rest) (wants-operand hole a)
+hole_run : (hole : Hole) (a : RawOperand) (rest : List Symbol) → part_run (Go (Wants hole)) (operand_symbol a ∷ rest) ≡ part_run (Go (filled hole a)) rest
+hole_run hole a rest = ap (λ (n : Next). part_run n rest) (wants_operand hole a)
 
-binary-run : (x : List ℕ) (op : Op) (a b : RawOperand) → part_run (Go (Arrowed x)) (operand_symbol a ∷ binop_symbol op ∷ operand_symbol b ∷ NL ∷ []) ≡ Done (Assign x (Binary op a b))
-binary-run x op (Var y) b = ap (λ (n : Next). part_run n (operand_symbol b ∷ NL ∷ [])) (plain-op x y op) ∙ hole-run (OfBinary x op (Var y)) b (NL ∷ [])
-binary-run x op (Const z) b = ap (λ (n : Next). part_run n (operand_symbol b ∷ NL ∷ [])) (number-op x z op) ∙ hole-run (OfBinary x op (Const z)) b (NL ∷ [])
+-- both operands of a binary operator are read in turn
+binary_run : (x : List ℕ) (op : Op) (a b : RawOperand) → part_run (Go (Arrowed x)) (operand_symbol a ∷ binop_symbol op ∷ operand_symbol b ∷ NL ∷ []) ≡ Done (Assign x (Binary op a b))
+binary_run x op (Var y) b = ap (λ (n : Next). part_run n (operand_symbol b ∷ NL ∷ [])) (plain_op x y op) ∙ hole_run (OfBinary x op (Var y)) b (NL ∷ [])
+binary_run x op (Const z) b = ap (λ (n : Next). part_run n (operand_symbol b ∷ NL ∷ [])) (number_op x z op) ∙ hole_run (OfBinary x op (Const z)) b (NL ∷ [])
 
-rhs-run : (x : List ℕ) (r : RawRhs) → part_run (Go (Arrowed x)) (rhs_symbols r ++ NL ∷ []) ≡ Done (Assign x r)
-rhs-run x (Plain (Var y)) = refl
-rhs-run x (Plain (Const z)) = refl
-rhs-run x (Unary Neg a) = hole-run (OfUnary x Neg) a (NL ∷ [])
-rhs-run x (Unary Not a) = hole-run (OfUnary x Not) a (NL ∷ [])
-rhs-run x (Binary op a b) = binary-run x op a b
+-- each right-hand side is read as itself after its arrow
+rhs_run : (x : List ℕ) (r : RawRhs) → part_run (Go (Arrowed x)) (rhs_symbols r ++ NL ∷ []) ≡ Done (Assign x r)
+rhs_run x (Plain (Var y)) = refl
+rhs_run x (Plain (Const z)) = refl
+rhs_run x (Unary Neg a) = hole_run (OfUnary x Neg) a (NL ∷ [])
+rhs_run x (Unary Not a) = hole_run (OfUnary x Not) a (NL ∷ [])
+rhs_run x (Binary op a b) = binary_run x op a b
 
+-- what follows each test: `goto` and its label
 goto_tail : List ℕ → List Symbol
 goto_tail l = WORD GotoWord ∷ NAME l ∷ NL ∷ []
 
-first-test : (a : RawOperand) → part_step PIf (operand_symbol a) ≡ Go (IfOperand a)
-first-test (Var x) = refl
-first-test (Const z) = refl
+-- an operand right after `if` may be a whole test
+first_test : (a : RawOperand) → part_step PIf (operand_symbol a) ≡ Go (IfOperand a)
+first_test (Var x) = refl
+first_test (Const z) = refl
 
-test-run : (t : RawTest) (l : List ℕ) → part_run (Go PIf) (test_symbols t ++ (WORD GotoWord ∷ NAME l ∷ NL ∷ [])) ≡ Done (If t l)
-test-run (Rel op a b) l =
-    ap (λ (n : Next). part_run n (relop_symbol op ∷ operand_symbol b ∷ WORD GotoWord ∷ NAME l ∷ NL ∷ [])) (first-test a)
-    ∙ ap (λ (n : Next). part_run n (operand_symbol b ∷ WORD GotoWord ∷ NAME l ∷ NL ∷ [])) (rel-op a op)
-    ∙ hole-run (OfRel op a) b (WORD GotoWord ∷ NAME l ∷ NL ∷ [])
-test-run (Holds a) l = ap (λ (n : Next). part_run n (WORD GotoWord ∷ NAME l ∷ NL ∷ [])) (first-test a)
-test-run (Fails a) l = hole-run OfFails a (WORD GotoWord ∷ NAME l ∷ NL ∷ [])
+-- each test is read as itself, with its goto
+test_run : (t : RawTest) (l : List ℕ) → part_run (Go PIf) (test_symbols t ++ (WORD GotoWord ∷ NAME l ∷ NL ∷ [])) ≡ Done (If t l)
+test_run (Rel op a b) l =
+    ap (λ (n : Next). part_run n (relop_symbol op ∷ operand_symbol b ∷ WORD GotoWord ∷ NAME l ∷ NL ∷ [])) (first_test a)
+    ∙ ap (λ (n : Next). part_run n (operand_symbol b ∷ WORD GotoWord ∷ NAME l ∷ NL ∷ [])) (rel_op a op)
+    ∙ hole_run (OfRel op a) b (WORD GotoWord ∷ NAME l ∷ NL ∷ [])
+test_run (Holds a) l = ap (λ (n : Next). part_run n (WORD GotoWord ∷ NAME l ∷ NL ∷ [])) (first_test a)
+test_run (Fails a) l = hole_run OfFails a (WORD GotoWord ∷ NAME l ∷ NL ∷ [])
 
 -- the arguments after the first ones
-more-run : (x : Option (List ℕ)) (f : List ℕ) (args done : List RawOperand) → part_run (Go (Typed x f done)) (more_symbols args ++ (MARK RightParen ∷ NL ∷ [])) ≡ Done (Call x f (done ++ args))
-more-run x f [] done = ap (λ (l : List RawOperand). Done (Call x f l)) (sym (append-nil done))
-more-run x f (a ∷ args) done =
-    hole-run (OfArg x f done) a (MARK Comma ∷ NAME (codes "int") ∷ (more_symbols args ++ (MARK RightParen ∷ NL ∷ [])))
-    ∙ more-run x f args (done ++ a ∷ []) ∙ ap (λ (l : List RawOperand). Done (Call x f l)) (append_assoc done (a ∷ []) args)
+more_run : (x : Option (List ℕ)) (f : List ℕ) (args done : List RawOperand) → part_run (Go (Typed x f done)) (more_symbols args ++ (MARK RightParen ∷ NL ∷ [])) ≡ Done (Call x f (done ++ args))
+more_run x f [] done = ap (λ (l : List RawOperand). Done (Call x f l)) (sym (append-nil done))
+more_run x f (a ∷ args) done =
+    hole_run (OfArg x f done) a (MARK Comma ∷ NAME (codes "int") ∷ (more_symbols args ++ (MARK RightParen ∷ NL ∷ [])))
+    ∙ more_run x f args (done ++ a ∷ []) ∙ ap (λ (l : List RawOperand). Done (Call x f l)) (append_assoc done (a ∷ []) args)
 
-first-arg : (x : Option (List ℕ)) (f : List ℕ) (a : RawOperand) → first_arg x f (operand_symbol a) ≡ Go (Given x f (a ∷ []))
-first-arg x f (Var y) = refl
-first-arg x f (Const z) = refl
+-- the first argument is taken where the parenthesis may also close
+first_arg_is : (x : Option (List ℕ)) (f : List ℕ) (a : RawOperand) → first_arg x f (operand_symbol a) ≡ Go (Given x f (a ∷ []))
+first_arg_is x f (Var y) = refl
+first_arg_is x f (Const z) = refl
 
-args-run : (x : Option (List ℕ)) (f : List ℕ) (args : List RawOperand) → part_run (Go (Opening x f)) ((open_args args ++ MARK RightParen ∷ []) ++ NL ∷ []) ≡ Done (Call x f args)
-args-run x f [] = refl
-args-run x f (a ∷ args) =
+-- all arguments are read, to the line end
+args_run : (x : Option (List ℕ)) (f : List ℕ) (args : List RawOperand) → part_run (Go (Opening x f)) ((open_args args ++ MARK RightParen ∷ []) ++ NL ∷ []) ≡ Done (Call x f args)
+args_run x f [] = refl
+args_run x f (a ∷ args) =
     ap (λ (l : List Symbol). part_run (Go (FirstArg x f)) (operand_symbol a ∷ MARK Comma ∷ NAME (codes "int") ∷ l)) (append_assoc (more_symbols args) (MARK RightParen ∷ []) (NL ∷ []))
-    ∙ ap (λ (n : Next). part_run n (MARK Comma ∷ NAME (codes "int") ∷ (more_symbols args ++ (MARK RightParen ∷ NL ∷ [])))) (first-arg x f a)
-    ∙ more-run x f args (a ∷ [])
+    ∙ ap (λ (n : Next). part_run n (MARK Comma ∷ NAME (codes "int") ∷ (more_symbols args ++ (MARK RightParen ∷ NL ∷ [])))) (first_arg_is x f a)
+    ∙ more_run x f args (a ∷ [])
 
-call-run : (x : Option (List ℕ)) (f : List ℕ) (start rest : List Symbol) → IsCallStart start x → part_run (Go Fresh) (start ++ (NAME f ∷ MARK Comma ∷ rest)) ≡ part_run (Go (Opening x f)) rest
-call-run None f start rest h = ap (λ (l : List Symbol). part_run (Go Fresh) (l ++ (NAME f ∷ MARK Comma ∷ rest))) h
-call-run (Some x) f start rest (inl h) = ap (λ (l : List Symbol). part_run (Go Fresh) (l ++ (NAME f ∷ MARK Comma ∷ rest))) h
-call-run (Some x) f start rest (inr h) = ap (λ (l : List Symbol). part_run (Go Fresh) (l ++ (NAME f ∷ MARK Comma ∷ rest))) h
+-- the words before a call's callee are read, with or without a result
+call_run : (x : Option (List ℕ)) (f : List ℕ) (start rest : List Symbol) → IsCallStart start x → part_run (Go Fresh) (start ++ (NAME f ∷ MARK Comma ∷ rest)) ≡ part_run (Go (Opening x f)) rest
+call_run None f start rest h = ap (λ (l : List Symbol). part_run (Go Fresh) (l ++ (NAME f ∷ MARK Comma ∷ rest))) h
+call_run (Some x) f start rest (inl h) = ap (λ (l : List Symbol). part_run (Go Fresh) (l ++ (NAME f ∷ MARK Comma ∷ rest))) h
+call_run (Some x) f start rest (inr h) = ap (λ (l : List Symbol). part_run (Go Fresh) (l ++ (NAME f ∷ MARK Comma ∷ rest))) h
 
-form-run : (ss : List Symbol) (form : RawForm) → IsForm ss form → part_run (Go Fresh) (ss ++ NL ∷ []) ≡ Done form
-form-run ss (Receive x) h = ap (λ (l : List Symbol). part_run (Go Fresh) (l ++ NL ∷ [])) h
-form-run ss (Assign x r) h = ap (λ (l : List Symbol). part_run (Go Fresh) (l ++ NL ∷ [])) h ∙ rhs-run x r
-form-run ss (Goto l) h = ap (λ (l : List Symbol). part_run (Go Fresh) (l ++ NL ∷ [])) h
-form-run ss (If t l) h =
+-- the symbols of each form are read as this form
+form_run : (ss : List Symbol) (form : RawForm) → IsForm ss form → part_run (Go Fresh) (ss ++ NL ∷ []) ≡ Done form
+form_run ss (Receive x) h = ap (λ (l : List Symbol). part_run (Go Fresh) (l ++ NL ∷ [])) h
+form_run ss (Assign x r) h = ap (λ (l : List Symbol). part_run (Go Fresh) (l ++ NL ∷ [])) h ∙ rhs_run x r
+form_run ss (Goto l) h = ap (λ (l : List Symbol). part_run (Go Fresh) (l ++ NL ∷ [])) h
+form_run ss (If t l) h =
     ap (λ (l : List Symbol). part_run (Go Fresh) (l ++ NL ∷ [])) h
-    ∙ ap (λ (l : List Symbol). part_run (Go PIf) l) (append_assoc (test_symbols t) (WORD GotoWord ∷ NAME l ∷ []) (NL ∷ [])) ∙ test-run t l
-form-run ss (Call x f args) h =
+    ∙ ap (λ (l : List Symbol). part_run (Go PIf) l) (append_assoc (test_symbols t) (WORD GotoWord ∷ NAME l ∷ []) (NL ∷ [])) ∙ test_run t l
+form_run ss (Call x f args) h =
     ap (λ (l : List Symbol). part_run (Go Fresh) (l ++ NL ∷ [])) h.2
     ∙ ap (λ (l : List Symbol). part_run (Go Fresh) l) (append_assoc h.0 (NAME f ∷ MARK Comma ∷ args_symbols args) (NL ∷ []))
-    ∙ call-run x f h.0 (args_symbols args ++ NL ∷ []) h.1 ∙ args-run x f args
-form-run ss (Print a) h = ap (λ (l : List Symbol). part_run (Go Fresh) (l ++ NL ∷ [])) h ∙ hole-run OfPrint a (NL ∷ [])
-form-run ss (Return None) h = ap (λ (l : List Symbol). part_run (Go Fresh) (l ++ NL ∷ [])) h
-form-run ss (Return (Some (Var x))) h = ap (λ (l : List Symbol). part_run (Go Fresh) (l ++ NL ∷ [])) h
-form-run ss (Return (Some (Const z))) h = ap (λ (l : List Symbol). part_run (Go Fresh) (l ++ NL ∷ [])) h
+    ∙ call_run x f h.0 (args_symbols args ++ NL ∷ []) h.1 ∙ args_run x f args
+form_run ss (Print a) h = ap (λ (l : List Symbol). part_run (Go Fresh) (l ++ NL ∷ [])) h ∙ hole_run OfPrint a (NL ∷ [])
+form_run ss (Return None) h = ap (λ (l : List Symbol). part_run (Go Fresh) (l ++ NL ∷ [])) h
+form_run ss (Return (Some (Var x))) h = ap (λ (l : List Symbol). part_run (Go Fresh) (l ++ NL ∷ [])) h
+form_run ss (Return (Some (Const z))) h = ap (λ (l : List Symbol). part_run (Go Fresh) (l ++ NL ∷ [])) h
 
-inst-run : (b : Reading) (colon : Bool) (us : List Terminal) (i : RawInst) → IsInst us i → fold step (In b (Inside colon)) us ≡ In (with_inst b i.line i.form) (Inside false)
-inst-run b colon [] i h = absurd h.are.starts
-inst-run b colon (t ∷ us) i h =
-    inside-run b colon i.form t.symbol us t.line (ap (λ (l : List Symbol). part_run (Go Fresh) l) h.are.spelled ∙ form-run h.form i.form h.is_form)
+-- so the tokens of an instruction add it to the body
+inst_run : (b : Reading) (colon : Bool) (us : List Terminal) (i : RawInst) → IsInst us i → fold read_step (In b (Inside colon)) us ≡ In (with_inst b i.line i.form) (Inside false)
+inst_run b colon [] i h = absurd h.are.starts
+inst_run b colon (t ∷ us) i h =
+    inside_run b colon i.form t.symbol us t.line (ap (λ (l : List Symbol). part_run (Go Fresh) l) h.are.spelled ∙ form_run h.form i.form h.is_form)
     ∙ ap (λ (line : ℕ). In (with_inst b line i.form) (Inside false)) h.are.starts
 
-label-start : (b : Reading) (colon : Bool) (x : List ℕ) (line : ℕ) (ss : List Symbol) (us : List Terminal) → symbols us ≡ MARK Colon ∷ ss → IsBreak ss → (after_colon : Bool) × (fold step (In b (Mid line (Named x))) us ≡ In (with_label b line x) (Inside after_colon))
-label-start b colon x line ss [] h break = absurd (cc)
-label-start b colon x line ss (t ∷ []) h (inl nothing) = (true, let is : t.symbol ≡ MARK Colon = cc in ap (λ (s : Symbol). after b line t.line (named x s)) is)
-label-start b colon x line ss (t ∷ []) h (inr end) = absurd (cc)
-label-start b colon x line ss (t ∷ u ∷ us) h (inl nothing) = absurd (cc)
-label-start b colon x line ss (t ∷ u ∷ []) h (inr end) = (
+-- a name with a colon is a label, whether a line end follows or not
+label_start : (b : Reading) (colon : Bool) (x : List ℕ) (line : ℕ) (ss : List Symbol) (us : List Terminal) → symbols us ≡ MARK Colon ∷ ss → IsBreak ss → (after_colon : Bool) × (fold read_step (In b (Mid line (Named x))) us ≡ In (with_label b line x) (Inside after_colon))
+label_start b colon x line ss [] h break = absurd (cc)
+label_start b colon x line ss (t ∷ []) h (inl nothing) = (true, let is : t.symbol ≡ MARK Colon = cc in ap (λ (s : Symbol). reading_after b line t.line (named x s)) is)
+label_start b colon x line ss (t ∷ []) h (inr end) = absurd (cc)
+label_start b colon x line ss (t ∷ u ∷ us) h (inl nothing) = absurd (cc)
+label_start b colon x line ss (t ∷ u ∷ []) h (inr end) = (
   false,
   let is : t.symbol ≡ MARK Colon = cc in
       let ends : u.symbol ≡ NL = cc in
-      ap (λ (s : Symbol). step (after b line t.line (named x s)) u) is ∙ ap (λ (s : Symbol). inside (with_label b line x) true s u.line) ends,
+      ap (λ (s : Symbol). read_step (reading_after b line t.line (named x s)) u) is ∙ ap (λ (s : Symbol). inside (with_label b line x) true s u.line) ends,
 )
-label-start b colon x line ss (t ∷ u ∷ v ∷ us) h (inr end) = absurd (cc)
+label_start b colon x line ss (t ∷ u ∷ v ∷ us) h (inr end) = absurd (cc)
 
-label-run : (b : Reading) (colon : Bool) (us : List Terminal) (l : RawLabel) → IsLabel us l → l.place ≡ length b.unit.body → (after_colon : Bool) × (fold step (In b (Inside colon)) us ≡ In (record b { unit = record b.unit { labels = b.unit.labels ++ l ∷ [] } }) (Inside after_colon))
-label-run b colon [] l h at = absurd h.are.starts
-label-run b colon (t ∷ us) l h at =
+-- so the tokens of a label add it to the labels
+label_run : (b : Reading) (colon : Bool) (us : List Terminal) (l : RawLabel) → IsLabel us l → l.place ≡ length b.unit.body → (after_colon : Bool) × (fold read_step (In b (Inside colon)) us ≡ In (record b { unit = record b.unit { labels = b.unit.labels ++ l ∷ [] } }) (Inside after_colon))
+label_run b colon [] l h at = absurd h.are.starts
+label_run b colon (t ∷ us) l h at =
     let spelled : t.symbol ∷ symbols us ≡ NAME l.name ∷ MARK Colon ∷ h.«break» = h.are.spelled in
     let is : t.symbol ≡ NAME l.name = cc in
     let rest : symbols us ≡ MARK Colon ∷ h.«break» = cc in
-    let run = label-start b colon l.name t.line h.«break» us rest h.is_break in (
+    let run = label_start b colon l.name t.line h.«break» us rest h.is_break in (
       run.0,
-      ap (λ (s : Symbol). fold step (inside b colon s t.line) us) is ∙ run.1
+      ap (λ (s : Symbol). fold read_step (inside b colon s t.line) us) is ∙ run.1
           ∙ ap (λ (line : ℕ). In (with_label b line l.name) (Inside run.0)) h.are.starts
           ∙ ap (λ (place : ℕ). In (record b { unit = record b.unit { labels = b.unit.labels ++ record { name = l.name; place = place; line = l.line } ∷ [] } }) (Inside run.0)) (sym at),
     )
 
+-- the unit that is read, with these labels and instructions
 abbrev grown : Reading → List RawLabel → List RawInst → Reading
 grown b labels body = record { units = b.units; unit = record { name = b.unit.name; line = b.unit.line; labels = labels; body = body } }
 
-rows-run : (b : Reading) (ts : List Terminal) (labels : List RawLabel) (body : List RawInst) → Body ts labels body → (colon : Bool) × (fold step (In (grown b [] []) (Inside false)) ts ≡ In (grown b labels body) (Inside colon))
-rows-run b _ _ _ bare = (false, refl)
-rows-run b _ _ _ (label {ts} {us} {labels} {body} l rows is at) =
-    let front = rows-run b ts labels body rows in
-    let run = label-run (grown b labels body) front.0 us l is at in (
+-- so the tokens of a body add all of its labels and instructions
+rows_run : (b : Reading) (ts : List Terminal) (labels : List RawLabel) (body : List RawInst) → Body ts labels body → (colon : Bool) × (fold read_step (In (grown b [] []) (Inside false)) ts ≡ In (grown b labels body) (Inside colon))
+rows_run b _ _ _ bare = (false, refl)
+rows_run b _ _ _ (label {ts} {us} {labels} {body} l rows is at) =
+    let front = rows_run b ts labels body rows in
+    let run = label_run (grown b labels body) front.0 us l is at in (
       run.0,
-      fold-append step (In (grown b [] []) (Inside false)) ts us ∙ ap (λ (st : State). fold step st us) front.1 ∙ run.1,
+      fold-append read_step (In (grown b [] []) (Inside false)) ts us ∙ ap (λ (st : State). fold read_step st us) front.1 ∙ run.1,
     )
-rows-run b _ _ _ (inst {ts} {us} {labels} {body} i rows is) =
-    let front = rows-run b ts labels body rows in (
+rows_run b _ _ _ (inst {ts} {us} {labels} {body} i rows is) =
+    let front = rows_run b ts labels body rows in (
       false,
-      fold-append step (In (grown b [] []) (Inside false)) ts us ∙ ap (λ (st : State). fold step st us) front.1 ∙ inst-run (grown b labels body) front.0 us i is,
+      fold-append read_step (In (grown b [] []) (Inside false)) ts us ∙ ap (λ (st : State). fold read_step st us) front.1 ∙ inst_run (grown b labels body) front.0 us i is,
     )
 
 -- tokens with these symbols, one by one
-run-on : (st next : State) (s : Symbol) (ss : List Symbol) (ts : List Terminal) → symbols ts ≡ s ∷ ss → ((at : ℕ) → step st (record { symbol = s; line = at }) ≡ next) → (us : List Terminal) × (symbols us ≡ ss) × (fold step st ts ≡ fold step next us)
-run-on st next s ss [] h goes = absurd (cc)
-run-on st next s ss (t ∷ ts) h goes =
+run_on : (st next : State) (s : Symbol) (ss : List Symbol) (ts : List Terminal) → symbols ts ≡ s ∷ ss → ((at : ℕ) → read_step st (record { symbol = s; line = at }) ≡ next) → (us : List Terminal) × (symbols us ≡ ss) × (fold read_step st ts ≡ fold read_step next us)
+run_on st next s ss [] h goes = absurd (cc)
+run_on st next s ss (t ∷ ts) h goes =
     let is : t.symbol ≡ s = cc in
     let rest : symbols ts ≡ ss = cc in
-    (ts, rest, ap (λ (st : State). fold step st ts) (ap (λ (s : Symbol). step st (record { symbol = s; line = t.line })) is ∙ goes t.line))
+    (ts, rest, ap (λ (st : State). fold read_step st ts) (ap (λ (s : Symbol). read_step st (record { symbol = s; line = t.line })) is ∙ goes t.line))
 
-run-end : (st : State) (ts : List Terminal) → symbols ts ≡ [] → fold step st ts ≡ st
-run-end st [] h = refl
-run-end st (t ∷ ts) h = absurd (cc)
+-- no symbols, no step
+run_end : (st : State) (ts : List Terminal) → symbols ts ≡ [] → fold read_step st ts ≡ st
+run_end st [] h = refl
+run_end st (t ∷ ts) h = absurd (cc)
 
-begin-run : (b : Reading) (broken : Bool) (ts : List Terminal) → symbols ts ≡ WORD BeginWord ∷ NL ∷ [] → fold step (In b (Headed broken)) ts ≡ In b (Inside false)
-begin-run b true ts h =
-    let one = run-on (In b (Headed true)) (In b Begun) (WORD BeginWord) (NL ∷ []) ts h (λ at. refl) in
-    let two = run-on (In b Begun) (In b (Inside false)) NL [] one.0 one.1 (λ at. refl) in one.2 ∙ two.2 ∙ run-end (In b (Inside false)) two.0 two.1
-begin-run b false ts h =
-    let one = run-on (In b (Headed false)) (In b Begun) (WORD BeginWord) (NL ∷ []) ts h (λ at. refl) in
-    let two = run-on (In b Begun) (In b (Inside false)) NL [] one.0 one.1 (λ at. refl) in one.2 ∙ two.2 ∙ run-end (In b (Inside false)) two.0 two.1
+-- the remainder of a head leads into the unit: from `begin` on
+begin_run : (b : Reading) (broken : Bool) (ts : List Terminal) → symbols ts ≡ WORD BeginWord ∷ NL ∷ [] → fold read_step (In b (Headed broken)) ts ≡ In b (Inside false)
+begin_run b true ts h =
+    let one = run_on (In b (Headed true)) (In b Begun) (WORD BeginWord) (NL ∷ []) ts h (λ at. refl) in
+    let two = run_on (In b Begun) (In b (Inside false)) NL [] one.0 one.1 (λ at. refl) in one.2 ∙ two.2 ∙ run_end (In b (Inside false)) two.0 two.1
+begin_run b false ts h =
+    let one = run_on (In b (Headed false)) (In b Begun) (WORD BeginWord) (NL ∷ []) ts h (λ at. refl) in
+    let two = run_on (In b Begun) (In b (Inside false)) NL [] one.0 one.1 (λ at. refl) in one.2 ∙ two.2 ∙ run_end (In b (Inside false)) two.0 two.1
 
-colon-run : (b : Reading) (ss : List Symbol) (ts : List Terminal) → symbols ts ≡ ss ++ (WORD BeginWord ∷ NL ∷ []) → IsBreak ss → fold step (In b (Headed true)) ts ≡ In b (Inside false)
-colon-run b ss ts h (inl nothing) = begin-run b true ts (h ∙ ap (λ (l : List Symbol). l ++ (WORD BeginWord ∷ NL ∷ [])) nothing)
-colon-run b ss ts h (inr end) =
-    let one = run-on (In b (Headed true)) (In b (Headed false)) NL (WORD BeginWord ∷ NL ∷ []) ts (h ∙ ap (λ (l : List Symbol). l ++ (WORD BeginWord ∷ NL ∷ [])) end) (λ at. refl) in
-    one.2 ∙ begin-run b false one.0 one.1
+-- from what may stand between the colon and `begin`
+colon_run : (b : Reading) (ss : List Symbol) (ts : List Terminal) → symbols ts ≡ ss ++ (WORD BeginWord ∷ NL ∷ []) → IsBreak ss → fold read_step (In b (Headed true)) ts ≡ In b (Inside false)
+colon_run b ss ts h (inl nothing) = begin_run b true ts (h ∙ ap (λ (l : List Symbol). l ++ (WORD BeginWord ∷ NL ∷ [])) nothing)
+colon_run b ss ts h (inr end) =
+    let one = run_on (In b (Headed true)) (In b (Headed false)) NL (WORD BeginWord ∷ NL ∷ []) ts (h ∙ ap (λ (l : List Symbol). l ++ (WORD BeginWord ∷ NL ∷ [])) end) (λ at. refl) in
+    one.2 ∙ begin_run b false one.0 one.1
 
-named-run : (b : Reading) (ss : List Symbol) (ts : List Terminal) → symbols ts ≡ MARK Colon ∷ ss ++ (WORD BeginWord ∷ NL ∷ []) → IsBreak ss → fold step (In b UnitNamed) ts ≡ In b (Inside false)
-named-run b ss ts h break =
-    let one = run-on (In b UnitNamed) (In b (Headed true)) (MARK Colon) (ss ++ (WORD BeginWord ∷ NL ∷ [])) ts h (λ at. refl) in
-    one.2 ∙ colon-run b ss one.0 one.1 break
+-- from the colon of a unit's name
+named_run : (b : Reading) (ss : List Symbol) (ts : List Terminal) → symbols ts ≡ MARK Colon ∷ ss ++ (WORD BeginWord ∷ NL ∷ []) → IsBreak ss → fold read_step (In b UnitNamed) ts ≡ In b (Inside false)
+named_run b ss ts h break =
+    let one = run_on (In b UnitNamed) (In b (Headed true)) (MARK Colon) (ss ++ (WORD BeginWord ∷ NL ∷ [])) ts h (λ at. refl) in
+    one.2 ∙ colon_run b ss one.0 one.1 break
 
-head-run : (units : List RawUnitShape) (name : List ℕ) (line : ℕ) (ts : List Terminal) → IsHead ts name line → fold step (Outside units) ts ≡ In (begin_unit units name line) (Inside false)
-head-run units name line [] h = absurd h.are.starts
-head-run units name line (t ∷ ts) h =
+-- the head of a unit opens it with no label and no instruction
+head_run : (units : List RawUnitShape) (name : List ℕ) (line : ℕ) (ts : List Terminal) → IsHead ts name line → fold read_step (Outside units) ts ≡ In (begin_unit units name line) (Inside false)
+head_run units name line [] h = absurd h.are.starts
+head_run units name line (t ∷ ts) h =
     let spelled : t.symbol ∷ symbols ts ≡ NAME name ∷ MARK Colon ∷ h.«break» ++ (WORD BeginWord ∷ NL ∷ []) = h.are.spelled in
     let is : t.symbol ≡ NAME name = cc in
     let rest : symbols ts ≡ MARK Colon ∷ h.«break» ++ (WORD BeginWord ∷ NL ∷ []) = cc in
-    ap (λ (s : Symbol). fold step (outside units s t.line) ts) is ∙ named-run (begin_unit units name t.line) h.«break» ts rest h.is_break
+    ap (λ (s : Symbol). fold read_step (outside units s t.line) ts) is ∙ named_run (begin_unit units name t.line) h.«break» ts rest h.is_break
     ∙ ap (λ (l : ℕ). In (begin_unit units name l) (Inside false)) h.are.starts
 
-tail-run : (b : Reading) (colon : Bool) (ts : List Terminal) → symbols ts ≡ WORD EndWord ∷ NL ∷ [] → fold step (In b (Inside colon)) ts ≡ Outside (b.units ++ b.unit ∷ [])
-tail-run b colon ts h =
-    let one = run-on (In b (Inside colon)) (In b Ended) (WORD EndWord) (NL ∷ []) ts h (λ at. refl) in
-    let two = run-on (In b Ended) (Outside (b.units ++ b.unit ∷ [])) NL [] one.0 one.1 (λ at. refl) in
-    one.2 ∙ two.2 ∙ run-end (Outside (b.units ++ b.unit ∷ [])) two.0 two.1
+-- `end` closes the unit, also after a label
+tail_run : (b : Reading) (colon : Bool) (ts : List Terminal) → symbols ts ≡ WORD EndWord ∷ NL ∷ [] → fold read_step (In b (Inside colon)) ts ≡ Outside (b.units ++ b.unit ∷ [])
+tail_run b colon ts h =
+    let one = run_on (In b (Inside colon)) (In b Ended) (WORD EndWord) (NL ∷ []) ts h (λ at. refl) in
+    let two = run_on (In b Ended) (Outside (b.units ++ b.unit ∷ [])) NL [] one.0 one.1 (λ at. refl) in
+    one.2 ∙ two.2 ∙ run_end (Outside (b.units ++ b.unit ∷ [])) two.0 two.1
 
-unit-run : (units : List RawUnitShape) (u : RawUnitShape) (ts : List Terminal) → IsUnit ts u → fold step (Outside units) ts ≡ Outside (units ++ u ∷ [])
-unit-run units u ts h =
-    let rows = rows-run (begin_unit units u.name u.line) h.body u.labels u.body h.is_body in
-    ap (λ (l : List Terminal). fold step (Outside units) l) (h.text ∙ append_assoc h.head h.body h.tail) ∙ fold-append step (Outside units) h.head (h.body ++ h.tail)
-    ∙ ap (λ (st : State). fold step st (h.body ++ h.tail)) (head-run units u.name u.line h.head h.is_head)
-    ∙ fold-append step (In (begin_unit units u.name u.line) (Inside false)) h.body h.tail ∙ ap (λ (st : State). fold step st h.tail) rows.1
-    ∙ tail-run (grown (begin_unit units u.name u.line) u.labels u.body) rows.0 h.tail h.is_tail
+-- the tokens of a unit add it to the units read so far
+unit_run : (units : List RawUnitShape) (u : RawUnitShape) (ts : List Terminal) → IsUnit ts u → fold read_step (Outside units) ts ≡ Outside (units ++ u ∷ [])
+unit_run units u ts h =
+    let rows = rows_run (begin_unit units u.name u.line) h.body u.labels u.body h.is_body in
+    ap (λ (l : List Terminal). fold read_step (Outside units) l) (h.text ∙ append_assoc h.head h.body h.tail) ∙ fold-append read_step (Outside units) h.head (h.body ++ h.tail)
+    ∙ ap (λ (st : State). fold read_step st (h.body ++ h.tail)) (head_run units u.name u.line h.head h.is_head)
+    ∙ fold-append read_step (In (begin_unit units u.name u.line) (Inside false)) h.body h.tail ∙ ap (λ (st : State). fold read_step st h.tail) rows.1
+    ∙ tail_run (grown (begin_unit units u.name u.line) u.labels u.body) rows.0 h.tail h.is_tail
 
 -- a text is read as its units
-pub text-run : (ts : List Terminal) (units : List RawUnitShape) → IsText ts units → reads ts ≡ Outside units
-text-run _ _ no_unit = refl
-text-run _ _ (more {ts} {us} {units} u text is) = fold-append step (Outside []) ts us ∙ ap (λ (st : State). fold step st us) (text-run ts units text) ∙ unit-run units u us is
+pub text_run : (ts : List Terminal) (units : List RawUnitShape) → IsText ts units → reads ts ≡ Outside units
+text_run _ _ no_unit = refl
+text_run _ _ (more {ts} {us} {units} u text is) = fold-append read_step (Outside []) ts us ∙ ap (λ (st : State). fold read_step st us) (text_run ts units text) ∙ unit_run units u us is

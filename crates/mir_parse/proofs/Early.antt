@@ -7,17 +7,18 @@ use Rattle.std.proofs.lemmas.List.Sums.{fold-append}
 use Rattle.mir_lex.specs.declared.terminals.Terminal.{Terminal}
 use Rattle.mir_parse.specs.declared.state.State.{State}
 use Rattle.mir_parse.specs.declared.state.State.TheVariants.{Outside, Dead}
-use Rattle.mir_parse.specs.Reader.{step, reads}
-use Rattle.mir_parse.proofs.Exact.{dead-run}
+use Rattle.mir_parse.specs.Reader.{read_step, reads}
+use Rattle.mir_parse.proofs.Exact.{dead_run}
 
-pub dead-early : (ts : List Terminal) (count : ℕ) (state : State) (line : ℕ) → state ≡ reads (take count ts) → state ≡ Dead line → Dead line ≡ reads ts
-dead-early ts count state line is dead =
-    sym (ap reads (sym (take-append-drop count ts)) ∙ fold-append step (Outside []) (take count ts) (drop count ts) ∙ ap (λ (s : State). fold step s (drop count ts)) (sym is ∙ dead)
-    ∙ dead-run line (drop count ts))
+-- a state that is dead is the one after all tokens too
+pub dead_early : (ts : List Terminal) (count : ℕ) (state : State) (line : ℕ) → state ≡ reads (take count ts) → state ≡ Dead line → Dead line ≡ reads ts
+dead_early ts count state line is dead =
+    sym (ap reads (sym (take-append-drop count ts)) ∙ fold-append read_step (Outside []) (take count ts) (drop count ts) ∙ ap (λ (s : State). fold read_step s (drop count ts)) (sym is ∙ dead)
+    ∙ dead_run line (drop count ts))
 
 -- one more token
-pub read-more : (ts : List Terminal) (count : ℕ) (state next : State) (terminal : Terminal) → state ≡ reads (take count ts) → slice_get ts count ≡ Some terminal → next ≡ step state terminal → next ≡ reads (take (count + 1) ts)
-read-more ts count state next terminal before found is =
+pub read_more : (ts : List Terminal) (count : ℕ) (state next : State) (terminal : Terminal) → state ≡ reads (take count ts) → slice_get ts count ≡ Some terminal → next ≡ read_step state terminal → next ≡ reads (take (count + 1) ts)
+read_more ts count state next terminal before found is =
     let longer : take (count + 1) ts ≡ take count ts ++ terminal ∷ [] =
     take_more ts count terminal (slice_get_within ts count terminal found) ∙ ap (λ (t : Terminal). take count ts ++ t ∷ []) (get_or_from_slice_get ts count terminal terminal found) in
-    is ∙ ap (λ (s : State). step s terminal) before ∙ sym (fold-append step (Outside []) (take count ts) (terminal ∷ [])) ∙ ap reads (sym longer)
+    is ∙ ap (λ (s : State). read_step s terminal) before ∙ sym (fold-append read_step (Outside []) (take count ts) (terminal ∷ [])) ∙ ap reads (sym longer)

@@ -4,90 +4,95 @@ use Rattle.mir_lex.specs.declared.tokens.Token.{Token}
 use Rattle.mir_lex.specs.declared.terminals.Terminal.{Terminal}
 use Rattle.mir_lex.specs.declared.faults.LexFault.{LexFault}
 use Rattle.mir_lex.specs.Terminals.{terminals}
-use Rattle.mir_lex.specs.Spelling.{IsTokens, IsRefusal, IsMemory as IsLexMemory}
+use Rattle.mir_lex.specs.Spelling.{IsTokens, IsRefusal, IsLexMemory}
 use Rattle.mir_parse.specs.declared.raw.Raw.{Raw}
 use Rattle.mir_parse.specs.declared.faults.ParseFault.{ParseFault}
 use Rattle.mir_parse.specs.declared.faults.ParseFault.TheVariants.{Unexpected, Ended, Memory}
 use Rattle.mir_parse.specs.declared.faults.TextFault.{TextFault}
 use Rattle.mir_parse.specs.declared.faults.TextFault.TheVariants.{Lex, Parse}
 use Rattle.mir_parse.specs.RawUnit.{RawUnitShape}
-use Rattle.mir_parse.specs.Fault.{IsMemory}
+use Rattle.mir_parse.specs.Fault.{IsParseMemory}
 use Rattle.mir_parse.specs.Grammar.{IsText, IsUnexpected, IsEnded}
 use Rattle.mir_parse.specs.Spells.{Spells, IsTextRefusal, TokensRefused}
-use Rattle.mir_parse.proofs.Exact.{text-same, unexpected-dead, outside-unexpected, outside-ended, dead-ended}
-use Rattle.mir_parse.proofs.Complete.{text-run}
+use Rattle.mir_parse.proofs.Exact.{text_same, unexpected_dead, outside_unexpected, outside_ended, dead_ended}
+use Rattle.mir_parse.proofs.Complete.{text_run}
 
 -- a fact of the terminals of a text, at a text and tokens that are the same
 pub moved : (P : List Terminal → Type 0) (bytes text : List ℕ) (others items : List Token) → text ≡ bytes → items ≡ others → P (terminals bytes others) → P (terminals text items)
 moved P bytes text others items same_text same_items h =
     subst (λ (l : List ℕ). P (terminals l items)) (sym same_text) (subst (λ (ts : List Token). P (terminals bytes ts)) (sym same_items) h)
 
-pub raw-same : (one other : Raw) → one.units ≡ other.units → one ≡ other
-raw-same one other h = ap (λ (units : List RawUnitShape). record { units = units }) h
+-- a raw program is its units
+pub raw_same : (one other : Raw) → one.units ≡ other.units → one ≡ other
+raw_same one other h = ap (λ (units : List RawUnitShape). record { units = units }) h
 
 -- no text spells two raw programs, where it has at most one list of tokens
-pub spells-same : (bytes : List ℕ) → ((one other : List Token) → IsTokens bytes one → IsTokens bytes other → one ≡ other) → (one other : Raw) → Spells bytes one → Spells bytes other → one ≡ other
-spells-same bytes unique one other is also =
+pub spells_same : (bytes : List ℕ) → ((one other : List Token) → IsTokens bytes one → IsTokens bytes other → one ≡ other) → (one other : Raw) → Spells bytes one → Spells bytes other → one ≡ other
+spells_same bytes unique one other is also =
     let items = unique is.items also.items is.tokens also.tokens in
-    raw-same one other (text-same (terminals bytes is.items) one.units other.units is.text (moved (λ ts. IsText ts other.units) bytes bytes also.items is.items refl items also.text))
+    raw_same one other (text_same (terminals bytes is.items) one.units other.units is.text (moved (λ ts. IsText ts other.units) bytes bytes also.items is.items refl items also.text))
 
 -- a refusal, by its cause
-pub by-cause : (bytes : List ℕ) (P : TextFault → Type 0)
+pub by_cause : (bytes : List ℕ) (P : TextFault → Type 0)
     → ((fault : LexFault) → IsRefusal bytes fault → P (Lex fault))
     → ((line : ℕ) (items : List Token) → IsTokens bytes items → IsUnexpected (terminals bytes items) line → P (Parse (Unexpected line)))
     → ((items : List Token) → IsTokens bytes items → IsEnded (terminals bytes items) → P (Parse Ended))
     → (fault : TextFault) → IsTextRefusal bytes fault → P fault
-by-cause bytes P lex unexpected ended (Lex fault) h = lex fault h
-by-cause bytes P lex unexpected ended (Parse (Unexpected line)) h = unexpected line h.0 h.1 h.2
-by-cause bytes P lex unexpected ended (Parse Ended) h = ended h.0 h.1 h.2
-by-cause bytes P lex unexpected ended (Parse (Memory refused)) h = absurd h.2
+by_cause bytes P lex unexpected ended (Lex fault) h = lex fault h
+by_cause bytes P lex unexpected ended (Parse (Unexpected line)) h = unexpected line h.0 h.1 h.2
+by_cause bytes P lex unexpected ended (Parse Ended) h = ended h.0 h.1 h.2
+by_cause bytes P lex unexpected ended (Parse (Memory refused)) h = absurd h.2
 
--- the same refusal of the tokens, or want of memory
-pub same-parse : (other fault : ParseFault) → (other ≡ fault) ⊎ IsMemory other → (Parse other ≡ Parse fault) ⊎ IsMemory other
-same-parse other fault (inl same) = inl (ap Parse same)
-same-parse other fault (inr memory) = inr memory
+-- the same refusal of the tokens, or running out of memory, as a refusal of the text
+pub same_parse : (other fault : ParseFault) → (other ≡ fault) ⊎ IsParseMemory other → (Parse other ≡ Parse fault) ⊎ IsParseMemory other
+same_parse other fault (inl same) = inl (ap Parse same)
+same_parse other fault (inr memory) = inr memory
 
-pub same-lex : (other fault : LexFault) → (other ≡ fault) ⊎ IsLexMemory other → (Lex other ≡ Lex fault) ⊎ IsLexMemory other
-same-lex other fault (inl same) = inl (ap Lex same)
-same-lex other fault (inr memory) = inr memory
+-- the same refusal by `lex`, or running out of memory, as a refusal of the text
+pub same_lex : (other fault : LexFault) → (other ≡ fault) ⊎ IsLexMemory other → (Lex other ≡ Lex fault) ⊎ IsLexMemory other
+same_lex other fault (inl same) = inl (ap Lex same)
+same_lex other fault (inr memory) = inr memory
 
 -- ---- one refusal
 
 -- tokens are refused for at most one cause
-tokens-refused-same : (bytes : List ℕ) (items : List Token) (one other : ParseFault) → TokensRefused bytes items one → TokensRefused bytes items other → one ≡ other
-tokens-refused-same bytes items (Unexpected m) (Unexpected n) is also = let e = sym (unexpected-dead _ m is) ∙ unexpected-dead _ n also in cc
-tokens-refused-same bytes items (Unexpected m) Ended is also = absurd (dead-ended _ m (sym (unexpected-dead _ m is)) also)
-tokens-refused-same bytes items (Unexpected m) (Memory refusal) is also = absurd also
-tokens-refused-same bytes items Ended (Unexpected n) is also = absurd (dead-ended _ n (sym (unexpected-dead _ n also)) is)
-tokens-refused-same bytes items Ended Ended is also = refl
-tokens-refused-same bytes items Ended (Memory refusal) is also = absurd also
-tokens-refused-same bytes items (Memory refusal) other is also = absurd is
+tokens_refused_same : (bytes : List ℕ) (items : List Token) (one other : ParseFault) → TokensRefused bytes items one → TokensRefused bytes items other → one ≡ other
+tokens_refused_same bytes items (Unexpected m) (Unexpected n) is also = let e = sym (unexpected_dead _ m is) ∙ unexpected_dead _ n also in cc
+tokens_refused_same bytes items (Unexpected m) Ended is also = absurd (dead_ended _ m (sym (unexpected_dead _ m is)) also)
+tokens_refused_same bytes items (Unexpected m) (Memory refusal) is also = absurd also
+tokens_refused_same bytes items Ended (Unexpected n) is also = absurd (dead_ended _ n (sym (unexpected_dead _ n also)) is)
+tokens_refused_same bytes items Ended Ended is also = refl
+tokens_refused_same bytes items Ended (Memory refusal) is also = absurd also
+tokens_refused_same bytes items (Memory refusal) other is also = absurd is
 
 -- and those that are a text are not refused
-tokens-refused-none : (bytes : List ℕ) (items : List Token) (fault : ParseFault) (units : List RawUnitShape) → TokensRefused bytes items fault → IsText (terminals bytes items) units → ⊥
-tokens-refused-none bytes items (Unexpected line) units is text = outside-unexpected _ units (sym (text-run (terminals bytes items) units text)) line is
-tokens-refused-none bytes items Ended units is text = outside-ended _ units (sym (text-run (terminals bytes items) units text)) is
-tokens-refused-none bytes items (Memory refusal) units is text = is
+tokens_refused_none : (bytes : List ℕ) (items : List Token) (fault : ParseFault) (units : List RawUnitShape) → TokensRefused bytes items fault → IsText (terminals bytes items) units → ⊥
+tokens_refused_none bytes items (Unexpected line) units is text = outside_unexpected _ units (sym (text_run (terminals bytes items) units text)) line is
+tokens_refused_none bytes items Ended units is text = outside_ended _ units (sym (text_run (terminals bytes items) units text)) is
+tokens_refused_none bytes items (Memory refusal) units is text = is
 
+-- the text has at most one list of tokens
 abbrev OneRow : List ℕ → Type 0
 OneRow bytes = (one other : List Token) → IsTokens bytes one → IsTokens bytes other → one ≡ other
 
+-- the text is refused for at most one cause before it has tokens
 abbrev OneFault : List ℕ → Type 0
 OneFault bytes = (one other : LexFault) → IsRefusal bytes one → IsRefusal bytes other → one ≡ other
 
+-- a text that is refused has no tokens
 abbrev NoFault : List ℕ → Type 0
 NoFault bytes = (fault : LexFault) → IsRefusal bytes fault → (items : List Token) → IsTokens bytes items → ⊥
 
 -- a text is refused for at most one cause, where this is so of its tokens
-pub refusals-same : (bytes : List ℕ) → OneRow bytes → OneFault bytes → NoFault bytes → (one other : TextFault) → IsTextRefusal bytes one → IsTextRefusal bytes other → one ≡ other
-refusals-same bytes row fault none (Lex one) (Lex other) is also = ap Lex (fault one other is also)
-refusals-same bytes row fault none (Lex one) (Parse other) is also = absurd (none one is also.0 also.1)
-refusals-same bytes row fault none (Parse one) (Lex other) is also = absurd (none other also is.0 is.1)
-refusals-same bytes row fault none (Parse one) (Parse other) is also =
-    ap Parse (tokens-refused-same bytes is.0 one other is.2 (subst (λ (items : List Token). TokensRefused bytes items other) (row also.0 is.0 also.1 is.1) also.2))
+pub refusals_same : (bytes : List ℕ) → OneRow bytes → OneFault bytes → NoFault bytes → (one other : TextFault) → IsTextRefusal bytes one → IsTextRefusal bytes other → one ≡ other
+refusals_same bytes row fault none (Lex one) (Lex other) is also = ap Lex (fault one other is also)
+refusals_same bytes row fault none (Lex one) (Parse other) is also = absurd (none one is also.0 also.1)
+refusals_same bytes row fault none (Parse one) (Lex other) is also = absurd (none other also is.0 is.1)
+refusals_same bytes row fault none (Parse one) (Parse other) is also =
+    ap Parse (tokens_refused_same bytes is.0 one other is.2 (subst (λ (items : List Token). TokensRefused bytes items other) (row also.0 is.0 also.1 is.1) also.2))
 
 -- and one that spells a raw program is not refused
-pub refusal-spells : (bytes : List ℕ) → OneRow bytes → NoFault bytes → (fault : TextFault) → IsTextRefusal bytes fault → (raw : Raw) → Spells bytes raw → ⊥
-refusal-spells bytes row none (Lex fault) is raw spells = none fault is spells.items spells.tokens
-refusal-spells bytes row none (Parse fault) is raw spells =
-    tokens-refused-none bytes spells.items fault raw.units (subst (λ (items : List Token). TokensRefused bytes items fault) (row is.0 spells.items is.1 spells.tokens) is.2) spells.text
+pub refusal_spells : (bytes : List ℕ) → OneRow bytes → NoFault bytes → (fault : TextFault) → IsTextRefusal bytes fault → (raw : Raw) → Spells bytes raw → ⊥
+refusal_spells bytes row none (Lex fault) is raw spells = none fault is spells.items spells.tokens
+refusal_spells bytes row none (Parse fault) is raw spells =
+    tokens_refused_none bytes spells.items fault raw.units (subst (λ (items : List Token). TokensRefused bytes items fault) (row is.0 spells.items is.1 spells.tokens) is.2) spells.text

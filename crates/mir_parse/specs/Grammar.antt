@@ -1,5 +1,5 @@
 -- The grammar. Each rule stands above the definition that says it; `NL` is a line end, quoted words are reserved words or
--- marks, braces mean any number of times and brackets at most once.
+-- marks, braces mean any number of times and brackets at most once. Cited by contracts.
 use Rattle.std.specs.Prelude.{ℕ, ◌≡◌, ◌⊎◌, List, [], ◌∷◌, ◌++◌, length, map, codes, Option, None, Some}
 use Rattle.mir_base.specs.declared.operators.Op.{Op}
 use Rattle.mir_base.specs.declared.operators.Op.TheVariants.{Add, Sub, Mul, Div, Mod, Min, Max, Eq, Ne, Lt, Le, Gt, Ge, Shl, Shr, Shra, And, Or, Xor}
@@ -10,6 +10,8 @@ use Rattle.mir_base.specs.declared.operators.RelOp.TheVariants.{Eq as IsEq, Ne a
 use Rattle.mir_lex.specs.declared.terminals.Symbol.{Symbol}
 use Rattle.mir_lex.specs.declared.terminals.Symbol.TheVariants.{Name as NAME, Word as WORD, Number as NUMBER, Mark as MARK, LineEnd as NL}
 use Rattle.mir_lex.specs.declared.terminals.Terminal.{Terminal}
+use Rattle.mir_lex.specs.Terminals.{terminals}
+use Rattle.mir_lex.specs.Tokens.{TokensShape}
 use Rattle.mir_lex.specs.declared.words.Mark.TheVariants.{Colon, Comma, Semicolon, LeftParen, RightParen, Plus, Minus, Star, Slash, Equal, NotEqual, Less, LessEqual, Greater, GreaterEqual, Bang, Arrow}
 use Rattle.mir_lex.specs.declared.words.Word.TheVariants.{Begin as BeginWord, End as EndWord, Receive as ReceiveWord, Goto as GotoWord, If as IfWord, Call as CallWord, Return as ReturnWord, Print as PrintWord, Mod as ModWord, Min as MinWord, Max as MaxWord, Shl as ShlWord, Shr as ShrWord, Shra as ShraWord, And as AndWord, Or as OrWord, Xor as XorWord}
 use Rattle.mir_parse.specs.declared.raw.RawOperand.{RawOperand}
@@ -120,6 +122,10 @@ IsForm ss (Return (Some a)) = ss ≡ WORD ReturnWord ∷ operand_symbol a ∷ []
 
 -- ---- tokens with lines
 
+-- the tokens of a text as the grammar reads them
+abbrev pub terminals_of : TokensShape → List Terminal
+terminals_of tokens = terminals tokens.text tokens.items
+
 -- the terminal symbols of tokens
 abbrev pub symbols : List Terminal → List Symbol
 symbols ts = map (λ t. t.symbol) ts
@@ -183,19 +189,25 @@ pub data IsText : List Terminal → List RawUnitShape → Type 0 where
 -- ---- refusals
 
 -- the tokens are a prefix of a text of the grammar
-abbrev pub IsFront : List Terminal → Type 0
-IsFront ts = (rest : List Terminal) × (units : List RawUnitShape) × IsText (ts ++ rest) units
+abbrev pub IsTextPrefix : List Terminal → Type 0
+IsTextPrefix ts = (remainder : List Terminal) × (units : List RawUnitShape) × IsText (ts ++ remainder) units
 
 -- the first token that makes the tokens up to it no prefix of a text stands on this line
 pub record IsUnexpected (ts : List Terminal) (line : ℕ) : Type 0 where
-  pub front : List Terminal
+  pub prefix : List Terminal
   pub bad : Terminal
-  pub rest : List Terminal
-  pub tokens : ts ≡ front ++ bad ∷ rest
-  pub good : IsFront front
-  pub no_front : IsFront (front ++ bad ∷ []) → ⊥
+  pub remainder : List Terminal
+  pub tokens : ts ≡ prefix ++ bad ∷ remainder
+  pub good : IsTextPrefix prefix
+  pub no_prefix : IsTextPrefix (prefix ++ bad ∷ []) → ⊥
   pub at : bad.line ≡ line
 
 -- the tokens are a prefix of a text, and no text
 abbrev pub IsEnded : List Terminal → Type 0
-IsEnded ts = IsFront ts × ((units : List RawUnitShape) → IsText ts units → ⊥)
+IsEnded ts = IsTextPrefix ts × ((units : List RawUnitShape) → IsText ts units → ⊥)
+
+-- ---- laws
+
+-- the tokens spell at most one list of units
+abbrev pub UnitsAreUnique : List Terminal → Type 0
+UnitsAreUnique ts = (one other : List RawUnitShape) → IsText ts one → IsText ts other → one ≡ other

@@ -3,3 +3,4 @@ pub mod Grammar
 pub mod Reader
 pub mod Fault
 pub mod Spells
+pub mod Answers

@@ -1,4 +1,4 @@
--- Raw units as contracts see them: each label stands at an instruction, or behind the last one.
+-- Raw units as contracts see them: each label stands at an instruction, or behind the last one. Cited by contracts.
 use Rattle.std.specs.Prelude.{ℕ, ◌≤◌, List, [], ◌∷◌, ◌++◌, length}
 use Rattle.std.specs.List.{All}
 use Rattle.mir_parse.specs.declared.raw.RawForm.{RawForm}

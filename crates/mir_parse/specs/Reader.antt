@@ -1,8 +1,10 @@
--- The reader: what each token makes of what was read before it.
-use Rattle.std.specs.Prelude.{ℕ, ℤ, Bool, true, false, List, [], ◌∷◌, ◌++◌, fold, nat_eq, codes, Option, None, Some, if◌then◌else◌}
+-- The reader: what each token makes of what was read before it. A comment names what stands before the token. Cited by
+-- contracts of functions that are not public.
+use Rattle.std.specs.Prelude.{◌≡◌, slice_get, Result, IfOk, ℕ, ℤ, Bool, true, false, List, [], ◌∷◌, ◌++◌, fold, nat_eq, codes, option_map, Option, None, Some, if◌then◌else◌}
 use Rattle.std.specs.Cmp.Lexicographic.{pointwise}
 use Rattle.mir_base.specs.declared.operators.Op.{Op}
-use Rattle.mir_base.specs.declared.operators.Op.TheVariants.{Add, Sub, Mul, Div, Mod, Min, Max, Eq, Ne, Lt, Le, Gt, Ge, Shl, Shr, Shra, And, Or, Xor}
+use Rattle.mir_base.specs.declared.operators.Op.TheVariants.{Add, Sub, Mul, Div, Mod, Min, Max, Shl, Shr, Shra, And, Or, Xor}
+use Rattle.mir_base.specs.Operators.{op_of_relation}
 use Rattle.mir_base.specs.declared.operators.UnOp.TheVariants.{Neg, Not}
 use Rattle.mir_base.specs.declared.operators.RelOp.{RelOp}
 use Rattle.mir_base.specs.declared.operators.RelOp.TheVariants.{Eq as IsEq, Ne as IsNe, Lt as IsLt, Le as IsLe, Gt as IsGt, Ge as IsGe}
@@ -51,13 +53,7 @@ op_of_mark Plus = Some Add
 op_of_mark Minus = Some Sub
 op_of_mark Star = Some Mul
 op_of_mark Slash = Some Div
-op_of_mark Equal = Some Eq
-op_of_mark NotEqual = Some Ne
-op_of_mark Less = Some Lt
-op_of_mark LessEqual = Some Le
-op_of_mark Greater = Some Gt
-op_of_mark GreaterEqual = Some Ge
-op_of_mark mark = None
+op_of_mark mark = option_map op_of_relation (relop_of_mark mark)
 
 -- the operator on two operands that a reserved word names
 abbrev pub op_of_word : Word → Option Op
@@ -72,7 +68,7 @@ op_of_word OrWord = Some Or
 op_of_word XorWord = Some Xor
 op_of_word word = None
 
--- where only an operand may stand
+-- the part with the operand in the place that waited for one
 abbrev pub filled : Hole → RawOperand → Part
 filled (OfUnary x op) operand = Full (Assign x (Unary op operand))
 filled (OfBinary x op left) operand = Full (Assign x (Binary op left operand))
@@ -81,33 +77,25 @@ filled OfFails operand = Tested (Fails operand)
 filled (OfRel op left) operand = Tested (Rel op left operand)
 filled OfPrint operand = Full (Print operand)
 
--- where only an operand may stand
+-- a place where only an operand may stand
 abbrev pub wants : Hole → Symbol → Next
 wants hole (NAME x) = Go (filled hole (Var x))
 wants hole (NUMBER z) = Go (filled hole (Const z))
 wants hole symbol = No
 
--- where only this mark may stand
-abbrev pub comma_then : Part → Symbol → Next
-comma_then part (MARK Comma) = Go part
-comma_then part symbol = No
+-- a place where only this mark, which is `,`, `(` or `)`, may stand
+abbrev pub mark_then : Mark → Part → Symbol → Next
+mark_then Comma part (MARK Comma) = Go part
+mark_then LeftParen part (MARK LeftParen) = Go part
+mark_then RightParen part (MARK RightParen) = Go part
+mark_then mark part symbol = No
 
--- where only `(` may stand
-abbrev pub open_then : Part → Symbol → Next
-open_then part (MARK LeftParen) = Go part
-open_then part symbol = No
-
--- where only `)` may stand
-abbrev pub close_then : Part → Symbol → Next
-close_then part (MARK RightParen) = Go part
-close_then part symbol = No
-
--- where only this name may stand
+-- a place where only this name may stand
 abbrev pub name_then : List ℕ → Part → Symbol → Next
 name_then x part (NAME y) = if pointwise nat_eq y x then Go part else No
 name_then x part symbol = No
 
--- the first token of an instruction
+-- nothing: the first token of an instruction
 abbrev pub fresh : Symbol → Next
 fresh (NAME x) = Go (Named x)
 fresh (WORD ReceiveWord) = Go PReceive
@@ -118,18 +106,18 @@ fresh (WORD PrintWord) = Go (Wants OfPrint)
 fresh (WORD ReturnWord) = Go PReturn
 fresh symbol = No
 
--- behind `receive`
+-- after `receive`
 abbrev pub receive_word : Symbol → Next
 receive_word (NAME x) = Go (ReceiveName x)
 receive_word symbol = No
 
--- behind a name at the start: it is a label or is assigned to
+-- after a name at the start: it is a label or is assigned to
 abbrev pub named : List ℕ → Symbol → Next
 named x (MARK Colon) = Label x
 named x (MARK Arrow) = Go (Arrowed x)
 named x symbol = No
 
--- behind `x <-`
+-- after `x <-`
 abbrev pub arrowed : List ℕ → Symbol → Next
 arrowed x (NAME y) = Go (PlainName x y)
 arrowed x (NUMBER z) = Go (PlainNumber x z)
@@ -143,7 +131,7 @@ abbrev pub binary_with : List ℕ → RawOperand → Option Op → Next
 binary_with x a None = No
 binary_with x a (Some op) = Go (Wants (OfBinary x op a))
 
--- behind `x <- y`, where y may also be a unit that is called
+-- after `x <- y`, where y may also be a unit that is called
 abbrev pub plain_name : List ℕ → List ℕ → Symbol → Next
 plain_name x y (MARK Comma) = Go (Opening (Some x) y)
 plain_name x y (MARK mark) = binary_with x (Var y) (op_of_mark mark)
@@ -151,35 +139,35 @@ plain_name x y (WORD word) = binary_with x (Var y) (op_of_word word)
 plain_name x y NL = Done (Assign x (Plain (Var y)))
 plain_name x y symbol = No
 
--- behind `x <- 1`
+-- after `x <- 1`
 abbrev pub plain_number : List ℕ → ℤ → Symbol → Next
 plain_number x z (MARK mark) = binary_with x (Const z) (op_of_mark mark)
 plain_number x z (WORD word) = binary_with x (Const z) (op_of_word word)
 plain_number x z NL = Done (Assign x (Plain (Const z)))
 plain_number x z symbol = No
 
--- behind `call`
+-- after `call`
 abbrev pub call_word : Option (List ℕ) → Symbol → Next
 call_word x (NAME f) = Go (Callee x f)
 call_word x symbol = No
 
--- behind the `(` of a call: its end, or the first argument
+-- after the `(` of a call: its end, or the first argument
 abbrev pub first_arg : Option (List ℕ) → List ℕ → Symbol → Next
 first_arg x f (MARK RightParen) = Go (Full (Call x f []))
 first_arg x f symbol = wants (OfArg x f []) symbol
 
--- behind an argument and its type: one more argument, or the end of the call
+-- after an argument and its type: one more argument, or the end of the call
 abbrev pub typed : Option (List ℕ) → List ℕ → List RawOperand → Symbol → Next
 typed x f args (MARK Semicolon) = Go (Wants (OfArg x f args))
 typed x f args (MARK RightParen) = Go (Full (Call x f args))
 typed x f args symbol = No
 
--- behind `goto`
+-- after `goto`
 abbrev pub goto_word : Symbol → Next
 goto_word (NAME label) = Go (Full (Goto label))
 goto_word symbol = No
 
--- behind `if`
+-- after `if`
 abbrev pub if_word : Symbol → Next
 if_word (NAME x) = Go (IfOperand (Var x))
 if_word (NUMBER z) = Go (IfOperand (Const z))
@@ -191,30 +179,30 @@ abbrev pub rel_with : RawOperand → Option RelOp → Next
 rel_with a None = No
 rel_with a (Some op) = Go (Wants (OfRel op a))
 
--- behind `if a`: the test is the operand, or a relation
+-- after `if a`: the test is the operand, or a relation
 abbrev pub if_operand : RawOperand → Symbol → Next
 if_operand a (WORD GotoWord) = Go (IfGoto (Holds a))
 if_operand a (MARK mark) = rel_with a (relop_of_mark mark)
 if_operand a symbol = No
 
--- behind a whole test
+-- after a whole test
 abbrev pub tested : RawTest → Symbol → Next
 tested test (WORD GotoWord) = Go (IfGoto test)
 tested test symbol = No
 
--- behind `if test goto`
+-- after `if test goto`
 abbrev pub if_goto : RawTest → Symbol → Next
 if_goto test (NAME label) = Go (Full (If test label))
 if_goto test symbol = No
 
--- behind `return`: an operand, or the end of the line
+-- after `return`: an operand, or the end of the line
 abbrev pub return_word : Symbol → Next
 return_word (NAME x) = Go (Full (Return (Some (Var x))))
 return_word (NUMBER z) = Go (Full (Return (Some (Const z))))
 return_word NL = Done (Return None)
 return_word symbol = No
 
--- behind a whole instruction
+-- after a whole instruction
 abbrev pub full : RawForm → Symbol → Next
 full f NL = Done f
 full f symbol = No
@@ -223,19 +211,19 @@ full f symbol = No
 abbrev pub part_step : Part → Symbol → Next
 part_step Fresh symbol = fresh symbol
 part_step PReceive symbol = receive_word symbol
-part_step (ReceiveName x) symbol = open_then (ReceiveOpen x) symbol
+part_step (ReceiveName x) symbol = mark_then LeftParen (ReceiveOpen x) symbol
 part_step (ReceiveOpen x) symbol = name_then (codes "val") (ReceiveVal x) symbol
-part_step (ReceiveVal x) symbol = close_then (Full (Receive x)) symbol
+part_step (ReceiveVal x) symbol = mark_then RightParen (Full (Receive x)) symbol
 part_step (Named x) symbol = named x symbol
 part_step (Arrowed x) symbol = arrowed x symbol
 part_step (PlainName x y) symbol = plain_name x y symbol
 part_step (PlainNumber x z) symbol = plain_number x z symbol
 part_step (Wants hole) symbol = wants hole symbol
 part_step (PCall x) symbol = call_word x symbol
-part_step (Callee x f) symbol = comma_then (Opening x f) symbol
-part_step (Opening x f) symbol = open_then (FirstArg x f) symbol
+part_step (Callee x f) symbol = mark_then Comma (Opening x f) symbol
+part_step (Opening x f) symbol = mark_then LeftParen (FirstArg x f) symbol
 part_step (FirstArg x f) symbol = first_arg x f symbol
-part_step (Given x f args) symbol = comma_then (Typing x f args) symbol
+part_step (Given x f args) symbol = mark_then Comma (Typing x f args) symbol
 part_step (Typing x f args) symbol = name_then (codes "int") (Typed x f args) symbol
 part_step (Typed x f args) symbol = typed x f args symbol
 part_step PGoto symbol = goto_word symbol
@@ -246,7 +234,7 @@ part_step (IfGoto test) symbol = if_goto test symbol
 part_step PReturn symbol = return_word symbol
 part_step (Full f) symbol = full f symbol
 
--- a unit begins with its name
+-- the whole units, and one of which only the name was read
 abbrev pub begin_unit : List RawUnitShape → List ℕ → ℕ → Reading
 begin_unit units name line = record { units = units; unit = unit_begun name line }
 
@@ -258,30 +246,30 @@ with_inst reading line form = record reading { unit = unit_with_inst reading.uni
 abbrev pub with_label : Reading → ℕ → List ℕ → Reading
 with_label reading line name = record reading { unit = unit_with_label reading.unit line name }
 
--- at is the line of the token, line that of the instruction
-abbrev pub after : Reading → ℕ → ℕ → Next → State
-after reading line at No = Dead at
-after reading line at (Go part) = In reading (Mid line part)
-after reading line at (Done form) = In (with_inst reading line form) (Inside false)
-after reading line at (Label name) = In (with_label reading line name) (Inside true)
+-- what a token on line `at` made of an instruction that began on `line`
+abbrev pub reading_after : Reading → ℕ → ℕ → Next → State
+reading_after reading line at No = Dead at
+reading_after reading line at (Go part) = In reading (Mid line part)
+reading_after reading line at (Done form) = In (with_inst reading line form) (Inside false)
+reading_after reading line at (Label name) = In (with_label reading line name) (Inside true)
 
 -- between two units
 abbrev pub outside : List RawUnitShape → Symbol → ℕ → State
 outside units (NAME x) at = In (begin_unit units x at) UnitNamed
 outside units symbol at = Dead at
 
--- behind the name of a unit
+-- after the name of a unit
 abbrev pub unit_named : Reading → Symbol → ℕ → State
 unit_named reading (MARK Colon) at = In reading (Headed true)
 unit_named reading symbol at = Dead at
 
--- behind the name and the colon of a unit
+-- after the name and the colon of a unit
 abbrev pub headed : Reading → Bool → Symbol → ℕ → State
 headed reading after_colon (WORD BeginWord) at = In reading Begun
 headed reading true NL at = In reading (Headed false)
 headed reading after_colon symbol at = Dead at
 
--- behind `begin`
+-- after `begin`
 abbrev pub begun : Reading → Symbol → ℕ → State
 begun reading NL at = In reading (Inside false)
 begun reading symbol at = Dead at
@@ -290,9 +278,9 @@ begun reading symbol at = Dead at
 abbrev pub inside : Reading → Bool → Symbol → ℕ → State
 inside reading after_colon (WORD EndWord) at = In reading Ended
 inside reading true NL at = In reading (Inside false)
-inside reading after_colon symbol at = after reading at at (fresh symbol)
+inside reading after_colon symbol at = reading_after reading at at (fresh symbol)
 
--- behind `end`
+-- after `end`
 abbrev pub ended : Reading → Symbol → ℕ → State
 ended reading NL at = Outside (reading.units ++ reading.unit ∷ [])
 ended reading symbol at = Dead at
@@ -303,21 +291,38 @@ spot_step reading UnitNamed symbol at = unit_named reading symbol at
 spot_step reading (Headed after_colon) symbol at = headed reading after_colon symbol at
 spot_step reading Begun symbol at = begun reading symbol at
 spot_step reading (Inside after_colon) symbol at = inside reading after_colon symbol at
-spot_step reading (Mid line part) symbol at = after reading line at (part_step part symbol)
+spot_step reading (Mid line part) symbol at = reading_after reading line at (part_step part symbol)
 spot_step reading Ended symbol at = ended reading symbol at
 
--- what a token made of the unit that is read, which was left as it is here
-abbrev pub turned : Turn → Reading → Spot → ℕ → State
-turned Goes reading spot at = In reading spot
-turned Ends reading spot at = Outside (reading.units ++ reading.unit ∷ [])
-turned Stops reading spot at = Dead at
+-- the state after a token that turned the unit to this, with what was read and the place in it after the token
+abbrev pub unit_turned : Turn → Reading → Spot → ℕ → State
+unit_turned Goes reading spot at = In reading spot
+unit_turned Ends reading spot at = Outside (reading.units ++ reading.unit ∷ [])
+unit_turned Stops reading spot at = Dead at
+
+-- the token turned the unit so that this is the state after it, unless memory runs out
+abbrev pub Turns : {E : Type 0} → State → Reading → Spot → ℕ → Result Turn E → Type 0
+Turns state reading spot at result = IfOk result (λ turn. unit_turned turn reading spot at ≡ state)
+
+-- the same for a token that leaves what was read as it is
+abbrev pub TurnsEach : (Reading → ℕ → State) → Spot → Turn → Type 0
+TurnsEach step spot turn = (reading : Reading) → (at : ℕ) → unit_turned turn reading spot at ≡ step reading at
+
+-- the second state is what a token made of the first one, in a unit
+abbrev pub state_turned : Turn → State → ℕ → State → Type 0
+state_turned turn (In reading spot) at next = next ≡ unit_turned turn reading spot at
+state_turned turn state at next = Unit {0}
 
 -- what a token makes of what was read
-abbrev pub step : State → Terminal → State
-step (Outside units) token = outside units token.symbol token.line
-step (In reading spot) token = spot_step reading spot token.symbol token.line
-step (Dead line) token = Dead line
+abbrev pub read_step : State → Terminal → State
+read_step (Outside units) token = outside units token.symbol token.line
+read_step (In reading spot) token = spot_step reading spot token.symbol token.line
+read_step (Dead line) token = Dead line
 
 -- what was read after these tokens
 abbrev pub reads : List Terminal → State
-reads ts = fold step (Outside []) ts
+reads ts = fold read_step (Outside []) ts
+
+-- the second state is what the token of this number makes of the first one
+abbrev pub HasStepped : List Terminal → ℕ → State → State → Type 0
+HasStepped ts number state next = (terminal : Terminal) × (slice_get ts number ≡ Some terminal) × (next ≡ read_step state terminal)

@@ -1,22 +1,20 @@
 // What is true of every text and every list of tokens.
-ghost use Rattle.std.specs.Prelude.{◌≡◌, ℕ, List};
-ghost use Rattle.mir_parse.specs.declared.raw.Raw.{Raw as ARaw};
-ghost use Rattle.mir_parse.specs.declared.faults.TextFault.{TextFault as AFault};
-ghost use Rattle.mir_parse.specs.Spells.{Spells, IsTextRefusal};
+ghost use Rattle.std.specs.Prelude.{ℕ, List};
+ghost use Rattle.mir_parse.specs.Spells.{RawIsUnique, TextRefusalIsUnique, RefusedSpellsNothing};
 
 use mir_lex::tokens_are_unique;
 
-/// A law: no text spells two raw programs. It takes no memory.
+/// A law: no text spells two raw programs. It does not allocate.
 pub fn raw_is_unique()
-    ensures { (text : List ℕ) → (one other : ARaw) → Spells text one → Spells text other → one ≡ other }
+    ensures { (text : List ℕ) → RawIsUnique text }
 {
     tokens_are_unique();
 }
 
-/// A law: no text is refused for two causes, and none that spells a raw program is refused. It takes no memory.
+/// A law: no text is refused for two causes, and none that spells a raw program is refused. It does not allocate.
 pub fn refusal_is_unique()
-    ensures one { (text : List ℕ) → (one other : AFault) → IsTextRefusal text one → IsTextRefusal text other → one ≡ other }
-    ensures none { (text : List ℕ) → (fault : AFault) → IsTextRefusal text fault → (raw : ARaw) → Spells text raw → ⊥ }
+    ensures one { (text : List ℕ) → TextRefusalIsUnique text }
+    ensures none { (text : List ℕ) → RefusedSpellsNothing text }
 {
     tokens_are_unique();
     mir_lex::refusal_is_unique();

@@ -15,8 +15,6 @@ mod parts;
 mod raw;
 mod reading;
 mod state;
-#[cfg(test)]
-mod tests;
 mod units;
 
 pub use faults::{ParseFault, TextFault};

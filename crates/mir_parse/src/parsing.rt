@@ -1,10 +1,8 @@
 // From tokens to a raw program.
-ghost use Rattle.std.specs.Prelude.{◌≡◌, ◌⊎◌, ℕ, List, IfOk, MatchResult, IsErrOf};
-ghost use Rattle.mir_lex.specs.Terminals.{terminals};
-ghost use Rattle.mir_parse.specs.RawUnit.{RawUnitShape};
-ghost use Rattle.mir_parse.specs.Grammar.{IsText, IsUnexpected, IsEnded};
-ghost use Rattle.mir_parse.specs.Reader.{reads};
-ghost use Rattle.mir_parse.specs.Fault.{IsMemory};
+ghost use Rattle.std.specs.Prelude.{◌≡◌, ◌<◌, length, OnOk, IfOk, IsErrOf};
+ghost use Rattle.mir_parse.specs.Grammar.{IsText, IsEnded, UnitsAreUnique, terminals_of};
+ghost use Rattle.mir_parse.specs.Reader.{reads, HasStepped};
+ghost use Rattle.mir_parse.specs.Answers.{IsRefusedFor, AnswersUnits, OnlyUnexpectedIsRefused, UnexpectedIsRefused};
 
 use crate::state::State;
 use crate::units::step;
@@ -12,47 +10,64 @@ use crate::{Memory, ParseFault, Raw};
 use mir_base::Items;
 use mir_lex::Tokens;
 use std::alloc::Global;
-
-// The state behind the last token, or behind the first one that cannot stand where it stands.
-fn read(alloc: Global, tokens: &Tokens) -> Result<State, Memory>
-    ensures { IfOk result (λ state. state ≡ reads (terminals tokens.now.text tokens.now.items)) }
-{
-    let mut state = State::Outside(Items::new(alloc));
-    for number in 0..tokens.items.items().len() {
-        if let State::Dead(line) = state {
-            return Ok(State::Dead(line));
-        }
-        let terminal = tokens.terminal(alloc, number)?;
-        state = step(alloc, state, terminal)?;
-    }
-    Ok(state)
-}
+use std::mem;
 
 /// The raw program that the tokens spell by the grammar of `specs/Grammar.antt`.
 ///
-/// It refuses with `Unexpected(line)` where some token makes the tokens up to it no prefix of a text of the grammar, with
-/// the line of the first such token, and with `Ended` where there is no such token and the tokens end inside a unit. Its
-/// other refusal is want of memory.
+/// It refuses with `Unexpected(line)` where some token makes the tokens up to it no prefix of a text of the grammar,
+/// with the line of the first such token, and with `Ended` where there is no such token and the tokens end inside a
+/// unit. It also fails when it runs out of memory.
 pub fn parse(alloc: Global, tokens: &Tokens) -> Result<Raw, ParseFault>
     // The raw program is spelled by the tokens, and one that is spelled is not refused, unless memory runs out.
-    ensures found { IfOk result (λ raw. IsText (terminals tokens.now.text tokens.now.items) raw.units) }
-    ensures only { (units : List RawUnitShape) → IsText (terminals tokens.now.text tokens.now.items) units → MatchResult result (λ raw. raw.units ≡ units) IsMemory }
+    ensures found { IfOk result (λ raw. IsText (terminals_of tokens.now) raw.units) }
+    ensures only { AnswersUnits result (terminals_of tokens.now) }
 
     // No tokens spell two raw programs.
-    ensures unique { (one other : List RawUnitShape) → IsText (terminals tokens.now.text tokens.now.items) one → IsText (terminals tokens.now.text tokens.now.items) other → one ≡ other }
+    ensures unique { UnitsAreUnique (terminals_of tokens.now) }
 
     // The line of a refusal is that of the first token that no text has there, and such a token is refused.
-    ensures unexpected { (line : ℕ) → IsErrOf result (ParseFault.Unexpected line) → IsUnexpected (terminals tokens.now.text tokens.now.items) line }
-    ensures unexpected_only { (line : ℕ) → IsUnexpected (terminals tokens.now.text tokens.now.items) line → MatchResult result (λ raw. ⊥) (λ fault. (fault ≡ ParseFault.Unexpected line) ⊎ IsMemory fault) }
+    ensures unexpected { OnlyUnexpectedIsRefused result (terminals_of tokens.now) }
+    ensures unexpected_only { UnexpectedIsRefused result (terminals_of tokens.now) }
 
     // The tokens end inside a unit, and such tokens are refused.
-    ensures ended { IsErrOf result ParseFault.Ended → IsEnded (terminals tokens.now.text tokens.now.items) }
-    ensures ended_only { IsEnded (terminals tokens.now.text tokens.now.items) → MatchResult result (λ raw. ⊥) (λ fault. (fault ≡ ParseFault.Ended) ⊎ IsMemory fault) }
+    ensures ended { IsErrOf result ParseFault.Ended → IsEnded (terminals_of tokens.now) }
+    ensures ended_only { IsEnded (terminals_of tokens.now) → IsRefusedFor result ParseFault.Ended }
 {
     match read(alloc, tokens) {
         Ok(State::Outside(units)) => Ok(Raw { units }),
         Ok(State::Dead(line)) => Err(ParseFault::Unexpected(line)),
-        Ok(State::In(_, _)) => Err(ParseFault::Ended),
+        Ok(State::In(reading, spot)) => {
+            mem::drop(reading);
+            mem::drop(spot);
+            Err(ParseFault::Ended)
+        }
         Err(refused) => Err(ParseFault::Memory(refused)),
     }
+}
+
+// The state behind the last token, or behind the first one that cannot stand where it stands. It fails only with
+// `Memory`.
+fn read(alloc: Global, tokens: &Tokens) -> Result<State, Memory>
+    ensures { IfOk result (λ state. state ≡ reads (terminals_of tokens.now)) }
+{
+    let mut state = State::Outside(Items::new(alloc));
+    for number in 0..tokens.items.items().len() {
+        if let State::Dead(_) = state {
+            return Ok(state);
+        }
+        if let Err(refused) = step_at(alloc, tokens, number, &mut state) {
+            mem::drop(state);
+            return Err(refused);
+        }
+    }
+    Ok(state)
+}
+
+// Changes the state as the token of this number does. It fails only with `Memory`.
+fn step_at(alloc: Global, tokens: &Tokens, number: usize, state: &mut State) -> Result<(), Memory>
+    requires { number < length tokens.now.items }
+    ensures { OnOk result (HasStepped (terminals_of tokens.now) number state.old state.new) }
+{
+    let terminal = tokens.terminal(alloc, number)?;
+    step(alloc, state, terminal)
 }

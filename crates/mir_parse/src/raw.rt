@@ -95,7 +95,7 @@ impl Model for RawUnit {
 
     ghost Value = { RawUnitShape };
 
-    ghost view = { λ unit. record { name = unit.name; line = unit.line; labels = unit.labels; body = unit.body } };
+    ghost view = { λ u. record { name = u.name; line = u.line; labels = u.labels; body = u.body } };
 
     ghost invariant = { λ unit. HasPlaces unit.labels unit.body };
 }

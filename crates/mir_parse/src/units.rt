@@ -1,8 +1,7 @@
-// What a token makes of the units that were read. `at` is the line of the token, and `line` that of an instruction that
-// began before it.
-ghost use Rattle.std.specs.Prelude.{◌≡◌, ◌++◌, [], ◌∷◌, ℕ, IfOk};
-ghost use Rattle.mir_parse.specs.declared.state.Reading.{Reading as AReading};
-ghost use Rattle.mir_parse.specs.Reader.{turned, after, outside, unit_named, headed, begun, inside, ended, spot_step, step};
+// What a token makes of the units that were read: `step` is called once for each token. `at` is the line of the token, and
+// `line` that of an instruction that began before it.
+ghost use Rattle.std.specs.Prelude.{◌≡◌, OnOk};
+ghost use Rattle.mir_parse.specs.Reader.{Turns, TurnsEach, state_turned, reading_after, outside, unit_named, headed, begun, inside, ended, spot_step, read_step};
 
 use crate::parts::{fresh, part_step};
 use crate::state::{Next, Reading, Spot, State, Turn};
@@ -12,18 +11,32 @@ use mir_lex::{Mark, Symbol, Terminal, Word};
 use std::alloc::Global;
 use std::mem;
 
-/// What the token makes of the state. It fails only with `Memory`.
-pub fn step(alloc: Global, state: State, token: Terminal) -> Result<State, Memory>
-    ensures { IfOk result (λ next_state. next_state ≡ step state token) }
+/// Changes the state as the token does. It fails only with `Memory`.
+pub fn step(alloc: Global, state: &mut State, token: Terminal) -> Result<(), Memory>
+    ensures { OnOk result (state.new ≡ read_step state.old token) }
 {
     match state {
-        State::Outside(units) => Ok(outside(alloc, units, token.symbol, token.line)),
-        State::In(reading, spot) => within(alloc, reading, spot, token.symbol, token.line),
-        State::Dead(line) => Ok(State::Dead(line)),
+        State::Outside(units) => {
+            let units = mem::replace(units, Items::new(alloc));
+            put(state, outside(alloc, units, token.symbol, token.line));
+            Ok(())
+        }
+        State::In(reading, spot) => {
+            let turn = spot_step(alloc, reading, spot, token.symbol, token.line)?;
+            turned(state, turn, token.line)
+        }
+        State::Dead(_) => Ok(()),
     }
 }
 
-// A token between two units, where only the name of a unit may stand.
+// Puts a state in the place of another, which is dropped.
+fn put(state: &mut State, next: State)
+    ensures { state.new ≡ next }
+{
+    mem::drop(mem::replace(state, next));
+}
+
+// The state after a token between two units, where only the name of a unit may stand.
 fn outside(alloc: Global, units: Items<RawUnit>, symbol: Symbol, at: usize) -> State
     ensures { result ≡ outside units symbol at }
 {
@@ -39,41 +52,38 @@ fn outside(alloc: Global, units: Items<RawUnit>, symbol: Symbol, at: usize) -> S
     }
 }
 
-// A token in a unit: the unit goes on, is whole, or cannot go on so.
-fn within(
-    alloc: Global,
-    reading: Reading,
-    spot: Spot,
-    symbol: Symbol,
-    at: usize,
-) -> Result<State, Memory>
-    ensures { IfOk result (λ next_state. next_state ≡ spot_step reading spot symbol at) }
-{
-    let mut reading = reading;
-    let mut spot = spot;
-    let turn = spot_step(alloc, &mut reading, &mut spot, symbol, at)?;
-    turned(turn, reading, spot, at)
-}
-
-// The state after a token that made this of the unit that is read.
-fn turned(turn: Turn, reading: Reading, spot: Spot, at: usize) -> Result<State, Memory>
-    ensures { IfOk result (λ next_state. next_state ≡ turned turn reading spot at) }
+// The state in a unit of which a token made this.
+fn turned(state: &mut State, turn: Turn, at: usize) -> Result<(), Memory>
+    ensures { OnOk result (state_turned turn state.old at state.new) }
 {
     match turn {
-        Turn::Goes => Ok(State::In(reading, spot)),
-        Turn::Ends => whole(reading),
-        Turn::Stops => Ok(State::Dead(at)),
+        Turn::Goes => Ok(()),
+        Turn::Ends => whole(state),
+        Turn::Stops => {
+            put(state, State::Dead(at));
+            Ok(())
+        }
     }
 }
 
-// The unit that is read stands behind the others.
-fn whole(reading: Reading) -> Result<State, Memory>
-    ensures { IfOk result (λ next_state. next_state ≡ State.Outside (reading.units ++ reading.unit ∷ [])) }
+// The unit that is read becomes the last of the whole units.
+fn whole(state: &mut State) -> Result<(), Memory>
+    ensures { OnOk result (state_turned Turn.Ends state.old 0 state.new) }
 {
-    Ok(State::Outside(reading.units.with(reading.unit)?))
+    match mem::replace(state, State::Dead(0)) {
+        State::In(reading, spot) => {
+            mem::drop(spot);
+            put(state, State::Outside(reading.units.with(reading.unit)?));
+            Ok(())
+        }
+        other => {
+            put(state, other);
+            Ok(())
+        }
+    }
 }
 
-// What a token makes of the unit that is read, which changes in place.
+// Changes the unit that is read, and the place in it, as the token does. It fails only with `Memory`.
 fn spot_step(
     alloc: Global,
     reading: &mut Reading,
@@ -81,7 +91,7 @@ fn spot_step(
     symbol: Symbol,
     at: usize,
 ) -> Result<Turn, Memory>
-    ensures { IfOk result (λ turn. turned turn reading.new spot.new at ≡ spot_step reading.old spot.old symbol at) }
+    ensures { Turns (spot_step reading.old spot.old symbol at) reading.new spot.new at result }
 {
     match mem::replace(spot, Spot::Ended) {
         Spot::Named => Ok(unit_named(spot, symbol)),
@@ -96,18 +106,18 @@ fn spot_step(
     }
 }
 
-// The unit goes on at this spot.
+// Sets the place in the unit, which goes on there.
 fn go_to(spot: &mut Spot, next: Spot) -> Turn
     ensures turn { result ≡ Turn.Goes }
     ensures spot { spot.new ≡ next }
 {
-    *spot = next;
+    mem::drop(mem::replace(spot, next));
     Turn::Goes
 }
 
-// A token behind the name of a unit.
+// A token after the name of a unit: only `:`.
 fn unit_named(spot: &mut Spot, symbol: Symbol) -> Turn
-    ensures { (reading : AReading) → (at : ℕ) → turned result reading spot.new at ≡ unit_named reading symbol at }
+    ensures { TurnsEach (λ reading at. unit_named reading symbol at) spot.new result }
 {
     match symbol {
         Symbol::Mark(Mark::Colon) => go_to(spot, Spot::Headed(true)),
@@ -115,9 +125,9 @@ fn unit_named(spot: &mut Spot, symbol: Symbol) -> Turn
     }
 }
 
-// A token behind the name and the colon of a unit.
+// A token after the name and the colon of a unit: `begin`, or one line end before it.
 fn headed(spot: &mut Spot, after_colon: bool, symbol: Symbol) -> Turn
-    ensures { (reading : AReading) → (at : ℕ) → turned result reading spot.new at ≡ headed reading after_colon symbol at }
+    ensures { TurnsEach (λ reading at. headed reading after_colon symbol at) spot.new result }
 {
     match (symbol, after_colon) {
         (Symbol::Word(Word::Begin), _) => go_to(spot, Spot::Begun),
@@ -126,9 +136,9 @@ fn headed(spot: &mut Spot, after_colon: bool, symbol: Symbol) -> Turn
     }
 }
 
-// A token behind `begin`.
+// A token after `begin`: only a line end.
 fn begun(spot: &mut Spot, symbol: Symbol) -> Turn
-    ensures { (reading : AReading) → (at : ℕ) → turned result reading spot.new at ≡ begun reading symbol at }
+    ensures { TurnsEach (λ reading at. begun reading symbol at) spot.new result }
 {
     match symbol {
         Symbol::LineEnd => go_to(spot, Spot::Inside(false)),
@@ -136,7 +146,7 @@ fn begun(spot: &mut Spot, symbol: Symbol) -> Turn
     }
 }
 
-// A token between two instructions.
+// A token between two instructions: `end`, a line end after the colon of a label, or the first token of an instruction.
 fn inside(
     reading: &mut Reading,
     spot: &mut Spot,
@@ -144,7 +154,7 @@ fn inside(
     symbol: Symbol,
     at: usize,
 ) -> Result<Turn, Memory>
-    ensures { IfOk result (λ turn. turned turn reading.new spot.new at ≡ inside reading.old after_colon symbol at) }
+    ensures { Turns (inside reading.old after_colon symbol at) reading.new spot.new at result }
 {
     match symbol {
         Symbol::Word(Word::End) => Ok(go_to(spot, Spot::Ended)),
@@ -157,7 +167,7 @@ fn inside(
     }
 }
 
-// What a token made of an instruction that began on `line`.
+// Adds what a token made of an instruction that began on `line`: the instruction is whole, goes on, or was a label.
 fn after(
     reading: &mut Reading,
     spot: &mut Spot,
@@ -165,7 +175,7 @@ fn after(
     at: usize,
     next: Next,
 ) -> Result<Turn, Memory>
-    ensures { IfOk result (λ turn. turned turn reading.new spot.new at ≡ after reading.old line at next) }
+    ensures { Turns (reading_after reading.old line at next) reading.new spot.new at result }
 {
     match next {
         Next::No => Ok(Turn::Stops),
@@ -181,9 +191,9 @@ fn after(
     }
 }
 
-// A token behind `end`.
+// A token after `end`: only a line end, with which the unit is whole.
 fn ended(symbol: Symbol) -> Turn
-    ensures { (reading : AReading) → (at : ℕ) → turned result reading Spot.Ended at ≡ ended reading symbol at }
+    ensures { TurnsEach (λ reading at. ended reading symbol at) Spot.Ended result }
 {
     match symbol {
         Symbol::LineEnd => Turn::Ends,

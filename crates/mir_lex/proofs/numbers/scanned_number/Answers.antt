@@ -1,6 +1,6 @@
 use Rattle.std.proofs.Common.{sym, ◌∙◌, subst, ℕ, List, w64}
 use Rattle.std.specs.Str.Parse.{ParsesSigned}
-use Rattle.mir_lex.proofs.NumberLemmas.{number_plus, number_read, number_text}
+use Rattle.mir_lex.proofs.NumberLemmas.{number_plus, number_read, no_number_unless_text}
 use Rattle.mir_lex.proofs.numbers.scanned_number.Goals as goal
 
 pub returns-then-begins_with_plus : goal.returns-then-begins_with_plus
@@ -12,4 +12,4 @@ returns-in-Ok c =
     c.ok.ensures.value ∙ number_read c.args.bytes.now c.parse.result (sym c.begins_with_plus.ensures ∙ c.if-begins_with_plus.false) read
 
 pub returns-in-Err : goal.returns-in-Err
-returns-in-Err c = number_text c.args.bytes.now c.in-Err.ensures.cases.0
+returns-in-Err c = no_number_unless_text c.args.bytes.now c.in-Err.ensures.cases.0

@@ -2,54 +2,54 @@ use Rattle.std.proofs.Common.{sym, ap, subst, ◌≡◌, inl, ℕ}
 use Rattle.mir_parse.specs.Grammar.{IsUnexpected}
 use Rattle.mir_lex.specs.Terminals.{terminals}
 use Rattle.mir_parse.specs.declared.faults.ParseFault.TheVariants.{Unexpected}
-use Rattle.mir_parse.proofs.Exact.{outside-text, dead-unexpected, inside-ended, outside-only, outside-unexpected, outside-ended, dead-only, dead-line, dead-ended, in-only, in-unexpected, text-same}
+use Rattle.mir_parse.proofs.Exact.{outside_text, dead_unexpected, inside_ended, outside_only, outside_unexpected, outside_ended, dead_only, dead_line, dead_ended, in_only, in_unexpected, text_same}
 use Rattle.mir_parse.proofs.parsing.parse.Goals as goal
 
 pub returns-in-Ok-Outside-clause-found : goal.returns-in-Ok-Outside-clause-found
-returns-in-Ok-Outside-clause-found c = let e = rw c.in-Ok-Outside.field-0-is at c.in-Ok-Outside.ensures in outside-text _ _ (sym e)
+returns-in-Ok-Outside-clause-found c = let e = rw c.in-Ok-Outside.field-0-is at c.in-Ok-Outside.ensures in outside_text _ _ (sym e)
 
 pub returns-in-Ok-Outside-clause-only : goal.returns-in-Ok-Outside-clause-only
-returns-in-Ok-Outside-clause-only c = let e = rw c.in-Ok-Outside.field-0-is at c.in-Ok-Outside.ensures in λ us text. outside-only _ _ e us text
+returns-in-Ok-Outside-clause-only c = let e = rw c.in-Ok-Outside.field-0-is at c.in-Ok-Outside.ensures in λ us text. outside_only _ _ e us text
 
 pub returns-in-Ok-Outside-clause-unexpected_only : goal.returns-in-Ok-Outside-clause-unexpected_only
-returns-in-Ok-Outside-clause-unexpected_only c = let e = rw c.in-Ok-Outside.field-0-is at c.in-Ok-Outside.ensures in λ line is. outside-unexpected _ _ e line is
+returns-in-Ok-Outside-clause-unexpected_only c = let e = rw c.in-Ok-Outside.field-0-is at c.in-Ok-Outside.ensures in λ line is. outside_unexpected _ _ e line is
 
 pub returns-in-Ok-Outside-clause-ended_only : goal.returns-in-Ok-Outside-clause-ended_only
-returns-in-Ok-Outside-clause-ended_only c = let e = rw c.in-Ok-Outside.field-0-is at c.in-Ok-Outside.ensures in λ is. outside-ended _ _ e is
+returns-in-Ok-Outside-clause-ended_only c = let e = rw c.in-Ok-Outside.field-0-is at c.in-Ok-Outside.ensures in λ is. outside_ended _ _ e is
 
 pub returns-in-Ok-Dead-clause-only : goal.returns-in-Ok-Dead-clause-only
-returns-in-Ok-Dead-clause-only c = let e = rw c.in-Ok-Dead.field-0-is at c.in-Ok-Dead.ensures in λ us text. dead-only _ _ e us text
+returns-in-Ok-Dead-clause-only c = let e = rw c.in-Ok-Dead.field-0-is at c.in-Ok-Dead.ensures in λ us text. dead_only _ _ e us text
 
 pub returns-in-Ok-Dead-clause-unexpected : goal.returns-in-Ok-Dead-clause-unexpected
 returns-in-Ok-Dead-clause-unexpected c =
     let e = rw c.in-Ok-Dead.field-0-is at c.in-Ok-Dead.ensures in
     λ line same. let is : c.in-Ok-Dead.line ≡ line = cc in
     let ls = terminals c.args.tokens.now.text c.args.tokens.now.items in
-    subst (λ (n : ℕ). IsUnexpected ls n) is (dead-unexpected ls c.in-Ok-Dead.line (sym e))
+    subst (λ (n : ℕ). IsUnexpected ls n) is (dead_unexpected ls c.in-Ok-Dead.line (sym e))
 
 pub returns-in-Ok-Dead-clause-unexpected_only : goal.returns-in-Ok-Dead-clause-unexpected_only
-returns-in-Ok-Dead-clause-unexpected_only c = let e = rw c.in-Ok-Dead.field-0-is at c.in-Ok-Dead.ensures in λ line is. inl (ap (λ (n : ℕ). Unexpected n) (dead-line _ _ e line is))
+returns-in-Ok-Dead-clause-unexpected_only c = let e = rw c.in-Ok-Dead.field-0-is at c.in-Ok-Dead.ensures in λ line is. inl (ap (λ (n : ℕ). Unexpected n) (dead_line _ _ e line is))
 
 pub returns-in-Ok-Dead-clause-ended_only : goal.returns-in-Ok-Dead-clause-ended_only
-returns-in-Ok-Dead-clause-ended_only c = let e = rw c.in-Ok-Dead.field-0-is at c.in-Ok-Dead.ensures in λ is. absurd (dead-ended _ _ e is)
+returns-in-Ok-Dead-clause-ended_only c = let e = rw c.in-Ok-Dead.field-0-is at c.in-Ok-Dead.ensures in λ is. absurd (dead_ended _ _ e is)
 
 pub returns-in-Ok-In-clause-only : goal.returns-in-Ok-In-clause-only
-returns-in-Ok-In-clause-only c = let e = rw c.in-Ok-In.field-0-is at c.in-Ok-In.ensures in λ us text. in-only _ _ _ e us text
+returns-in-Ok-In-clause-only c = let e = rw c.in-Ok-In.field-0-is at c.in-Ok-In.ensures in λ us text. in_only _ _ _ e us text
 
 pub returns-in-Ok-In-clause-unexpected_only : goal.returns-in-Ok-In-clause-unexpected_only
-returns-in-Ok-In-clause-unexpected_only c = let e = rw c.in-Ok-In.field-0-is at c.in-Ok-In.ensures in λ line is. absurd (in-unexpected _ _ _ e line is)
+returns-in-Ok-In-clause-unexpected_only c = let e = rw c.in-Ok-In.field-0-is at c.in-Ok-In.ensures in λ line is. absurd (in_unexpected _ _ _ e line is)
 
 pub returns-in-Ok-In-clause-ended : goal.returns-in-Ok-In-clause-ended
-returns-in-Ok-In-clause-ended c = let e = rw c.in-Ok-In.field-0-is at c.in-Ok-In.ensures in λ same. inside-ended _ _ _ (sym e)
+returns-in-Ok-In-clause-ended c = let e = rw c.in-Ok-In.field-0-is at c.in-Ok-In.ensures in λ same. inside_ended _ _ _ (sym e)
 
 pub returns-in-Ok-Outside-clause-unique : goal.returns-in-Ok-Outside-clause-unique
-returns-in-Ok-Outside-clause-unique c = text-same (terminals c.args.tokens.now.text c.args.tokens.now.items)
+returns-in-Ok-Outside-clause-unique c = text_same (terminals c.args.tokens.now.text c.args.tokens.now.items)
 
 pub returns-in-Ok-Dead-clause-unique : goal.returns-in-Ok-Dead-clause-unique
-returns-in-Ok-Dead-clause-unique c = text-same (terminals c.args.tokens.now.text c.args.tokens.now.items)
+returns-in-Ok-Dead-clause-unique c = text_same (terminals c.args.tokens.now.text c.args.tokens.now.items)
 
 pub returns-in-Ok-In-clause-unique : goal.returns-in-Ok-In-clause-unique
-returns-in-Ok-In-clause-unique c = text-same (terminals c.args.tokens.now.text c.args.tokens.now.items)
+returns-in-Ok-In-clause-unique c = text_same (terminals c.args.tokens.now.text c.args.tokens.now.items)
 
-pub returns-clause-unique : goal.returns-clause-unique
-returns-clause-unique c = text-same (terminals c.args.tokens.now.text c.args.tokens.now.items)
+pub returns-in-Err-clause-unique : goal.returns-in-Err-clause-unique
+returns-in-Err-clause-unique c = text_same (terminals c.args.tokens.now.text c.args.tokens.now.items)

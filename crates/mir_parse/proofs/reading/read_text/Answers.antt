@@ -3,23 +3,23 @@ use Rattle.mir_parse.specs.declared.faults.ParseFault.TheVariants.{Unexpected, E
 use Rattle.mir_parse.specs.declared.faults.TextFault.TheVariants.{Lex, Parse}
 use Rattle.mir_parse.specs.Grammar.{IsText, IsUnexpected, IsEnded}
 use Rattle.mir_parse.specs.Spells.{IsTextMemory}
-use Rattle.mir_parse.proofs.Texts.{moved, raw-same, spells-same, by-cause, same-parse, same-lex}
+use Rattle.mir_parse.proofs.Texts.{moved, raw_same, spells_same, by_cause, same_parse, same_lex}
 use Rattle.mir_parse.proofs.reading.read_text.Goals as goal
 
 -- the text is read
 
 pub returns-in-Ok-parse-clause-only : goal.returns-in-Ok-parse-clause-only
 returns-in-Ok-parse-clause-only c =
-    λ raw h. raw-same c.in-Ok-parse.raw raw
+    λ raw h. raw_same c.in-Ok-parse.raw raw
     (c.in-Ok-parse.ensures.only raw.units
     (moved (λ ts. IsText ts raw.units) c.args.text.now c.in-Ok.tokens.text h.items c.in-Ok.tokens.items c.in-Ok.ensures.found.0 (c.in-Ok.ensures.only h.items h.tokens) h.text))
 
 pub returns-in-Ok-parse-clause-unique : goal.returns-in-Ok-parse-clause-unique
-returns-in-Ok-parse-clause-unique c = spells-same c.args.text.now c.in-Ok.ensures.unique
+returns-in-Ok-parse-clause-unique c = spells_same c.args.text.now c.in-Ok.ensures.unique
 
 pub returns-in-Ok-parse-clause-refused_only : goal.returns-in-Ok-parse-clause-refused_only
 returns-in-Ok-parse-clause-refused_only c =
-    by-cause c.args.text.now (λ fault. ⊥) c.in-Ok.ensures.refused_only
+    by_cause c.args.text.now (λ fault. ⊥) c.in-Ok.ensures.refused_only
     (λ line items tokens h. c.in-Ok-parse.ensures.unexpected_only line
     (moved (λ ts. IsUnexpected ts line) c.args.text.now c.in-Ok.tokens.text items c.in-Ok.tokens.items c.in-Ok.ensures.found.0 (c.in-Ok.ensures.only items tokens) h))
     (λ items tokens h. c.in-Ok-parse.ensures.ended_only
@@ -33,14 +33,14 @@ returns-in-Ok-clause-only c =
     (moved (λ ts. IsText ts raw.units) c.args.text.now c.in-Ok.tokens.text h.items c.in-Ok.tokens.items c.in-Ok.ensures.found.0 (c.in-Ok.ensures.only h.items h.tokens) h.text)
 
 pub returns-in-Ok-clause-unique : goal.returns-in-Ok-clause-unique
-returns-in-Ok-clause-unique c = spells-same c.args.text.now c.in-Ok.ensures.unique
+returns-in-Ok-clause-unique c = spells_same c.args.text.now c.in-Ok.ensures.unique
 
 pub returns-in-Ok-clause-refused_only : goal.returns-in-Ok-clause-refused_only
 returns-in-Ok-clause-refused_only c =
-    by-cause c.args.text.now (λ fault. (Parse c.in-Err-parse.fault ≡ fault) ⊎ IsTextMemory (Parse c.in-Err-parse.fault)) (λ fault h. absurd (c.in-Ok.ensures.refused_only fault h))
-    (λ line items tokens h. same-parse c.in-Err-parse.fault (Unexpected line) (c.in-Err-parse.ensures.unexpected_only line
+    by_cause c.args.text.now (λ fault. (Parse c.in-Err-parse.fault ≡ fault) ⊎ IsTextMemory (Parse c.in-Err-parse.fault)) (λ fault h. absurd (c.in-Ok.ensures.refused_only fault h))
+    (λ line items tokens h. same_parse c.in-Err-parse.fault (Unexpected line) (c.in-Err-parse.ensures.unexpected_only line
     (moved (λ ts. IsUnexpected ts line) c.args.text.now c.in-Ok.tokens.text items c.in-Ok.tokens.items c.in-Ok.ensures.found.0 (c.in-Ok.ensures.only items tokens) h)))
-    (λ items tokens h. same-parse c.in-Err-parse.fault Ended (c.in-Err-parse.ensures.ended_only
+    (λ items tokens h. same_parse c.in-Err-parse.fault Ended (c.in-Err-parse.ensures.ended_only
     (moved IsEnded c.args.text.now c.in-Ok.tokens.text items c.in-Ok.tokens.items c.in-Ok.ensures.found.0 (c.in-Ok.ensures.only items tokens) h)))
 
 -- it has no tokens
@@ -49,9 +49,9 @@ pub returns-clause-only : goal.returns-clause-only
 returns-clause-only c = λ raw h. c.in-Err.ensures.only h.items h.tokens
 
 pub returns-clause-unique : goal.returns-clause-unique
-returns-clause-unique c = spells-same c.args.text.now c.in-Err.ensures.unique
+returns-clause-unique c = spells_same c.args.text.now c.in-Err.ensures.unique
 
 pub returns-clause-refused_only : goal.returns-clause-refused_only
 returns-clause-refused_only c =
-    by-cause c.args.text.now (λ fault. (Lex c.in-Err.fault ≡ fault) ⊎ IsTextMemory (Lex c.in-Err.fault)) (λ fault h. same-lex c.in-Err.fault fault (c.in-Err.ensures.refused_only fault h))
+    by_cause c.args.text.now (λ fault. (Lex c.in-Err.fault ≡ fault) ⊎ IsTextMemory (Lex c.in-Err.fault)) (λ fault h. same_lex c.in-Err.fault fault (c.in-Err.ensures.refused_only fault h))
     (λ line items tokens h. inr (c.in-Err.ensures.only items tokens)) (λ items tokens h. inr (c.in-Err.ensures.only items tokens))
