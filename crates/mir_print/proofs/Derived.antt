@@ -1,5 +1,5 @@
 -- The canonical text of a program is derived by the grammar, line by line.
-use Rattle.std.proofs.Common.{◌≡◌, ℕ, zero, suc, ◌+◌, ◌<◌, ◌≤◌, Bool, true, false, List, [], ◌∷◌, ◌++◌, length, map, codes, slice_get, Some, refl, sym, ap, ◌∙◌, subst, inl, inr, append_assoc, arith, if◌then◌else◌, add-one}
+use Rattle.std.proofs.Common.{◌≡◌, ℕ, suc, ◌+◌, ◌≤◌, Bool, true, false, List, [], ◌∷◌, ◌++◌, length, map, codes, slice_get, Some, refl, sym, ap, ◌∙◌, subst, inl, append_assoc, arith, if◌then◌else◌}
 use Rattle.std.specs.List.{flat_map}
 use Rattle.std.proofs.lemmas.List.{append-nil, length_push}
 use Rattle.mir_base.specs.declared.instructions.Inst.{Inst}
@@ -7,10 +7,10 @@ use Rattle.mir_base.specs.Names.{IsName}
 use Rattle.mir_base.specs.Shapes.{UnitShape, ProgramShape}
 use Rattle.mir_base.specs.Text.{is_target, label, label_before, Naming, inst_text as text_of_inst, lines_text, unit_text, canonical_text}
 use Rattle.mir_lex.specs.declared.terminals.Symbol.{Symbol}
-use Rattle.mir_lex.specs.declared.terminals.Symbol.TheVariants.{Name as NAME, Word as WORD, Number as NUMBER, Mark as MARK, LineEnd as NL}
+use Rattle.mir_lex.specs.declared.terminals.Symbol.TheVariants.{Name as NAME, Word as WORD, Mark as MARK, LineEnd as NL}
 use Rattle.mir_lex.specs.declared.terminals.Terminal.{Terminal}
 use Rattle.mir_lex.specs.declared.scan.Previous.{Previous}
-use Rattle.mir_lex.specs.declared.scan.Previous.TheVariants.{LineEnd as AfterLineEnd, Operand as AfterOperand, Other as AfterOther}
+use Rattle.mir_lex.specs.declared.scan.Previous.TheVariants.{LineEnd as AfterLineEnd, Other as AfterOther}
 use Rattle.mir_lex.specs.declared.words.Mark.TheVariants.{Colon}
 use Rattle.mir_lex.specs.declared.words.Word.TheVariants.{Begin as BeginWord, End as EndWord}
 use Rattle.mir_parse.specs.declared.raw.RawForm.{RawForm}
@@ -19,50 +19,55 @@ use Rattle.mir_parse.specs.declared.raw.RawLabel.{RawLabel}
 use Rattle.mir_parse.specs.declared.raw.Raw.{Raw}
 use Rattle.mir_parse.specs.RawUnit.{RawUnitShape}
 use Rattle.mir_parse.specs.Spells.{Spells}
-use Rattle.mir_parse.specs.Grammar.{IsForm, symbols, StartsAt, Are, IsLabel, IsInst, Body, bare, label as with_label, inst as with_inst, IsHead, IsUnit, IsText, no_unit, more}
-use Rattle.mir_print.proofs.Pieces.{Piece, Blank, Shown, pieces_text, symbols_of, AreSpaced, on_line, Read, read-start, read-as, read-line}
-use Rattle.mir_print.proofs.Raws.{raw_form, raw_insts, raw_label, raw_labels, naming_of, raw_unit, raw_units}
-use Rattle.mir_print.proofs.Lines.{first_symbol, rest_pieces, form_pieces, is-form, inst-text, FormFits, form-spaced}
+use Rattle.mir_parse.specs.Grammar.{symbols, Body, bare, label as with_label, inst as with_inst, IsUnit, IsText, no_unit, more}
+use Rattle.mir_print.proofs.Pieces.{Piece, Blank, Shown, pieces_text, symbols_of, AreSpaced, on_line, Read, read_start, read_as, read_line}
+use Rattle.mir_print.proofs.Raws.{raw_form, raw_insts, raw_label, raw_labels, unit_naming, raw_unit, raw_units}
+use Rattle.mir_print.proofs.Lines.{first_symbol, rest_pieces, form_pieces, is_form_same, inst_text_is, FormFits, form_spaced}
 
 -- ---- a line with its label
 
+-- the text of a label that stands before a line, if one does
 abbrev label_text : Bool → List ℕ → List ℕ
 label_text b l = if b then l ++ codes ": " else []
 
+-- and its symbols
 abbrev label_symbols : Bool → List ℕ → List Symbol
 label_symbols b l = if b then NAME l ∷ MARK Colon ∷ [] else []
 
 -- a line, with a label where the first argument says so
-line-read : (b : Bool) (l : List ℕ) (text front : List ℕ) (line : ℕ) (ts : List Terminal) (symbol : Symbol) (pieces : List Piece) (after : List ℕ) → Read text front line AfterLineEnd ts
+line_read : (b : Bool) (l : List ℕ) (text front : List ℕ) (line : ℕ) (ts : List Terminal) (symbol : Symbol) (pieces : List Piece) (after : List ℕ) → Read text front line AfterLineEnd ts
     → text ≡ front ++ (((label_text b l ++ pieces_text (Shown symbol ∷ pieces)) ++ codes "\n") ++ after) → (b ≡ true → IsName l) → ((previous : Previous) → AreSpaced previous (Shown symbol ∷ pieces) (10 ∷ after))
     → Read text (front ++ ((label_text b l ++ pieces_text (Shown symbol ∷ pieces)) ++ codes "\n")) (line + 1) AfterLineEnd (ts ++ (on_line line (label_symbols b l) ++ on_line line (symbols_of (Shown symbol ∷ pieces) ++ NL ∷ [])))
-line-read true l text front line ts symbol pieces after was split name spaced =
+line_read true l text front line ts symbol pieces after was split name spaced =
     let shown = pieces_text (Shown symbol ∷ pieces) in
     let labelled : List Piece = Shown (MARK Colon) ∷ Blank ∷ Shown symbol ∷ pieces in
     let same : l ++ (codes ": " ++ shown) ≡ (l ++ codes ": ") ++ shown = sym (append_assoc l (codes ": ") shown) in
     let us = ts ++ (on_line line (NAME l ∷ MARK Colon ∷ []) ++ on_line line (symbols_of (Shown symbol ∷ pieces) ++ NL ∷ [])) in
-    read-as text (line + 1) AfterLineEnd (front ++ ((l ++ (codes ": " ++ shown)) ++ codes "\n")) (front ++ (((l ++ codes ": ") ++ shown) ++ codes "\n")) us us (ap (λ (t : List ℕ). front ++ (t ++ codes "\n")) same) refl
-    (read-line text front line ts (NAME l) labelled after was (split ∙ ap (λ (t : List ℕ). front ++ ((t ++ codes "\n") ++ after)) (sym same)) (name refl, refl, (tt, refl, spaced AfterOther)))
-line-read false l text front line ts symbol pieces after was split name spaced = read-line text front line ts symbol pieces after was split (spaced AfterLineEnd)
+    read_as text (line + 1) AfterLineEnd (front ++ ((l ++ (codes ": " ++ shown)) ++ codes "\n")) (front ++ (((l ++ codes ": ") ++ shown) ++ codes "\n")) us us (ap (λ (t : List ℕ). front ++ (t ++ codes "\n")) same) refl
+    (read_line text front line ts (NAME l) labelled after was (split ∙ ap (λ (t : List ℕ). front ++ ((t ++ codes "\n") ++ after)) (sym same)) (name refl, refl, (tt, refl, spaced AfterOther)))
+line_read false l text front line ts symbol pieces after was split name spaced = read_line text front line ts symbol pieces after was split (spaced AfterLineEnd)
 
-symbols-on-line : (line : ℕ) (ss : List Symbol) → symbols (on_line line ss) ≡ ss
-symbols-on-line line [] = refl
-symbols-on-line line (s ∷ ss) = ap (λ (more : List Symbol). s ∷ more) (symbols-on-line line ss)
+-- symbols that are put on a line are the same symbols
+symbols_on_line : (line : ℕ) (ss : List Symbol) → symbols (on_line line ss) ≡ ss
+symbols_on_line line [] = refl
+symbols_on_line line (s ∷ ss) = ap (λ (more : List Symbol). s ∷ more) (symbols_on_line line ss)
 
 -- ---- the body of a unit
 
-body-label : (b : Bool) (l : List ℕ) (line place : ℕ) (ts : List Terminal) (labels : List RawLabel) (raws : List RawInst) → Body ts labels raws → length raws ≡ place
+-- a label in front of the next instruction is one more label of the body
+body_label : (b : Bool) (l : List ℕ) (line place : ℕ) (ts : List Terminal) (labels : List RawLabel) (raws : List RawInst) → Body ts labels raws → length raws ≡ place
     → Body (ts ++ on_line line (label_symbols b l)) (labels ++ (if b then record { name = l; place = place; line = line } ∷ [] else [])) raws
-body-label true l line place ts labels raws body many =
+body_label true l line place ts labels raws body many =
     with_label (record { name = l; place = place; line = line }) body (record { «break» = []; is_break = inl refl; are = record { spelled = refl; starts = refl } }) (sym many)
-body-label false l line place ts labels raws body many =
+body_label false l line place ts labels raws body many =
     subst (λ (us : List Terminal). Body us (labels ++ []) raws) (sym (append-nil ts)) (subst (λ (ls : List RawLabel). Body ts ls raws) (sym (append-nil labels)) body)
 
-body-inst : (form : RawForm) (line : ℕ) (ts : List Terminal) (labels : List RawLabel) (raws : List RawInst) → Body ts labels raws
+-- the line of an instruction is one more instruction of the body
+body_inst : (form : RawForm) (line : ℕ) (ts : List Terminal) (labels : List RawLabel) (raws : List RawInst) → Body ts labels raws
     → Body (ts ++ on_line line (symbols_of (form_pieces form) ++ NL ∷ [])) labels (raws ++ record { line = line; form = form } ∷ [])
-body-inst form line ts labels raws body =
+body_inst form line ts labels raws body =
     with_inst (record { line = line; form = form }) body
-    (record { form = symbols_of (form_pieces form); is_form = is-form form; are = record { spelled = symbols-on-line line (symbols_of (form_pieces form) ++ NL ∷ []); starts = refl } })
+    (record { form = symbols_of (form_pieces form); is_form = is_form_same form; are = record { spelled = symbols_on_line line (symbols_of (form_pieces form) ++ NL ∷ []); starts = refl } })
 
 -- what is read up to the end of a unit, behind these terminals
 record BodyRead (text front : List ℕ) (line : ℕ) (before : List Terminal) (labels : List RawLabel) (raws : List RawInst) : Type 0 where
@@ -73,13 +78,14 @@ record BodyRead (text front : List ℕ) (line : ℕ) (before : List Terminal) (l
   read : Read text front line AfterLineEnd (before ++ (ts ++ tail))
 
 -- the same, written in another way
-body-read-as : (text : List ℕ) (before : List Terminal) (front front' : List ℕ) (line line' : ℕ) (labels labels' : List RawLabel) (raws raws' : List RawInst) → front ≡ front' → line ≡ line' → labels ≡ labels' → raws ≡ raws'
+body_read_as : (text : List ℕ) (before : List Terminal) (front front' : List ℕ) (line line' : ℕ) (labels labels' : List RawLabel) (raws raws' : List RawInst) → front ≡ front' → line ≡ line' → labels ≡ labels' → raws ≡ raws'
     → BodyRead text front line before labels raws → BodyRead text front' line' before labels' raws'
-body-read-as text before front front' line line' labels labels' raws raws' same_front same_line same_labels same_raws h =
+body_read_as text before front front' line line' labels labels' raws raws' same_front same_line same_labels same_raws h =
     subst (λ (f : List ℕ). BodyRead text f line' before labels' raws') same_front
     (subst (λ (n : ℕ). BodyRead text front n before labels' raws') same_line
     (subst (λ (ls : List RawLabel). BodyRead text front line before ls raws') same_labels (subst (λ (rs : List RawInst). BodyRead text front line before labels rs) same_raws h)))
 
+-- appended lists may be grouped in another way
 behind : (before ts a b : List Terminal) → (before ++ ts) ++ (a ++ b) ≡ before ++ ((ts ++ a) ++ b)
 behind before ts a b = simp append_assoc
 
@@ -91,63 +97,63 @@ module _ (naming : Naming) (text : List ℕ) (before : List Terminal) (named : (
   regroup : (front line lines rest after : List ℕ) → front ++ (((line ++ lines) ++ rest ++ codes "end\n") ++ after) ≡ front ++ (line ++ ((lines ++ rest ++ codes "end\n") ++ after))
   regroup front line lines rest after = simp append_assoc
 
-  regroup-front : (front line lines rest : List ℕ) → (front ++ line) ++ (lines ++ rest ++ codes "end\n") ≡ front ++ ((line ++ lines) ++ rest ++ codes "end\n")
-  regroup-front front line lines rest = simp append_assoc
+  regroup_front : (front line lines rest : List ℕ) → (front ++ line) ++ (lines ++ rest ++ codes "end\n") ≡ front ++ ((line ++ lines) ++ rest ++ codes "end\n")
+  regroup_front front line lines rest = simp append_assoc
 
-  end-text : (b : List ℕ) → (b ++ pieces_text (Shown (WORD EndWord) ∷ [])) ++ codes "\n" ≡ [] ++ b ++ codes "end\n"
-  end-text b = append_assoc b (codes "end") (codes "\n")
+  end_text : (b : List ℕ) → (b ++ pieces_text (Shown (WORD EndWord) ∷ [])) ++ codes "\n" ≡ [] ++ b ++ codes "end\n"
+  end_text b = append_assoc b (codes "end") (codes "\n")
 
-  end-read : (place line : ℕ) (front : List ℕ) (ts : List Terminal) (labels : List RawLabel) (raws : List RawInst) (after : List ℕ) → Read text front line AfterLineEnd (before ++ ts) → Body ts labels raws → length raws ≡ place
+  end_read : (place line : ℕ) (front : List ℕ) (ts : List Terminal) (labels : List RawLabel) (raws : List RawInst) (after : List ℕ) → Read text front line AfterLineEnd (before ++ ts) → Body ts labels raws → length raws ≡ place
       → place ≤ length naming.body → text ≡ front ++ (rest_text place [] place ++ after) → BodyRead text (front ++ rest_text place [] place) (line + 1) before (labels ++ raw_label naming.body line place) raws
-  end-read place line front ts labels raws after was body many within split =
+  end_read place line front ts labels raws after was body many within split =
       let b = is_target naming.body place in
       let l = label naming.body place in
-      let written = end-text (label_text b l) in
+      let written = end_text (label_text b l) in
       let a = on_line line (label_symbols b l) in
       let tail = on_line line (WORD EndWord ∷ NL ∷ []) in
       record {
         ts = ts ++ a;
         tail = tail;
-        body = body-label b l line place ts labels raws body many;
+        body = body_label b l line place ts labels raws body many;
         tail_is = refl;
         read =
-            read-as text (line + 1) AfterLineEnd (front ++ ((label_text b l ++ pieces_text (Shown (WORD EndWord) ∷ [])) ++ codes "\n")) (front ++ rest_text place [] place) ((before ++ ts) ++ (a ++ tail)) (before ++ ((ts ++ a) ++ tail))
+            read_as text (line + 1) AfterLineEnd (front ++ ((label_text b l ++ pieces_text (Shown (WORD EndWord) ∷ [])) ++ codes "\n")) (front ++ rest_text place [] place) ((before ++ ts) ++ (a ++ tail)) (before ++ ((ts ++ a) ++ tail))
             (ap (λ (t : List ℕ). front ++ t) written) (behind before ts a tail)
-            (line-read b l text front line (before ++ ts) (WORD EndWord) [] after was (split ∙ ap (λ (t : List ℕ). front ++ (t ++ after)) (sym written)) (λ _. named place within) (λ previous. (tt, refl, tt)));
+            (line_read b l text front line (before ++ ts) (WORD EndWord) [] after was (split ∙ ap (λ (t : List ℕ). front ++ (t ++ after)) (sym written)) (λ _. named place within) (λ previous. (tt, refl, tt)));
       }
 
-  rest-read : (insts : List Inst) (place line : ℕ) (front : List ℕ) (ts : List Terminal) (labels : List RawLabel) (raws : List RawInst) (after : List ℕ) (end : ℕ) → Read text front line AfterLineEnd (before ++ ts) → Body ts labels raws → length raws ≡ place
+  rest_read : (insts : List Inst) (place line : ℕ) (front : List ℕ) (ts : List Terminal) (labels : List RawLabel) (raws : List RawInst) (after : List ℕ) (end : ℕ) → Read text front line AfterLineEnd (before ++ ts) → Body ts labels raws → length raws ≡ place
       → place + length insts ≡ end → end ≤ length naming.body → ((i : ℕ) (inst : Inst) → slice_get insts i ≡ Some inst → FormFits (raw_form naming inst)) → text ≡ front ++ (rest_text place insts end ++ after)
       → BodyRead text (front ++ rest_text place insts end) (line + length insts + 1) before (labels ++ raw_labels naming.body line place insts) (raws ++ raw_insts naming line insts)
-  rest-read [] place line front ts labels raws after end was body many ends within fits split =
+  rest_read [] place line front ts labels raws after end was body many ends within fits split =
       let same : end ≡ place = omega (arith, ends) in
       let here = ap (λ (e : ℕ). front ++ rest_text place [] e) same in
       let low : place ≤ length naming.body = omega (arith, same, within) in
-      body-read-as text before (front ++ rest_text place [] place) (front ++ rest_text place [] end) (line + 1) (line + 0 + 1) (labels ++ raw_label naming.body line place) (labels ++ raw_label naming.body line place) raws (raws ++ [])
+      body_read_as text before (front ++ rest_text place [] place) (front ++ rest_text place [] end) (line + 1) (line + 0 + 1) (labels ++ raw_label naming.body line place) (labels ++ raw_label naming.body line place) raws (raws ++ [])
       (sym here) (omega arith) refl (sym (append-nil raws))
-      (end-read place line front ts labels raws after was body many low (split ∙ ap (λ (e : ℕ). front ++ (rest_text place [] e ++ after)) same))
-  rest-read (inst ∷ insts) place line front ts labels raws after end was body many ends within fits split =
+      (end_read place line front ts labels raws after was body many low (split ∙ ap (λ (e : ℕ). front ++ (rest_text place [] e ++ after)) same))
+  rest_read (inst ∷ insts) place line front ts labels raws after end was body many ends within fits split =
       let b = is_target naming.body place in
       let l = label naming.body place in
       let form = raw_form naming inst in
       let shown = (label_text b l ++ text_of_inst naming inst) ++ codes "\n" in
       let pieces = (label_text b l ++ pieces_text (form_pieces form)) ++ codes "\n" in
-      let written : pieces ≡ shown = ap (λ (t : List ℕ). (label_text b l ++ t) ++ codes "\n") (inst-text naming inst) in
+      let written : pieces ≡ shown = ap (λ (t : List ℕ). (label_text b l ++ t) ++ codes "\n") (inst_text_is naming inst) in
       let rest = rest_text (suc place) insts end in
       let cut : text ≡ front ++ (shown ++ (rest ++ after)) = split ∙ regroup front shown (lines_text naming (suc place) insts) (label_before naming.body end) after in
       let low : place ≤ length naming.body = omega (arith, ends, within) in
       let a = on_line line (label_symbols b l) in
       let c = on_line line (symbols_of (form_pieces form) ++ NL ∷ []) in
-      let read = read-as text (line + 1) AfterLineEnd (front ++ pieces) (front ++ shown) ((before ++ ts) ++ (a ++ c)) (before ++ ((ts ++ a) ++ c)) (ap (λ (t : List ℕ). front ++ t) written) (behind before ts a c)
-      (line-read b l text front line (before ++ ts) (first_symbol form) (rest_pieces form) (rest ++ after) was (cut ∙ ap (λ (t : List ℕ). front ++ (t ++ (rest ++ after))) (sym written)) (λ _. named place low)
-      (λ previous. form-spaced previous form (rest ++ after) (fits 0 inst refl))) in
+      let read = read_as text (line + 1) AfterLineEnd (front ++ pieces) (front ++ shown) ((before ++ ts) ++ (a ++ c)) (before ++ ((ts ++ a) ++ c)) (ap (λ (t : List ℕ). front ++ t) written) (behind before ts a c)
+      (line_read b l text front line (before ++ ts) (first_symbol form) (rest_pieces form) (rest ++ after) was (cut ∙ ap (λ (t : List ℕ). front ++ (t ++ (rest ++ after))) (sym written)) (λ _. named place low)
+      (λ previous. form_spaced previous form (rest ++ after) (fits 0 inst refl))) in
       let one : RawInst = record { line = line; form = form } in
       let labels' = labels ++ raw_label naming.body line place in
-      body-read-as text before ((front ++ shown) ++ rest) (front ++ rest_text place (inst ∷ insts) end) (line + 1 + length insts + 1) (line + suc (length insts) + 1) (labels' ++ raw_labels naming.body (line + 1) (suc place) insts)
+      body_read_as text before ((front ++ shown) ++ rest) (front ++ rest_text place (inst ∷ insts) end) (line + 1 + length insts + 1) (line + suc (length insts) + 1) (labels' ++ raw_labels naming.body (line + 1) (suc place) insts)
       (labels ++ raw_labels naming.body line place (inst ∷ insts)) ((raws ++ one ∷ []) ++ raw_insts naming (line + 1) insts) (raws ++ raw_insts naming line (inst ∷ insts))
-      (regroup-front front shown (lines_text naming (suc place) insts) (label_before naming.body end)) (omega arith) (append_assoc labels (raw_label naming.body line place) (raw_labels naming.body (line + 1) (suc place) insts))
+      (regroup_front front shown (lines_text naming (suc place) insts) (label_before naming.body end)) (omega arith) (append_assoc labels (raw_label naming.body line place) (raw_labels naming.body (line + 1) (suc place) insts))
       (append_assoc raws (one ∷ []) (raw_insts naming (line + 1) insts))
-      (rest-read insts (suc place) (line + 1) (front ++ shown) ((ts ++ a) ++ c) labels' (raws ++ one ∷ []) after end read (body-inst form line (ts ++ a) labels' raws (body-label b l line place ts labels raws body many))
+      (rest_read insts (suc place) (line + 1) (front ++ shown) ((ts ++ a) ++ c) labels' (raws ++ one ∷ []) after end read (body_inst form line (ts ++ a) labels' raws (body_label b l line place ts labels raws body many))
       (let more = length_push raws one in omega (arith, more, many)) (omega (arith, ends)) within (λ i other at. fits (suc i) other at) (cut ∙ sym (append_assoc front shown (rest ++ after))))
 
 -- ---- units
@@ -162,12 +168,13 @@ record UnitRead (text front : List ℕ) (line : ℕ) (before : List Terminal) (u
 pub record UnitSpelled (units : List (List ℕ)) (unit : UnitShape) : Type 0 where
   pub name : IsName unit.name
   pub labels : (place : ℕ) → place ≤ length unit.body → IsName (label unit.body place)
-  pub forms : (i : ℕ) (inst : Inst) → slice_get unit.body i ≡ Some inst → FormFits (raw_form (naming_of units unit) inst)
+  pub forms : (i : ℕ) (inst : Inst) → slice_get unit.body i ≡ Some inst → FormFits (raw_form (unit_naming units unit) inst)
 
-unit-read : (units : List (List ℕ)) (unit : UnitShape) (text front : List ℕ) (line : ℕ) (before : List Terminal) (after : List ℕ) → UnitSpelled units unit → Read text front line AfterLineEnd before → text ≡ front ++ (unit_text units unit ++ after)
+-- the text of a unit is read as that unit, and the line counted as one past its end
+unit_read : (units : List (List ℕ)) (unit : UnitShape) (text front : List ℕ) (line : ℕ) (before : List Terminal) (after : List ℕ) → UnitSpelled units unit → Read text front line AfterLineEnd before → text ≡ front ++ (unit_text units unit ++ after)
     → UnitRead text (front ++ unit_text units unit) (line + 1 + length unit.body + 1) before (raw_unit units line unit)
-unit-read units unit text front line before after spelled was split =
-    let naming = naming_of units unit in
+unit_read units unit text front line before after spelled was split =
+    let naming = unit_naming units unit in
     let pieces : List Piece = Shown (MARK Colon) ∷ Blank ∷ Shown (WORD BeginWord) ∷ [] in
     let head = pieces_text (Shown (NAME unit.name) ∷ pieces) ++ codes "\n" in
     let rest = lines_text naming 0 unit.body ++ label_before unit.body (length unit.body) ++ codes "end\n" in
@@ -175,9 +182,9 @@ unit-read units unit text front line before after spelled was split =
     ap (λ (t : List ℕ). t ++ rest) (append_assoc unit.name (codes ": begin") (codes "\n")) ∙ whole (unit.name ++ codes ": begin\n") (lines_text naming 0 unit.body) (label_before unit.body (length unit.body)) (codes "end\n") in
     let cut : text ≡ front ++ (head ++ (rest ++ after)) = split ∙ ap (λ (t : List ℕ). front ++ (t ++ after)) (sym written) ∙ ap (λ (t : List ℕ). front ++ t) (append_assoc head rest after) in
     let h = on_line line (NAME unit.name ∷ MARK Colon ∷ WORD BeginWord ∷ NL ∷ []) in
-    let begun = read-line text front line before (NAME unit.name) pieces (rest ++ after) was cut (spelled.name, refl, (tt, refl, (tt, refl, tt))) in
-    let body = rest-read naming text (before ++ h) spelled.labels unit.body 0 (line + 1) (front ++ head) [] [] [] after (length unit.body)
-    (read-as text (line + 1) AfterLineEnd (front ++ head) (front ++ head) (before ++ h) ((before ++ h) ++ []) refl (sym (append-nil (before ++ h))) begun) bare refl (omega arith) (omega arith) spelled.forms
+    let begun = read_line text front line before (NAME unit.name) pieces (rest ++ after) was cut (spelled.name, refl, (tt, refl, (tt, refl, tt))) in
+    let body = rest_read naming text (before ++ h) spelled.labels unit.body 0 (line + 1) (front ++ head) [] [] [] after (length unit.body)
+    (read_as text (line + 1) AfterLineEnd (front ++ head) (front ++ head) (before ++ h) ((before ++ h) ++ []) refl (sym (append-nil (before ++ h))) begun) bare refl (omega arith) (omega arith) spelled.forms
     (cut ∙ sym (append_assoc front head (rest ++ after))) in
     record {
       ts = h ++ body.ts ++ body.tail;
@@ -191,7 +198,7 @@ unit-read units unit text front line before after spelled was split =
         text = refl;
       };
       read =
-          read-as text (line + 1 + length unit.body + 1) AfterLineEnd ((front ++ head) ++ rest) (front ++ unit_text units unit) ((before ++ h) ++ (body.ts ++ body.tail)) (before ++ (h ++ body.ts ++ body.tail))
+          read_as text (line + 1 + length unit.body + 1) AfterLineEnd ((front ++ head) ++ rest) (front ++ unit_text units unit) ((before ++ h) ++ (body.ts ++ body.tail)) (before ++ (h ++ body.ts ++ body.tail))
           (append_assoc front head rest ∙ ap (λ (t : List ℕ). front ++ t) written) (behind before h body.ts body.tail) body.read;
     }
   where
@@ -207,21 +214,22 @@ pub record TextRead (text front : List ℕ) (units : List RawUnitShape) : Type 0
   pub is : IsText ts units
   pub read : Read text front line AfterLineEnd ts
 
-units-read : (names : List (List ℕ)) (units : List UnitShape) (text front : List ℕ) (line : ℕ) (ts : List Terminal) (raws : List RawUnitShape) (after : List ℕ) → ((i : ℕ) (unit : UnitShape) → slice_get units i ≡ Some unit → UnitSpelled names unit)
+-- the texts of units, one behind the other, are read as those units
+units_read : (names : List (List ℕ)) (units : List UnitShape) (text front : List ℕ) (line : ℕ) (ts : List Terminal) (raws : List RawUnitShape) (after : List ℕ) → ((i : ℕ) (unit : UnitShape) → slice_get units i ≡ Some unit → UnitSpelled names unit)
     → Read text front line AfterLineEnd ts → IsText ts raws → text ≡ front ++ (flat_map (unit_text names) units ++ after) → TextRead text (front ++ flat_map (unit_text names) units) (raws ++ raw_units names line units)
-units-read names [] text front line ts raws after spelled was is split =
-    text-read-as text front (front ++ []) raws (raws ++ []) (sym (append-nil front)) (sym (append-nil raws)) (record { line = line; ts = ts; is = is; read = was })
+units_read names [] text front line ts raws after spelled was is split =
+    text_read_as text front (front ++ []) raws (raws ++ []) (sym (append-nil front)) (sym (append-nil raws)) (record { line = line; ts = ts; is = is; read = was })
   where
-    text-read-as : (text front front' : List ℕ) (raws raws' : List RawUnitShape) → front ≡ front' → raws ≡ raws' → TextRead text front raws → TextRead text front' raws'
-    text-read-as text front front' raws raws' same_front same_raws h = subst (λ (f : List ℕ). TextRead text f raws') same_front (subst (λ (rs : List RawUnitShape). TextRead text front rs) same_raws h)
-units-read names (unit ∷ units) text front line ts raws after spelled was is split =
+    text_read_as : (text front front' : List ℕ) (raws raws' : List RawUnitShape) → front ≡ front' → raws ≡ raws' → TextRead text front raws → TextRead text front' raws'
+    text_read_as text front front' raws raws' same_front same_raws h = subst (λ (f : List ℕ). TextRead text f raws') same_front (subst (λ (rs : List RawUnitShape). TextRead text front rs) same_raws h)
+units_read names (unit ∷ units) text front line ts raws after spelled was is split =
     let here = unit_text names unit in
     let more_text = flat_map (unit_text names) units in
     let cut : text ≡ front ++ (here ++ (more_text ++ after)) = split ∙ ap (λ (t : List ℕ). front ++ t) (append_assoc here more_text after) in
-    let one = unit-read names unit text front line ts (more_text ++ after) (spelled 0 unit refl) was cut in
+    let one = unit_read names unit text front line ts (more_text ++ after) (spelled 0 unit refl) was cut in
     let raw = raw_unit names line unit in
     let next = line + 1 + length unit.body + 1 in
-    let all = units-read names units text (front ++ here) next (ts ++ one.ts) (raws ++ raw ∷ []) after (λ i other at. spelled (suc i) other at) one.read (more raw is one.is) (cut ∙ sym (append_assoc front here (more_text ++ after))) in
+    let all = units_read names units text (front ++ here) next (ts ++ one.ts) (raws ++ raw ∷ []) after (λ i other at. spelled (suc i) other at) one.read (more raw is one.is) (cut ∙ sym (append_assoc front here (more_text ++ after))) in
     subst (λ (f : List ℕ). TextRead text f (raws ++ raw ∷ raw_units names next units)) (append_assoc front here more_text)
     (subst (λ (rs : List RawUnitShape). TextRead text ((front ++ here) ++ more_text) rs) (append_assoc raws (raw ∷ []) (raw_units names next units)) all)
 
@@ -229,10 +237,11 @@ units-read names (unit ∷ units) text front line ts raws after spelled was is s
 abbrev pub raw_of : ProgramShape → Raw
 raw_of program = record { units = raw_units (map (λ (unit : UnitShape). unit.name) program.units) 1 program.units }
 
-pub text-spells : (program : ProgramShape) → ((i : ℕ) (unit : UnitShape) → slice_get program.units i ≡ Some unit → UnitSpelled (map (λ (unit : UnitShape). unit.name) program.units) unit) → Spells (canonical_text program) (raw_of program)
-text-spells program spelled =
+-- the canonical text spells the raw program
+pub text_spells : (program : ProgramShape) → ((i : ℕ) (unit : UnitShape) → slice_get program.units i ≡ Some unit → UnitSpelled (map (λ (unit : UnitShape). unit.name) program.units) unit) → Spells (canonical_text program) (raw_of program)
+text_spells program spelled =
     let text = canonical_text program in
-    let all = units-read (map (λ (unit : UnitShape). unit.name) program.units) program.units text [] 1 [] [] [] spelled (read-start text) no_unit (sym (append-nil text)) in
+    let all = units_read (map (λ (unit : UnitShape). unit.name) program.units) program.units text [] 1 [] [] [] spelled (read_start text) no_unit (sym (append-nil text)) in
     record {
       items = all.read.items;
       tokens = record { before = all.read.items; previous = AfterLineEnd; row = all.read.row; items_are = refl };

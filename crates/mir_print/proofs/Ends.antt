@@ -1,85 +1,94 @@
 -- A token that a blank, a line end or a mark between arguments follows is as long as it can be.
-use Rattle.std.proofs.Common.{◌≡◌, ◌≢◌, ℕ, ◌<◌, ◌==◌, Bool, true, false, not, ◌||◌, ◌&&◌, ◌⊎◌, List, [], ◌∷◌, ◌++◌, length, refl, sym, ap, ◌∙◌, subst, inl, inr, arith, IsTrue}
+use Rattle.std.proofs.Common.{◌≡◌, ◌≢◌, ℕ, ◌<◌, ◌==◌, Bool, true, false, not, ◌||◌, List, [], ◌∷◌, ◌++◌, length, refl, sym, ap, ◌∙◌, subst, inl, inr, arith}
 use Rattle.std.specs.List.{list_all}
 use Rattle.std.specs.Char.{is_ascii_digit}
 use Rattle.std.specs.Str.{all_ascii_digits}
 use Rattle.std.proofs.lemmas.Bool.Decides.{nat_tests}
 use Rattle.std.proofs.lemmas.List.Folds.{list_all-append}
-use Rattle.mir_base.specs.Names.{is_letter, is_name_byte, begins_as_name}
+use Rattle.std.proofs.lemmas.Bool.{and_parts}
+use Rattle.mir_base.specs.Names.{is_letter, is_name_byte}
 use Rattle.mir_lex.specs.declared.words.Mark.{Mark}
 use Rattle.mir_lex.specs.declared.words.Mark.TheVariants.{Colon, Comma, Semicolon, LeftParen, RightParen, Plus, Minus, Star, Slash, Equal, NotEqual, Less, LessEqual, Greater, GreaterEqual, Bang, Arrow}
 use Rattle.mir_lex.specs.declared.scan.Previous.{Previous}
-use Rattle.mir_lex.specs.Spelling.{IsMark, IsWord, IsDigits, IsNumeral, IsSpelled, IsLongest, BeginsWith}
-use Rattle.mir_print.proofs.Numerals.{both}
+use Rattle.mir_lex.specs.Spelling.{IsMark, IsSpelled, IsLongest, BeginsWith}
 
 -- a blank, a line feed, or one of `( ) , : ;`
 abbrev pub is_separator : ℕ → Bool
 is_separator byte = byte == 32 || byte == 10 || byte == 40 || byte == 41 || byte == 44 || byte == 58 || byte == 59
 
-all-at : (test : ℕ → Bool) (bytes : List ℕ) (byte : ℕ) (more : List ℕ) → list_all test (bytes ++ byte ∷ more) ≡ true → test byte ≡ true
-all-at test bytes byte more h = (both (test byte) (list_all test more) (both (list_all test bytes) (list_all test (byte ∷ more)) (sym (list_all-append test bytes (byte ∷ more)) ∙ h)).1).0
+-- a byte in the middle of bytes that all pass a test passes it too
+passes_at : (test : ℕ → Bool) (bytes : List ℕ) (byte : ℕ) (more : List ℕ) → list_all test (bytes ++ byte ∷ more) ≡ true → test byte ≡ true
+passes_at test bytes byte more h = (and_parts (test byte) (list_all test more) (and_parts (list_all test bytes) (list_all test (byte ∷ more)) (sym (list_all-append test bytes (byte ∷ more)) ∙ h)).1).0
 
-digit-at : (bytes : List ℕ) (byte : ℕ) (more : List ℕ) → all_ascii_digits (bytes ++ byte ∷ more) ≡ true → is_ascii_digit byte ≡ true
-digit-at [] byte more h = (both (is_ascii_digit byte) (all_ascii_digits more) h).0
-digit-at (first ∷ bytes) byte more h = digit-at bytes byte more (both (is_ascii_digit first) (all_ascii_digits (bytes ++ byte ∷ more)) h).1
+-- a byte in the middle of digits is a digit
+digit_at : (bytes : List ℕ) (byte : ℕ) (more : List ℕ) → all_ascii_digits (bytes ++ byte ∷ more) ≡ true → is_ascii_digit byte ≡ true
+digit_at [] byte more h = (and_parts (is_ascii_digit byte) (all_ascii_digits more) h).0
+digit_at (first ∷ bytes) byte more h = digit_at bytes byte more (and_parts (is_ascii_digit first) (all_ascii_digits (bytes ++ byte ∷ more)) h).1
 
+-- the byte ends no token
 abbrev pub is_plain : ℕ → Bool
 is_plain byte = not (is_separator byte)
 
-name-plain : (byte : ℕ) → is_name_byte byte ≡ true → is_plain byte ≡ true
-name-plain byte h = grind (arith, nat_tests)
+-- no byte of a name is a separator
+name_plain : (byte : ℕ) → is_name_byte byte ≡ true → is_plain byte ≡ true
+name_plain byte h = grind (arith, nat_tests)
 
-digit-plain : (byte : ℕ) → is_ascii_digit byte ≡ true → is_plain byte ≡ true
-digit-plain byte h = grind (arith, nat_tests)
+-- no digit is a separator
+digit_plain : (byte : ℕ) → is_ascii_digit byte ≡ true → is_plain byte ≡ true
+digit_plain byte h = grind (arith, nat_tests)
 
+-- what equals these bytes has no separator behind its first byte if they have none there
 behind : (b c : ℕ) (bs cs : List ℕ) → b ∷ bs ≡ c ∷ cs → list_all is_plain cs ≡ true → list_all is_plain bs ≡ true
 behind b c bs cs is h = let same : bs ≡ cs = cc in ap (list_all is_plain) same ∙ h
 
 -- behind its first byte no mark has a separator
-mark-plain : (mark : Mark) (b : ℕ) (bs : List ℕ) → IsMark mark (b ∷ bs) → list_all is_plain bs ≡ true
-mark-plain Colon b bs is = behind b 58 bs [] is refl
-mark-plain Comma b bs is = behind b 44 bs [] is refl
-mark-plain Semicolon b bs is = behind b 59 bs [] is refl
-mark-plain LeftParen b bs is = behind b 40 bs [] is refl
-mark-plain RightParen b bs is = behind b 41 bs [] is refl
-mark-plain Plus b bs is = behind b 43 bs [] is refl
-mark-plain Minus b bs is = behind b 45 bs [] is refl
-mark-plain Star b bs is = behind b 42 bs [] is refl
-mark-plain Slash b bs is = behind b 47 bs [] is refl
-mark-plain Equal b bs is = behind b 61 bs [] is refl
-mark-plain NotEqual b bs is = behind b 33 bs (61 ∷ []) is refl
-mark-plain Less b bs is = behind b 60 bs [] is refl
-mark-plain LessEqual b bs is = behind b 60 bs (61 ∷ []) is refl
-mark-plain Greater b bs is = behind b 62 bs [] is refl
-mark-plain GreaterEqual b bs is = behind b 62 bs (61 ∷ []) is refl
-mark-plain Bang b bs is = behind b 33 bs [] is refl
-mark-plain Arrow b bs (inl is) = behind b 60 bs (45 ∷ []) is refl
-mark-plain Arrow b bs (inr is) = behind b 226 bs (134 ∷ 144 ∷ []) is refl
+mark_plain : (mark : Mark) (b : ℕ) (bs : List ℕ) → IsMark mark (b ∷ bs) → list_all is_plain bs ≡ true
+mark_plain Colon b bs is = behind b 58 bs [] is refl
+mark_plain Comma b bs is = behind b 44 bs [] is refl
+mark_plain Semicolon b bs is = behind b 59 bs [] is refl
+mark_plain LeftParen b bs is = behind b 40 bs [] is refl
+mark_plain RightParen b bs is = behind b 41 bs [] is refl
+mark_plain Plus b bs is = behind b 43 bs [] is refl
+mark_plain Minus b bs is = behind b 45 bs [] is refl
+mark_plain Star b bs is = behind b 42 bs [] is refl
+mark_plain Slash b bs is = behind b 47 bs [] is refl
+mark_plain Equal b bs is = behind b 61 bs [] is refl
+mark_plain NotEqual b bs is = behind b 33 bs (61 ∷ []) is refl
+mark_plain Less b bs is = behind b 60 bs [] is refl
+mark_plain LessEqual b bs is = behind b 60 bs (61 ∷ []) is refl
+mark_plain Greater b bs is = behind b 62 bs [] is refl
+mark_plain GreaterEqual b bs is = behind b 62 bs (61 ∷ []) is refl
+mark_plain Bang b bs is = behind b 33 bs [] is refl
+mark_plain Arrow b bs (inl is) = behind b 60 bs (45 ∷ []) is refl
+mark_plain Arrow b bs (inr is) = behind b 226 bs (134 ∷ 144 ∷ []) is refl
 
 -- what is spelled has no separator behind its first byte
-spelled-plain : (previous : Previous) (b : ℕ) (bs : List ℕ) (byte : ℕ) (more : List ℕ) → IsSpelled previous (b ∷ (bs ++ byte ∷ more)) → is_plain byte ≡ true
-spelled-plain previous b bs byte more (inl word) = name-plain byte (all-at is_name_byte (b ∷ bs) byte more word.1)
-spelled-plain previous b bs byte more (inr (inl (inl digits))) = digit-plain byte (digit-at (b ∷ bs) byte more digits.1)
-spelled-plain previous b bs byte more (inr (inl (inr signed))) =
-    let same : bs ++ byte ∷ more ≡ signed.0 = cc (signed.1) in digit-plain byte (digit-at bs byte more (ap all_ascii_digits same ∙ signed.2.1))
-spelled-plain previous b bs byte more (inr (inr mark)) = all-at is_plain bs byte more (mark-plain mark.0 b (bs ++ byte ∷ more) mark.1)
+spelled_plain : (previous : Previous) (b : ℕ) (bs : List ℕ) (byte : ℕ) (more : List ℕ) → IsSpelled previous (b ∷ (bs ++ byte ∷ more)) → is_plain byte ≡ true
+spelled_plain previous b bs byte more (inl word) = name_plain byte (passes_at is_name_byte (b ∷ bs) byte more word.1)
+spelled_plain previous b bs byte more (inr (inl (inl digits))) = digit_plain byte (digit_at (b ∷ bs) byte more digits.1)
+spelled_plain previous b bs byte more (inr (inl (inr signed))) =
+    let same : bs ++ byte ∷ more ≡ signed.0 = cc (signed.1) in digit_plain byte (digit_at bs byte more (ap all_ascii_digits same ∙ signed.2.1))
+spelled_plain previous b bs byte more (inr (inr mark)) = passes_at is_plain bs byte more (mark_plain mark.0 b (bs ++ byte ∷ more) mark.1)
 
-pub longest-before : (previous : Previous) (bytes after : List ℕ) → 0 < length bytes → BeginsWith is_separator after → IsLongest previous bytes after
-longest-before previous bytes after some begins [] rest split spelled = refl
-longest-before previous [] after some begins (byte ∷ more) rest split spelled = absurd (omega arith)
-longest-before previous (b ∷ bs) [] some begins (byte ∷ more) rest split spelled = absurd begins
-longest-before previous (b ∷ bs) (c ∷ after) some begins (byte ∷ more) rest split spelled =
+-- a token before a byte that ends it cannot be longer
+pub longest_before : (previous : Previous) (bytes after : List ℕ) → 0 < length bytes → BeginsWith is_separator after → IsLongest previous bytes after
+longest_before previous bytes after some begins [] rest split spelled = refl
+longest_before previous [] after some begins (byte ∷ more) rest split spelled = absurd (omega arith)
+longest_before previous (b ∷ bs) [] some begins (byte ∷ more) rest split spelled = absurd begins
+longest_before previous (b ∷ bs) (c ∷ after) some begins (byte ∷ more) rest split spelled =
     let same : c ≡ byte = cc in
-    let plain = spelled-plain previous b bs byte more spelled in
+    let plain = spelled_plain previous b bs byte more spelled in
     let separator : is_separator byte ≡ true = subst (λ (n : ℕ). is_separator n ≡ true) same begins in
     let clash : false ≡ true = ap not (sym separator) ∙ plain in
     absurd (cc)
 
 -- ---- marks that stand alone
 
+-- bytes that equal one single byte have nothing behind the first
 alone : (b c : ℕ) (bs : List ℕ) → b ∷ bs ≡ c ∷ [] → bs ≡ []
 alone b c bs is = cc
 
+-- bytes with different first bytes are never equal, so whatever is asked of them holds
 other : (b c : ℕ) (bs cs : List ℕ) → b ∷ bs ≡ c ∷ cs → b ≢ c → bs ≡ []
 other b c bs cs is apart = let same : b ≡ c = cc in absurd (apart same)
 
@@ -93,40 +102,46 @@ pub record StandsAlone (b : ℕ) : Type 0 where
   letter : is_letter b ≡ false
   digit : is_ascii_digit b ≡ false
 
-mark-alone : (mark : Mark) (b : ℕ) (bs : List ℕ) → StandsAlone b → IsMark mark (b ∷ bs) → bs ≡ []
-mark-alone Colon b bs apart is = alone b 58 bs is
-mark-alone Comma b bs apart is = alone b 44 bs is
-mark-alone Semicolon b bs apart is = alone b 59 bs is
-mark-alone LeftParen b bs apart is = alone b 40 bs is
-mark-alone RightParen b bs apart is = alone b 41 bs is
-mark-alone Plus b bs apart is = alone b 43 bs is
-mark-alone Minus b bs apart is = alone b 45 bs is
-mark-alone Star b bs apart is = alone b 42 bs is
-mark-alone Slash b bs apart is = alone b 47 bs is
-mark-alone Equal b bs apart is = alone b 61 bs is
-mark-alone NotEqual b bs apart is = other b 33 bs (61 ∷ []) is apart.bang
-mark-alone Less b bs apart is = alone b 60 bs is
-mark-alone LessEqual b bs apart is = other b 60 bs (61 ∷ []) is apart.less
-mark-alone Greater b bs apart is = alone b 62 bs is
-mark-alone GreaterEqual b bs apart is = other b 62 bs (61 ∷ []) is apart.greater
-mark-alone Bang b bs apart is = alone b 33 bs is
-mark-alone Arrow b bs apart (inl is) = other b 60 bs (45 ∷ []) is apart.less
-mark-alone Arrow b bs apart (inr is) = other b 226 bs (134 ∷ 144 ∷ []) is apart.arrow
+-- a mark that begins with such a byte is that byte alone
+mark_alone : (mark : Mark) (b : ℕ) (bs : List ℕ) → StandsAlone b → IsMark mark (b ∷ bs) → bs ≡ []
+mark_alone Colon b bs apart is = alone b 58 bs is
+mark_alone Comma b bs apart is = alone b 44 bs is
+mark_alone Semicolon b bs apart is = alone b 59 bs is
+mark_alone LeftParen b bs apart is = alone b 40 bs is
+mark_alone RightParen b bs apart is = alone b 41 bs is
+mark_alone Plus b bs apart is = alone b 43 bs is
+mark_alone Minus b bs apart is = alone b 45 bs is
+mark_alone Star b bs apart is = alone b 42 bs is
+mark_alone Slash b bs apart is = alone b 47 bs is
+mark_alone Equal b bs apart is = alone b 61 bs is
+mark_alone NotEqual b bs apart is = other b 33 bs (61 ∷ []) is apart.bang
+mark_alone Less b bs apart is = alone b 60 bs is
+mark_alone LessEqual b bs apart is = other b 60 bs (61 ∷ []) is apart.less
+mark_alone Greater b bs apart is = alone b 62 bs is
+mark_alone GreaterEqual b bs apart is = other b 62 bs (61 ∷ []) is apart.greater
+mark_alone Bang b bs apart is = alone b 33 bs is
+mark_alone Arrow b bs apart (inl is) = other b 60 bs (45 ∷ []) is apart.less
+mark_alone Arrow b bs apart (inr is) = other b 226 bs (134 ∷ 144 ∷ []) is apart.arrow
 
-spelled-alone : (previous : Previous) (b : ℕ) (bs : List ℕ) → StandsAlone b → IsSpelled previous (b ∷ bs) → bs ≡ []
-spelled-alone previous b bs apart (inl word) = let a = apart.letter in let h = word.0 in absurd (cc)
-spelled-alone previous b bs apart (inr (inl (inl digits))) = let a = apart.digit in let h = (both (is_ascii_digit b) (all_ascii_digits bs) digits.1).0 in absurd (cc)
-spelled-alone previous b bs apart (inr (inl (inr signed))) = other b 45 bs signed.0 signed.1 apart.minus
-spelled-alone previous b bs apart (inr (inr mark)) = mark-alone mark.0 b bs apart mark.1
+-- and so is every token that begins with such a byte
+spelled_alone : (previous : Previous) (b : ℕ) (bs : List ℕ) → StandsAlone b → IsSpelled previous (b ∷ bs) → bs ≡ []
+spelled_alone previous b bs apart (inl word) = let a = apart.letter in let h = word.0 in absurd (cc)
+spelled_alone previous b bs apart (inr (inl (inl digits))) = let a = apart.digit in let h = (and_parts (is_ascii_digit b) (all_ascii_digits bs) digits.1).0 in absurd (cc)
+spelled_alone previous b bs apart (inr (inl (inr signed))) = other b 45 bs signed.0 signed.1 apart.minus
+spelled_alone previous b bs apart (inr (inr mark)) = mark_alone mark.0 b bs apart mark.1
 
-pub longest-alone : (previous : Previous) (b : ℕ) (after : List ℕ) → StandsAlone b → IsLongest previous (b ∷ []) after
-longest-alone previous b after apart more rest split spelled = spelled-alone previous b more apart spelled
+-- a byte that no longer mark begins with is a token of its own
+pub longest_alone : (previous : Previous) (b : ℕ) (after : List ℕ) → StandsAlone b → IsLongest previous (b ∷ []) after
+longest_alone previous b after apart more rest split spelled = spelled_alone previous b more apart spelled
 
-pub left-alone : StandsAlone 40
-left-alone = record { bang = omega arith; less = omega arith; greater = omega arith; arrow = omega arith; minus = omega arith; letter = refl; digit = refl }
+-- the three such marks: `(`
+pub left_alone : StandsAlone 40
+left_alone = record { bang = omega arith; less = omega arith; greater = omega arith; arrow = omega arith; minus = omega arith; letter = refl; digit = refl }
 
-pub comma-alone : StandsAlone 44
-comma-alone = record { bang = omega arith; less = omega arith; greater = omega arith; arrow = omega arith; minus = omega arith; letter = refl; digit = refl }
+-- `,`
+pub comma_alone : StandsAlone 44
+comma_alone = record { bang = omega arith; less = omega arith; greater = omega arith; arrow = omega arith; minus = omega arith; letter = refl; digit = refl }
 
-pub semicolon-alone : StandsAlone 59
-semicolon-alone = record { bang = omega arith; less = omega arith; greater = omega arith; arrow = omega arith; minus = omega arith; letter = refl; digit = refl }
+-- `;`
+pub semicolon_alone : StandsAlone 59
+semicolon_alone = record { bang = omega arith; less = omega arith; greater = omega arith; arrow = omega arith; minus = omega arith; letter = refl; digit = refl }

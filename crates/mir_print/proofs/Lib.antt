@@ -1,4 +1,4 @@
-mod Fronts
+mod Prefixes
 mod Counting
 mod Joined
 mod Jumps

@@ -1,5 +1,5 @@
 -- The raw program that the canonical text of a program spells: names in place of numbers, and `L1`, `L2` in place of places.
-use Rattle.std.proofs.Common.{ℕ, suc, ◌+◌, Bool, List, [], ◌∷◌, ◌++◌, map, length, Option, None, Some, if◌then◌else◌}
+use Rattle.std.proofs.Common.{ℕ, suc, ◌+◌, List, [], ◌∷◌, ◌++◌, map, length, Some, if◌then◌else◌}
 use Rattle.std.specs.Option.{option_map}
 use Rattle.mir_base.specs.declared.instructions.Operand.{Operand}
 use Rattle.mir_base.specs.declared.instructions.Operand.TheVariants.{Var, Const}
@@ -23,20 +23,24 @@ use Rattle.mir_parse.specs.declared.raw.RawInst.{RawInst}
 use Rattle.mir_parse.specs.declared.raw.RawLabel.{RawLabel}
 use Rattle.mir_parse.specs.RawUnit.{RawUnitShape}
 
+-- an operand by names
 abbrev pub raw_operand : Naming → Operand → RawOperand
 raw_operand naming (Var x) = RawVar (var_text naming x)
 raw_operand naming (Const z) = RawConst z
 
+-- a right side by names
 abbrev pub raw_rhs : Naming → Rhs → RawRhs
 raw_rhs naming (Plain a) = RawPlain (raw_operand naming a)
 raw_rhs naming (Unary op a) = RawUnary op (raw_operand naming a)
 raw_rhs naming (Binary op a b) = RawBinary op (raw_operand naming a) (raw_operand naming b)
 
+-- a test by names
 abbrev pub raw_test : Naming → Test → RawTest
 raw_test naming (Rel op a b) = RawRel op (raw_operand naming a) (raw_operand naming b)
 raw_test naming (Holds a) = RawHolds (raw_operand naming a)
 raw_test naming (Fails a) = RawFails (raw_operand naming a)
 
+-- an instruction by names
 abbrev pub raw_form : Naming → Inst → RawForm
 raw_form naming (Receive x) = RawReceive (var_text naming x)
 raw_form naming (Assign x rhs) = RawAssign (var_text naming x) (raw_rhs naming rhs)
@@ -60,8 +64,9 @@ abbrev pub raw_labels : List Inst → ℕ → ℕ → List Inst → List RawLabe
 raw_labels body line place [] = raw_label body line place
 raw_labels body line place (inst ∷ insts) = raw_label body line place ++ raw_labels body (line + 1) (suc place) insts
 
-abbrev pub naming_of : List (List ℕ) → UnitShape → Naming
-naming_of units unit = record { units = units; vars = unit.vars; body = unit.body }
+-- the names in a unit, among units of these names
+abbrev pub unit_naming : List (List ℕ) → UnitShape → Naming
+unit_naming units unit = record { units = units; vars = unit.vars; body = unit.body }
 
 -- a unit, among units of these names, whose text begins on this line
 abbrev pub raw_unit : List (List ℕ) → ℕ → UnitShape → RawUnitShape
@@ -69,9 +74,10 @@ raw_unit units line unit = record {
   name = unit.name;
   line = line;
   labels = raw_labels unit.body (line + 1) 0 unit.body;
-  body = raw_insts (naming_of units unit) (line + 1) unit.body;
+  body = raw_insts (unit_naming units unit) (line + 1) unit.body;
 }
 
+-- the units, of which the first begins at this line
 abbrev pub raw_units : List (List ℕ) → ℕ → List UnitShape → List RawUnitShape
 raw_units names line [] = []
 raw_units names line (unit ∷ units) = raw_unit names line unit ∷ raw_units names (line + 1 + length unit.body + 1) units

@@ -1,5 +1,5 @@
--- What the types of a program keep of its names and numbers.
-use Rattle.std.specs.Prelude.{ℕ, ◌+◌, ◌^◌, ◌<◌, length, FitsSigned}
+-- What the types of a program keep of its names and numbers. Cited by the contracts of private functions.
+use Rattle.std.specs.Prelude.{◌+◌, ◌^◌, ◌<◌, length, FitsSigned}
 use Rattle.std.specs.List.{All}
 use Rattle.std.specs.Int.{w64}
 use Rattle.mir_base.specs.declared.instructions.Operand.{Operand}
@@ -18,17 +18,19 @@ abbrev pub OperandKept : Operand → Type 0
 OperandKept (Var x) = Unit {0}
 OperandKept (Const z) = FitsSigned w64 z
 
+-- each constant of a right side is one
 abbrev pub RhsKept : Rhs → Type 0
 RhsKept (Plain a) = OperandKept a
 RhsKept (Unary op a) = OperandKept a
 RhsKept (Binary op a b) = OperandKept a × OperandKept b
 
+-- each constant of a test is one
 abbrev pub TestKept : Test → Type 0
 TestKept (Rel op a b) = OperandKept a × OperandKept b
 TestKept (Holds a) = OperandKept a
 TestKept (Fails a) = OperandKept a
 
--- each constant of the instruction is
+-- each constant of an instruction is one
 abbrev pub InstKept : Inst → Type 0
 InstKept (Receive x) = Unit {0}
 InstKept (Assign x rhs) = RhsKept rhs
@@ -47,6 +49,7 @@ pub record UnitKept (unit : UnitShape) : Type 0 where
   pub numbers : All InstKept unit.body
   pub few : length unit.body + 1 < 2 ^ 64
 
+-- its units fit together, and each is kept
 pub record ProgramKept (program : ProgramShape) : Type 0 where
   pub fits : IsProgram program.units
   pub units : All UnitKept program.units

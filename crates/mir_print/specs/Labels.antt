@@ -1,11 +1,11 @@
--- The tables by which labels are printed. No public clause cites this file.
-use Rattle.std.specs.Prelude.{ℕ, ◌≡◌, ◌+◌, ◌<◌, ◌≤◌, Bool, true, false, List, [], ◌∷◌, length, slice_index, slice_index_or, slice_set, map, if◌then◌else◌, ◌==◌}
+-- The tables by which labels are printed. Cited by the contracts of private functions.
+use Rattle.std.specs.Prelude.{ℕ, ◌≡◌, ◌+◌, ◌<◌, ◌≤◌, Bool, true, false, List, length, slice_index, slice_index_or, slice_set}
 use Rattle.mir_base.specs.declared.instructions.Inst.{Inst}
 use Rattle.mir_base.specs.declared.instructions.Inst.TheVariants.{Receive, Assign, Goto, If, Call, Print, Return}
 use Rattle.mir_base.specs.Text.{is_target, targets_below}
 
 -- for each place, for that of `end` and for the one behind it, how many of the places below it are jumped to
-pub record AreCounts (body : List Inst) (counts : List ℕ) : Type 0 where
+pub record AreLabelCounts (body : List Inst) (counts : List ℕ) : Type 0 where
   pub many : length counts ≡ length body + 2
   pub each : (place : ℕ) → place ≤ length body + 1 → slice_index counts place ≡ targets_below body place
 
@@ -20,14 +20,14 @@ JumpsBelow many (Print a) = Unit {0}
 JumpsBelow many (Return a) = Unit {0}
 
 -- the marks after the place that the instruction jumps to is marked
-abbrev pub marked : List Bool → Inst → List Bool
-marked marks (Receive x) = marks
-marked marks (Assign x rhs) = marks
-marked marks (Goto target) = slice_set marks target true
-marked marks (If test target) = slice_set marks target true
-marked marks (Call into unit operands) = marks
-marked marks (Print a) = marks
-marked marks (Return a) = marks
+abbrev pub target_marked : List Bool → Inst → List Bool
+target_marked marks (Receive x) = marks
+target_marked marks (Assign x rhs) = marks
+target_marked marks (Goto target) = slice_set marks target true
+target_marked marks (If test target) = slice_set marks target true
+target_marked marks (Call into unit operands) = marks
+target_marked marks (Print a) = marks
+target_marked marks (Return a) = marks
 
 -- a jump of the instruction goes to a place of the body that is known to be jumped to
 abbrev pub JumpsTo : List Inst → Inst → Type 0

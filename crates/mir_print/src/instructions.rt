@@ -1,6 +1,6 @@
-// The text of labels and instructions.
-ghost use Rattle.std.specs.Prelude.{◌≡◌, ◌≤◌, ◌++◌, length, true, OnOk};
-ghost use Rattle.mir_base.specs.Shapes.{InstFits};
+// The text of labels and instructions. Each function fails only with `Memory`.
+ghost use Rattle.std.specs.Prelude.{◌≡◌, ◌≤◌, length, true};
+ghost use Rattle.mir_base.specs.Appending.{AppendsOnOk};
 ghost use Rattle.mir_base.specs.Text.{is_target, label, label_before, call_text, inst_text};
 ghost use Rattle.mir_print.specs.Labels.{JumpsTo};
 ghost use Rattle.mir_print.specs.Scopes.{naming_of};
@@ -10,20 +10,10 @@ use crate::operands::{put_args, put_called, put_number, put_operand, put_rhs, pu
 use crate::scope::Scope;
 use mir_base::{Args, Inst};
 
-/// The name of the label at a place that is jumped to.
-fn put_label(text: &mut Vec<u8>, scope: &Scope, place: usize) -> Result<(), Memory>
-    requires within { place ≤ length scope.now.body.now }
-    requires target { is_target scope.now.body.now place ≡ true }
-    ensures { OnOk result (text.new.items ≡ text.old.items ++ label scope.now.body.now place) }
-{
-    text.push(b'L')?;
-    put_number(text, scope.counts[place + 1])
-}
-
 /// The label that stands before an instruction or `end`, if there is one.
 pub fn put_label_before(text: &mut Vec<u8>, scope: &Scope, place: usize) -> Result<(), Memory>
     requires { place ≤ length scope.now.body.now }
-    ensures { OnOk result (text.new.items ≡ text.old.items ++ label_before scope.now.body.now place) }
+    ensures { AppendsOnOk result text.old text.new (label_before scope.now.body.now place) }
 {
     if scope.counts[place] == scope.counts[place + 1] {
         return Ok(());
@@ -32,32 +22,20 @@ pub fn put_label_before(text: &mut Vec<u8>, scope: &Scope, place: usize) -> Resu
     text.extend_from_slice(b": ")
 }
 
-/// A call, with the variable for its result where there is one.
-fn put_call(
-    text: &mut Vec<u8>,
-    scope: &Scope,
-    into: &Option<usize>,
-    unit: usize,
-    args: &Args,
-) -> Result<(), Memory>
-    ensures { OnOk result (text.new.items ≡ text.old.items ++ call_text (naming_of scope.now) into.now unit args.now) }
+/// The name of the label at a place that is jumped to.
+fn put_label(text: &mut Vec<u8>, scope: &Scope, place: usize) -> Result<(), Memory>
+    requires within { place ≤ length scope.now.body.now }
+    requires target { is_target scope.now.body.now place ≡ true }
+    ensures { AppendsOnOk result text.old text.new (label scope.now.body.now place) }
 {
-    match into {
-        None => text.extend_from_slice(b"call ")?,
-        Some(x) => {
-            put_var(text, scope, *x)?;
-            text.extend_from_slice(b" <- ")?;
-        }
-    }
-    put_called(text, scope, unit)?;
-    text.push(b',')?;
-    put_args(text, scope, args.items())
+    text.push(b'L')?;
+    put_number(text, scope.counts[place + 1])
 }
 
 /// An instruction, without its label and its line end.
 pub fn put_inst(text: &mut Vec<u8>, scope: &Scope, inst: &Inst) -> Result<(), Memory>
     requires { JumpsTo scope.now.body.now inst.now }
-    ensures { OnOk result (text.new.items ≡ text.old.items ++ inst_text (naming_of scope.now) inst.now) }
+    ensures { AppendsOnOk result text.old text.new (inst_text (naming_of scope.now) inst.now) }
 {
     match inst {
         Inst::Receive(x) => {
@@ -90,4 +68,27 @@ pub fn put_inst(text: &mut Vec<u8>, scope: &Scope, inst: &Inst) -> Result<(), Me
             put_operand(text, scope, a)
         }
     }
+}
+
+/// A call, with the variable for its result where there is one.
+fn put_call(
+    text: &mut Vec<u8>,
+    scope: &Scope,
+    into: &Option<usize>,
+    unit: usize,
+    args: &Args,
+) -> Result<(), Memory>
+    ensures { AppendsOnOk result text.old text.new
+        (call_text (naming_of scope.now) into.now unit args.now) }
+{
+    match into {
+        None => text.extend_from_slice(b"call ")?,
+        Some(x) => {
+            put_var(text, scope, *x)?;
+            text.extend_from_slice(b" <- ")?;
+        }
+    }
+    put_called(text, scope, unit)?;
+    text.push(b',')?;
+    put_args(text, scope, args.items())
 }

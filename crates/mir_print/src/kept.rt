@@ -4,60 +4,48 @@ ghost use Rattle.std.specs.Prelude.{◌+◌, ◌^◌, ◌<◌, length, FitsSigne
 ghost use Rattle.std.specs.Int.{w64};
 ghost use Rattle.std.specs.List.{All};
 ghost use Rattle.mir_base.specs.Names.{IsName};
-ghost use Rattle.mir_base.specs.Shapes.{IsTidy, AllBelow, inst_vars};
 ghost use Rattle.mir_print.specs.Kept.{OperandKept, RhsKept, TestKept, InstKept, UnitKept, ProgramKept};
 
 use mir_base::{Inst, Name, Operand, Program, Rhs, Test, Unit};
 
-fn keep_number(number: i64)
-    ensures { FitsSigned w64 number }
+/// Has no effect; carries the theorem of what the types of a program keep: its parts fit together, its names are spelled
+/// as names, and its constants are numbers of 64 bits. It does not allocate, and visits each part of the program once.
+pub fn keep_program(program: &Program)
+    ensures { ProgramKept program.now }
 {
-    let _ = number;
+    keep_units(program.units.items());
 }
 
-fn keep_operand(operand: &Operand)
-    ensures { OperandKept operand.now }
+// Has no effect; carries the theorem that units are.
+fn keep_units(units: &[Unit])
+    ensures { All UnitKept units.now }
 {
-    match operand {
-        Operand::Var(_) => {}
-        Operand::Const(number) => keep_number(*number),
+    for unit in units {
+        keep_unit(unit);
     }
 }
 
-fn keep_rhs(rhs: &Rhs)
-    ensures { RhsKept rhs.now }
+// Has no effect; carries the theorem that a unit is kept.
+fn keep_unit(unit: &Unit)
+    ensures { UnitKept unit.now }
 {
-    match rhs {
-        Rhs::Plain(a) => keep_operand(a),
-        Rhs::Unary(_, a) => keep_operand(a),
-        Rhs::Binary(_, a, b) => {
-            keep_operand(a);
-            keep_operand(b);
-        }
+    let insts = unit.insts();
+    keep_insts(insts);
+    let _ = unit.name.bytes();
+    keep_names(unit.vars.items());
+}
+
+// Has no effect; carries the theorem that the constants of instructions do, and there are fewer than 2^64 of these.
+fn keep_insts(insts: &[Inst])
+    ensures kept { All InstKept insts.now }
+    ensures few { length insts.now + 1 < 2 ^ 64 }
+{
+    for inst in insts {
+        keep_inst(inst);
     }
 }
 
-fn keep_test(test: &Test)
-    ensures { TestKept test.now }
-{
-    match test {
-        Test::Rel(_, a, b) => {
-            keep_operand(a);
-            keep_operand(b);
-        }
-        Test::Holds(a) => keep_operand(a),
-        Test::Fails(a) => keep_operand(a),
-    }
-}
-
-fn keep_operands(operands: &[Operand])
-    ensures { All OperandKept operands.now }
-{
-    for operand in operands {
-        keep_operand(operand);
-    }
-}
-
+// Has no effect; carries the theorem that the constants of an instruction do.
 fn keep_inst(inst: &Inst)
     ensures { InstKept inst.now }
 {
@@ -72,44 +60,65 @@ fn keep_inst(inst: &Inst)
     }
 }
 
-fn keep_insts(insts: &[Inst])
-    ensures kept { All InstKept insts.now }
-    ensures few { length insts.now + 1 < 2 ^ 64 }
+// Has no effect; carries the theorem that the constants of a right side do.
+fn keep_rhs(rhs: &Rhs)
+    ensures { RhsKept rhs.now }
 {
-    for inst in insts {
-        keep_inst(inst);
+    match rhs {
+        Rhs::Plain(a) => keep_operand(a),
+        Rhs::Unary(_, a) => keep_operand(a),
+        Rhs::Binary(_, a, b) => {
+            keep_operand(a);
+            keep_operand(b);
+        }
     }
 }
 
+// Has no effect; carries the theorem that the constant of an operand fits 64 bits.
+fn keep_operand(operand: &Operand)
+    ensures { OperandKept operand.now }
+{
+    match operand {
+        Operand::Var(_) => {}
+        Operand::Const(number) => keep_number(*number),
+    }
+}
+
+// Has no effect; carries the theorem that a number fits 64 bits with a sign.
+fn keep_number(number: i64)
+    ensures { FitsSigned w64 number }
+{
+    let _ = number;
+}
+
+// Has no effect; carries the theorem that the constants of a test do.
+fn keep_test(test: &Test)
+    ensures { TestKept test.now }
+{
+    match test {
+        Test::Rel(_, a, b) => {
+            keep_operand(a);
+            keep_operand(b);
+        }
+        Test::Holds(a) => keep_operand(a),
+        Test::Fails(a) => keep_operand(a),
+    }
+}
+
+// Has no effect; carries the theorem that the constants of arguments do.
+fn keep_operands(operands: &[Operand])
+    ensures { All OperandKept operands.now }
+{
+    for operand in operands {
+        keep_operand(operand);
+    }
+}
+
+// Has no effect; carries the theorem that names are spelled as names.
 fn keep_names(names: &[Name])
     ensures { All IsName names.now }
 {
     for name in names {
         let _ = name.bytes();
     }
-}
-
-fn keep_unit(unit: &Unit)
-    ensures { UnitKept unit.now }
-{
-    let insts = unit.insts();
-    keep_insts(insts);
-    let _ = unit.name.bytes();
-    keep_names(unit.vars.items());
-}
-
-fn keep_units(units: &[Unit])
-    ensures { All UnitKept units.now }
-{
-    for unit in units {
-        keep_unit(unit);
-    }
-}
-
-/// What the types of a program keep: its parts fit together, its names are spelled as names, and its constants are
-/// numbers of 64 bits. It takes no memory, and visits each part of the program once.
-pub fn keep_program(program: &Program)
-    ensures { ProgramKept program.now }
-{
-    keep_units(program.units.items());
 }

@@ -1,27 +1,26 @@
 // The labels of a body: the places that its jumps go to, numbered in ascending order.
-ghost use Rattle.std.specs.Prelude.{◌≡◌, ◌+◌, length, map, slice_index, IfOk};
+ghost use Rattle.std.specs.Prelude.{◌≡◌, ◌+◌, length, IfOk};
 ghost use Rattle.std.specs.List.{All};
-ghost use Rattle.mir_base.specs.Text.{is_target, targets_below};
-ghost use Rattle.mir_print.specs.Labels.{AreCounts, JumpsBelow, marked, AreMarks};
+ghost use Rattle.mir_print.specs.Labels.{AreLabelCounts, JumpsBelow, target_marked, AreMarks};
 
 use crate::Memory;
 use mir_base::Inst;
 use std::alloc::Global;
 
-/// Marks the place that an instruction jumps to, if it jumps.
-fn mark(marks: &mut Vec<bool>, inst: &Inst)
-    requires { JumpsBelow (length marks.old.items) inst.now }
-    ensures { marks.new.items ≡ marked marks.old.items inst.now }
+/// For each place of a body, for that of `end` and for the one behind it, how many places below it are jumped to.
+pub fn counts(alloc: Global, body: &[Inst]) -> Result<Vec<usize>, Memory>
+    requires { All (JumpsBelow (length body.now + 1)) body.now }
+    ensures { IfOk result (λ counts. AreLabelCounts body.now counts.items) }
 {
-    match inst {
-        Inst::Receive(_) => {}
-        Inst::Assign(_, _) => {}
-        Inst::Goto(place) => marks[*place] = true,
-        Inst::If(_, place) => marks[*place] = true,
-        Inst::Call(_, _, _) => {}
-        Inst::Print(_) => {}
-        Inst::Return(_) => {}
+    let marks = marks(alloc, body)?;
+    let mut counts = Vec::new(alloc);
+    let mut below = 0;
+    counts.push(below)?;
+    for mark in &marks {
+        below += usize::from(*mark);
+        counts.push(below)?;
     }
+    Ok(counts)
 }
 
 /// For each place of a body, up to that of `end`, whether some instruction jumps to it.
@@ -37,18 +36,18 @@ fn marks(alloc: Global, body: &[Inst]) -> Result<Vec<bool>, Memory>
     Ok(marks)
 }
 
-/// For each place of a body, for that of `end` and for the one behind it, how many places below it are jumped to.
-pub fn counts(alloc: Global, body: &[Inst]) -> Result<Vec<usize>, Memory>
-    requires { All (JumpsBelow (length body.now + 1)) body.now }
-    ensures { IfOk result (λ counts. AreCounts body.now counts.items) }
+/// Marks the place that an instruction jumps to, if it jumps.
+fn mark(marks: &mut Vec<bool>, inst: &Inst)
+    requires { JumpsBelow (length marks.old.items) inst.now }
+    ensures { marks.new.items ≡ target_marked marks.old.items inst.now }
 {
-    let marks = marks(alloc, body)?;
-    let mut counts = Vec::new(alloc);
-    let mut below = 0;
-    counts.push(below)?;
-    for mark in &marks {
-        below += usize::from(*mark);
-        counts.push(below)?;
+    match inst {
+        Inst::Receive(_) => {}
+        Inst::Assign(_, _) => {}
+        Inst::Goto(place) => marks[*place] = true,
+        Inst::If(_, place) => marks[*place] = true,
+        Inst::Call(_, _, _) => {}
+        Inst::Print(_) => {}
+        Inst::Return(_) => {}
     }
-    Ok(counts)
 }

@@ -15,12 +15,9 @@ mod operands;
 mod printing;
 mod reading_back;
 mod scope;
-mod spelling;
-#[cfg(test)]
-mod tests;
 
 pub use printing::print;
 pub use reading_back::text_is_read_back;
 
-/// Want of memory: the allocator refused.
+/// Running out of memory: the allocator refused.
 pub type Memory = std::alloc::AllocError;

@@ -1,8 +1,9 @@
 // The canonical text of a program.
-ghost use Rattle.std.specs.Prelude.{◌≡◌, ◌++◌, ◌<◌, length, flat_map, map, codes, IfOk, OnOk};
+ghost use Rattle.std.specs.Prelude.{◌≡◌, ◌<◌, IfOk};
+ghost use Rattle.mir_base.specs.Appending.{AppendsOnOk};
 ghost use Rattle.mir_base.specs.Shapes.{BodyFits};
-ghost use Rattle.mir_base.specs.Text.{lines_text, unit_text, canonical_text};
-ghost use Rattle.mir_print.specs.Scopes.{naming_of};
+ghost use Rattle.mir_base.specs.Text.{lines_text, canonical_text};
+ghost use Rattle.mir_print.specs.Scopes.{naming_of, unit_text_among};
 
 use crate::Memory;
 use crate::instructions::{put_inst, put_label_before};
@@ -13,8 +14,8 @@ use std::alloc::Global;
 
 /// The canonical text of a program: for each unit `NAME: begin`, a line for each instruction, and `end`. Units follow
 /// each other without a blank line, each line ends with a line feed, and the places that jumps go to have the labels
-/// `L1`, `L2` and so on in ascending order. Its only refusal is want of memory. `text_is_read_back` says what reading the
-/// text gives.
+/// `L1`, `L2` and so on in ascending order. It fails only with `Memory`. `text_is_read_back` says what reading the text
+/// gives.
 pub fn print(alloc: Global, program: &Program) -> Result<Vec<u8>, Memory>
     ensures { IfOk result (λ text. text.items ≡ canonical_text program.now) }
 {
@@ -29,7 +30,7 @@ pub fn print(alloc: Global, program: &Program) -> Result<Vec<u8>, Memory>
 /// A unit, among these units.
 fn put_unit(alloc: Global, text: &mut Vec<u8>, units: &[Unit], unit: &Unit) -> Result<(), Memory>
     requires { BodyFits units.now unit.now.body }
-    ensures { OnOk result (text.new.items ≡ text.old.items ++ unit_text (map (λ u. u.name) units.now) unit.now) }
+    ensures { AppendsOnOk result text.old text.new (unit_text_among units.now unit.now) }
 {
     let body = unit.body.items();
     let counts = counts(alloc, body)?;
@@ -49,7 +50,8 @@ fn put_unit(alloc: Global, text: &mut Vec<u8>, units: &[Unit], unit: &Unit) -> R
 /// The lines of a unit's instructions.
 fn put_lines(text: &mut Vec<u8>, scope: &Scope) -> Result<(), Memory>
     requires { BodyFits scope.now.units.now scope.now.body.now }
-    ensures { OnOk result (text.new.items ≡ text.old.items ++ lines_text (naming_of scope.now) 0 scope.now.body.now) }
+    ensures { AppendsOnOk result text.old text.new
+        (lines_text (naming_of scope.now) 0 scope.now.body.now) }
 {
     for (place, inst) in scope.body.iter().enumerate() {
         put_label_before(text, scope, place)?;

@@ -1,5 +1,5 @@
 // What the numbers in a unit's instructions stand for.
-ghost use Rattle.mir_print.specs.Labels.{AreCounts};
+ghost use Rattle.mir_print.specs.Labels.{AreLabelCounts};
 
 use mir_base::{Inst, Name, Unit};
 
@@ -12,5 +12,5 @@ pub struct Scope<'a> {
     pub body: &'a [Inst],
     /// How many places below each place are jumped to, up to the place behind that of `end`.
     pub counts: &'a [usize],
-    ghost counted: { AreCounts body.now counts.now },
+    ghost counted: { AreLabelCounts body.now counts.now },
 }

@@ -1,5 +1,6 @@
 -- In valid units each name of a label or a unit stands somewhere, and its number or place is one of that name.
-use Rattle.std.proofs.Common.{◌≡◌, ℕ, suc, ◌+◌, Bool, true, false, not, cond, unwrap_or, count_by, List, [], ◌∷◌, slice_get, Option, Some, refl, ap, sym, ◌∙◌, subst, arith}
+use Rattle.std.proofs.Common.{◌≡◌, ℕ, suc, ◌+◌, Bool, true, false, cond, unwrap_or, count_by, List, [], ◌∷◌, slice_get, Option, Some, refl, ap, sym, ◌∙◌, subst, arith}
+use Rattle.mir_base.specs.ItemLaws.{some_of}
 use Rattle.mir_parse.specs.declared.raw.RawLabel.{RawLabel}
 use Rattle.mir_parse.specs.RawUnit.{RawUnitShape}
 use Rattle.mir_valid.specs.Names.{is_same, has_name, number_in}
@@ -7,41 +8,43 @@ use Rattle.mir_valid.specs.Rules.{unit_names, label_names, is_receive, receive_c
 use Rattle.mir_valid.specs.Stands.{IsNumber, IsPlace}
 use Rattle.mir_valid.specs.Tables.{number_or_zero, numbered, table_of}
 use Rattle.mir_valid.specs.Numbered.{label_places, unit_numbers}
-use Rattle.mir_valid.proofs.TableLaws.{number_in-table_of, has-entry, has-number}
-use Rattle.mir_valid.proofs.NumberLaws.{same-is, found-at, number-is}
+use Rattle.mir_valid.proofs.TableLaws.{number_in_table_of, has_entry, has_number}
+use Rattle.mir_valid.specs.NameLaws.{same_is}
+use Rattle.mir_valid.proofs.NumberLaws.{number_is}
 
-pub not-false : (b : Bool) → not b ≡ false → b ≡ true
-not-false true e = refl
-not-false false e = absurd (cc)
+-- a place of a name is one still when another label comes in front
+place_later : (first : RawLabel) (labels : List RawLabel) (l : List ℕ) (place : ℕ) → IsPlace labels l place → IsPlace (first ∷ labels) l place
+place_later first labels l place (k, label, low, at, is) = (suc k, label, omega (arith, low), at, is)
 
-place-later : (first : RawLabel) (labels : List RawLabel) (l : List ℕ) (place : ℕ) → IsPlace labels l place → IsPlace (first ∷ labels) l place
-place-later first labels l place (k, label, low, at, is) = (suc k, label, omega (arith, low), at, is)
-
-place-is : (labels : List RawLabel) (l : List ℕ) (place : ℕ) → number_in (label_places labels) l ≡ Some place → IsPlace labels l place
-place-is [] l place e = absurd (cc)
-place-is (label ∷ labels) l place e = by (is_same l label.name) refl (place-is labels l place)
+-- the place that a look-up finds is that of a label with the name
+place_is : (labels : List RawLabel) (l : List ℕ) (place : ℕ) → number_in (label_places labels) l ≡ Some place → IsPlace labels l place
+place_is [] l place e = absurd (cc)
+place_is (label ∷ labels) l place e = by (is_same l label.name) refl (place_is labels l place)
   where
     by : (b : Bool) → is_same l label.name ≡ b → (number_in (label_places labels) l ≡ Some place → IsPlace labels l place) → IsPlace (label ∷ labels) l place
     by true same later =
         let e' = sym (ap (λ b. cond b (Some label.place) (number_in (label_places labels) l)) same) ∙ e in
-        (0, label, omega arith, refl, (sym (same-is l label.name same), cc))
-    by false other later = place-later label labels l place (later (sym (ap (λ b. cond b (Some label.place) (number_in (label_places labels) l)) other) ∙ e))
+        (0, label, omega arith, refl, (sym (same_is l label.name same), cc))
+    by false other later = place_later label labels l place (later (sym (ap (λ b. cond b (Some label.place) (number_in (label_places labels) l)) other) ∙ e))
 
-pub label-found : (labels : List RawLabel) (l : List ℕ) → has_name (label_names labels) l ≡ true → IsPlace labels l (number_or_zero (table_of (label_places labels)) l)
-label-found labels l has =
-    let found = found-at (number_in (label_places labels) l) (has-entry (λ label. label.name) (λ label. label.place) labels l ∙ has) in
-    subst (λ (o : Option ℕ). IsPlace labels l (unwrap_or o 0)) (sym (number_in-table_of (label_places labels) l ∙ found.1)) (place-is labels l found.0 found.1)
+-- the place of a name that some label has
+pub label_found : (labels : List RawLabel) (l : List ℕ) → has_name (label_names labels) l ≡ true → IsPlace labels l (number_or_zero (table_of (label_places labels)) l)
+label_found labels l has =
+    let found = some_of (number_in (label_places labels) l) (has_entry (λ label. label.name) (λ label. label.place) labels l ∙ has) in
+    subst (λ (o : Option ℕ). IsPlace labels l (unwrap_or o 0)) (sym (number_in_table_of (label_places labels) l ∙ found.1)) (place_is labels l found.0 found.1)
 
-unit-number : (units : List RawUnitShape) (f : List ℕ) → has_name (unit_names units) f ≡ true
+-- a unit's name is found in the numbered names, with the number that the table gives
+unit_number : (units : List RawUnitShape) (f : List ℕ) → has_name (unit_names units) f ≡ true
     → (n : ℕ) × (number_or_zero (unit_numbers units) f ≡ n) × (number_in (numbered 0 (unit_names units)) f ≡ Some n)
-unit-number units f has =
-    let found = found-at (number_in (numbered 0 (unit_names units)) f) (has-number 0 (unit_names units) f ∙ has) in
-    (found.0, ap (λ o. unwrap_or o 0) (number_in-table_of (numbered 0 (unit_names units)) f ∙ found.1), found.1)
+unit_number units f has =
+    let found = some_of (number_in (numbered 0 (unit_names units)) f) (has_number 0 (unit_names units) f ∙ has) in
+    (found.0, ap (λ o. unwrap_or o 0) (number_in_table_of (numbered 0 (unit_names units)) f ∙ found.1), found.1)
 
-pub unit-found : (units : List RawUnitShape) (f : List ℕ) → has_name (unit_names units) f ≡ true → IsNumber (unit_names units) f (number_or_zero (unit_numbers units) f)
-unit-found units f has =
-    let n = unit-number units f has in
-    subst (λ (k : ℕ). IsNumber (unit_names units) f k) (sym n.1) (number-is (unit_names units) f n.0 n.2)
+-- the number of a name that some unit has
+pub unit_found : (units : List RawUnitShape) (f : List ℕ) → has_name (unit_names units) f ≡ true → IsNumber (unit_names units) f (number_or_zero (unit_numbers units) f)
+unit_found units f has =
+    let n = unit_number units f has in
+    subst (λ (k : ℕ). IsNumber (unit_names units) f k) (sym n.1) (number_is (unit_names units) f n.0 n.2)
 
 -- the called unit is the first of this name, and so is the count of its receives
 pub record IsCalled (units : List RawUnitShape) (f : List ℕ) (place : ℕ) : Type 0 where
@@ -49,9 +52,10 @@ pub record IsCalled (units : List RawUnitShape) (f : List ℕ) (place : ℕ) : T
   pub at : slice_get units place ≡ Some unit
   pub count : number_in (receive_counts units) f ≡ Some (count_by is_receive unit.body)
 
-first-called : (k : ℕ) (units : List RawUnitShape) (f : List ℕ) (n : ℕ) → number_in (numbered k (unit_names units)) f ≡ Some n → (place : ℕ) × (n ≡ k + place) × IsCalled units f place
-first-called k [] f n e = absurd (cc)
-first-called k (unit ∷ units) f n e = by (is_same f unit.name) refl (first-called (suc k) units f n)
+-- the number that is found counts the units before the first of the name
+first_called : (k : ℕ) (units : List RawUnitShape) (f : List ℕ) (n : ℕ) → number_in (numbered k (unit_names units)) f ≡ Some n → (place : ℕ) × (n ≡ k + place) × IsCalled units f place
+first_called k [] f n e = absurd (cc)
+first_called k (unit ∷ units) f n e = by (is_same f unit.name) refl (first_called (suc k) units f n)
   where
     by : (b : Bool) → is_same f unit.name ≡ b → (number_in (numbered (suc k) (unit_names units)) f ≡ Some n → (place : ℕ) × (n ≡ suc k + place) × IsCalled units f place)
         → (place : ℕ) × (n ≡ k + place) × IsCalled (unit ∷ units) f place
@@ -76,9 +80,10 @@ first-called k (unit ∷ units) f n e = by (is_same f unit.name) refl (first-cal
           },
         )
 
-pub called-is : (units : List RawUnitShape) (f : List ℕ) → has_name (unit_names units) f ≡ true → IsCalled units f (number_or_zero (unit_numbers units) f)
-called-is units f has =
-    let n = unit-number units f has in
-    let called = first-called 0 units f n.0 n.2 in
+-- a name that some unit has is that of a called unit
+pub called_is : (units : List RawUnitShape) (f : List ℕ) → has_name (unit_names units) f ≡ true → IsCalled units f (number_or_zero (unit_numbers units) f)
+called_is units f has =
+    let n = unit_number units f has in
+    let called = first_called 0 units f n.0 n.2 in
     let same : called.0 ≡ number_or_zero (unit_numbers units) f = omega (arith, called.1, n.1) in
     subst (λ (place : ℕ). IsCalled units f place) same called.2

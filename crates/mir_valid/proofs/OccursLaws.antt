@@ -16,30 +16,35 @@ use Rattle.mir_valid.specs.Variables.{form_names, body_names, FirstNames, none, 
 use Rattle.mir_valid.specs.Rules.{broken, received_by, received, receives_again}
 use Rattle.mir_valid.specs.Tables.{number_or_zero, numbered}
 use Rattle.mir_valid.specs.Numbered.{with_name, variables_of, Numbers, numbered_form, numbered_body}
-use Rattle.mir_valid.proofs.BrokenLaws.{kept-at}
-use Rattle.mir_valid.proofs.ListLaws.{map-at, at-take}
-use Rattle.mir_valid.proofs.NumberLaws.{same-self, same-is, numbered-is}
+use Rattle.mir_valid.proofs.BrokenLaws.{kept_at}
+use Rattle.mir_valid.proofs.ListLaws.{map_at, at_take}
+use Rattle.mir_valid.specs.NameLaws.{same_self, same_is}
+use Rattle.mir_valid.proofs.NumberLaws.{numbered_is}
 
 -- each of these names is one of the variables
 abbrev pub Within : List (List ℕ) → List (List ℕ) → Type 0
 Within vars names = (x : List ℕ) → has_name names x ≡ true → has_name vars x ≡ true
 
-pub within-front : (vars xs ys : List (List ℕ)) → Within vars (xs ++ ys) → Within vars xs
-within-front vars xs ys within x has = within x (list_any-append (is_same x) xs ys ∙ ap (λ b. b || has_name ys x) has)
+-- the first part of a joined list of names
+pub within_front : (vars xs ys : List (List ℕ)) → Within vars (xs ++ ys) → Within vars xs
+within_front vars xs ys within x has = within x (list_any-append (is_same x) xs ys ∙ ap (λ b. b || has_name ys x) has)
 
-pub within-back : (vars xs ys : List (List ℕ)) → Within vars (xs ++ ys) → Within vars ys
-within-back vars xs ys within x has = within x (list_any-append (is_same x) xs ys ∙ ap (λ b. has_name xs x || b) has ∙ or-true (has_name xs x))
+-- the second part
+pub within_back : (vars xs ys : List (List ℕ)) → Within vars (xs ++ ys) → Within vars ys
+within_back vars xs ys within x has = within x (list_any-append (is_same x) xs ys ∙ ap (λ b. has_name xs x || b) has ∙ or-true (has_name xs x))
 
-pub within-one : (vars : List (List ℕ)) (x : List ℕ) → Within vars (x ∷ []) → has_name vars x ≡ true
-within-one vars x within = within x (ap (λ b. b || false) (same-self x))
+-- a name alone
+pub within_one : (vars : List (List ℕ)) (x : List ℕ) → Within vars (x ∷ []) → has_name vars x ≡ true
+within_one vars x within = within x (ap (λ b. b || false) (same_self x))
 
 -- ---- the names that one pass finds
 
-has-with : (vars : List (List ℕ)) (name x : List ℕ) → has_name (with_name vars name) x ≡ (has_name vars x || is_same x name)
-has-with vars name x = by (has_name vars name) refl
+-- after a name joined, the list has that one and those that it had
+has_with : (vars : List (List ℕ)) (name x : List ℕ) → has_name (with_name vars name) x ≡ (has_name vars x || is_same x name)
+has_with vars name x = by (has_name vars name) refl
   where
     there : has_name vars name ≡ true → (b : Bool) → is_same x name ≡ b → has_name vars x ≡ (has_name vars x || b)
-    there has true same = let e : has_name vars x ≡ true = ap (has_name vars) (same-is x name same) ∙ has in e ∙ sym (ap (λ b. b || true) e)
+    there has true same = let e : has_name vars x ≡ true = ap (has_name vars) (same_is x name same) ∙ has in e ∙ sym (ap (λ b. b || true) e)
     there has false same = sym (or-false (has_name vars x))
 
     by : (b : Bool) → has_name vars name ≡ b → has_name (with_name vars name) x ≡ (has_name vars x || is_same x name)
@@ -49,91 +54,99 @@ has-with vars name x = by (has_name vars name) refl
         ∙ list_any-append (is_same x) vars (name ∷ [])
         ∙ ap (λ b. has_name vars x || b) (or-false (is_same x name))
 
-has-fold : (names vars : List (List ℕ)) (x : List ℕ) → has_name (fold with_name vars names) x ≡ (has_name vars x || has_name names x)
-has-fold [] vars x = sym (or-false (has_name vars x))
-has-fold (name ∷ names) vars x =
-    has-fold names (with_name vars name) x ∙ ap (λ b. b || has_name names x) (has-with vars name x) ∙ or_assoc (has_name vars x) (is_same x name) (has_name names x)
+-- after names joined, the list has those and the ones that it had
+has_fold : (names vars : List (List ℕ)) (x : List ℕ) → has_name (fold with_name vars names) x ≡ (has_name vars x || has_name names x)
+has_fold [] vars x = sym (or-false (has_name vars x))
+has_fold (name ∷ names) vars x =
+    has_fold names (with_name vars name) x ∙ ap (λ b. b || has_name names x) (has_with vars name x) ∙ or_assoc (has_name vars x) (is_same x name) (has_name names x)
 
 -- each name that occurs is a variable
-pub within-variables : (body : List RawInst) → Within (variables_of body) (body_names body)
-within-variables body x has = has-fold (body_names body) [] x ∙ has
+pub within_variables : (body : List RawInst) → Within (variables_of body) (body_names body)
+within_variables body x has = has_fold (body_names body) [] x ∙ has
 
-pub within-inst : (vars : List (List ℕ)) (body : List RawInst) (i : ℕ) (inst : RawInst) → Within vars (body_names body) → slice_get body i ≡ Some inst → Within vars (form_names inst.form)
-within-inst vars [] i inst within at = absurd (cc)
-within-inst vars (other ∷ body) zero inst within at =
+-- the names in one instruction of a body
+pub within_inst : (vars : List (List ℕ)) (body : List RawInst) (i : ℕ) (inst : RawInst) → Within vars (body_names body) → slice_get body i ≡ Some inst → Within vars (form_names inst.form)
+within_inst vars [] i inst within at = absurd (cc)
+within_inst vars (other ∷ body) zero inst within at =
     let same : other ≡ inst = cc in
-    subst (λ (j : RawInst). Within vars (form_names j.form)) same (within-front vars (form_names other.form) (body_names body) within)
-within-inst vars (other ∷ body) (suc i) inst within at = within-inst vars body i inst (within-back vars (form_names other.form) (body_names body) within) at
+    subst (λ (j : RawInst). Within vars (form_names j.form)) same (within_front vars (form_names other.form) (body_names body) within)
+within_inst vars (other ∷ body) (suc i) inst within at = within_inst vars body i inst (within_back vars (form_names other.form) (body_names body) within) at
 
 -- ---- the order of first occurrence
 
-first-step : (names vars : List (List ℕ)) (x : List ℕ) → FirstNames names vars → FirstNames (names ++ x ∷ []) (with_name vars x)
-first-step names vars x before = by (has_name vars x) refl
+-- one more name keeps the order, whether it is new or was there
+first_step : (names vars : List (List ℕ)) (x : List ℕ) → FirstNames names vars → FirstNames (names ++ x ∷ []) (with_name vars x)
+first_step names vars x before = by (has_name vars x) refl
   where
     by : (b : Bool) → has_name vars x ≡ b → FirstNames (names ++ x ∷ []) (with_name vars x)
-    by true e = subst (λ (b : Bool). FirstNames (names ++ x ∷ []) (if b then vars else vars ++ x ∷ [])) (sym e) (again x before (Contains-from_any {eq = is_same} same-is x vars e))
+    by true e = subst (λ (b : Bool). FirstNames (names ++ x ∷ []) (if b then vars else vars ++ x ∷ [])) (sym e) (again x before (Contains-from_any {eq = is_same} same_is x vars e))
     by false e =
         subst (λ (b : Bool). FirstNames (names ++ x ∷ []) (if b then vars else vars ++ x ∷ [])) (sym e)
         (first x before (λ occurs. let e' = sym (list_any-from_Contains {eq = is_same} nat_list_eq_equiv x vars occurs) ∙ e in absurd (cc)))
 
-first-fold : (rest names vars : List (List ℕ)) → FirstNames names vars → FirstNames (names ++ rest) (fold with_name vars rest)
-first-fold [] names vars before = subst (λ (all : List (List ℕ)). FirstNames all vars) (sym (append-nil names)) before
-first-fold (x ∷ rest) names vars before =
+-- and so do more names
+first_fold : (rest names vars : List (List ℕ)) → FirstNames names vars → FirstNames (names ++ rest) (fold with_name vars rest)
+first_fold [] names vars before = subst (λ (all : List (List ℕ)). FirstNames all vars) (sym (append-nil names)) before
+first_fold (x ∷ rest) names vars before =
     subst (λ (all : List (List ℕ)). FirstNames all (fold with_name (with_name vars x) rest)) (append_assoc names (x ∷ []) rest)
-    (first-fold rest (names ++ x ∷ []) (with_name vars x) (first-step names vars x before))
+    (first_fold rest (names ++ x ∷ []) (with_name vars x) (first_step names vars x before))
 
-pub first-variables : (body : List RawInst) → FirstNames (body_names body) (variables_of body)
-first-variables body = first-fold (body_names body) [] [] none
+-- the names of a body, each once, are in the order of first occurrence
+pub first_variables : (body : List RawInst) → FirstNames (body_names body) (variables_of body)
+first_variables body = first_fold (body_names body) [] [] none
 
 -- ---- receives
 
-receive-of : (numbers : Numbers) (form : RawForm) (x : ℕ) → numbered_form numbers form ≡ Receive x → (name : List ℕ) × (form ≡ RawReceive name) × (number_or_zero numbers.vars name ≡ x)
-receive-of numbers (RawReceive name) x e = (name, refl, cc)
-receive-of numbers form x e = absurd (cc)
+-- only a receive is numbered as a receive, and its variable is the number of its name
+receive_of : (numbers : Numbers) (form : RawForm) (x : ℕ) → numbered_form numbers form ≡ Receive x → (name : List ℕ) × (form ≡ RawReceive name) × (number_or_zero numbers.vars name ≡ x)
+receive_of numbers (RawReceive name) x e = (name, refl, cc)
+receive_of numbers form x e = absurd (cc)
 
-received-kept : (received_name : Option (List ℕ)) (names : List (List ℕ)) (name : List ℕ) → has_name names name ≡ true → has_name (cons_option received_name names) name ≡ true
-received-kept None names name has = has
-received-kept (Some x) names name has = ap (λ b. is_same name x || b) has ∙ or-true (is_same name x)
+-- a name among those received stays among them when one more instruction stands in front
+received_kept : (received_name : Option (List ℕ)) (names : List (List ℕ)) (name : List ℕ) → has_name names name ≡ true → has_name (cons_option received_name names) name ≡ true
+received_kept None names name has = has
+received_kept (Some x) names name has = ap (λ b. is_same name x || b) has ∙ or-true (is_same name x)
 
-received-at : (body : List RawInst) (i : ℕ) (inst : RawInst) (name : List ℕ) → slice_get body i ≡ Some inst → inst.form ≡ RawReceive name → has_name (received body) name ≡ true
-received-at [] i inst name at is = absurd (cc)
-received-at (other ∷ body) zero inst name at is =
+-- a receive at some place puts its variable among those received
+received_at : (body : List RawInst) (i : ℕ) (inst : RawInst) (name : List ℕ) → slice_get body i ≡ Some inst → inst.form ≡ RawReceive name → has_name (received body) name ≡ true
+received_at [] i inst name at is = absurd (cc)
+received_at (other ∷ body) zero inst name at is =
     let same : other ≡ inst = cc in
     let receives : received_by other.form ≡ Some name = ap (λ (j : RawInst). received_by j.form) same ∙ ap received_by is in
-    ap (λ o. has_name (cons_option o (received body)) name) receives ∙ ap (λ b. b || has_name (received body) name) (same-self name)
-received-at (other ∷ body) (suc i) inst name at is = received-kept (received_by other.form) (received body) name (received-at body i inst name at is)
+    ap (λ o. has_name (cons_option o (received body)) name) receives ∙ ap (λ b. b || has_name (received body) name) (same_self name)
+received_at (other ∷ body) (suc i) inst name at is = received_kept (received_by other.form) (received body) name (received_at body i inst name at is)
 
 -- a later receive names another variable
-received-apart : (body : List RawInst) → broken (λ inst. inst.line) receives_again body ≡ [] → (i j : ℕ) (inst later : RawInst) (name : List ℕ) → i < j → slice_get body i ≡ Some inst
+received_apart : (body : List RawInst) → broken (λ inst. inst.line) receives_again body ≡ [] → (i j : ℕ) (inst later : RawInst) (name : List ℕ) → i < j → slice_get body i ≡ Some inst
     → slice_get body j ≡ Some later → inst.form ≡ RawReceive name → later.form ≡ RawReceive name → ⊥
-received-apart body e i j inst later name low at_i at_j is_i is_j =
+received_apart body e i j inst later name low at_i at_j is_i is_j =
     let kept : has_name (received (take j body)) name ≡ false =
-    ap (λ form. option_map_or (has_name (received (take j body))) (received_by form) false) (sym is_j) ∙ kept-at (λ inst. inst.line) receives_again body e j later at_j in
-    let has : has_name (received (take j body)) name ≡ true = received-at (take j body) i inst name (at-take body i j inst low at_i) is_i in
+    ap (λ form. option_map_or (has_name (received (take j body))) (received_by form) false) (sym is_j) ∙ kept_at (λ inst. inst.line) receives_again body e j later at_j in
+    let has : has_name (received (take j body)) name ≡ true = received_at (take j body) i inst name (at_take body i j inst low at_i) is_i in
     let wrong = sym has ∙ kept in
     cc
 
 -- no variable is received twice
-pub received-once : (numbers : Numbers) (body : List RawInst) → numbers.vars ≡ numbered 0 (variables_of body) → broken (λ inst. inst.line) receives_again body ≡ []
+pub received_once : (numbers : Numbers) (body : List RawInst) → numbers.vars ≡ numbered 0 (variables_of body) → broken (λ inst. inst.line) receives_again body ≡ []
     → (i j x : ℕ) → slice_get (numbered_body numbers body) i ≡ Some (Receive x) → slice_get (numbered_body numbers body) j ≡ Some (Receive x) → i ≡ j
-received-once numbers body vars e i j x at_i at_j =
-    let raw_i = map-at (λ inst. numbered_form numbers inst.form) body i (Receive x) at_i in
-    let raw_j = map-at (λ inst. numbered_form numbers inst.form) body j (Receive x) at_j in
-    let receive_i = receive-of numbers raw_i.0.form x raw_i.2 in
-    let receive_j = receive-of numbers raw_j.0.form x raw_j.2 in
+received_once numbers body vars e i j x at_i at_j =
+    let raw_i = map_at (λ inst. numbered_form numbers inst.form) body i (Receive x) at_i in
+    let raw_j = map_at (λ inst. numbered_form numbers inst.form) body j (Receive x) at_j in
+    let receive_i = receive_of numbers raw_i.0.form x raw_i.2 in
+    let receive_j = receive_of numbers raw_j.0.form x raw_j.2 in
     let named_i = named raw_i.0 i raw_i.1 receive_i.0 receive_i.1 receive_i.2 in
     let named_j = named raw_j.0 j raw_j.1 receive_j.0 receive_j.1 receive_j.2 in
     let same : receive_i.0 ≡ receive_j.0 = cc (sym named_i ∙ named_j) in
     let is_j : raw_j.0.form ≡ RawReceive receive_i.0 = receive_j.1 ∙ ap RawReceive (sym same) in
-    by (nat_lt i j) (nat_lt j i) refl refl (λ low. received-apart body e i j raw_i.0 raw_j.0 receive_i.0 low raw_i.1 raw_j.1 receive_i.1 is_j)
-    (λ low. received-apart body e j i raw_j.0 raw_i.0 receive_i.0 low raw_j.1 raw_i.1 is_j receive_i.1)
+    by (nat_lt i j) (nat_lt j i) refl refl (λ low. received_apart body e i j raw_i.0 raw_j.0 receive_i.0 low raw_i.1 raw_j.1 receive_i.1 is_j)
+    (λ low. received_apart body e j i raw_j.0 raw_i.0 receive_i.0 low raw_j.1 raw_i.1 is_j receive_i.1)
   where
     named : (inst : RawInst) (k : ℕ) → slice_get body k ≡ Some inst → (name : List ℕ) → inst.form ≡ RawReceive name → number_or_zero numbers.vars name ≡ x
         → slice_get (variables_of body) x ≡ Some name
     named inst k at name is number =
-        let occurs : Within (variables_of body) (name ∷ []) = subst (λ (form : RawForm). Within (variables_of body) (form_names form)) is (within-inst (variables_of body) body k inst (within-variables body) at) in
+        let occurs : Within (variables_of body) (name ∷ []) = subst (λ (form : RawForm). Within (variables_of body) (form_names form)) is (within_inst (variables_of body) body k inst (within_variables body) at) in
         subst (λ (n : ℕ). slice_get (variables_of body) n ≡ Some name) (ap (λ vs. number_or_zero vs name) (sym vars) ∙ number)
-        (numbered-is (variables_of body) name (within-one (variables_of body) name occurs))
+        (numbered_is (variables_of body) name (within_one (variables_of body) name occurs))
 
     by : (b c : Bool) → nat_lt i j ≡ b → nat_lt j i ≡ c → (i < j → ⊥) → (j < i → ⊥) → i ≡ j
     by true c is_b is_c not_i not_j = absurd (not_i (ltb-true i j is_b))

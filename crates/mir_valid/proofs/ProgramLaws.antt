@@ -1,12 +1,14 @@
 -- The units that valid raw units give fit together.
 use Rattle.std.proofs.Common.{◌≡◌, ℕ, ◌<◌, ◌≤◌, Bool, true, false, not, is_some, nat_eq, nat_lt, nat_le, count_by, List, [], ◌∷◌, map, length, take, slice_get, Option, Some, All, refl, ap, sym, ◌∙◌, subst, arith, ltb-true, ltb-false, eqb-true}
+use Rattle.std.proofs.lemmas.Bool.{not-false}
 use Rattle.std.specs.Option.{option_map_or}
 use Rattle.std.proofs.lemmas.List.{length-map, length-take-le}
 use Rattle.std.proofs.lemmas.List.Folds.{list_any-from_Any}
-use Rattle.std.proofs.lemmas.Option.{slice_get_within, get_or_from_slice_get}
+use Rattle.std.proofs.lemmas.Option.{slice_get_within}
 use Rattle.std.proofs.lemmas.Bool.Decides.{nat_tests}
 use Rattle.mir_base.specs.declared.instructions.Operand.{Operand}
 use Rattle.mir_base.specs.declared.instructions.Inst.{Inst}
+use Rattle.mir_base.specs.ItemLaws.{all_at}
 use Rattle.mir_base.specs.Shapes.{UnitShape, AllDiffer, names_of, receives_in, body_at, body_or_empty, IsTarget, InstFits, BodyFits, IsProgram}
 use Rattle.mir_parse.specs.declared.raw.RawForm.{RawForm}
 use Rattle.mir_parse.specs.declared.raw.RawForm.TheVariants.{Receive as RawReceive, Assign as RawAssign, Goto as RawGoto, If as RawIf, Call as RawCall, Print as RawPrint, Return as RawReturn}
@@ -14,28 +16,29 @@ use Rattle.mir_parse.specs.declared.raw.RawOperand.{RawOperand}
 use Rattle.mir_parse.specs.declared.raw.RawInst.{RawInst}
 use Rattle.mir_parse.specs.declared.raw.RawLabel.{RawLabel}
 use Rattle.mir_parse.specs.RawUnit.{RawUnitShape, HasPlaces}
-use Rattle.mir_valid.specs.Names.{Entry, has_name}
+use Rattle.mir_valid.specs.Names.{NameEntry, has_name}
 use Rattle.mir_valid.specs.Rules.{broken, received_by, unit_names, is_receive, has_label_before, is_late, label_names, misses_label, misses_unit, receive_counts, differs_from, no_label_lines, no_unit_lines, wrong_count_lines, late_receive_lines, same_receive_lines}
 use Rattle.mir_valid.specs.Refusals.{AreValid}
 use Rattle.mir_valid.specs.Stands.{IsPlace}
 use Rattle.mir_valid.specs.Tables.{number_or_zero}
 use Rattle.mir_valid.specs.Numbered.{Numbers, numbers_of, numbered_operand, numbered_form, numbered_body, numbered_unit, unit_numbers, numbered_units}
-use Rattle.mir_valid.proofs.OccursLaws.{received-once}
-use Rattle.mir_valid.proofs.ListLaws.{map-at, at-map, no-lines-at, fails-at}
-use Rattle.mir_valid.proofs.DistinctLaws.{differ-unbroken}
-use Rattle.mir_valid.proofs.FoundLaws.{not-false, label-found, called-is}
-use Rattle.mir_valid.proofs.ReceiveLaws.{lead-at, is-lead, lead-count, not-late}
+use Rattle.mir_valid.proofs.OccursLaws.{received_once}
+use Rattle.mir_valid.proofs.ListLaws.{map_at, at_map, no_lines_at, fails_at}
+use Rattle.mir_valid.proofs.DistinctLaws.{differ_unbroken}
+use Rattle.mir_valid.proofs.FoundLaws.{label_found, called_is}
+use Rattle.mir_valid.proofs.ReceiveLaws.{lead_at, is_lead, lead_count, not_late}
 
-names-numbered : (numbers : List Entry) (units : List RawUnitShape) → names_of (map (numbered_unit numbers) units) ≡ unit_names units
-names-numbered numbers [] = refl
-names-numbered numbers (unit ∷ units) = ap (λ names. unit.name ∷ names) (names-numbered numbers units)
+-- numbering changes no name of a unit
+names_numbered : (numbers : List NameEntry) (units : List RawUnitShape) → names_of (map (numbered_unit numbers) units) ≡ unit_names units
+names_numbered numbers [] = refl
+names_numbered numbers (unit ∷ units) = ap (λ names. unit.name ∷ names) (names_numbered numbers units)
 
 -- ---- one unit
 
 -- a label's place is a place to go to
-target-is : (numbers : Numbers) (labels : List RawLabel) (body : List RawInst) (l : List ℕ) (place : ℕ) → HasPlaces labels body → broken (λ inst. inst.line) (is_late labels) body ≡ []
+target_is : (numbers : Numbers) (labels : List RawLabel) (body : List RawInst) (l : List ℕ) (place : ℕ) → HasPlaces labels body → broken (λ inst. inst.line) (is_late labels) body ≡ []
     → IsPlace labels l place → IsTarget (numbered_body numbers body) place
-target-is numbers labels body l place places late (k, label, low_k, at, is) =
+target_is numbers labels body l place places late (k, label, low_k, at, is) =
     let there : label.place ≡ place = is.1 in
     let within : label.place ≤ length body = subst (λ (other : RawLabel). other.place ≤ length body) at (places k label low_k) in
     let before : nat_le label.place place ≡ true = grind (arith, nat_tests) in
@@ -44,9 +47,9 @@ target-is numbers labels body l place places late (k, label, low_k, at, is) =
   where
     by : (b : Bool) → nat_lt place (receives_in (numbered_body numbers body)) ≡ b → has_label_before labels place ≡ true → receives_in (numbered_body numbers body) ≤ place
     by true low any =
-        let lead = lead-at numbers body place (ltb-true place (receives_in (numbered_body numbers body)) low) in
+        let lead = lead_at numbers body place (ltb-true place (receives_in (numbered_body numbers body)) low) in
         let size : length (take place body) ≡ place = length-take-le place body (omega (arith, slice_get_within body place lead.0 lead.1)) in
-        let none = (not-late labels body place lead.0 late lead.1 lead.2).1 in
+        let none = (not_late labels body place lead.0 late lead.1 lead.2).1 in
         let e = sym any ∙ ap (has_label_before labels) (sym size) ∙ none in
         absurd (cc)
     by false high any = ltb-false place (receives_in (numbered_body numbers body)) high
@@ -60,21 +63,21 @@ module _ (units : List RawUnitShape) (valid : AreValid units) where
   abbrev numbers_at : RawUnitShape → Numbers
   numbers_at unit = numbers_of (unit_numbers units) unit
 
-  call-fits : (into : Option (List ℕ)) (f : List ℕ) (operands : List RawOperand) → misses_unit units (RawCall into f operands) ≡ false
+  call_fits : (into : Option (List ℕ)) (f : List ℕ) (operands : List RawOperand) → misses_unit units (RawCall into f operands) ≡ false
       → differs_from (receive_counts units) (RawCall into f operands) ≡ false → (number_or_zero (unit_numbers units) f < length all_units)
       × ((operand : RawOperand → Operand) → length (map operand operands) ≡ receives_in (body_at all_units (number_or_zero (unit_numbers units) f)))
-  call-fits into f operands misses differs =
-      let called = called-is units f (not-false (has_name (unit_names units) f) misses) in
+  call_fits into f operands misses differs =
+      let called = called_is units f (not-false (has_name (unit_names units) f) misses) in
       let n = number_or_zero (unit_numbers units) f in
       let low : n < length units = slice_get_within units n called.unit called.at in
-      let late : late_receive_lines called.unit ≡ [] = no-lines-at late_receive_lines units n called.unit valid.late_receive called.at in
+      let late : late_receive_lines called.unit ≡ [] = no_lines_at late_receive_lines units n called.unit valid.late_receive called.at in
       let same : nat_eq (count_by is_receive called.unit.body) (length operands) ≡ true =
       not-false (nat_eq (count_by is_receive called.unit.body) (length operands)) (sym (ap (λ o. option_map_or (λ count. not (nat_eq count (length operands))) o false) called.count) ∙ differs) in
       let count : count_by is_receive called.unit.body ≡ length operands = eqb-true (count_by is_receive called.unit.body) (length operands) same in
       let body : body_at all_units n ≡ numbered_body (numbers_at called.unit) called.unit.body =
-      ap body_or_empty (at-map (numbered_unit (unit_numbers units)) units n called.unit called.at) in (
+      ap body_or_empty (at_map (numbered_unit (unit_numbers units)) units n called.unit called.at) in (
         omega (arith, low, length-map units (numbered_unit (unit_numbers units))),
-        λ operand. length-map operands operand ∙ sym count ∙ sym (lead-count (numbers_at called.unit) called.unit.labels called.unit.body late) ∙ ap receives_in (sym body),
+        λ operand. length-map operands operand ∙ sym count ∙ sym (lead_count (numbers_at called.unit) called.unit.labels called.unit.body late) ∙ ap receives_in (sym body),
       )
 
   module _ (u : ℕ) (unit : RawUnitShape) (at_unit : slice_get units u ≡ Some unit) (places : HasPlaces unit.labels unit.body) where
@@ -82,55 +85,52 @@ module _ (units : List RawUnitShape) (valid : AreValid units) where
     numbers = numbers_at unit
 
     late : late_receive_lines unit ≡ []
-    late = no-lines-at late_receive_lines units u unit valid.late_receive at_unit
+    late = no_lines_at late_receive_lines units u unit valid.late_receive at_unit
 
     module _ (place : ℕ) (inst : RawInst) (at : slice_get unit.body place ≡ Some inst) where
-      jump-fits : (l : List ℕ) → misses_label unit.labels (RawGoto l) ≡ false → IsTarget (numbered_body numbers unit.body) (number_or_zero numbers.labels l)
-      jump-fits l misses =
-          target-is numbers unit.labels unit.body l (number_or_zero numbers.labels l) places late (label-found unit.labels l (not-false (has_name (label_names unit.labels) l) misses))
+      jump_fits : (l : List ℕ) → misses_label unit.labels (RawGoto l) ≡ false → IsTarget (numbered_body numbers unit.body) (number_or_zero numbers.labels l)
+      jump_fits l misses =
+          target_is numbers unit.labels unit.body l (number_or_zero numbers.labels l) places late (label_found unit.labels l (not-false (has_name (label_names unit.labels) l) misses))
 
       passes : (form : RawForm) → inst.form ≡ form → (misses_label unit.labels form ≡ false) × (misses_unit units form ≡ false) × (differs_from (receive_counts units) form ≡ false)
       passes form is = (
-        ap (misses_label unit.labels) (sym is) ∙ fails-at (misses_label unit.labels) unit.body place inst (no-lines-at no_label_lines units u unit valid.no_label at_unit) at,
-        ap (misses_unit units) (sym is) ∙ fails-at (misses_unit units) unit.body place inst (no-lines-at (no_unit_lines units) units u unit valid.no_such_unit at_unit) at,
+        ap (misses_label unit.labels) (sym is) ∙ fails_at (misses_label unit.labels) unit.body place inst (no_lines_at no_label_lines units u unit valid.no_label at_unit) at,
+        ap (misses_unit units) (sym is) ∙ fails_at (misses_unit units) unit.body place inst (no_lines_at (no_unit_lines units) units u unit valid.no_such_unit at_unit) at,
         ap (differs_from (receive_counts units)) (sym is)
-            ∙ fails-at (differs_from (receive_counts units)) unit.body place inst (no-lines-at (wrong_count_lines units) units u unit valid.wrong_count at_unit) at,
+            ∙ fails_at (differs_from (receive_counts units)) unit.body place inst (no_lines_at (wrong_count_lines units) units u unit valid.wrong_count at_unit) at,
       )
 
-      form-fits : (form : RawForm) → inst.form ≡ form → InstFits all_units (numbered_body numbers unit.body) place (numbered_form numbers form)
-      form-fits (RawReceive x) is =
+      form_fits : (form : RawForm) → inst.form ≡ form → InstFits all_units (numbered_body numbers unit.body) place (numbered_form numbers form)
+      form_fits (RawReceive x) is =
           let receives : is_receive inst ≡ true = ap (λ f. is_some (received_by f)) is in
-          is-lead numbers unit.body place inst at receives (not-late unit.labels unit.body place inst late at receives).0
-      form-fits (RawAssign x rhs) is = tt
-      form-fits (RawGoto l) is = jump-fits l (passes (RawGoto l) is).0
-      form-fits (RawIf test l) is = jump-fits l (passes (RawIf test l) is).0
-      form-fits (RawCall into f operands) is =
+          is_lead numbers unit.body place inst at receives (not_late unit.labels unit.body place inst late at receives).0
+      form_fits (RawAssign x rhs) is = tt
+      form_fits (RawGoto l) is = jump_fits l (passes (RawGoto l) is).0
+      form_fits (RawIf test l) is = jump_fits l (passes (RawIf test l) is).0
+      form_fits (RawCall into f operands) is =
           let p = passes (RawCall into f operands) is in
-          let fits = call-fits into f operands p.1 p.2 in
+          let fits = call_fits into f operands p.1 p.2 in
           (fits.0, fits.1 (numbered_operand numbers.vars))
-      form-fits (RawPrint a) is = tt
-      form-fits (RawReturn a) is = tt
+      form_fits (RawPrint a) is = tt
+      form_fits (RawReturn a) is = tt
 
-    inst-fits : (place : ℕ) (inst : Inst) → slice_get (numbered_body numbers unit.body) place ≡ Some inst → InstFits all_units (numbered_body numbers unit.body) place inst
-    inst-fits place inst at =
-        let raw = map-at (λ i. numbered_form numbers i.form) unit.body place inst at in
-        subst (λ (i : Inst). InstFits all_units (numbered_body numbers unit.body) place i) raw.2 (form-fits place raw.0 raw.1 raw.0.form refl)
+    inst_fits : (place : ℕ) (inst : Inst) → slice_get (numbered_body numbers unit.body) place ≡ Some inst → InstFits all_units (numbered_body numbers unit.body) place inst
+    inst_fits place inst at =
+        let raw = map_at (λ i. numbered_form numbers i.form) unit.body place inst at in
+        subst (λ (i : Inst). InstFits all_units (numbered_body numbers unit.body) place i) raw.2 (form_fits place raw.0 raw.1 raw.0.form refl)
 
-    body-fits : BodyFits all_units (numbered_body numbers unit.body)
-    body-fits = record {
-      insts = inst-fits;
-      received = received-once numbers unit.body refl (no-lines-at same_receive_lines units u unit valid.same_receive at_unit);
+    body_fits : BodyFits all_units (numbered_body numbers unit.body)
+    body_fits = record {
+      insts = inst_fits;
+      received = received_once numbers unit.body refl (no_lines_at same_receive_lines units u unit valid.same_receive at_unit);
     }
 
-places-at : (units : List RawUnitShape) (u : ℕ) (unit : RawUnitShape) → All (λ other. HasPlaces other.labels other.body) units → slice_get units u ≡ Some unit → HasPlaces unit.labels unit.body
-places-at units u unit places at =
-    subst (λ (other : RawUnitShape). HasPlaces other.labels other.body) (get_or_from_slice_get units u unit unit at) (places u unit (slice_get_within units u unit at))
-
-pub program-fits : (units : List RawUnitShape) → AreValid units → All (λ unit. HasPlaces unit.labels unit.body) units → IsProgram (numbered_units units)
-program-fits units valid places = record {
+-- the units of valid raw units fit together
+pub program_fits : (units : List RawUnitShape) → AreValid units → All (λ unit. HasPlaces unit.labels unit.body) units → IsProgram (numbered_units units)
+program_fits units valid places = record {
   some_unit = omega (arith, valid.some_unit, length-map units (numbered_unit (unit_numbers units)));
-  names = subst AllDiffer (sym (names-numbered (unit_numbers units) units)) (differ-unbroken (λ (unit : RawUnitShape). unit.name) (λ unit. unit.line) units valid.same_unit);
+  names = subst AllDiffer (sym (names_numbered (unit_numbers units) units)) (differ_unbroken (λ (unit : RawUnitShape). unit.name) (λ unit. unit.line) units valid.same_unit);
   bodies = λ u unit at.
-      let raw = map-at (numbered_unit (unit_numbers units)) units u unit at in
-      subst (λ (made : UnitShape). BodyFits (numbered_units units) made.body) raw.2 (body-fits units valid u raw.0 raw.1 (places-at units u raw.0 places raw.1));
+      let raw = map_at (numbered_unit (unit_numbers units)) units u unit at in
+      subst (λ (made : UnitShape). BodyFits (numbered_units units) made.body) raw.2 (body_fits units valid u raw.0 raw.1 (all_at (λ other. HasPlaces other.labels other.body) units u raw.0 places raw.1));
 }

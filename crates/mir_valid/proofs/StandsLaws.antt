@@ -1,5 +1,6 @@
 -- Valid raw units stand for the units that the tables of their names give, and for no others.
 use Rattle.std.proofs.Common.{◌≡◌, ℕ, suc, ◌<◌, Bool, true, false, if◌then◌else◌, List, [], ◌∷◌, ◌++◌, map, fold, length, get_or, slice_get, Option, None, Some, refl, ap, sym, ◌∙◌, subst}
+use Rattle.std.proofs.lemmas.Bool.{not-false}
 use Rattle.std.specs.List.{flat_map}
 use Rattle.std.proofs.lemmas.List.Sums.{fold-append}
 use Rattle.std.proofs.lemmas.Option.{slice_get-get_or}
@@ -29,197 +30,212 @@ use Rattle.mir_valid.specs.Names.{is_same, has_name}
 use Rattle.mir_valid.specs.Variables.{operand_names, rhs_names, test_names, into_names, returned_names, form_names, body_names, FirstNames, none, again, first}
 use Rattle.mir_valid.specs.Rules.{unit_names, label_names, misses_label, misses_unit, no_label_lines, no_unit_lines, same_label_lines}
 use Rattle.mir_valid.specs.Refusals.{AreValid}
-use Rattle.mir_valid.specs.Stands.{EachStands, Naming, IsNumber, IsPlace, OperandStands, RhsStands, TestStands, IntoStands, ReturnStands, FormStands, UnitStands, UnitsStand}
+use Rattle.mir_valid.specs.Stands.{EachStands, UnitNames, IsNumber, IsPlace, OperandStands, RhsStands, TestStands, IntoStands, ReturnStands, FormStands, UnitStands, UnitsStand}
 use Rattle.mir_valid.specs.Tables.{number_or_zero, numbered, table_of}
 use Rattle.mir_valid.specs.Numbered.{with_name, variables_of, Numbers, numbers_of, numbered_operand, numbered_rhs, numbered_test, numbered_into, numbered_return, numbered_form, label_places, numbered_unit, unit_numbers, numbered_units}
-use Rattle.mir_valid.proofs.ListLaws.{at-map, no-lines-at, fails-at}
-use Rattle.mir_valid.proofs.NumberLaws.{same-is, has-at, numbered-is}
-use Rattle.mir_valid.proofs.DistinctLaws.{differ-variables, differ-unbroken, same-number}
-use Rattle.mir_valid.proofs.OccursLaws.{Within, within-front, within-back, within-one, within-variables, within-inst, first-variables}
-use Rattle.mir_valid.proofs.FoundLaws.{not-false, label-found, unit-found}
+use Rattle.mir_valid.proofs.ListLaws.{at_map, no_lines_at, fails_at}
+use Rattle.mir_valid.specs.NameLaws.{same_is, has_at}
+use Rattle.mir_valid.proofs.NumberLaws.{numbered_is}
+use Rattle.mir_valid.proofs.DistinctLaws.{differ_variables, differ_unbroken, same_number}
+use Rattle.mir_valid.proofs.OccursLaws.{Within, within_front, within_back, within_one, within_variables, within_inst, first_variables}
+use Rattle.mir_valid.proofs.FoundLaws.{label_found, unit_found}
 
 -- ---- they stand for these
 
-each-map : {A B : Type 0} (R : A → B → Type 0) (f : A → B) (xs : List A) → ((i : ℕ) (x : A) → slice_get xs i ≡ Some x → R x (f x)) → EachStands R xs (map f xs)
-each-map R f [] stands = tt
-each-map R f (x ∷ xs) stands = (stands 0 x refl, each-map R f xs (λ i y at. stands (suc i) y at))
+-- what each item stands for, the list stands for
+each_map : {A B : Type 0} (R : A → B → Type 0) (f : A → B) (xs : List A) → ((i : ℕ) (x : A) → slice_get xs i ≡ Some x → R x (f x)) → EachStands R xs (map f xs)
+each_map R f [] stands = tt
+each_map R f (x ∷ xs) stands = (stands 0 x refl, each_map R f xs (λ i y at. stands (suc i) y at))
 
-operand-stands : (vars : List (List ℕ)) (a : RawOperand) → Within vars (operand_names a) → OperandStands vars a (numbered_operand (numbered 0 vars) a)
-operand-stands vars (RawVar x) within = numbered-is vars x (within-one vars x within)
-operand-stands vars (RawConst z) within = refl
+-- each part of an instruction stands for itself with its names numbered: an operand
+operand_stands : (vars : List (List ℕ)) (a : RawOperand) → Within vars (operand_names a) → OperandStands vars a (numbered_operand (numbered 0 vars) a)
+operand_stands vars (RawVar x) within = numbered_is vars x (within_one vars x within)
+operand_stands vars (RawConst z) within = refl
 
-operands-stand : (vars : List (List ℕ)) (operands : List RawOperand) → Within vars (flat_map operand_names operands)
+-- operands
+operands_stand : (vars : List (List ℕ)) (operands : List RawOperand) → Within vars (flat_map operand_names operands)
     → EachStands (OperandStands vars) operands (map (numbered_operand (numbered 0 vars)) operands)
-operands-stand vars [] within = tt
-operands-stand vars (a ∷ operands) within = (
-  operand-stands vars a (within-front vars (operand_names a) (flat_map operand_names operands) within),
-  operands-stand vars operands (within-back vars (operand_names a) (flat_map operand_names operands) within),
+operands_stand vars [] within = tt
+operands_stand vars (a ∷ operands) within = (
+  operand_stands vars a (within_front vars (operand_names a) (flat_map operand_names operands) within),
+  operands_stand vars operands (within_back vars (operand_names a) (flat_map operand_names operands) within),
 )
 
-rhs-stands : (vars : List (List ℕ)) (rhs : RawRhs) → Within vars (rhs_names rhs) → RhsStands vars rhs (numbered_rhs (numbered 0 vars) rhs)
-rhs-stands vars (RawPlain a) within = operand-stands vars a within
-rhs-stands vars (RawUnary op a) within = (refl, operand-stands vars a within)
-rhs-stands vars (RawBinary op a b) within =
-    (refl, operand-stands vars a (within-front vars (operand_names a) (operand_names b) within), operand-stands vars b (within-back vars (operand_names a) (operand_names b) within))
+-- a right side
+rhs_stands : (vars : List (List ℕ)) (rhs : RawRhs) → Within vars (rhs_names rhs) → RhsStands vars rhs (numbered_rhs (numbered 0 vars) rhs)
+rhs_stands vars (RawPlain a) within = operand_stands vars a within
+rhs_stands vars (RawUnary op a) within = (refl, operand_stands vars a within)
+rhs_stands vars (RawBinary op a b) within =
+    (refl, operand_stands vars a (within_front vars (operand_names a) (operand_names b) within), operand_stands vars b (within_back vars (operand_names a) (operand_names b) within))
 
-test-stands : (vars : List (List ℕ)) (test : RawTest) → Within vars (test_names test) → TestStands vars test (numbered_test (numbered 0 vars) test)
-test-stands vars (RawRel op a b) within =
-    (refl, operand-stands vars a (within-front vars (operand_names a) (operand_names b) within), operand-stands vars b (within-back vars (operand_names a) (operand_names b) within))
-test-stands vars (RawHolds a) within = operand-stands vars a within
-test-stands vars (RawFails a) within = operand-stands vars a within
+-- a test
+test_stands : (vars : List (List ℕ)) (test : RawTest) → Within vars (test_names test) → TestStands vars test (numbered_test (numbered 0 vars) test)
+test_stands vars (RawRel op a b) within =
+    (refl, operand_stands vars a (within_front vars (operand_names a) (operand_names b) within), operand_stands vars b (within_back vars (operand_names a) (operand_names b) within))
+test_stands vars (RawHolds a) within = operand_stands vars a within
+test_stands vars (RawFails a) within = operand_stands vars a within
 
-into-stands : (vars : List (List ℕ)) (into : Option (List ℕ)) → Within vars (into_names into) → IntoStands vars into (numbered_into (numbered 0 vars) into)
-into-stands vars None within = tt
-into-stands vars (Some x) within = numbered-is vars x (within-one vars x within)
+-- the variable for a call's result, if there is one
+into_stands : (vars : List (List ℕ)) (into : Option (List ℕ)) → Within vars (into_names into) → IntoStands vars into (numbered_into (numbered 0 vars) into)
+into_stands vars None within = tt
+into_stands vars (Some x) within = numbered_is vars x (within_one vars x within)
 
-return-stands : (vars : List (List ℕ)) (a : Option RawOperand) → Within vars (returned_names a) → ReturnStands vars a (numbered_return (numbered 0 vars) a)
-return-stands vars None within = refl
-return-stands vars (Some a) within = operand-stands vars a within
+-- what is returned, if anything is
+return_stands : (vars : List (List ℕ)) (a : Option RawOperand) → Within vars (returned_names a) → ReturnStands vars a (numbered_return (numbered 0 vars) a)
+return_stands vars None within = refl
+return_stands vars (Some a) within = operand_stands vars a within
 
 module _ (units : List RawUnitShape) (unit : RawUnitShape) where
   abbrev vars : List (List ℕ)
   vars = variables_of unit.body
 
-  abbrev naming : Naming
+  abbrev naming : UnitNames
   naming = record { units = unit_names units; vars = vars; labels = unit.labels }
 
   abbrev numbers : Numbers
   numbers = numbers_of (unit_numbers units) unit
 
-  form-stands : (form : RawForm) → Within vars (form_names form) → misses_label unit.labels form ≡ false → misses_unit units form ≡ false
+  form_stands : (form : RawForm) → Within vars (form_names form) → misses_label unit.labels form ≡ false → misses_unit units form ≡ false
       → FormStands naming form (numbered_form numbers form)
-  form-stands (RawReceive x) within label called = numbered-is vars x (within-one vars x within)
-  form-stands (RawAssign x rhs) within label called =
-      (numbered-is vars x (within-one vars x (within-front vars (x ∷ []) (rhs_names rhs) within)), rhs-stands vars rhs (within-back vars (x ∷ []) (rhs_names rhs) within))
-  form-stands (RawGoto l) within label called = label-found unit.labels l (not-false (has_name (label_names unit.labels) l) label)
-  form-stands (RawIf test l) within label called = (test-stands vars test within, label-found unit.labels l (not-false (has_name (label_names unit.labels) l) label))
-  form-stands (RawCall into f operands) within label called = (
-    into-stands vars into (within-front vars (into_names into) (flat_map operand_names operands) within),
-    unit-found units f (not-false (has_name (unit_names units) f) called),
-    operands-stand vars operands (within-back vars (into_names into) (flat_map operand_names operands) within),
+  form_stands (RawReceive x) within label called = numbered_is vars x (within_one vars x within)
+  form_stands (RawAssign x rhs) within label called =
+      (numbered_is vars x (within_one vars x (within_front vars (x ∷ []) (rhs_names rhs) within)), rhs_stands vars rhs (within_back vars (x ∷ []) (rhs_names rhs) within))
+  form_stands (RawGoto l) within label called = label_found unit.labels l (not-false (has_name (label_names unit.labels) l) label)
+  form_stands (RawIf test l) within label called = (test_stands vars test within, label_found unit.labels l (not-false (has_name (label_names unit.labels) l) label))
+  form_stands (RawCall into f operands) within label called = (
+    into_stands vars into (within_front vars (into_names into) (flat_map operand_names operands) within),
+    unit_found units f (not-false (has_name (unit_names units) f) called),
+    operands_stand vars operands (within_back vars (into_names into) (flat_map operand_names operands) within),
   )
-  form-stands (RawPrint a) within label called = operand-stands vars a within
-  form-stands (RawReturn a) within label called = return-stands vars a within
+  form_stands (RawPrint a) within label called = operand_stands vars a within
+  form_stands (RawReturn a) within label called = return_stands vars a within
 
-  unit-stands : no_label_lines unit ≡ [] → no_unit_lines units unit ≡ [] → UnitStands (unit_names units) unit (numbered_unit (unit_numbers units) unit)
-  unit-stands label called = record {
+  unit_stands : no_label_lines unit ≡ [] → no_unit_lines units unit ≡ [] → UnitStands (unit_names units) unit (numbered_unit (unit_numbers units) unit)
+  unit_stands label called = record {
     name = refl;
-    vars = first-variables unit.body;
-    body = each-map (λ (inst : RawInst). FormStands naming inst.form) (λ inst. numbered_form numbers inst.form) unit.body
-        (λ i inst at. form-stands inst.form (within-inst vars unit.body i inst (within-variables unit.body) at) (fails-at (misses_label unit.labels) unit.body i inst label at)
-        (fails-at (misses_unit units) unit.body i inst called at));
+    vars = first_variables unit.body;
+    body = each_map (λ (inst : RawInst). FormStands naming inst.form) (λ inst. numbered_form numbers inst.form) unit.body
+        (λ i inst at. form_stands inst.form (within_inst vars unit.body i inst (within_variables unit.body) at) (fails_at (misses_label unit.labels) unit.body i inst label at)
+        (fails_at (misses_unit units) unit.body i inst called at));
   }
 
-pub units-stand : (units : List RawUnitShape) → AreValid units → UnitsStand units (numbered_units units)
-units-stand units valid =
-    each-map (UnitStands (unit_names units)) (numbered_unit (unit_numbers units)) units
-    (λ i unit at. unit-stands units unit (no-lines-at no_label_lines units i unit valid.no_label at) (no-lines-at (no_unit_lines units) units i unit valid.no_such_unit at))
+-- valid units stand for the numbered ones
+pub units_stand : (units : List RawUnitShape) → AreValid units → UnitsStand units (numbered_units units)
+units_stand units valid =
+    each_map (UnitStands (unit_names units)) (numbered_unit (unit_numbers units)) units
+    (λ i unit at. unit_stands units unit (no_lines_at no_label_lines units i unit valid.no_label at) (no_lines_at (no_unit_lines units) units i unit valid.no_such_unit at))
 
 -- ---- and for no others
 
-each-only : {A B : Type 0} (R : A → B → Type 0) (f : A → B) (xs : List A) (ys : List B) → EachStands R xs ys
+-- where each item stands for one thing alone, so does the list
+each_only : {A B : Type 0} (R : A → B → Type 0) (f : A → B) (xs : List A) (ys : List B) → EachStands R xs ys
     → ((i : ℕ) (x : A) (y : B) → slice_get xs i ≡ Some x → R x y → y ≡ f x) → ys ≡ map f xs
-each-only R f [] [] stands only = refl
-each-only R f [] (y ∷ ys) stands only = absurd stands
-each-only R f (x ∷ xs) [] stands only = absurd stands
-each-only R f (x ∷ xs) (y ∷ ys) stands only =
-    ap (λ z. z ∷ ys) (only 0 x y refl stands.0) ∙ ap (λ zs. f x ∷ zs) (each-only R f xs ys stands.1 (λ i a b at. only (suc i) a b at))
+each_only R f [] [] stands only = refl
+each_only R f [] (y ∷ ys) stands only = absurd stands
+each_only R f (x ∷ xs) [] stands only = absurd stands
+each_only R f (x ∷ xs) (y ∷ ys) stands only =
+    ap (λ z. z ∷ ys) (only 0 x y refl stands.0) ∙ ap (λ zs. f x ∷ zs) (each_only R f xs ys stands.1 (λ i a b at. only (suc i) a b at))
 
-first-only : (names vars : List (List ℕ)) → FirstNames names vars → fold with_name [] names ≡ vars
-first-only _ _ none = refl
-first-only _ _ (again {names} {vars} x before occurs) =
+-- the order of first occurrence is what one pass finds
+first_only : (names vars : List (List ℕ)) → FirstNames names vars → fold with_name [] names ≡ vars
+first_only _ _ none = refl
+first_only _ _ (again {names} {vars} x before occurs) =
     fold-append with_name [] names (x ∷ [])
-    ∙ ap (λ vs. with_name vs x) (first-only names vars before)
+    ∙ ap (λ vs. with_name vs x) (first_only names vars before)
     ∙ ap (λ b. if b then vars else vars ++ x ∷ []) (list_any-from_Contains {eq = is_same} nat_list_eq_equiv x vars occurs)
-first-only _ _ (first {names} {vars} x before fresh) =
-    fold-append with_name [] names (x ∷ []) ∙ ap (λ vs. with_name vs x) (first-only names vars before) ∙ by (has_name vars x) refl
+first_only _ _ (first {names} {vars} x before fresh) =
+    fold-append with_name [] names (x ∷ []) ∙ ap (λ vs. with_name vs x) (first_only names vars before) ∙ by (has_name vars x) refl
   where
     by : (b : Bool) → has_name vars x ≡ b → with_name vars x ≡ vars ++ x ∷ []
-    by true e = absurd (fresh (Contains-from_any {eq = is_same} same-is x vars e))
+    by true e = absurd (fresh (Contains-from_any {eq = is_same} same_is x vars e))
     by false e = ap (λ b. if b then vars else vars ++ x ∷ []) e
 
 module _ (vars : List (List ℕ)) (differ : AllDiffer vars) where
-  number-only : (x : List ℕ) (n : ℕ) → IsNumber vars x n → n ≡ number_or_zero (numbered 0 vars) x
-  number-only x n at = same-number vars x n (number_or_zero (numbered 0 vars) x) differ at (numbered-is vars x (has-at vars n x at))
+  number_only : (x : List ℕ) (n : ℕ) → IsNumber vars x n → n ≡ number_or_zero (numbered 0 vars) x
+  number_only x n at = same_number vars x n (number_or_zero (numbered 0 vars) x) differ at (numbered_is vars x (has_at vars n x at))
 
-  operand-only : (raw : RawOperand) (a : Operand) → OperandStands vars raw a → a ≡ numbered_operand (numbered 0 vars) raw
-  operand-only (RawVar x) (Var n) stands = ap Var (number-only x n stands)
-  operand-only (RawConst z) (Const w) stands = ap Const stands
-  operand-only raw a stands = absurd stands
+  operand_only : (raw : RawOperand) (a : Operand) → OperandStands vars raw a → a ≡ numbered_operand (numbered 0 vars) raw
+  operand_only (RawVar x) (Var n) stands = ap Var (number_only x n stands)
+  operand_only (RawConst z) (Const w) stands = ap Const stands
+  operand_only raw a stands = absurd stands
 
-  operands-only : (raw : List RawOperand) (operands : List Operand) → EachStands (OperandStands vars) raw operands → operands ≡ map (numbered_operand (numbered 0 vars)) raw
-  operands-only raw operands stands = each-only (OperandStands vars) (numbered_operand (numbered 0 vars)) raw operands stands (λ i x y at. operand-only x y)
+  operands_only : (raw : List RawOperand) (operands : List Operand) → EachStands (OperandStands vars) raw operands → operands ≡ map (numbered_operand (numbered 0 vars)) raw
+  operands_only raw operands stands = each_only (OperandStands vars) (numbered_operand (numbered 0 vars)) raw operands stands (λ i x y at. operand_only x y)
 
-  rhs-only : (raw : RawRhs) (rhs : Rhs) → RhsStands vars raw rhs → rhs ≡ numbered_rhs (numbered 0 vars) raw
-  rhs-only (RawPlain a) (Plain b) stands = ap Plain (operand-only a b stands)
-  rhs-only (RawUnary raw_op a) (Unary op b) stands = λ i. Unary (stands.0 i) (operand-only a b stands.1 i)
-  rhs-only (RawBinary raw_op a b) (Binary op c d) stands = λ i. Binary (stands.0 i) (operand-only a c stands.1 i) (operand-only b d stands.2 i)
-  rhs-only raw rhs stands = absurd stands
+  rhs_only : (raw : RawRhs) (rhs : Rhs) → RhsStands vars raw rhs → rhs ≡ numbered_rhs (numbered 0 vars) raw
+  rhs_only (RawPlain a) (Plain b) stands = ap Plain (operand_only a b stands)
+  rhs_only (RawUnary raw_op a) (Unary op b) stands = λ i. Unary (stands.0 i) (operand_only a b stands.1 i)
+  rhs_only (RawBinary raw_op a b) (Binary op c d) stands = λ i. Binary (stands.0 i) (operand_only a c stands.1 i) (operand_only b d stands.2 i)
+  rhs_only raw rhs stands = absurd stands
 
-  test-only : (raw : RawTest) (test : Test) → TestStands vars raw test → test ≡ numbered_test (numbered 0 vars) raw
-  test-only (RawRel raw_op a b) (Rel op c d) stands = λ i. Rel (stands.0 i) (operand-only a c stands.1 i) (operand-only b d stands.2 i)
-  test-only (RawHolds a) (Holds b) stands = ap Holds (operand-only a b stands)
-  test-only (RawFails a) (Fails b) stands = ap Fails (operand-only a b stands)
-  test-only raw test stands = absurd stands
+  test_only : (raw : RawTest) (test : Test) → TestStands vars raw test → test ≡ numbered_test (numbered 0 vars) raw
+  test_only (RawRel raw_op a b) (Rel op c d) stands = λ i. Rel (stands.0 i) (operand_only a c stands.1 i) (operand_only b d stands.2 i)
+  test_only (RawHolds a) (Holds b) stands = ap Holds (operand_only a b stands)
+  test_only (RawFails a) (Fails b) stands = ap Fails (operand_only a b stands)
+  test_only raw test stands = absurd stands
 
-  into-only : (raw : Option (List ℕ)) (into : Option ℕ) → IntoStands vars raw into → into ≡ numbered_into (numbered 0 vars) raw
-  into-only None None stands = refl
-  into-only (Some x) (Some n) stands = ap Some (number-only x n stands)
-  into-only raw into stands = absurd stands
+  into_only : (raw : Option (List ℕ)) (into : Option ℕ) → IntoStands vars raw into → into ≡ numbered_into (numbered 0 vars) raw
+  into_only None None stands = refl
+  into_only (Some x) (Some n) stands = ap Some (number_only x n stands)
+  into_only raw into stands = absurd stands
 
-  return-only : (raw : Option RawOperand) (a : Operand) → ReturnStands vars raw a → a ≡ numbered_return (numbered 0 vars) raw
-  return-only None a stands = stands
-  return-only (Some raw) a stands = operand-only raw a stands
+  return_only : (raw : Option RawOperand) (a : Operand) → ReturnStands vars raw a → a ≡ numbered_return (numbered 0 vars) raw
+  return_only None a stands = stands
+  return_only (Some raw) a stands = operand_only raw a stands
 
-label-at : (labels : List RawLabel) (k : ℕ) (label : RawLabel) (l : List ℕ) → k < length labels → get_or labels k label ≡ label → label.name ≡ l → slice_get (label_names labels) k ≡ Some l
-label-at labels k label l low at is = at-map (λ label. label.name) labels k label (slice_get-get_or labels k label low ∙ ap Some at) ∙ ap Some is
+-- a label at a place has its name at that place among the names
+label_at : (labels : List RawLabel) (k : ℕ) (label : RawLabel) (l : List ℕ) → k < length labels → get_or labels k label ≡ label → label.name ≡ l → slice_get (label_names labels) k ≡ Some l
+label_at labels k label l low at is = at_map (λ label. label.name) labels k label (slice_get-get_or labels k label low ∙ ap Some at) ∙ ap Some is
 
-place-once : (labels : List RawLabel) (l : List ℕ) (p q : ℕ) → AllDiffer (label_names labels) → IsPlace labels l p → IsPlace labels l q → p ≡ q
-place-once labels l p q differ (j, a, low_a, at_a, is_a) (k, b, low_b, at_b, is_b) =
-    let same : j ≡ k = same-number (label_names labels) l j k differ (label-at labels j a l low_a at_a is_a.0) (label-at labels k b l low_b at_b is_b.0) in
+-- a label has one place where the names of labels differ
+place_once : (labels : List RawLabel) (l : List ℕ) (p q : ℕ) → AllDiffer (label_names labels) → IsPlace labels l p → IsPlace labels l q → p ≡ q
+place_once labels l p q differ (j, a, low_a, at_a, is_a) (k, b, low_b, at_b, is_b) =
+    let same : j ≡ k = same_number (label_names labels) l j k differ (label_at labels j a l low_a at_a is_a.0) (label_at labels k b l low_b at_b is_b.0) in
     let one : a ≡ b =
     cc (sym (slice_get-get_or labels j a low_a ∙ ap Some at_a) ∙ ap (slice_get labels) same ∙ slice_get-get_or labels k b low_b ∙ ap Some at_b) in
     sym is_a.1 ∙ ap (λ (label : RawLabel). label.place) one ∙ is_b.1
 
-place-only : (labels : List RawLabel) (l : List ℕ) (p : ℕ) → AllDiffer (label_names labels) → IsPlace labels l p → p ≡ number_or_zero (table_of (label_places labels)) l
-place-only labels l p differ (k, label, low, at, is) =
-    let has : has_name (label_names labels) l ≡ true = has-at (label_names labels) k l (label-at labels k label l low at is.0) in
-    place-once labels l p (number_or_zero (table_of (label_places labels)) l) differ (k, label, low, at, is) (label-found labels l has)
+-- the place that the table gives is that of the only label with the name
+place_only : (labels : List RawLabel) (l : List ℕ) (p : ℕ) → AllDiffer (label_names labels) → IsPlace labels l p → p ≡ number_or_zero (table_of (label_places labels)) l
+place_only labels l p differ (k, label, low, at, is) =
+    let has : has_name (label_names labels) l ≡ true = has_at (label_names labels) k l (label_at labels k label l low at is.0) in
+    place_once labels l p (number_or_zero (table_of (label_places labels)) l) differ (k, label, low, at, is) (label_found labels l has)
 
 module _ (units : List RawUnitShape) (units_differ : AllDiffer (unit_names units)) (unit : RawUnitShape) (labels_differ : AllDiffer (label_names unit.labels)) where
-  unit-only-number : (f : List ℕ) (n : ℕ) → IsNumber (unit_names units) f n → n ≡ number_or_zero (unit_numbers units) f
-  unit-only-number f n at =
-      same-number (unit_names units) f n (number_or_zero (unit_numbers units) f) units_differ at (unit-found units f (has-at (unit_names units) n f at))
+  unit_only_number : (f : List ℕ) (n : ℕ) → IsNumber (unit_names units) f n → n ≡ number_or_zero (unit_numbers units) f
+  unit_only_number f n at =
+      same_number (unit_names units) f n (number_or_zero (unit_numbers units) f) units_differ at (unit_found units f (has_at (unit_names units) n f at))
 
   differ : AllDiffer (variables_of unit.body)
-  differ = differ-variables (body_names unit.body)
+  differ = differ_variables (body_names unit.body)
 
-  form-only : (form : RawForm) (inst : Inst) → FormStands (naming units unit) form inst → inst ≡ numbered_form (numbers units unit) form
-  form-only (RawReceive x) (Receive n) stands = ap Receive (number-only (variables_of unit.body) differ x n stands)
-  form-only (RawAssign x raw) (Assign n rhs) stands =
-      λ i. Assign (number-only (variables_of unit.body) differ x n stands.0 i) (rhs-only (variables_of unit.body) differ raw rhs stands.1 i)
-  form-only (RawGoto l) (Goto place) stands = ap Goto (place-only unit.labels l place labels_differ stands)
-  form-only (RawIf raw l) (If test place) stands =
-      λ i. If (test-only (variables_of unit.body) differ raw test stands.0 i) (place-only unit.labels l place labels_differ stands.1 i)
-  form-only (RawCall raw_into f raw) (Call into n operands) stands =
-      λ i. Call (into-only (variables_of unit.body) differ raw_into into stands.0 i) (unit-only-number f n stands.1 i) (operands-only (variables_of unit.body) differ raw operands stands.2 i)
-  form-only (RawPrint raw) (Print a) stands = ap Print (operand-only (variables_of unit.body) differ raw a stands)
-  form-only (RawReturn raw) (Return a) stands = ap Return (return-only (variables_of unit.body) differ raw a stands)
-  form-only form inst stands = absurd stands
+  form_only : (form : RawForm) (inst : Inst) → FormStands (naming units unit) form inst → inst ≡ numbered_form (numbers units unit) form
+  form_only (RawReceive x) (Receive n) stands = ap Receive (number_only (variables_of unit.body) differ x n stands)
+  form_only (RawAssign x raw) (Assign n rhs) stands =
+      λ i. Assign (number_only (variables_of unit.body) differ x n stands.0 i) (rhs_only (variables_of unit.body) differ raw rhs stands.1 i)
+  form_only (RawGoto l) (Goto place) stands = ap Goto (place_only unit.labels l place labels_differ stands)
+  form_only (RawIf raw l) (If test place) stands =
+      λ i. If (test_only (variables_of unit.body) differ raw test stands.0 i) (place_only unit.labels l place labels_differ stands.1 i)
+  form_only (RawCall raw_into f raw) (Call into n operands) stands =
+      λ i. Call (into_only (variables_of unit.body) differ raw_into into stands.0 i) (unit_only_number f n stands.1 i) (operands_only (variables_of unit.body) differ raw operands stands.2 i)
+  form_only (RawPrint raw) (Print a) stands = ap Print (operand_only (variables_of unit.body) differ raw a stands)
+  form_only (RawReturn raw) (Return a) stands = ap Return (return_only (variables_of unit.body) differ raw a stands)
+  form_only form inst stands = absurd stands
 
-  unit-only : (made : UnitShape) → UnitStands (unit_names units) unit made → made ≡ numbered_unit (unit_numbers units) unit
-  unit-only made stands =
-      let vars_are : made.vars ≡ variables_of unit.body = sym (first-only (body_names unit.body) made.vars stands.vars) in
+  unit_only : (made : UnitShape) → UnitStands (unit_names units) unit made → made ≡ numbered_unit (unit_numbers units) unit
+  unit_only made stands =
+      let vars_are : made.vars ≡ variables_of unit.body = sym (first_only (body_names unit.body) made.vars stands.vars) in
       let body : EachStands (λ (inst : RawInst). FormStands (naming units unit) inst.form) unit.body made.body =
       subst (λ (vs : List (List ℕ)). EachStands (λ (inst : RawInst). FormStands (record { units = unit_names units; vars = vs; labels = unit.labels }) inst.form) unit.body made.body) vars_are stands.body in
       let body_is : made.body ≡ map (λ (inst : RawInst). numbered_form (numbers units unit) inst.form) unit.body =
-      each-only (λ (inst : RawInst). FormStands (naming units unit) inst.form) (λ inst. numbered_form (numbers units unit) inst.form) unit.body made.body body (λ i inst made_inst at. form-only inst.form made_inst) in
+      each_only (λ (inst : RawInst). FormStands (naming units unit) inst.form) (λ inst. numbered_form (numbers units unit) inst.form) unit.body made.body body (λ i inst made_inst at. form_only inst.form made_inst) in
       λ i. record { name = stands.name i; vars = vars_are i; body = body_is i }
 
-pub units-only : (units : List RawUnitShape) (made : List UnitShape) → AreValid units → UnitsStand units made → made ≡ numbered_units units
-units-only units made valid stands =
-    let units_differ : AllDiffer (unit_names units) = differ-unbroken (λ (unit : RawUnitShape). unit.name) (λ unit. unit.line) units valid.same_unit in
-    each-only (UnitStands (unit_names units)) (numbered_unit (unit_numbers units)) units made stands
+-- and for these alone
+pub units_only : (units : List RawUnitShape) (made : List UnitShape) → AreValid units → UnitsStand units made → made ≡ numbered_units units
+units_only units made valid stands =
+    let units_differ : AllDiffer (unit_names units) = differ_unbroken (λ (unit : RawUnitShape). unit.name) (λ unit. unit.line) units valid.same_unit in
+    each_only (UnitStands (unit_names units)) (numbered_unit (unit_numbers units)) units made stands
     (λ i unit made_unit at.
-    unit-only units units_differ unit
-    (differ-unbroken (λ (label : RawLabel). label.name) (λ label. label.line) unit.labels (no-lines-at same_label_lines units i unit valid.same_label at)) made_unit)
+    unit_only units units_differ unit
+    (differ_unbroken (λ (label : RawLabel). label.name) (λ label. label.line) unit.labels (no_lines_at same_label_lines units i unit valid.same_label at)) made_unit)

@@ -4,6 +4,7 @@ use Rattle.std.specs.List.{flat_map}
 use Rattle.std.proofs.lemmas.List.{append-nil, map-append}
 use Rattle.std.proofs.lemmas.Bool.Decides.{nat_tests}
 use Rattle.std.proofs.lemmas.Option.{slice_get_within}
+use Rattle.mir_base.specs.ItemLaws.{some_of}
 use Rattle.mir_base.specs.Shapes.{operand_vars, rhs_vars, test_vars, into_vars, inst_vars, numbered_from, IsTidy}
 use Rattle.mir_parse.specs.declared.raw.RawOperand.{RawOperand}
 use Rattle.mir_parse.specs.declared.raw.RawOperand.TheVariants.{Var, Const}
@@ -14,17 +15,17 @@ use Rattle.mir_parse.specs.declared.raw.RawTest.TheVariants.{Rel, Holds, Fails}
 use Rattle.mir_parse.specs.declared.raw.RawForm.{RawForm}
 use Rattle.mir_parse.specs.declared.raw.RawForm.TheVariants.{Receive, Assign, Goto, If, Call, Print, Return}
 use Rattle.mir_parse.specs.declared.raw.RawInst.{RawInst}
-use Rattle.mir_valid.specs.Names.{Entry, has_name, number_in}
+use Rattle.mir_valid.specs.Names.{NameEntry, has_name, number_in}
 use Rattle.mir_valid.specs.Variables.{operand_names, rhs_names, test_names, into_names, returned_names, form_names, body_names}
 use Rattle.mir_valid.specs.Tables.{number_or_zero, numbered}
 use Rattle.mir_valid.specs.Numbered.{with_name, variables_of, Numbers, numbered_operand, numbered_rhs, numbered_test, numbered_into, numbered_return, numbered_form, numbered_body}
-use Rattle.mir_valid.proofs.TableLaws.{has-number}
-use Rattle.mir_valid.proofs.NumberLaws.{found-at, number-place, number-kept, number-new}
-use Rattle.mir_valid.proofs.DistinctLaws.{differ-variables}
+use Rattle.mir_valid.proofs.TableLaws.{has_number}
+use Rattle.mir_valid.proofs.NumberLaws.{number_place, number_kept, number_new}
+use Rattle.mir_valid.proofs.DistinctLaws.{differ_variables}
 
 -- ---- the variables of a numbered body are the numbers of its names
 
-module _ (vars : List Entry) where
+module _ (vars : List NameEntry) where
   abbrev numbers_in : List (List ℕ) → List ℕ
   numbers_in names = map (number_or_zero vars) names
 
@@ -57,6 +58,7 @@ module _ (vars : List Entry) where
   returned None = refl
   returned (Some a) = operand a
 
+-- numbering an instruction numbers the names in it, in their order
 form : (numbers : Numbers) (f : RawForm) → inst_vars (numbered_form numbers f) ≡ map (number_or_zero numbers.vars) (form_names f)
 form numbers (Receive x) = refl
 form numbers (Assign x r) = ap (λ xs. number_or_zero numbers.vars x ∷ xs) (rhs numbers.vars r)
@@ -68,6 +70,7 @@ form numbers (Call o f others) =
 form numbers (Print a) = operand numbers.vars a
 form numbers (Return o) = returned numbers.vars o
 
+-- and so it does in a body
 body : (numbers : Numbers) (insts : List RawInst) → flat_map inst_vars (numbered_body numbers insts) ≡ map (number_or_zero numbers.vars) (body_names insts)
 body numbers [] = refl
 body numbers (inst ∷ insts) =
@@ -76,11 +79,13 @@ body numbers (inst ∷ insts) =
 
 -- ---- they are numbered in the order of first occurrence
 
-numbered-old : (k m : ℕ) (xs : List ℕ) → m < k → numbered_from k (m ∷ xs) ≡ numbered_from k xs
-numbered-old k m xs low = let e : nat_lt m k ≡ true = grind (arith, nat_tests) in ap (λ b. cond b (numbered_from k xs) (cond (nat_eq m k) (numbered_from (suc k) xs) None)) e
+-- a number below the next one was counted before and changes nothing
+numbered_old : (k m : ℕ) (xs : List ℕ) → m < k → numbered_from k (m ∷ xs) ≡ numbered_from k xs
+numbered_old k m xs low = let e : nat_lt m k ≡ true = grind (arith, nat_tests) in ap (λ b. cond b (numbered_from k xs) (cond (nat_eq m k) (numbered_from (suc k) xs) None)) e
 
-numbered-first : (k m : ℕ) (xs : List ℕ) → m ≡ k → numbered_from k (m ∷ xs) ≡ numbered_from (suc k) xs
-numbered-first k m xs same =
+-- the next number is counted
+numbered_first : (k m : ℕ) (xs : List ℕ) → m ≡ k → numbered_from k (m ∷ xs) ≡ numbered_from (suc k) xs
+numbered_first k m xs same =
     let e : nat_lt m k ≡ false = grind (arith, nat_tests) in
     let e' : nat_eq m k ≡ true = grind (arith, nat_tests) in
     ap (λ b. cond b (numbered_from k xs) (cond (nat_eq m k) (numbered_from (suc k) xs) None)) e ∙ ap (λ b. cond b (numbered_from (suc k) xs) None) e'
@@ -95,26 +100,29 @@ grown (x ∷ names) vars = by (has_name vars x) refl (grown names (with_name var
     by true e later = (later.0, later.1 ∙ ap (λ b. (if b then vars else vars ++ x ∷ []) ++ later.0) e)
     by false e later = (x ∷ later.0, later.1 ∙ ap (λ b. (if b then vars else vars ++ x ∷ []) ++ later.0) e ∙ append_assoc vars (x ∷ []) later.0)
 
-old-number : (vars all : List (List ℕ)) (names : List (List ℕ)) (x : List ℕ) → has_name vars x ≡ true → all ≡ fold with_name vars names → number_or_zero (numbered 0 all) x < length vars
-old-number vars all names x has is =
-    let found = found-at (number_in (numbered 0 vars) x) (has-number 0 vars x ∙ has) in
-    let place = number-place 0 vars x found.0 found.1 in
+-- a name that is among the variables has a number below their count
+old_number : (vars all : List (List ℕ)) (names : List (List ℕ)) (x : List ℕ) → has_name vars x ≡ true → all ≡ fold with_name vars names → number_or_zero (numbered 0 all) x < length vars
+old_number vars all names x has is =
+    let found = some_of (number_in (numbered 0 vars) x) (has_number 0 vars x ∙ has) in
+    let place = number_place 0 vars x found.0 found.1 in
     let more = grown names vars in
     let number : number_or_zero (numbered 0 all) x ≡ found.0 =
-    ap (λ ns. number_or_zero (numbered 0 ns) x) (is ∙ more.1) ∙ ap (λ o. unwrap_or o 0) (number-kept vars more.0 x found.0 found.1) in
+    ap (λ ns. number_or_zero (numbered 0 ns) x) (is ∙ more.1) ∙ ap (λ o. unwrap_or o 0) (number_kept vars more.0 x found.0 found.1) in
     let low : place.0 < length vars = slice_get_within vars place.0 x place.2 in
     omega (arith, number, low, place.1)
 
-new-number : (vars all : List (List ℕ)) (names : List (List ℕ)) (x : List ℕ) → has_name vars x ≡ false → all ≡ fold with_name (vars ++ x ∷ []) names
+-- a new name has the number of variables before it
+new_number : (vars all : List (List ℕ)) (names : List (List ℕ)) (x : List ℕ) → has_name vars x ≡ false → all ≡ fold with_name (vars ++ x ∷ []) names
     → number_or_zero (numbered 0 all) x ≡ length vars
-new-number vars all names x new is =
+new_number vars all names x new is =
     let more = grown names (vars ++ x ∷ []) in
     ap (λ ns. number_or_zero (numbered 0 ns) x) (is ∙ more.1)
-    ∙ ap (λ o. unwrap_or o 0) (number-kept (vars ++ x ∷ []) more.0 x (length vars) (number-new vars x new))
+    ∙ ap (λ o. unwrap_or o 0) (number_kept (vars ++ x ∷ []) more.0 x (length vars) (number_new vars x new))
 
-in-order : (names vars all : List (List ℕ)) → all ≡ fold with_name vars names → numbered_from (length vars) (map (number_or_zero (numbered 0 all)) names) ≡ Some (length all)
-in-order [] vars all is = ap (λ ns. Some (length ns)) (sym is)
-in-order (x ∷ names) vars all is = by (has_name vars x) refl (in-order names vars all) (in-order names (vars ++ x ∷ []) all)
+-- so the numbers of the names come in the order of first occurrence
+in_order : (names vars all : List (List ℕ)) → all ≡ fold with_name vars names → numbered_from (length vars) (map (number_or_zero (numbered 0 all)) names) ≡ Some (length all)
+in_order [] vars all is = ap (λ ns. Some (length ns)) (sym is)
+in_order (x ∷ names) vars all is = by (has_name vars x) refl (in_order names vars all) (in_order names (vars ++ x ∷ []) all)
   where
     by : (b : Bool) → has_name vars x ≡ b
         → (all ≡ fold with_name vars names → numbered_from (length vars) (map (number_or_zero (numbered 0 all)) names) ≡ Some (length all))
@@ -122,18 +130,19 @@ in-order (x ∷ names) vars all is = by (has_name vars x) refl (in-order names v
         → numbered_from (length vars) (map (number_or_zero (numbered 0 all)) (x ∷ names)) ≡ Some (length all)
     by true e old new =
         let is' : all ≡ fold with_name vars names = is ∙ ap (λ b. fold with_name (if b then vars else vars ++ x ∷ []) names) e in
-        numbered-old (length vars) (number_or_zero (numbered 0 all) x) (map (number_or_zero (numbered 0 all)) names) (old-number vars all names x e is') ∙ old is'
+        numbered_old (length vars) (number_or_zero (numbered 0 all) x) (map (number_or_zero (numbered 0 all)) names) (old_number vars all names x e is') ∙ old is'
     by false e old new =
         let is' : all ≡ fold with_name (vars ++ x ∷ []) names = is ∙ ap (λ b. fold with_name (if b then vars else vars ++ x ∷ []) names) e in
         let size : suc (length vars) ≡ length (vars ++ x ∷ []) = omega (arith, length-append vars (x ∷ [])) in
-        numbered-first (length vars) (number_or_zero (numbered 0 all) x) (map (number_or_zero (numbered 0 all)) names) (new-number vars all names x e is')
+        numbered_first (length vars) (number_or_zero (numbered 0 all) x) (map (number_or_zero (numbered 0 all)) names) (new_number vars all names x e is')
         ∙ ap (λ k. numbered_from k (map (number_or_zero (numbered 0 all)) names)) size
         ∙ new is'
 
-pub tidy-numbered : (numbers : Numbers) (insts : List RawInst) → numbers.vars ≡ numbered 0 (variables_of insts) → IsTidy (variables_of insts) (numbered_body numbers insts)
-tidy-numbered numbers insts is = record {
+-- a numbered body is tidy
+pub tidy_numbered : (numbers : Numbers) (insts : List RawInst) → numbers.vars ≡ numbered 0 (variables_of insts) → IsTidy (variables_of insts) (numbered_body numbers insts)
+tidy_numbered numbers insts is = record {
   numbered =
       ap (numbered_from 0) (body numbers insts ∙ ap (λ vars. map (number_or_zero vars) (body_names insts)) is)
-      ∙ in-order (body_names insts) [] (variables_of insts) refl;
-  differ = differ-variables (body_names insts);
+      ∙ in_order (body_names insts) [] (variables_of insts) refl;
+  differ = differ_variables (body_names insts);
 }

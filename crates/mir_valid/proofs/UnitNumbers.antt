@@ -6,14 +6,15 @@ use Rattle.mir_parse.specs.RawUnit.{RawUnitShape}
 use Rattle.mir_valid.specs.Rules.{unit_names}
 use Rattle.mir_valid.specs.Tables.{table_of, with_entry, numbered}
 use Rattle.mir_valid.specs.Numbered.{unit_numbers}
-use Rattle.mir_valid.proofs.TableLaws.{numbered-push}
+use Rattle.mir_valid.proofs.TableLaws.{numbered_push}
 
-pub unit_numbers-next : (units : List RawUnitShape) (i : ℕ) (unit : RawUnitShape) → i < length units → unit ≡ get_or units i unit
+-- one more unit is numbered by its place
+pub unit_numbers_next : (units : List RawUnitShape) (i : ℕ) (unit : RawUnitShape) → i < length units → unit ≡ get_or units i unit
     → unit_numbers (take (i + 1) units) ≡ with_entry (unit_numbers (take i units)) (unit.name, i)
-unit_numbers-next units i unit low at =
+unit_numbers_next units i unit low at =
     let names : unit_names (take (i + 1) units) ≡ unit_names (take i units) ++ unit.name ∷ [] =
     ap unit_names (take_more units i unit low ∙ ap (λ u. take i units ++ u ∷ []) (sym at)) ∙ map-append (λ u. u.name) (take i units) (unit ∷ []) in
     let size : 0 + length (unit_names (take i units)) ≡ i =
     omega (arith, length-map (take i units) (λ u. u.name), length-take-le i units (omega arith)) in
-    ap table_of (ap (numbered 0) names ∙ numbered-push 0 (unit_names (take i units)) unit.name ∙ ap (λ k. numbered 0 (unit_names (take i units)) ++ (unit.name, k) ∷ []) size)
+    ap table_of (ap (numbered 0) names ∙ numbered_push 0 (unit_names (take i units)) unit.name ∙ ap (λ k. numbered 0 (unit_names (take i units)) ++ (unit.name, k) ∷ []) size)
     ∙ fold-append with_entry [] (numbered 0 (unit_names (take i units))) ((unit.name, i) ∷ [])

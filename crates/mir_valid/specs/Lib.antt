@@ -1,4 +1,5 @@
 pub mod Names
+pub mod NameLaws
 pub mod Variables
 pub mod Rules
 pub mod Refusals

@@ -1,6 +1,6 @@
--- The program that tables of names give: each name replaced by its number, each label by its place. Private functions are
--- specified by these words.
-use Rattle.std.specs.Prelude.{ℕ, pos, List, [], ◌∷◌, ◌++◌, map, fold, Option, None, Some, if◌then◌else◌}
+-- The program that tables of names give: each name replaced by its number, each label by its place. Cited by the
+-- contracts of private functions.
+use Rattle.std.specs.Prelude.{◌≡◌, ℕ, pos, List, [], ◌∷◌, ◌++◌, map, fold, Option, None, Some, if◌then◌else◌}
 use Rattle.std.specs.Option.{option_map}
 use Rattle.mir_base.specs.declared.instructions.Operand.{Operand}
 use Rattle.mir_base.specs.declared.instructions.Operand.TheVariants.{Var, Const}
@@ -22,7 +22,7 @@ use Rattle.mir_parse.specs.declared.raw.RawForm.TheVariants.{Receive as RawRecei
 use Rattle.mir_parse.specs.declared.raw.RawInst.{RawInst}
 use Rattle.mir_parse.specs.declared.raw.RawLabel.{RawLabel}
 use Rattle.mir_parse.specs.RawUnit.{RawUnitShape}
-use Rattle.mir_valid.specs.Names.{Entry, has_name}
+use Rattle.mir_valid.specs.Names.{NameEntry, has_name}
 use Rattle.mir_valid.specs.Tables.{number_or_zero, numbered, table_of}
 use Rattle.mir_valid.specs.Variables.{body_names}
 use Rattle.mir_valid.specs.Rules.{unit_names}
@@ -31,39 +31,43 @@ use Rattle.mir_valid.specs.Rules.{unit_names}
 abbrev pub with_name : List (List ℕ) → List ℕ → List (List ℕ)
 with_name vars x = if has_name vars x then vars else vars ++ x ∷ []
 
+-- the names `found` grew to these when the other names were added, each that was new
+abbrev pub AddsNames : List (List ℕ) → List (List ℕ) → List (List ℕ) → Type 0
+AddsNames found names vars = vars ≡ fold with_name found names
+
 -- the names of the body, each once, as one pass over the body finds them
 abbrev pub variables_of : List RawInst → List (List ℕ)
 variables_of body = fold with_name [] (body_names body)
 
 -- the numbers of units and variables, and the places of labels
 pub record Numbers : Type 0 where
-  pub units : List Entry
-  pub vars : List Entry
-  pub labels : List Entry
+  pub units : List NameEntry
+  pub vars : List NameEntry
+  pub labels : List NameEntry
 
 -- an operand, with its variable numbered
-abbrev pub numbered_operand : List Entry → RawOperand → Operand
+abbrev pub numbered_operand : List NameEntry → RawOperand → Operand
 numbered_operand vars (RawVar x) = Var (number_or_zero vars x)
 numbered_operand vars (RawConst z) = Const z
 
 -- the right side of an assignment, with its variables numbered
-abbrev pub numbered_rhs : List Entry → RawRhs → Rhs
+abbrev pub numbered_rhs : List NameEntry → RawRhs → Rhs
 numbered_rhs vars (RawPlain a) = Plain (numbered_operand vars a)
 numbered_rhs vars (RawUnary op a) = Unary op (numbered_operand vars a)
 numbered_rhs vars (RawBinary op a b) = Binary op (numbered_operand vars a) (numbered_operand vars b)
 
 -- a test, with its variables numbered
-abbrev pub numbered_test : List Entry → RawTest → Test
+abbrev pub numbered_test : List NameEntry → RawTest → Test
 numbered_test vars (RawRel op a b) = Rel op (numbered_operand vars a) (numbered_operand vars b)
 numbered_test vars (RawHolds a) = Holds (numbered_operand vars a)
 numbered_test vars (RawFails a) = Fails (numbered_operand vars a)
 
 -- the variable for the result of a call, numbered
-abbrev pub numbered_into : List Entry → Option (List ℕ) → Option ℕ
+abbrev pub numbered_into : List NameEntry → Option (List ℕ) → Option ℕ
 numbered_into vars into = option_map (number_or_zero vars) into
 
 -- what a return gives: 0 where it names nothing
-abbrev pub numbered_return : List Entry → Option RawOperand → Operand
+abbrev pub numbered_return : List NameEntry → Option RawOperand → Operand
 numbered_return vars None = Const (pos 0)
 numbered_return vars (Some a) = numbered_operand vars a
 
@@ -83,15 +87,15 @@ abbrev pub numbered_body : Numbers → List RawInst → List Inst
 numbered_body numbers body = map (λ inst. numbered_form numbers inst.form) body
 
 -- the labels with their places
-abbrev pub label_places : List RawLabel → List Entry
+abbrev pub label_places : List RawLabel → List NameEntry
 label_places labels = map (λ label. (label.name, label.place)) labels
 
 -- the units with their numbers
-abbrev pub unit_numbers : List RawUnitShape → List Entry
+abbrev pub unit_numbers : List RawUnitShape → List NameEntry
 unit_numbers units = table_of (numbered 0 (unit_names units))
 
 -- the numbers by which a unit is read, where the units have these
-abbrev pub numbers_of : List Entry → RawUnitShape → Numbers
+abbrev pub numbers_of : List NameEntry → RawUnitShape → Numbers
 numbers_of units unit = record {
   units = units;
   vars = numbered 0 (variables_of unit.body);
@@ -99,7 +103,7 @@ numbers_of units unit = record {
 }
 
 -- a unit, numbered
-abbrev pub numbered_unit : List Entry → RawUnitShape → UnitShape
+abbrev pub numbered_unit : List NameEntry → RawUnitShape → UnitShape
 numbered_unit units unit = record {
   name = unit.name;
   vars = variables_of unit.body;

@@ -1,6 +1,8 @@
--- The refusal of a raw program: the first kind, in a fixed order, whose condition holds, with its smallest line.
-use Rattle.std.specs.Prelude.{◌≡◌, ℕ, ◌≤◌, ◌<◌, min, nat_eq, nat_lt, List, [], ◌∷◌, fold, flat_map, length, Option, None, Some, if◌then◌else◌}
+-- The refusal of a raw program: the first kind, in a fixed order, whose condition holds, with its smallest line. Cited by
+-- contracts.
+use Rattle.std.specs.Prelude.{◌≡◌, ◌⊎◌, ℕ, ◌≤◌, ◌<◌, min, nat_eq, nat_lt, List, [], ◌∷◌, fold, flat_map, length, Option, None, Some, if◌then◌else◌}
 use Rattle.std.specs.Option.{option_map, option_or}
+use Rattle.mir_base.specs.Limits.{most_units}
 use Rattle.mir_parse.specs.declared.raw.Raw.{Raw}
 use Rattle.mir_parse.specs.RawUnit.{RawUnitShape}
 use Rattle.mir_valid.specs.declared.faults.ValidFault.{ValidFault}
@@ -16,6 +18,10 @@ lesser (Some least) line = Some (min least line)
 abbrev pub least : List ℕ → Option ℕ
 least lines = fold lesser None lines
 
+-- the smallest line at which one of the units breaks a rule
+abbrev pub least_over : (RawUnitShape → List ℕ) → List RawUnitShape → Option ℕ
+least_over lines units = least (flat_map lines units)
+
 -- a kind of refusal with the smallest of its lines
 abbrev pub at_least_line : (ℕ → ValidFault) → List ℕ → Option ValidFault
 at_least_line kind lines = option_map kind (least lines)
@@ -29,7 +35,7 @@ first_of (found ∷ others) = option_or found (first_of others)
 abbrev pub refusals : List RawUnitShape → List (Option ValidFault)
 refusals units =
     (if nat_eq (length units) 0 then Some NoUnit else None)
-    ∷ (if nat_lt 256 (length units) then Some TooManyUnits else None)
+    ∷ (if nat_lt most_units (length units) then Some TooManyUnits else None)
     ∷ at_least_line SameUnit (same_unit_lines units)
     ∷ at_least_line TooManyInsts (flat_map too_many_insts_lines units)
     ∷ at_least_line LateReceive (flat_map late_receive_lines units)
@@ -48,7 +54,7 @@ refusal raw = first_of (refusals raw.units)
 -- no kind of refusal has a line
 pub record AreValid (units : List RawUnitShape) : Type 0 where
   pub some_unit : 0 < length units
-  pub few_units : length units ≤ 256
+  pub few_units : length units ≤ most_units
   pub same_unit : same_unit_lines units ≡ []
   pub too_many_insts : flat_map too_many_insts_lines units ≡ []
   pub late_receive : flat_map late_receive_lines units ≡ []
@@ -63,17 +69,21 @@ pub record AreValid (units : List RawUnitShape) : Type 0 where
 abbrev pub IsValid : Raw → Type 0
 IsValid raw = AreValid raw.units
 
--- the fault is want of memory
-abbrev pub IsMemory : ValidFault → Type 0
-IsMemory NoUnit = ⊥
-IsMemory TooManyUnits = ⊥
-IsMemory (SameUnit line) = ⊥
-IsMemory (TooManyInsts line) = ⊥
-IsMemory (LateReceive line) = ⊥
-IsMemory (SameReceive line) = ⊥
-IsMemory (TooManyReceives line) = ⊥
-IsMemory (SameLabel line) = ⊥
-IsMemory (NoLabel line) = ⊥
-IsMemory (NoSuchUnit line) = ⊥
-IsMemory (WrongCount line) = ⊥
-IsMemory (Memory refused) = Unit {0}
+-- the fault is running out of memory
+abbrev pub IsValidMemory : ValidFault → Type 0
+IsValidMemory NoUnit = ⊥
+IsValidMemory TooManyUnits = ⊥
+IsValidMemory (SameUnit line) = ⊥
+IsValidMemory (TooManyInsts line) = ⊥
+IsValidMemory (LateReceive line) = ⊥
+IsValidMemory (SameReceive line) = ⊥
+IsValidMemory (TooManyReceives line) = ⊥
+IsValidMemory (SameLabel line) = ⊥
+IsValidMemory (NoLabel line) = ⊥
+IsValidMemory (NoSuchUnit line) = ⊥
+IsValidMemory (WrongCount line) = ⊥
+IsValidMemory (Memory refused) = Unit {0}
+
+-- a fault is this one, or running out of memory
+abbrev pub IsFaultOrMemory : ValidFault → ValidFault → Type 0
+IsFaultOrMemory fault given = (given ≡ fault) ⊎ IsValidMemory given

@@ -1,13 +1,14 @@
--- The rules that units, instructions and labels must keep, and the lines at which each is broken.
+-- The rules that units, instructions and labels must keep, and the lines at which each is broken. Cited by contracts.
 use Rattle.std.specs.Prelude.{ℕ, Bool, false, ◌&&◌, ◌||◌, not, nat_eq, nat_le, List, [], ◌∷◌, ◌++◌, map, filter, count_by, length, slice_get, Option, None, Some, is_some, if◌then◌else◌}
 use Rattle.std.specs.List.{list_any, filter_map}
 use Rattle.std.specs.Option.{option_map_or}
+use Rattle.mir_base.specs.Limits.{most_insts, most_receives}
 use Rattle.mir_parse.specs.declared.raw.RawForm.{RawForm}
 use Rattle.mir_parse.specs.declared.raw.RawForm.TheVariants.{Receive, Goto, If, Call}
 use Rattle.mir_parse.specs.declared.raw.RawInst.{RawInst}
 use Rattle.mir_parse.specs.declared.raw.RawLabel.{RawLabel}
 use Rattle.mir_parse.specs.RawUnit.{RawUnitShape}
-use Rattle.mir_valid.specs.Names.{Entry, has_name, number_in}
+use Rattle.mir_valid.specs.Names.{NameEntry, has_name, number_in}
 
 -- the lines of the items that break a rule. The rule sees the items before it, and the item
 abbrev pub broken_after : {A : Type 0} → (A → ℕ) → (List A → A → Bool) → List A → List A → List ℕ
@@ -63,11 +64,11 @@ lines_where test body = map (λ inst. inst.line) (filter (λ inst. test inst.for
 
 -- an instruction is number 4,097 of its unit
 abbrev pub too_many_insts_lines : RawUnitShape → List ℕ
-too_many_insts_lines unit = line_of (slice_get unit.body 4096)
+too_many_insts_lines unit = line_of (slice_get unit.body most_insts)
 
 -- a receive is number 17 of its unit: 16 stand before it
 abbrev pub is_seventeenth : List RawInst → RawInst → Bool
-is_seventeenth earlier inst = is_receive inst && nat_eq (count_by is_receive earlier) 16
+is_seventeenth earlier inst = is_receive inst && nat_eq (count_by is_receive earlier) most_receives
 
 -- the lines of the receives beyond the sixteenth
 abbrev pub too_many_receives_lines : RawUnitShape → List ℕ
@@ -79,9 +80,13 @@ too_many_receives_lines unit = broken (λ inst. inst.line) is_seventeenth unit.b
 abbrev pub has_label_before : List RawLabel → ℕ → Bool
 has_label_before labels place = list_any (λ label. nat_le label.place place) labels
 
+-- the instruction is of another kind than receives
+abbrev pub is_other : RawInst → Bool
+is_other inst = not (is_receive inst)
+
 -- a receive follows another kind of instruction or a label
 abbrev pub is_late : List RawLabel → List RawInst → RawInst → Bool
-is_late labels earlier inst = is_receive inst && (list_any (λ other. not (is_receive other)) earlier || has_label_before labels (length earlier))
+is_late labels earlier inst = is_receive inst && (list_any is_other earlier || has_label_before labels (length earlier))
 
 -- the lines of receives behind another instruction or a label
 abbrev pub late_receive_lines : RawUnitShape → List ℕ
@@ -128,11 +133,11 @@ abbrev pub no_unit_lines : List RawUnitShape → RawUnitShape → List ℕ
 no_unit_lines units unit = lines_where (misses_unit units) unit.body
 
 -- each unit's name, with the number of its receives
-abbrev pub receive_counts : List RawUnitShape → List Entry
+abbrev pub receive_counts : List RawUnitShape → List NameEntry
 receive_counts units = map (λ unit. (unit.name, count_by is_receive unit.body)) units
 
 -- a call names a unit that has a count, and has another number of arguments
-abbrev pub differs_from : List Entry → RawForm → Bool
+abbrev pub differs_from : List NameEntry → RawForm → Bool
 differs_from counts form = option_map_or (λ call. option_map_or (λ count. not (nat_eq count call.1)) (number_in counts call.0) false) (called_by form) false
 
 -- the lines of calls with another number of arguments than the unit receives

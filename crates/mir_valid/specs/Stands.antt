@@ -1,4 +1,4 @@
--- What program a raw program stands for: names become numbers, and labels become places.
+-- What program a raw program stands for: names become numbers, and labels become places. Cited by contracts.
 use Rattle.std.specs.Prelude.{◌≡◌, ℕ, pos, List, [], ◌∷◌, slice_get, Option, None, Some, Any}
 use Rattle.mir_base.specs.declared.instructions.Operand.{Operand}
 use Rattle.mir_base.specs.declared.instructions.Operand.TheVariants.{Var, Const}
@@ -31,7 +31,7 @@ EachStands R (x ∷ xs) [] = ⊥
 EachStands R (x ∷ xs) (y ∷ ys) = R x y × EachStands R xs ys
 
 -- what the names in a unit stand for: the units and the unit's variables by number, and its labels
-pub record Naming : Type 0 where
+pub record UnitNames : Type 0 where
   pub units : List (List ℕ)
   pub vars : List (List ℕ)
   pub labels : List RawLabel
@@ -76,7 +76,7 @@ ReturnStands vars None a = a ≡ Const (pos 0)
 ReturnStands vars (Some raw) a = OperandStands vars raw a
 
 -- an instruction stands for the same one on numbers and places
-abbrev pub FormStands : Naming → RawForm → Inst → Type 0
+abbrev pub FormStands : UnitNames → RawForm → Inst → Type 0
 FormStands naming (RawReceive x) (Receive number) = IsNumber naming.vars x number
 FormStands naming (RawAssign x raw_rhs) (Assign number rhs) = IsNumber naming.vars x number × RhsStands naming.vars raw_rhs rhs
 FormStands naming (RawGoto l) (Goto place) = IsPlace naming.labels l place
@@ -98,5 +98,13 @@ abbrev pub UnitsStand : List RawUnitShape → List UnitShape → Type 0
 UnitsStand raw units = EachStands (UnitStands (unit_names raw)) raw units
 
 -- a raw program stands for a program
-abbrev pub Stands : Raw → ProgramShape → Type 0
-Stands raw program = UnitsStand raw.units program.units
+abbrev pub StandsFor : Raw → ProgramShape → Type 0
+StandsFor raw program = UnitsStand raw.units program.units
+
+-- a raw program stands for no program but this one
+abbrev pub StandsForNoOther : Raw → ProgramShape → Type 0
+StandsForNoOther raw program = (other : ProgramShape) → StandsFor raw other → other ≡ program
+
+-- a raw program stands for one program at most
+abbrev pub StandsForAtMostOne : Raw → Type 0
+StandsForAtMostOne raw = (one other : ProgramShape) → StandsFor raw one → StandsFor raw other → one ≡ other

@@ -1,4 +1,4 @@
--- The variables of a body, in the order in which they first occur in its canonical text.
+-- The variables of a body, in the order in which they first occur in its canonical text. Cited by contracts.
 use Rattle.std.specs.Prelude.{ℕ, List, [], ◌∷◌, ◌++◌, flat_map, Option, None, Some, Contains}
 use Rattle.mir_parse.specs.declared.raw.RawOperand.{RawOperand}
 use Rattle.mir_parse.specs.declared.raw.RawOperand.TheVariants.{Var, Const}

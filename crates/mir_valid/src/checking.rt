@@ -1,8 +1,7 @@
 // The check of a raw program.
-ghost use Rattle.std.specs.Prelude.{◌≡◌, ◌⊎◌, Some, All, IfOk, IfErr, IsErrAnd, MatchResult};
-ghost use Rattle.mir_base.specs.Shapes.{ProgramShape};
-ghost use Rattle.mir_valid.specs.Refusals.{refusal, IsValid, IsMemory};
-ghost use Rattle.mir_valid.specs.Stands.{Stands};
+ghost use Rattle.std.specs.Prelude.{◌≡◌, ◌⊎◌, Some, IfOk, IfErr, IsErrAnd, MatchResult};
+ghost use Rattle.mir_valid.specs.Refusals.{refusal, IsValid, IsValidMemory, IsFaultOrMemory};
+ghost use Rattle.mir_valid.specs.Stands.{StandsFor, StandsForNoOther};
 
 use crate::ValidFault;
 use crate::numbering::program_of;
@@ -15,17 +14,18 @@ use std::alloc::Global;
 /// `return` without an operand returns 0.
 ///
 /// It refuses a raw program that is not valid. The kinds of refusal are tried in the order of `ValidFault`, and each
-/// names the smallest line at which its condition holds; want of memory may come at any time.
+/// names the smallest line at which its condition holds; running out of memory may come at any time.
 pub fn check(alloc: Global, raw: &Raw) -> Result<Program, ValidFault>
     // A program is answered for a valid raw program alone, which stands for it.
-    ensures found { IfOk result (λ program. IsValid raw.now × Stands raw.now program) }
+    ensures found { IfOk result (λ program. IsValid raw.now × StandsFor raw.now program) }
 
-    // A valid raw program is refused for want of memory alone, and it stands for no other program.
-    ensures only { IsValid raw.now → MatchResult result (λ program. (other : ProgramShape) → Stands raw.now other → other ≡ program) IsMemory }
+    // A valid raw program is refused because memory runs out alone, and it stands for no other program.
+    ensures only { IsValid raw.now → MatchResult result (StandsForNoOther raw.now) IsValidMemory }
 
     // A refusal for another cause is the first that holds, and where one holds it is given.
-    ensures refused { IfErr result (λ fault. (refusal raw.now ≡ Some fault) ⊎ IsMemory fault) }
-    ensures refused_only { (fault : ValidFault) → refusal raw.now ≡ Some fault → IsErrAnd result (λ given. (given ≡ fault) ⊎ IsMemory given) }
+    ensures refused { IfErr result (λ fault. (refusal raw.now ≡ Some fault) ⊎ IsValidMemory fault) }
+    ensures refused_only { (fault : ValidFault) →
+        refusal raw.now ≡ Some fault → IsErrAnd result (IsFaultOrMemory fault) }
 {
     let units = raw.units.items();
     match refusal(alloc, units) {

@@ -39,7 +39,7 @@ pub enum ValidFault {
     /// The line of a call with another number of arguments than the called unit has receives.
     #[error("line {0}: wrong number of arguments")]
     WrongCount(usize),
-    /// Want of memory.
+    /// Memory ran out.
     #[error(transparent)]
     Memory(Memory),
 }

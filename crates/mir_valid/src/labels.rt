@@ -1,19 +1,18 @@
 // The rules of labels.
 ghost use Rattle.std.specs.Prelude.{◌≡◌, IfOk};
-ghost use Rattle.mir_parse.specs.RawUnit.{RawUnitShape};
 ghost use Rattle.mir_valid.specs.Rules.{same_label_lines, no_label_lines};
-ghost use Rattle.mir_valid.specs.Tables.{table_of, misses_place};
+ghost use Rattle.mir_valid.specs.Tables.{table_of};
 ghost use Rattle.mir_valid.specs.Numbered.{label_places};
 
 use crate::Memory;
-use crate::forms::jumped_to;
-use crate::lines::lesser_if;
+use crate::lines::{Least, lesser_if};
+use crate::lookups::{Lookup, least_where};
 use crate::rules::Rule;
 use crate::tables::Table;
-use mir_parse::{RawForm, RawLabel, RawUnit};
+use mir_parse::{RawLabel, RawUnit};
 use std::alloc::Global;
 
-/// The labels with their places. Its only refusal is want of memory.
+/// The table of the labels with their places. It fails only with `Memory`.
 pub fn label_places<'a>(alloc: Global, labels: &'a [RawLabel]) -> Result<Table<'a>, Memory>
     ensures { IfOk result (λ table. table ≡ table_of (label_places labels.now)) }
 {
@@ -24,18 +23,13 @@ pub fn label_places<'a>(alloc: Global, labels: &'a [RawLabel]) -> Result<Table<'
     Ok(table)
 }
 
-/// The labels of a unit have distinct names.
+/// The rule that the labels of a unit have distinct names.
 pub struct SameLabel;
 
 impl Rule for SameLabel {
     ghost lines = { λ _ unit. same_label_lines unit };
 
-    fn least_in(
-        &self,
-        alloc: Global,
-        unit: &RawUnit,
-        best: Option<usize>,
-    ) -> Result<Option<usize>, Memory> {
+    fn least_in(&self, alloc: Global, unit: &RawUnit, best: Least) -> Result<Least, Memory> {
         let mut seen = Table::new(alloc);
         let mut best = best;
         for label in unit.labels.items() {
@@ -46,33 +40,14 @@ impl Rule for SameLabel {
     }
 }
 
-/// Each jump of a unit names one of its labels.
+/// The rule that each jump of a unit names one of its labels.
 pub struct NoLabel;
 
 impl Rule for NoLabel {
     ghost lines = { λ _ unit. no_label_lines unit };
 
-    fn least_in(
-        &self,
-        alloc: Global,
-        unit: &RawUnit,
-        best: Option<usize>,
-    ) -> Result<Option<usize>, Memory> {
+    fn least_in(&self, alloc: Global, unit: &RawUnit, best: Least) -> Result<Least, Memory> {
         let labels = label_places(alloc, unit.labels.items())?;
-        let mut best = best;
-        for inst in unit.body.items() {
-            best = lesser_if(misses_label(&labels, &inst.form), best, inst.line);
-        }
-        Ok(best)
-    }
-}
-
-// Whether the instruction jumps to a label that the table does not have.
-fn misses_label(labels: &Table, form: &RawForm) -> bool
-    ensures { result ≡ misses_place labels.now form.now }
-{
-    match jumped_to(form) {
-        Some(label) => labels.get(label).is_none(),
-        None => false,
+        Ok(least_where(Lookup::NoLabel, &labels, unit.body.items(), best))
     }
 }

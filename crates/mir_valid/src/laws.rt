@@ -1,18 +1,18 @@
 // What is true of every raw program.
 ghost use Rattle.std.specs.Prelude.{◌≡◌, Some};
-ghost use Rattle.mir_base.specs.Shapes.{ProgramShape};
 ghost use Rattle.mir_parse.specs.declared.raw.Raw.{Raw as ARaw};
 ghost use Rattle.mir_valid.specs.declared.faults.ValidFault.{ValidFault as AFault};
-ghost use Rattle.mir_valid.specs.Refusals.{IsMemory, IsValid, refusal};
-ghost use Rattle.mir_valid.specs.Stands.{Stands};
+ghost use Rattle.mir_valid.specs.Refusals.{IsValidMemory, IsValid, refusal};
+ghost use Rattle.mir_valid.specs.Stands.{StandsForAtMostOne};
 
-/// A law: no valid raw program stands for two programs. It takes no memory.
+/// A law: no valid raw program stands for two programs. It does not allocate.
 pub fn program_is_unique()
-    ensures { (raw : ARaw) → IsValid raw → (one other : ProgramShape) → Stands raw one → Stands raw other → one ≡ other }
+    ensures { (raw : ARaw) → IsValid raw → StandsForAtMostOne raw }
 {}
 
-/// A law: what is refused is not valid, and a refusal is no want of memory. It takes no memory.
+/// A law: what is refused is not valid, and a refusal is not of memory. It does not allocate.
 pub fn refused_is_not_valid()
-    ensures valid { (raw : ARaw) → (fault : AFault) → refusal raw ≡ Some fault → IsValid raw → ⊥ }
-    ensures memory { (raw : ARaw) → (fault : AFault) → refusal raw ≡ Some fault → IsMemory fault → ⊥ }
+    ensures valid { (raw : ARaw) (fault : AFault) → refusal raw ≡ Some fault → IsValid raw → ⊥ }
+    ensures memory { (raw : ARaw) (fault : AFault) →
+        refusal raw ≡ Some fault → IsValidMemory fault → ⊥ }
 {}

@@ -16,18 +16,17 @@ mod forms;
 mod labels;
 mod laws;
 mod lines;
+mod lookups;
 mod numbering;
 mod receives;
 mod refusals;
 mod rules;
 mod tables;
-#[cfg(test)]
-mod tests;
 mod variables;
 
 pub use checking::check;
 pub use faults::ValidFault;
 pub use laws::{program_is_unique, refused_is_not_valid};
 
-/// Want of memory: the allocator refused.
+/// Running out of memory: the allocator refused.
 pub type Memory = std::alloc::AllocError;

@@ -28,16 +28,96 @@ impl<'t, 'a> Model for Numbering<'t, 'a> {
 
     ghost Value = { Numbers };
 
-    ghost view = { λ tables. record { units = tables.units.now; vars = tables.vars.now; labels = tables.labels.now } };
+    ghost view = { λ tables. record {
+      units = tables.units.now;
+      vars = tables.vars.now;
+      labels = tables.labels.now;
+    } };
 }
 
-// An operand, with its variable numbered.
-fn numbered_operand(vars: &Table, operand: &RawOperand) -> Operand
-    ensures { result ≡ numbered_operand vars.now operand.now }
+/// The program that these valid units stand for. It fails only with `Memory`.
+pub fn program_of(alloc: Global, units: &[RawUnit]) -> Result<Program, Memory>
+    requires { AreValid units.now }
+    ensures { IfOk result (λ program. program.units ≡ numbered_units units.now) }
 {
-    match operand {
-        RawOperand::Var(name) => Operand::Var(vars.number(name)),
-        RawOperand::Const(z) => Operand::Const(*z),
+    let numbers = unit_numbers(alloc, units)?;
+    let made = numbered_all(alloc, &numbers, units)?;
+    Ok(Program {
+        units: Items::of(made),
+    })
+}
+
+// The units, numbered. It fails only with `Memory`.
+fn numbered_all<'a>(
+    alloc: Global,
+    numbers: &Table<'a>,
+    units: &'a [RawUnit],
+) -> Result<Vec<Unit>, Memory>
+    ensures made { IfOk result (λ made. made.items ≡ map (numbered_unit numbers.now) units.now) }
+    ensures places { OnOk result (All (λ unit. HasPlaces unit.labels unit.body) units.now) }
+{
+    let mut made = Vec::new(alloc);
+    for unit in units {
+        made.push(numbered_unit(alloc, numbers, unit)?)?;
+    }
+    Ok(made)
+}
+
+// A unit, numbered. It fails only with `Memory`.
+fn numbered_unit<'a>(alloc: Global, units: &Table<'a>, unit: &'a RawUnit) -> Result<Unit, Memory>
+    ensures made { IfOk result (λ made. made ≡ numbered_unit units.now unit.now) }
+    ensures places { HasPlaces unit.now.labels unit.now.body }
+{
+    let raw_body = unit.body.items();
+    let vars = Variables::of(alloc, raw_body)?;
+    let labels = label_places(alloc, unit.labels.items())?;
+    let tables = Numbering {
+        units,
+        vars: vars.numbers(),
+        labels: &labels,
+    };
+    let body = numbered_body(alloc, &tables, raw_body)?;
+    let name = unit.name.clone()?;
+    Ok(Unit {
+        name,
+        vars: Items::of(vars.into_names()),
+        body: Items::of(body),
+    })
+}
+
+// The instructions of a unit, numbered. It fails only with `Memory`.
+fn numbered_body(alloc: Global, tables: &Numbering, body: &[RawInst]) -> Result<Vec<Inst>, Memory>
+    ensures { IfOk result (λ insts. insts.items ≡ numbered_body tables.now body.now) }
+{
+    let mut insts = Vec::new(alloc);
+    for inst in body {
+        insts.push(numbered_form(alloc, tables, &inst.form)?)?;
+    }
+    Ok(insts)
+}
+
+// An instruction, with its variables, its target and its callee numbered. It fails only with `Memory`.
+fn numbered_form(alloc: Global, tables: &Numbering, form: &RawForm) -> Result<Inst, Memory>
+    ensures { IfOk result (λ inst. inst ≡ numbered_form tables.now form.now) }
+{
+    let vars = tables.vars;
+    match form {
+        RawForm::Receive(name) => Ok(Inst::Receive(vars.number(name))),
+        RawForm::Assign(name, rhs) => {
+            Ok(Inst::Assign(vars.number(name), numbered_rhs(vars, rhs)))
+        }
+        RawForm::Goto(label) => Ok(Inst::Goto(tables.labels.number(label))),
+        RawForm::If(test, label) => Ok(Inst::If(
+            numbered_test(vars, test),
+            tables.labels.number(label),
+        )),
+        RawForm::Call(into, unit, operands) => {
+            let into = numbered_into(vars, into);
+            let args = numbered_args(alloc, vars, operands.items())?;
+            Ok(Inst::Call(into, tables.units.number(unit), args))
+        }
+        RawForm::Print(a) => Ok(Inst::Print(numbered_operand(vars, a))),
+        RawForm::Return(a) => Ok(Inst::Return(numbered_return(vars, a))),
     }
 }
 
@@ -53,6 +133,16 @@ fn numbered_rhs(vars: &Table, rhs: &RawRhs) -> Rhs
             numbered_operand(vars, a),
             numbered_operand(vars, b),
         ),
+    }
+}
+
+// An operand, with its variable numbered.
+fn numbered_operand(vars: &Table, operand: &RawOperand) -> Operand
+    ensures { result ≡ numbered_operand vars.now operand.now }
+{
+    match operand {
+        RawOperand::Var(name) => Operand::Var(vars.number(name)),
+        RawOperand::Const(z) => Operand::Const(*z),
     }
 }
 
@@ -81,16 +171,6 @@ fn numbered_into(vars: &Table, into: &Option<Name>) -> Option<usize>
     }
 }
 
-// What a return gives: 0 where it names nothing.
-fn numbered_return(vars: &Table, operand: &Option<RawOperand>) -> Operand
-    ensures { result ≡ numbered_return vars.now operand.now }
-{
-    match operand {
-        None => Operand::Const(0),
-        Some(a) => numbered_operand(vars, a),
-    }
-}
-
 // The arguments of a call, numbered. It fails only with `Memory`.
 fn numbered_args(alloc: Global, vars: &Table, operands: &[RawOperand]) -> Result<Args, Memory>
     ensures { IfOk result (λ args. args ≡ map (numbered_operand vars.now) operands.now) }
@@ -102,88 +182,12 @@ fn numbered_args(alloc: Global, vars: &Table, operands: &[RawOperand]) -> Result
     Args::of(alloc, &numbered)
 }
 
-// An instruction, with its variables, its target and its callee numbered. It fails only with `Memory`.
-fn numbered_form(alloc: Global, tables: &Numbering, form: &RawForm) -> Result<Inst, Memory>
-    ensures { IfOk result (λ inst. inst ≡ numbered_form tables.now form.now) }
+// What a return gives: 0 where it names nothing.
+fn numbered_return(vars: &Table, operand: &Option<RawOperand>) -> Operand
+    ensures { result ≡ numbered_return vars.now operand.now }
 {
-    let vars = tables.vars;
-    match form {
-        RawForm::Receive(name) => Ok(Inst::Receive(vars.number(name))),
-        RawForm::Assign(name, rhs) => {
-            Ok(Inst::Assign(vars.number(name), numbered_rhs(vars, rhs)))
-        }
-        RawForm::Goto(label) => Ok(Inst::Goto(tables.labels.number(label))),
-        RawForm::If(test, label) => Ok(Inst::If(
-            numbered_test(vars, test),
-            tables.labels.number(label),
-        )),
-        RawForm::Call(into, unit, operands) => {
-            let into = numbered_into(vars, into);
-            let args = numbered_args(alloc, vars, operands.items())?;
-            Ok(Inst::Call(into, tables.units.number(unit), args))
-        }
-        RawForm::Print(a) => Ok(Inst::Print(numbered_operand(vars, a))),
-        RawForm::Return(a) => Ok(Inst::Return(numbered_return(vars, a))),
+    match operand {
+        None => Operand::Const(0),
+        Some(a) => numbered_operand(vars, a),
     }
-}
-
-// The instructions of a unit, numbered. It fails only with `Memory`.
-fn numbered_body(alloc: Global, tables: &Numbering, body: &[RawInst]) -> Result<Vec<Inst>, Memory>
-    ensures { IfOk result (λ insts. insts.items ≡ numbered_body tables.now body.now) }
-{
-    let mut insts = Vec::new(alloc);
-    for inst in body {
-        insts.push(numbered_form(alloc, tables, &inst.form)?)?;
-    }
-    Ok(insts)
-}
-
-// A unit, numbered. It fails only with `Memory`.
-fn numbered_unit<'a>(alloc: Global, units: &Table<'a>, unit: &'a RawUnit) -> Result<Unit, Memory>
-    ensures made { IfOk result (λ made. made ≡ numbered_unit units.now unit.now) }
-    ensures places { HasPlaces unit.now.labels unit.now.body }
-{
-    let raw_body = unit.body.items();
-    let vars = Variables::of(alloc, raw_body)?;
-    let labels = label_places(alloc, unit.labels.items())?;
-    let tables = Numbering {
-        units,
-        vars: vars.numbers(),
-        labels: &labels,
-    };
-    let body = numbered_body(alloc, &tables, raw_body)?;
-    let name = unit.name.clone()?;
-    Ok(Unit {
-        name,
-        vars: Items::of(vars.into_names()),
-        body: Items::of(body),
-    })
-}
-
-// The units, numbered. It fails only with `Memory`.
-fn numbered_all<'a>(
-    alloc: Global,
-    numbers: &Table<'a>,
-    units: &'a [RawUnit],
-) -> Result<Vec<Unit>, Memory>
-    ensures made { IfOk result (λ made. made.items ≡ map (numbered_unit numbers.now) units.now) }
-    ensures places { OnOk result (All (λ unit. HasPlaces unit.labels unit.body) units.now) }
-{
-    let mut made = Vec::new(alloc);
-    for unit in units {
-        made.push(numbered_unit(alloc, numbers, unit)?)?;
-    }
-    Ok(made)
-}
-
-/// The program that these valid units stand for. Its only refusal is want of memory.
-pub fn program_of(alloc: Global, units: &[RawUnit]) -> Result<Program, Memory>
-    requires { AreValid units.now }
-    ensures { IfOk result (λ program. program.units ≡ numbered_units units.now) }
-{
-    let numbers = unit_numbers(alloc, units)?;
-    let made = numbered_all(alloc, &numbers, units)?;
-    Ok(Program {
-        units: Items::of(made),
-    })
 }

@@ -1,38 +1,26 @@
 // The rules of sizes and receives.
-ghost use Rattle.std.specs.Prelude.{◌≡◌, ◌||◌, ◌&&◌, false, nat_eq, nat_le, is_some, map, fold, IfOk, OnOk};
-ghost use Rattle.std.specs.Option.{option_map_or};
-ghost use Rattle.mir_parse.specs.RawUnit.{RawUnitShape};
-ghost use Rattle.mir_valid.specs.Names.{number_in};
-ghost use Rattle.mir_valid.specs.Rules.{received_by, is_receive, too_many_insts_lines, late_receive_lines, same_receive_lines, too_many_receives_lines};
+ghost use Rattle.std.specs.Prelude.{◌≡◌, ◌||◌, ◌&&◌, nat_eq, map, IfOk, OnOk};
+ghost use Rattle.mir_base.specs.Limits.{most_receives};
+ghost use Rattle.mir_valid.specs.Rules.{too_many_insts_lines, late_receive_lines, same_receive_lines, too_many_receives_lines};
 ghost use Rattle.mir_valid.specs.Refusals.{least};
-ghost use Rattle.mir_valid.specs.Tables.{with_entry};
+ghost use Rattle.mir_valid.specs.Tables.{has_received, with_received, is_at_most};
 
 use crate::Memory;
 use crate::forms::{is_receive, received_by};
-use crate::lines::{lesser, lesser_if};
+use crate::lines::{Least, lesser, lesser_if};
 use crate::rules::Rule;
 use crate::tables::Table;
+use mir_base::{MOST_INSTS, MOST_RECEIVES};
 use mir_parse::{RawForm, RawLabel, RawUnit};
 use std::alloc::Global;
 
-/// The most instructions of a unit, receives included.
-const MOST_INSTS: usize = 4096;
-
-/// The most receives of a unit.
-const MOST_RECEIVES: usize = 16;
-
-/// A unit has at most 4,096 instructions.
+/// The rule that a unit has at most 4,096 instructions.
 pub struct TooManyInsts;
 
 impl Rule for TooManyInsts {
     ghost lines = { λ _ unit. too_many_insts_lines unit };
 
-    fn least_in(
-        &self,
-        _alloc: Global,
-        unit: &RawUnit,
-        best: Option<usize>,
-    ) -> Result<Option<usize>, Memory> {
+    fn least_in(&self, _alloc: Global, unit: &RawUnit, best: Least) -> Result<Least, Memory> {
         match unit.body.items().get(MOST_INSTS) {
             Some(inst) => Ok(lesser(best, inst.line)),
             None => Ok(best),
@@ -40,18 +28,13 @@ impl Rule for TooManyInsts {
     }
 }
 
-/// Receives stand first in a unit, and no label stands before one.
+/// The rule that receives stand first in a unit, and that no label stands before one.
 pub struct LateReceive;
 
 impl Rule for LateReceive {
     ghost lines = { λ _ unit. late_receive_lines unit };
 
-    fn least_in(
-        &self,
-        _alloc: Global,
-        unit: &RawUnit,
-        best: Option<usize>,
-    ) -> Result<Option<usize>, Memory> {
+    fn least_in(&self, _alloc: Global, unit: &RawUnit, best: Least) -> Result<Least, Memory> {
         let first_label = first_place(unit.labels.items());
         let mut best = best;
         let mut others = false;
@@ -68,7 +51,7 @@ impl Rule for LateReceive {
     }
 }
 
-/// The least place of a label.
+/// The least place of a label, and `None` where there is no label.
 fn first_place(labels: &[RawLabel]) -> Option<usize>
     ensures { result ≡ least (map (λ label. label.place) labels.now) }
 {
@@ -81,14 +64,14 @@ fn first_place(labels: &[RawLabel]) -> Option<usize>
 
 /// Whether an instruction is a late receive: whether it receives, and others or a label stand before it.
 fn is_late(receives: bool, others: bool, first_label: Option<usize>, place: usize) -> bool
-    ensures { result ≡ (receives && (others || option_map_or (λ least. nat_le least place) first_label false)) }
+    ensures { result ≡ (receives && (others || is_at_most first_label place)) }
 {
     receives && (others || is_at_most(first_label, place))
 }
 
 /// Whether there is a first place, and it is at most this one.
 fn is_at_most(first: Option<usize>, place: usize) -> bool
-    ensures { result ≡ option_map_or (λ least. nat_le least place) first false }
+    ensures { result ≡ is_at_most first place }
 {
     match first {
         Some(least) => least <= place,
@@ -96,18 +79,13 @@ fn is_at_most(first: Option<usize>, place: usize) -> bool
     }
 }
 
-/// The receives of a unit name distinct variables.
+/// The rule that the receives of a unit name distinct variables.
 pub struct SameReceive;
 
 impl Rule for SameReceive {
     ghost lines = { λ _ unit. same_receive_lines unit };
 
-    fn least_in(
-        &self,
-        alloc: Global,
-        unit: &RawUnit,
-        best: Option<usize>,
-    ) -> Result<Option<usize>, Memory> {
+    fn least_in(&self, alloc: Global, unit: &RawUnit, best: Least) -> Result<Least, Memory> {
         let mut seen = Table::new(alloc);
         let mut best = best;
         for inst in unit.body.items() {
@@ -118,10 +96,11 @@ impl Rule for SameReceive {
     }
 }
 
-/// Adds the variable of a receive to those seen, and tells whether it was among them.
+/// Adds the variable of a receive to those seen, and says whether it was among them: never where the instruction is no
+/// receive. It fails only with `Memory`.
 fn sees_again<'a>(seen: &mut Table<'a>, form: &'a RawForm) -> Result<bool, Memory>
-    ensures again { IfOk result (λ again. again ≡ option_map_or (λ x. is_some (number_in seen.old x)) (received_by form.now) false) }
-    ensures seen { OnOk result (seen.new ≡ option_map_or (λ x. with_entry seen.old (x, 0)) (received_by form.now) seen.old) }
+    ensures again { IfOk result (λ again. again ≡ has_received seen.old form.now) }
+    ensures seen { OnOk result (seen.new ≡ with_received seen.old form.now) }
 {
     match received_by(form) {
         Some(name) => {
@@ -132,18 +111,13 @@ fn sees_again<'a>(seen: &mut Table<'a>, form: &'a RawForm) -> Result<bool, Memor
     }
 }
 
-/// A unit has at most 16 receives.
+/// The rule that a unit has at most 16 receives.
 pub struct TooManyReceives;
 
 impl Rule for TooManyReceives {
     ghost lines = { λ _ unit. too_many_receives_lines unit };
 
-    fn least_in(
-        &self,
-        _alloc: Global,
-        unit: &RawUnit,
-        best: Option<usize>,
-    ) -> Result<Option<usize>, Memory> {
+    fn least_in(&self, _alloc: Global, unit: &RawUnit, best: Least) -> Result<Least, Memory> {
         let mut count = 0;
         let mut best = best;
         for inst in unit.body.items() {
@@ -157,7 +131,7 @@ impl Rule for TooManyReceives {
 
 /// Whether an instruction is a receive too many: whether it receives, and as many as a unit has stand before it.
 fn is_beyond(receives: bool, count: usize) -> bool
-    ensures { result ≡ (receives && nat_eq count 16) }
+    ensures { result ≡ (receives && nat_eq count most_receives) }
 {
     receives && count == MOST_RECEIVES
 }

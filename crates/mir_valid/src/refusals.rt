@@ -7,14 +7,12 @@ use crate::labels::{NoLabel, SameLabel};
 use crate::receives::{LateReceive, SameReceive, TooManyInsts, TooManyReceives};
 use crate::rules::least_broken;
 use crate::{Memory, ValidFault};
+use mir_base::MOST_UNITS;
 use mir_parse::RawUnit;
 use std::alloc::Global;
 
-/// The most units of a program.
-const MOST_UNITS: usize = 256;
-
 /// The first kind of refusal whose condition holds, with its smallest line, and `None` exactly where no condition
-/// holds. Its only refusal is want of memory.
+/// holds. It fails only with `Memory`.
 pub fn refusal(alloc: Global, units: &[RawUnit]) -> Result<Option<ValidFault>, Memory>
     ensures { IfOk result (λ found. found ≡ first_of (refusals units.now)) }
 {

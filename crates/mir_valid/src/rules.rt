@@ -1,8 +1,9 @@
 // The rules that each unit must keep.
-ghost use Rattle.std.specs.Prelude.{◌≡◌, flat_map, fold, IfOk};
-ghost use Rattle.mir_valid.specs.Refusals.{lesser, least};
+ghost use Rattle.std.specs.Prelude.{◌≡◌, fold, IfOk};
+ghost use Rattle.mir_valid.specs.Refusals.{lesser, least_over};
 
 use crate::Memory;
+use crate::lines::Least;
 use mir_parse::RawUnit;
 use std::alloc::Global;
 
@@ -14,25 +15,15 @@ pub trait Rule {
     // The lines of a unit at which the rule is broken.
     ghost lines: { Self → RawUnitShape → List ℕ };
 
-    /// The lesser of `best` and the smallest line at which this unit breaks the rule. Its only refusal is want of
-    /// memory.
-    fn least_in(
-        &self,
-        alloc: Global,
-        unit: &RawUnit,
-        best: Option<usize>,
-    ) -> Result<Option<usize>, Memory>
+    /// The lesser of `best` and the smallest line at which this unit breaks the rule. It fails only with `Memory`.
+    fn least_in(&self, alloc: Global, unit: &RawUnit, best: Least) -> Result<Least, Memory>
         ensures { IfOk result (λ line. line ≡ fold lesser best (lines self.now unit.now)) };
 }
 
-/// The smallest line at which a unit breaks the rule, and `None` exactly where each keeps it. Its only refusal is want
-/// of memory.
-pub fn least_broken<R: Rule>(
-    alloc: Global,
-    rule: &R,
-    units: &[RawUnit],
-) -> Result<Option<usize>, Memory>
-    ensures { IfOk result (λ line. line ≡ least (flat_map (R.lines rule.now) units.now)) }
+/// The smallest line at which a unit breaks the rule, and `None` exactly where each keeps it. It fails only with
+/// `Memory`.
+pub fn least_broken<R: Rule>(alloc: Global, rule: &R, units: &[RawUnit]) -> Result<Least, Memory>
+    ensures { IfOk result (λ line. line ≡ least_over (R.lines rule.now) units.now) }
 {
     let mut best = None;
     for unit in units {

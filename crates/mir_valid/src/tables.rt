@@ -17,15 +17,15 @@ pub struct Table<'a> {
 
 impl<'a> Model for Table<'a> {
     ghost use Rattle.std.specs.Prelude.{List, map};
-    ghost use Rattle.mir_valid.specs.Names.{Entry};
+    ghost use Rattle.mir_valid.specs.Names.{NameEntry};
 
-    ghost Value = { List Entry };
+    ghost Value = { List NameEntry };
 
     ghost view = { λ table. map (λ entry. (entry.0.now, entry.1)) table.numbers.entries };
 }
 
 impl<'a> Table<'a> {
-    /// The table with no name. It takes no memory.
+    /// The table with no name. It does not allocate.
     pub fn new(alloc: Global) -> Table<'a>
         ensures { result ≡ [] }
     {
@@ -34,22 +34,21 @@ impl<'a> Table<'a> {
         }
     }
 
-    /// The number of this name, and `None` exactly where the table does not have it. It takes no memory.
+    /// The number of this name, and `None` exactly where the table does not have it. It does not allocate.
     pub fn get(&self, name: &Name) -> Option<usize>
         ensures { result ≡ number_in self.now name.now }
     {
         self.numbers.get(name.bytes()).copied()
     }
 
-    /// The number of this name, and 0 where the table does not have it. It takes no memory.
+    /// The number of this name, and 0 where the table does not have it. It does not allocate.
     pub fn number(&self, name: &Name) -> usize
         ensures { result ≡ number_or_zero self.now name.now }
     {
         self.get(name).unwrap_or(0)
     }
 
-    /// Gives this name its number, unless it has one, and tells whether the name is new. Its only refusal is want of
-    /// memory.
+    /// Gives this name its number, unless it has one, and says whether the name is new. It fails only with `Memory`.
     pub fn add(&mut self, name: &'a Name, number: usize) -> Result<bool, Memory>
         ensures new { IfOk result (λ new. new ≡ is_none (number_in self.old name.now)) }
         ensures added { OnOk result (self.new ≡ with_entry self.old (name.now, number)) }

@@ -1,9 +1,9 @@
 // The variables of a body, numbered in the order in which they first occur in its canonical text.
-ghost use Rattle.std.specs.Prelude.{◌≡◌, [], fold, IfOk};
+ghost use Rattle.std.specs.Prelude.{◌≡◌, [], IfOk};
 ghost use Rattle.std.specs.List.{flat_map};
 ghost use Rattle.mir_valid.specs.Variables.{operand_names, rhs_names, test_names, into_names, returned_names, form_names};
 ghost use Rattle.mir_valid.specs.Tables.{numbered};
-ghost use Rattle.mir_valid.specs.Numbered.{variables_of, with_name};
+ghost use Rattle.mir_valid.specs.Numbered.{variables_of, with_name, AddsNames};
 
 use crate::Memory;
 use crate::tables::Table;
@@ -32,7 +32,7 @@ impl<'a> Model for Variables<'a> {
 }
 
 impl<'a> Variables<'a> {
-    /// The variables of a body. Its only refusal is want of memory.
+    /// The variables of a body. It fails only with `Memory`.
     pub fn of(alloc: Global, body: &'a [RawInst]) -> Result<Variables<'a>, Memory>
         ensures { IfOk result (λ vars. vars ≡ variables_of body.now) }
     {
@@ -43,14 +43,14 @@ impl<'a> Variables<'a> {
         Ok(vars)
     }
 
-    /// The numbers of the variables. It takes no memory.
+    /// The numbers of the variables. It does not allocate.
     pub fn numbers(&self) -> &Table<'a>
         ensures { result.now ≡ numbered 0 self.now }
     {
         &self.numbers
     }
 
-    /// The names of the variables, by number. It takes no memory.
+    /// The names of the variables, by number. It does not allocate.
     pub fn into_names(self) -> Vec<Name>
         ensures { result.items ≡ self.entry }
     {
@@ -84,7 +84,7 @@ impl<'a> Variables<'a> {
 
     // The variable of an operand.
     fn with_operand(self, operand: &'a RawOperand) -> Result<Variables<'a>, Memory>
-        ensures { IfOk result (λ vars. vars ≡ fold with_name self.entry (operand_names operand.now)) }
+        ensures { IfOk result (AddsNames self.entry (operand_names operand.now)) }
     {
         match operand {
             RawOperand::Var(name) => self.with(name),
@@ -94,7 +94,7 @@ impl<'a> Variables<'a> {
 
     // The variables of the arguments of a call.
     fn with_operands(self, operands: &'a [RawOperand]) -> Result<Variables<'a>, Memory>
-        ensures { IfOk result (λ vars. vars ≡ fold with_name self.entry (flat_map operand_names operands.now)) }
+        ensures { IfOk result (AddsNames self.entry (flat_map operand_names operands.now)) }
     {
         let mut vars = self;
         for operand in operands {
@@ -105,7 +105,7 @@ impl<'a> Variables<'a> {
 
     // The variables of the right side of an assignment.
     fn with_rhs(self, rhs: &'a RawRhs) -> Result<Variables<'a>, Memory>
-        ensures { IfOk result (λ vars. vars ≡ fold with_name self.entry (rhs_names rhs.now)) }
+        ensures { IfOk result (AddsNames self.entry (rhs_names rhs.now)) }
     {
         match rhs {
             RawRhs::Plain(a) => self.with_operand(a),
@@ -116,7 +116,7 @@ impl<'a> Variables<'a> {
 
     // The variables of a test.
     fn with_test(self, test: &'a RawTest) -> Result<Variables<'a>, Memory>
-        ensures { IfOk result (λ vars. vars ≡ fold with_name self.entry (test_names test.now)) }
+        ensures { IfOk result (AddsNames self.entry (test_names test.now)) }
     {
         match test {
             RawTest::Rel(_, a, b) => self.with_operand(a)?.with_operand(b),
@@ -127,7 +127,7 @@ impl<'a> Variables<'a> {
 
     // The variable for the result of a call.
     fn with_into(self, into: &'a Option<Name>) -> Result<Variables<'a>, Memory>
-        ensures { IfOk result (λ vars. vars ≡ fold with_name self.entry (into_names into.now)) }
+        ensures { IfOk result (AddsNames self.entry (into_names into.now)) }
     {
         match into {
             None => Ok(self),
@@ -137,7 +137,7 @@ impl<'a> Variables<'a> {
 
     // The variable that is returned.
     fn with_returned(self, operand: &'a Option<RawOperand>) -> Result<Variables<'a>, Memory>
-        ensures { IfOk result (λ vars. vars ≡ fold with_name self.entry (returned_names operand.now)) }
+        ensures { IfOk result (AddsNames self.entry (returned_names operand.now)) }
     {
         match operand {
             None => Ok(self),
@@ -147,7 +147,7 @@ impl<'a> Variables<'a> {
 
     // The variables of an instruction.
     fn with_form(self, form: &'a RawForm) -> Result<Variables<'a>, Memory>
-        ensures { IfOk result (λ vars. vars ≡ fold with_name self.entry (form_names form.now)) }
+        ensures { IfOk result (AddsNames self.entry (form_names form.now)) }
     {
         match form {
             RawForm::Receive(name) => self.with(name),

@@ -1,9 +1,8 @@
-use Rattle.std.proofs.Common.{◌≡◌, ℕ, ◌+◌, ◌<◌, ◌≤◌, Bool, false, List, length, get_or, take, ap, ◌∙◌, sym, subst, arith}
+use Rattle.std.proofs.Common.{◌≡◌, ℕ, ◌+◌, ◌<◌, Bool, false, List, length, get_or, ap, ◌∙◌, sym, subst}
 use Rattle.std.specs.List.{All}
 use Rattle.mir_base.specs.declared.instructions.Inst.{Inst}
-use Rattle.mir_base.specs.Text.{is_target}
-use Rattle.mir_print.specs.Labels.{JumpsBelow, marked}
-use Rattle.mir_print.proofs.Counting.{marked-more, length-marked}
+use Rattle.mir_print.specs.Labels.{JumpsBelow}
+use Rattle.mir_print.proofs.Counting.{marked_more, length_marked}
 use Rattle.mir_print.proofs.labels.marks.Goals as goal
 
 below : (body : List Inst) (i many : ℕ) (inst : Inst) → i < length body → inst ≡ get_or body i inst → many ≡ length body + 1 → All (JumpsBelow (length body + 1)) body → JumpsBelow many inst
@@ -15,8 +14,8 @@ pub loop-inst-preserved : goal.loop-inst-preserved
 loop-inst-preserved c =
     let jumps = below c.args.body.now c.loop-inst.inst-index (length c.loop-inst.marks.items) c.inst-item.result c.loop-inst-test.true c.inst-item.is c.loop-inst.invariant.many c.requires in
     record {
-      many = ap length c.mark.ensures ∙ length-marked c.loop-inst.marks.items c.inst-item.result ∙ c.loop-inst.invariant.many;
+      many = ap length c.mark.ensures ∙ length_marked c.loop-inst.marks.items c.inst-item.result ∙ c.loop-inst.invariant.many;
       each = λ place low.
           ap (λ (marks : List Bool). get_or marks place false) c.mark.ensures
-          ∙ marked-more c.args.body.now c.loop-inst.inst-index c.inst-item.result c.loop-inst.marks.items place c.loop-inst-test.true c.inst-item.is jumps (c.loop-inst.invariant.each place low);
+          ∙ marked_more c.args.body.now c.loop-inst.inst-index c.inst-item.result c.loop-inst.marks.items place c.loop-inst-test.true c.inst-item.is jumps (c.loop-inst.invariant.each place low);
     }

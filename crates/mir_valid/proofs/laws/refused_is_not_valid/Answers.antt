@@ -1,9 +1,9 @@
-use Rattle.std.proofs.Common.{◌≡◌, None, Some, sym, ◌∙◌}
-use Rattle.mir_valid.proofs.RefusedLaws.{refused-of, refused-no-memory}
+use Rattle.std.proofs.Common.{sym, ◌∙◌}
+use Rattle.mir_valid.proofs.RefusedLaws.{refused_of, refused_no_memory}
 use Rattle.mir_valid.proofs.laws.refused_is_not_valid.Goals as goal
 
 pub returns-clause-valid : goal.returns-clause-valid
-returns-clause-valid c = λ raw fault refused valid. let e = sym (refused-of raw.units valid) ∙ refused in absurd (cc)
+returns-clause-valid c = λ raw fault refused valid. let e = sym (refused_of raw.units valid) ∙ refused in absurd (cc)
 
 pub returns-clause-memory : goal.returns-clause-memory
-returns-clause-memory c = λ raw. refused-no-memory raw.units
+returns-clause-memory c = λ raw. refused_no_memory raw.units

@@ -4,7 +4,7 @@ use Rattle.mir_base.specs.declared.instructions.Inst.{Inst}
 use Rattle.mir_parse.specs.declared.raw.RawInst.{RawInst}
 use Rattle.mir_valid.specs.Tables.{numbered}
 use Rattle.mir_valid.specs.Numbered.{variables_of, Numbers, numbered_body}
-use Rattle.mir_valid.proofs.TidyLaws.{tidy-numbered}
+use Rattle.mir_valid.proofs.TidyLaws.{tidy_numbered}
 use Rattle.mir_valid.proofs.numbering.numbered_unit.Goals as goal
 
 pub invariant_of-result : goal.invariant_of-result
@@ -15,4 +15,4 @@ invariant_of-result c =
     let insts : c.of-3.result ≡ numbered_body numbers raw = c.of-3.ensures ∙ c.in_ok-body.ensures in
     let numbered_vars : numbers.vars ≡ numbered 0 (variables_of raw) = c.numbers.ensures ∙ ap (numbered 0) c.in_ok-vars.ensures in
     subst (λ (names : List (List ℕ)). IsTidy names c.of-3.result) (sym vars)
-    (subst (λ (body : List Inst). IsTidy (variables_of raw) body) (sym insts) (tidy-numbered numbers raw numbered_vars))
+    (subst (λ (body : List Inst). IsTidy (variables_of raw) body) (sym insts) (tidy_numbered numbers raw numbered_vars))

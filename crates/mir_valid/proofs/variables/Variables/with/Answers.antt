@@ -2,13 +2,13 @@ use Rattle.std.proofs.Common.{◌≡◌, ap, ◌∙◌, sym, length, arith, rule
 use Rattle.std.proofs.lemmas.Grind.{common_steps}
 use Rattle.mir_valid.specs.Tables.{with_entry, numbered}
 use Rattle.mir_valid.specs.Numbered.{with_name}
-use Rattle.mir_valid.proofs.TableLaws.{with_entry-numbered, names-with}
+use Rattle.mir_valid.proofs.TableLaws.{with_entry_numbered, names_with}
 use Rattle.mir_valid.proofs.variables.Variables.with.Goals as goal
 use Rattle.mir_valid.proofs.variables.Variables.with.Goals.{then-is_new+in_ok-clone+in_ok-push, else-is_new}
 
 names-are : (c : goal.Joined-is_new) → c.if-is_new.names.items ≡ with_name c.self.inside.names.items c.args.name.now
 names-are c =
-    names-with c.self.inside.numbers c.self.inside.names.items c.if-is_new.names.items c.args.name.now c.in_ok-is_new.is_new c.self.invariant c.in_ok-is_new.ensures.new
+    names_with c.self.inside.numbers c.self.inside.names.items c.if-is_new.names.items c.args.name.now c.in_ok-is_new.is_new c.self.invariant c.in_ok-is_new.ensures.new
     (λ yes. elim c.if-is_new.branch [ then-is_new+in_ok-clone+in_ok-push w ↦ grind (arith, common_steps) | else-is_new w ↦ absurd (cc) ])
     (λ no. elim c.if-is_new.branch [ then-is_new+in_ok-clone+in_ok-push w ↦ absurd (cc) | else-is_new w ↦ ap (λ v. v.items) w.names-is ])
 
@@ -21,5 +21,5 @@ invariant_of-result c =
     c.in_ok-is_new.ensures.added
     ∙ ap (λ table. with_entry table (c.args.name.now, c.len.result)) c.self.invariant
     ∙ ap (λ n. with_entry (numbered 0 c.self.inside.names.items) (c.args.name.now, n)) size
-    ∙ with_entry-numbered c.self.inside.names.items c.args.name.now
+    ∙ with_entry_numbered c.self.inside.names.items c.args.name.now
     ∙ ap (numbered 0) (sym (names-are c))

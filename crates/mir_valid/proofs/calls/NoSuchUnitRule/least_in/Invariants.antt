@@ -1,8 +1,0 @@
-use Rattle.std.proofs.Common.{◌≡◌, fold, take}
-use Rattle.mir_valid.specs.Rules.{lines_where}
-use Rattle.mir_valid.specs.Refusals.{lesser}
-use Rattle.mir_valid.specs.Tables.{misses_number}
-use Rattle.mir_valid.proofs.calls.NoSuchUnitRule.least_in.Given as goal
-
-abbrev pub invariant-loop-inst : goal.invariant-loop-inst
-invariant-loop-inst l = l.best ≡ fold lesser l.fn.best (lines_where (misses_number l.units) (take l.inst-index l.inst-items))
