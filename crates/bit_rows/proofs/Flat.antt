@@ -1,21 +1,24 @@
--- Rows that stand one after the other in one list of words.
-use Rattle.std.proofs.Common.{◌≡◌, ℕ, ◌+◌, ◌-◌, ◌*◌, ◌/◌, ◌%◌, ◌<◌, ◌≤◌, Bool, false, List, [], ◌++◌, length, take, drop, get_or, set, replicate, sym, ap, inl, inr, arith, ◌∙◌, bit_or, bit_and, w64, length-drop, length-take, get_or-drop, get_or-take}
+-- Rows that stand one after the other in one list of words: what is known of each row, what rows stand after one of them got
+-- other words, and rows that are all false.
+use Rattle.std.proofs.Common.{◌≡◌, ℕ, ◌+◌, ◌-◌, ◌*◌, ◌/◌, ◌%◌, ◌<◌, ◌≤◌, Bool, false, List, [], ◌++◌, length, take, drop, get_or, set, replicate, sym, ap, inl, inr, arith, ◌∙◌, bit_and, w64, length-drop, length-take, get_or-drop, get_or-take}
 use Rattle.std.proofs.Math.Nat.{mul-le-mul_left}
 use Rattle.std.proofs.lemmas.Bool.{cases_eq}
 use Rattle.std.proofs.lemmas.List.{ext_get_or, get_or-replicate, get_or-set_same, get_or-set_other, length-replicate, length-set}
 use Rattle.std.proofs.lemmas.List.FromFn.{length-map-range_with_len, get_or-map-range_with_len}
 use Rattle.std.specs.Int.{bit_not}
-use Rattle.bit_rows.specs.Bits.{AreEquallyLong, or_bits, and_bits, minus_bits, not_bits, row_of}
+use Rattle.bit_rows.specs.Bits.{AreEquallyLong, zip_with, not_bits, row_of}
 use Rattle.bit_rows.specs.Words.{bits_of, rows_of, used_bits, with_bit, words_at, FitsRows, FitsWords, Rewritten}
-use Rattle.bit_rows.proofs.Views.{Holds, length-bits_of, kept, or_holds, and_holds, minus_holds, flip_holds, set_holds, zeros_hold}
+use Rattle.bit_rows.proofs.Views.{Holds, IsBitwise, length_bits_of, rewritten_whole, joined_hold, flip_holds, set_holds, zeros_hold}
 
-pub length-rows_of : (rows bits stride : ℕ) (words : List ℕ) → length (rows_of rows bits stride words) ≡ rows
+-- as many rows as are asked for, and each of them
+pub length_rows_of : (rows bits stride : ℕ) (words : List ℕ) → length (rows_of rows bits stride words) ≡ rows
 unfolding rows_of
-length-rows_of rows bits stride words = length-map-range_with_len (λ row. bits_of bits (words_at stride words row)) 0 rows
+length_rows_of rows bits stride words = length-map-range_with_len (λ row. bits_of bits (words_at stride words row)) 0 rows
 
-pub row-rows_of : (rows bits stride : ℕ) (words : List ℕ) (row : ℕ) → row < rows → row_of (rows_of rows bits stride words) row ≡ bits_of bits (words_at stride words row)
+-- a row of the whole is read from its own words
+pub row_rows_of : (rows bits stride : ℕ) (words : List ℕ) (row : ℕ) → row < rows → row_of (rows_of rows bits stride words) row ≡ bits_of bits (words_at stride words row)
 unfolding rows_of
-row-rows_of rows bits stride words row h = get_or-map-range_with_len (λ row. bits_of bits (words_at stride words row)) 0 rows row row [] h (omega arith)
+row_rows_of rows bits stride words row h = get_or-map-range_with_len (λ row. bits_of bits (words_at stride words row)) 0 rows row row [] h (omega arith)
 
 -- words that hold rows
 pub record HoldRows (rows bits stride : ℕ) (words : List ℕ) (all : List (List Bool)) : Type 0 where
@@ -24,11 +27,11 @@ pub record HoldRows (rows bits stride : ℕ) (words : List ℕ) (all : List (Lis
 
 module _ (rows bits stride : ℕ) (words : List ℕ) (all : List (List Bool)) (fits : FitsRows rows bits stride words) (view : rows_of rows bits stride words ≡ all) where
   pub rows_are : length all ≡ rows
-  rows_are = rw view at (length-rows_of rows bits stride words)
+  rows_are = rw view at (length_rows_of rows bits stride words)
 
   pub long_rows : AreEquallyLong bits all
   long_rows = record {
-    each = λ row h. let h' : row < rows = rw rows_are at h in rw (← view) (rw (row-rows_of rows bits stride words row h') (length-bits_of bits (words_at stride words row)));
+    each = λ row h. let h' : row < rows = rw rows_are at h in rw (← view) (rw (row_rows_of rows bits stride words row h') (length_bits_of bits (words_at stride words row)));
   }
 
   -- one row of these
@@ -49,18 +52,18 @@ module _ (rows bits stride : ℕ) (words : List ℕ) (all : List (List Bool)) (f
     stride_is = sym words_long ∙ (fits.each row in_rows).len
 
     pub row_view : bits_of bits (words_at stride words row) ≡ row_of all row
-    row_view = rw (← view) (sym (row-rows_of rows bits stride words row in_rows))
+    row_view = rw (← view) (sym (row_rows_of rows bits stride words row in_rows))
 
     pub row_fits : FitsWords bits (words_at stride words row)
     row_fits = fits.each row in_rows
 
     pub row_long : length (row_of all row) ≡ bits
-    row_long = rw row_view at (length-bits_of bits (words_at stride words row))
+    row_long = rw row_view at (length_bits_of bits (words_at stride words row))
 
     -- which gets other words
     module _ (len : ℕ) (words' : List ℕ) (len_is : len ≡ length words) (made : Rewritten stride row words words') where
       put : (bs : List Bool) → Holds bits (words_at stride words' row) bs → HoldRows rows bits stride (take len (words' ++ drop (length words') words)) (set all row bs)
-      put bs holds = rw (kept len words words' len_is made.len) (record {
+      put bs holds = rw (rewritten_whole len words words' len_is made.len) (record {
         fit = record {
           all = made.len ∙ fits.all;
           each = λ r l. elim (cases_eq r row) as (λ _. FitsWords bits (words_at stride words' r)) [
@@ -68,11 +71,11 @@ module _ (rows bits stride : ℕ) (words : List ℕ) (all : List (List Bool)) (f
             | inr d ↦ rw (made.others r d) (fits.each r l)
           ];
         };
-        seen = ext_get_or [] (rows_of rows bits stride words') (set all row bs) (length-rows_of rows bits stride words' ∙ sym rows_are ∙ sym (length-set all row bs))
-            (λ r l. let l' : r < rows = rw length-rows_of at l in
-            row-rows_of rows bits stride words' r l' ∙ elim (cases_eq r row) as (λ _. bits_of bits (words_at stride words' r) ≡ get_or (set all row bs) r []) [
+        seen = ext_get_or [] (rows_of rows bits stride words') (set all row bs) (length_rows_of rows bits stride words' ∙ sym rows_are ∙ sym (length-set all row bs))
+            (λ r l. let l' : r < rows = rw length_rows_of at l in
+            row_rows_of rows bits stride words' r l' ∙ elim (cases_eq r row) as (λ _. bits_of bits (words_at stride words' r) ≡ get_or (set all row bs) r []) [
               | inl e ↦ rw (e, get_or-set_same all row bs [] h) holds.view
-              | inr d ↦ rw (made.others r d, get_or-set_other all row r bs [] d) (sym (row-rows_of rows bits stride words r l') ∙ ap (λ (xs : List (List Bool)). row_of xs r) view)
+              | inr d ↦ rw (made.others r d, get_or-set_other all row r bs [] d) (sym (row_rows_of rows bits stride words r l') ∙ ap (λ (xs : List (List Bool)). row_of xs r) view)
             ]);
       })
 
@@ -90,7 +93,7 @@ module _ (rows bits stride : ℕ) (words : List ℕ) (all : List (List Bool)) (f
       -- by those of another row
       module _ (m : ℕ) (ys : List ℕ) (other : List Bool) (fy : FitsWords m ys) (view' : bits_of m ys ≡ other) (same : length (row_of all row) ≡ length other) where
         same_bits : m ≡ bits
-        same_bits = sym (length-bits_of m ys) ∙ ap length view' ∙ sym same ∙ row_long
+        same_bits = sym (length_bits_of m ys) ∙ ap length view' ∙ sym same ∙ row_long
 
         fits_n : FitsWords bits ys
         fits_n = rw (← same_bits) fy
@@ -98,17 +101,9 @@ module _ (rows bits stride : ℕ) (words : List ℕ) (all : List (List Bool)) (f
         view_n : bits_of bits ys ≡ other
         view_n = rw (← same_bits) view'
 
-        pub ored_row : ((k : ℕ) → k < stride → get_or (words_at stride words' row) k 0 ≡ bit_or (get_or (words_at stride words row) k 0) (get_or ys k 0))
-            → HoldRows rows bits stride (take len (words' ++ drop (length words') words)) (set all row (or_bits (row_of all row) other))
-        ored_row each = put _ (rw (← row_view, ← view_n) (or_holds bits (words_at stride words row) ys (words_at stride words' row) row_fits fits_n new_long (λ k l. each k (rw words_long at l))))
-
-        pub anded_row : ((k : ℕ) → k < stride → get_or (words_at stride words' row) k 0 ≡ bit_and (get_or (words_at stride words row) k 0) (get_or ys k 0))
-            → HoldRows rows bits stride (take len (words' ++ drop (length words') words)) (set all row (and_bits (row_of all row) other))
-        anded_row each = put _ (rw (← row_view, ← view_n) (and_holds bits (words_at stride words row) ys (words_at stride words' row) row_fits fits_n new_long (λ k l. each k (rw words_long at l))))
-
-        pub lessened_row : ((k : ℕ) → k < stride → get_or (words_at stride words' row) k 0 ≡ bit_and (get_or (words_at stride words row) k 0) (bit_not w64 (get_or ys k 0)))
-            → HoldRows rows bits stride (take len (words' ++ drop (length words') words)) (set all row (minus_bits (row_of all row) other))
-        lessened_row each = put _ (rw (← row_view, ← view_n) (minus_holds bits (words_at stride words row) ys (words_at stride words' row) row_fits fits_n new_long (λ k l. each k (rw words_long at l))))
+        pub joined_row : (op : ℕ → ℕ → ℕ) (f : Bool → Bool → Bool) → IsBitwise op f → ((k : ℕ) → k < stride → get_or (words_at stride words' row) k 0 ≡ op (get_or (words_at stride words row) k 0) (get_or ys k 0))
+            → HoldRows rows bits stride (take len (words' ++ drop (length words') words)) (set all row (zip_with f (row_of all row) other))
+        joined_row op f is each = put _ (rw (← row_view, ← view_n) (joined_hold op f is bits (words_at stride words row) ys (words_at stride words' row) row_fits fits_n new_long (λ k l. each k (rw words_long at l))))
 
         pub copied_row : words_at stride words' row ≡ ys → HoldRows rows bits stride (take len (words' ++ drop (length words') words)) (set all row other)
         copied_row is = put other (rw is (record { fits = fits_n; view = view_n }))
@@ -116,8 +111,10 @@ module _ (rows bits stride : ℕ) (words : List ℕ) (all : List (List Bool)) (f
     -- a second row has as many words
     pub as_many_words : (m : ℕ) (ys : List ℕ) (other : List Bool) → FitsWords m ys → bits_of m ys ≡ other → length (row_of all row) ≡ length other → length ys ≡ stride
     as_many_words m ys other fy view' same =
-        let e : m ≡ bits = sym (length-bits_of m ys) ∙ ap length view' ∙ sym same ∙ row_long in
+        let e : m ≡ bits = sym (length_bits_of m ys) ∙ ap length view' ∙ sym same ∙ row_long in
         fy.len ∙ rw e (sym stride_is)
+
+-- ---- rows that are all false
 
 -- a part of a list of equal items
 part_of_equal : (count at n x : ℕ) → at + n ≤ count → take n (drop at (replicate count x)) ≡ replicate n x
@@ -142,8 +139,8 @@ module _ (rows bits stride : ℕ) (stride_is : stride ≡ (bits + 63) / 64) wher
       each = λ row h. rw (words_all_zero row h) (zeros_hold bits stride stride_is).fits;
     };
     seen = ext_get_or [] (rows_of rows bits stride (replicate (stride * rows) 0)) (replicate rows (replicate bits false))
-        (length-rows_of rows bits stride (replicate (stride * rows) 0) ∙ sym (length-replicate {A = List Bool} rows (replicate bits false)))
-        (λ row l. let h : row < rows = rw length-rows_of at l in
-        row-rows_of rows bits stride (replicate (stride * rows) 0) row h ∙ rw (words_all_zero row h) (zeros_hold bits stride stride_is).view
+        (length_rows_of rows bits stride (replicate (stride * rows) 0) ∙ sym (length-replicate {A = List Bool} rows (replicate bits false)))
+        (λ row l. let h : row < rows = rw length_rows_of at l in
+        row_rows_of rows bits stride (replicate (stride * rows) 0) row h ∙ rw (words_all_zero row h) (zeros_hold bits stride stride_is).view
         ∙ sym (get_or-replicate {A = List Bool} rows row (replicate bits false) [] h));
   })

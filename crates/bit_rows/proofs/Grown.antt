@@ -1,4 +1,4 @@
--- Rows that grow at their end.
+-- Rows that grow at their end: with one more row the words hold the old rows, as before, and the new one.
 use Rattle.std.proofs.Common.{◌≡◌, ℕ, ◌+◌, ◌-◌, ◌*◌, ◌/◌, ◌<◌, ◌≤◌, Bool, false, List, [], ◌∷◌, ◌++◌, length, take, drop, replicate, refl, sym, ap, inl, inr, arith, ◌∙◌, length-append}
 use Rattle.std.proofs.Math.Seq.{drop-append_seam, get_or-append_seam}
 use Rattle.std.proofs.lemmas.Bool.{cases_lt}
@@ -6,16 +6,16 @@ use Rattle.std.proofs.lemmas.List.{ext_get_or, get_or_append_left, length-replic
 use Rattle.std.proofs.lemmas.Slice.{between_is}
 use Rattle.bit_rows.specs.Bits.{AreEquallyLong, row_of}
 use Rattle.bit_rows.specs.Words.{rows_of, words_at, FitsRows}
-use Rattle.bit_rows.proofs.Views.{Holds, length-bits_of, zeros_hold}
-use Rattle.bit_rows.proofs.Flat.{HoldRows, length-rows_of, row-rows_of, row_fits, row_long, row_view, row_within, rows_are, stride_is}
+use Rattle.bit_rows.proofs.Views.{Holds, length_bits_of, zeros_hold}
+use Rattle.bit_rows.proofs.Flat.{HoldRows, length_rows_of, row_rows_of, row_fits, row_long, row_view, row_within, rows_are, stride_is}
 
 -- words that hold rows, row by row
 hold_rows : (rows bits stride : ℕ) (words : List ℕ) (all : List (List Bool)) → length words ≡ stride * rows → length all ≡ rows
     → ((row : ℕ) → row < rows → Holds bits (words_at stride words row) (row_of all row)) → HoldRows rows bits stride words all
 hold_rows rows bits stride words all long many each = record {
   fit = record { all = long; each = λ row h. (each row h).fits };
-  seen = ext_get_or [] (rows_of rows bits stride words) all (length-rows_of rows bits stride words ∙ sym many)
-      (λ row l. let h : row < rows = rw length-rows_of at l in row-rows_of rows bits stride words row h ∙ (each row h).view);
+  seen = ext_get_or [] (rows_of rows bits stride words) all (length_rows_of rows bits stride words ∙ sym many)
+      (λ row l. let h : row < rows = rw length_rows_of at l in row_rows_of rows bits stride words row h ∙ (each row h).view);
 }
 
 -- the words of a row of the front part of a list
@@ -25,11 +25,13 @@ part_before stride row xs ys within =
     ∙ ap (λ (zs : List ℕ). drop (stride * row) zs) (take-append-le (stride * row + stride) xs ys within)
     ∙ sym (between_is xs (stride * row) (stride * row + stride))
 
--- a row more at the end
+-- ---- one row more
+
 module _ (rows bits stride : ℕ) (words : List ℕ) (all : List (List Bool)) (fits : FitsRows rows bits stride words) (view : rows_of rows bits stride words ≡ all)
     (m : ℕ) (ys : List ℕ) (row : List Bool) (held : Holds m ys row) (long : AreEquallyLong (length row) all) where
+  -- the row is as long as its words say
   as_wide : length row ≡ m
-  as_wide = rw held.view at (length-bits_of m ys)
+  as_wide = rw held.view at (length_bits_of m ys)
 
   in_all : 0 < rows → 0 < length all
   in_all some = rw (rows_are rows bits stride words all fits view) some
@@ -71,6 +73,7 @@ module _ (rows bits stride : ℕ) (words : List ℕ) (all : List (List Bool)) (f
         | inr last ↦ let e : r ≡ rows = omega arith in rw e new_row
       ])
 
+-- one row more that is all false
 pub grown_false : (rows bits stride : ℕ) (words : List ℕ) (all : List (List Bool)) (fits : FitsRows rows bits stride words) (view : rows_of rows bits stride words ≡ all)
     (m step len count : ℕ) → step ≡ (m + 63) / 64 → len ≡ length words → count ≡ len + step → AreEquallyLong m all
     → HoldRows (rows + 1) m step (take count words ++ replicate (count - len) 0) (all ++ replicate m false ∷ [])
@@ -81,6 +84,7 @@ grown_false rows bits stride words all fits view m step len count step_is len_is
     let added : count - len ≡ step = omega arith in
     rw (added, take_all count words (omega arith)) (rw (length-replicate {A = ℕ} step 0) at more)
 
+-- no rows need no words
 pub no_rows : (bits stride : ℕ) (words : List ℕ) → rows_of 0 bits stride words ≡ []
 unfolding rows_of
 no_rows bits stride words = refl

@@ -6,10 +6,11 @@ use Rattle.std.proofs.lemmas.Nat.Bits.{bit_at-trailing_zeros, bit_at-zero, bit_a
 use Rattle.std.specs.Int.{bit_at, trailing_zeros}
 use Rattle.std.proofs.lemmas.Option.{IfSome_then}
 use Rattle.bit_rows.specs.Words.{bit_of, bits_of, FitsWords}
-use Rattle.bit_rows.proofs.Ops.{bits_are}
-use Rattle.bit_rows.proofs.Views.{get_or-bits_of}
+use Rattle.bit_rows.proofs.Ops.{row_len}
+use Rattle.bit_rows.proofs.Views.{get_or_bits_of}
 
--- in a word that was shifted down
+-- ---- in a word that was shifted down
+
 module _ (word from : ℕ) where
   shifted : (i : ℕ) → from ≤ i → bit_at (word / 2 ^ from) (i - from) ≡ bit_at word i
   shifted i h =
@@ -36,7 +37,9 @@ module _ (word from : ℕ) where
     pub first_left : (i : ℕ) → from ≤ i → i < from + trailing_zeros w64 (word / 2 ^ from) → bit_at word i ≡ 0
     first_left i h below = sym (shifted i h) ∙ lowest.2 (i - from) (omega arith)
 
--- in words
+-- ---- in words
+
+-- a bit of a word is a bit of the words
 pub bit_in_word : (ws : List ℕ) (i j : ℕ) → j < 64 → bit_of ws (64 * i + j) ≡ eqb (bit_at (get_or ws i 0) j) 1
 unfolding bit_of
 bit_in_word ws i j h =
@@ -54,13 +57,14 @@ clear_until ws from i start end within before clear k late early = elim (cases_l
       ap (bit_of ws) (sym place) ∙ bit_in_word ws i (k - 64 * i) (omega arith) ∙ ap (λ x. eqb x 1) (clear (k - 64 * i) (omega arith) (omega arith))
 ]
 
--- in the row that words hold
-module _ (n : ℕ) (ws : List ℕ) (row : List Bool) (fits : FitsWords n ws) (view : bits_of n ws ≡ row) (from : ℕ) where
-  row_bit : (k : ℕ) → k < n → get_or row k false ≡ bit_of ws k
-  row_bit k h = rw (← view) (get_or-bits_of n ws k h)
+-- ---- in the row that words hold
 
-  row_len : length row ≡ n
-  row_len = bits_are n ws row view
+module _ (n : ℕ) (ws : List ℕ) (row : List Bool) (fits : FitsWords n ws) (view : bits_of n ws ≡ row) (from : ℕ) where
+  held_bit : (k : ℕ) → k < n → get_or row k false ≡ bit_of ws k
+  held_bit k h = rw (← view) (get_or_bits_of n ws k h)
+
+  held_len : length row ≡ n
+  held_len = row_len n ws row view
 
   -- a bit that is set is not one of the unused ones
   used : (k : ℕ) → k < 64 * length ws → bit_of ws k ≡ true → k < n
@@ -72,18 +76,18 @@ module _ (n : ℕ) (ws : List ℕ) (row : List Bool) (fits : FitsWords n ws) (vi
   pub next_found : (r : Option ℕ) → IfSome r (λ bit. (from ≤ bit) × (bit < 64 * length ws) × (bit_of ws bit ≡ true)) → IfSome r (λ bit. (from ≤ bit) × (bit < length row) × (get_or row bit false ≡ true))
   next_found r found = IfSome_then r found (λ bit h.
       let early : bit < n = used bit h.1 h.2 in
-      (h.0, rw row_len early, row_bit bit early ∙ h.2))
+      (h.0, rw held_len early, held_bit bit early ∙ h.2))
 
   pub next_first : (r : Option ℕ) → IfSome r (λ bit. (from ≤ bit) × (bit < 64 * length ws) × (bit_of ws bit ≡ true)) → IfSome r (λ bit. (k : ℕ) → from ≤ k → k < bit → bit_of ws k ≡ false)
       → IfSome r (λ bit. (k : ℕ) → from ≤ k → k < bit → get_or row k false ≡ false)
   next_first None found first = tt
   next_first (Some bit) found first = λ k late before.
       let early : bit < n = used bit found.1 found.2 in
-      row_bit k (omega arith) ∙ first k late before
+      held_bit k (omega arith) ∙ first k late before
 
   pub next_none : (r : Option ℕ) → IfNone r ((k : ℕ) → from ≤ k → k < 64 * length ws → bit_of ws k ≡ false) → IfNone r ((k : ℕ) → from ≤ k → k < length row → get_or row k false ≡ false)
   next_none (Some bit) none = tt
   next_none None none = λ k late within.
-      let early : k < n = rw row_len at within in
+      let early : k < n = rw held_len at within in
       let len : length ws ≡ (n + 63) / 64 = fits.len in
-      row_bit k early ∙ none k late (omega arith)
+      held_bit k early ∙ none k late (omega arith)

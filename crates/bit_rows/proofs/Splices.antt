@@ -10,8 +10,9 @@ use Rattle.bit_rows.specs.Words.{Rewritten, words_at}
 pub rows_apart : (stride r row : ℕ) → r < row → stride * r + stride ≤ stride * row
 rows_apart stride r row h = let a : stride * (r + 1) ≤ stride * row = mul-le-mul_left stride (let l : r + 1 ≤ row = omega arith in l) in omega arith
 
-length-put_mid : (a k : ℕ) (xs ys : List ℕ) → a + k ≤ length xs → length ys ≡ k → length (put_mid a k xs ys) ≡ length xs
-length-put_mid a k xs ys within long = grind (arith, length-append, length-drop, length-take)
+-- a part replaced by one of the same length keeps the length of the whole
+length_put_mid : (a k : ℕ) (xs ys : List ℕ) → a + k ≤ length xs → length ys ≡ k → length (put_mid a k xs ys) ≡ length xs
+length_put_mid a k xs ys within long = grind (arith, length-append, length-drop, length-take)
 
 module _ (stride row : ℕ) (xs ys : List ℕ) (within : stride * row + stride ≤ length xs) (long : length ys ≡ stride) where
   pub rewritten_here : words_at stride (put_mid (stride * row) (stride * row + stride - stride * row) xs ys) row ≡ ys
@@ -19,7 +20,7 @@ module _ (stride row : ℕ) (xs ys : List ℕ) (within : stride * row + stride �
 
   pub rewrites : Rewritten stride row xs (put_mid (stride * row) (stride * row + stride - stride * row) xs ys)
   rewrites = record {
-    len = length-put_mid (stride * row) (stride * row + stride - stride * row) xs ys (omega arith) (omega arith);
+    len = length_put_mid (stride * row) (stride * row + stride - stride * row) xs ys (omega arith) (omega arith);
     others = λ r d. elim (cases_lt r row) as (λ _. words_at stride (put_mid (stride * row) (stride * row + stride - stride * row) xs ys) r ≡ words_at stride xs r) [
       | inl below ↦
           let apart : stride * r + stride ≤ stride * row = rows_apart stride r row below in

@@ -1,13 +1,12 @@
 -- All rows at once: one pass over all words is the operation on each row.
-use Rattle.std.proofs.Common.{◌≡◌, ℕ, ◌+◌, ◌-◌, ◌*◌, ◌/◌, ◌<◌, ◌≤◌, Bool, false, not, ◌||◌, ◌&&◌, List, [], ◌++◌, length, take, drop, get_or, refl, sym, ap, inl, inr, arith, ◌∙◌, bit_or, bit_and, w64, length-drop, length-take}
+use Rattle.std.proofs.Common.{◌≡◌, ℕ, ◌+◌, ◌-◌, ◌*◌, ◌/◌, ◌<◌, ◌≤◌, Bool, false, List, [], ◌++◌, length, take, drop, get_or, refl, sym, ap, inl, inr, arith, ◌∙◌, length-drop, length-take}
 use Rattle.std.proofs.lemmas.Bool.{cases_lt}
 use Rattle.std.proofs.lemmas.List.{get_or-drop, get_or-take, get_or_past}
-use Rattle.std.specs.Int.{bit_not}
 use Rattle.bit_rows.specs.Bits.{AreAlike, zip_with, row_of}
-use Rattle.bit_rows.specs.BitLaws.{and_bit, minus_bit, or_bit}
+use Rattle.bit_rows.specs.BitLaws.{zip_bit}
 use Rattle.bit_rows.specs.Words.{bits_of, rows_of, words_at, FitsRows, FitsWords}
-use Rattle.bit_rows.proofs.Views.{Holds, length-bits_of, kept, or_holds, and_holds, minus_holds}
-use Rattle.bit_rows.proofs.Flat.{length-rows_of, row-rows_of, row_fits, row_long, row_view, row_within, rows_are, stride_is, words_long}
+use Rattle.bit_rows.proofs.Views.{Holds, IsBitwise, length_bits_of, rewritten_whole, joined_hold}
+use Rattle.bit_rows.proofs.Flat.{length_rows_of, row_rows_of, row_fits, row_long, row_view, row_within, rows_are, stride_is, words_long}
 
 -- a word of a row
 word_at : (stride row k : ℕ) (words : List ℕ) → k < stride → get_or (words_at stride words row) k 0 ≡ get_or words (stride * row + k) 0
@@ -22,8 +21,8 @@ pub record HoldEach (rows bits stride : ℕ) (f : Bool → Bool → Bool) (words
 
 module _ (rows bits stride : ℕ) (words : List ℕ) (all : List (List Bool)) (fits : FitsRows rows bits stride words) (view : rows_of rows bits stride words ≡ all)
     (rows2 bits2 stride2 : ℕ) (words2 : List ℕ) (more : List (List Bool)) (fits2 : FitsRows rows2 bits2 stride2 words2) (view2 : rows_of rows2 bits2 stride2 words2 ≡ more) (alike : AreAlike all more) where
-  as_many : rows2 ≡ rows
-  as_many = sym (rows_are rows2 bits2 stride2 words2 more fits2 view2) ∙ alike.len ∙ rows_are rows bits stride words all fits view
+  rows_equal : rows2 ≡ rows
+  rows_equal = sym (rows_are rows2 bits2 stride2 words2 more fits2 view2) ∙ alike.len ∙ rows_are rows bits stride words all fits view
 
   in_all : (r : ℕ) → r < rows → r < length all
   in_all r h = rw (rows_are rows bits stride words all fits view) h
@@ -39,8 +38,8 @@ module _ (rows bits stride : ℕ) (words : List ℕ) (all : List (List Bool)) (f
 
   pub all_long : length words ≡ length words2
   all_long = elim (cases_lt 0 rows) as (λ _. length words ≡ length words2) [
-    | inl some ↦ fits.all ∙ rw (← same_stride 0 some, ← as_many) (sym fits2.all)
-    | inr none ↦ let none' : rows ≡ 0 = omega arith in let a : length words ≡ stride * 0 = rw none' at fits.all in let b : length words2 ≡ stride2 * 0 = rw (as_many, none') at fits2.all in omega arith
+    | inl some ↦ fits.all ∙ rw (← same_stride 0 some, ← rows_equal) (sym fits2.all)
+    | inr none ↦ let none' : rows ≡ 0 = omega arith in let a : length words ≡ stride * 0 = rw none' at fits.all in let b : length words2 ≡ stride2 * 0 = rw (rows_equal, none') at fits2.all in omega arith
   ]
 
   -- past the last row both have none
@@ -48,7 +47,7 @@ module _ (rows bits stride : ℕ) (words : List ℕ) (all : List (List Bool)) (f
   past_all r past = get_or_past {X = List Bool} all r [] (rw (rows_are rows bits stride words all fits view) past)
 
   past_more : (r : ℕ) → rows ≤ r → row_of more r ≡ []
-  past_more r past = get_or_past {X = List Bool} more r [] (rw (rows_are rows2 bits2 stride2 words2 more fits2 view2, as_many) past)
+  past_more r past = get_or_past {X = List Bool} more r [] (rw (rows_are rows2 bits2 stride2 words2 more fits2 view2, rows_equal) past)
 
   same_long : (r : ℕ) → length (row_of all r) ≡ length (row_of more r)
   same_long r = elim (cases_lt r rows) as (λ _. length (row_of all r) ≡ length (row_of more r)) [
@@ -57,26 +56,23 @@ module _ (rows bits stride : ℕ) (words : List ℕ) (all : List (List Bool)) (f
   ]
 
   module _ (len : ℕ) (zs : List ℕ) (len_is : len ≡ length words) (same : length zs ≡ length words) (op : ℕ → ℕ → ℕ)
-      (each : (k : ℕ) → k < length words → get_or zs k 0 ≡ op (get_or words k 0) (get_or words2 k 0)) where
+      (f : Bool → Bool → Bool) (is : IsBitwise op f) (each : (k : ℕ) → k < length words → get_or zs k 0 ≡ op (get_or words k 0) (get_or words2 k 0)) where
     at_row : (r k : ℕ) → r < rows → k < stride → get_or (words_at stride zs r) k 0 ≡ op (get_or (words_at stride words r) k 0) (get_or (words_at stride2 words2 r) k 0)
     at_row r k h l =
         let within : stride * r + stride ≤ length words = row_within rows bits stride words all fits view r (in_all r h) in
         rw (same_stride r h) (word_at stride r k zs l ∙ each (stride * r + k) (omega arith) ∙ rw (word_at stride r k words l, word_at stride r k words2 l) refl)
 
-    -- what the words of a row hold, where it is known of words made of two others
-    made : (f : Bool → Bool → Bool)
-        → ((xs ys : List Bool) (k : ℕ) → length xs ≡ length ys → get_or (zip_with f xs ys) k false ≡ f (get_or xs k false) (get_or ys k false))
-        → ((xs ys vs : List ℕ) → FitsWords bits xs → FitsWords bits ys → length vs ≡ length xs → ((k : ℕ) → k < length xs → get_or vs k 0 ≡ op (get_or xs k 0) (get_or ys k 0)) → Holds bits vs (zip_with f (bits_of bits xs) (bits_of bits ys)))
-        → HoldEach rows bits stride f (take len (zs ++ drop (length zs) words)) all more
-    made f place holds = rw (kept len words zs len_is same) (record {
+    -- one pass over all words joins each row with that of the other
+    pub joined_all : HoldEach rows bits stride f (take len (zs ++ drop (length zs) words)) all more
+    joined_all = rw (rewritten_whole len words zs len_is same) (record {
       fit = record { all = same ∙ fits.all; each = λ r h. (row_holds r h).fits };
       alike = record {
-        len = length-rows_of rows bits stride zs ∙ sym (rows_are rows bits stride words all fits view);
+        len = length_rows_of rows bits stride zs ∙ sym (rows_are rows bits stride words all fits view);
         each = λ r l. let h : r < rows = rw (rows_are rows bits stride words all fits view) at l in
-            rw (row-rows_of rows bits stride zs r h, row_long rows bits stride words all fits view r l) (length-bits_of bits (words_at stride zs r));
+            rw (row_rows_of rows bits stride zs r h, row_long rows bits stride words all fits view r l) (length_bits_of bits (words_at stride zs r));
       };
       each = row_is;
-      bit = λ r b. ap (λ (xs : List Bool). get_or xs b false) (row_is r) ∙ place (row_of all r) (row_of more r) b (same_long r);
+      bit = λ r b. ap (λ (xs : List Bool). get_or xs b false) (row_is r) ∙ zip_bit f is.off (row_of all r) (row_of more r) b (same_long r);
     })
       where
         row_holds : (r : ℕ) → r < rows → Holds bits (words_at stride zs r) (zip_with f (row_of all r) (row_of more r))
@@ -87,20 +83,10 @@ module _ (rows bits stride : ℕ) (words : List ℕ) (all : List (List Bool)) (f
             let within : stride * r + stride ≤ length words = row_within rows bits stride words all fits view r (in_all r h) in
             let zs_long : length (words_at stride zs r) ≡ stride = grind (arith, length-drop, length-take) in
             rw (← row_view rows bits stride words all fits view r (in_all r h), ← vy)
-            (holds (words_at stride words r) (words_at stride2 words2 r) (words_at stride zs r) (row_fits rows bits stride words all fits view r (in_all r h)) fy (zs_long ∙ sym long) (λ k l. at_row r k h (rw long at l)))
+            (joined_hold op f is bits (words_at stride words r) (words_at stride2 words2 r) (words_at stride zs r) (row_fits rows bits stride words all fits view r (in_all r h)) fy (zs_long ∙ sym long) (λ k l. at_row r k h (rw long at l)))
 
         row_is : (r : ℕ) → row_of (rows_of rows bits stride zs) r ≡ zip_with f (row_of all r) (row_of more r)
         row_is r = elim (cases_lt r rows) as (λ _. row_of (rows_of rows bits stride zs) r ≡ zip_with f (row_of all r) (row_of more r)) [
-          | inl h ↦ row-rows_of rows bits stride zs r h ∙ (row_holds r h).view
-          | inr past ↦ rw (get_or_past {X = List Bool} (rows_of rows bits stride zs) r [] (rw length-rows_of past), past_all r past) refl
+          | inl h ↦ row_rows_of rows bits stride zs r h ∙ (row_holds r h).view
+          | inr past ↦ rw (get_or_past {X = List Bool} (rows_of rows bits stride zs) r [] (rw length_rows_of past), past_all r past) refl
         ]
-
-  module _ (len : ℕ) (zs : List ℕ) (len_is : len ≡ length words) (same : length zs ≡ length words) where
-    pub ored_all : ((k : ℕ) → k < length words → get_or zs k 0 ≡ bit_or (get_or words k 0) (get_or words2 k 0)) → HoldEach rows bits stride (λ x y. x || y) (take len (zs ++ drop (length zs) words)) all more
-    ored_all each = made len zs len_is same bit_or each (λ x y. x || y) or_bit (or_holds bits)
-
-    pub anded_all : ((k : ℕ) → k < length words → get_or zs k 0 ≡ bit_and (get_or words k 0) (get_or words2 k 0)) → HoldEach rows bits stride (λ x y. x && y) (take len (zs ++ drop (length zs) words)) all more
-    anded_all each = made len zs len_is same bit_and each (λ x y. x && y) and_bit (and_holds bits)
-
-    pub lessened_all : ((k : ℕ) → k < length words → get_or zs k 0 ≡ bit_and (get_or words k 0) (bit_not w64 (get_or words2 k 0))) → HoldEach rows bits stride (λ x y. x && not y) (take len (zs ++ drop (length zs) words)) all more
-    lessened_all each = made len zs len_is same (λ x y. bit_and x (bit_not w64 y)) each (λ x y. x && not y) minus_bit (minus_holds bits)

@@ -1,7 +1,9 @@
--- How truth values are kept: 64 to a word, the first in the lowest bit.
-use Rattle.std.specs.Prelude.{◌≡◌, ◌≢◌, ℕ, ◌+◌, ◌*◌, ◌/◌, ◌%◌, ◌^◌, ◌<◌, ◌≤◌, ◌-◌, min, Bool, false, nat_eq, if◌then◌else◌, List, bit_and, bit_or, length, map, slice_index, slice_range}
+-- How truth values are kept: 64 to a word, the first in the lowest bit. Cited by contracts.
+use Rattle.std.specs.Prelude.{◌≡◌, ◌≢◌, ℕ, ◌+◌, ◌*◌, ◌/◌, ◌%◌, ◌^◌, ◌<◌, ◌≤◌, ◌-◌, min, Bool, false, nat_eq, if◌then◌else◌, List, bit_and, bit_or, length, map, slice_index, slice_range, slice_set}
 use Rattle.std.specs.List.{range_with_len}
 use Rattle.std.specs.Int.{bit_at, bit_not, w64}
+
+-- ---- bits in words
 
 -- bit k of the words
 unfoldable pub bit_of : List ℕ → ℕ → Bool
@@ -17,13 +19,33 @@ pub record FitsWords (n : ℕ) (words : List ℕ) : Type 0 where
   pub small : (k : ℕ) → slice_index words k < 2 ^ 64
   pub unused : (k : ℕ) → n ≤ k → k < 64 * length words → bit_of words k ≡ false
 
+-- ---- words made of others
+
+-- the bits of the first word that are not set in the second
+abbrev pub minus_word : ℕ → ℕ → ℕ
+minus_word x y = bit_and x (bit_not w64 y)
+
+-- of so many words each is made of the old one and another list's by the operator
+abbrev pub EachWord : (ℕ → ℕ → ℕ) → ℕ → List ℕ → List ℕ → List ℕ → Type 0
+EachWord op len old other new = (k : ℕ) → k < len → slice_index new k ≡ op (slice_index old k) (slice_index other k)
+
 -- a word with one bit set or cleared
 abbrev pub with_bit : ℕ → ℕ → Bool → ℕ
 with_bit word i value = if value then bit_or word (2 ^ i) else bit_and word (bit_not w64 (2 ^ i))
 
--- the bits of a word that stand below n, all set
+-- the words with one of their bits set or cleared
+abbrev pub words_with_bit : List ℕ → ℕ → Bool → List ℕ
+words_with_bit words bit value = slice_set words (bit / 64) (with_bit (slice_index words (bit / 64)) (bit % 64) value)
+
+-- the bits of the word of this number that stand below n, all set
 abbrev pub used_bits : ℕ → ℕ → ℕ
 used_bits n word = 2 ^ min 64 (n - 64 * word) - 1
+
+-- of so many words each bit below n is the opposite of the old one, and those past n are not set
+abbrev pub AreFlipped : ℕ → ℕ → List ℕ → List ℕ → Type 0
+AreFlipped n len old new = (k : ℕ) → k < len → slice_index new k ≡ bit_and (bit_not w64 (slice_index old k)) (used_bits n k)
+
+-- ---- rows in words
 
 -- the words of one row, where each row has so many
 abbrev pub words_at : ℕ → List ℕ → ℕ → List ℕ
@@ -42,3 +64,7 @@ pub record FitsRows (rows bits stride : ℕ) (words : List ℕ) : Type 0 where
 pub record Rewritten (stride row : ℕ) (before after : List ℕ) : Type 0 where
   pub len : length after ≡ length before
   pub others : (r : ℕ) → r ≢ row → words_at stride after r ≡ words_at stride before r
+
+-- each word of a row is made of the old one and another list's by the operator
+abbrev pub EachWordOfRow : (ℕ → ℕ → ℕ) → ℕ → ℕ → List ℕ → List ℕ → List ℕ → Type 0
+EachWordOfRow op stride row old other new = EachWord op stride (words_at stride old row) other (words_at stride new row)

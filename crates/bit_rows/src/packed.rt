@@ -1,7 +1,6 @@
 // Rows one after the other in one list of words, so many to a row. Each clause says what becomes of the words of a row.
-ghost use Rattle.std.specs.Prelude.{◌≡◌, ℕ, ◌+◌, ◌*◌, ◌/◌, ◌%◌, ◌<◌, ◌≤◌, length, slice_index, slice_set, bit_and, bit_or};
-ghost use Rattle.std.specs.Int.{bit_not, w64};
-ghost use Rattle.bit_rows.specs.Words.{Rewritten, used_bits, with_bit, words_at};
+ghost use Rattle.std.specs.Prelude.{◌≡◌, ◌+◌, ◌*◌, ◌<◌, ◌≤◌, length, bit_and, bit_or};
+ghost use Rattle.bit_rows.specs.Words.{AreFlipped, EachWordOfRow, Rewritten, minus_word, words_at, words_with_bit};
 
 use crate::words::{and_words, flip_words, minus_words, or_words, set_word_bit};
 
@@ -20,7 +19,7 @@ pub fn or_row(into: &mut [u64], stride: usize, row: usize, from: &[u64])
     requires within { stride * row + stride ≤ length into.old }
     requires from { length from.now ≡ stride }
     ensures others { Rewritten stride row into.old into.new }
-    ensures or { (k : ℕ) → k < stride → slice_index (words_at stride into.new row) k ≡ bit_or (slice_index (words_at stride into.old row) k) (slice_index from.now k) }
+    ensures or { EachWordOfRow bit_or stride row into.old from.now into.new }
 {
     let at = stride * row;
     let _changed = or_words(&mut into[at..at + stride], from);
@@ -32,7 +31,7 @@ pub fn and_row(into: &mut [u64], stride: usize, row: usize, from: &[u64])
     requires within { stride * row + stride ≤ length into.old }
     requires from { length from.now ≡ stride }
     ensures others { Rewritten stride row into.old into.new }
-    ensures and { (k : ℕ) → k < stride → slice_index (words_at stride into.new row) k ≡ bit_and (slice_index (words_at stride into.old row) k) (slice_index from.now k) }
+    ensures and { EachWordOfRow bit_and stride row into.old from.now into.new }
 {
     let at = stride * row;
     and_words(&mut into[at..at + stride], from);
@@ -44,19 +43,20 @@ pub fn minus_row(into: &mut [u64], stride: usize, row: usize, from: &[u64])
     requires within { stride * row + stride ≤ length into.old }
     requires from { length from.now ≡ stride }
     ensures others { Rewritten stride row into.old into.new }
-    ensures minus { (k : ℕ) → k < stride → slice_index (words_at stride into.new row) k ≡ bit_and (slice_index (words_at stride into.old row) k) (bit_not w64 (slice_index from.now k)) }
+    ensures minus { EachWordOfRow minus_word stride row into.old from.now into.new }
 {
     let at = stride * row;
     minus_words(&mut into[at..at + stride], from);
 }
 
-/// The bits of a row below a number become the others, and those past it are not set.
+/// The bits of a row below a number become their opposites, and those past it are not set.
 #[tactic(auto, using(crate::proofs::Splices::rewrites, crate::proofs::Splices::rewritten_here))]
 pub fn flip_row(into: &mut [u64], stride: usize, row: usize, bits: usize)
     requires within { stride * row + stride ≤ length into.old }
     requires bits { 64 * stride < bits + 64 }
     ensures others { Rewritten stride row into.old into.new }
-    ensures flipped { (k : ℕ) → k < stride → slice_index (words_at stride into.new row) k ≡ bit_and (bit_not w64 (slice_index (words_at stride into.old row) k)) (used_bits bits k) }
+    ensures flipped { AreFlipped bits stride (words_at stride into.old row)
+        (words_at stride into.new row) }
 {
     let at = stride * row;
     flip_words(bits, &mut into[at..at + stride]);
@@ -80,7 +80,8 @@ pub fn set_row_bit(into: &mut [u64], stride: usize, row: usize, bit: usize, valu
     requires within { stride * row + stride ≤ length into.old }
     requires bit { bit < 64 * stride }
     ensures others { Rewritten stride row into.old into.new }
-    ensures set { words_at stride into.new row ≡ slice_set (words_at stride into.old row) (bit / 64) (with_bit (slice_index (words_at stride into.old row) (bit / 64)) (bit % 64) value) }
+    ensures set { words_at stride into.new row
+        ≡ words_with_bit (words_at stride into.old row) bit value }
 {
     let at = stride * row;
     set_word_bit(&mut into[at..at + stride], bit, value);

@@ -1,8 +1,8 @@
 // One row of truth values.
 ghost use Rattle.std.specs.Prelude.{◌≡◌, ◌<◌, ◌↔◌, false, IfOk, length, slice_index_or, replicate};
-ghost use Rattle.bit_rows.specs.Bits.{or_bits, minus_bits, not_bits};
+ghost use Rattle.bit_rows.specs.Bits.{or_bits, minus_bits};
 
-use crate::words::{flip_words, minus_words, or_minus_words, or_words, word_bit};
+use crate::words::{or_minus_words, or_words, word_bit};
 use crate::{Memory, RowView};
 use smallvec::SmallVec;
 use std::alloc::Global;
@@ -29,7 +29,7 @@ impl Model for Row {
 }
 
 impl Row {
-    /// A row of so many bits, all false. Its only refusal is want of memory.
+    /// A row of so many bits, all false. It fails only with `Memory`.
     pub fn new(alloc: Global, bits: usize) -> Result<Row, Memory>
         ensures { IfOk result (λ row. row ≡ replicate bits false) }
     {
@@ -40,7 +40,7 @@ impl Row {
         })
     }
 
-    /// The same row once more. Its only refusal is want of memory.
+    /// A copy of a row. It fails only with `Memory`.
     pub fn of(alloc: Global, row: &RowView<'_>) -> Result<Row, Memory>
         ensures { IfOk result (λ made. made ≡ row.now) }
     {
@@ -50,7 +50,7 @@ impl Row {
         })
     }
 
-    /// The row, to read it. It takes no memory.
+    /// The row, to read it. It does not allocate.
     pub fn view(&self) -> RowView<'_>
         ensures { result ≡ self.now }
     {
@@ -60,7 +60,7 @@ impl Row {
         }
     }
 
-    /// The bit of a number, counted from 0. It takes no memory.
+    /// The bit of a number, counted from 0. It does not allocate.
     pub fn get(&self, bit: usize) -> bool
         requires { bit < length self.now }
         ensures { result ≡ slice_index_or self.now bit false }
@@ -68,7 +68,7 @@ impl Row {
         word_bit(self.words.as_slice(), bit)
     }
 
-    /// Becomes its disjunction with the other, and answers whether it changed. It takes no memory.
+    /// Becomes its disjunction with the other, and answers whether it changed. It does not allocate.
     pub fn or_from(&mut self, other: &RowView<'_>) -> bool
         requires { length self.old ≡ length other.now }
         ensures or { self.new ≡ or_bits self.old other.now }
@@ -79,7 +79,7 @@ impl Row {
     }
 
     /// Becomes its disjunction with what another has and a third has not, in one pass, and answers whether it changed.
-    /// It takes no memory.
+    /// It does not allocate.
     pub fn or_minus_from(&mut self, other: &RowView<'_>, less: &RowView<'_>) -> bool
         requires other { length self.old ≡ length other.now }
         requires less { length self.old ≡ length less.now }
@@ -88,22 +88,5 @@ impl Row {
         ensures unchanged { (result ≡ false) ↔ (self.new ≡ self.old) }
     {
         or_minus_words(self.words.as_mut_slice(), other.words, less.words)
-    }
-
-    /// Keeps what is not in the other. It takes no memory.
-    pub fn minus_from(&mut self, other: &RowView<'_>)
-        requires { length self.old ≡ length other.now }
-        ensures minus { self.new ≡ minus_bits self.old other.now }
-        ensures len { length self.new ≡ length self.old }
-    {
-        minus_words(self.words.as_mut_slice(), other.words);
-    }
-
-    /// Each bit becomes the other truth value. It takes no memory.
-    pub fn flip(&mut self)
-        ensures flipped { self.new ≡ not_bits self.old }
-        ensures len { length self.new ≡ length self.old }
-    {
-        flip_words(self.bits, self.words.as_mut_slice());
     }
 }

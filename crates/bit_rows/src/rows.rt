@@ -1,6 +1,6 @@
 // Rows of truth values, all equally long.
-ghost use Rattle.std.specs.Prelude.{◌≡◌, ℕ, ◌<◌, ◌≤◌, ◌↔◌, ◌&&◌, ◌||◌, not, IsTrue, false, if◌then◌else◌, is_ok, IfOk, List, [], ◌∷◌, ◌++◌, length, slice_index_or, slice_set, replicate};
-ghost use Rattle.bit_rows.specs.Bits.{AreAlike, AreEquallyLong, or_bits, and_bits, minus_bits, not_bits, row_of};
+ghost use Rattle.std.specs.Prelude.{◌≡◌, ℕ, ◌<◌, ◌≤◌, ◌&&◌, ◌||◌, not, ◌↔◌, IsTrue, false, IfOk, OnOk, OnErr, List, [], ◌∷◌, ◌++◌, length, slice_index_or, slice_set, replicate};
+ghost use Rattle.bit_rows.specs.Bits.{AreAlike, AreEquallyLong, EachBit, EachBitFlipped, EachRow, or_bits, and_bits, minus_bits, not_bits, row_of, with_row_by};
 
 use crate::packed::{and_row, copy_row, flip_row, minus_row, or_row, row_words, set_row_bit};
 use crate::words::{and_words, minus_words, or_words};
@@ -32,7 +32,7 @@ impl Model for Rows {
 }
 
 impl Rows {
-    /// So many rows of so many bits, all false. Its only refusal is want of memory.
+    /// So many rows of so many bits, all false. It fails only with `Memory`.
     pub fn new(alloc: Global, rows: usize, bits: usize) -> Result<Rows, Memory>
         ensures { IfOk result (λ made. made ≡ replicate rows (replicate bits false)) }
     {
@@ -48,7 +48,7 @@ impl Rows {
         })
     }
 
-    /// No rows yet, with room for so many of so many bits. Its only refusal is want of memory.
+    /// No rows yet, with room for so many of so many bits. It fails only with `Memory`.
     pub fn with_room(alloc: Global, rows: usize, bits: usize) -> Result<Rows, Memory>
         ensures { IfOk result (λ made. made ≡ []) }
     {
@@ -64,11 +64,12 @@ impl Rows {
         })
     }
 
-    /// Puts a row at the end, as long as those that stand. Its only refusal is want of memory, and the rows are then as
-    /// they were.
+    /// Puts a copy of a row at the end, as long as those that stand. It fails only with `Memory`, and the rows are then
+    /// as they were.
     pub fn push(&mut self, row: &RowView<'_>) -> Result<(), Memory>
         requires { AreEquallyLong (length row.now) self.old }
-        ensures { self.new ≡ (if is_ok result then self.old ++ row.now ∷ [] else self.old) }
+        ensures ok { OnOk result (self.new ≡ self.old ++ row.now ∷ []) }
+        ensures err { OnErr result (self.new ≡ self.old) }
     {
         let Some(rows) = self.rows.checked_add(1) else {
             return Err(AllocError);
@@ -80,11 +81,12 @@ impl Rows {
         Ok(())
     }
 
-    /// Puts a row of so many bits, all false, at the end; those that stand are as long. Its only refusal is want of
-    /// memory, and the rows are then as they were.
+    /// Puts a row of so many bits, all false, at the end; those that stand are as long. It fails only with `Memory`,
+    /// and the rows are then as they were.
     pub fn push_false(&mut self, bits: usize) -> Result<(), Memory>
         requires { AreEquallyLong bits self.old }
-        ensures { self.new ≡ (if is_ok result then self.old ++ replicate bits false ∷ [] else self.old) }
+        ensures ok { OnOk result (self.new ≡ self.old ++ replicate bits false ∷ []) }
+        ensures err { OnErr result (self.new ≡ self.old) }
     {
         let stride = bits.div_ceil(64);
         let Some(rows) = self.rows.checked_add(1) else {
@@ -100,21 +102,21 @@ impl Rows {
         Ok(())
     }
 
-    /// How many rows there are. It takes no memory.
+    /// How many rows there are. It does not allocate.
     pub fn len(&self) -> usize
         ensures { result ≡ length self.now }
     {
         self.rows
     }
 
-    /// How many bits each row has; where there is no row, any number. It takes no memory.
+    /// How many bits each row has; where there is no row, any number. It does not allocate.
     pub fn bits(&self) -> usize
         ensures { AreEquallyLong result self.now }
     {
         self.bits
     }
 
-    /// The row of a number, counted from 0. It takes no memory.
+    /// The row of a number, counted from 0. It does not allocate.
     pub fn row(&self, row: usize) -> RowView<'_>
         requires { row < length self.now }
         ensures { result ≡ row_of self.now row }
@@ -125,7 +127,7 @@ impl Rows {
         }
     }
 
-    /// One bit. It takes no memory.
+    /// One bit. It does not allocate.
     pub fn get(&self, row: usize, bit: usize) -> bool
         requires row { row < length self.now }
         requires bit { bit < length (row_of self.now row) }
@@ -134,7 +136,7 @@ impl Rows {
         self.row(row).get(bit)
     }
 
-    /// Sets or clears one bit. It takes no memory.
+    /// Sets or clears one bit. It does not allocate.
     pub fn set(&mut self, row: usize, bit: usize, value: bool)
         requires row { row < length self.old }
         requires bit { bit < length (row_of self.old row) }
@@ -143,40 +145,73 @@ impl Rows {
         set_row_bit(&mut self.words, self.stride, row, bit, value);
     }
 
-    /// The row becomes its disjunction with a row of the other. It takes no memory.
+    /// The row becomes a copy of another. It does not allocate.
+    pub fn copy_from(&mut self, row: usize, from: &RowView<'_>)
+        requires row { row < length self.old }
+        requires equally_long { length (row_of self.old row) ≡ length from.now }
+        ensures { self.new ≡ slice_set self.old row from.now }
+    {
+        copy_row(&mut self.words, self.stride, row, from.words);
+    }
+
+    /// The row becomes its disjunction with another. It does not allocate.
+    pub fn or_from(&mut self, row: usize, from: &RowView<'_>)
+        requires row { row < length self.old }
+        requires equally_long { length (row_of self.old row) ≡ length from.now }
+        ensures { self.new ≡ slice_set self.old row (or_bits (row_of self.old row) from.now) }
+    {
+        or_row(&mut self.words, self.stride, row, from.words);
+    }
+
+    /// The row keeps what is not in another. It does not allocate.
+    pub fn minus_from(&mut self, row: usize, from: &RowView<'_>)
+        requires row { row < length self.old }
+        requires equally_long { length (row_of self.old row) ≡ length from.now }
+        ensures { self.new ≡ slice_set self.old row (minus_bits (row_of self.old row) from.now) }
+    {
+        minus_row(&mut self.words, self.stride, row, from.words);
+    }
+
+    /// The row becomes its conjunction with another. It does not allocate.
+    pub fn and_from(&mut self, row: usize, from: &RowView<'_>)
+        requires row { row < length self.old }
+        requires equally_long { length (row_of self.old row) ≡ length from.now }
+        ensures { self.new ≡ slice_set self.old row (and_bits (row_of self.old row) from.now) }
+    {
+        and_row(&mut self.words, self.stride, row, from.words);
+    }
+
+    /// The row becomes its disjunction with a row of the other. It does not allocate.
     pub fn or_into(&mut self, row: usize, other: &Rows, from: usize)
         requires row { row < length self.old }
         requires from { from < length other.now }
         requires equally_long { length (row_of self.old row) ≡ length (row_of other.now from) }
-        ensures { self.new ≡ slice_set self.old row (or_bits (row_of self.old row) (row_of other.now from)) }
+        ensures { self.new ≡ with_row_by or_bits self.old row other.now from }
     {
-        let more = row_words(&other.words, other.stride, from);
-        or_row(&mut self.words, self.stride, row, more);
+        self.or_from(row, &other.row(from));
     }
 
-    /// The row becomes its conjunction with a row of the other. It takes no memory.
+    /// The row becomes its conjunction with a row of the other. It does not allocate.
     pub fn and_into(&mut self, row: usize, other: &Rows, from: usize)
         requires row { row < length self.old }
         requires from { from < length other.now }
         requires equally_long { length (row_of self.old row) ≡ length (row_of other.now from) }
-        ensures { self.new ≡ slice_set self.old row (and_bits (row_of self.old row) (row_of other.now from)) }
+        ensures { self.new ≡ with_row_by and_bits self.old row other.now from }
     {
-        let only = row_words(&other.words, other.stride, from);
-        and_row(&mut self.words, self.stride, row, only);
+        self.and_from(row, &other.row(from));
     }
 
-    /// The row keeps what is not in a row of the other. It takes no memory.
+    /// The row keeps what is not in a row of the other. It does not allocate.
     pub fn minus_into(&mut self, row: usize, other: &Rows, from: usize)
         requires row { row < length self.old }
         requires from { from < length other.now }
         requires equally_long { length (row_of self.old row) ≡ length (row_of other.now from) }
-        ensures { self.new ≡ slice_set self.old row (minus_bits (row_of self.old row) (row_of other.now from)) }
+        ensures { self.new ≡ with_row_by minus_bits self.old row other.now from }
     {
-        let less = row_words(&other.words, other.stride, from);
-        minus_row(&mut self.words, self.stride, row, less);
+        self.minus_from(row, &other.row(from));
     }
 
-    /// Whether the row has the same bits as a row of the other. It takes no memory.
+    /// Whether the row has the same bits as a row of the other. It does not allocate.
     pub fn row_eq(&self, row: usize, other: &Rows, from: usize) -> bool
         requires row { row < length self.now }
         requires from { from < length other.now }
@@ -186,7 +221,7 @@ impl Rows {
         self.row(row).is_same(&other.row(from))
     }
 
-    /// Each bit of the row becomes the other truth value. It takes no memory.
+    /// Each bit of the row becomes its opposite. It does not allocate.
     pub fn flip(&mut self, row: usize)
         requires { row < length self.old }
         ensures { self.new ≡ slice_set self.old row (not_bits (row_of self.old row)) }
@@ -194,25 +229,7 @@ impl Rows {
         flip_row(&mut self.words, self.stride, row, self.bits);
     }
 
-    /// The row becomes equal to another. It takes no memory.
-    pub fn copy_from(&mut self, row: usize, from: &RowView<'_>)
-        requires row { row < length self.old }
-        requires equally_long { length (row_of self.old row) ≡ length from.now }
-        ensures { self.new ≡ slice_set self.old row from.now }
-    {
-        copy_row(&mut self.words, self.stride, row, from.words);
-    }
-
-    /// The row becomes its disjunction with another. It takes no memory.
-    pub fn or_from(&mut self, row: usize, from: &RowView<'_>)
-        requires row { row < length self.old }
-        requires equally_long { length (row_of self.old row) ≡ length from.now }
-        ensures { self.new ≡ slice_set self.old row (or_bits (row_of self.old row) from.now) }
-    {
-        or_row(&mut self.words, self.stride, row, from.words);
-    }
-
-    /// The same rows once more. Its only refusal is want of memory.
+    /// A copy of the rows. It fails only with `Memory`.
     pub fn copied(&self, alloc: Global) -> Result<Rows, Memory>
         ensures { IfOk result (λ made. made ≡ self.now) }
     {
@@ -224,42 +241,42 @@ impl Rows {
         })
     }
 
-    /// Each row becomes its disjunction with that of the other. It takes no memory.
+    /// Each row becomes its disjunction with that of the other. It does not allocate.
     pub fn or_rows(&mut self, other: &Rows)
         requires { AreAlike self.old other.now }
         ensures alike { AreAlike self.old self.new }
-        ensures rows { (n : ℕ) → row_of self.new n ≡ or_bits (row_of self.old n) (row_of other.now n) }
-        ensures bits { (n b : ℕ) → slice_index_or (row_of self.new n) b false ≡ (slice_index_or (row_of self.old n) b false || slice_index_or (row_of other.now n) b false) }
+        ensures rows { EachRow or_bits self.old other.now self.new }
+        ensures bits { EachBit (λ x y. x || y) self.old other.now self.new }
     {
         let _changed = or_words(&mut self.words, &other.words);
     }
 
-    /// Each row becomes its conjunction with that of the other. It takes no memory.
+    /// Each row becomes its conjunction with that of the other. It does not allocate.
     pub fn and_rows(&mut self, other: &Rows)
         requires { AreAlike self.old other.now }
         ensures alike { AreAlike self.old self.new }
-        ensures rows { (n : ℕ) → row_of self.new n ≡ and_bits (row_of self.old n) (row_of other.now n) }
-        ensures bits { (n b : ℕ) → slice_index_or (row_of self.new n) b false ≡ (slice_index_or (row_of self.old n) b false && slice_index_or (row_of other.now n) b false) }
+        ensures rows { EachRow and_bits self.old other.now self.new }
+        ensures bits { EachBit (λ x y. x && y) self.old other.now self.new }
     {
         and_words(&mut self.words, &other.words);
     }
 
-    /// Each row keeps what is not in that of the other. It takes no memory.
+    /// Each row keeps what is not in that of the other. It does not allocate.
     pub fn minus_rows(&mut self, other: &Rows)
         requires { AreAlike self.old other.now }
         ensures alike { AreAlike self.old self.new }
-        ensures rows { (n : ℕ) → row_of self.new n ≡ minus_bits (row_of self.old n) (row_of other.now n) }
-        ensures bits { (n b : ℕ) → slice_index_or (row_of self.new n) b false ≡ (slice_index_or (row_of self.old n) b false && not (slice_index_or (row_of other.now n) b false)) }
+        ensures rows { EachRow minus_bits self.old other.now self.new }
+        ensures bits { EachBit (λ x y. x && not y) self.old other.now self.new }
     {
         minus_words(&mut self.words, &other.words);
     }
 
-    /// Each bit of the rows from this number on becomes the other truth value. It takes no memory.
+    /// Each bit of the rows from this number on becomes its opposite. It does not allocate.
     pub fn flip_rows(&mut self, from: usize)
         ensures alike { AreAlike self.old self.new }
         ensures before { (n : ℕ) → n < from → row_of self.new n ≡ row_of self.old n }
         ensures rows { (n : ℕ) → from ≤ n → row_of self.new n ≡ not_bits (row_of self.old n) }
-        ensures bits { (n b : ℕ) → from ≤ n → n < length self.old → b < length (row_of self.old n) → slice_index_or (row_of self.new n) b false ≡ not (slice_index_or (row_of self.old n) b false) }
+        ensures bits { EachBitFlipped from self.old self.new }
     {
         for row in from..self.len() {
             self.flip(row);

@@ -1,5 +1,6 @@
 // A row that is kept elsewhere.
-ghost use Rattle.std.specs.Prelude.{◌≡◌, ℕ, ◌<◌, ◌≤◌, ◌↔◌, IsTrue, true, false, IfNone, IfSome, length, slice_index_or};
+ghost use Rattle.std.specs.Prelude.{◌≡◌, ◌<◌, ◌↔◌, IsTrue, false, IfNone, IfSome, length, slice_index_or};
+ghost use Rattle.bit_rows.specs.Bits.{IsTrueFrom, NoneTrue, row_bit};
 
 use crate::words::{next_set, word_bit};
 use std::marker::Model;
@@ -23,14 +24,14 @@ impl<'a> Model for RowView<'a> {
 }
 
 impl<'a> RowView<'a> {
-    /// How many bits it has. It takes no memory.
+    /// How many bits it has. It does not allocate.
     pub fn len(&self) -> usize
         ensures { result ≡ length self.now }
     {
         self.bits
     }
 
-    /// The bit of a number, counted from 0. It takes no memory.
+    /// The bit of a number, counted from 0. It does not allocate.
     pub fn get(&self, bit: usize) -> bool
         requires { bit < length self.now }
         ensures { result ≡ slice_index_or self.now bit false }
@@ -38,12 +39,12 @@ impl<'a> RowView<'a> {
         word_bit(self.words, bit)
     }
 
-    /// The number of the first true bit from number `from` on, and `None` exactly where no bit from there on is true. It
-    /// takes no memory.
+    /// The number of the first true bit from number `from` on, and `None` exactly where no bit from there on is true.
+    /// It does not allocate.
     pub fn next_true(&self, from: usize) -> Option<usize>
-        ensures found { IfSome result (λ bit. (from ≤ bit) × (bit < length self.now) × (slice_index_or self.now bit false ≡ true)) }
-        ensures first { IfSome result (λ bit. (k : ℕ) → from ≤ k → k < bit → slice_index_or self.now k false ≡ false) }
-        ensures none { IfNone result ((k : ℕ) → from ≤ k → k < length self.now → slice_index_or self.now k false ≡ false) }
+        ensures found { IfSome result (IsTrueFrom (row_bit self.now) (length self.now) from) }
+        ensures first { IfSome result (NoneTrue (row_bit self.now) from) }
+        ensures none { IfNone result (NoneTrue (row_bit self.now) from (length self.now)) }
     {
         if from < self.len() {
             next_set(self.words, from)
@@ -52,7 +53,7 @@ impl<'a> RowView<'a> {
         }
     }
 
-    /// Whether it has the same bits as the other. It takes no memory.
+    /// Whether it has the same bits as the other. It does not allocate.
     pub fn is_same(&self, other: &RowView<'_>) -> bool
         requires { length self.now ≡ length other.now }
         ensures { IsTrue result ↔ (self.now ≡ other.now) }

@@ -1,13 +1,14 @@
 // The passes over words. Each clause says what becomes of one word, or of one bit.
-ghost use Rattle.std.specs.Prelude.{◌≡◌, ℕ, ◌+◌, ◌*◌, ◌/◌, ◌%◌, ◌^◌, ◌<◌, ◌≤◌, ◌↔◌, true, false, IfNone, IfSome, length, slice_index, slice_set, bit_and, bit_or};
-ghost use Rattle.std.specs.Int.{bit_at, bit_not, w64};
-ghost use Rattle.bit_rows.specs.Words.{bit_of, used_bits, with_bit};
+ghost use Rattle.std.specs.Prelude.{◌≡◌, ℕ, ◌+◌, ◌*◌, ◌^◌, ◌<◌, ◌≤◌, ◌↔◌, false, IfNone, IfSome, length, slice_index, bit_and, bit_or};
+ghost use Rattle.std.specs.Int.{bit_at};
+ghost use Rattle.bit_rows.specs.Bits.{IsTrueFrom, NoneTrue};
+ghost use Rattle.bit_rows.specs.Words.{AreFlipped, EachWord, bit_of, minus_word, used_bits, words_with_bit};
 
 /// Each word becomes its disjunction with the other's. It answers whether one changed.
 pub fn or_words(into: &mut [u64], from: &[u64]) -> bool
     requires { length into.old ≡ length from.now }
     ensures len { length into.new ≡ length into.old }
-    ensures or { (k : ℕ) → k < length into.old → slice_index into.new k ≡ bit_or (slice_index into.old k) (slice_index from.now k) }
+    ensures or { EachWord bit_or (length into.old) into.old from.now into.new }
     ensures unchanged { (result ≡ false) ↔ (into.new ≡ into.old) }
 {
     let mut changed = false;
@@ -24,7 +25,8 @@ pub fn or_minus_words(into: &mut [u64], from: &[u64], less: &[u64]) -> bool
     requires from { length into.old ≡ length from.now }
     requires less { length into.old ≡ length less.now }
     ensures len { length into.new ≡ length into.old }
-    ensures or_minus { (k : ℕ) → k < length into.old → slice_index into.new k ≡ bit_or (slice_index into.old k) (bit_and (slice_index from.now k) (bit_not w64 (slice_index less.now k))) }
+    ensures or_minus { (k : ℕ) → k < length into.old → slice_index into.new k ≡ bit_or
+        (slice_index into.old k) (minus_word (slice_index from.now k) (slice_index less.now k)) }
     ensures unchanged { (result ≡ false) ↔ (into.new ≡ into.old) }
 {
     let mut changed = false;
@@ -40,7 +42,7 @@ pub fn or_minus_words(into: &mut [u64], from: &[u64], less: &[u64]) -> bool
 pub fn and_words(into: &mut [u64], from: &[u64])
     requires { length into.old ≡ length from.now }
     ensures len { length into.new ≡ length into.old }
-    ensures and { (k : ℕ) → k < length into.old → slice_index into.new k ≡ bit_and (slice_index into.old k) (slice_index from.now k) }
+    ensures and { EachWord bit_and (length into.old) into.old from.now into.new }
 {
     for i in 0..into.len() {
         into[i] = into[i] & from[i];
@@ -51,7 +53,7 @@ pub fn and_words(into: &mut [u64], from: &[u64])
 pub fn minus_words(into: &mut [u64], from: &[u64])
     requires { length into.old ≡ length from.now }
     ensures len { length into.new ≡ length into.old }
-    ensures minus { (k : ℕ) → k < length into.old → slice_index into.new k ≡ bit_and (slice_index into.old k) (bit_not w64 (slice_index from.now k)) }
+    ensures minus { EachWord minus_word (length into.old) into.old from.now into.new }
 {
     for i in 0..into.len() {
         into[i] = into[i] & !from[i];
@@ -67,11 +69,11 @@ fn used(bits: usize, word: usize) -> u64
     u64::MAX >> (64 - left)
 }
 
-/// The bits below a number become the others, and those past it are not set.
+/// The bits below a number become their opposites, and those past it are not set.
 pub fn flip_words(bits: usize, words: &mut [u64])
     requires { 64 * length words.old < bits + 64 }
     ensures len { length words.new ≡ length words.old }
-    ensures flipped { (k : ℕ) → k < length words.old → slice_index words.new k ≡ bit_and (bit_not w64 (slice_index words.old k)) (used_bits bits k) }
+    ensures flipped { AreFlipped bits (length words.old) words.old words.new }
 {
     for i in 0..words.len() {
         words[i] = !words[i] & used(bits, i);
@@ -104,9 +106,9 @@ fn next_in_word(word: u64, from: usize) -> Option<usize>
 /// The first set bit of the words from number `from` on. Words that are 0 are passed over.
 pub fn next_set(words: &[u64], from: usize) -> Option<usize>
     requires { 64 * length words.now ≤ 2 ^ 64 }
-    ensures found { IfSome result (λ bit. (from ≤ bit) × (bit < 64 * length words.now) × (bit_of words.now bit ≡ true)) }
-    ensures first { IfSome result (λ bit. (k : ℕ) → from ≤ k → k < bit → bit_of words.now k ≡ false) }
-    ensures none { IfNone result ((k : ℕ) → from ≤ k → k < 64 * length words.now → bit_of words.now k ≡ false) }
+    ensures found { IfSome result (IsTrueFrom (bit_of words.now) (64 * length words.now) from) }
+    ensures first { IfSome result (NoneTrue (bit_of words.now) from) }
+    ensures none { IfNone result (NoneTrue (bit_of words.now) from (64 * length words.now)) }
 {
     let mut start = from % 64;
     for i in from / 64..words.len() {
@@ -121,7 +123,7 @@ pub fn next_set(words: &[u64], from: usize) -> Option<usize>
 /// Sets or clears a bit of the words.
 pub fn set_word_bit(words: &mut [u64], bit: usize, value: bool)
     requires { bit < 64 * length words.old }
-    ensures { words.new ≡ slice_set words.old (bit / 64) (with_bit (slice_index words.old (bit / 64)) (bit % 64) value) }
+    ensures { words.new ≡ words_with_bit words.old bit value }
 {
     let mask = 1u64 << (bit % 64);
     let at = bit / 64;

@@ -1,4 +1,5 @@
--- How many visits and pushes may still come.
+-- How many visits and pushes may still come: laws of sums; no more edges leave all nodes than there are; so the pushes are bounded
+-- at the start, a push adds none, and a node that is taken leaves one visit less.
 use Rattle.std.proofs.Common.{◌≡◌, ◌≢◌, ℕ, zero, suc, ◌+◌, ◌-◌, ◌*◌, ◌<◌, ◌≤◌, ◌↔◌, Bool, true, false, ◌||◌, cond, eqb, eq-eqb, ne_eqb, add-suc, add-zero, refl, sym, ap, inl, inr, arith}
 use Rattle.std.proofs.Math.Nat.{mul-le-mul_left, mul-le-mul_right}
 use Rattle.std.proofs.lemmas.Bool.{cases_eq, cases_lt}
@@ -6,6 +7,9 @@ use Rattle.fix_solve.specs.Order.{OrderLaws}
 use Rattle.fix_solve.specs.Net.{Net, NetLaws}
 use Rattle.fix_solve.specs.Settling.{sum_below, visits_left, load, degree}
 
+-- ---- sums
+
+-- no term is greater
 pub sum_below_le : (f g : ℕ → ℕ) (n : ℕ) → ((i : ℕ) → i < n → f i ≤ g i) → sum_below f n ≤ sum_below g n
 unfolding sum_below
 sum_below_le f g zero h = omega arith
@@ -23,6 +27,7 @@ sum_below_falls f g (suc n) k d l h e =
       | inr other ↦ let r : sum_below f n + d ≤ sum_below g n = sum_below_falls f g n k d (omega arith) (λ i m. h i (omega arith)) e in omega arith
     ]
 
+-- equal terms have equal sums
 sum_below_same : (f g : ℕ → ℕ) (n : ℕ) → ((i : ℕ) → i < n → g i ≡ f i) → sum_below g n ≡ sum_below f n
 unfolding sum_below
 sum_below_same f g zero h = refl
@@ -38,32 +43,40 @@ sum_below_rises f g (suc n) k l h e =
       | inr other ↦ let r : sum_below g n ≡ sum_below f n + 1 = sum_below_rises f g n k (omega arith) (λ i m d. h i (omega arith) d) e in let q : g n ≡ f n = h n (omega arith) (λ s. other (sym s)) in omega arith
     ]
 
+-- all terms are zero
 pub sum_below_zero : (n : ℕ) → sum_below (λ _. 0) n ≡ 0
 unfolding sum_below
 sum_below_zero zero = refl
 sum_below_zero (suc n) = let a : sum_below (λ _. 0) n ≡ 0 = sum_below_zero n in omega arith
 
+-- a common factor
 pub sum_below_times : (f : ℕ → ℕ) (c n : ℕ) → sum_below (λ i. f i * c) n ≡ sum_below f n * c
 unfolding sum_below
 sum_below_times f c zero = omega arith
 sum_below_times f c (suc n) = let a : sum_below (λ i. f i * c) n ≡ sum_below f n * c = sum_below_times f c n in omega arith
 
+-- ---- edges by the node that they leave
+
 -- how many of the first edges leave a node
 leaving : (ℕ → ℕ) → ℕ → ℕ → ℕ
 leaving source n count = sum_below (λ e. cond (eqb (source e) n) 1 0) count
 
+-- one more edge counts where it leaves this node
 leaving_more : (source : ℕ → ℕ) (n count : ℕ) → leaving source n (suc count) ≡ leaving source n count + cond (eqb (source count) n) 1 0
 unfolding leaving sum_below
 leaving_more source n count = refl
 
+-- among no edges none leaves the node
 leaving_none : (source : ℕ → ℕ) (n : ℕ) → leaving source n 0 ≡ 0
 unfolding leaving sum_below
 leaving_none source n = refl
 
+-- more edges never lower the count
 leaving_up : (source : ℕ → ℕ) (n count more : ℕ) → leaving source n count ≤ leaving source n (count + more)
 leaving_up source n count zero = rw add-zero (omega arith)
 leaving_up source n count (suc more) = rw (add-suc, leaving_more) (let a : leaving source n count ≤ leaving source n (count + more) = leaving_up source n count more in omega arith)
 
+-- each edge leaves just one node, so the counts of all nodes add up to the number of edges
 leaving_total : (source : ℕ → ℕ) (nodes count : ℕ) → ((e : ℕ) → e < count → source e < nodes) → sum_below (λ n. leaving source n count) nodes ≡ count
 leaving_total source nodes zero h = simp leaving_none (sum_below_zero nodes)
 leaving_total source nodes (suc count) h =

@@ -1,20 +1,31 @@
 -- One push, and the begin and the end of a visit, at the lists that the code holds.
-use Rattle.std.proofs.Common.{◌≡◌, ◌≢◌, ℕ, ◌+◌, ◌<◌, ◌≤◌, Bool, true, false, ◌||◌, List, refl, sym, inl, inr, ◌∙◌, get_or-set_other}
+use Rattle.std.proofs.Common.{◌≡◌, ◌≢◌, ℕ, ◌+◌, ◌<◌, ◌≤◌, Bool, true, false, ◌||◌, ◌&&◌, not, eqb, List, ◌∷◌, length, refl, sym, inl, inr, ◌∙◌, get_or-set_other}
 use Rattle.std.proofs.lemmas.Bool.{cases_eq}
 use Rattle.std.proofs.lemmas.List.{length-set}
 use Rattle.fix_solve.specs.Order.{OrderLaws}
 use Rattle.fix_solve.specs.Net.{Net, NetLaws, value_at, HoldsFirst}
-use Rattle.fix_solve.specs.Settling.{Working, Pushed, AllDone, load}
+use Rattle.fix_solve.specs.Settling.{Working, Pushed, AllDone, load, degree, nodes_left, pushes_left}
 use Rattle.fix_solve.proofs.Settle.{push_settles, visit_begins, visit_ends, start_settles, size_above}
 use Rattle.fix_solve.proofs.Loads.{load_push, load_take}
+use Rattle.fix_solve.proofs.Waiting.{first_waits, leaves_other, leaves_here}
+use Rattle.node_list.specs.Lists.{is_listed, list_at}
 
+-- ---- disjunctions
+
+-- with false nothing changes
 pub or_false : (a : Bool) → (a || false) ≡ a
 or_false true = refl
 or_false false = refl
 
+-- neither is true where the disjunction is not
 pub or_off : (a b : Bool) → (a || b) ≡ false → (a ≡ false) × (b ≡ false)
 or_off true b h = absurd (cc)
 or_off false b h = (refl, h)
+
+-- without a node fewer pushes are left to do, and fewer visits
+pub record LessLeft {V : Type 0} (net : Net V) (rank : V → ℕ) (values : List V) (waits waits' : ℕ → Bool) (node : ℕ) : Type 0 where
+  pub pushes : pushes_left net rank values waits' + degree net node ≤ pushes_left net rank values waits
+  pub nodes : nodes_left net rank values waits' + 1 ≤ nodes_left net rank values waits
 
 module _ {V : Type 0} (below : V → V → Type 0) (size : V → ℕ) (rank : V → ℕ) (order : OrderLaws below size rank) (net : Net V) (laws : NetLaws below size rank net) where
   -- each value has the flow's size
@@ -64,6 +75,14 @@ module _ {V : Type 0} (below : V → V → Type 0) (size : V → ℕ) (rank : V 
         → load net rank weight (value_at net values) fl' + weight node ≤ load net rank weight (value_at net values) fl
     load_begins weight on off = load_take below size rank order net laws weight (value_at net values) fl fl' node in_range others_fl on off
 
+  -- the first node of the one list is taken from it
+  pub load_taken : (node : ℕ) (values : List V) (lists : List (List ℕ)) (rest : List ℕ) (fl' : ℕ → Bool) → node < net.nodes → Working below net values (is_listed lists) AllDone
+      → length lists ≡ 1 → list_at lists 0 ≡ node ∷ rest → ((k : ℕ) → fl' k ≡ (is_listed lists k && not (eqb k node))) → LessLeft net rank values (is_listed lists) fl' node
+  load_taken node values lists rest fl' in_range w one is listed =
+      let less = λ (weight : ℕ → ℕ). load_begins node values (is_listed lists) fl' in_range w (λ n d. leaves_other (is_listed lists) fl' node n listed d) weight (first_waits lists node rest one is) (leaves_here (is_listed lists) fl' node listed) in
+      record { pushes = less (degree net); nodes = less (λ _. 1) }
+
+  -- with all edges of the node done, all are
   pub working_ends : (node at : ℕ) (values : List V) (fl : ℕ → Bool) → net.stop node ≤ at → Working below net values fl (λ e. net.source e ≡ node → e < at) → Working below net values fl AllDone
   working_ends node at values fl late w = record {
     len = w.len;

@@ -3,14 +3,18 @@ use Rattle.std.proofs.Common.{◌≡◌, ◌≢◌, ℕ, ◌+◌, Bool, true, fa
 use Rattle.std.proofs.lemmas.Bool.{ne_eqb, lt-ltb}
 use Rattle.node_list.specs.Lists.{list_at, times_in, times, is_listed}
 
+-- true is neutral in a conjunction
 and_true : (b : Bool) → (b && true) ≡ b
 and_true true = refl
 and_true false = refl
 
--- a node leaves the list
+-- ---- a node leaves the list
+
+-- the others wait as before
 pub leaves_other : (l l' : ℕ → Bool) (node n : ℕ) → ((k : ℕ) → l' k ≡ (l k && not (eqb k node))) → n ≢ node → l' n ≡ l n
 leaves_other l l' node n listed d = listed n ∙ ap (λ b. l n && not b) (ne_eqb n node d) ∙ and_true (l n)
 
+-- it waits no longer
 pub leaves_here : (l l' : ℕ → Bool) (node : ℕ) → ((k : ℕ) → l' k ≡ (l k && not (eqb k node))) → l' node ≡ false
 leaves_here l l' node listed = listed node ∙ ap (λ b. l node && not b) (eq-eqb node node refl) ∙ and_false (l node)
   where
@@ -23,6 +27,7 @@ pub first_waits : (lists : List (List ℕ)) (node : ℕ) (rest : List ℕ) → l
 first_waits [] node rest one is = absurd (omega arith)
 first_waits (xs ∷ lists) node rest one is = lt-ltb 0 (times (xs ∷ lists) node) (let here : times_in node xs ≡ 1 + times_in node rest = rw (is, eq-eqb node node refl) refl in omega arith)
 
+-- in an empty list none waits
 pub none_waits : (lists : List (List ℕ)) (n : ℕ) → length lists ≡ 1 → list_at lists 0 ≡ [] → is_listed lists n ≡ false
 none_waits [] n one is = absurd (omega arith)
 none_waits (xs ∷ []) n one is = rw is refl

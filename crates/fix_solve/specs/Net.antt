@@ -1,5 +1,6 @@
--- A flow as contracts see it, what its solutions are, and which is the least.
-use Rattle.std.specs.Prelude.{◌≡◌, ℕ, ◌<◌, ◌≤◌, List, length, slice_index_or}
+-- A flow as contracts see it, what its solutions are, and which is the least. Cited by contracts.
+use Rattle.std.specs.Prelude.{◌≡◌, ℕ, ◌+◌, ◌*◌, ◌<◌, ◌≤◌, List, length, slice_index_or}
+use Rattle.fix_solve.specs.Order.{IsLeastUpper}
 
 -- numbered nodes and edges, a first value for each node, a transfer along each edge
 pub record Net (V : Type 0) : Type 0 where
@@ -30,6 +31,18 @@ pub record NetLaws {V : Type 0} (below : V → V → Type 0) (size : V → ℕ) 
   pub monotone : (e : ℕ) (x y : V) → e < net.edges → size x ≡ net.size → below x y → below (net.transfer e x) (net.transfer e y)
   pub ranks : (x : V) → size x ≡ net.size → rank x ≤ net.height
 
+-- the new value is the least upper bound of the old one and the transfer along an edge
+abbrev pub Joins : {V : Type 0} → (V → V → Type 0) → Net V → ℕ → V → V → V → Type 0
+Joins below net number from old new = IsLeastUpper below old (net.transfer number from) new
+
+-- and along an edge of a node to itself
+abbrev pub JoinsItself : {V : Type 0} → (V → V → Type 0) → Net V → ℕ → V → V → Type 0
+JoinsItself below net number old new = Joins below net number old old new
+
+-- the number of edges, for each rank of a value and one more
+abbrev pub most_pushes : {V : Type 0} → Net V → ℕ
+most_pushes net = net.edges * (net.height + 1)
+
 -- the values lie above the first ones, and above the transfer along each edge
 pub record Solves {V : Type 0} (below : V → V → Type 0) (net : Net V) (values : ℕ → V) : Type 0 where
   pub above_first : (n : ℕ) → n < net.nodes → below (net.first n) (values n)
@@ -43,6 +56,14 @@ pub record IsLeastSolution {V : Type 0} (below : V → V → Type 0) (net : Net 
 -- the value of a node in a list of values
 abbrev pub value_at : {V : Type 0} → Net V → List V → ℕ → V
 value_at net values n = slice_index_or values n (net.first n)
+
+-- each value of the list has the flow's size
+abbrev pub AreOfSize : {V : Type 0} → (V → ℕ) → Net V → List V → Type 0
+AreOfSize size net values = (n : ℕ) → n < net.nodes → size (value_at net values n) ≡ net.size
+
+-- the values of the list are the least solution
+abbrev pub HoldsLeast : {V : Type 0} → (V → V → Type 0) → Net V → List V → Type 0
+HoldsLeast below net values = IsLeastSolution below net (value_at net values)
 
 -- one value for each node, and it is the first one
 pub record HoldsFirst {V : Type 0} (net : Net V) (values : List V) : Type 0 where

@@ -1,4 +1,4 @@
--- What holds while the solver runs, and how much it may still do.
+-- What holds while the solver runs, and how much it may still do. Cited by contracts.
 use Rattle.std.specs.Prelude.{◌≡◌, ℕ, suc, zero, ◌+◌, ◌-◌, ◌*◌, ◌<◌, Bool, false, if◌then◌else◌, List, length, slice_set, ◌↔◌}
 use Rattle.node_list.specs.Lists.{Lists}
 use Rattle.fix_solve.specs.Order.{IsLeastUpper}
@@ -31,12 +31,17 @@ pub record Working {V : Type 0} (below : V → V → Type 0) (net : Net V) (valu
 abbrev pub AllDone : ℕ → Type 0
 AllDone _ = Unit {0}
 
+-- the edges of this node are left to do, all of them
+abbrev pub AllDoneBut : {V : Type 0} → Net V → ℕ → ℕ → Type 0
+AllDoneBut net node e = net.source e ≡ node → e < net.start node
+
 -- what a push along an edge leaves, and whether it changed the target
 pub record Pushed {V : Type 0} (below : V → V → Type 0) (net : Net V) (number : ℕ) (before after : List V) (changes : Bool) : Type 0 where
   pub joined : IsLeastUpper below (value_at net before (net.target number)) (net.transfer number (value_at net before (net.source number))) (value_at net after (net.target number))
   pub others : after ≡ slice_set before (net.target number) (value_at net after (net.target number))
   pub unchanged : (changes ≡ false) ↔ (value_at net after (net.target number) ≡ value_at net before (net.target number))
 
+-- the sum of the first values of a function
 unfoldable pub sum_below : (ℕ → ℕ) → ℕ → ℕ
 sum_below f zero = zero
 sum_below f (suc n) = sum_below f n + f n

@@ -1,7 +1,7 @@
-// What is solved: values with an order, and how they flow.
+// What is solved: values with an order, and how they flow along edges.
 ghost use Rattle.std.specs.Prelude.{◌≡◌, ℕ, ◌+◌, ◌<◌, ◌↔◌, false, IfOk};
 ghost use Rattle.fix_solve.specs.Order.{OrderLaws, IsLeastUpper};
-ghost use Rattle.fix_solve.specs.Net.{Net, NetLaws};
+ghost use Rattle.fix_solve.specs.Net.{Joins, JoinsItself, Net, NetLaws};
 
 use crate::{Memory, Steps};
 use std::alloc::Global;
@@ -15,7 +15,7 @@ pub trait Lattice {
 
     ghost rank: { Self → ℕ };
 
-    /// Leaves the least upper bound of the two values, and answers whether this one changed. It takes no memory.
+    /// Leaves the least upper bound of the two values, and answers whether this one changed. It does not allocate.
     fn join_from(&mut self, other: &Self) -> bool
         requires { size self.old ≡ size other.now }
         ensures joined { IsLeastUpper below self.old other.now self.new }
@@ -25,7 +25,7 @@ pub trait Lattice {
 }
 
 /// Values at nodes numbered from 0, and a transfer along each edge. Edges are numbered from 0 by their sources, so the
-/// edges of one node have numbers in a row.
+/// edges of one node have consecutive numbers.
 pub trait Flow {
     type Value: Lattice + Drop;
 
@@ -38,60 +38,62 @@ pub trait Flow {
     /// The flow as contracts see it.
     ghost net: { Self → Net Self.Value };
 
-    /// How many nodes there are. It takes no memory.
+    /// How many nodes there are. It does not allocate.
     fn nodes(&self) -> usize
         requires { valid self.now }
         ensures { result ≡ (net self.now).nodes };
 
-    /// How many edges there are. It takes no memory.
+    /// How many edges there are. It does not allocate.
     fn edges(&self) -> usize
         requires { valid self.now }
         ensures { result ≡ (net self.now).edges };
 
-    /// An edge's source and target. It takes no memory.
+    /// An edge's source and target. It does not allocate.
     fn edge(&self, number: usize) -> (usize, usize)
         requires valid { valid self.now }
         requires in_range { number < (net self.now).edges }
         ensures source { result.0 ≡ (net self.now).source number }
         ensures target { result.1 ≡ (net self.now).target number };
 
-    /// The first number of a node's edges, and the number past the last. It takes no memory.
+    /// The first number of a node's edges, and the number past the last. It does not allocate.
     fn out(&self, node: usize) -> (usize, usize)
         requires valid { valid self.now }
         requires in_range { node < (net self.now).nodes }
         ensures start { result.0 ≡ (net self.now).start node }
         ensures stop { result.1 ≡ (net self.now).stop node };
 
-    /// A bound on the ranks of all values of this flow. It takes no memory.
+    /// A bound on the ranks of all values of this flow. It does not allocate.
     fn height(&self) -> u64
         requires { valid self.now }
         ensures { result ≡ (net self.now).height };
 
-    /// The value that a node begins with. Its only refusal is want of memory.
+    /// The value that a node begins with. It fails only with `Memory`.
     fn first(&self, alloc: Global, node: usize) -> Result<Self::Value, Memory>
         requires valid { valid self.now }
         requires in_range { node < (net self.now).nodes }
         ensures { IfOk result (λ value. value ≡ (net self.now).first node) };
 
-    /// Replaces `into` by its least upper bound with the transfer of `from` along an edge, answers whether `into`
-    /// changed, and adds one to the counter. It takes no memory.
+    /// Replaces `into` by its least upper bound with the transfer of `from` along the edge of this number and target,
+    /// answers whether `into` changed, and adds one to the counter. It does not allocate.
     fn push(
         &self,
         number: usize,
+        target: usize,
         from: &Self::Value,
         into: &mut Self::Value,
         steps: &mut Steps<Self::Ledger>,
     ) -> bool
         requires valid { valid self.now }
         requires in_range { number < (net self.now).edges }
+        requires target { target ≡ (net self.now).target number }
         requires from_size { Self.Value.size from.now ≡ (net self.now).size }
         requires into_size { Self.Value.size into.old ≡ (net self.now).size }
-        ensures joined { IsLeastUpper Self.Value.below into.old ((net self.now).transfer number from.now) into.new }
+        ensures joined { Joins Self.Value.below (net self.now) number from.now into.old into.new }
         ensures unchanged { (result ≡ false) ↔ (into.new ≡ into.old) }
         ensures counted { steps.new ≡ steps.old + 1 };
 
-    /// The same along an edge from a node to itself, where `from` and `into` would be one value: the transfer is that
-    /// of the value as it was. It takes no memory.
+    /// `push` along an edge from a node to itself, where `from` and `into` would be one value: what is joined is the
+    /// transfer of the value as it was. It does not allocate.
     fn push_self(
         &self,
         number: usize,
@@ -101,9 +103,10 @@ pub trait Flow {
         requires valid { valid self.now }
         requires in_range { number < (net self.now).edges }
         requires size { Self.Value.size value.old ≡ (net self.now).size }
-        ensures joined { IsLeastUpper Self.Value.below value.old ((net self.now).transfer number value.old) value.new }
+        ensures joined { JoinsItself Self.Value.below (net self.now) number value.old value.new }
         ensures unchanged { (result ≡ false) ↔ (value.new ≡ value.old) }
         ensures counted { steps.new ≡ steps.old + 1 };
 
-    ghost laws: { (f : Self) → valid f → NetLaws Self.Value.below Self.Value.size Self.Value.rank (net f) };
+    ghost laws: { (f : Self) → valid f
+        → NetLaws Self.Value.below Self.Value.size Self.Value.rank (net f) };
 }

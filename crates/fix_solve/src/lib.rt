@@ -1,22 +1,20 @@
 //! A solver for flows over numbered nodes and edges. In go a value for each node and a transfer along each edge; out
 //! come the least values that lie above the first one at each node and above the transfer along each edge.
 //!
-//! The theorem that this crate carries is the contract of `solve`: for every lawful lattice and flow it leaves the least
-//! solution, takes no memory, and makes at most as many pushes as there are edges, for each rank of a value and one
-//! more.
+//! The theorem that this crate carries is the contract of `solve`: for every lawful lattice and flow it leaves the
+//! least solution, does not allocate, and makes at most as many pushes as there are edges, for each rank of a value and
+//! one more.
 #![tactic(auto)]
 
 mod laws;
 mod order;
 mod pushes;
 mod steps;
-#[cfg(test)]
-mod tests;
 mod work;
 
 pub use laws::{Flow, Lattice};
 pub use steps::Steps;
 pub use work::{Work, solve};
 
-/// Want of memory: the allocator refused.
+/// The allocator refused.
 pub type Memory = std::alloc::AllocError;

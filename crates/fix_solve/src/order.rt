@@ -1,12 +1,50 @@
 // The order in which the nodes are first visited: what leads to a node mostly stands before it.
 ghost use Rattle.std.specs.Prelude.{◌≡◌, ℕ, ◌<◌, IfOk, IfSome, OnOk, length};
 ghost use Rattle.fix_solve.specs.Net.{Net};
-ghost use Rattle.fix_solve.specs.Walks.{AreNodes, IsWalk};
+ghost use Rattle.fix_solve.specs.Walks.{AreNodes, WalksOver};
 
 use crate::{Flow, Memory};
 use std::alloc::Global;
 
-/// Whether most edges lead to a node with a lower number, as those of a flow against the order of a program do.
+/// A walk over all edges, depth first. The edges that it takes from a node are chained in ascending order: `heads` has
+/// the next one of each node, and `nexts` the one after each edge; a chain ends with a number past the last edge.
+#[derive(Drop)]
+struct Walk {
+    heads: Vec<usize>,
+    nexts: Vec<usize>,
+    seen: Vec<bool>,
+    stack: Vec<usize>,
+    order: Vec<usize>,
+}
+
+/// The nodes in reverse postorder of the edges, or, where most edges lead down, in postorder of the reversed edges:
+/// each node after those that lead to it, but along the edges that close a loop.
+pub(crate) fn order_of<F: Flow>(alloc: Global, flow: &F) -> Result<Vec<usize>, Memory>
+    requires { F.valid flow.now }
+    ensures { IfOk result (λ order. AreNodes (F.net flow.now).nodes order.items) }
+{
+    let nodes = flow.nodes();
+    let turned = leads_down(flow);
+    let mut walk = begun(alloc, flow, turned)?;
+    let mut root = 0;
+    // Each turn takes an edge, puts a node at the end of the order, or comes to a root.
+    let turns = flow.edges().saturating_add(nodes).saturating_add(nodes);
+    for _turn in 0..turns {
+        if let Some(node) = walk.stack.pop() {
+            go_on(&mut walk, flow, turned, node)?;
+        } else if root < nodes {
+            see(&mut walk, flow, root)?;
+            root += 1;
+        }
+    }
+    let mut order = walk.order;
+    if !turned {
+        order.reverse();
+    }
+    Ok(order)
+}
+
+/// Whether most edges lead to a node with a lower number, as those of a flow against the edges of a program do.
 fn leads_down<F: Flow>(flow: &F) -> bool
     requires { F.valid flow.now }
 {
@@ -21,21 +59,10 @@ fn leads_down<F: Flow>(flow: &F) -> bool
     edges - down < down
 }
 
-/// A walk over all edges, depth first. The edges that it takes from a node are chained in ascending order: `heads` has
-/// the next one of each node, and `nexts` the one after each edge; a chain ends with a number past the last edge.
-#[derive(Drop)]
-struct Walk {
-    heads: Vec<usize>,
-    nexts: Vec<usize>,
-    seen: Vec<bool>,
-    stack: Vec<usize>,
-    order: Vec<usize>,
-}
-
-/// Nothing is seen yet. The edges are walked from source to target, or turned round.
+/// A walk in which nothing is seen yet. The edges are walked from source to target, or reversed.
 fn begun<F: Flow>(alloc: Global, flow: &F, turned: bool) -> Result<Walk, Memory>
     requires { F.valid flow.now }
-    ensures { IfOk result (λ walk. IsWalk (F.net flow.now).nodes (F.net flow.now).edges walk.heads.items walk.nexts.items walk.seen.items walk.stack.items walk.order.items) }
+    ensures { IfOk result (λ walk. WalksOver (F.net flow.now) walk) }
 {
     let nodes = flow.nodes();
     let edges = flow.edges();
@@ -57,6 +84,27 @@ fn begun<F: Flow>(alloc: Global, flow: &F, turned: bool) -> Result<Walk, Memory>
     })
 }
 
+/// Goes on from the node at the top of the stack: along its next edge, to a node that was not seen, or else back from
+/// the node, which is put at the end of the order.
+fn go_on<F: Flow>(walk: &mut Walk, flow: &F, turned: bool, node: usize) -> Result<(), Memory>
+    requires valid { F.valid flow.now }
+    requires in_range { node < (F.net flow.now).nodes }
+    requires walk { WalksOver (F.net flow.now) walk.old }
+    ensures walk { OnOk result (WalksOver (F.net flow.now) walk.new) }
+{
+    match next_edge(&mut walk.heads, &walk.nexts, node) {
+        Some(number) => {
+            walk.stack.push(node)?;
+            let next = end_of(flow, number, turned);
+            see(walk, flow, next)
+        }
+        None => {
+            walk.order.push(node)?;
+            Ok(())
+        }
+    }
+}
+
 /// Takes the next edge of a node off its chain.
 fn next_edge(heads: &mut [usize], nexts: &[usize], node: usize) -> Option<usize>
     requires { node < length heads.old }
@@ -72,7 +120,7 @@ fn next_edge(heads: &mut [usize], nexts: &[usize], node: usize) -> Option<usize>
     }
 }
 
-/// The node that an edge leads to, or, turned round, that it comes from.
+/// The node that an edge leads to, or, reversed, that it comes from.
 fn end_of<F: Flow>(flow: &F, number: usize, turned: bool) -> usize
     requires valid { F.valid flow.now }
     requires in_range { number < (F.net flow.now).edges }
@@ -82,63 +130,15 @@ fn end_of<F: Flow>(flow: &F, number: usize, turned: bool) -> usize
     if turned { source } else { target }
 }
 
-/// Goes on from the node at the top of the stack: along its next edge, to a node that was not seen, or else back from
-/// the node, which is put down.
-fn go_on<F: Flow>(walk: &mut Walk, flow: &F, turned: bool, node: usize) -> Result<(), Memory>
-    requires valid { F.valid flow.now }
-    requires in_range { node < (F.net flow.now).nodes }
-    requires walk { IsWalk (F.net flow.now).nodes (F.net flow.now).edges walk.old.heads.items walk.old.nexts.items walk.old.seen.items walk.old.stack.items walk.old.order.items }
-    ensures walk { OnOk result (IsWalk (F.net flow.now).nodes (F.net flow.now).edges walk.new.heads.items walk.new.nexts.items walk.new.seen.items walk.new.stack.items walk.new.order.items) }
-{
-    match next_edge(&mut walk.heads, &walk.nexts, node) {
-        Some(number) => {
-            walk.stack.push(node)?;
-            let next = end_of(flow, number, turned);
-            see(walk, flow, next)
-        }
-        None => {
-            walk.order.push(node)?;
-            Ok(())
-        }
-    }
-}
-
 /// Puts a node on the stack if it was not seen.
 fn see<F: Flow>(walk: &mut Walk, flow: &F, node: usize) -> Result<(), Memory>
     requires in_range { node < (F.net flow.now).nodes }
-    requires walk { IsWalk (F.net flow.now).nodes (F.net flow.now).edges walk.old.heads.items walk.old.nexts.items walk.old.seen.items walk.old.stack.items walk.old.order.items }
-    ensures walk { OnOk result (IsWalk (F.net flow.now).nodes (F.net flow.now).edges walk.new.heads.items walk.new.nexts.items walk.new.seen.items walk.new.stack.items walk.new.order.items) }
+    requires walk { WalksOver (F.net flow.now) walk.old }
+    ensures walk { OnOk result (WalksOver (F.net flow.now) walk.new) }
 {
     if !walk.seen[node] {
         walk.seen[node] = true;
         walk.stack.push(node)?;
     }
     Ok(())
-}
-
-/// The nodes in reverse postorder of the edges, or, where most edges lead down, in postorder of the edges turned round:
-/// each node after those that lead to it, but along the edges that close a loop.
-pub(crate) fn order_of<F: Flow>(alloc: Global, flow: &F) -> Result<Vec<usize>, Memory>
-    requires { F.valid flow.now }
-    ensures { IfOk result (λ order. AreNodes (F.net flow.now).nodes order.items) }
-{
-    let nodes = flow.nodes();
-    let turned = leads_down(flow);
-    let mut walk = begun(alloc, flow, turned)?;
-    let mut root = 0;
-    // Each turn takes an edge, puts a node down, or comes to a root.
-    let turns = flow.edges().saturating_add(nodes).saturating_add(nodes);
-    for _turn in 0..turns {
-        if let Some(node) = walk.stack.pop() {
-            go_on(&mut walk, flow, turned, node)?;
-        } else if root < nodes {
-            see(&mut walk, flow, root)?;
-            root += 1;
-        }
-    }
-    let mut order = walk.order;
-    if !turned {
-        order.reverse();
-    }
-    Ok(order)
 }

@@ -1,4 +1,4 @@
-// A counter that takes no room and that only its own call can raise.
+// A counter that takes no memory and that only its own call can raise.
 ghost use Rattle.std.specs.Prelude.{◌≡◌, ℕ, ◌+◌, ◌<◌};
 
 use std::marker::Model;
@@ -21,7 +21,7 @@ impl<L: Ledger> Model for Steps<L> {
 }
 
 impl<L: Ledger> Steps<L> {
-    /// The counter of a blank ledger, at 0. It takes no memory.
+    /// The counter of a blank ledger, at 0. It does not allocate.
     pub fn new(blank: Blank) -> Self
         requires name { blank.name ≡ L.name }
         requires parts { blank.parts ≡ L.parts }
@@ -32,7 +32,7 @@ impl<L: Ledger> Steps<L> {
         Steps { book, share }
     }
 
-    /// Adds one. It takes no memory.
+    /// Adds one. It does not allocate.
     pub fn tick(&mut self)
         ensures { self.new ≡ self.old + 1 }
     {

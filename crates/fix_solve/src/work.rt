@@ -1,6 +1,6 @@
 // The values at the nodes, and the solver's call.
-ghost use Rattle.std.specs.Prelude.{◌≡◌, ℕ, ◌+◌, ◌*◌, ◌<◌, ◌≤◌, IfOk, length, slice_index_or};
-ghost use Rattle.fix_solve.specs.Net.{Net, value_at, HoldsFirst, IsLeastSolution};
+ghost use Rattle.std.specs.Prelude.{◌≡◌, ◌+◌, ◌<◌, ◌≤◌, IfOk, length, slice_index_or};
+ghost use Rattle.fix_solve.specs.Net.{AreOfSize, HoldsFirst, HoldsLeast, Net, most_pushes};
 
 use crate::order::order_of;
 use crate::pushes::{drain, enlist_all};
@@ -12,7 +12,7 @@ use std::marker::Model;
 /// A value for each node. Contracts see it as the list of these.
 ///
 /// It also holds the list of the nodes that wait for a visit, and the order in which they are first visited, so that
-/// the solver takes no memory.
+/// the solver does not allocate.
 #[derive(Drop)]
 pub struct Work<V: Lattice> {
     values: Vec<V>,
@@ -32,7 +32,7 @@ impl<V: Lattice> Model for Work<V> {
 }
 
 impl<V: Lattice + Drop> Work<V> {
-    /// Holds the first value of each node. Its only refusal is want of memory.
+    /// Holds the first value of each node. It fails only with `Memory`.
     pub fn new<F: Flow<Value = V>>(alloc: Global, flow: &F) -> Result<Self, Memory>
         requires { F.valid flow.now }
         ensures { IfOk result (λ work. HoldsFirst (F.net flow.now) work) }
@@ -51,7 +51,7 @@ impl<V: Lattice + Drop> Work<V> {
         })
     }
 
-    /// The value of a node. It takes no memory.
+    /// The value of a node. It does not allocate.
     pub fn value(&self, node: usize) -> &V
         requires { node < length self.now }
         ensures { result.now ≡ slice_index_or self.now node result.now }
@@ -63,15 +63,15 @@ impl<V: Lattice + Drop> Work<V> {
 /// Leaves the least values that lie above the first one at each node and above the transfer along each edge (the least
 /// solution), all of the flow's size. The work must hold the first value of each node, as `Work::new` leaves it.
 ///
-/// It takes no memory, and raises the counter by at most the number of edges for each rank of a value and one more. The
-/// counter rises by one with each push, and by nothing else.
+/// It does not allocate, and raises the counter by at most the number of edges for each rank of a value and one more.
+/// The counter rises by one with each push, and by nothing else.
 pub fn solve<F: Flow>(work: &mut Work<F::Value>, flow: &F, steps: &mut Steps<F::Ledger>)
     requires valid { F.valid flow.now }
     requires first { HoldsFirst (F.net flow.now) work.old }
     ensures len { length work.new ≡ (F.net flow.now).nodes }
-    ensures sizes { (n : ℕ) → n < (F.net flow.now).nodes → F.Value.size (value_at (F.net flow.now) work.new n) ≡ (F.net flow.now).size }
-    ensures least { IsLeastSolution F.Value.below (F.net flow.now) (value_at (F.net flow.now) work.new) }
-    ensures pushes { steps.new ≤ steps.old + (F.net flow.now).edges * ((F.net flow.now).height + 1) }
+    ensures sizes { AreOfSize F.Value.size (F.net flow.now) work.new }
+    ensures least { HoldsLeast F.Value.below (F.net flow.now) work.new }
+    ensures pushes { steps.new ≤ steps.old + most_pushes (F.net flow.now) }
     ensures counts { steps.old ≤ steps.new }
 {
     enlist_all(&mut work.waiting, &work.order, work.values.len());

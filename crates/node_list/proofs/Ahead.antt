@@ -1,28 +1,28 @@
 -- Where the link of a node in a list leads.
-use Rattle.std.proofs.Common.{◌≡◌, ℕ, zero, suc, ◌+◌, ◌<◌, ◌≤◌, cond, eqb, List, [], ◌∷◌, ◌++◌, length, get_or, slice_get, slice_index, Option, Some, None, MatchOption, ◌⊎◌, inl, inr, refl, sym, ap, ◌∙◌, arith, eq-eqb}
-use Rattle.std.proofs.lemmas.Bool.{cases_eq, cases_lt, ne_eqb}
+use Rattle.std.proofs.Common.{◌≡◌, ℕ, zero, suc, ◌+◌, ◌<◌, ◌≤◌, cond, eqb, List, [], ◌∷◌, ◌++◌, length, get_or, slice_get, Option, Some, None, MatchOption, ◌⊎◌, inl, inr, refl, sym, ap, ◌∙◌, arith, eq-eqb}
+use Rattle.std.proofs.lemmas.Bool.{cases_eq, ne_eqb}
 use Rattle.node_list.specs.Lists.{list_at, times_in, times, after_in, first_some, node_after}
 use Rattle.node_list.specs.Rings.{Along, HoldLinks}
-use Rattle.node_list.proofs.Counts.{times_in-cons_same, times_in-cons_other, times_in-le}
+use Rattle.node_list.proofs.Counts.{times_in_cons_same, times_in_cons_other, times_in_le}
 use Rattle.node_list.proofs.Keeps.{find_list}
-use Rattle.node_list.proofs.Writes.{lists_of, all_len, leads_first, leads_none}
+use Rattle.node_list.proofs.Writes.{lists_of, leads_first, leads_none}
 
 -- the link of a node leads to the number after it, or out of the list
 after_along : (next prev : ℕ → ℕ) (from : ℕ) (xs : List ℕ) (stop node : ℕ) → Along next prev from (xs ++ stop ∷ []) → 0 < times_in node xs → ((after_in node xs ≡ Some (next node)) × (0 < times_in (next node) xs)) ⊎ ((after_in node xs ≡ None) × (next node ≡ stop))
 after_along next prev from [] stop node a there = absurd (omega (arith, there))
 after_along next prev from (x ∷ []) stop node a there = elim (cases_eq x node) [
   | inl is ↦ inr (ap (λ b. cond b (slice_get {X = ℕ} [] 0) None) (eq-eqb x node is), ap next (sym is) ∙ a.2.0)
-  | inr differ ↦ let none = times_in-cons_other node x [] differ in absurd (omega (arith, there, none))
+  | inr differ ↦ let none = times_in_cons_other node x [] differ in absurd (omega (arith, there, none))
 ]
 after_along next prev from (x ∷ y ∷ xs) stop node a there = elim (cases_eq x node) [
   | inl is ↦
       let leads : next node ≡ y = ap next (sym is) ∙ a.2.0 in
       let one = ap {B = ℕ} (λ k. times_in k (x ∷ y ∷ xs)) leads in
-      let same = times_in-cons_same y xs in
+      let same = times_in_cons_same y xs in
       let here : times_in y (x ∷ y ∷ xs) ≡ cond (eqb x y) 1 0 + times_in y (y ∷ xs) = refl in
       inl (ap (λ b. cond b (slice_get (y ∷ xs) 0) (after_in node (y ∷ xs))) (eq-eqb x node is) ∙ ap Some (sym leads), omega (arith, one, same, here))
   | inr differ ↦
-      let fewer = times_in-cons_other node x (y ∷ xs) differ in
+      let fewer = times_in_cons_other node x (y ∷ xs) differ in
       let skip : after_in node (x ∷ y ∷ xs) ≡ after_in node (y ∷ xs) = ap (λ b. cond b (slice_get (y ∷ xs) 0) (after_in node (y ∷ xs))) (ne_eqb x node differ) in
       elim (after_along next prev x (y ∷ xs) stop node a.2 (omega (arith, there, fewer))) [
         | inl some ↦
@@ -38,10 +38,11 @@ after_absent node [] none = refl
 after_absent node (x ∷ xs) none = elim (cases_eq x node) [
   | inl is ↦ let one : times_in node (x ∷ xs) ≡ 1 + times_in node xs = ap (λ b. cond b 1 0 + times_in node xs) (eq-eqb x node is) in absurd (omega (arith, none, one))
   | inr differ ↦
-      let fewer = times_in-cons_other node x xs differ in
+      let fewer = times_in_cons_other node x xs differ in
       ap (λ b. cond b (slice_get xs 0) (after_in node xs)) (ne_eqb x node differ) ∙ after_absent node xs (omega (arith, none, fewer))
 ]
 
+-- nor in all lists
 none_after : (lists : List (List ℕ)) (node : ℕ) → times lists node ≡ 0 → node_after lists node ≡ None
 none_after [] node none = refl
 none_after (xs ∷ lists) node none =
@@ -57,7 +58,7 @@ after_there (xs ∷ lists) node zero within there once =
     or_none None = refl
     or_none (Some x) = refl
 after_there (xs ∷ lists) node (suc list) within there once =
-    let le = times_in-le lists list node in
+    let le = times_in_le lists list node in
     ap (λ o. first_some o (node_after lists node)) (after_absent node xs (omega (arith, there, once, le)))
     ∙ after_there lists node list (omega (arith, within)) there (omega (arith, once))
 
@@ -68,23 +69,26 @@ module _ (nodes count : ℕ) (next prev : List ℕ) (held : HoldLinks nodes coun
   abbrev link : ℕ → ℕ
   link k = get_or next k 0
 
+  -- a node that is listed: where its link leads
   found : (node : ℕ) → 0 < times lists node → ((node_after lists node ≡ Some (link node)) × (link node < nodes)) ⊎ ((node_after lists node ≡ None) × (nodes ≤ link node))
   found node there =
       let list = find_list lists node there in
       let is = after_there lists node list.0 list.1 list.2 (held.linked.once node) in
       elim (after_along link (λ k. get_or prev k 0) (nodes + list.0) (list_at lists list.0) (nodes + list.0) node (held.linked.rings list.0 list.1) list.2) [
         | inl some ↦
-            let le = times_in-le lists list.0 (link node) in
+            let le = times_in_le lists list.0 (link node) in
             inl (is ∙ some.0, held.linked.within (link node) (omega (arith, some.1, le)))
         | inr out ↦ inr (is ∙ out.0, omega (arith, out.1))
       ]
 
+  -- a link to a node is to the one after it, and a link past the nodes is from the last
   pub leads_after : (node : ℕ) → 0 < times lists node → link node < nodes → node_after lists node ≡ Some (link node)
   leads_after node there lt = elim (found node there) [ inl some ↦ some.0 | inr out ↦ absurd (omega (arith, out.1, lt)) ]
 
   pub leads_out : (node : ℕ) → 0 < times lists node → nodes ≤ link node → node_after lists node ≡ None
   leads_out node there le = elim (found node there) [ inl some ↦ absurd (omega (arith, some.1, le)) | inr out ↦ out.0 ]
 
+  -- the same of the first node of a list
   pub begins_with : (list : ℕ) → list < count → link (nodes + list) < nodes → slice_get (list_at lists list) 0 ≡ Some (link (nodes + list))
   begins_with list within lt =
       let r = leads_first nodes count next prev held list within lt in

@@ -1,7 +1,7 @@
 -- Links that lead along a list, with a number put in or taken out.
 use Rattle.std.proofs.Common.{◌≡◌, ◌≢◌, ℕ, zero, suc, ◌+◌, ◌<◌, ◌≤◌, cond, eqb, List, [], ◌∷◌, ◌++◌, length, refl, sym, ap, inl, inr, ◌⊎◌, arith, ◌∙◌, eq-eqb}
 use Rattle.std.proofs.lemmas.Bool.{cases_eq, ne_eqb, lt-ltb, le-ltb}
-use Rattle.node_list.specs.Lists.{times_in, put_before, without}
+use Rattle.node_list.specs.Lists.{times_in, inserted_before, without}
 use Rattle.node_list.specs.Rings.{Along, walk}
 
 -- the walk gives the list that the links lead along
@@ -33,14 +33,14 @@ along_moves next prev from (x ∷ y ∷ xs) stop n a self d h = elim (cases_eq x
 module _ (next prev next' prev' : ℕ → ℕ) (place before new : ℕ) (forward : next before ≡ place) (back : prev place ≡ before)
     (at_new : next' new ≡ place) (at_before : next' before ≡ new) (next_same : (k : ℕ) → k ≢ new → k ≢ before → next' k ≡ next k)
     (from_new : prev' new ≡ before) (from_place : prev' place ≡ new) (prev_same : (k : ℕ) → k ≢ new → k ≢ place → prev' k ≡ prev k) where
-  pub along_put : (from : ℕ) (xs : List ℕ) → from ≢ new → times_in new xs ≡ 0 → Along next prev from xs → Along next' prev' from (put_before place new xs)
+  pub along_put : (from : ℕ) (xs : List ℕ) → from ≢ new → times_in new xs ≡ 0 → Along next prev from xs → Along next' prev' from (inserted_before place new xs)
   along_put from [] d fresh a = tt
   along_put from (x ∷ xs) d fresh a =
-      elim (cases_eq x new) as (λ _. Along next' prev' from (cond (eqb x place) (new ∷ x ∷ put_before place new xs) (x ∷ put_before place new xs))) [
+      elim (cases_eq x new) as (λ _. Along next' prev' from (cond (eqb x place) (new ∷ x ∷ inserted_before place new xs) (x ∷ inserted_before place new xs))) [
         | inl same ↦ let one : times_in new (x ∷ xs) ≡ 1 + times_in new xs = rw (eq-eqb x new same) refl in absurd (omega arith)
         | inr other ↦
-            let rest : Along next' prev' x (put_before place new xs) = along_put x xs other (omega arith) a.2 in
-            elim (cases_eq x place) as (λ _. Along next' prev' from (cond (eqb x place) (new ∷ x ∷ put_before place new xs) (x ∷ put_before place new xs))) [
+            let rest : Along next' prev' x (inserted_before place new xs) = along_put x xs other (omega arith) a.2 in
+            elim (cases_eq x place) as (λ _. Along next' prev' from (cond (eqb x place) (new ∷ x ∷ inserted_before place new xs) (x ∷ inserted_before place new xs))) [
               | inl here ↦
                   let from_is : before ≡ from = sym back ∙ ap prev (sym here) ∙ a.1 in
                   rw (eq-eqb x place here) (ap next' (sym from_is) ∙ at_before, from_new ∙ from_is, (at_new ∙ sym here, ap prev' here ∙ from_place, rest))

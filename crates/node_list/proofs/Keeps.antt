@@ -1,12 +1,43 @@
--- The links keep leading along lists, as a node is put in or taken out.
+-- The links keep leading along lists, as a node is put in (`puts`) or taken out (`cuts`). Each changes the links of two numbers;
+-- first what that leaves true of all links, then what the walk along them gives, then the two calls.
 use Rattle.std.proofs.Common.{◌≡◌, ◌≢◌, ℕ, suc, ◌+◌, ◌<◌, ◌≤◌, List, [], ◌∷◌, ◌++◌, length, map, refl, sym, ap, inl, inr, arith, ◌∙◌}
 use Rattle.std.proofs.lemmas.Bool.{cases_eq, cases_lt, ne_eqb}
 use Rattle.std.proofs.lemmas.List.{ext_get_or, get_or-map, length-map}
 use Rattle.std.proofs.lemmas.List.FromFn.{length-map-range_with_len, get_or-map-range_with_len}
-use Rattle.node_list.specs.Lists.{list_at, times_in, times, put_before, without}
-use Rattle.node_list.specs.Rings.{Along, walk, lists_along, IsLinked}
-use Rattle.node_list.proofs.Counts.{times_in-le, times_in-append, times-map, times-map_without, times_in-without_other, without-append, without_none, length-le}
+use Rattle.node_list.specs.Lists.{list_at, times_in, times, inserted_before, without}
+use Rattle.node_list.specs.Rings.{Along, walk, lists_along, AreRings}
+use Rattle.node_list.proofs.Counts.{times_in_le, times_in_append, times_map, times_map_without, times_in_without_other, without_append, without_none, length_le}
 use Rattle.node_list.proofs.Along.{walk_along, along_moves, along_put, along_cut}
+
+-- ---- links that change at two numbers
+
+-- they stay in range
+two_in : (f f' : ℕ → ℕ) (total a b : ℕ) → f' a < total → f' b < total → ((k : ℕ) → k ≢ a → k ≢ b → f' k ≡ f k) → ((k : ℕ) → k < total → f k < total)
+    → (k : ℕ) → k < total → f' k < total
+two_in f f' total a b at_a at_b same within k h = elim (cases_eq k a) as (λ _. f' k < total) [
+  | inl e ↦ rw e at_a
+  | inr d ↦ elim (cases_eq k b) as (λ _. f' k < total) [
+    | inl e ↦ rw e at_b
+    | inr d' ↦ rw (same k d d') (within k h)
+  ]
+]
+
+-- they still lead forth and back
+two_back : (f f' g g' : ℕ → ℕ) (total a b : ℕ) → f' (g' a) ≡ a → f' (g' b) ≡ b → ((k : ℕ) → k ≢ a → k ≢ b → g' k ≡ g k)
+    → ((k : ℕ) → k < total → k ≢ a → k ≢ b → f' (g k) ≡ f (g k)) → ((k : ℕ) → k < total → f (g k) ≡ k) → (k : ℕ) → k < total → f' (g' k) ≡ k
+two_back f f' g g' total a b at_a at_b same onward back k h = elim (cases_eq k a) as (λ _. f' (g' k) ≡ k) [
+  | inl e ↦ rw e at_a
+  | inr d ↦ elim (cases_eq k b) as (λ _. f' (g' k) ≡ k) [
+    | inl e ↦ rw e at_b
+    | inr d' ↦ rw (same k d d') (onward k h d d' ∙ back k h)
+  ]
+]
+
+-- a list of one element has no other
+times_in_single : (n x : ℕ) → x ≢ n → times_in n (x ∷ []) ≡ 0
+times_in_single n x d = rw (ne_eqb x n d) refl
+
+-- ---- lists that the links lead along
 
 -- the list in which a node stands
 pub find_list : (lists : List (List ℕ)) (n : ℕ) → 0 < times lists n → (list : ℕ) × (list < length lists) × (0 < times_in n (list_at lists list))
@@ -18,19 +49,20 @@ find_list (xs ∷ lists) n h = elim (cases_lt 0 (times_in n xs)) as (λ _. (list
       (suc there.0, (let l : there.0 < length lists = there.1 in omega arith), there.2)
 ]
 
-module _ (nodes : ℕ) (lists : List (List ℕ)) (next prev : ℕ → ℕ) (linked : IsLinked nodes lists next prev) where
+module _ (nodes : ℕ) (lists : List (List ℕ)) (next prev : ℕ → ℕ) (linked : AreRings nodes lists next prev) where
   list_within : (list n : ℕ) → 0 < times_in n (list_at lists list) → n < nodes
-  list_within list n h = let le : times_in n (list_at lists list) ≤ times lists n = times_in-le lists list n in linked.within n (omega arith)
+  list_within list n h = let le : times_in n (list_at lists list) ≤ times lists n = times_in_le lists list n in linked.within n (omega arith)
 
   list_once : (list n : ℕ) → times_in n (list_at lists list) ≤ 1
-  list_once list n = let le : times_in n (list_at lists list) ≤ times lists n = times_in-le lists list n in let one : times lists n ≤ 1 = linked.once n in omega arith
+  list_once list n = let le : times_in n (list_at lists list) ≤ times lists n = times_in_le lists list n in let one : times lists n ≤ 1 = linked.once n in omega arith
 
   -- a list is what the walk from its number gives
   pub walked : (list : ℕ) → list < length lists → walk next nodes nodes (next (nodes + list)) ≡ list_at lists list
   walked list h =
       walk_along next prev nodes nodes (nodes + list) (list_at lists list) (nodes + list) (linked.rings list h) (omega arith) (list_within list)
-      (length-le nodes (list_at lists list) (list_within list) (list_once list))
+      (length_le nodes (list_at lists list) (list_within list) (list_once list))
 
+  -- all lists are what the walks give
   pub lists_are : lists_along nodes (length lists) next ≡ lists
   lists_are =
       let f : ℕ → List ℕ = λ list. walk next nodes nodes (next (nodes + list)) in
@@ -48,12 +80,12 @@ module _ (nodes : ℕ) (lists : List (List ℕ)) (next prev : ℕ → ℕ) (link
       let one : times_in n (list_at lists place.0) ≤ 1 = list_once place.0 n in
       absurd (omega arith)
 
-  -- a new node is linked in before a place, and stands then in the lists before it
+  -- ---- a new node is linked in before a place, and stands then in the lists before it
   module _ (next' prev' : ℕ → ℕ) (place new : ℕ) (place_in : place < nodes + length lists) (new_in : new < nodes) (fresh : times lists new ≡ 0) (apart : place ≢ new) (firm : place < nodes → 0 < times lists place)
       (at_new : next' new ≡ place) (at_before : next' (prev place) ≡ new) (next_same : (k : ℕ) → k ≢ new → k ≢ prev place → next' k ≡ next k)
       (from_new : prev' new ≡ prev place) (from_place : prev' place ≡ new) (prev_same : (k : ℕ) → k ≢ new → k ≢ place → prev' k ≡ prev k)
       (lists' : List (List ℕ)) (len : length lists' ≡ length lists)
-      (put : (list : ℕ) → list < length lists → put_before place new (list_at lists list ++ (nodes + list) ∷ []) ≡ list_at lists' list ++ (nodes + list) ∷ [])
+      (put : (list : ℕ) → list < length lists → inserted_before place new (list_at lists list ++ (nodes + list) ∷ []) ≡ list_at lists' list ++ (nodes + list) ∷ [])
       (here : times lists' new ≡ 1) (others : (n : ℕ) → n ≢ new → times lists' n ≡ times lists n) where
     self : next new ≡ new
     self = linked.loose new new_in fresh
@@ -68,59 +100,30 @@ module _ (nodes : ℕ) (lists : List (List ℕ)) (next prev : ℕ → ℕ) (link
     forward = linked.back place place_in
 
     put_next_in : (k : ℕ) → k < nodes + length lists → next' k < nodes + length lists
-    put_next_in k h = elim (cases_eq k new) as (λ _. next' k < nodes + length lists) [
-      | inl e ↦ rw (e, at_new) place_in
-      | inr d ↦ elim (cases_eq k (prev place)) as (λ _. next' k < nodes + length lists) [
-        | inl e ↦ rw (e, at_before) (omega arith)
-        | inr d' ↦ rw (next_same k d d') (linked.next_in k h)
-      ]
-    ]
+    put_next_in = two_in next next' (nodes + length lists) new (prev place) (rw at_new place_in) (rw at_before (omega arith)) next_same linked.next_in
 
     put_prev_in : (k : ℕ) → k < nodes + length lists → prev' k < nodes + length lists
-    put_prev_in k h = elim (cases_eq k new) as (λ _. prev' k < nodes + length lists) [
-      | inl e ↦ rw (e, from_new) (linked.prev_in place place_in)
-      | inr d ↦ elim (cases_eq k place) as (λ _. prev' k < nodes + length lists) [
-        | inl e ↦ rw (e, from_place) (omega arith)
-        | inr d' ↦ rw (prev_same k d d') (linked.prev_in k h)
-      ]
-    ]
+    put_prev_in = two_in prev prev' (nodes + length lists) new place (rw from_new (linked.prev_in place place_in)) (rw from_place (omega arith)) prev_same linked.prev_in
 
     put_back : (k : ℕ) → k < nodes + length lists → next' (prev' k) ≡ k
-    put_back k h = elim (cases_eq k new) as (λ _. next' (prev' k) ≡ k) [
-      | inl e ↦ rw (e, from_new) at_before
-      | inr d ↦ elim (cases_eq k place) as (λ _. next' (prev' k) ≡ k) [
-        | inl e ↦ rw (e, from_place) at_new
-        | inr d' ↦
-            rw (prev_same k d d')
-            (next_same (prev k) (λ s. d (sym (linked.back k h) ∙ ap next s ∙ self)) (λ s. d' (sym (linked.back k h) ∙ ap next s ∙ forward)) ∙ linked.back k h)
-      ]
-    ]
+    put_back = two_back next next' prev prev' (nodes + length lists) new place (rw from_new at_before) (rw from_place at_new) prev_same
+        (λ k h d d'. next_same (prev k) (λ s. d (sym (linked.back k h) ∙ ap next s ∙ self)) (λ s. d' (sym (linked.back k h) ∙ ap next s ∙ forward))) linked.back
 
     put_forth : (k : ℕ) → k < nodes + length lists → prev' (next' k) ≡ k
-    put_forth k h = elim (cases_eq k new) as (λ _. prev' (next' k) ≡ k) [
-      | inl e ↦ rw (e, at_new) from_place
-      | inr d ↦ elim (cases_eq k (prev place)) as (λ _. prev' (next' k) ≡ k) [
-        | inl e ↦ rw (e, at_before) from_new
-        | inr d' ↦
-            rw (next_same k d d')
-            (prev_same (next k) (λ s. d (sym (linked.forth k h) ∙ ap prev s ∙ self_back)) (λ s. d' (sym (linked.forth k h) ∙ ap prev s)) ∙ linked.forth k h)
-      ]
-    ]
+    put_forth = two_back prev prev' next next' (nodes + length lists) new (prev place) (rw at_new from_place) (rw at_before from_new) next_same
+        (λ k h d d'. prev_same (next k) (λ s. d (sym (linked.forth k h) ∙ ap prev s ∙ self_back)) (λ s. d' (sym (linked.forth k h) ∙ ap prev s))) linked.forth
 
     put_rings : (list : ℕ) → list < length lists → Along next' prev' (nodes + list) (list_at lists' list ++ (nodes + list) ∷ [])
     put_rings list h =
         let stop_apart : nodes + list ≢ new = λ s. let s' : nodes + list ≡ new = s in absurd (omega arith) in
-        let none : times_in new (list_at lists list) ≤ times lists new = times_in-le lists list new in
-        let all : times_in new (list_at lists list ++ (nodes + list) ∷ []) ≡ times_in new (list_at lists list) + times_in new ((nodes + list) ∷ []) = times_in-append new (list_at lists list) ((nodes + list) ∷ []) in
+        let none : times_in new (list_at lists list) ≤ times lists new = times_in_le lists list new in
+        let all : times_in new (list_at lists list ++ (nodes + list) ∷ []) ≡ times_in new (list_at lists list) + times_in new ((nodes + list) ∷ []) = times_in_append new (list_at lists list) ((nodes + list) ∷ []) in
         let last : times_in new ((nodes + list) ∷ []) ≡ 0 = times_in_single new (nodes + list) stop_apart in
-        let ring : Along next' prev' (nodes + list) (put_before place new (list_at lists list ++ (nodes + list) ∷ [])) =
+        let ring : Along next' prev' (nodes + list) (inserted_before place new (list_at lists list ++ (nodes + list) ∷ [])) =
         along_put next prev next' prev' place (prev place) new forward refl at_new at_before next_same from_new from_place prev_same (nodes + list) _ stop_apart (omega arith) (linked.rings list h) in
         rw (put list h) at ring
-      where
-        times_in_single : (n x : ℕ) → x ≢ n → times_in n (x ∷ []) ≡ 0
-        times_in_single n x d = rw (ne_eqb x n d) refl
 
-    pub puts : IsLinked nodes lists' next' prev'
+    pub puts : AreRings nodes lists' next' prev'
     puts = record {
       next_in = λ k h. rw len (put_next_in k (rw len at h));
       prev_in = λ k h. rw len (put_prev_in k (rw len at h));
@@ -151,7 +154,7 @@ module _ (nodes : ℕ) (lists : List (List ℕ)) (next prev : ℕ → ℕ) (link
             let none' : times lists place ≡ 0 = rw is at none in
             omega arith
 
-  -- a node is linked out
+  -- ---- a node is linked out
   module _ (next' prev' : ℕ → ℕ) (node : ℕ) (listed : 0 < times lists node)
       (at_node : next' node ≡ node) (at_before : next' (prev node) ≡ next node) (next_same : (k : ℕ) → k ≢ node → k ≢ prev node → next' k ≡ next k)
       (from_node : prev' node ≡ node) (from_after : prev' (next node) ≡ prev node) (prev_same : (k : ℕ) → k ≢ node → k ≢ next node → prev' k ≡ prev k) where
@@ -168,44 +171,18 @@ module _ (nodes : ℕ) (lists : List (List ℕ)) (next prev : ℕ → ℕ) (link
     off = linked.forth node in_all
 
     cut_next_in : (k : ℕ) → k < nodes + length lists → next' k < nodes + length lists
-    cut_next_in k h = elim (cases_eq k node) as (λ _. next' k < nodes + length lists) [
-      | inl e ↦ rw (e, at_node) in_all
-      | inr d ↦ elim (cases_eq k (prev node)) as (λ _. next' k < nodes + length lists) [
-        | inl e ↦ rw (e, at_before) (linked.next_in node in_all)
-        | inr d' ↦ rw (next_same k d d') (linked.next_in k h)
-      ]
-    ]
+    cut_next_in = two_in next next' (nodes + length lists) node (prev node) (rw at_node in_all) (rw at_before (linked.next_in node in_all)) next_same linked.next_in
 
     cut_prev_in : (k : ℕ) → k < nodes + length lists → prev' k < nodes + length lists
-    cut_prev_in k h = elim (cases_eq k node) as (λ _. prev' k < nodes + length lists) [
-      | inl e ↦ rw (e, from_node) in_all
-      | inr d ↦ elim (cases_eq k (next node)) as (λ _. prev' k < nodes + length lists) [
-        | inl e ↦ rw (e, from_after) (linked.prev_in node in_all)
-        | inr d' ↦ rw (prev_same k d d') (linked.prev_in k h)
-      ]
-    ]
+    cut_prev_in = two_in prev prev' (nodes + length lists) node (next node) (rw from_node in_all) (rw from_after (linked.prev_in node in_all)) prev_same linked.prev_in
 
     cut_back : (k : ℕ) → k < nodes + length lists → next' (prev' k) ≡ k
-    cut_back k h = elim (cases_eq k node) as (λ _. next' (prev' k) ≡ k) [
-      | inl e ↦ rw (e, from_node) at_node
-      | inr d ↦ elim (cases_eq k (next node)) as (λ _. next' (prev' k) ≡ k) [
-        | inl e ↦ rw (e, from_after) at_before
-        | inr d' ↦
-            rw (prev_same k d d')
-            (next_same (prev k) (λ s. d' (sym (linked.back k h) ∙ ap next s)) (λ s. d (sym (linked.back k h) ∙ ap next s ∙ onto)) ∙ linked.back k h)
-      ]
-    ]
+    cut_back = two_back next next' prev prev' (nodes + length lists) node (next node) (rw from_node at_node) (rw from_after at_before) prev_same
+        (λ k h d d'. next_same (prev k) (λ s. d' (sym (linked.back k h) ∙ ap next s)) (λ s. d (sym (linked.back k h) ∙ ap next s ∙ onto))) linked.back
 
     cut_forth : (k : ℕ) → k < nodes + length lists → prev' (next' k) ≡ k
-    cut_forth k h = elim (cases_eq k node) as (λ _. prev' (next' k) ≡ k) [
-      | inl e ↦ rw (e, at_node) from_node
-      | inr d ↦ elim (cases_eq k (prev node)) as (λ _. prev' (next' k) ≡ k) [
-        | inl e ↦ rw (e, at_before) from_after
-        | inr d' ↦
-            rw (next_same k d d')
-            (prev_same (next k) (λ s. d' (sym (linked.forth k h) ∙ ap prev s)) (λ s. d (sym (linked.forth k h) ∙ ap prev s ∙ off)) ∙ linked.forth k h)
-      ]
-    ]
+    cut_forth = two_back prev prev' next next' (nodes + length lists) node (prev node) (rw at_node from_node) (rw at_before from_after) next_same
+        (λ k h d d'. prev_same (next k) (λ s. d' (sym (linked.forth k h) ∙ ap prev s)) (λ s. d (sym (linked.forth k h) ∙ ap prev s ∙ off))) linked.forth
 
     cut_rings : (list : ℕ) → list < length lists → Along next' prev' (nodes + list) (list_at (map (without node) lists) list ++ (nodes + list) ∷ [])
     cut_rings list h =
@@ -213,12 +190,9 @@ module _ (nodes : ℕ) (lists : List (List ℕ)) (next prev : ℕ → ℕ) (link
         let ring : Along next' prev' (nodes + list) (without node (list_at lists list ++ (nodes + list) ∷ [])) =
         along_cut next prev next' prev' node (prev node) (next node) onto refl refl off (moves node listed) at_before next_same from_after prev_same (nodes + list) _ stop_apart (linked.rings list h) in
         rw (get_or-map (without node) lists list [] [] h)
-        (rw (without-append node (list_at lists list) ((nodes + list) ∷ []), without_none node ((nodes + list) ∷ []) (times_in_single node (nodes + list) stop_apart)) at ring)
-      where
-        times_in_single : (n x : ℕ) → x ≢ n → times_in n (x ∷ []) ≡ 0
-        times_in_single n x d = rw (ne_eqb x n d) refl
+        (rw (without_append node (list_at lists list) ((nodes + list) ∷ []), without_none node ((nodes + list) ∷ []) (times_in_single node (nodes + list) stop_apart)) at ring)
 
-    pub cuts : IsLinked nodes (map (without node) lists) next' prev'
+    pub cuts : AreRings nodes (map (without node) lists) next' prev'
     cuts =
         let len : length (map (without node) lists) ≡ length lists = length-map lists (without node) in
         record {
@@ -232,7 +206,7 @@ module _ (nodes : ℕ) (lists : List (List ℕ)) (next prev : ℕ → ℕ) (link
             | inr d ↦ let same : times (map (without node) lists) n ≡ times lists n = cut_others n d in linked.within n (omega arith)
           ];
           once = λ n. elim (cases_eq n node) as (λ _. times (map (without node) lists) n ≤ 1) [
-            | inl e ↦ rw (e, times-map_without node lists) (omega arith)
+            | inl e ↦ rw (e, times_map_without node lists) (omega arith)
             | inr d ↦ rw (cut_others n d) (linked.once n)
           ];
           loose = λ n h none. elim (cases_eq n node) as (λ _. next' n ≡ n) [
@@ -245,4 +219,4 @@ module _ (nodes : ℕ) (lists : List (List ℕ)) (next prev : ℕ → ℕ) (link
         }
       where
         cut_others : (n : ℕ) → n ≢ node → times (map (without node) lists) n ≡ times lists n
-        cut_others n d = times-map (without node) n (λ xs. times_in-without_other n node xs d) lists
+        cut_others n d = times_map (without node) n (λ xs. times_in_without_other n node xs d) lists

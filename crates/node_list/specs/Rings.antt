@@ -1,7 +1,8 @@
 -- How the lists are kept: each as a ring of links, which begins and ends at a number of its own past the nodes.
-use Rattle.std.specs.Prelude.{◌≡◌, ℕ, zero, suc, ◌+◌, ◌<◌, ◌≤◌, nat_lt, if◌then◌else◌, List, [], ◌∷◌, ◌++◌, length, map, slice_index}
+-- Cited by contracts.
+use Rattle.std.specs.Prelude.{◌≡◌, ℕ, zero, suc, ◌+◌, ◌<◌, ◌≤◌, nat_lt, if◌then◌else◌, List, [], ◌∷◌, ◌++◌, length, map, slice_index, slice_set}
 use Rattle.std.specs.List.{range_with_len}
-use Rattle.node_list.specs.Lists.{list_at, times}
+use Rattle.node_list.specs.Lists.{Lists, list_at, times}
 
 -- from a number the links lead forward along these, and back again
 abbrev pub Along : (ℕ → ℕ) → (ℕ → ℕ) → ℕ → List ℕ → Type 0
@@ -17,9 +18,17 @@ walk next nodes (suc most) from = if nat_lt from nodes then from ∷ walk next n
 abbrev pub lists_along : ℕ → ℕ → (ℕ → ℕ) → List (List ℕ)
 lists_along nodes count next = map (λ list. walk next nodes nodes (next (nodes + list))) (range_with_len 0 count)
 
+-- the lists as contracts see them, of a slice of links
+abbrev pub linked_lists : ℕ → ℕ → List ℕ → Lists
+linked_lists nodes count next = record { nodes = nodes; lists = lists_along nodes count (slice_index next) }
+
+-- a list of links after two writes, the second one last
+abbrev pub with_two : List ℕ → ℕ → ℕ → ℕ → ℕ → List ℕ
+with_two links a x b y = slice_set (slice_set links a x) b y
+
 -- the links lead along these lists: each is a ring with its own number past the nodes, a node in no list is linked to
 -- itself, and no node stands twice
-pub record IsLinked (nodes : ℕ) (lists : List (List ℕ)) (next prev : ℕ → ℕ) : Type 0 where
+pub record AreRings (nodes : ℕ) (lists : List (List ℕ)) (next prev : ℕ → ℕ) : Type 0 where
   pub next_in : (k : ℕ) → k < nodes + length lists → next k < nodes + length lists
   pub prev_in : (k : ℕ) → k < nodes + length lists → prev k < nodes + length lists
   pub back : (k : ℕ) → k < nodes + length lists → next (prev k) ≡ k
@@ -33,4 +42,4 @@ pub record IsLinked (nodes : ℕ) (lists : List (List ℕ)) (next prev : ℕ →
 pub record HoldLinks (nodes count : ℕ) (next prev : List ℕ) : Type 0 where
   pub next_len : length next ≡ nodes + count
   pub prev_len : length prev ≡ nodes + count
-  pub linked : IsLinked nodes (lists_along nodes count (slice_index next)) (slice_index next) (slice_index prev)
+  pub linked : AreRings nodes (lists_along nodes count (slice_index next)) (slice_index next) (slice_index prev)

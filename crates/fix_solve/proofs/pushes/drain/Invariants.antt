@@ -6,13 +6,12 @@ use Rattle.fix_solve.proofs.pushes.drain.Given as goal
 abbrev pub invariant-loop-node : goal.invariant-loop-node
 invariant-loop-node g l =
     let net = g.F.Flow.net l.flow in
-    let rank = g.F.Value.Lattice.rank in
     record {
       counts : l.initial.steps ≤ l.steps;
       one_list : IsOneList l.waiting;
       nodes : l.waiting.nodes ≡ net.nodes;
       working : Working g.F.Value.Lattice.below net l.values (is_listed l.waiting.lists) AllDone;
-      pushes : l.steps + pushes_left net rank l.values (is_listed l.waiting.lists) ≤ l.initial.steps + pushes_left net rank l.initial.values (is_listed l.initial.waiting.lists);
+      pushes : l.steps + pushes_left net g.F.Value.Lattice.rank l.values (is_listed l.waiting.lists) ≤ l.initial.steps + pushes_left net g.F.Value.Lattice.rank l.initial.values (is_listed l.initial.waiting.lists);
     }
 
 abbrev pub decreases-loop-node : goal.decreases-loop-node

@@ -1,11 +1,11 @@
 use Rattle.std.proofs.Common.{◌≡◌, ◌+◌, ◌/◌, ◌<◌, length, arith, sym, ◌∙◌}
-use Rattle.bit_rows.proofs.Ops.{bits_are}
-use Rattle.bit_rows.proofs.Views.{get_or-bits_of}
+use Rattle.bit_rows.proofs.Ops.{row_len}
+use Rattle.bit_rows.proofs.Views.{get_or_bits_of}
 use Rattle.bit_rows.proofs.row.Row.get.Goals as goal
 use Rattle.bit_rows.proofs.row.Row.get.Goals.{After-as_slice}
 
 early : (c : After-as_slice) → c.args.bit < c.self.inside.bits
-early c = rw (← bits_are c.self.inside.bits c.self.inside.words.items c.args.self.now c.self.view_is) c.requires
+early c = rw (← row_len c.self.inside.bits c.self.inside.words.items c.args.self.now c.self.view_is) c.requires
 
 pub word_bit-requires : goal.word_bit-requires
 word_bit-requires c =
@@ -16,4 +16,4 @@ word_bit-requires c =
 pub returns : goal.returns
 returns c =
     let low = early (goal.at.returns c).After-as_slice in
-    rw c.as_slice.ensures at c.word_bit.ensures ∙ rw (← c.self.view_is) (sym (get_or-bits_of c.self.inside.bits c.self.inside.words.items c.args.bit low))
+    rw c.as_slice.ensures at c.word_bit.ensures ∙ rw (← c.self.view_is) (sym (get_or_bits_of c.self.inside.bits c.self.inside.words.items c.args.bit low))

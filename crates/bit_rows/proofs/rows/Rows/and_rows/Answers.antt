@@ -1,5 +1,6 @@
 use Rattle.std.proofs.Common.{◌&&◌, ◌++◌, length, take, drop}
-use Rattle.bit_rows.proofs.Whole.{HoldEach, all_long, anded_all}
+use Rattle.bit_rows.proofs.Whole.{HoldEach, all_long, joined_all}
+use Rattle.bit_rows.proofs.Views.{and_bitwise}
 use Rattle.bit_rows.proofs.rows.Rows.and_rows.Goals as goal
 use Rattle.bit_rows.proofs.rows.Rows.and_rows.Goals.{After-and_words}
 
@@ -8,8 +9,8 @@ and_words-requires c = rw (c.deref_mut.ensures.value, c.deref.ensures.value) (al
 
 done : (c : After-and_words) → HoldEach c.self.inside.rows c.self.inside.bits c.self.inside.stride (λ x y. x && y) (take c.self.inside.words.len (c.and_words.new.into ++ drop (length c.and_words.new.into) c.self.inside.words.items)) c.args.self.now c.args.other.now
 done c =
-    anded_all c.self.inside.rows c.self.inside.bits c.self.inside.stride c.self.inside.words.items c.args.self.now c.self.invariant c.self.view_is c.other.inside.rows c.other.inside.bits c.other.inside.stride c.other.inside.words.items c.args.other.now c.other.invariant c.other.view_is c.requires
-    c.self.inside.words.len c.and_words.new.into c.self.inside.words.ok.0 (rw c.deref_mut.ensures.value at c.and_words.ensures.len)
+    joined_all c.self.inside.rows c.self.inside.bits c.self.inside.stride c.self.inside.words.items c.args.self.now c.self.invariant c.self.view_is c.other.inside.rows c.other.inside.bits c.other.inside.stride c.other.inside.words.items c.args.other.now c.other.invariant c.other.view_is c.requires
+    c.self.inside.words.len c.and_words.new.into c.self.inside.words.ok.0 (rw c.deref_mut.ensures.value at c.and_words.ensures.len) _ _ and_bitwise
     (rw (c.deref_mut.ensures.value, c.deref.ensures.value) at c.and_words.ensures.and)
 
 pub invariant_of-self : goal.invariant_of-self

@@ -1,5 +1,6 @@
 use Rattle.std.proofs.Common.{◌&&◌, not, ◌++◌, length, take, drop}
-use Rattle.bit_rows.proofs.Whole.{HoldEach, all_long, lessened_all}
+use Rattle.bit_rows.proofs.Whole.{HoldEach, all_long, joined_all}
+use Rattle.bit_rows.proofs.Views.{minus_bitwise}
 use Rattle.bit_rows.proofs.rows.Rows.minus_rows.Goals as goal
 use Rattle.bit_rows.proofs.rows.Rows.minus_rows.Goals.{After-minus_words}
 
@@ -8,8 +9,8 @@ minus_words-requires c = rw (c.deref_mut.ensures.value, c.deref.ensures.value) (
 
 done : (c : After-minus_words) → HoldEach c.self.inside.rows c.self.inside.bits c.self.inside.stride (λ x y. x && not y) (take c.self.inside.words.len (c.minus_words.new.into ++ drop (length c.minus_words.new.into) c.self.inside.words.items)) c.args.self.now c.args.other.now
 done c =
-    lessened_all c.self.inside.rows c.self.inside.bits c.self.inside.stride c.self.inside.words.items c.args.self.now c.self.invariant c.self.view_is c.other.inside.rows c.other.inside.bits c.other.inside.stride c.other.inside.words.items c.args.other.now c.other.invariant c.other.view_is c.requires
-    c.self.inside.words.len c.minus_words.new.into c.self.inside.words.ok.0 (rw c.deref_mut.ensures.value at c.minus_words.ensures.len)
+    joined_all c.self.inside.rows c.self.inside.bits c.self.inside.stride c.self.inside.words.items c.args.self.now c.self.invariant c.self.view_is c.other.inside.rows c.other.inside.bits c.other.inside.stride c.other.inside.words.items c.args.other.now c.other.invariant c.other.view_is c.requires
+    c.self.inside.words.len c.minus_words.new.into c.self.inside.words.ok.0 (rw c.deref_mut.ensures.value at c.minus_words.ensures.len) _ _ minus_bitwise
     (rw (c.deref_mut.ensures.value, c.deref.ensures.value) at c.minus_words.ensures.minus)
 
 pub invariant_of-self : goal.invariant_of-self

@@ -1,6 +1,7 @@
 use Rattle.std.proofs.Common.{◌++◌, length, take, drop, set}
 use Rattle.bit_rows.specs.Bits.{or_bits, row_of}
-use Rattle.bit_rows.proofs.Flat.{HoldRows, as_many_words, ored_row, row_within}
+use Rattle.bit_rows.proofs.Flat.{HoldRows, as_many_words, joined_row, row_within}
+use Rattle.bit_rows.proofs.Views.{or_bitwise}
 use Rattle.bit_rows.proofs.rows.Rows.or_from.Goals as goal
 use Rattle.bit_rows.proofs.rows.Rows.or_from.Goals.{After-or_row}
 
@@ -12,9 +13,9 @@ or_row-requires-clause-from c = as_many_words c.self.inside.rows c.self.inside.b
 
 done : (c : After-or_row) → HoldRows c.self.inside.rows c.self.inside.bits c.self.inside.stride (take c.self.inside.words.len (c.or_row.new.into ++ drop (length c.or_row.new.into) c.self.inside.words.items)) (set c.args.self.now c.args.row (or_bits (row_of c.args.self.now c.args.row) c.args.from.now))
 done c =
-    ored_row c.self.inside.rows c.self.inside.bits c.self.inside.stride c.self.inside.words.items c.args.self.now c.self.invariant c.self.view_is c.args.row c.requires.row
+    joined_row c.self.inside.rows c.self.inside.bits c.self.inside.stride c.self.inside.words.items c.args.self.now c.self.invariant c.self.view_is c.args.row c.requires.row
     c.self.inside.words.len c.or_row.new.into c.self.inside.words.ok.0 (rw c.deref_mut.ensures.value at c.or_row.ensures.others)
-    c.from.inside.bits c.from.inside.words.now c.args.from.now c.from.invariant c.from.view_is c.requires.equally_long (rw c.deref_mut.ensures.value at c.or_row.ensures.or)
+    c.from.inside.bits c.from.inside.words.now c.args.from.now c.from.invariant c.from.view_is c.requires.equally_long _ _ or_bitwise (rw c.deref_mut.ensures.value at c.or_row.ensures.or)
 
 pub invariant_of-self : goal.invariant_of-self
 invariant_of-self c = (done (goal.at.invariant_of-self c).After-or_row).fit

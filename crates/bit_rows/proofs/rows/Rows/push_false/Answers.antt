@@ -16,5 +16,5 @@ held c =
 pub invariant_of-self-2 : goal.invariant_of-self-2
 invariant_of-self-2 c = (held (goal.at.invariant_of-self-2 c).In_ok-resize).fit
 
-pub returns : goal.returns
-returns c = (held (goal.at.returns c).In_ok-resize).seen
+pub returns-clause-ok : goal.returns-clause-ok
+returns-clause-ok c = (held (goal.at.returns-clause-ok c).In_ok-resize).seen

@@ -1,6 +1,6 @@
 use Rattle.std.proofs.Common.{sym}
-use Rattle.bit_rows.proofs.Ops.{bits_are}
+use Rattle.bit_rows.proofs.Ops.{row_len}
 use Rattle.bit_rows.proofs.view.RowView.len.Goals as goal
 
 pub returns : goal.returns
-returns c = sym (bits_are c.self.inside.bits c.self.inside.words.now c.args.self.now c.self.view_is)
+returns c = sym (row_len c.self.inside.bits c.self.inside.words.now c.args.self.now c.self.view_is)

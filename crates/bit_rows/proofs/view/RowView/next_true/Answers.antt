@@ -1,12 +1,12 @@
 use Rattle.std.proofs.Common.{◌≡◌, ◌+◌, ◌/◌, length, arith}
 use Rattle.bit_rows.proofs.NextBits.{next_first, next_found, next_none}
-use Rattle.bit_rows.proofs.Ops.{bits_are}
+use Rattle.bit_rows.proofs.Ops.{row_len}
 use Rattle.bit_rows.proofs.view.RowView.next_true.Goals as goal
 
 pub next_set-requires : goal.next_set-requires
 next_set-requires c =
     let len : length c.self.inside.words.now ≡ (c.self.inside.bits + 63) / 64 = c.self.invariant.len in
-    let bits : length c.args.self.now ≡ c.self.inside.bits = bits_are c.self.inside.bits c.self.inside.words.now c.args.self.now c.self.view_is in
+    let bits : length c.args.self.now ≡ c.self.inside.bits = row_len c.self.inside.bits c.self.inside.words.now c.args.self.now c.self.view_is in
     omega (arith, c.len.ensures, c.len.type_inv)
 
 pub returns-then-from-len-clause-found : goal.returns-then-from-len-clause-found

@@ -1,5 +1,5 @@
 use Rattle.std.proofs.Common.{◌≡◌, ◌<◌, ◌++◌, length, map, take, drop, ap}
-use Rattle.node_list.specs.Lists.{Lists, times, put_before}
+use Rattle.node_list.specs.Lists.{Lists, times, inserted_before}
 use Rattle.node_list.proofs.Counts.{none_listed, some_listed, listed_put}
 use Rattle.node_list.proofs.Writes.{Refilled, after_middle, lists_of, link_in}
 use Rattle.node_list.proofs.links.Links.insert_before.Goals as goal
@@ -16,7 +16,7 @@ tie_before-requires-clause-prev_in c =
     rw c.deref_mut-2.ensures.value
     (link_in c.self.inside.nodes c.self.inside.lists c.self.inside.next.items c.self.inside.prev.items c.self.invariant c.args.node (listed (goal.at.tie_before-requires-clause-prev_in c).After-deref_mut)).prev
 
-done : (c : After-tie_before) → Refilled c.self.inside.nodes c.self.inside.lists (map (put_before c.args.node c.args.new) c.args.self.now.lists)
+done : (c : After-tie_before) → Refilled c.self.inside.nodes c.self.inside.lists (map (inserted_before c.args.node c.args.new) c.args.self.now.lists)
     (take c.self.inside.next.len (c.tie_before.new.next ++ drop (length c.tie_before.new.next) c.self.inside.next.items)) (take c.self.inside.prev.len (c.tie_before.new.prev ++ drop (length c.tie_before.new.prev) c.self.inside.prev.items))
 done c =
     let known = (goal.at.After-tie_before c).After-deref_mut in

@@ -1,4 +1,4 @@
-use Rattle.std.proofs.Common.{◌≡◌, ℕ, ◌+◌, ◌<◌, List, length, get_or, slice_get, slice_index, arith, ap, ◌∙◌, subst, sym}
+use Rattle.std.proofs.Common.{◌≡◌, ℕ, ◌<◌, List, get_or, ap, ◌∙◌, subst, sym}
 use Rattle.node_list.specs.Lists.{Lists, times, node_after}
 use Rattle.node_list.proofs.Ahead.{leads_after, leads_out, read_is}
 use Rattle.node_list.proofs.Counts.{some_listed}

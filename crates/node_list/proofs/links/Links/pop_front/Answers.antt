@@ -1,47 +1,42 @@
 use Rattle.std.proofs.Common.{◌≡◌, ℕ, ◌+◌, ◌<◌, ◌≤◌, ◌^◌, ◌++◌, ◌∷◌, List, length, map, take, drop, get_or, arith, ap, ◌∙◌, refl}
 use Rattle.std.proofs.lemmas.List.{get_or_read}
 use Rattle.node_list.specs.Lists.{Lists, list_at, times_in, times, without}
-use Rattle.node_list.proofs.Counts.{listed_cut, times_in-cons_same, times_in-le}
-use Rattle.node_list.proofs.Writes.{Refilled, InRange, PopsFirst, after_cut, all_len, leads_first, leads_none, link_in, lists_of, pops_first}
+use Rattle.node_list.proofs.Counts.{listed_cut, times_in_cons_same, times_in_le}
+use Rattle.node_list.proofs.Writes.{RingIn, index_fits, ring_in, Refilled, InRange, PopsFirst, after_cut, leads_first, leads_none, link_in, lists_of, pops_first}
 use Rattle.node_list.proofs.links.Links.pop_front.Goals as goal
 use Rattle.node_list.proofs.links.Links.pop_front.Goals.{After-self, After-index-node, After-untie, Then-node-self}
 
 same : (c : After-self) → lists_of c.self.inside.nodes c.self.inside.lists c.self.inside.next.items ≡ c.args.self.now.lists
 same c = ap (λ (l : Lists). l.lists) c.self.view_is
 
-list_in : (c : After-self) → c.args.list < c.self.inside.lists
-list_in c = rw (← all_len c.self.inside.nodes c.self.inside.lists c.self.inside.next.items c.self.inside.prev.items c.self.invariant, same c) c.requires
-
-number_in : (c : After-self) → c.self.inside.nodes + c.args.list < length c.self.inside.next.items
-number_in c = let l : c.args.list < c.self.inside.lists = list_in c in rw c.self.invariant.next_len (omega arith)
+ring : (c : After-self) → RingIn c.self.inside.nodes c.self.inside.lists c.self.inside.next.items c.args.list
+ring c = ring_in c.self.inside.nodes c.self.inside.lists c.self.inside.next.items c.self.inside.prev.items c.self.invariant c.args.self.now c.args.list c.self.view_is c.requires
 
 pub overflow_add-self-inside : goal.overflow_add-self-inside
 overflow_add-self-inside c =
-    let l : c.self.inside.nodes + c.args.list < length c.self.inside.next.items = number_in (goal.at.overflow_add-self-inside c).After-self in
-    let small : c.self.inside.next.cap < 2 ^ 63 = c.self.inside.next.small in
-    let len : c.self.inside.next.len ≡ length c.self.inside.next.items = c.self.inside.next.ok.0 in
-    let fits : c.self.inside.next.len ≤ c.self.inside.next.cap = c.self.inside.next.ok.1 in
+    let fits : c.self.inside.nodes + c.args.list < 2 ^ 64 =
+    index_fits (c.self.inside.nodes + c.args.list) c.self.inside.next.len c.self.inside.next.cap (length c.self.inside.next.items) (ring (goal.at.overflow_add-self-inside c).After-self).number c.self.inside.next.ok.0 c.self.inside.next.ok.1 c.self.inside.next.small in
     omega arith
 
 pub index-node-requires : goal.index-node-requires
-index-node-requires c = rw c.self.inside.next.ok.0 (number_in (goal.at.index-node-requires c).After-self)
+index-node-requires c = rw c.self.inside.next.ok.0 (ring (goal.at.index-node-requires c).After-self).number
 
 node_is : (c : After-index-node) → c.index-node.result.now ≡ get_or c.self.inside.next.items (c.self.inside.nodes + c.args.list) 0
-node_is c = get_or_read c.self.inside.next.items (c.self.inside.nodes + c.args.list) c.index-node.result.now (number_in (goal.at.After-index-node c).After-self) c.index-node.ensures 0
+node_is c = get_or_read c.self.inside.next.items (c.self.inside.nodes + c.args.list) c.index-node.result.now (ring (goal.at.After-index-node c).After-self).number c.index-node.ensures 0
 
 -- the node stands in the list, at its front
 first : (c : Then-node-self) → (rest : List ℕ) × (list_at (lists_of c.self.inside.nodes c.self.inside.lists c.self.inside.next.items) c.args.list ≡ c.index-node.result.now ∷ rest)
 first c =
     let known = (goal.at.Then-node-self c).After-index-node in
-    rw (node_is known) (leads_first c.self.inside.nodes c.self.inside.lists c.self.inside.next.items c.self.inside.prev.items c.self.invariant c.args.list (list_in (goal.at.Then-node-self c).After-self)
+    rw (node_is known) (leads_first c.self.inside.nodes c.self.inside.lists c.self.inside.next.items c.self.inside.prev.items c.self.invariant c.args.list (ring (goal.at.Then-node-self c).After-self).low
     (rw (node_is known) at c.if-node-self.true))
 
 listed : (c : Then-node-self) → 0 < times (lists_of c.self.inside.nodes c.self.inside.lists c.self.inside.next.items) c.index-node.result.now
 listed c =
     let lists = lists_of c.self.inside.nodes c.self.inside.lists c.self.inside.next.items in
     let node = c.index-node.result.now in
-    let here : times_in node (list_at lists c.args.list) ≡ 1 + times_in node (first c).0 = ap (times_in node) (first c).1 ∙ times_in-cons_same node (first c).0 in
-    let le : times_in node (list_at lists c.args.list) ≤ times lists node = times_in-le lists c.args.list node in
+    let here : times_in node (list_at lists c.args.list) ≡ 1 + times_in node (first c).0 = ap (times_in node) (first c).1 ∙ times_in_cons_same node (first c).0 in
+    let le : times_in node (list_at lists c.args.list) ≤ times lists node = times_in_le lists c.args.list node in
     omega arith
 
 within : (c : Then-node-self) → InRange (length c.self.inside.prev.items) c.self.inside.next.items c.self.inside.prev.items c.index-node.result.now
@@ -86,4 +81,4 @@ pub returns-else-node-self-clause-empty : goal.returns-else-node-self-clause-emp
 returns-else-node-self-clause-empty c =
     let known = (goal.at.returns-else-node-self-clause-empty c).After-index-node in
     let before = (goal.at.returns-else-node-self-clause-empty c).After-self in
-    (rw (← same before) (leads_none c.self.inside.nodes c.self.inside.lists c.self.inside.next.items c.self.inside.prev.items c.self.invariant c.args.list (list_in before) (rw (node_is known) at c.if-node-self.false)), refl)
+    (rw (← same before) (leads_none c.self.inside.nodes c.self.inside.lists c.self.inside.next.items c.self.inside.prev.items c.self.invariant c.args.list (ring before).low (rw (node_is known) at c.if-node-self.false)), refl)
