@@ -1,23 +1,27 @@
 -- Blocks while they are made: the parts of a list, a block that is followed, and the blocks so far.
 use Rattle.std.proofs.Common.{◌≡◌, ◌≢◌, ℕ, zero, suc, ◌+◌, ◌-◌, ◌<◌, ◌≤◌, ◌⊎◌, inl, inr, true, false, cond, nat_eq, List, [], ◌∷◌, ◌++◌, length, get_or, set, take, drop, replicate, slice_get, slice_range, Some, refl, sym, ap, subst, arith, ◌∙◌, length-append, append_assoc, get_or-set_same, get_or-set_other}
 use Rattle.std.proofs.lemmas.Bool.{cases_eq, cases_Bool}
-use Rattle.std.proofs.lemmas.List.{drop-append-le, length-replicate, length-set, take-append-le, take_all}
+use Rattle.std.proofs.lemmas.List.{drop-append-le, length-replicate, length-set, take-append-le, take_all, get_or_default}
 use Rattle.std.proofs.lemmas.Option.{slice_get_within}
 use Rattle.std.proofs.Math.Seq.{drop-append_seam}
+use Rattle.flow_graph.specs.ListLaws.{get_left_some, get_last, get_push}
+use Rattle.flow_graph.specs.BoundLaws.{edge_within}
 use Rattle.flow_graph.specs.declared.nodes.Node.{Node}
 use Rattle.flow_graph.specs.Graphs.{IsGraph, Reached}
 use Rattle.flow_graph.specs.PathLaws.{reached_trace}
 use Rattle.flow_graph.specs.Paths.{Begins, Ends, HasEdge, Trace, from_start, goes_on}
-use Rattle.flow_graph.specs.Blocks.{AreBlocksOf, AreKept, AreMade, AreParts, AreStarts, IsBlock, IsBlocks, IsChain, IsFirst, IsFollowed, IsGlued, IsLast, IsPlaced, Stands, cut, is_first, unplaced}
-use Rattle.flow_graph.specs.BlockLaws.{begins_more, chain_first, chain_more, chain_on, edge_within, ends_more, first_is, glued_edge, not_first, only_from, only_to}
+use Rattle.flow_graph.specs.Blocks.{AreBlocksOf, AreStored, AreMade, AreParts, AreStarts, IsBlock, IsBlocks, IsChain, IsFirst, IsBlockSoFar, IsGlued, IsLast, IsPlaced, StandsIn, parts_at, is_first, unplaced}
+use Rattle.flow_graph.specs.BlockLaws.{begins_more, chain_first, chain_more, chain_on, ends_more, first_is, glued_edge, not_first, only_from, only_to}
 
 -- ---- the parts of a list
 
+-- what is left of a list and what is dropped are the whole, unless more is dropped than there is
 drop_length : (xs : List ℕ) (n : ℕ) → length (drop n xs) + n ≡ length xs ⊎ (length xs < n)
 drop_length xs zero = inl (omega arith)
 drop_length [] (suc n) = inr (omega arith)
 drop_length (x ∷ xs) (suc n) = elim (drop_length xs n) [ inl e ↦ inl (omega (arith, e)) | inr lt ↦ inr (omega (arith, lt)) ]
 
+-- the first start is not after the end
 starts_below : (end s : ℕ) (starts : List ℕ) → AreStarts end (s ∷ starts) → s ≤ end
 starts_below end s [] are = omega (arith, are)
 starts_below end s (e ∷ starts) are = omega (arith, are.0, starts_below end e starts are.1)
@@ -28,58 +32,48 @@ part_same order more s e le within =
     let room : e - s ≤ length (drop s order) = elim (drop_length order s) [ inl l ↦ omega (arith, l, le, within) | inr lt ↦ absurd (omega (arith, lt, le, within)) ] in
     ap (take (e - s)) (drop-append-le s order more (omega (arith, le, within))) ∙ take-append-le (e - s) (drop s order) more room
 
+-- the part from the end of the old list on is what was added
 part_new : (order more : List ℕ) (s : ℕ) → s ≡ length order → slice_range (order ++ more) s (length order + length more) ≡ more
 part_new order more s is =
     ap (take (length order + length more - s)) (ap (λ k. drop k (order ++ more)) is ∙ drop-append_seam order more) ∙ take_all (length order + length more - s) more (omega (arith, is))
 
-pub cut_more : (order more starts : List ℕ) → AreStarts (length order) starts → cut (order ++ more) (starts ++ (length order + length more) ∷ []) ≡ cut order starts ++ more ∷ []
+-- one part more, at the end
+pub cut_more : (order more starts : List ℕ) → AreStarts (length order) starts → parts_at (order ++ more) (starts ++ (length order + length more) ∷ []) ≡ parts_at order starts ++ more ∷ []
 cut_more order more [] are = absurd are
 cut_more order more (s ∷ []) are = ap (λ l. l ∷ []) (part_new order more s are)
 cut_more order more (s ∷ e ∷ starts) are =
-    ap (λ l. l ∷ cut (order ++ more) (e ∷ starts ++ (length order + length more) ∷ [])) (part_same order more s e are.0 (starts_below (length order) e starts are.1))
+    ap (λ l. l ∷ parts_at (order ++ more) (e ∷ starts ++ (length order + length more) ∷ [])) (part_same order more s e are.0 (starts_below (length order) e starts are.1))
     ∙ ap (λ l. slice_range order s e ∷ l) (cut_more order more (e ∷ starts) are.1)
 
+-- one more begin, at the end
 pub starts_more : (n m : ℕ) (starts : List ℕ) → n ≤ m → AreStarts n starts → AreStarts m (starts ++ m ∷ [])
 starts_more n m [] le are = absurd are
 starts_more n m (s ∷ []) le are = (omega (arith, le, are), refl)
 starts_more n m (s ∷ e ∷ starts) le are = (are.0, starts_more n m (e ∷ starts) le are.1)
 
-pub length-cut : (end : ℕ) (order starts : List ℕ) → AreStarts end starts → length starts ≡ suc (length (cut order starts))
-length-cut end order [] are = absurd are
-length-cut end order (s ∷ []) are = refl
-length-cut end order (s ∷ e ∷ starts) are = ap suc (length-cut end order (e ∷ starts) are.1)
+-- there is a part for each begin but the last, which is an end
+pub length_cut : (end : ℕ) (order starts : List ℕ) → AreStarts end starts → length starts ≡ suc (length (parts_at order starts))
+length_cut end order [] are = absurd are
+length_cut end order (s ∷ []) are = refl
+length_cut end order (s ∷ e ∷ starts) are = ap suc (length_cut end order (e ∷ starts) are.1)
 
-pub cut_at : (end b : ℕ) (order starts : List ℕ) → AreStarts end starts → suc b < length starts → slice_get (cut order starts) b ≡ Some (slice_range order (get_or starts b 0) (get_or starts (suc b) 0))
+-- the part of an index stands between its begin and the next
+pub cut_at : (end b : ℕ) (order starts : List ℕ) → AreStarts end starts → suc b < length starts → slice_get (parts_at order starts) b ≡ Some (slice_range order (get_or starts b 0) (get_or starts (suc b) 0))
 cut_at end b order [] are h = absurd are
 cut_at end b order (s ∷ []) are h = absurd (omega (arith, h))
 cut_at end zero order (s ∷ e ∷ starts) are h = refl
 cut_at end (suc b) order (s ∷ e ∷ starts) are h = cut_at end b order (e ∷ starts) are.1 (omega (arith, h))
 
+-- each begin is at most the next, and all are at most the end
 pub part_bounds : (end b : ℕ) (starts : List ℕ) → AreStarts end starts → suc b < length starts → (get_or starts b 0 ≤ get_or starts (suc b) 0) × (get_or starts (suc b) 0 ≤ end)
 part_bounds end b [] are h = absurd are
 part_bounds end b (s ∷ []) are h = absurd (omega (arith, h))
 part_bounds end zero (s ∷ e ∷ starts) are h = (are.0, starts_below end e starts are.1)
 part_bounds end (suc b) (s ∷ e ∷ starts) are h = part_bounds end b (e ∷ starts) are.1 (omega (arith, h))
 
--- ---- lists of one more item
-
-pub get_before : {A : Type 0} (xs ys : List A) (i : ℕ) (x : A) → slice_get xs i ≡ Some x → slice_get (xs ++ ys) i ≡ Some x
-get_before [] ys i x e = cc
-get_before (y ∷ xs) ys zero x e = e
-get_before (y ∷ xs) ys (suc i) x e = get_before xs ys i x e
-
-pub get_last : {A : Type 0} (xs : List A) (x : A) → slice_get (xs ++ x ∷ []) (length xs) ≡ Some x
-get_last [] x = refl
-get_last (y ∷ xs) x = get_last xs x
-
-pub get_either : {A : Type 0} (xs : List A) (x y : A) (i : ℕ) → slice_get (xs ++ x ∷ []) i ≡ Some y → (slice_get xs i ≡ Some y) ⊎ ((i ≡ length xs) × (x ≡ y))
-get_either [] x y zero e = inr (refl, cc)
-get_either [] x y (suc i) e = cc
-get_either (z ∷ xs) x y zero e = inl e
-get_either (z ∷ xs) x y (suc i) e = elim (get_either xs x y i e) [ inl h ↦ inl h | inr p ↦ inr (ap suc p.0, p.1) ]
-
 -- ---- how many have no block
 
+-- one node fewer has no block once a node is placed
 pub unplaced_less : (none n block : ℕ) (block_of : List ℕ) → n < length block_of → get_or block_of n none ≡ none → block ≢ none → unplaced none (set block_of n block) + 1 ≡ unplaced none block_of
 unplaced_less none n block [] h is other = absurd (omega (arith, h))
 unplaced_less none zero block (b ∷ block_of) h is other =
@@ -94,15 +88,18 @@ unplaced_less none (suc n) block (b ∷ block_of) h is other = omega (arith, unp
 
 -- ---- a block that is followed
 
+-- what is placed then was placed, or is the node
 pub gets_placed : (none : ℕ) (block_of : List ℕ) (n block k : ℕ) → n < length block_of → block ≢ none → IsPlaced none (set block_of n block) k → (k ≡ n) ⊎ IsPlaced none block_of k
 gets_placed none block_of n block k h other placed = elim (cases_eq k n) [ inl e ↦ inl e | inr d ↦ inr (λ is. placed (get_or-set_other block_of n k block none d ∙ is)) ]
 
+-- what was placed stays placed
 pub keeps_placed : (none : ℕ) (block_of : List ℕ) (n block k : ℕ) → n < length block_of → block ≢ none → IsPlaced none block_of k → IsPlaced none (set block_of n block) k
 keeps_placed none block_of n block k h other placed is = elim (cases_eq k n) as (λ _. ⊥) [
   | inl e ↦ other (sym (get_or-set_same block_of n block none h) ∙ ap (λ i. get_or (set block_of n block) i none) (sym e) ∙ is)
   | inr d ↦ placed (sym (get_or-set_other block_of n k block none d) ∙ is)
 ]
 
+-- and the node is placed
 pub set_placed : (none : ℕ) (block_of : List ℕ) (n block : ℕ) → n < length block_of → block ≢ none → IsPlaced none (set block_of n block) n
 set_placed none block_of n block h other is = other (sym (get_or-set_same block_of n block none h) ∙ is)
 
@@ -116,10 +113,10 @@ module _ (nodes : List Node) (head block : ℕ) (order block_of : List ℕ) (few
   -- its first node
   pub follow_begins : (longer after : List ℕ) → head < length nodes → length block_of ≡ length nodes → IsFirst nodes head → get_or block_of head (length nodes) ≡ length nodes
       → ((m n : ℕ) → IsGlued nodes m n → IsPlaced (length nodes) block_of n → IsPlaced (length nodes) block_of m)
-      → longer ≡ order ++ head ∷ [] → after ≡ set block_of head block → IsFollowed nodes head head block order longer block_of after
+      → longer ≡ order ++ head ∷ [] → after ≡ set block_of head block → IsBlockSoFar nodes head head block order longer block_of after
   follow_begins longer after there long first unplaced closed longer_is after_is =
       let h : head < length block_of = omega (arith, there, long) in
-      subst (IsFollowed nodes head head block order longer block_of) (sym after_is) (record {
+      subst (IsBlockSoFar nodes head head block order longer block_of) (sym after_is) (record {
         chain = head ∷ [];
         longer_is = longer_is;
         is_chain = there;
@@ -141,7 +138,7 @@ module _ (nodes : List Node) (head block : ℕ) (order block_of : List ℕ) (few
       put_one zero n e h = let same : head ≡ n = cc in ap (λ k. get_or (set block_of head block) k none) (sym same) ∙ get_or-set_same block_of head block none h
       put_one (suc i) n e h = cc
 
-  module _ (node n : ℕ) (longer after : List ℕ) (followed : IsFollowed nodes head node block order longer block_of after) (glued : IsGlued nodes node n) where
+  module _ (node n : ℕ) (longer after : List ℕ) (followed : IsBlockSoFar nodes head node block order longer block_of after) (glued : IsGlued nodes node n) where
     -- the next node has no block yet
     pub next_unplaced : get_or after n (length nodes) ≡ length nodes
     next_unplaced = elim (cases_eq (get_or after n none) none) as (λ _. get_or after n none ≡ none) [ inl e ↦ e | inr placed ↦ absurd ((followed.closed node n glued placed).1 refl) ]
@@ -151,12 +148,12 @@ module _ (nodes : List Node) (head block : ℕ) (order block_of : List ℕ) (few
     last_at (k ∷ []) m e = (0, ap Some e)
     last_at (j ∷ k ∷ chain) m e = let r = last_at (k ∷ chain) m e in (suc r.0, r.1)
 
-    pub follow_more : (longer' after' : List ℕ) → n < length nodes → longer' ≡ longer ++ n ∷ [] → after' ≡ set after n block → IsFollowed nodes head n block order longer' block_of after'
+    pub follow_more : (longer' after' : List ℕ) → n < length nodes → longer' ≡ longer ++ n ∷ [] → after' ≡ set after n block → IsBlockSoFar nodes head n block order longer' block_of after'
     follow_more longer' after' there longer_is after_is =
         let h : n < length after = omega (arith, there, followed.long) in
         let old = followed.chain in
         let here : get_or (set after n block) n none ≡ block = get_or-set_same after n block none h in
-        subst (IsFollowed nodes head n block order longer' block_of) (sym after_is) (record {
+        subst (IsBlockSoFar nodes head n block order longer' block_of) (sym after_is) (record {
           chain = followed.chain ++ n ∷ [];
           longer_is = longer_is ∙ ap (λ l. l ++ n ∷ []) followed.longer_is ∙ append_assoc order followed.chain (n ∷ []);
           is_chain = chain_more nodes followed.chain node n there followed.is_chain followed.ends glued;
@@ -167,12 +164,12 @@ module _ (nodes : List Node) (head block : ℕ) (order block_of : List ℕ) (few
             | inl e ↦ inr (ap (λ j. get_or (set after n block) j none) e ∙ here, (length followed.chain, get_last followed.chain n ∙ ap Some (sym e)))
             | inr d ↦ let same = get_or-set_other after n k block none d in elim (followed.were k) as (λ _. (get_or (set after n block) k none ≡ get_or block_of k none) ⊎ ((get_or (set after n block) k none ≡ block) × ((i : ℕ) × (slice_get (followed.chain ++ n ∷ []) i ≡ Some k)))) [
               | inl was ↦ inl (same ∙ was)
-              | inr new ↦ inr (same ∙ new.0, (new.1.0, get_before followed.chain (n ∷ []) new.1.0 k new.1.1))
+              | inr new ↦ inr (same ∙ new.0, (new.1.0, get_left_some followed.chain (n ∷ []) new.1.0 k new.1.1))
             ]
           ];
           put = λ i k e. elim (cases_eq k n) as (λ _. get_or (set after n block) k none ≡ block) [
             | inl same ↦ ap (λ j. get_or (set after n block) j none) same ∙ here
-            | inr d ↦ get_or-set_other after n k block none d ∙ elim (get_either followed.chain n k i e) as (λ _. get_or after k none ≡ block) [ inl was ↦ followed.put i k was | inr new ↦ absurd (d (sym new.1)) ]
+            | inr d ↦ get_or-set_other after n k block none d ∙ elim (get_push followed.chain n k i e) as (λ _. get_or after k none ≡ block) [ inl was ↦ followed.put i k was | inr new ↦ absurd (d (sym new.1)) ]
           ];
           closed = λ m k g placed. elim (gets_placed none after n block k h other placed) as (λ _. IsPlaced none (set after n block) m × (m ≢ n)) [
             | inl e ↦
@@ -188,7 +185,7 @@ module _ (nodes : List Node) (head block : ℕ) (order block_of : List ℕ) (few
 -- ---- the blocks so far
 
 module _ (nodes : List Node) (head node block : ℕ) (lists : List (List ℕ)) (order longer block_of after : List ℕ) (made : AreMade nodes head lists block_of) (block_is : block ≡ length lists) (few : block < length nodes) (first : IsFirst nodes head)
-    (followed : IsFollowed nodes head node block order longer block_of after) (last : IsLast nodes node) where
+    (followed : IsBlockSoFar nodes head node block order longer block_of after) (last : IsLast nodes node) where
   abbrev no_block : ℕ
   no_block = length nodes
 
@@ -221,28 +218,28 @@ module _ (nodes : List Node) (head node block : ℕ) (lists : List (List ℕ)) (
   kept : (n : ℕ) → IsPlaced no_block block_of n → IsPlaced no_block after n
   kept n placed is = elim (followed.were n) as (λ _. ⊥) [ inl was ↦ placed (sym was ∙ is) | inr new ↦ is_number (sym new.0 ∙ is) ]
 
-  stands_before : (b n : ℕ) → Stands lists b n → Stands more b n
-  stands_before b n s = record { list = s.list; listed = get_before lists (followed.chain ∷ []) b s.list s.listed; place = s.place; is = s.is }
+  stands_before : (b n : ℕ) → StandsIn lists b n → StandsIn more b n
+  stands_before b n s = record { list = s.list; listed = get_left_some lists (followed.chain ∷ []) b s.list s.listed; place = s.place; is = s.is }
 
-  stands_last : (i n : ℕ) → slice_get followed.chain i ≡ Some n → Stands more block n
+  stands_last : (i n : ℕ) → slice_get followed.chain i ≡ Some n → StandsIn more block n
   stands_last i n e = record { list = followed.chain; listed = ap (slice_get more) block_is ∙ get_last lists followed.chain; place = i; is = e }
 
   pub made_more : AreMade nodes (head + 1) (lists ++ followed.chain ∷ []) after
   made_more = record {
     long = followed.long;
     few = omega (arith, length-append lists (followed.chain ∷ []), made.few);
-    blocks = λ b list e. elim (get_either lists followed.chain list b e) as (λ _. IsBlock nodes list) [ inl was ↦ made.blocks b list was | inr new ↦ subst (IsBlock nodes) new.1 chain_is_block ];
-    under = λ b n list e begins. elim (get_either lists followed.chain list b e) as (λ _. n < head + 1) [
+    blocks = λ b list e. elim (get_push lists followed.chain list b e) as (λ _. IsBlock nodes list) [ inl was ↦ made.blocks b list was | inr new ↦ subst (IsBlock nodes) new.1 chain_is_block ];
+    under = λ b n list e begins. elim (get_push lists followed.chain list b e) as (λ _. n < head + 1) [
       | inl was ↦ omega (arith, made.under b n list was begins)
       | inr new ↦ omega (arith, same_begin list head n (subst (Begins head) new.1 followed.begins) begins)
     ];
     ascend = λ b c m n early late lt e e' begins begins'.
-        elim (get_either lists followed.chain early b e) as (λ _. m < n) [
-          | inl was ↦ elim (get_either lists followed.chain late c e') as (λ _. m < n) [
+        elim (get_push lists followed.chain early b e) as (λ _. m < n) [
+          | inl was ↦ elim (get_push lists followed.chain late c e') as (λ _. m < n) [
             | inl was' ↦ made.ascend b c m n early late lt was was' begins begins'
             | inr new' ↦ omega (arith, made.under b m early was begins, same_begin late head n (subst (Begins head) new'.1 followed.begins) begins')
           ]
-          | inr new ↦ elim (get_either lists followed.chain late c e') as (λ _. m < n) [
+          | inr new ↦ elim (get_push lists followed.chain late c e') as (λ _. m < n) [
             | inl was' ↦ absurd (omega (arith, lt, new.0, slice_get_within lists c late was'))
             | inr new' ↦ absurd (omega (arith, lt, new.0, new'.0))
           ]
@@ -256,11 +253,11 @@ module _ (nodes : List Node) (head node block : ℕ) (lists : List (List ℕ)) (
       | inr new ↦ omega (arith, chain_first nodes followed.chain new.1.0 head n followed.is_chain followed.begins new.1.1 is)
     ];
     closed = λ m n glued placed. (followed.closed m n glued placed).0;
-    sound = λ n placed. elim (followed.were n) as (λ _. Stands more (get_or after n no_block) n) [
-      | inl was ↦ subst (λ b. Stands more b n) (sym was) (stands_before (get_or block_of n no_block) n (made.sound n (λ bad. placed (was ∙ bad))))
-      | inr new ↦ subst (λ b. Stands more b n) (sym new.0) (stands_last new.1.0 n new.1.1)
+    sound = λ n placed. elim (followed.were n) as (λ _. StandsIn more (get_or after n no_block) n) [
+      | inl was ↦ subst (λ b. StandsIn more b n) (sym was) (stands_before (get_or block_of n no_block) n (made.sound n (λ bad. placed (was ∙ bad))))
+      | inr new ↦ subst (λ b. StandsIn more b n) (sym new.0) (stands_last new.1.0 n new.1.1)
     ];
-    complete = λ b n s. elim (get_either lists followed.chain s.list b s.listed) as (λ _. IsPlaced no_block after n) [
+    complete = λ b n s. elim (get_push lists followed.chain s.list b s.listed) as (λ _. IsPlaced no_block after n) [
       | inl was ↦ kept n (made.complete b n (record { list = s.list; listed = was; place = s.place; is = s.is }))
       | inr new ↦ λ bad. is_number (sym (followed.put s.place n (subst (λ l. slice_get l s.place ≡ Some n) (sym new.1) s.is)) ∙ bad)
     ];
@@ -299,32 +296,36 @@ made_none nodes block_of long empty = record {
   complete = λ b n s. let e = s.listed in cc;
 }
 
-get_or-replicate_any : (count number k : ℕ) → get_or (replicate count number) k number ≡ number
-get_or-replicate_any zero number k = refl
-get_or-replicate_any (suc count) number zero = refl
-get_or-replicate_any (suc count) number (suc k) = get_or-replicate_any count number k
+-- a list of equal numbers, read with that number as the default, gives it at every place
+get_or_replicate_any : (count number k : ℕ) → get_or (replicate count number) k number ≡ number
+get_or_replicate_any zero number k = refl
+get_or_replicate_any (suc count) number zero = refl
+get_or_replicate_any (suc count) number (suc k) = get_or_replicate_any count number k
 
-pub kept_none : (nodes : List Node) (order starts block_of : List ℕ) → order ≡ [] → starts ≡ 0 ∷ [] → block_of ≡ replicate (length nodes) (length nodes) → AreKept nodes 0 order starts block_of
+-- before the first node nothing is kept
+pub kept_none : (nodes : List Node) (order starts block_of : List ℕ) → order ≡ [] → starts ≡ 0 ∷ [] → block_of ≡ replicate (length nodes) (length nodes) → AreStored nodes 0 order starts block_of
 kept_none nodes order starts block_of order_is starts_are block_of_is =
     rw (order_is, starts_are, block_of_is) (record {
       starts_are = refl;
-      made = made_none nodes (replicate (length nodes) (length nodes)) (length-replicate (length nodes) (length nodes)) (λ n. get_or-replicate_any (length nodes) (length nodes) n);
+      made = made_none nodes (replicate (length nodes) (length nodes)) (length-replicate (length nodes) (length nodes)) (λ n. get_or_replicate_any (length nodes) (length nodes) n);
     })
 
-pub kept_on : (nodes : List Node) (n : ℕ) (order starts block_of : List ℕ) → AreKept nodes n order starts block_of → is_first nodes n ≡ false → AreKept nodes (n + 1) order starts block_of
-kept_on nodes n order starts block_of kept inner = record { starts_are = kept.starts_are; made = made_on nodes n (cut order starts) block_of kept.made inner }
+-- a node that is not the first of its block adds nothing
+pub kept_on : (nodes : List Node) (n : ℕ) (order starts block_of : List ℕ) → AreStored nodes n order starts block_of → is_first nodes n ≡ false → AreStored nodes (n + 1) order starts block_of
+kept_on nodes n order starts block_of kept inner = record { starts_are = kept.starts_are; made = made_on nodes n (parts_at order starts) block_of kept.made inner }
 
-pub kept_more : (nodes : List Node) (head node block : ℕ) (order longer starts more block_of after : List ℕ) → AreKept nodes head order starts block_of → block + 1 ≡ length starts → head < length nodes → is_first nodes head ≡ true
-    → IsFollowed nodes head node block order longer block_of after → IsLast nodes node → more ≡ starts ++ length longer ∷ [] → AreKept nodes (head + 1) longer more after
+-- a node that is adds its block
+pub kept_more : (nodes : List Node) (head node block : ℕ) (order longer starts more block_of after : List ℕ) → AreStored nodes head order starts block_of → block + 1 ≡ length starts → head < length nodes → is_first nodes head ≡ true
+    → IsBlockSoFar nodes head node block order longer block_of after → IsLast nodes node → more ≡ starts ++ length longer ∷ [] → AreStored nodes (head + 1) longer more after
 kept_more nodes head node block order longer starts more block_of after kept block_is there first followed last more_is =
-    let long = length-cut (length order) order starts kept.starts_are in
+    let long = length_cut (length order) order starts kept.starts_are in
     let parts = length-append order followed.chain in
     let end : length longer ≡ length order + length followed.chain = ap length followed.longer_is ∙ parts in
-    let lists : cut longer more ≡ cut order starts ++ followed.chain ∷ [] = ap (λ l. cut longer l) more_is ∙ ap (λ e. cut longer (starts ++ e ∷ [])) end ∙ ap (λ l. cut l (starts ++ (length order + length followed.chain) ∷ [])) followed.longer_is ∙ cut_more order followed.chain starts kept.starts_are in
+    let lists : parts_at longer more ≡ parts_at order starts ++ followed.chain ∷ [] = ap (λ l. parts_at longer l) more_is ∙ ap (λ e. parts_at longer (starts ++ e ∷ [])) end ∙ ap (λ l. parts_at l (starts ++ (length order + length followed.chain) ∷ [])) followed.longer_is ∙ cut_more order followed.chain starts kept.starts_are in
     record {
       starts_are = subst (AreStarts (length longer)) (sym more_is) (starts_more (length order) (length longer) starts (omega (arith, end)) kept.starts_are);
       made = subst (λ l. AreMade nodes (head + 1) l after) (sym lists)
-          (made_more nodes head node block (cut order starts) order longer block_of after kept.made (omega (arith, long, block_is)) (omega (arith, long, block_is, kept.made.few, there)) (first_is nodes head first) followed last);
+          (made_more nodes head node block (parts_at order starts) order longer block_of after kept.made (omega (arith, long, block_is)) (omega (arith, long, block_is, kept.made.few, there)) (first_is nodes head first) followed last);
     }
 
 -- ---- all blocks
@@ -352,7 +353,7 @@ module _ (nodes : List Node) (lists : List (List ℕ)) (block_of : List ℕ) (ma
         on glued.0 n glued.1 (subst (IsPlaced (length nodes) block_of) same (placed_along m earlier succs (edge_within nodes m n edge) trace))
   ]
 
-  pub all_stand : ((m s : ℕ) → HasEdge nodes m s → (1 ≤ s) × (s < length nodes)) → ((n : ℕ) → n < length nodes → Reached nodes n) → (n : ℕ) → n < length nodes → Stands lists (get_or block_of n (length nodes)) n
+  pub all_stand : ((m s : ℕ) → HasEdge nodes m s → (1 ≤ s) × (s < length nodes)) → ((n : ℕ) → n < length nodes → Reached nodes n) → (n : ℕ) → n < length nodes → StandsIn lists (get_or block_of n (length nodes)) n
   all_stand succs reached n h = let trace = reached_trace nodes n (reached n h) in made.sound n (placed_along n trace.0 succs h trace.1)
 
   pub all_made : ((m s : ℕ) → HasEdge nodes m s → (1 ≤ s) × (s < length nodes)) → ((n : ℕ) → n < length nodes → Reached nodes n) → IsBlocks nodes lists
@@ -362,30 +363,29 @@ module _ (nodes : List Node) (lists : List (List ℕ)) (block_of : List ℕ) (ma
     every = λ n h. (get_or block_of n (length nodes), all_stand succs reached n h);
   }
 
-get_or_same : (xs : List ℕ) (i a b : ℕ) → i < length xs → get_or xs i a ≡ get_or xs i b
-get_or_same [] i a b h = absurd (omega (arith, h))
-get_or_same (x ∷ xs) zero a b h = refl
-get_or_same (x ∷ xs) (suc i) a b h = get_or_same xs i a b (omega (arith, h))
-
-pub parts_made : (vars : List (List ℕ)) (received : List ℕ) (nodes : List Node) (order starts block_of : List ℕ) → IsGraph vars received nodes → AreKept nodes (length nodes) order starts block_of → AreParts order starts block_of
+-- at the end the parts are as `Blocks` keeps them
+pub parts_made : (vars : List (List ℕ)) (received : List ℕ) (nodes : List Node) (order starts block_of : List ℕ) → IsGraph vars received nodes → AreStored nodes (length nodes) order starts block_of → AreParts order starts block_of
 parts_made vars received nodes order starts block_of graph kept = record {
   starts_are = kept.starts_are;
-  stands = λ n h. subst (λ b. Stands (cut order starts) b n) (get_or_same block_of n (length nodes) 0 h)
-      (all_stand nodes (cut order starts) block_of kept.made (λ m s edge. graph.can.succs m edge.0 s edge.1) graph.reached n (omega (arith, h, kept.made.long)));
+  stands = λ n h. subst (λ b. StandsIn (parts_at order starts) b n) (get_or_default block_of n (length nodes) 0 h)
+      (all_stand nodes (parts_at order starts) block_of kept.made (λ m s edge. graph.can.succs m edge.0 s edge.1) graph.reached n (omega (arith, h, kept.made.long)));
 }
 
-pub blocks_made : (vars : List (List ℕ)) (received : List ℕ) (nodes : List Node) (order starts block_of : List ℕ) → IsGraph vars received nodes → AreKept nodes (length nodes) order starts block_of → AreBlocksOf nodes (record { nodes = length block_of; lists = cut order starts })
+-- and are the blocks of the graph
+pub blocks_made : (vars : List (List ℕ)) (received : List ℕ) (nodes : List Node) (order starts block_of : List ℕ) → IsGraph vars received nodes → AreStored nodes (length nodes) order starts block_of → AreBlocksOf nodes (record { nodes = length block_of; lists = parts_at order starts })
 blocks_made vars received nodes order starts block_of graph kept = record {
   count = kept.made.long;
-  are = all_made nodes (cut order starts) block_of kept.made (λ m s edge. graph.can.succs m edge.0 s edge.1) graph.reached;
+  are = all_made nodes (parts_at order starts) block_of kept.made (λ m s edge. graph.can.succs m edge.0 s edge.1) graph.reached;
 }
 
-pub ends_at : (end b : ℕ) (order starts : List ℕ) → AreStarts end starts → b + 1 < length starts → (get_or starts b 0 ≤ get_or starts (b + 1) 0) × (get_or starts (b + 1) 0 ≤ end) × (slice_get (cut order starts) b ≡ Some (slice_range order (get_or starts b 0) (get_or starts (b + 1) 0)))
+-- the bounds of the part of an index, and the part
+pub ends_at : (end b : ℕ) (order starts : List ℕ) → AreStarts end starts → b + 1 < length starts → (get_or starts b 0 ≤ get_or starts (b + 1) 0) × (get_or starts (b + 1) 0 ≤ end) × (slice_get (parts_at order starts) b ≡ Some (slice_range order (get_or starts b 0) (get_or starts (b + 1) 0)))
 ends_at end b order starts are h =
     let e : suc b ≡ b + 1 = omega arith in
     let h' : suc b < length starts = omega (arith, h) in
     let bounds = part_bounds end b starts are h' in
-    subst (λ k. (get_or starts b 0 ≤ get_or starts k 0) × (get_or starts k 0 ≤ end) × (slice_get (cut order starts) b ≡ Some (slice_range order (get_or starts b 0) (get_or starts k 0)))) e (bounds.0, bounds.1, cut_at end b order starts are h')
+    subst (λ k. (get_or starts b 0 ≤ get_or starts k 0) × (get_or starts k 0 ≤ end) × (slice_get (parts_at order starts) b ≡ Some (slice_range order (get_or starts b 0) (get_or starts k 0)))) e (bounds.0, bounds.1, cut_at end b order starts are h')
 
+-- the nodes that are glued are nodes of the graph
 pub glued_within : (vars : List (List ℕ)) (received : List ℕ) (nodes : List Node) (m n : ℕ) → IsGraph vars received nodes → IsGlued nodes m n → n < length nodes
 glued_within vars received nodes m n graph glued = let edge = glued_edge nodes m n glued in (graph.can.succs m edge.0 n edge.1).1

@@ -11,15 +11,17 @@ use Rattle.flow_graph.specs.declared.plan.Item.TheVariants.{Placed, Jump}
 use Rattle.flow_graph.specs.declared.nodes.Node.{Node}
 use Rattle.flow_graph.specs.declared.nodes.Node.TheVariants.{Start, Skip, Assign, Print, Call, Test, Return}
 use Rattle.flow_graph.specs.Graphs.{GraphShape}
-use Rattle.flow_graph.specs.Kept.{AreKept, IsMade, marked, rank}
+use Rattle.flow_graph.specs.Kept.{AreKept, IsMade, marked, marked_below}
 use Rattle.flow_graph.specs.Lowered.{IsLowered, all_nodes, nodes_from, place_node}
 use Rattle.flow_graph.specs.Numbering.{position, renamed, renamed_operand, renumbered, seen_in}
 use Rattle.flow_graph.specs.Layouts.{IsLaid, emitted, emitted_by, item_insts, place_in, plain_body}
 use Rattle.flow_graph.specs.Calls.{BodyCalls, NodesCall, inst_call, node_call}
-use Rattle.flow_graph.specs.CallLaws.{mapped_from, redirected_calls}
+use Rattle.flow_graph.specs.NodeLaws.{mapped_from}
+use Rattle.flow_graph.specs.CallLaws.{redirected_calls}
 
 -- ---- nodes that are kept
 
+-- a marked node is one of the list
 marked_from : (marks : List Bool) (nodes : List Node) (n : ℕ) (node : Node) → slice_get (marked marks nodes) n ≡ Some node → (m : ℕ) × (slice_get nodes m ≡ Some node)
 marked_from [] nodes n node e = cc
 marked_from (true ∷ marks) [] n node e = cc
@@ -28,20 +30,24 @@ marked_from (true ∷ marks) (first ∷ nodes) zero node e = (0, e)
 marked_from (true ∷ marks) (first ∷ nodes) (suc n) node e = let there = marked_from marks nodes n node e in (suc there.0, there.1)
 marked_from (false ∷ marks) (first ∷ nodes) n node e = let there = marked_from marks nodes n node e in (suc there.0, there.1)
 
+-- the nodes that are kept make no calls but those of the list
 kept_calls : (raw nodes : List Node) (called count : ℕ) → AreKept raw nodes → NodesCall nodes called count → NodesCall raw called count
 kept_calls raw nodes called count kept c =
-    let all = redirected_calls (rank kept.marks) (marked kept.marks raw) called count (subst (λ ns. NodesCall ns called count) kept.are c) in
+    let all = redirected_calls (marked_below kept.marks) (marked kept.marks raw) called count (subst (λ ns. NodesCall ns called count) kept.are c) in
     let there = marked_from kept.marks raw all.number all.node all.here in
     record { number = there.0; node = all.node; here = there.1; calls = all.calls }
 
+-- a made graph makes no calls but those of its nodes
 pub made_calls : (name : List ℕ) (vars : List (List ℕ)) (received : List ℕ) (raw : List Node) (graph : GraphShape) → IsMade name vars received raw graph → (called count : ℕ) → NodesCall graph.nodes called count → NodesCall raw called count
 made_calls name vars received raw graph made called count = kept_calls raw graph.nodes called count made.nodes_are
 
 -- ---- lowering
 
+-- no call is not a call
 no_call : (called count : ℕ) → ◌≡◌ {A = Option (ℕ × ℕ)} None (Some (called, count)) → ⊥
 no_call called count is = absurd (cc)
 
+-- the node of an instruction makes its call
 place_call : (p : ℕ) (inst : Inst) → node_call (place_node p inst) ≡ inst_call inst
 place_call p (insts.Receive x) = refl
 place_call p (insts.Assign x rhs) = refl
@@ -51,6 +57,7 @@ place_call p (insts.Call into unit operands) = refl
 place_call p (insts.Print a) = refl
 place_call p (insts.Return a) = refl
 
+-- a call of the nodes is a call of the body
 nodes_call : (p : ℕ) (body : List Inst) (n : ℕ) (node : Node) (called count : ℕ) → slice_get (nodes_from p body) n ≡ Some node → node_call node ≡ Some (called, count) → BodyCalls body called count
 nodes_call p [] zero node called count e calls = let same : Return (Const (pos 0)) ≡ node = cc in absurd (no_call called count (ap node_call same ∙ calls))
 nodes_call p [] (suc n) node called count e calls = cc
@@ -58,10 +65,12 @@ nodes_call p (inst ∷ body) zero node called count e calls = let same : place_n
 nodes_call p (inst ∷ body) (suc n) node called count e calls =
     let there = nodes_call (suc p) body n node called count e calls in record { place = suc there.place; inst = there.inst; here = there.here; calls = there.calls }
 
+-- the same with the Start node before them
 all_call : (body : List Inst) (called count : ℕ) (n : ℕ) (node : Node) → slice_get (all_nodes body) n ≡ Some node → node_call node ≡ Some (called, count) → BodyCalls body called count
 all_call body called count zero node e calls = let same : Start (suc (receives_in body)) ≡ node = cc in absurd (no_call called count (ap node_call same ∙ calls))
 all_call body called count (suc n) node e calls = nodes_call 0 body n node called count e calls
 
+-- a graph makes no calls but those of its unit
 pub lowered_calls : (unit : UnitShape) (graph : GraphShape) → IsLowered unit graph → (called count : ℕ) → NodesCall graph.nodes called count → BodyCalls unit.body called count
 lowered_calls unit graph lowered called count c =
     let all = kept_calls (all_nodes unit.body) graph.nodes called count lowered.made.nodes_are c in
@@ -69,10 +78,12 @@ lowered_calls unit graph lowered called count c =
 
 -- ---- layout
 
+-- renamed operands are as many
 renamed_operands_long : (to : ℕ → ℕ) (operands : List Operand) → length (map (renamed_operand to) operands) ≡ length operands
 renamed_operands_long to [] = refl
 renamed_operands_long to (a ∷ operands) = ap suc (renamed_operands_long to operands)
 
+-- a renamed instruction calls the same function with as many arguments
 renamed_call : (to : ℕ → ℕ) (inst : Inst) → inst_call (renamed to inst) ≡ inst_call inst
 renamed_call to (insts.Receive x) = refl
 renamed_call to (insts.Assign x rhs) = refl
@@ -82,6 +93,7 @@ renamed_call to (insts.Call into unit operands) = ap (λ n. Some (unit, n)) (ren
 renamed_call to (insts.Print a) = refl
 renamed_call to (insts.Return a) = refl
 
+-- a call of two bodies joined is a call of one of them
 either_calls : (xs ys : List Inst) (called count : ℕ) → BodyCalls (xs ++ ys) called count → BodyCalls xs called count ⊎ BodyCalls ys called count
 either_calls [] ys called count c = inr c
 either_calls (x ∷ xs) ys called count c = go (λ there. either_calls xs ys called count there) c.place c.inst c.here c.calls
@@ -95,11 +107,13 @@ either_calls (x ∷ xs) ys called count c = go (λ there. either_calls xs ys cal
     go rest zero inst here calls = inl (record { place = 0; inst = inst; here = here; calls = calls })
     go rest (suc place) inst here calls = later (rest (record { place = place; inst = inst; here = here; calls = calls }))
 
+-- Receives make no calls
 receives_call_none : (xs : List ℕ) (called count : ℕ) → BodyCalls (map insts.Receive xs) called count → ⊥
 receives_call_none xs called count c =
     let from = mapped_from insts.Receive (slice_get xs c.place) c.inst (sym (slice_get-map insts.Receive xs c.place) ∙ c.here) in
     no_call called count (ap inst_call from.2 ∙ c.calls)
 
+-- the call of a single instruction is its own
 one_call : (inst : Inst) (called count : ℕ) → BodyCalls (inst ∷ []) called count → inst_call inst ≡ Some (called, count)
 one_call inst called count c = go c.place c.inst c.here c.calls
   where
@@ -107,6 +121,7 @@ one_call inst called count c = go c.place c.inst c.here c.calls
     go zero other here calls = let same : inst ≡ other = cc in ap inst_call same ∙ calls
     go (suc place) other here calls = cc
 
+-- what is emitted for a node makes the call of that node alone
 emitted_by_calls : (place : ℕ → ℕ) (node : Node) (called count : ℕ) → BodyCalls (emitted_by place (Some node)) called count → node_call node ≡ Some (called, count)
 emitted_by_calls place (Start next) called count c = let here : slice_get [] c.place ≡ Some c.inst = c.here in cc
 emitted_by_calls place (Skip next) called count c = let here : slice_get [] c.place ≡ Some c.inst = c.here in cc
@@ -133,6 +148,7 @@ module _ (nodes : List Node) (place : ℕ → ℕ) where
       go rest (inl there) = rest there
       go rest (inr here) = item_calls item called count here
 
+-- the body before it is renumbered makes no calls but those of the nodes
 plain_calls : (received : List ℕ) (nodes : List Node) (plan : List Item) (called count : ℕ) → BodyCalls (plain_body received nodes plan) called count → NodesCall nodes called count
 plain_calls received nodes plan called count c = go (either_calls (map insts.Receive received) (emitted nodes place plan) called count c)
   where
@@ -143,12 +159,14 @@ plain_calls received nodes plan called count c = go (either_calls (map insts.Rec
     go (inl there) = absurd (receives_call_none received called count there)
     go (inr here) = emitted_calls nodes place plan called count here
 
+-- new numbers of variables leave the calls
 renumbered_calls : (body : List Inst) (called count : ℕ) → BodyCalls (renumbered body) called count → BodyCalls body called count
 renumbered_calls body called count c =
     let to = position (seen_in body) in
     let from = mapped_from (renamed to) (slice_get body c.place) c.inst (sym (slice_get-map (renamed to) body c.place) ∙ c.here) in
     record { place = c.place; inst = from.0; here = from.1; calls = sym (renamed_call to from.0) ∙ ap inst_call from.2 ∙ c.calls }
 
+-- a unit makes no calls but those of its graph
 pub laid_calls : (vars : List (List ℕ)) (received : List ℕ) (nodes : List Node) (names : List (List ℕ)) (body : List Inst) → IsLaid vars received nodes names body → (called count : ℕ) → BodyCalls body called count → NodesCall nodes called count
 laid_calls vars received nodes names body laid called count c =
     plain_calls received nodes laid.plan called count (renumbered_calls (plain_body received nodes laid.plan) called count (subst (λ b. BodyCalls b called count) laid.body_is c))

@@ -1,18 +1,20 @@
 -- The nodes of an editor, with their edges: what each of its edits makes of them.
 use Rattle.std.proofs.Common.{◌≡◌, ℕ, zero, suc, ◌+◌, ◌<◌, ◌≤◌, Bool, true, false, ◌||◌, cond, eqb, ltb, nat_lt, List, [], ◌∷◌, ◌++◌, map, length, take, set, slice_get, replicate, Option, Some, None, option_map, ◌⊎◌, inl, inr, refl, sym, ap, ◌∙◌, subst, arith, eq-eqb, append_assoc}
 use Rattle.std.proofs.lemmas.Bool.{cases_eq, cases_lt, ne_eqb, lt-ltb, le-ltb, ltb-true, false≢true}
-use Rattle.std.proofs.lemmas.List.{length-map, length-set}
+use Rattle.std.proofs.lemmas.List.{length-map, length-set, length-take-le, set-set}
+use Rattle.std.proofs.Math.Seq.{take-suc-set}
+use Rattle.flow_graph.specs.ListLaws.{get_take, set_here, set_elsewhere}
 use Rattle.std.proofs.lemmas.Option.{slice_get_within, same_Some}
 use Rattle.mir_base.specs.declared.instructions.Rhs.{Rhs}
 use Rattle.mir_base.specs.Shapes.{AllBelow, rhs_vars}
-use Rattle.node_list.specs.Lists.{Lists, list_at, times_in, times, is_listed, after_in, first_some, node_after}
-use Rattle.node_list.specs.Lists as lists
+use Rattle.node_list.specs.Lists.{Lists, inserted_before, list_at, times_in, times, is_listed, after_in, first_some, node_after}
 use Rattle.flow_graph.specs.declared.nodes.Node.{Node}
-use Rattle.flow_graph.specs.declared.nodes.Node.TheVariants.{Start, Skip, Assign, Print, Call, Test, Return}
-use Rattle.flow_graph.specs.Edited.{number_in, leads, edited_from, HoldsEdits}
+use Rattle.flow_graph.specs.declared.nodes.Node.TheVariants.{Assign}
+use Rattle.flow_graph.specs.Edited.{number_or_none, leads, edited_from, HoldsEdits}
 use Rattle.flow_graph.specs.Editing.{past, put_before, change_at}
-use Rattle.flow_graph.specs.EditingLaws.{redirected_same, redirected_twice, redirected_none, redirected_changed, changed_succs, put_graph, change_graph}
-use Rattle.flow_graph.specs.Graphs.{node_succs, succs_of, IsEdge, IsGraph, AllWithin, SuccsBelow}
+use Rattle.flow_graph.specs.EditingLaws.{put_graph, change_graph}
+use Rattle.flow_graph.specs.NodeLaws.{redirected_same, redirected_twice, redirected_none, redirected_changed, changed_succs}
+use Rattle.flow_graph.specs.Graphs.{node_succs, succs_of, IsEdge, IsGraph, AllWithin}
 use Rattle.flow_graph.specs.InsertionNodes.{edge_node}
 use Rattle.flow_graph.specs.Insertions.{Change, changed, ChangeBelow}
 use Rattle.flow_graph.specs.Kept.{redirected}
@@ -20,46 +22,19 @@ use Rattle.flow_graph.specs.Paths.{Ends}
 
 -- ---- lists
 
+-- there are equally many nodes
 pub edited_length : (l : List (List ℕ)) (m : ℕ) (nodes : List Node) → length (edited_from l m nodes) ≡ length nodes
 edited_length l m [] = refl
 edited_length l m (node ∷ nodes) = ap suc (edited_length l (suc m) nodes)
 
+-- the edited nodes of two lists joined are joined, the second numbered on from the first
 edited_append : (l : List (List ℕ)) (m : ℕ) (xs ys : List Node) → edited_from l m (xs ++ ys) ≡ edited_from l m xs ++ edited_from l (m + length xs) ys
 edited_append l m [] ys = let same : m ≡ m + 0 = omega arith in ap (λ k. edited_from l k ys) same
 edited_append l m (x ∷ xs) ys =
     let same : suc m + length xs ≡ m + length (x ∷ xs) = omega arith in
     ap (λ zs. redirected (leads l m) x ∷ zs) (edited_append l (suc m) xs ys ∙ ap (λ k. edited_from l (suc m) xs ++ edited_from l k ys) same)
 
-pub take_length : {A : Type 0} (xs : List A) (n : ℕ) → n ≤ length xs → length (take n xs) ≡ n
-take_length [] zero le = refl
-take_length [] (suc n) le = absurd (omega (arith, le))
-take_length (x ∷ xs) zero le = refl
-take_length (x ∷ xs) (suc n) le = ap suc (take_length xs n (omega (arith, le)))
-
-take_next : {A : Type 0} (xs : List A) (n : ℕ) (x : A) → n < length xs → take (suc n) (set xs n x) ≡ take n xs ++ x ∷ []
-take_next [] n x lt = absurd (omega (arith, lt))
-take_next (y ∷ xs) zero x lt = refl
-take_next (y ∷ xs) (suc n) x lt = ap (λ l. y ∷ l) (take_next xs n x (omega (arith, lt)))
-
-pub take_get : {A : Type 0} (xs : List A) (n k : ℕ) → k < n → slice_get (take n xs) k ≡ slice_get xs k
-take_get [] zero k lt = refl
-take_get [] (suc n) k lt = refl
-take_get (x ∷ xs) zero k lt = absurd (omega (arith, lt))
-take_get (x ∷ xs) (suc n) zero lt = refl
-take_get (x ∷ xs) (suc n) (suc k) lt = take_get xs n k (omega (arith, lt))
-
-set_other : {A : Type 0} (xs : List A) (n k : ℕ) (x : A) → (k ≡ n → ⊥) → slice_get (set xs n x) k ≡ slice_get xs k
-set_other [] n k x differ = refl
-set_other (y ∷ xs) zero zero x differ = absurd (differ refl)
-set_other (y ∷ xs) zero (suc k) x differ = refl
-set_other (y ∷ xs) (suc n) zero x differ = refl
-set_other (y ∷ xs) (suc n) (suc k) x differ = set_other xs n k x (λ e. differ (ap suc e))
-
-set_twice : {A : Type 0} (xs : List A) (n : ℕ) (x y : A) → set (set xs n x) n y ≡ set xs n y
-set_twice [] n x y = refl
-set_twice (z ∷ xs) zero x y = refl
-set_twice (z ∷ xs) (suc n) x y = ap (λ l. z ∷ l) (set_twice xs n x y)
-
+-- a list of mapped lists is the mapped list, where an empty list stays empty
 list_map : (f : List ℕ → List ℕ) (l : List (List ℕ)) (s : ℕ) → f [] ≡ [] → list_at (map f l) s ≡ f (list_at l s)
 list_map f [] s empty = sym empty
 list_map f (xs ∷ l) zero empty = refl
@@ -69,7 +44,7 @@ list_map f (xs ∷ l) (suc s) empty = list_map f l s empty
 
 module _ (node new : ℕ) where
   abbrev put : List ℕ → List ℕ
-  put = lists.put_before node new
+  put = inserted_before node new
 
   head_put : (xs : List ℕ) → slice_get (put xs) 0 ≡ option_map (past node new) (slice_get xs 0)
   head_put [] = refl
@@ -148,20 +123,24 @@ module _ (node new : ℕ) where
       chosen rest true = more new (x ∷ put (y ∷ xs)) (more x (put (y ∷ xs)) rest)
       chosen rest false = more x (put (y ∷ xs)) rest
 
+-- a list that ends has a first item
 ends_head : (s : ℕ) (xs : List ℕ) → Ends s xs → (k : ℕ) × (slice_get xs 0 ≡ Some k)
 ends_head s [] ends = absurd ends
 ends_head s (x ∷ xs) ends = (x, refl)
 
-mapped_number : (f : ℕ → ℕ) (o : Option ℕ) (k : ℕ) → o ≡ Some k → number_in (option_map f o) ≡ f (number_in o)
-mapped_number f o k e = ap (λ q. number_in (option_map f q)) e ∙ ap (λ q. f (number_in q)) (sym e)
+-- where there is a number, it may be mapped before or after it is read
+mapped_number : (f : ℕ → ℕ) (o : Option ℕ) (k : ℕ) → o ≡ Some k → number_or_none (option_map f o) ≡ f (number_or_none o)
+mapped_number f o k e = ap (λ q. number_or_none (option_map f q)) e ∙ ap (λ q. f (number_or_none q)) (sym e)
 
 -- ---- where edges lead
 
-pub leads_old : (l : List (List ℕ)) (m s : ℕ) → m < length l → leads l m s ≡ number_in (slice_get (list_at l s) 0)
-leads_old l m s lt = ap (λ b. cond b (number_in (slice_get (list_at l s) 0)) (number_in (node_after l m))) (lt-ltb m (length l) lt)
+-- an edge of an old node leads to the first of a list
+pub leads_old : (l : List (List ℕ)) (m s : ℕ) → m < length l → leads l m s ≡ number_or_none (slice_get (list_at l s) 0)
+leads_old l m s lt = ap (λ b. cond b (number_or_none (slice_get (list_at l s) 0)) (number_or_none (node_after l m))) (lt-ltb m (length l) lt)
 
-pub leads_new : (l : List (List ℕ)) (m s : ℕ) → length l ≤ m → leads l m s ≡ number_in (node_after l m)
-leads_new l m s le = ap (λ b. cond b (number_in (slice_get (list_at l s) 0)) (number_in (node_after l m))) (le-ltb m (length l) le)
+-- an edge of a new node leads to the next of its list
+pub leads_new : (l : List (List ℕ)) (m s : ℕ) → length l ≤ m → leads l m s ≡ number_or_none (node_after l m)
+leads_new l m s le = ap (λ b. cond b (number_or_none (slice_get (list_at l s) 0)) (number_or_none (node_after l m))) (le-ltb m (length l) le)
 
 -- nodes whose edges lead elsewhere
 edited_past : (l l' : List (List ℕ)) (to : ℕ → ℕ) (m : ℕ) (nodes : List Node) → ((j slot s : ℕ) → IsEdge nodes j slot s → leads l' (m + j) s ≡ to (leads l (m + j) s)) → edited_from l' m nodes ≡ map (redirected to) (edited_from l m nodes)
@@ -193,24 +172,17 @@ edited_changed l m (suc used) (node ∷ nodes) (suc n) change old at lt = ap (λ
 
 -- ---- an edge of the used nodes is one of the nodes
 
+-- an edge of a used node is one of the nodes taken
 taken_edge : (nodes : List Node) (used m slot s : ℕ) → m < used → IsEdge nodes m slot s → IsEdge (take used nodes) m slot s
-taken_edge nodes used m slot s lt edge = ap (λ o. slice_get (succs_of o) slot) (take_get nodes used m lt) ∙ edge
+taken_edge nodes used m slot s lt edge = ap (λ o. slice_get (succs_of o) slot) (get_take nodes used m lt) ∙ edge
 
+-- and the other way round
 edge_taken : (nodes : List Node) (used m slot s : ℕ) → m < used → IsEdge (take used nodes) m slot s → IsEdge nodes m slot s
-edge_taken nodes used m slot s lt edge = ap (λ o. slice_get (succs_of o) slot) (sym (take_get nodes used m lt)) ∙ edge
-
--- the successors of an old node are below the number of lists
-pub succs_below : (n : ℕ) (node : Node) → ((slot s : ℕ) → slice_get (node_succs node) slot ≡ Some s → s < n) → SuccsBelow n node
-succs_below n (Start next) within = within 0 next refl
-succs_below n (Skip next) within = within 0 next refl
-succs_below n (Assign x rhs next) within = within 0 next refl
-succs_below n (Print a next) within = within 0 next refl
-succs_below n (Call into unit operands next) within = within 0 next refl
-succs_below n (Test test taken other) within = (within 0 taken refl, within 1 other refl)
-succs_below n (Return a) within = tt
+edge_taken nodes used m slot s lt edge = ap (λ o. slice_get (succs_of o) slot) (sym (get_take nodes used m lt)) ∙ edge
 
 -- ---- one by one
 
+-- one more node has its edges
 pub one_led : (l : List (List ℕ)) (m : ℕ) (led rest rest' whole : List Node) (node found : Node) → rest ≡ node ∷ rest' → found ≡ redirected (leads l m) node → led ++ edited_from l m rest ≡ whole → (led ++ found ∷ []) ++ edited_from l (m + 1) rest' ≡ whole
 one_led l m led rest rest' whole node found is led_is all =
     let next : m + 1 ≡ suc m = omega arith in
@@ -222,15 +194,18 @@ one_led l m led rest rest' whole node found is led_is all =
 
 -- ---- one put
 
+-- a node that is listed stands there at least once
 is_there : (l : List (List ℕ)) (n : ℕ) → is_listed l n ≡ true → 0 < times l n
 is_there l n e = ltb-true 0 (times l n) e
 
+-- a node that is not listed stands there no times
 is_absent : (l : List (List ℕ)) (n : ℕ) → is_listed l n ≡ false → times l n ≡ 0
 is_absent l n e = elim (cases_lt 0 (times l n)) [
   | inl some ↦ absurd (false≢true (sym e ∙ lt-ltb 0 (times l n) some))
   | inr none ↦ omega (arith, none)
 ]
 
+-- a number is below used + 1 where it is below used or equal to it
 joined_lt : (n used : ℕ) → nat_lt n used || eqb n used ≡ nat_lt n (suc used)
 joined_lt n used = elim (cases_lt n used) [
   | inl lt ↦ ap (λ b. b || eqb n used) (lt-ltb n used lt) ∙ sym (lt-ltb n (suc used) (omega (arith, lt)))
@@ -245,7 +220,7 @@ module _ (vars : List (List ℕ)) (received : List ℕ) (nodes : List Node) (old
   edited = edited_from links.lists 0 (take used nodes)
 
   pub used_length : length (edited_from links.lists 0 (take used nodes)) ≡ used
-  used_length = edited_length links.lists 0 (take used nodes) ∙ take_length nodes used held.room
+  used_length = edited_length links.lists 0 (take used nodes) ∙ length-take-le used nodes held.room
 
   pub listed_below : (n : ℕ) → n < used → is_listed links.lists n ≡ true
   listed_below n lt = held.listed n ∙ lt-ltb n used lt
@@ -255,17 +230,17 @@ module _ (vars : List (List ℕ)) (received : List ℕ) (nodes : List Node) (old
 
   module _ (node x : ℕ) (rhs : Rhs) (room : used < length nodes) (some : 1 ≤ node) (within : node < used) where
     abbrev lists' : List (List ℕ)
-    lists' = map (lists.put_before node used) links.lists
+    lists' = map (inserted_before node used) links.lists
 
     long : length lists' ≡ length links.lists
-    long = length-map links.lists (lists.put_before node used)
+    long = length-map links.lists (inserted_before node used)
 
     old_leads : (m s : ℕ) → m < olds → s < olds → leads lists' m s ≡ past node used (leads links.lists m s)
     old_leads m s lt s_in =
         let head = ends_head s (list_at links.lists s) (held.ends s s_in) in
         leads_old lists' m s (omega (arith, long, lt, held.count))
-        ∙ ap (λ xs. number_in (slice_get xs 0)) (list_map (lists.put_before node used) links.lists s refl)
-        ∙ ap number_in (head_put node used (list_at links.lists s))
+        ∙ ap (λ xs. number_or_none (slice_get xs 0)) (list_map (inserted_before node used) links.lists s refl)
+        ∙ ap number_or_none (head_put node used (list_at links.lists s))
         ∙ mapped_number (past node used) (slice_get (list_at links.lists s) 0) head.0 head.1
         ∙ ap (past node used) (sym (leads_old links.lists m s (omega (arith, lt, held.count))))
 
@@ -273,32 +248,32 @@ module _ (vars : List (List ℕ)) (received : List ℕ) (nodes : List Node) (old
     new_leads m s ge lt =
         let next = held.follows m ge lt in
         leads_new lists' m s (omega (arith, long, ge, held.count))
-        ∙ ap number_in (after_puts node used m (λ e. omega (arith, e, lt)) links.lists)
+        ∙ ap number_or_none (after_puts node used m (λ e. omega (arith, e, lt)) links.lists)
         ∙ mapped_number (past node used) (node_after links.lists m) next.0 next.1
         ∙ ap (past node used) (sym (leads_new links.lists m s (omega (arith, ge, held.count))))
 
     own_next : node_after lists' used ≡ Some node
     own_next = after_news node used (λ e. omega (arith, e, within)) links.lists (is_absent links.lists used unlisted) (is_there links.lists node (listed_below node within))
 
-    pub edited_put : edited_from (map (lists.put_before node used) links.lists) 0 (take (suc used) (set nodes used (Assign x rhs node))) ≡ put_before node x rhs (edited_from links.lists 0 (take used nodes))
+    pub edited_put : edited_from (map (inserted_before node used) links.lists) 0 (take (suc used) (set nodes used (Assign x rhs node))) ≡ put_before node x rhs (edited_from links.lists 0 (take used nodes))
     edited_put =
         let front = take used nodes in
-        let count : 0 + length front ≡ used = omega (arith, take_length nodes used held.room) in
+        let count : 0 + length front ≡ used = omega (arith, length-take-le used nodes held.room) in
         let olds_are = edited_past links.lists lists' (past node used) 0 front (λ j slot s edge.
-        (let within_front : j < used = omega (arith, take_length nodes used held.room, slice_get_within front j _ (edge_node front j slot s edge).1) in
+        (let within_front : j < used = omega (arith, length-take-le used nodes held.room, slice_get_within front j _ (edge_node front j slot s edge).1) in
         let number : j ≡ 0 + j = omega arith in
         subst (λ k. leads lists' k s ≡ past node used (leads links.lists k s)) number (elim (cases_lt j olds) [
           | inl old ↦ old_leads j s old (held.targets j slot s old (edge_taken nodes used j slot s within_front edge))
           | inr ge ↦ new_leads j s ge within_front
         ]))) in
-        let last : redirected (leads lists' (0 + length front)) (Assign x rhs node) ≡ Assign x rhs node = ap (Assign x rhs) (ap (λ k. leads lists' k node) count ∙ leads_new lists' used node (omega (arith, long, held.count, held.some)) ∙ ap number_in own_next) in
-        ap (edited_from lists' 0) (take_next nodes used (Assign x rhs node) room)
+        let last : redirected (leads lists' (0 + length front)) (Assign x rhs node) ≡ Assign x rhs node = ap (Assign x rhs) (ap (λ k. leads lists' k node) count ∙ leads_new lists' used node (omega (arith, long, held.count, held.some)) ∙ ap number_or_none own_next) in
+        ap (edited_from lists' 0) (take-suc-set nodes used (Assign x rhs node) room)
         ∙ edited_append lists' 0 front (Assign x rhs node ∷ [])
         ∙ ap (λ l. l ++ edited_from lists' (0 + length front) (Assign x rhs node ∷ [])) olds_are
         ∙ ap (λ n. map (redirected (past node used)) (edited_from links.lists 0 front) ++ n ∷ []) last
         ∙ ap (λ k. map (redirected (past node k)) (edited_from links.lists 0 front) ++ Assign x rhs node ∷ []) (sym used_length)
 
-    pub held_put : (links' : Lists) → links'.nodes ≡ links.nodes → links'.lists ≡ map (lists.put_before node used) links.lists → ((n : ℕ) → is_listed links'.lists n ≡ (is_listed links.lists n || eqb n used)) → x < length vars → AllBelow (length vars) (rhs_vars rhs)
+    pub held_put : (links' : Lists) → links'.nodes ≡ links.nodes → links'.lists ≡ map (inserted_before node used) links.lists → ((n : ℕ) → is_listed links'.lists n ≡ (is_listed links.lists n || eqb n used)) → x < length vars → AllBelow (length vars) (rhs_vars rhs)
         → HoldsEdits vars received (set nodes used (Assign x rhs node)) olds (suc used) links'
     held_put links' same_nodes are joins var below = record {
       room = omega (arith, room, length-set nodes used (Assign x rhs node));
@@ -306,14 +281,14 @@ module _ (vars : List (List ℕ)) (received : List ℕ) (nodes : List Node) (old
       count = ap length are ∙ long ∙ held.count;
       some = omega (arith, held.some);
       listed = λ n. joins n ∙ ap (λ b. b || eqb n used) (held.listed n) ∙ joined_lt n used;
-      ends = λ s lt. subst (Ends s) (sym (ap (λ l. list_at l s) are ∙ list_map (lists.put_before node used) links.lists s refl)) (ends_put node used s (list_at links.lists s) (held.ends s lt));
+      ends = λ s lt. subst (Ends s) (sym (ap (λ l. list_at l s) are ∙ list_map (inserted_before node used) links.lists s refl)) (ends_put node used s (list_at links.lists s) (held.ends s lt));
       follows = λ m ge lt. elim (cases_lt m used) [
         | inl old ↦
             let next = held.follows m ge old in
             (past node used next.0, ap (λ l. node_after l m) are ∙ after_puts node used m (λ e. omega (arith, e, old)) links.lists ∙ ap (option_map (past node used)) next.1)
         | inr end ↦ let is : m ≡ used = omega (arith, end, lt) in (node, ap (λ l. node_after l m) are ∙ ap (node_after lists') is ∙ own_next)
       ];
-      targets = λ m slot s lt edge. held.targets m slot s lt (ap (λ o. slice_get (succs_of o) slot) (sym (set_other nodes used m (Assign x rhs node) (λ e. omega (arith, e, lt, held.some)))) ∙ edge);
+      targets = λ m slot s lt edge. held.targets m slot s lt (ap (λ o. slice_get (succs_of o) slot) (sym (set_elsewhere nodes used m (Assign x rhs node) (λ e. omega (arith, e, lt, held.some)))) ∙ edge);
       graph = subst (IsGraph vars received) (sym (ap (λ l. edited_from l 0 (take (suc used) (set nodes used (Assign x rhs node)))) are ∙ edited_put)) (put_graph vars received edited held.graph node x rhs some (omega (arith, within, used_length)) var below);
     }
 
@@ -321,7 +296,7 @@ module _ (vars : List (List ℕ)) (received : List ℕ) (nodes : List Node) (old
 
   module _ (n : ℕ) (change : Change) (old between : Node) (at : slice_get nodes n ≡ Some old) (within : n < used) where
     pub edited_change : edited_from links.lists 0 (take used (set (set nodes n between) n (changed change old))) ≡ change_at n change (edited_from links.lists 0 (take used nodes))
-    edited_change = ap (λ l. edited_from links.lists 0 (take used l)) (set_twice nodes n between (changed change old)) ∙ edited_changed links.lists 0 used nodes n change old at within
+    edited_change = ap (λ l. edited_from links.lists 0 (take used l)) (set-set nodes n between (changed change old)) ∙ edited_changed links.lists 0 used nodes n change old at within
 
     still_edge : (m slot s : ℕ) → IsEdge (set nodes n (changed change old)) m slot s → IsEdge nodes m slot s
     still_edge m slot s edge = elim (cases_eq m n) [
@@ -329,20 +304,15 @@ module _ (vars : List (List ℕ)) (received : List ℕ) (nodes : List Node) (old
           ap (λ k. slice_get (succs_of (slice_get nodes k)) slot) is
           ∙ ap (λ o. slice_get (succs_of o) slot) at
           ∙ ap (λ l. slice_get l slot) (sym (changed_succs change old))
-          ∙ ap (λ o. slice_get (succs_of o) slot) (sym (set_same nodes n old (changed change old) at))
+          ∙ ap (λ o. slice_get (succs_of o) slot) (sym (set_here nodes n (changed change old) (slice_get_within nodes n old at)))
           ∙ ap (λ k. slice_get (succs_of (slice_get (set nodes n (changed change old)) k)) slot) (sym is)
           ∙ edge
-      | inr differ ↦ ap (λ o. slice_get (succs_of o) slot) (sym (set_other nodes n m (changed change old) differ)) ∙ edge
+      | inr differ ↦ ap (λ o. slice_get (succs_of o) slot) (sym (set_elsewhere nodes n m (changed change old) differ)) ∙ edge
     ]
-      where
-        set_same : (xs : List Node) (k : ℕ) (y z : Node) → slice_get xs k ≡ Some y → slice_get (set xs k z) k ≡ Some z
-        set_same [] k y z e = cc
-        set_same (w ∷ xs) zero y z e = refl
-        set_same (w ∷ xs) (suc k) y z e = set_same xs k y z e
 
     pub held_change : ChangeBelow (length vars) change → HoldsEdits vars received (set (set nodes n between) n (changed change old)) olds used links
     held_change fits =
-        let twice = set_twice nodes n between (changed change old) in
+        let twice = set-set nodes n between (changed change old) in
         let same = length-set nodes n (changed change old) in
         subst (λ l. HoldsEdits vars received l olds used links) (sym twice) (record {
           room = omega (arith, held.room, same);
@@ -358,22 +328,27 @@ module _ (vars : List (List ℕ)) (received : List ℕ) (nodes : List Node) (old
 
 -- ---- the beginning
 
+-- lists of nothing are empty
 pub empty_list : (count s : ℕ) → list_at (replicate count []) s ≡ []
 empty_list zero s = refl
 empty_list (suc count) zero = refl
 empty_list (suc count) (suc s) = empty_list count s
 
+-- in empty lists a node stands no times
 none_times : (count n : ℕ) → times (replicate count []) n ≡ 0
 none_times zero n = refl
 none_times (suc count) n = let rest = none_times count n in omega (arith, rest)
 
+-- and list no number
 pub none_listed : (count n : ℕ) → is_listed (replicate count []) n ≡ nat_lt n 0
 none_listed count n = ap (ltb 0) (none_times count n) ∙ sym (le-ltb n 0 (omega arith))
 
+-- where each list has its own number alone, every edge leads where it led
 pub edited_open : (nodes : List Node) (l : List (List ℕ)) → AllWithin nodes → length l ≡ length nodes → ((s : ℕ) → s < length nodes → list_at l s ≡ s ∷ []) → edited_from l 0 nodes ≡ nodes
 edited_open nodes l within count each = edited_none l 0 nodes (λ j slot s edge. (let j_in = slice_get_within nodes j _ (edge_node nodes j slot s edge).1 in
-    leads_old l (0 + j) s (omega (arith, j_in, count)) ∙ ap (λ xs. number_in (slice_get xs 0)) (each s (within j slot s edge))))
+    leads_old l (0 + j) s (omega (arith, j_in, count)) ∙ ap (λ xs. number_or_none (slice_get xs 0)) (each s (within j slot s edge))))
 
+-- so a new editor holds the graph
 pub held_open : (vars : List (List ℕ)) (received : List ℕ) (nodes all : List Node) (links : Lists) → take (length nodes) all ≡ nodes → length nodes ≤ length all → links.nodes ≡ length all → length links.lists ≡ length nodes → ((s : ℕ) → s < length nodes → list_at links.lists s ≡ s ∷ []) → ((n : ℕ) → is_listed links.lists n ≡ nat_lt n (length nodes)) → IsGraph vars received nodes
     → HoldsEdits vars received all (length nodes) (length nodes) links
 held_open vars received nodes all links taken room links_room count each listed graph = record {

@@ -21,21 +21,26 @@ use Rattle.flow_graph.proofs.Renames.{all_seen, inst_in, positions_differ, renam
 
 -- ---- receives
 
+-- no instruction is a receive
 abbrev NoReceive : List Inst → Type 0
 NoReceive body = (place x : ℕ) → slice_get body place ≡ Some (insts.Receive x) → ⊥
 
+-- two bodies with no Receive, joined, have none
 neither : (xs ys : List Inst) → NoReceive xs → NoReceive ys → NoReceive (xs ++ ys)
 neither [] ys a b place x e = b place x e
 neither (i ∷ xs) ys a b zero x e = a 0 x e
 neither (i ∷ xs) ys a b (suc place) x e = neither xs ys (λ p y e'. a (suc p) y e') b place x e
 
+-- an instruction that is no Receive is a body with none
 only_one : (inst : Inst) → ((x : ℕ) → inst ≡ insts.Receive x → ⊥) → NoReceive (inst ∷ [])
 only_one inst other zero x e = let same : inst ≡ insts.Receive x = cc in other x same
 only_one inst other (suc place) x e = cc
 
+-- the empty body has none
 none_here : NoReceive []
 none_here place x e = cc
 
+-- what is emitted for a node has no Receive
 emits_none : (place : ℕ → ℕ) (o : Option Node) → NoReceive (emitted_by place o)
 emits_none place None = none_here
 emits_none place (Some (Start next)) = none_here
@@ -46,10 +51,12 @@ emits_none place (Some (Call into unit operands next)) = only_one (insts.Call in
 emits_none place (Some (Test test taken other)) = only_one (insts.If test (place taken)) (λ y e. absurd (cc))
 emits_none place (Some (Return a)) = only_one (insts.Return a) (λ y e. absurd (cc))
 
+-- what is emitted for an item has none
 item_none : (nodes : List Node) (place : ℕ → ℕ) (item : Item) → NoReceive (item_insts nodes place item)
 item_none nodes place (Placed n) = emits_none place (slice_get nodes n)
 item_none nodes place (Jump n) = only_one (insts.Goto (place n)) (λ y e. absurd (cc))
 
+-- what is emitted for the whole plan has none
 all_none : (nodes : List Node) (place : ℕ → ℕ) (plan : List Item) → NoReceive (emitted nodes place plan)
 all_none nodes place [] = none_here
 all_none nodes place (item ∷ older) = neither (emitted nodes place older) (item_insts nodes place item) (all_none nodes place older) (item_none nodes place item)
@@ -60,6 +67,7 @@ early [] rest none place x e = absurd (none place x e)
 early (y ∷ xs) rest none zero x e = cc
 early (y ∷ xs) rest none (suc place) x e = early xs rest none place x e
 
+-- a renamed instruction is a Receive only if the instruction is one
 receive_from : (to : ℕ → ℕ) (o : Option Inst) (x : ℕ) → option_map (renamed to) o ≡ Some (insts.Receive x) → (y : ℕ) × (o ≡ Some (insts.Receive y)) × (to y ≡ x)
 receive_from to None x e = cc
 receive_from to (Some (insts.Receive y)) x e = (y, refl, cc)
@@ -72,6 +80,7 @@ receive_from to (Some (insts.Return a)) x e = cc
 
 -- ---- targets
 
+-- a renamed instruction jumps to the same place
 renamed_target : (to : ℕ → ℕ) (o : Option Inst) → target_of (option_map (renamed to) o) ≡ target_of o
 renamed_target to None = refl
 renamed_target to (Some (insts.Receive x)) = refl
@@ -86,6 +95,7 @@ renamed_target to (Some (insts.Return a)) = refl
 abbrev Targets : List Inst → ℕ → Type 0
 Targets body target = (place : ℕ) × (target_of (slice_get body place) ≡ Some target)
 
+-- a target of two bodies joined is a target of one of them
 either_targets : (xs ys : List Inst) (target : ℕ) → Targets (xs ++ ys) target → Targets xs target ⊎ Targets ys target
 either_targets [] ys target t = inr t
 either_targets (x ∷ xs) ys target (zero, e) = inl (0, e)
@@ -95,11 +105,13 @@ either_targets (x ∷ xs) ys target (suc place, e) = later (either_targets xs ys
     later (inl there) = inl (suc there.0, there.1)
     later (inr there) = inr there
 
+-- Receives jump nowhere
 receives_target_none : (xs : List ℕ) (target : ℕ) → Targets (map insts.Receive xs) target → ⊥
 receives_target_none [] target (place, e) = absurd (cc)
 receives_target_none (x ∷ xs) target (zero, e) = absurd (cc)
 receives_target_none (x ∷ xs) target (suc place, e) = receives_target_none xs target (place, e)
 
+-- the target of a single instruction is its own
 one_target : (inst : Inst) (target : ℕ) → Targets (inst ∷ []) target → target_of (Some inst) ≡ Some target
 one_target inst target (zero, e) = e
 one_target inst target (suc place, e) = cc
@@ -230,6 +242,7 @@ module _ (vars : List (List ℕ)) (received : List ℕ) (nodes : List Node) (gra
     targets = target_within;
   }
 
+-- the body of a layout can be lowered
 pub laid_lowers : (vars : List (List ℕ)) (received : List ℕ) (nodes : List Node) (names : List (List ℕ)) (body : List Inst) → IsGraph vars received nodes → IsLaid vars received nodes names body → CanLower body
 laid_lowers vars received nodes names body graph laid =
     subst CanLower (sym laid.body_is) (lowers_again vars received nodes graph laid.plan laid.is_plan.is_plan laid.is_plan.complete)

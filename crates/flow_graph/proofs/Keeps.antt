@@ -9,7 +9,7 @@ use Rattle.mir_base.specs.LockstepLaws.{lockstep_same, lockstep_cheaper}
 use Rattle.flow_graph.specs.declared.nodes.Node.{Node}
 use Rattle.flow_graph.specs.Graphs.{GraphShape, Reached, at_start, along, succs_at, CanMake}
 use Rattle.flow_graph.specs.Machines.{node_transition, graph_code, graph_machine, machine_of}
-use Rattle.flow_graph.specs.Kept.{redirected, rank, marked, AreKept, IsMade}
+use Rattle.flow_graph.specs.Kept.{redirected, marked_below, marked, AreKept, IsMade}
 use Rattle.flow_graph.specs.RedirectLaws.{Shifted, redirects_alike}
 use Rattle.flow_graph.specs.KeptLaws.{at_rank}
 
@@ -18,18 +18,18 @@ module _ (raw nodes : List Node) (received : List ℕ) (kept : AreKept raw nodes
   within zero at_start = some
   within n (along m slot s r e) = succs m slot n e
 
-  node_of : (n : ℕ) → Reached raw n → slice_get nodes (rank kept.marks n) ≡ option_map (redirected (rank kept.marks)) (slice_get raw n)
+  node_of : (n : ℕ) → Reached raw n → slice_get nodes (marked_below kept.marks n) ≡ option_map (redirected (marked_below kept.marks)) (slice_get raw n)
   node_of n r =
       let e = kept.are_marks.exact n (within n r) in
-      ap (λ l. slice_get l (rank kept.marks n)) kept.are ∙ slice_get-map (redirected (rank kept.marks)) (marked kept.marks raw) (rank kept.marks n) ∙ ap (option_map (redirected (rank kept.marks))) (at_rank kept.marks raw n (e.1 r) kept.are_marks.long)
+      ap (λ l. slice_get l (marked_below kept.marks n)) kept.are ∙ slice_get-map (redirected (marked_below kept.marks)) (marked kept.marks raw) (marked_below kept.marks n) ∙ ap (option_map (redirected (marked_below kept.marks))) (at_rank kept.marks raw n (e.1 r) kept.are_marks.long)
 
   abbrev S : Frame → Frame → Type 0
-  S = Shifted (rank kept.marks) (Reached raw)
+  S = Shifted (marked_below kept.marks) (Reached raw)
 
   steps : (f g : Frame) → S f g → Alike S (graph_code received raw f) (graph_code received nodes g)
   steps f g s =
-      let a = redirects_alike received (rank kept.marks) (Reached raw) (slice_get raw f.place) (λ slot t e. along f.place slot t s.good e) f (rank kept.marks f.place) in
-      let b = subst (λ o. Alike S (graph_code received raw f) (node_transition received o (at (rank kept.marks f.place) f))) (sym (node_of f.place s.good)) a in
+      let a = redirects_alike received (marked_below kept.marks) (Reached raw) (slice_get raw f.place) (λ slot t e. along f.place slot t s.good e) f (marked_below kept.marks f.place) in
+      let b = subst (λ o. Alike S (graph_code received raw f) (node_transition received o (at (marked_below kept.marks f.place) f))) (sym (node_of f.place s.good)) a in
       subst (λ h. Alike S (graph_code received raw f) (graph_code received nodes h)) (sym s.is) b
 
   lockstep : Lockstep (graph_machine received raw) (graph_machine received nodes) S
@@ -43,10 +43,12 @@ module _ (raw nodes : List Node) (received : List ℕ) (kept : AreKept raw nodes
 
 -- ---- a made graph does the same as all its nodes
 
+-- it does the same
 pub made_same : (name : List ℕ) (vars : List (List ℕ)) (received : List ℕ) (raw : List Node) (graph : GraphShape) → CanMake vars received raw → IsMade name vars received raw graph → UnitSame (graph_machine received raw) (machine_of graph)
 made_same name vars received raw graph can made =
     subst (λ r. UnitSame (graph_machine received raw) (graph_machine r graph.nodes)) (sym made.received_are) (kept_same raw graph.nodes received made.nodes_are (omega (arith, slice_get_within raw 0 _ can.start.1)) (λ m slot s e. (can.succs m slot s e).1))
 
+-- and evaluates no more operators
 pub made_cheaper : (name : List ℕ) (vars : List (List ℕ)) (received : List ℕ) (raw : List Node) (graph : GraphShape) → CanMake vars received raw → IsMade name vars received raw graph → UnitCheaper (graph_machine received raw) (machine_of graph)
 made_cheaper name vars received raw graph can made =
     subst (λ r. UnitCheaper (graph_machine received raw) (graph_machine r graph.nodes)) (sym made.received_are) (kept_cheaper raw graph.nodes received made.nodes_are (omega (arith, slice_get_within raw 0 _ can.start.1)) (λ m slot s e. (can.succs m slot s e).1))

@@ -5,6 +5,7 @@ use Rattle.std.proofs.lemmas.Grind.{flat_map-append}
 use Rattle.mir_base.specs.declared.instructions.Inst.{Inst}
 use Rattle.mir_base.specs.declared.instructions.Inst.TheVariants as insts
 use Rattle.mir_base.specs.UnitRuns.{UnitSame, UnitCheaper, body_machine, unit_machine}
+use Rattle.mir_base.specs.BelowLaws.{all_below_append}
 use Rattle.mir_base.specs.Shapes.{UnitShape, inst_vars, AllBelow, IsTidy}
 use Rattle.mir_base.specs.UnitLaws.{same_trans, cheaper_trans}
 use Rattle.flow_graph.specs.declared.plan.Item.{Item}
@@ -17,7 +18,9 @@ use Rattle.flow_graph.specs.Plans.{IsPlan, after_node, first_open, is_placed, ne
 use Rattle.flow_graph.specs.Numbering.{position, renamed, renumbered, seen_in}
 use Rattle.flow_graph.specs.Layouts.{IsLaid, IsLayout, emitted, emitted_by, item_insts, place_in, plain_body}
 use Rattle.flow_graph.proofs.Places.{IsPlaceable, placed_same, placed_cheaper}
-use Rattle.flow_graph.proofs.Renames.{renumbered_same, renumbered_cheaper, renumbered_tidy, below_append, seen_below}
+use Rattle.flow_graph.proofs.Renames.{renumbered_same, renumbered_cheaper, renumbered_tidy, seen_below}
+use Rattle.flow_graph.specs.Keeps.{AsGraph, AsUnit, Keeps}
+use Rattle.flow_graph.proofs.CallLaws.{laid_calls}
 
 -- a number of a node that is not Start
 abbrev pub IsInner : List Node → ℕ → Type 0
@@ -107,11 +110,11 @@ module _ (vars : List (List ℕ)) (received : List ℕ) (nodes : List Node) (gra
   emitted_below : (m : ℕ) (place : ℕ → ℕ) (node : Node) → AllBelow m (node_vars node) → AllBelow m (flat_map inst_vars (emitted_by place (Some node)))
   emitted_below m place (Start next) h = tt
   emitted_below m place (Skip next) h = tt
-  emitted_below m place (Assign x rhs next) h = (h.0, below_append m _ [] h.1 tt)
-  emitted_below m place (Print a next) h = below_append m _ [] h tt
-  emitted_below m place (Call into unit operands next) h = below_append m _ [] h tt
-  emitted_below m place (Test test taken other) h = below_append m _ [] h tt
-  emitted_below m place (Return a) h = below_append m _ [] h tt
+  emitted_below m place (Assign x rhs next) h = (h.0, all_below_append m _ [] h.1 tt)
+  emitted_below m place (Print a next) h = all_below_append m _ [] h tt
+  emitted_below m place (Call into unit operands next) h = all_below_append m _ [] h tt
+  emitted_below m place (Test test taken other) h = all_below_append m _ [] h tt
+  emitted_below m place (Return a) h = all_below_append m _ [] h tt
 
   at_below : (place : ℕ → ℕ) (n : ℕ) (o : Option Node) → slice_get nodes n ≡ o → AllBelow (length vars) (flat_map inst_vars (emitted_by place o))
   at_below place n None e = tt
@@ -124,7 +127,7 @@ module _ (vars : List (List ℕ)) (received : List ℕ) (nodes : List Node) (gra
   all_below : (place : ℕ → ℕ) (plan : List Item) → AllBelow (length vars) (flat_map inst_vars (emitted nodes place plan))
   all_below place [] = tt
   all_below place (item ∷ older) =
-      subst (AllBelow (length vars)) (sym (flat_map-append inst_vars (emitted nodes place older) (item_insts nodes place item))) (below_append (length vars) _ _ (all_below place older) (item_below place item))
+      subst (AllBelow (length vars)) (sym (flat_map-append inst_vars (emitted nodes place older) (item_insts nodes place item))) (all_below_append (length vars) _ _ (all_below place older) (item_below place item))
 
   received_vars : (xs : List ℕ) → flat_map inst_vars (map insts.Receive xs) ≡ xs
   received_vars [] = refl
@@ -133,7 +136,7 @@ module _ (vars : List (List ℕ)) (received : List ℕ) (nodes : List Node) (gra
   plain_below : (plan : List Item) → AllBelow (length vars) (flat_map inst_vars (plain_body received nodes plan))
   plain_below plan =
       let place = place_in nodes (length received) plan in
-      subst (AllBelow (length vars)) (sym (flat_map-append inst_vars (map insts.Receive received) (emitted nodes place plan) ∙ ap (λ l. l ++ flat_map inst_vars (emitted nodes place plan)) (received_vars received))) (below_append (length vars) received _ graph.can.received_below (all_below place plan))
+      subst (AllBelow (length vars)) (sym (flat_map-append inst_vars (map insts.Receive received) (emitted nodes place plan) ∙ ap (λ l. l ++ flat_map inst_vars (emitted nodes place plan)) (received_vars received))) (all_below_append (length vars) received _ graph.can.received_below (all_below place plan))
 
   -- ---- the layout
 
@@ -151,20 +154,25 @@ module _ (vars : List (List ℕ)) (received : List ℕ) (nodes : List Node) (gra
   plan_cheaper plan p done =
       cheaper_trans (graph_machine received nodes) (body_machine (plain_body received nodes plan)) _ (placed_same received nodes first plan p done started (placeable plan p)) (placed_cheaper received nodes first plan p done started (placeable plan p)) (renumbered_cheaper (plain_body received nodes plan))
 
+-- the body of a layout is tidy
 pub laid_tidy : (vars : List (List ℕ)) (received : List ℕ) (nodes : List Node) (names : List (List ℕ)) (body : List Inst) → IsGraph vars received nodes → IsLaid vars received nodes names body → IsTidy names body
 laid_tidy vars received nodes names body g l =
     subst (λ n. IsTidy n body) (sym l.names_are) (subst (IsTidy (map (λ x. slice_index_or vars x []) (seen_in (plain_body received nodes l.plan)))) (sym l.body_is) (layout_tidy vars received nodes g l.plan))
 
+-- the variables of the plain body are in range
 pub body_low : (vars : List (List ℕ)) (received : List ℕ) (nodes : List Node) → IsGraph vars received nodes → (plan : List Item) (plain : List Inst) → plain ≡ plain_body received nodes plan → AllBelow (length vars) (flat_map inst_vars plain)
 body_low vars received nodes g plan plain e = subst (λ b. AllBelow (length vars) (flat_map inst_vars b)) (sym e) (plain_below vars received nodes g plan)
 
+-- the successor of Start is a node
 pub first_low : (vars : List (List ℕ)) (received : List ℕ) (nodes : List Node) → IsGraph vars received nodes → start_succ (slice_get nodes 0) < length nodes
 first_low vars received nodes g = (start_inner vars received nodes g (slice_get nodes 0) g.can.start.0 refl g.can.start.1).1
 
+-- the variables seen are in range
 pub seen_low : (vars : List (List ℕ)) (received : List ℕ) (nodes : List Node) → IsGraph vars received nodes → (plan : List Item) (plain : List Inst) (seen : List ℕ) → plain ≡ plain_body received nodes plan → seen ≡ seen_in plain → AllBelow (length vars) seen
 seen_low vars received nodes g plan plain seen e e' =
     subst (AllBelow (length vars)) (sym (e' ∙ ap seen_in e)) (seen_below (length vars) [] (flat_map inst_vars (plain_body received nodes plan)) tt (plain_below vars received nodes g plan))
 
+-- what `lay` makes is a layout
 pub laid_by : (vars : List (List ℕ)) (received : List ℕ) (nodes : List Node) (plan : List Item) (first : ℕ) (plain body : List Inst) (seen : List ℕ) (names : List (List ℕ)) → first ≡ start_succ (slice_get nodes 0) → IsPlan nodes first plan → next_item nodes first plan ≡ None → plain ≡ plain_body received nodes plan → seen ≡ seen_in plain → body ≡ map (renamed (position seen)) plain → names ≡ map (λ x. slice_index_or vars x []) seen → IsLaid vars received nodes names body
 laid_by vars received nodes plan first plain body seen names f p done e e' e'' n = record {
   plan = plan;
@@ -173,8 +181,19 @@ laid_by vars received nodes plan first plain body seen names f p done e e' e'' n
   body_is = e'' ∙ ap (λ s. map (renamed (position s)) plain) e' ∙ ap (λ b. map (renamed (position (seen_in b))) b) e;
 }
 
+-- the unit of a graph does the same
 pub layout_same : (graph : GraphShape) (unit : UnitShape) → IsGraph graph.vars graph.received graph.nodes → IsLayout graph unit → UnitSame (machine_of graph) (unit_machine unit)
 layout_same graph unit g l = subst (λ b. UnitSame (machine_of graph) (body_machine b)) (sym l.laid.body_is) (plan_same graph.vars graph.received graph.nodes g l.laid.plan l.laid.is_plan.is_plan l.laid.is_plan.complete)
 
+-- and evaluates no more operators
 pub layout_cheaper : (graph : GraphShape) (unit : UnitShape) → IsGraph graph.vars graph.received graph.nodes → IsLayout graph unit → UnitCheaper (machine_of graph) (unit_machine unit)
 layout_cheaper graph unit g l = subst (λ b. UnitCheaper (machine_of graph) (body_machine b)) (sym l.laid.body_is) (plan_cheaper graph.vars graph.received graph.nodes g l.laid.plan l.laid.is_plan.is_plan l.laid.is_plan.complete)
+
+-- so the unit keeps all that passes keep
+pub layout_keeps : (graph : GraphShape) (unit : UnitShape) → IsGraph graph.vars graph.received graph.nodes → IsLayout graph unit → Keeps (AsGraph graph) (AsUnit unit)
+layout_keeps graph unit g l = record {
+  name = l.name;
+  same = layout_same graph unit g l;
+  cheaper = layout_cheaper graph unit g l;
+  calls = laid_calls graph.vars graph.received graph.nodes unit.vars unit.body l.laid;
+}

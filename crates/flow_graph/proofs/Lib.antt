@@ -1,4 +1,3 @@
-pub mod Lists
 pub mod Walks
 pub mod Ranks
 pub mod Made

@@ -9,12 +9,15 @@ use Rattle.mir_base.specs.Shapes.{UnitShape, receives_in, inst_vars, AllBelow, A
 use Rattle.mir_base.specs.UnitLaws.{same_trans, cheaper_trans}
 use Rattle.flow_graph.specs.declared.nodes.Node.{Node}
 use Rattle.flow_graph.specs.declared.nodes.Node.TheVariants.{Start, Return}
-use Rattle.flow_graph.specs.Graphs.{GraphShape, node_succs, succs_of, node_vars, IsEdge, IsWithin, CanMake}
+use Rattle.flow_graph.specs.Graphs.{GraphShape, node_succs, succs_of, node_vars, IsEdge, IsBelow, CanMake}
 use Rattle.flow_graph.specs.Machines.{graph_machine, machine_of}
 use Rattle.flow_graph.specs.Lowered.{place_node, nodes_from, all_nodes, received_in, target_of, CanLower, IsLowered}
 use Rattle.flow_graph.proofs.Keeps.{made_same, made_cheaper}
 use Rattle.flow_graph.proofs.Lowers.{places_same, places_cheaper}
+use Rattle.flow_graph.specs.Keeps.{AsGraph, AsUnit, Keeps}
+use Rattle.flow_graph.proofs.CallLaws.{lowered_calls}
 
+-- receives are instructions of the body
 pub receives_few : (body : List Inst) → receives_in body ≤ length body
 receives_few [] = omega arith
 receives_few (insts.Receive x ∷ body) = omega (arith, receives_few body)
@@ -25,7 +28,8 @@ receives_few (insts.Call into unit operands ∷ body) = omega arith
 receives_few (insts.Print a ∷ body) = omega arith
 receives_few (insts.Return a ∷ body) = omega arith
 
-pub target_within : (body : List Inst) (place : ℕ) (inst : Inst) (n : ℕ) → CanLower body → slice_get body place ≡ Some inst → length body < n → IsWithin n (target_of (Some inst))
+-- a jump leads to a place of the body
+pub target_within : (body : List Inst) (place : ℕ) (inst : Inst) (n : ℕ) → CanLower body → slice_get body place ≡ Some inst → length body < n → IsBelow n (target_of (Some inst))
 target_within body place (insts.Receive x) n can e lt = tt
 target_within body place (insts.Assign x rhs) n can e lt = tt
 target_within body place (insts.Goto target) n can e lt = omega (arith, (can.targets place target (ap target_of e)).1, lt)
@@ -34,14 +38,17 @@ target_within body place (insts.Call into unit operands) n can e lt = tt
 target_within body place (insts.Print a) n can e lt = tt
 target_within body place (insts.Return a) n can e lt = tt
 
+-- there is a node for each instruction, and one for the end of the body
 long_nodes : (k : ℕ) (body : List Inst) → length (nodes_from k body) ≡ suc (length body)
 long_nodes k [] = refl
 long_nodes k (inst ∷ body) = ap suc (long_nodes (suc k) body)
 
+-- a node of the list: Start, that of an instruction, or the Return of `end`
 data Found (k : ℕ) (body : List Inst) (p : ℕ) (node : Node) : Type 0 where
   an_inst : (inst : Inst) → slice_get body p ≡ Some inst → node ≡ place_node (k + p) inst → Found k body p node
   the_end : node ≡ Return (Const (pos 0)) → Found k body p node
 
+-- each of these nodes is that of an instruction or the one at the end
 found : (k : ℕ) (body : List Inst) (p : ℕ) (node : Node) → slice_get (nodes_from k body) p ≡ Some node → Found k body p node
 found k [] zero node e = the_end (cc)
 found k [] (suc p) node e = cc
@@ -163,14 +170,26 @@ module _ (vars : List (List ℕ)) (body : List Inst) (tidy : IsTidy vars body) (
 
 -- ---- the graph does the same as the unit
 
+-- the graph of a unit does the same
 pub lowered_same : (unit : UnitShape) (graph : GraphShape) → IsTidy unit.vars unit.body → All (λ inst. AllBelow (length unit.vars) (inst_vars inst)) unit.body → CanLower unit.body → IsLowered unit graph → UnitSame (unit_machine unit) (machine_of graph)
 lowered_same unit graph tidy names can l =
     same_trans (unit_machine unit) (graph_machine (received_in unit.body) (all_nodes unit.body)) (machine_of graph) (places_same unit.body can) (made_same unit.name unit.vars (received_in unit.body) (all_nodes unit.body) graph (lower_can unit.vars unit.body tidy names can) l.made)
 
+-- and evaluates no more operators
 pub lowered_cheaper : (unit : UnitShape) (graph : GraphShape) → IsTidy unit.vars unit.body → All (λ inst. AllBelow (length unit.vars) (inst_vars inst)) unit.body → CanLower unit.body → IsLowered unit graph → UnitCheaper (unit_machine unit) (machine_of graph)
 lowered_cheaper unit graph tidy names can l =
     cheaper_trans (unit_machine unit) (graph_machine (received_in unit.body) (all_nodes unit.body)) (machine_of graph) (places_same unit.body can) (places_cheaper unit.body can) (made_cheaper unit.name unit.vars (received_in unit.body) (all_nodes unit.body) graph (lower_can unit.vars unit.body tidy names can) l.made)
 
+-- so the graph keeps all that passes keep
+pub lowered_keeps : (unit : UnitShape) (graph : GraphShape) → IsTidy unit.vars unit.body → All (λ inst. AllBelow (length unit.vars) (inst_vars inst)) unit.body → CanLower unit.body → IsLowered unit graph → Keeps (AsUnit unit) (AsGraph graph)
+lowered_keeps unit graph tidy below can l = record {
+  name = l.made.name_is;
+  same = lowered_same unit graph tidy below can l;
+  cheaper = lowered_cheaper unit graph tidy below can l;
+  calls = lowered_calls unit graph l;
+}
+
+-- a graph can be made of the nodes of a body
 pub lower_makes : (vars vars' : List (List ℕ)) (body : List Inst) (received : List ℕ) (nodes : List Node) → IsTidy vars body → All (λ inst. AllBelow (length vars) (inst_vars inst)) body → CanLower body → vars' ≡ vars → received ≡ received_in body → nodes ≡ all_nodes body → CanMake vars' received nodes
 lower_makes vars vars' body received nodes tidy names can e e' e'' =
     subst (λ v. CanMake v received nodes) (sym e) (subst (λ r. CanMake vars r nodes) (sym e') (subst (λ n. CanMake vars (received_in body) n) (sym e'') (lower_can vars body tidy names can)))

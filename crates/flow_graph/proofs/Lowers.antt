@@ -16,6 +16,7 @@ use Rattle.flow_graph.specs.Machines.{received_from, node_transition, graph_code
 use Rattle.flow_graph.specs.Lowered.{place_node, nodes_from, all_nodes, received_in, target_of, CanLower}
 use Rattle.flow_graph.specs.RedirectLaws.{Shifted, shifted_to, resumed_at, resumed_place, assigns_alike}
 
+-- there is a received variable for each receive
 pub received_long : (body : List Inst) → length (received_in body) ≡ receives_in body
 received_long [] = refl
 received_long (insts.Receive x ∷ body) = ap suc (received_long body)
@@ -32,6 +33,7 @@ record ReceiveAt (body : List Inst) (place : ℕ) : Type 0 where
   here : slice_get body place ≡ Some (insts.Receive x)
   rest : drop place (received_in body) ≡ x ∷ drop (suc place) (received_in body)
 
+-- at each place among the Receives a Receive stands, and its variable in the list of those received
 receive_at : (body : List Inst) (place : ℕ) → place < receives_in body → ReceiveAt body place
 receive_at [] place lt = absurd (omega (arith, lt))
 receive_at (insts.Receive x ∷ body) zero lt = record { x = x; here = refl; rest = refl }
@@ -49,6 +51,7 @@ node_here k [] p inst e = cc
 node_here k (i ∷ body) zero inst e = let same : i ≡ inst = cc in rw same (ap (λ n. Some (place_node n inst)) (omega arith))
 node_here k (i ∷ body) (suc p) inst e = node_here (suc k) body p inst e ∙ ap (λ n. Some (place_node n inst)) (omega arith)
 
+-- the node past the last instruction returns 0
 node_past : (received : List ℕ) (g : Frame) (k : ℕ) (body : List Inst) (p : ℕ) → slice_get body p ≡ None → node_transition received (slice_get (nodes_from k body) p) g ≡ Returns (record { value = pos 0 })
 node_past received g k [] zero e = ap (λ v. Returns (record { value = v })) (int_wrap_fits w64 (pos 0) zero_fits)
 node_past received g k [] (suc p) e = refl
@@ -61,9 +64,11 @@ record Receiving (body : List Inst) (z : ℕ) (f g : Frame) : Type 0 where
   rest : received_from f.place (drop f.place (received_in body)) f.arguments f.values ≡ received_from 0 (received_in body) f.arguments all_zero
   is : g ≡ first_frame (record { arguments = f.arguments })
 
+-- a place after the receives
 abbrev Past : List Inst → ℕ → Type 0
 Past body p = receives_in body ≤ p
 
+-- the frame of a body and that of its graph, so many instructions apart
 record Stands (body : List Inst) (z x y : ℕ) (f g : Frame) : Type 0 where
   counted : y ≤ x
   where_ : Receiving body z f g ⊎ Shifted suc (Past body) f g

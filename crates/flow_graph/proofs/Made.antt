@@ -3,18 +3,20 @@ use Rattle.std.proofs.Common.{◌≡◌, ℕ, zero, suc, ◌<◌, ◌≤◌, Boo
 use Rattle.std.proofs.lemmas.Option.{slice_get-map, slice_get_within, slice_get-get_or}
 use Rattle.mir_base.specs.Shapes.{AllBelow}
 use Rattle.flow_graph.specs.declared.nodes.Node.{Node}
-use Rattle.flow_graph.specs.declared.nodes.Node.TheVariants.{Start, Skip, Assign, Print, Call, Test, Return}
+use Rattle.flow_graph.specs.declared.nodes.Node.TheVariants.{Start, Skip}
 use Rattle.flow_graph.specs.Graphs.{IsEdge, Reached, at_start, along, node_succs, succs_of, succs_at, node_vars, CanMake, IsGraph}
-use Rattle.flow_graph.specs.Kept.{redirected, rank, marked, AreKept}
+use Rattle.flow_graph.specs.Kept.{redirected, marked_below, marked, AreKept}
 use Rattle.flow_graph.specs.KeptLaws.{at_rank}
+use Rattle.flow_graph.specs.NodeLaws.{mapped_from, redirected_start, redirected_succs, redirected_succs_of, redirected_vars}
 
 -- a kept one and its old number
 record Preimage {A : Type 0} (marks : List Bool) (xs : List A) (n : ℕ) (x : A) : Type 0 where
   m : ℕ
   marks_it : slice_get marks m ≡ Some true
-  ranks_it : rank marks m ≡ n
+  ranks_it : marked_below marks m ≡ n
   is : slice_get xs m ≡ Some x
 
+-- each item that is kept was marked, and its new number is how many before it were
 preimage : {A : Type 0} (marks : List Bool) (xs : List A) (n : ℕ) (x : A) → slice_get (marked marks xs) n ≡ Some x → Preimage marks xs n x
 preimage [] xs n x e = cc
 preimage (true ∷ marks) [] n x e = cc
@@ -23,40 +25,8 @@ preimage (true ∷ marks) (y ∷ xs) zero x e = record { m = 0; marks_it = refl;
 preimage (true ∷ marks) (y ∷ xs) (suc n) x e = let p = preimage marks xs n x e in record { m = suc p.m; marks_it = p.marks_it; ranks_it = ap suc p.ranks_it; is = p.is }
 preimage (false ∷ marks) (y ∷ xs) n x e = let p = preimage marks xs n x e in record { m = suc p.m; marks_it = p.marks_it; ranks_it = p.ranks_it; is = p.is }
 
-redirected_succs : (to : ℕ → ℕ) (o : Option Node) → succs_of (option_map (redirected to) o) ≡ map to (succs_of o)
-redirected_succs to None = refl
-redirected_succs to (Some (Start next)) = refl
-redirected_succs to (Some (Skip next)) = refl
-redirected_succs to (Some (Assign x rhs next)) = refl
-redirected_succs to (Some (Print a next)) = refl
-redirected_succs to (Some (Call into unit operands next)) = refl
-redirected_succs to (Some (Test test taken other)) = refl
-redirected_succs to (Some (Return a)) = refl
-
-redirected_vars : (to : ℕ → ℕ) (node : Node) → node_vars (redirected to node) ≡ node_vars node
-redirected_vars to (Start next) = refl
-redirected_vars to (Skip next) = refl
-redirected_vars to (Assign x rhs next) = refl
-redirected_vars to (Print a next) = refl
-redirected_vars to (Call into unit operands next) = refl
-redirected_vars to (Test test taken other) = refl
-redirected_vars to (Return a) = refl
-
-still_start : (to : ℕ → ℕ) (node : Node) (s : ℕ) → redirected to node ≡ Start s → (t : ℕ) × (node ≡ Start t)
-still_start to (Start next) s e = (next, refl)
-still_start to (Skip next) s e = cc
-still_start to (Assign x rhs next) s e = cc
-still_start to (Print a next) s e = cc
-still_start to (Call into unit operands next) s e = cc
-still_start to (Test test taken other) s e = cc
-still_start to (Return a) s e = cc
-
-mapped_some : {A B : Type 0} (f : A → B) (o : Option A) (y : B) → option_map f o ≡ Some y → (x : A) × (o ≡ Some x) × (f x ≡ y)
-mapped_some f None y e = cc
-mapped_some f (Some x) y e = (x, refl, cc)
-
 -- a later one has a higher rank
-rank_positive : (marks : List Bool) (s : ℕ) → slice_get marks 0 ≡ Some true → 1 ≤ s → 1 ≤ rank marks s
+rank_positive : (marks : List Bool) (s : ℕ) → slice_get marks 0 ≡ Some true → 1 ≤ s → 1 ≤ marked_below marks s
 rank_positive [] s e lt = cc
 rank_positive (b ∷ marks) zero e lt = absurd (omega (arith, lt))
 rank_positive (true ∷ marks) (suc s) e lt = omega arith
@@ -67,7 +37,7 @@ module _ (vars : List (List ℕ)) (received : List ℕ) (raw nodes : List Node) 
   marks = kept.marks
 
   abbrev to : ℕ → ℕ
-  to = rank marks
+  to = marked_below marks
 
   begun : slice_get marks 0 ≡ Some true
   begun = (kept.are_marks.exact 0 (slice_get_within raw 0 _ can.start.1)).1 at_start
@@ -85,7 +55,7 @@ module _ (vars : List (List ℕ)) (received : List ℕ) (raw nodes : List Node) 
 
   back : (n : ℕ) (node : Node) → slice_get nodes n ≡ Some node → Back n node
   back n node e =
-      let s = mapped_some (redirected to) (slice_get (marked marks raw) n) node (sym (slice_get-map (redirected to) (marked marks raw) n) ∙ sym (ap (λ l. slice_get l n) kept.are) ∙ e) in
+      let s = mapped_from (redirected to) (slice_get (marked marks raw) n) node (sym (slice_get-map (redirected to) (marked marks raw) n) ∙ sym (ap (λ l. slice_get l n) kept.are) ∙ e) in
       let p = preimage marks raw n s.0 s.1 in
       record { m = p.m; marks_it = p.marks_it; ranks_it = p.ranks_it; old = s.0; is = p.is; same = s.2 }
 
@@ -101,8 +71,8 @@ module _ (vars : List (List ℕ)) (received : List ℕ) (raw nodes : List Node) 
   edge_back_at n slot s None e f = cc
   edge_back_at n slot s (Some node) e f =
       let b = back n node e in
-      let g : slice_get (map to (node_succs b.old)) slot ≡ Some s = sym (ap (λ l. slice_get l slot) (redirected_succs to (Some b.old))) ∙ ap (λ x. slice_get (node_succs x) slot) b.same ∙ f in
-      let p = mapped_some to (slice_get (node_succs b.old) slot) s (sym (slice_get-map to (node_succs b.old) slot) ∙ g) in
+      let g : slice_get (map to (node_succs b.old)) slot ≡ Some s = sym (ap (λ l. slice_get l slot) (redirected_succs to b.old)) ∙ ap (λ x. slice_get (node_succs x) slot) b.same ∙ f in
+      let p = mapped_from to (slice_get (node_succs b.old) slot) s (sym (slice_get-map to (node_succs b.old) slot) ∙ g) in
       record { m = b.m; t = p.0; marks_it = b.marks_it; edge = ap (λ o. slice_get (succs_of o) slot) b.is ∙ p.1; same = p.2 }
 
   reached_of : (m : ℕ) → slice_get marks m ≡ Some true → m < length raw → Reached raw m
@@ -133,7 +103,7 @@ module _ (vars : List (List ℕ)) (received : List ℕ) (raw nodes : List Node) 
   reach m (along p slot s r e) =
       let lt = reached_within p r in
       let is = marked_of p r lt in
-      let f : IsEdge nodes (to p) slot (to m) = ap (λ o. slice_get (succs_of o) slot) (image_of p is) ∙ ap (λ l. slice_get l slot) (redirected_succs to (slice_get raw p)) ∙ slice_get-map to (succs_at raw p) slot ∙ ap (option_map to) e in
+      let f : IsEdge nodes (to p) slot (to m) = ap (λ o. slice_get (succs_of o) slot) (image_of p is) ∙ ap (λ l. slice_get l slot) (redirected_succs_of to (slice_get raw p)) ∙ slice_get-map to (succs_at raw p) slot ∙ ap (option_map to) e in
       along (to p) slot (to m) (reach p r) f
     where
       reached_within : (p : ℕ) → Reached raw p → p < length raw
@@ -144,7 +114,7 @@ module _ (vars : List (List ℕ)) (received : List ℕ) (raw nodes : List Node) 
   make_graph = record {
     can = record {
       start = (to can.start.0, image_of 0 begun ∙ ap (option_map (redirected to)) can.start.1);
-      only = λ n s e. let b = back n (Start s) e in let t = still_start to b.old s b.same in sym b.ranks_it ∙ ap to (can.only b.m t.0 (b.is ∙ ap Some t.1));
+      only = λ n s e. let b = back n (Start s) e in let t = redirected_start to b.old s b.same in sym b.ranks_it ∙ ap to (can.only b.m t.0 (b.is ∙ ap Some t.1));
       succs = λ n slot s e. succs_inner n slot s (edge_back_at n slot s (slice_get nodes n) refl e);
       below = λ n node e. let b = back n node e in subst (AllBelow (length vars)) (sym (redirected_vars to b.old) ∙ ap node_vars b.same) (can.below b.m b.old b.is);
       received_below = can.received_below;

@@ -1,8 +1,8 @@
 -- A graph does the same as the body that its plan emits.
-use Rattle.std.proofs.Common.{◌≡◌, ℕ, suc, ◌+◌, ◌<◌, ◌≤◌, Bool, true, false, cond, List, [], ◌∷◌, length, drop, slice_get, slice_index_or, ℤ, pos, Option, Some, None, ◌⊎◌, inl, inr, refl, sym, ap, ◌∙◌, subst, arith, le_refl, zero-add}
+use Rattle.std.proofs.Common.{◌≡◌, ℕ, zero, suc, ◌+◌, ◌<◌, ◌≤◌, Bool, true, false, cond, List, [], ◌∷◌, ◌++◌, length, map, drop, slice_get, slice_index_or, ℤ, pos, Option, Some, None, ◌⊎◌, inl, inr, refl, sym, ap, ◌∙◌, subst, arith, le_refl, zero-add}
 use Rattle.mir_base.specs.declared.instructions.Inst.{Inst}
 use Rattle.mir_base.specs.declared.instructions.Inst.TheVariants as insts
-use Rattle.mir_base.specs.Frames.{Entry, Frame, first_frame, resumed, all_zero, with_value, Continues, Code}
+use Rattle.mir_base.specs.Frames.{CallEntry, Frame, first_frame, resumed, all_zero, with_value, Continues, Code}
 use Rattle.mir_base.specs.Units.{test_holds, at, assigned, inst_transition, body_code}
 use Rattle.mir_base.specs.UnitRuns.{UnitSame, UnitCheaper, body_machine}
 use Rattle.mir_base.specs.Simulations.{Silently, Responds, Simulates}
@@ -19,7 +19,22 @@ use Rattle.flow_graph.specs.Plans.{IsPlan, after_node, is_placed, next_item}
 use Rattle.flow_graph.specs.Layouts.{emitted, emitted_by, item_size, place_in, plain_body, size}
 use Rattle.flow_graph.specs.RedirectLaws.{resumed_at, resumed_place, assigns_alike}
 use Rattle.flow_graph.proofs.Plans.{next_of, Next, last, then_, placed_at, at_placed, place_at, taken_placed, bottom, inst_at, is_placed_drop, one_older, no_receive, all_received}
-use Rattle.flow_graph.proofs.Lists.{drop_within, mapped_at}
+
+-- ---- an index at which something is left of a list
+
+-- where something is left, less was dropped than there is
+drop_within : {A : Type 0} (k : ℕ) (xs : List A) (y : A) (ys : List A) → drop k xs ≡ y ∷ ys → k < length xs
+drop_within zero [] y ys e = cc
+drop_within zero (x ∷ xs) y ys e = omega arith
+drop_within (suc k) [] y ys e = cc
+drop_within (suc k) (x ∷ xs) y ys e = omega (arith, drop_within k xs y ys e)
+
+-- the item after those dropped stands, mapped, at its place
+mapped_at : {A B : Type 0} (f : A → B) (i : ℕ) (xs : List A) (ys : List B) (x : A) (xs' : List A) → drop i xs ≡ x ∷ xs' → slice_get (map f xs ++ ys) i ≡ Some (f x)
+mapped_at f zero [] ys x xs' e = cc
+mapped_at f zero (z ∷ xs) ys x xs' e = let same : z ≡ x = cc in ap (λ w. Some (f w)) same
+mapped_at f (suc i) [] ys x xs' e = cc
+mapped_at f (suc i) (z ∷ xs) ys x xs' e = mapped_at f i xs ys x xs' e
 
 -- a node that can be placed
 abbrev pub IsPlaceable : Option Node → Type 0
@@ -61,7 +76,7 @@ module _ (received : List ℕ) (nodes : List Node) (first : ℕ) (plan : List It
 
   record Beginning (z : ℕ) (f g : Frame) : Type 0 where
     measure : z ≡ suc (length plan)
-    entry : Entry
+    entry : CallEntry
     is : f ≡ first_frame entry
     is' : g ≡ first_frame entry
 
@@ -198,7 +213,7 @@ module _ (received : List ℕ) (nodes : List Node) (first : ℕ) (plan : List It
       let one : i + 1 ≡ suc i = omega arith in
       (next, 0, 0, here ∙ ap (λ p. Continues 0 (record { place = p; arguments = arguments; values = values' })) one, receiving xs (suc i) j arguments values' (one_older i received x xs e) (omega (arith, long)), refl)
 
-  begins : (z x y : ℕ) (entry : Entry) → z ≡ suc (length plan) → y ≤ x → Responds (Unit {0}) Stands d z x y (first_frame entry) (graph_code received nodes (first_frame entry))
+  begins : (z x y : ℕ) (entry : CallEntry) → z ≡ suc (length plan) → y ≤ x → Responds (Unit {0}) Stands d z x y (first_frame entry) (graph_code received nodes (first_frame entry))
   begins z x y entry m le =
       let b = bottom nodes first plan is_plan done in
       let f : Frame = record { place = first; arguments = entry.arguments; values = received_from 0 received entry.arguments all_zero } in

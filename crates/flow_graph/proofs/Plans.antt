@@ -12,14 +12,17 @@ use Rattle.flow_graph.specs.declared.nodes.Node.TheVariants.{Start, Skip, Assign
 use Rattle.flow_graph.specs.Graphs.{following}
 use Rattle.flow_graph.specs.Plans.{IsPlan, after_node, first_open, is_placed, next_item, open_at, or_else}
 use Rattle.flow_graph.specs.Layouts.{emitted, emitted_by, item_insts, item_size, place_in, size}
-use Rattle.flow_graph.proofs.Lists.{seam}
+use Rattle.flow_graph.specs.ListLaws.{get_seam}
+use Rattle.std.proofs.Math.Bool.{or-true}
 
+-- there is an item before one that is not the first
 pub one_newer : {A : Type 0} (j : ℕ) (xs : List A) (y : A) (ys : List A) → drop (suc j) xs ≡ y ∷ ys → (x : A) × (drop j xs ≡ x ∷ y ∷ ys)
 one_newer zero [] y ys e = cc
 one_newer zero (x ∷ xs) y ys e = (x, ap (λ l. x ∷ l) e)
 one_newer (suc j) [] y ys e = cc
 one_newer (suc j) (x ∷ xs) y ys e = one_newer j xs y ys e
 
+-- the items after an item
 pub one_older : {A : Type 0} (i : ℕ) (xs : List A) (y : A) (ys : List A) → drop i xs ≡ y ∷ ys → drop (suc i) xs ≡ ys
 one_older zero [] y ys e = cc
 one_older zero (x ∷ xs) y ys e = cc
@@ -27,34 +30,38 @@ one_older (suc i) [] y ys e = cc
 one_older (suc i) (x ∷ xs) y ys e = one_older i xs y ys e
 
 -- no receive is emitted
-pub front_receives : (xs ys : List Inst) → receives_in xs ≡ 0 → receives_in ys ≡ 0 → receives_in (xs ++ ys) ≡ 0
-front_receives [] ys e e' = e'
-front_receives (insts.Receive x ∷ xs) ys e e' = absurd (omega (arith, e))
-front_receives (insts.Assign x rhs ∷ xs) ys e e' = refl
-front_receives (insts.Goto place ∷ xs) ys e e' = refl
-front_receives (insts.If test place ∷ xs) ys e e' = refl
-front_receives (insts.Call into unit operands ∷ xs) ys e e' = refl
-front_receives (insts.Print a ∷ xs) ys e e' = refl
-front_receives (insts.Return a ∷ xs) ys e e' = refl
+pub receives_append : (xs ys : List Inst) → receives_in xs ≡ 0 → receives_in ys ≡ 0 → receives_in (xs ++ ys) ≡ 0
+receives_append [] ys e e' = e'
+receives_append (insts.Receive x ∷ xs) ys e e' = absurd (omega (arith, e))
+receives_append (insts.Assign x rhs ∷ xs) ys e e' = refl
+receives_append (insts.Goto place ∷ xs) ys e e' = refl
+receives_append (insts.If test place ∷ xs) ys e e' = refl
+receives_append (insts.Call into unit operands ∷ xs) ys e e' = refl
+receives_append (insts.Print a ∷ xs) ys e e' = refl
+receives_append (insts.Return a ∷ xs) ys e e' = refl
 
-emits_no_receive : (place : ℕ → ℕ) (o : Option Node) → receives_in (emitted_by place o) ≡ 0
-emits_no_receive place None = refl
-emits_no_receive place (Some (Start next)) = refl
-emits_no_receive place (Some (Skip next)) = refl
-emits_no_receive place (Some (Assign x rhs next)) = refl
-emits_no_receive place (Some (Print a next)) = refl
-emits_no_receive place (Some (Call into unit operands next)) = refl
-emits_no_receive place (Some (Test test taken other)) = refl
-emits_no_receive place (Some (Return a)) = refl
+-- what a node emits: no receive, and equally many instructions whatever the places are
+emits : (place : ℕ → ℕ) (o : Option Node) → (receives_in (emitted_by place o) ≡ 0) × (length (emitted_by place o) ≡ length (emitted_by (λ n. n) o))
+emits place None = (refl, refl)
+emits place (Some (Start next)) = (refl, refl)
+emits place (Some (Skip next)) = (refl, refl)
+emits place (Some (Assign x rhs next)) = (refl, refl)
+emits place (Some (Print a next)) = (refl, refl)
+emits place (Some (Call into unit operands next)) = (refl, refl)
+emits place (Some (Test test taken other)) = (refl, refl)
+emits place (Some (Return a)) = (refl, refl)
 
+-- what is emitted for an item begins with no Receive
 item_no_receive : (nodes : List Node) (place : ℕ → ℕ) (item : Item) → receives_in (item_insts nodes place item) ≡ 0
-item_no_receive nodes place (Placed n) = emits_no_receive place (slice_get nodes n)
+item_no_receive nodes place (Placed n) = (emits place (slice_get nodes n)).0
 item_no_receive nodes place (Jump n) = refl
 
+-- a plan emits no receive
 pub no_receive : (nodes : List Node) (place : ℕ → ℕ) (plan : List Item) → receives_in (emitted nodes place plan) ≡ 0
 no_receive nodes place [] = refl
-no_receive nodes place (item ∷ older) = front_receives (emitted nodes place older) (item_insts nodes place item) (no_receive nodes place older) (item_no_receive nodes place item)
+no_receive nodes place (item ∷ older) = receives_append (emitted nodes place older) (item_insts nodes place item) (no_receive nodes place older) (item_no_receive nodes place item)
 
+-- the receives of a body are those that stand first
 pub all_received : (xs : List ℕ) (ys : List Inst) → receives_in ys ≡ 0 → receives_in (map insts.Receive xs ++ ys) ≡ length xs
 all_received [] ys e = e
 all_received (x ∷ xs) ys e = ap suc (all_received xs ys e)
@@ -130,20 +137,16 @@ module _ (nodes : List Node) (first : ℕ) where
       chosen true is later q = (0, older, ap (λ i. Placed i ∷ older) (eqb-true m n is))
       chosen false is later q = let r = later q in (suc r.0, r.1, r.2)
 
-  or_true : (b : Bool) → b || true ≡ true
-  or_true true = refl
-  or_true false = refl
-
   pub is_placed_drop : (k n : ℕ) (plan : List Item) → is_placed n (drop k plan) ≡ true → is_placed n plan ≡ true
   is_placed_drop zero n plan e = e
   is_placed_drop (suc k) n [] e = e
-  is_placed_drop (suc k) n (Placed m ∷ older) e = ap (λ b. eqb m n || b) (is_placed_drop k n older e) ∙ or_true (eqb m n)
+  is_placed_drop (suc k) n (Placed m ∷ older) e = ap (λ b. eqb m n || b) (is_placed_drop k n older e) ∙ or-true (eqb m n)
   is_placed_drop (suc k) n (Jump m ∷ older) e = is_placed_drop k n older e
 
   pub at_placed : (k n : ℕ) (plan older : List Item) → drop k plan ≡ Placed n ∷ older → is_placed n plan ≡ true
   at_placed zero n plan older e = rw e (ap (λ b. b || is_placed n older) (eq-eqb n n refl))
   at_placed (suc k) n [] older e = cc
-  at_placed (suc k) n (Placed m ∷ items) older e = ap (λ b. eqb m n || b) (at_placed k n items older e) ∙ or_true (eqb m n)
+  at_placed (suc k) n (Placed m ∷ items) older e = ap (λ b. eqb m n || b) (at_placed k n items older e) ∙ or-true (eqb m n)
   at_placed (suc k) n (Jump m ∷ items) older e = at_placed k n items older e
 
   pub place_at : (receives k n : ℕ) (plan older : List Item) → IsPlan nodes first plan → drop k plan ≡ Placed n ∷ older → place_in nodes receives plan n ≡ size nodes receives older
@@ -210,18 +213,8 @@ module _ (nodes : List Node) (first : ℕ) where
 
   -- ---- what is emitted
 
-  same_size : (place : ℕ → ℕ) (o : Option Node) → length (emitted_by place o) ≡ length (emitted_by (λ n. n) o)
-  same_size place None = refl
-  same_size place (Some (Start next)) = refl
-  same_size place (Some (Skip next)) = refl
-  same_size place (Some (Assign x rhs next)) = refl
-  same_size place (Some (Print a next)) = refl
-  same_size place (Some (Call into unit operands next)) = refl
-  same_size place (Some (Test test taken other)) = refl
-  same_size place (Some (Return a)) = refl
-
   pub same_item_size : (place : ℕ → ℕ) (item : Item) → length (item_insts nodes place item) ≡ item_size nodes item
-  same_item_size place (Placed n) = same_size place (slice_get nodes n)
+  same_item_size place (Placed n) = (emits place (slice_get nodes n)).1
   same_item_size place (Jump n) = refl
 
   pub size_is : (receives : ℕ) (place : ℕ → ℕ) (items : List Item) → size nodes receives items ≡ receives + length (emitted nodes place items)
@@ -246,4 +239,4 @@ module _ (nodes : List Node) (first : ℕ) where
       ap (λ l. map insts.Receive received ++ l) whole ∙ sym (append_assoc (map insts.Receive received) (emitted nodes place older) (inst ∷ r.0)) in
       let long : length before ≡ size nodes (length received) older =
       length-append (map insts.Receive received) (emitted nodes place older) ∙ ap (λ n. n + length (emitted nodes place older)) (length-map received insts.Receive) ∙ sym (size_is (length received) place older) in
-      ap (λ l. slice_get l (size nodes (length received) older)) body ∙ ap (slice_get (before ++ (inst ∷ r.0))) (sym long) ∙ seam before r.0 inst
+      ap (λ l. slice_get l (size nodes (length received) older)) body ∙ ap (slice_get (before ++ (inst ∷ r.0))) (sym long) ∙ get_seam before r.0 inst

@@ -4,60 +4,55 @@ use Rattle.std.proofs.lemmas.Bool.{cases_lt}
 use Rattle.std.proofs.lemmas.Option.{slice_get-get_or, get_or_from_slice_get}
 use Rattle.flow_graph.specs.declared.nodes.Node.{Node}
 use Rattle.flow_graph.specs.declared.nodes.Node.TheVariants.{Start, Skip, Assign, Print, Call, Test, Return}
-use Rattle.flow_graph.specs.Graphs.{AllWithin, SuccsBelow, succs_of}
-use Rattle.flow_graph.specs.Kept.{rank, marked, redirected, AreRanks}
-use Rattle.flow_graph.proofs.Lists.{seam, front_get, drop_at}
+use Rattle.flow_graph.specs.Graphs.{SuccsBelow}
+use Rattle.flow_graph.specs.Kept.{marked_below, marked, redirected, AreRanks}
+use Rattle.flow_graph.specs.ListLaws.{get_seam, get_left, drop_at}
 
-pub rank_more : (marks : List Bool) (i : ℕ) → slice_get marks i ≡ Some true → rank marks (suc i) ≡ suc (rank marks i)
+-- the rank after a marked node is one more
+pub rank_more : (marks : List Bool) (i : ℕ) → slice_get marks i ≡ Some true → marked_below marks (suc i) ≡ suc (marked_below marks i)
 rank_more [] i e = cc
 rank_more (true ∷ marks) zero e = refl
 rank_more (false ∷ marks) zero e = cc
 rank_more (true ∷ marks) (suc i) e = ap suc (rank_more marks i e)
 rank_more (false ∷ marks) (suc i) e = rank_more marks i e
 
-pub rank_same : (marks : List Bool) (i : ℕ) → slice_get marks i ≡ Some false → rank marks (suc i) ≡ rank marks i
+-- after any other it is the same
+pub rank_same : (marks : List Bool) (i : ℕ) → slice_get marks i ≡ Some false → marked_below marks (suc i) ≡ marked_below marks i
 rank_same [] i e = cc
 rank_same (true ∷ marks) zero e = cc
 rank_same (false ∷ marks) zero e = refl
 rank_same (true ∷ marks) (suc i) e = ap suc (rank_same marks i e)
 rank_same (false ∷ marks) (suc i) e = rank_same marks i e
 
-pub ranked : (marks : List Bool) (ranks ranks' : List ℕ) (i : ℕ) → length ranks ≡ i → ((k : ℕ) → k < i → slice_get ranks k ≡ Some (rank marks k)) → ranks' ≡ ranks ++ rank marks i ∷ [] → (k : ℕ) → k < i + 1 → slice_get ranks' k ≡ Some (rank marks k)
+-- the table of ranks with one rank more
+pub ranked : (marks : List Bool) (ranks ranks' : List ℕ) (i : ℕ) → length ranks ≡ i → ((k : ℕ) → k < i → slice_get ranks k ≡ Some (marked_below marks k)) → ranks' ≡ ranks ++ marked_below marks i ∷ [] → (k : ℕ) → k < i + 1 → slice_get ranks' k ≡ Some (marked_below marks k)
 ranked marks ranks ranks' i long are e k lt =
     elim (cases_lt k i) [
-      | inl below ↦ ap (λ l. slice_get l k) e ∙ front_get ranks (rank marks i ∷ []) k (omega (arith, below, long)) ∙ are k below
+      | inl below ↦ ap (λ l. slice_get l k) e ∙ get_left ranks (marked_below marks i ∷ []) k (omega (arith, below, long)) ∙ are k below
       | inr above ↦
           let at_ : k ≡ length ranks = omega (arith, above, lt, long) in
           let here : k ≡ i = omega (arith, above, lt) in
-          ap (λ l. slice_get l k) e ∙ ap (slice_get (ranks ++ rank marks i ∷ [])) at_ ∙ seam ranks [] (rank marks i) ∙ ap (λ n. Some (rank marks n)) (sym here)
+          ap (λ l. slice_get l k) e ∙ ap (slice_get (ranks ++ marked_below marks i ∷ [])) at_ ∙ get_seam ranks [] (marked_below marks i) ∙ ap (λ n. Some (marked_below marks n)) (sym here)
     ]
 
+-- a mark by index
 pub marks_index : (marks : List Bool) (i : ℕ) (b : Bool) → i < length marks → slice_index_or marks i false ≡ b → slice_get marks i ≡ Some b
 marks_index marks i b lt e = slice_get-get_or marks i false lt ∙ ap Some e
 
-pub succs_below : (nodes : List Node) (n : ℕ) (node : Node) → AllWithin nodes → slice_get nodes n ≡ Some node → SuccsBelow (length nodes) node
-succs_below nodes n (Start next) within e = within n 0 next (ap (λ o. slice_get (succs_of o) 0) e)
-succs_below nodes n (Skip next) within e = within n 0 next (ap (λ o. slice_get (succs_of o) 0) e)
-succs_below nodes n (Assign x rhs next) within e = within n 0 next (ap (λ o. slice_get (succs_of o) 0) e)
-succs_below nodes n (Print a next) within e = within n 0 next (ap (λ o. slice_get (succs_of o) 0) e)
-succs_below nodes n (Call into unit operands next) within e = within n 0 next (ap (λ o. slice_get (succs_of o) 0) e)
-succs_below nodes n (Test test taken other) within e = (within n 0 taken (ap (λ o. slice_get (succs_of o) 0) e), within n 1 other (ap (λ o. slice_get (succs_of o) 1) e))
-succs_below nodes n (Return a) within e = tt
-
 -- the table of ranks gives the ranks
-pub redirects_same : (marks : List Bool) (ranks : List ℕ) (node : Node) → AreRanks marks ranks → SuccsBelow (length marks) node → redirected (λ n. slice_index_or ranks n 0) node ≡ redirected (rank marks) node
+pub redirects_same : (marks : List Bool) (ranks : List ℕ) (node : Node) → AreRanks marks ranks → SuccsBelow (length marks) node → redirected (λ n. slice_index_or ranks n 0) node ≡ redirected (marked_below marks) node
 redirects_same marks ranks node are below = by_cases node below
   where
-    one : (s : ℕ) → s < length marks → slice_index_or ranks s 0 ≡ rank marks s
-    one s lt = get_or_from_slice_get ranks s (rank marks s) 0 (are.are s lt)
+    one : (s : ℕ) → s < length marks → slice_index_or ranks s 0 ≡ marked_below marks s
+    one s lt = get_or_from_slice_get ranks s (marked_below marks s) 0 (are.are s lt)
 
-    by_cases : (node : Node) → SuccsBelow (length marks) node → redirected (λ n. slice_index_or ranks n 0) node ≡ redirected (rank marks) node
+    by_cases : (node : Node) → SuccsBelow (length marks) node → redirected (λ n. slice_index_or ranks n 0) node ≡ redirected (marked_below marks) node
     by_cases (Start next) h = ap Start (one next h)
     by_cases (Skip next) h = ap Skip (one next h)
     by_cases (Assign x rhs next) h = ap (Assign x rhs) (one next h)
     by_cases (Print a next) h = ap (Print a) (one next h)
     by_cases (Call into unit operands next) h = ap (Call into unit operands) (one next h)
-    by_cases (Test test taken other) h = ap (λ n. Test test n (slice_index_or ranks other 0)) (one taken h.0) ∙ ap (Test test (rank marks taken)) (one other h.1)
+    by_cases (Test test taken other) h = ap (λ n. Test test n (slice_index_or ranks other 0)) (one taken h.0) ∙ ap (Test test (marked_below marks taken)) (one other h.1)
     by_cases (Return a) h = refl
 
 -- one node is kept or dropped
@@ -69,6 +64,7 @@ keep_one f marks kept kept' rest rest' i false node node' all is e e' e'' h =
     let step : map f (marked (drop i marks) rest) ≡ map f (marked (drop (i + 1) marks) rest') = ap (λ l. map f (marked l rest)) (drop_at marks i false is) ∙ ap (λ l. map f (marked (false ∷ drop (i + 1) marks) l)) e in
     ap (λ l. l ++ map f (marked (drop (i + 1) marks) rest')) e'' ∙ ap (λ l. kept ++ l) (sym step) ∙ h
 
+-- no node is kept of none
 pub none_marked : (f : Node → Node) (marks : List Bool) (i : ℕ) → map f (marked (drop i marks) []) ≡ []
 none_marked f marks i = go (drop i marks)
   where

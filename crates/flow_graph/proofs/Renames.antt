@@ -15,70 +15,53 @@ use Rattle.mir_base.specs.declared.instructions.Test.TheVariants.{Rel, Holds, Fa
 use Rattle.mir_base.specs.declared.operators.Trap.TheVariants.{ZeroDivisor}
 use Rattle.mir_base.specs.declared.instructions.Inst.{Inst}
 use Rattle.mir_base.specs.declared.instructions.Inst.TheVariants.{Receive, Assign, Goto, If, Call, Print, Return}
-use Rattle.mir_base.specs.Numbers.{traps, value_of_op, value_of_un_op}
+use Rattle.mir_base.specs.Numbers.{relation_holds, traps, value_of_op, value_of_un_op}
 use Rattle.mir_base.specs.Frames.{Answer, Frame, Values, with_value, resumed, Continues, Traps, all_zero}
-use Rattle.mir_base.specs.Units.{operand_value, relation_holds, test_holds, at, assigned, assign_transition, inst_transition, body_code}
+use Rattle.mir_base.specs.Units.{operand_value, test_holds, at, assigned, assign_transition, inst_transition, body_code}
 use Rattle.mir_base.specs.UnitRuns.{UnitSame, UnitCheaper, body_machine}
+use Rattle.mir_base.specs.BelowLaws.{all_below_append, all_below_at}
 use Rattle.mir_base.specs.Shapes.{receives_in, operand_vars, rhs_vars, test_vars, into_vars, inst_vars, numbered_from, AllDiffer, AllBelow, IsTidy}
 use Rattle.mir_base.specs.Locksteps.{Alike, Lockstep}
 use Rattle.mir_base.specs.LockstepLaws.{lockstep_same, lockstep_cheaper}
 use Rattle.flow_graph.specs.Numbering.{is_in, position, renamed, renamed_operand, renamed_rhs, renamed_test, renumbered, seen_after, seen_in}
-use Rattle.flow_graph.proofs.Lists.{seam, front_get}
+use Rattle.flow_graph.specs.ListLaws.{get_seam, get_left}
+use Rattle.flow_graph.specs.NumberingLaws.{is_in_first, is_in_last, seen_grows}
+use Rattle.std.proofs.Math.Bool.{or-true}
 
 -- ---- the list of the variables seen
-
-pub or_true : (b : Bool) → b || true ≡ true
-or_true true = refl
-or_true false = refl
 
 -- all are in the list
 abbrev pub AllIn : List ℕ → List ℕ → Type 0
 AllIn seen [] = Unit {0}
 AllIn seen (x ∷ xs) = (is_in x seen ≡ true) × AllIn seen xs
 
-in_front : (x : ℕ) (xs ys : List ℕ) → is_in x xs ≡ true → is_in x (xs ++ ys) ≡ true
-in_front x [] ys e = cc
-in_front x (z ∷ xs) ys e = chosen (eqb z x) e (in_front x xs ys)
-  where
-    chosen : (b : Bool) → b || is_in x xs ≡ true → (is_in x xs ≡ true → is_in x (xs ++ ys) ≡ true) → b || is_in x (xs ++ ys) ≡ true
-    chosen true e' ih = refl
-    chosen false e' ih = ih e'
-
-in_back : (x : ℕ) (xs : List ℕ) → is_in x (xs ++ x ∷ []) ≡ true
-in_back x [] = ap (λ b. b || false) (eq-eqb x x refl)
-in_back x (z ∷ xs) = ap (λ b. eqb z x || b) (in_back x xs) ∙ or_true (eqb z x)
-
--- the list only grows at its end
-grown : (seen xs : List ℕ) → (rest : List ℕ) × (seen_after seen xs ≡ seen ++ rest)
-grown seen [] = ([], sym (append-nil seen))
-grown seen (x ∷ xs) = chosen (is_in x seen) (grown seen xs) (grown (seen ++ x ∷ []) xs)
-  where
-    chosen : (b : Bool) → (rest : List ℕ) × (seen_after seen xs ≡ seen ++ rest) → (rest : List ℕ) × (seen_after (seen ++ x ∷ []) xs ≡ (seen ++ x ∷ []) ++ rest) → (rest : List ℕ) × (cond b (seen_after seen xs) (seen_after (seen ++ x ∷ []) xs) ≡ seen ++ rest)
-    chosen true p q = p
-    chosen false p q = (x ∷ q.0, q.1 ∙ append_assoc seen (x ∷ []) q.0)
-
+-- what was seen stays seen
 stays_in : (x : ℕ) (seen xs : List ℕ) → is_in x seen ≡ true → is_in x (seen_after seen xs) ≡ true
-stays_in x seen xs e = let g = grown seen xs in ap (is_in x) g.1 ∙ in_front x seen g.0 e
+stays_in x seen xs e = let g = seen_grows seen xs in ap (is_in x) g.1 ∙ is_in_first x seen g.0 e
 
+-- all are in the list once they are seen
 pub all_seen : (seen xs : List ℕ) → AllIn (seen_after seen xs) xs
 all_seen seen [] = tt
 all_seen seen (x ∷ xs) = chosen (is_in x seen) refl (all_seen seen xs) (all_seen (seen ++ x ∷ []) xs)
   where
     chosen : (b : Bool) → is_in x seen ≡ b → AllIn (seen_after seen xs) xs → AllIn (seen_after (seen ++ x ∷ []) xs) xs → (is_in x (cond b (seen_after seen xs) (seen_after (seen ++ x ∷ []) xs)) ≡ true) × AllIn (cond b (seen_after seen xs) (seen_after (seen ++ x ∷ []) xs)) xs
     chosen true e p q = (stays_in x seen xs e, p)
-    chosen false e p q = (stays_in x (seen ++ x ∷ []) xs (in_back x seen), q)
+    chosen false e p q = (stays_in x (seen ++ x ∷ []) xs (is_in_last x seen), q)
 
-all_front : (seen xs ys : List ℕ) → AllIn seen (xs ++ ys) → AllIn seen xs
-all_front seen [] ys h = tt
-all_front seen (x ∷ xs) ys h = (h.0, all_front seen xs ys h.1)
+-- where all of two lists were seen, those of the first were
+all_first : (seen xs ys : List ℕ) → AllIn seen (xs ++ ys) → AllIn seen xs
+all_first seen [] ys h = tt
+all_first seen (x ∷ xs) ys h = (h.0, all_first seen xs ys h.1)
 
+-- and those of the second
 all_back : (seen xs ys : List ℕ) → AllIn seen (xs ++ ys) → AllIn seen ys
 all_back seen [] ys h = h
 all_back seen (x ∷ xs) ys h = all_back seen xs ys h.1
 
+-- so are those of each instruction
 pub inst_in : (seen : List ℕ) (body : List Inst) (place : ℕ) (inst : Inst) → AllIn seen (flat_map inst_vars body) → slice_get body place ≡ Some inst → AllIn seen (inst_vars inst)
 inst_in seen [] place inst h e = cc
-inst_in seen (i ∷ body) zero inst h e = let same : i ≡ inst = cc in subst (λ j. AllIn seen (inst_vars j)) same (all_front seen (inst_vars i) (flat_map inst_vars body) h)
+inst_in seen (i ∷ body) zero inst h e = let same : i ≡ inst = cc in subst (λ j. AllIn seen (inst_vars j)) same (all_first seen (inst_vars i) (flat_map inst_vars body) h)
 inst_in seen (i ∷ body) (suc place) inst h e = inst_in seen body place inst (all_back seen (inst_vars i) (flat_map inst_vars body) h) e
 
 -- the number at the place of x is x
@@ -90,6 +73,7 @@ position_holds (y ∷ ys) x e = chosen (eqb y x) refl e (position_holds ys x)
     chosen true is e' ih = ap Some (eqb-true y x is)
     chosen false is e' ih = ih e'
 
+-- variables in the list have different positions
 pub positions_differ : (seen : List ℕ) (x y : ℕ) → is_in x seen ≡ true → is_in y seen ≡ true → position seen x ≡ position seen y → x ≡ y
 positions_differ seen x y e e' same =
     let a = position_holds seen x e in
@@ -99,6 +83,7 @@ positions_differ seen x y e e' same =
 
 -- ---- the same runs
 
+-- renumbering changes no receive
 pub renamed_receives : (to : ℕ → ℕ) (body : List Inst) → receives_in (map (renamed to) body) ≡ receives_in body
 renamed_receives to [] = refl
 renamed_receives to (Receive x ∷ body) = ap suc (renamed_receives to body)
@@ -141,11 +126,11 @@ module _ (seen : List ℕ) (body : List Inst) (all : AllIn seen (flat_map inst_v
   same_operands : (v w : Values) (operands : List Operand) → SameValues v w → AllIn seen (flat_map operand_vars operands) → map (operand_value w) (map (renamed_operand to) operands) ≡ map (operand_value v) operands
   same_operands v w [] same h = refl
   same_operands v w (a ∷ operands) same h =
-      ap (λ z. z ∷ map (operand_value w) (map (renamed_operand to) operands)) (same_operand v w a same (all_front seen (operand_vars a) (flat_map operand_vars operands) h)) ∙ ap (λ l. operand_value v a ∷ l) (same_operands v w operands same (all_back seen (operand_vars a) (flat_map operand_vars operands) h))
+      ap (λ z. z ∷ map (operand_value w) (map (renamed_operand to) operands)) (same_operand v w a same (all_first seen (operand_vars a) (flat_map operand_vars operands) h)) ∙ ap (λ l. operand_value v a ∷ l) (same_operands v w operands same (all_back seen (operand_vars a) (flat_map operand_vars operands) h))
 
   same_test : (v w : Values) (t : Test) → SameValues v w → AllIn seen (test_vars t) → test_holds w (renamed_test to t) ≡ test_holds v t
   same_test v w (Rel op a b) same h =
-      ap (λ z. relation_holds op z (operand_value w (renamed_operand to b))) (same_operand v w a same (all_front seen (operand_vars a) (operand_vars b) h)) ∙ ap (λ z. relation_holds op (operand_value v a) z) (same_operand v w b same (all_back seen (operand_vars a) (operand_vars b) h))
+      ap (λ z. relation_holds op z (operand_value w (renamed_operand to b))) (same_operand v w a same (all_first seen (operand_vars a) (operand_vars b) h)) ∙ ap (λ z. relation_holds op (operand_value v a) z) (same_operand v w b same (all_back seen (operand_vars a) (operand_vars b) h))
   same_test v w (Holds a) same h = ap (λ z. not (int_eq z (pos 0))) (same_operand v w a same h)
   same_test v w (Fails a) same h = ap (λ z. int_eq z (pos 0)) (same_operand v w a same h)
 
@@ -165,7 +150,7 @@ module _ (seen : List ℕ) (body : List Inst) (all : AllIn seen (flat_map inst_v
   assigns f w x (Plain a) p in_ h same = (le_refl 0, sets f w x _ _ p in_ (same_operand f.values w a same h) same)
   assigns f w x (Unary op a) p in_ h same = (le_refl 1, sets f w x _ _ p in_ (ap (value_of_un_op op) (same_operand f.values w a same h)) same)
   assigns f w x (Binary op a b) p in_ h same =
-      let ea = same_operand f.values w a same (all_front seen (operand_vars a) (operand_vars b) h) in
+      let ea = same_operand f.values w a same (all_first seen (operand_vars a) (operand_vars b) h) in
       let eb = same_operand f.values w b same (all_back seen (operand_vars a) (operand_vars b) h) in
       binary f w x op _ _ _ _ p _ _ in_ ea eb (ap (traps op) eb) same
 
@@ -185,7 +170,7 @@ module _ (seen : List ℕ) (body : List Inst) (all : AllIn seen (flat_map inst_v
       chosen true false e = cc
       chosen false true e = cc
   inst_alike f w (Call into unit operands) h same =
-      (refl, ap (λ l. record { arguments = l }) (sym (same_operands f.values w operands same (all_back seen (into_vars into) (flat_map operand_vars operands) h))), λ a fits. resumes f w into a (f.place + 1) (all_front seen (into_vars into) (flat_map operand_vars operands) h) same)
+      (refl, ap (λ l. record { arguments = l }) (sym (same_operands f.values w operands same (all_back seen (into_vars into) (flat_map operand_vars operands) h))), λ a fits. resumes f w into a (f.place + 1) (all_first seen (into_vars into) (flat_map operand_vars operands) h) same)
   inst_alike f w (Print a) h same = (sym (same_operand f.values w a same h), record_renamed f.values w (f.place + 1) f.arguments same)
   inst_alike f w (Return a) h same = ap (λ v. record { value = v }) (sym (same_operand f.values w a same h))
 
@@ -212,39 +197,47 @@ module _ (seen : List ℕ) (body : List Inst) (all : AllIn seen (flat_map inst_v
   pub seen_cheaper : UnitCheaper (body_machine body) (body_machine (map (renamed to) body))
   seen_cheaper = lockstep_cheaper _ _ Renamed lockstep
 
+-- a renumbered body does the same
 pub renumbered_same : (body : List Inst) → UnitSame (body_machine body) (body_machine (renumbered body))
 renumbered_same body = seen_same (seen_in body) body (all_seen [] (flat_map inst_vars body))
 
+-- and evaluates no more operators
 pub renumbered_cheaper : (body : List Inst) → UnitCheaper (body_machine body) (body_machine (renumbered body))
 renumbered_cheaper body = seen_cheaper (seen_in body) body (all_seen [] (flat_map inst_vars body))
 
 -- ---- tidy
 
+-- the variables of a renamed operand are its variables renamed
 renamed_operand_vars : (to : ℕ → ℕ) (a : Operand) → operand_vars (renamed_operand to a) ≡ map to (operand_vars a)
 renamed_operand_vars to (Var x) = refl
 renamed_operand_vars to (Const c) = refl
 
+-- so for two operands
 two_vars : (to : ℕ → ℕ) (a b : Operand) → operand_vars (renamed_operand to a) ++ operand_vars (renamed_operand to b) ≡ map to (operand_vars a ++ operand_vars b)
 two_vars to (Var x) (Var y) = refl
 two_vars to (Var x) (Const d) = refl
 two_vars to (Const c) (Var y) = refl
 two_vars to (Const c) (Const d) = refl
 
+-- for a right-hand side
 renamed_rhs_vars : (to : ℕ → ℕ) (rhs : Rhs) → rhs_vars (renamed_rhs to rhs) ≡ map to (rhs_vars rhs)
 renamed_rhs_vars to (Plain a) = renamed_operand_vars to a
 renamed_rhs_vars to (Unary op a) = renamed_operand_vars to a
 renamed_rhs_vars to (Binary op a b) = two_vars to a b
 
+-- for a test
 renamed_test_vars : (to : ℕ → ℕ) (t : Test) → test_vars (renamed_test to t) ≡ map to (test_vars t)
 renamed_test_vars to (Rel op a b) = two_vars to a b
 renamed_test_vars to (Holds a) = renamed_operand_vars to a
 renamed_test_vars to (Fails a) = renamed_operand_vars to a
 
+-- for a list of operands
 renamed_operands_vars : (to : ℕ → ℕ) (operands : List Operand) → flat_map operand_vars (map (renamed_operand to) operands) ≡ map to (flat_map operand_vars operands)
 renamed_operands_vars to [] = refl
 renamed_operands_vars to (Var x ∷ operands) = ap (λ l. to x ∷ l) (renamed_operands_vars to operands)
 renamed_operands_vars to (Const c ∷ operands) = renamed_operands_vars to operands
 
+-- and for an instruction
 renamed_inst_vars : (to : ℕ → ℕ) (inst : Inst) → inst_vars (renamed to inst) ≡ map to (inst_vars inst)
 renamed_inst_vars to (Receive x) = refl
 renamed_inst_vars to (Assign x rhs) = ap (λ l. to x ∷ l) (renamed_rhs_vars to rhs)
@@ -255,24 +248,27 @@ renamed_inst_vars to (Call (Some x) unit operands) = ap (λ l. to x ∷ l) (rena
 renamed_inst_vars to (Print a) = renamed_operand_vars to a
 renamed_inst_vars to (Return a) = renamed_operand_vars to a
 
+-- a mapped join is the join of the mapped lists
 map_append : (f : ℕ → ℕ) (xs ys : List ℕ) → map f (xs ++ ys) ≡ map f xs ++ map f ys
 map_append f [] ys = refl
 map_append f (x ∷ xs) ys = ap (λ l. f x ∷ l) (map_append f xs ys)
 
+-- the variables of a renamed body are its variables renamed
 renamed_vars : (to : ℕ → ℕ) (body : List Inst) → flat_map inst_vars (map (renamed to) body) ≡ map to (flat_map inst_vars body)
 renamed_vars to [] = refl
 renamed_vars to (inst ∷ body) =
     ap (λ l. l ++ flat_map inst_vars (map (renamed to) body)) (renamed_inst_vars to inst) ∙ ap (λ l. map to (inst_vars inst) ++ l) (renamed_vars to body) ∙ sym (map_append to (inst_vars inst) (flat_map inst_vars body))
 
 -- one that stands in the front has its place there
-position_front : (s rest : List ℕ) (x : ℕ) → is_in x s ≡ true → position (s ++ rest) x < length s
-position_front [] rest x e = cc
-position_front (y ∷ s) rest x e = chosen (eqb y x) e (position_front s rest x)
+position_first : (s rest : List ℕ) (x : ℕ) → is_in x s ≡ true → position (s ++ rest) x < length s
+position_first [] rest x e = cc
+position_first (y ∷ s) rest x e = chosen (eqb y x) e (position_first s rest x)
   where
     chosen : (b : Bool) → b || is_in x s ≡ true → (is_in x s ≡ true → position (s ++ rest) x < length s) → cond b 0 (suc (position (s ++ rest) x)) < suc (length s)
     chosen true e' ih = omega arith
     chosen false e' ih = omega (arith, ih e')
 
+-- an item that is new after a list stands at the length of that list
 position_next : (s rest : List ℕ) (x : ℕ) → is_in x s ≡ false → position (s ++ x ∷ rest) x ≡ length s
 position_next [] rest x e = ap (λ b. cond b 0 (suc (position rest x))) (eq-eqb x x refl)
 position_next (y ∷ s) rest x e = chosen (eqb y x) e (position_next s rest x)
@@ -281,31 +277,35 @@ position_next (y ∷ s) rest x e = chosen (eqb y x) e (position_next s rest x)
     chosen true e' ih = cc
     chosen false e' ih = ap suc (ih e')
 
+-- numbered by first occurrence, the numbers follow each other from the count of those seen before
 numbered_seen : (s xs F : List ℕ) → F ≡ seen_after s xs → numbered_from (length s) (map (position F) xs) ≡ Some (length F)
 numbered_seen s [] F e = ap (λ l. Some (length l)) (sym e)
 numbered_seen s (x ∷ xs) F e = chosen (is_in x s) refl e (numbered_seen s xs F) (numbered_seen (s ++ x ∷ []) xs F)
   where
     chosen : (b : Bool) → is_in x s ≡ b → F ≡ cond b (seen_after s xs) (seen_after (s ++ x ∷ []) xs) → (F ≡ seen_after s xs → numbered_from (length s) (map (position F) xs) ≡ Some (length F)) → (F ≡ seen_after (s ++ x ∷ []) xs → numbered_from (length (s ++ x ∷ [])) (map (position F) xs) ≡ Some (length F)) → numbered_from (length s) (position F x ∷ map (position F) xs) ≡ Some (length F)
     chosen true is e' ih ih' =
-        let g = grown s xs in
-        let lt : position F x < length s = subst (λ l. position l x < length s) (sym (e' ∙ g.1)) (position_front s g.0 x is) in
+        let g = seen_grows s xs in
+        let lt : position F x < length s = subst (λ l. position l x < length s) (sym (e' ∙ g.1)) (position_first s g.0 x is) in
         ap (λ b. cond b (numbered_from (length s) (map (position F) xs)) (cond (nat_eq (position F x) (length s)) (numbered_from (suc (length s)) (map (position F) xs)) None)) (lt-ltb (position F x) (length s) lt) ∙ ih e'
     chosen false is e' ih ih' =
-        let g = grown (s ++ x ∷ []) xs in
+        let g = seen_grows (s ++ x ∷ []) xs in
         let whole : F ≡ s ++ (x ∷ g.0) = e' ∙ g.1 ∙ append_assoc s (x ∷ []) g.0 in
         let here : position F x ≡ length s = ap (λ l. position l x) whole ∙ position_next s g.0 x is in
         let long : length (s ++ x ∷ []) ≡ suc (length s) = omega (arith, length-append s (x ∷ [])) in
         ap (λ b. cond b (numbered_from (length s) (map (position F) xs)) (cond (nat_eq (position F x) (length s)) (numbered_from (suc (length s)) (map (position F) xs)) None)) (le-ltb (position F x) (length s) (omega (arith, here))) ∙ ap (λ b. cond b (numbered_from (suc (length s)) (map (position F) xs)) None) (eq-eqb (position F x) (length s) here) ∙ ap (λ n. numbered_from n (map (position F) xs)) (sym long) ∙ ih' e'
 
+-- its variables are numbered by their first occurrence
 pub renumbered_numbered : (body : List Inst) → numbered_from 0 (flat_map inst_vars (renumbered body)) ≡ Some (length (seen_in body))
 renumbered_numbered body =
     ap (numbered_from 0) (renamed_vars (position (seen_in body)) body) ∙ numbered_seen [] (flat_map inst_vars body) (seen_in body) refl
 
+-- an item that stands in a list is found in it
 get_in : (xs : List ℕ) (i x : ℕ) → slice_get xs i ≡ Some x → is_in x xs ≡ true
 get_in [] i x e = cc
 get_in (y ∷ ys) zero x e = let same : y ≡ x = cc in ap (λ b. b || is_in x ys) (eq-eqb y x same)
-get_in (y ∷ ys) (suc i) x e = ap (λ b. eqb y x || b) (get_in ys i x e) ∙ or_true (eqb y x)
+get_in (y ∷ ys) (suc i) x e = ap (λ b. eqb y x || b) (get_in ys i x e) ∙ or-true (eqb y x)
 
+-- an item that is not found in a list stands nowhere in it
 not_there : (s : List ℕ) (y i : ℕ) → is_in y s ≡ false → slice_get s i ≡ Some y → ⊥
 not_there s y i new e = let old = get_in s i y e in cc
 
@@ -316,19 +316,20 @@ differ_more s y new h i j li lj e =
     elim (cases_lt i (length s)) [
       | inl a ↦
           elim (cases_lt j (length s)) [
-            | inl b ↦ h i j a b (sym (front_get s (y ∷ []) i a) ∙ e ∙ front_get s (y ∷ []) j b)
+            | inl b ↦ h i j a b (sym (get_left s (y ∷ []) i a) ∙ e ∙ get_left s (y ∷ []) j b)
             | inr b ↦
                 let at_ : j ≡ length s = omega arith in
-                absurd (not_there s y i new (sym (front_get s (y ∷ []) i a) ∙ e ∙ ap (slice_get (s ++ y ∷ [])) at_ ∙ seam s [] y))
+                absurd (not_there s y i new (sym (get_left s (y ∷ []) i a) ∙ e ∙ ap (slice_get (s ++ y ∷ [])) at_ ∙ get_seam s [] y))
           ]
       | inr a ↦
           let at_ : i ≡ length s = omega arith in
           elim (cases_lt j (length s)) [
-            | inl b ↦ absurd (not_there s y j new (sym (front_get s (y ∷ []) j b) ∙ sym e ∙ ap (slice_get (s ++ y ∷ [])) at_ ∙ seam s [] y))
+            | inl b ↦ absurd (not_there s y j new (sym (get_left s (y ∷ []) j b) ∙ sym e ∙ ap (slice_get (s ++ y ∷ [])) at_ ∙ get_seam s [] y))
             | inr b ↦ omega arith
           ]
     ]
 
+-- the list of what was seen has distinct items
 seen_differ : (s xs : List ℕ) → AllDiffer s → AllDiffer (seen_after s xs)
 seen_differ s [] h = h
 seen_differ s (y ∷ ys) h = chosen (is_in y s) refl (seen_differ s ys) (seen_differ (s ++ y ∷ []) ys)
@@ -337,22 +338,14 @@ seen_differ s (y ∷ ys) h = chosen (is_in y s) refl (seen_differ s ys) (seen_di
     chosen true is p q = p h
     chosen false is p q = q (differ_more s y is h)
 
-pub below_append : (m : ℕ) (xs ys : List ℕ) → AllBelow m xs → AllBelow m ys → AllBelow m (xs ++ ys)
-below_append m [] ys h h' = h'
-below_append m (x ∷ xs) ys h h' = (h.0, below_append m xs ys h.1 h')
-
+-- the variables seen are in range
 pub seen_below : (m : ℕ) (s xs : List ℕ) → AllBelow m s → AllBelow m xs → AllBelow m (seen_after s xs)
 seen_below m s [] h h' = h
-seen_below m s (y ∷ ys) h h' = chosen (is_in y s) (seen_below m s ys h h'.1) (seen_below m (s ++ y ∷ []) ys (below_append m s (y ∷ []) h (h'.0, tt)) h'.1)
+seen_below m s (y ∷ ys) h h' = chosen (is_in y s) (seen_below m s ys h h'.1) (seen_below m (s ++ y ∷ []) ys (all_below_append m s (y ∷ []) h (h'.0, tt)) h'.1)
   where
     chosen : (b : Bool) → AllBelow m (seen_after s ys) → AllBelow m (seen_after (s ++ y ∷ []) ys) → AllBelow m (cond b (seen_after s ys) (seen_after (s ++ y ∷ []) ys))
     chosen true p q = p
     chosen false p q = q
-
-pub below_at : (m : ℕ) (xs : List ℕ) (i x : ℕ) → AllBelow m xs → slice_get xs i ≡ Some x → x < m
-below_at m [] i x h e = cc
-below_at m (y ∷ ys) zero x h e = let same : y ≡ x = cc in subst (λ z. z < m) same h.0
-below_at m (y ∷ ys) (suc i) x h e = below_at m ys i x h.1 e
 
 -- the names of distinct variables are distinct
 names_differ : (vars : List (List ℕ)) (seen : List ℕ) → AllDiffer vars → AllDiffer seen → AllBelow (length vars) seen → AllDiffer (map (λ x. slice_index_or vars x []) seen)
@@ -363,23 +356,26 @@ names_differ vars seen h h' below i j li lj e =
     let b : slice_get seen j ≡ Some (slice_index_or seen j 0) = slice_get-get_or seen j 0 (omega (arith, lj, long)) in
     let x = slice_index_or seen i 0 in
     let y = slice_index_or seen j 0 in
-    let bx = below_at (length vars) seen i x below a in
-    let by = below_at (length vars) seen j y below b in
+    let bx = all_below_at (length vars) seen i x below a in
+    let by = all_below_at (length vars) seen j y below b in
     let same : option_map name (Some x) ≡ option_map name (Some y) = ap (option_map name) (sym a) ∙ sym (slice_get-map name seen i) ∙ e ∙ slice_get-map name seen j ∙ ap (option_map name) b in
     let p : slice_get vars x ≡ Some (name x) = slice_get-get_or vars x [] bx in
     let q : slice_get vars y ≡ Some (name y) = slice_get-get_or vars y [] by in
     let xy : x ≡ y = h x y bx by (p ∙ same ∙ sym q) in
     h' i j (omega (arith, li, long)) (omega (arith, lj, long)) (a ∙ ap Some xy ∙ sym b)
 
+-- an empty list has distinct items
 none_differ : AllDiffer {A = ℕ} []
 none_differ i j li lj e = absurd (omega (arith, li))
 
+-- so it is tidy
 pub renumbered_tidy : (vars : List (List ℕ)) (body : List Inst) → AllDiffer vars → AllBelow (length vars) (flat_map inst_vars body) → IsTidy (map (λ x. slice_index_or vars x []) (seen_in body)) (renumbered body)
 renumbered_tidy vars body differ below = record {
   numbered = renumbered_numbered body ∙ ap Some (sym (length-map (seen_in body) (λ x. slice_index_or vars x [])));
   differ = names_differ vars (seen_in body) differ (seen_differ [] (flat_map inst_vars body) none_differ) (seen_below (length vars) [] (flat_map inst_vars body) tt below);
 }
 
+-- seeing one list and then another is seeing them joined
 seen_append : (s xs ys : List ℕ) → seen_after (seen_after s xs) ys ≡ seen_after s (xs ++ ys)
 seen_append s [] ys = refl
 seen_append s (x ∷ xs) ys = chosen (is_in x s) (seen_append s xs ys) (seen_append (s ++ x ∷ []) xs ys)
@@ -388,18 +384,22 @@ seen_append s (x ∷ xs) ys = chosen (is_in x s) (seen_append s xs ys) (seen_app
     chosen true p q = p
     chosen false p q = q
 
+-- flat_map of one item is the list of that item
 one_flat : {A : Type 0} (f : A → List ℕ) (x : A) → flat_map f (x ∷ []) ≡ f x
 one_flat f x = append-nil (f x)
 
+-- the variables of one more item are seen
 pub seen_more : {A : Type 0} (f : A → List ℕ) (s seen seen' : List ℕ) (xs : List A) (i : ℕ) (x : A) → slice_get xs i ≡ Some x → seen ≡ seen_after s (flat_map f (take i xs)) → seen' ≡ seen_after seen (f x) → seen' ≡ seen_after s (flat_map f (take (i + 1) xs))
 seen_more f s seen seen' xs i x here e e' =
     let more : take (i + 1) xs ≡ take i xs ++ x ∷ [] = take_more xs i x (slice_get_within xs i x here) ∙ ap (λ y. take i xs ++ y ∷ []) (get_or_from_slice_get xs i x x here) in
     e' ∙ ap (λ l. seen_after l (f x)) e ∙ seen_append s (flat_map f (take i xs)) (f x) ∙ ap (seen_after s) (ap (λ l. flat_map f (take i xs) ++ l) (sym (one_flat f x)) ∙ sym (flat_map-append f (take i xs) (x ∷ [])) ∙ sym (ap (flat_map f) more))
 
+-- one more item at the end adds its list at the end
 mapped_append : (f : ℕ → List ℕ) (xs : List ℕ) (x : ℕ) → map f (xs ++ x ∷ []) ≡ map f xs ++ f x ∷ []
 mapped_append f [] x = refl
 mapped_append f (y ∷ ys) x = ap (λ l. f y ∷ l) (mapped_append f ys x)
 
+-- one more name is copied
 pub names_more : (vars : List (List ℕ)) (seen : List ℕ) (names names' : List (List ℕ)) (i x : ℕ) (name copied : List ℕ) → slice_get seen i ≡ Some x → slice_get vars x ≡ Some name → copied ≡ name → names' ≡ names ++ copied ∷ [] → names ≡ map (λ y. slice_index_or vars y []) (take i seen) → names' ≡ map (λ y. slice_index_or vars y []) (take (i + 1) seen)
 names_more vars seen names names' i x name copied here is same e e' =
     let f : (ℕ → List ℕ) = λ y. slice_index_or vars y [] in

@@ -1,12 +1,14 @@
 -- The table of the variables seen keeps their places, one variable at a time.
-use Rattle.std.proofs.Common.{◌≡◌, ◌≢◌, ℕ, zero, suc, ◌<◌, Bool, true, false, cond, eqb, ◌||◌, List, [], ◌∷◌, ◌++◌, length, set, slice_get, flat_map, replicate, is_none, Option, Some, None, ◌⊎◌, inl, inr, refl, sym, ap, ◌∙◌, subst, arith, length-set}
-use Rattle.std.proofs.lemmas.Bool.{eq-eqb, eqb-true, cases_lt}
-use Rattle.mir_base.specs.Shapes.{AllBelow}
+use Rattle.std.proofs.Common.{◌≡◌, ◌≢◌, ℕ, zero, suc, ◌<◌, Bool, true, false, cond, eqb, ◌||◌, List, [], ◌∷◌, ◌++◌, length, set, slice_get, replicate, is_none, Option, Some, None, inl, inr, refl, sym, ap, ◌∙◌, subst, arith, length-set}
+use Rattle.std.proofs.lemmas.Bool.{eq-eqb, eqb-true, cases_eq}
+use Rattle.flow_graph.specs.ListLaws.{set_here, set_elsewhere}
 use Rattle.flow_graph.specs.Numbering.{is_in, position}
 use Rattle.flow_graph.specs.Placing.{ArePositions, place_of}
+use Rattle.std.proofs.lemmas.Option.{same_Some}
 
 -- ---- the places of the variables seen
 
+-- numbers that differ are tested to differ
 not_eqb : (a b : ℕ) → a ≢ b → eqb a b ≡ false
 not_eqb a b differ = chosen (eqb a b) refl
   where
@@ -56,29 +58,25 @@ place_last seen x new = ap (λ b. cond b (Some (position (seen ++ x ∷ []) x)) 
         by false h ih = ap suc (ih h)
 
 -- what the table says of one variable
-pub tells_new : (seen : List ℕ) (table : List (Option ℕ)) (x : ℕ) → ArePositions seen table → x < length table → slice_get table x ≡ Some None → is_in x seen ≡ false
-tells_new seen table x are lt e = chosen (is_in x seen) refl
+pub unseen_entry : (seen : List ℕ) (table : List (Option ℕ)) (x : ℕ) → ArePositions seen table → x < length table → slice_get table x ≡ Some None → is_in x seen ≡ false
+unseen_entry seen table x are lt e = chosen (is_in x seen) refl
   where
     chosen : (b : Bool) → is_in x seen ≡ b → b ≡ false
-    chosen true is = let h : cond true (Some (position seen x)) None ≡ None = ap (λ b. cond b (Some (position seen x)) None) (sym is) ∙ same_some (sym (are.are x lt) ∙ e) in cc
-      where
-        same_some : {A : Type 0} {a b : A} → Some a ≡ Some b → a ≡ b
-        same_some h = cc
+    chosen true is = let h : cond true (Some (position seen x)) None ≡ None = ap (λ b. cond b (Some (position seen x)) None) (sym is) ∙ same_Some _ _ (sym (are.are x lt) ∙ e) in cc
     chosen false is = refl
 
-pub tells_seen : (seen : List ℕ) (table : List (Option ℕ)) (x p : ℕ) → ArePositions seen table → x < length table → slice_get table x ≡ Some (Some p) → is_in x seen ≡ true
-tells_seen seen table x p are lt e = chosen (is_in x seen) refl
+-- a variable that has a place was seen
+pub seen_placed : (seen : List ℕ) (table : List (Option ℕ)) (x p : ℕ) → ArePositions seen table → x < length table → slice_get table x ≡ Some (Some p) → is_in x seen ≡ true
+seen_placed seen table x p are lt e = chosen (is_in x seen) refl
   where
     chosen : (b : Bool) → is_in x seen ≡ b → b ≡ true
     chosen true is = refl
-    chosen false is = let h : cond false (Some (position seen x)) None ≡ Some p = ap (λ b. cond b (Some (position seen x)) None) (sym is) ∙ same_some (sym (are.are x lt) ∙ e) in cc
-      where
-        same_some : {A : Type 0} {a b : A} → Some a ≡ Some b → a ≡ b
-        same_some h = cc
+    chosen false is = let h : cond false (Some (position seen x)) None ≡ Some p = ap (λ b. cond b (Some (position seen x)) None) (sym is) ∙ same_Some _ _ (sym (are.are x lt) ∙ e) in cc
 
-pub tells_old : (seen : List ℕ) (table : List (Option ℕ)) (x : ℕ) (o : Option ℕ) → ArePositions seen table → x < length table → slice_get table x ≡ Some o → is_none o ≡ false → is_in x seen ≡ true
-tells_old seen table x None are lt e is = cc
-tells_old seen table x (Some p) are lt e is = tells_seen seen table x p are lt e
+-- so was one whose entry is not None
+pub seen_entry : (seen : List ℕ) (table : List (Option ℕ)) (x : ℕ) (o : Option ℕ) → ArePositions seen table → x < length table → slice_get table x ≡ Some o → is_none o ≡ false → is_in x seen ≡ true
+seen_entry seen table x None are lt e is = cc
+seen_entry seen table x (Some p) are lt e is = seen_placed seen table x p are lt e
 
 -- a variable that is not in the list has its length for its position
 pub position_none : (seen : List ℕ) (x : ℕ) → is_in x seen ≡ false → position seen x ≡ length seen
@@ -89,32 +87,16 @@ position_none (z ∷ zs) x e = by (eqb z x) e (position_none zs x)
     by true h ih = cc
     by false h ih = ap suc (ih h)
 
-get_set_same : (table : List (Option ℕ)) (x : ℕ) (o : Option ℕ) → x < length table → slice_get (set table x o) x ≡ Some o
-get_set_same [] x o lt = absurd (omega (arith, lt))
-get_set_same (t ∷ table) zero o lt = refl
-get_set_same (t ∷ table) (suc x) o lt = get_set_same table x o (omega (arith, lt))
-
-get_set_other : (table : List (Option ℕ)) (x y : ℕ) (o : Option ℕ) → x ≢ y → slice_get (set table x o) y ≡ slice_get table y
-get_set_other [] x y o ne = refl
-get_set_other (t ∷ table) zero zero o ne = absurd (ne refl)
-get_set_other (t ∷ table) zero (suc y) o ne = refl
-get_set_other (t ∷ table) (suc x) zero o ne = refl
-get_set_other (t ∷ table) (suc x) (suc y) o ne = get_set_other table x y o (λ e. ne (ap suc e))
-
+-- the table with one more variable
 pub positions_more : (seen : List ℕ) (table : List (Option ℕ)) (x : ℕ) → ArePositions seen table → x < length table → is_in x seen ≡ false → ArePositions (seen ++ x ∷ []) (set table x (Some (length seen)))
 positions_more seen table x are lt new = record {
-  are = λ y below. elim (same y) [
-    | inl e ↦ subst (λ z. slice_get (set table x (Some (length seen))) z ≡ Some (place_of (seen ++ x ∷ []) z)) e (get_set_same table x (Some (length seen)) lt ∙ ap Some (sym (place_last seen x new)))
-    | inr differ ↦ get_set_other table x y (Some (length seen)) differ ∙ are.are y (omega (arith, below, length-set table x (Some (length seen)))) ∙ ap Some (sym (place_other seen x y differ))
+  are = λ y below. elim (cases_eq x y) [
+    | inl e ↦ subst (λ z. slice_get (set table x (Some (length seen))) z ≡ Some (place_of (seen ++ x ∷ []) z)) e (set_here table x (Some (length seen)) lt ∙ ap Some (sym (place_last seen x new)))
+    | inr differ ↦ set_elsewhere table x y (Some (length seen)) (λ e. differ (sym e)) ∙ are.are y (omega (arith, below, length-set table x (Some (length seen)))) ∙ ap Some (sym (place_other seen x y differ))
   ];
 }
-  where
-    same : (y : ℕ) → (x ≡ y) ⊎ (x ≢ y)
-    same y = elim (cases_lt x y) [
-      | inl under ↦ inr (λ e. omega (arith, e, under))
-      | inr over ↦ elim (cases_lt y x) [ inl above ↦ inr (λ e. omega (arith, e, above)) | inr le ↦ inl (omega (arith, over, le)) ]
-    ]
 
+-- before the first variable no variable has a place
 pub positions_none : (n : ℕ) (seen : List ℕ) (table : List (Option ℕ)) → seen ≡ [] → table ≡ replicate n None → ArePositions seen table
 positions_none n seen table e e' = record {
   are = λ x lt. all_none n table e' x lt ∙ ap (λ l. Some (place_of l x)) (sym e);
@@ -125,19 +107,3 @@ positions_none n seen table e e' = record {
     all_none zero (t ∷ ts) h x lt = cc
     all_none (suc k) (t ∷ ts) h zero lt = let same : t ≡ None = cc in ap Some same
     all_none (suc k) (t ∷ ts) h (suc x) lt = let rest : ts ≡ replicate k None = cc in all_none k ts rest x (omega (arith, lt))
-
--- ---- the variables of the instructions that are still to come
-
-pub below_front : (m : ℕ) (xs ys : List ℕ) → AllBelow m (xs ++ ys) → AllBelow m xs
-below_front m [] ys h = tt
-below_front m (x ∷ xs) ys h = (h.0, below_front m xs ys h.1)
-
-pub below_back : (m : ℕ) (xs ys : List ℕ) → AllBelow m (xs ++ ys) → AllBelow m ys
-below_back m [] ys h = h
-below_back m (x ∷ xs) ys h = below_back m xs ys h.1
-
--- the variables of one of several items
-pub below_one : {A : Type 0} (f : A → List ℕ) (m : ℕ) (xs : List A) (i : ℕ) (x : A) → AllBelow m (flat_map f xs) → slice_get xs i ≡ Some x → AllBelow m (f x)
-below_one f m [] i x h e = cc
-below_one f m (y ∷ xs) zero x h e = let same : y ≡ x = cc in subst (λ z. AllBelow m (f z)) same (below_front m (f y) (flat_map f xs) h)
-below_one f m (y ∷ xs) (suc i) x h e = below_one f m xs i x (below_back m (f y) (flat_map f xs) h) e

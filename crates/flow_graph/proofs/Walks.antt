@@ -1,40 +1,31 @@
 -- What a walk keeps, and what it leaves.
-use Rattle.std.proofs.Common.{◌≡◌, ℕ, zero, suc, ◌+◌, ◌<◌, ◌≤◌, Bool, true, false, cond, eqb, ◌||◌, List, [], ◌∷◌, ◌++◌, length, slice_get, slice_set, slice_index_or, Option, Some, None, ◌⊎◌, inl, inr, refl, sym, ap, ◌∙◌, subst, arith, replicate, length-append}
-use Rattle.std.proofs.lemmas.Bool.{eq-eqb, eqb-true}
-use Rattle.std.proofs.lemmas.List.{length-replicate}
+use Rattle.std.proofs.Common.{◌≡◌, ℕ, zero, suc, ◌+◌, ◌<◌, ◌≤◌, Bool, true, false, cond, List, [], ◌∷◌, ◌++◌, length, slice_get, slice_set, slice_index_or, Option, Some, None, ◌⊎◌, inl, inr, refl, sym, ap, ◌∙◌, subst, arith, replicate, length-append}
+use Rattle.std.proofs.lemmas.Bool.{cases_eq}
+use Rattle.std.proofs.lemmas.List.{length-replicate, length-set}
+use Rattle.std.proofs.lemmas.Option.{slice_get_within}
+use Rattle.flow_graph.specs.ListLaws.{set_here, set_elsewhere}
 use Rattle.flow_graph.specs.declared.nodes.Node.{Node}
 use Rattle.flow_graph.specs.declared.nodes.Node.TheVariants.{Start, Skip, Assign, Print, Call, Test, Return}
-use Rattle.flow_graph.specs.Graphs.{IsEdge, Reached, at_start, along, node_succs, succs_of, succs_at, AllWithin, IsWithin}
+use Rattle.flow_graph.specs.Graphs.{IsEdge, Reached, at_start, along, node_succs, succs_of, succs_at, AllWithin, IsBelow}
 use Rattle.flow_graph.specs.Kept.{MarkReached}
 use Rattle.flow_graph.specs.Numbering.{is_in}
-use Rattle.flow_graph.specs.Walks.{Walking, marks_after, stack_after, unmarked, weight}
+use Rattle.flow_graph.specs.Walks.{Walking, marks_after, stack_after, unmarked, walk_weight}
+use Rattle.flow_graph.specs.NumberingLaws.{is_in_first, is_in_last, is_in_pushed}
 
 -- ---- marks
 
+-- a mark stays set
 pub set_keeps : (marks : List Bool) (s n : ℕ) → slice_get marks n ≡ Some true → slice_get (slice_set marks s true) n ≡ Some true
-set_keeps [] s n e = cc
-set_keeps (b ∷ marks) zero zero e = refl
-set_keeps (b ∷ marks) zero (suc n) e = e
-set_keeps (b ∷ marks) (suc s) zero e = e
-set_keeps (b ∷ marks) (suc s) (suc n) e = set_keeps marks s n e
+set_keeps marks s n e = elim (cases_eq n s) [
+  | inl p ↦ subst (λ m. slice_get (slice_set marks m true) n ≡ Some true) p (set_here marks n true (slice_get_within marks n true e))
+  | inr other ↦ set_elsewhere marks s n true other ∙ e
+]
 
-pub set_here : (marks : List Bool) (s : ℕ) → s < length marks → slice_get (slice_set marks s true) s ≡ Some true
-set_here [] s lt = absurd (omega (arith, lt))
-set_here (b ∷ marks) zero lt = refl
-set_here (b ∷ marks) (suc s) lt = set_here marks s (omega (arith, lt))
+-- what is marked then was marked, or is the node
+pub marked_before : (marks : List Bool) (s n : ℕ) → slice_get (slice_set marks s true) n ≡ Some true → (n ≡ s) ⊎ (slice_get marks n ≡ Some true)
+marked_before marks s n e = elim (cases_eq n s) [ inl p ↦ inl p | inr other ↦ inr (sym (set_elsewhere marks s n true other) ∙ e) ]
 
-pub set_tells : (marks : List Bool) (s n : ℕ) → slice_get (slice_set marks s true) n ≡ Some true → (n ≡ s) ⊎ (slice_get marks n ≡ Some true)
-set_tells [] s n e = inr e
-set_tells (b ∷ marks) zero zero e = inl refl
-set_tells (b ∷ marks) zero (suc n) e = inr e
-set_tells (b ∷ marks) (suc s) zero e = inr e
-set_tells (b ∷ marks) (suc s) (suc n) e = elim (set_tells marks s n e) [ inl p ↦ inl (ap suc p) | inr p ↦ inr p ]
-
-pub set_long : (marks : List Bool) (s : ℕ) → length (slice_set marks s true) ≡ length marks
-set_long [] s = refl
-set_long (b ∷ marks) zero = refl
-set_long (b ∷ marks) (suc s) = ap suc (set_long marks s)
-
+-- one node fewer is unmarked
 pub unmarked_set : (marks : List Bool) (s : ℕ) → s < length marks → slice_index_or marks s false ≡ false → unmarked (slice_set marks s true) + 1 ≡ unmarked marks
 unmarked_set [] s lt e = absurd (omega (arith, lt))
 unmarked_set (true ∷ marks) zero lt e = cc
@@ -42,6 +33,7 @@ unmarked_set (false ∷ marks) zero lt e = omega arith
 unmarked_set (true ∷ marks) (suc s) lt e = unmarked_set marks s (omega (arith, lt)) e
 unmarked_set (false ∷ marks) (suc s) lt e = omega (arith, unmarked_set marks s (omega (arith, lt)) e)
 
+-- marking what is marked leaves as many unmarked
 unmarked_same : (marks : List Bool) (s : ℕ) → slice_index_or marks s false ≡ true → unmarked (slice_set marks s true) ≡ unmarked marks
 unmarked_same [] s e = refl
 unmarked_same (true ∷ marks) zero e = refl
@@ -49,42 +41,14 @@ unmarked_same (false ∷ marks) zero e = cc
 unmarked_same (true ∷ marks) (suc s) e = unmarked_same marks s e
 unmarked_same (false ∷ marks) (suc s) e = ap suc (unmarked_same marks s e)
 
--- ---- the stack
-
-or_true : (b : Bool) → b || true ≡ true
-or_true true = refl
-or_true false = refl
-
-in_old : (n s : ℕ) (stack : List ℕ) → is_in n stack ≡ true → is_in n (stack ++ s ∷ []) ≡ true
-in_old n s [] e = cc
-in_old n s (m ∷ stack) e = chosen (eqb m n) e (in_old n s stack)
-  where
-    chosen : (b : Bool) → b || is_in n stack ≡ true → (is_in n stack ≡ true → is_in n (stack ++ s ∷ []) ≡ true) → b || is_in n (stack ++ s ∷ []) ≡ true
-    chosen true e' ih = refl
-    chosen false e' ih = ih e'
-
-in_last : (n : ℕ) (stack : List ℕ) → is_in n (stack ++ n ∷ []) ≡ true
-in_last n [] = ap (λ b. b || false) (eq-eqb n n refl)
-in_last n (m ∷ stack) = ap (λ b. eqb m n || b) (in_last n stack) ∙ or_true (eqb m n)
-
-in_split : (n s : ℕ) (stack : List ℕ) → is_in n (stack ++ s ∷ []) ≡ true → (is_in n stack ≡ true) ⊎ (s ≡ n)
-in_split n s [] e = chosen (eqb s n) refl e
-  where
-    chosen : (b : Bool) → eqb s n ≡ b → b || false ≡ true → (is_in n [] ≡ true) ⊎ (s ≡ n)
-    chosen true is e' = inr (eqb-true s n is)
-    chosen false is e' = cc
-in_split n s (m ∷ stack) e = chosen (eqb m n) e (in_split n s stack)
-  where
-    chosen : (b : Bool) → b || is_in n (stack ++ s ∷ []) ≡ true → (is_in n (stack ++ s ∷ []) ≡ true → (is_in n stack ≡ true) ⊎ (s ≡ n)) → (b || is_in n stack ≡ true) ⊎ (s ≡ n)
-    chosen true e' ih = inl refl
-    chosen false e' ih = ih e'
-
 -- ---- one mark
 
+-- the node, where there is one, is reached
 abbrev IsReachedOr : List Node → Option ℕ → Type 0
 IsReachedOr nodes None = Unit {0}
 IsReachedOr nodes (Some s) = Reached nodes s
 
+-- a mark that is read as true, with false as the default, is there
 index_marked : (marks : List Bool) (s : ℕ) → slice_index_or marks s false ≡ true → slice_get marks s ≡ Some true
 index_marked [] s e = cc
 index_marked (b ∷ marks) zero e = ap Some e
@@ -93,11 +57,11 @@ index_marked (b ∷ marks) (suc s) e = index_marked marks s e
 module _ (nodes : List Node) (within : AllWithin nodes) where
   mark_new : (marks : List Bool) (stack stack' : List ℕ) (current : Option ℕ) (s : ℕ) → Walking nodes marks stack current → Reached nodes s → s < length nodes → ((n : ℕ) → is_in n stack ≡ true → is_in n stack' ≡ true) → ((n : ℕ) → is_in n stack' ≡ true → (is_in n stack ≡ true) ⊎ (s ≡ n)) → (is_in s stack' ≡ true) ⊎ (slice_get marks s ≡ Some true) → Walking nodes (slice_set marks s true) stack' current
   mark_new marks stack stack' current s w r lt keeps tells new = record {
-    long = set_long marks s ∙ w.long;
-    sound = λ n e. elim (set_tells marks s n e) [ inl p ↦ subst (Reached nodes) (sym p) r | inr p ↦ w.sound n p ];
+    long = length-set marks s true ∙ w.long;
+    sound = λ n e. elim (marked_before marks s n e) [ inl p ↦ subst (Reached nodes) (sym p) r | inr p ↦ w.sound n p ];
     begun = set_keeps marks s 0 w.begun;
-    stacked = λ n e. elim (tells n e) [ inl p ↦ set_keeps marks s n (w.stacked n p) | inr p ↦ subst (λ m. slice_get (slice_set marks s true) m ≡ Some true) p (set_here marks s (omega (arith, lt, w.long))) ];
-    closed = λ n e. elim (set_tells marks s n e) [
+    stacked = λ n e. elim (tells n e) [ inl p ↦ set_keeps marks s n (w.stacked n p) | inr p ↦ subst (λ m. slice_get (slice_set marks s true) m ≡ Some true) p (set_here marks s true (omega (arith, lt, w.long))) ];
+    closed = λ n e. elim (marked_before marks s n e) [
       | inl p ↦ elim new [
         | inl q ↦ inl (subst (λ m. is_in m stack' ≡ true) (sym p) q)
         | inr q ↦ old n (subst (λ m. slice_get marks m ≡ Some true) (sym p) q)
@@ -113,28 +77,28 @@ module _ (nodes : List Node) (within : AllWithin nodes) where
         | inr (inr q) ↦ inr (inr (λ slot t e. set_keeps marks s t (q slot t e)))
       ]
 
-  pub marks_one : (marks : List Bool) (stack : List ℕ) (current o : Option ℕ) → Walking nodes marks stack current → IsReachedOr nodes o → IsWithin (length nodes) o → Walking nodes (marks_after marks o) (stack_after marks stack o) current
+  pub marks_one : (marks : List Bool) (stack : List ℕ) (current o : Option ℕ) → Walking nodes marks stack current → IsReachedOr nodes o → IsBelow (length nodes) o → Walking nodes (marks_after marks o) (stack_after marks stack o) current
   marks_one marks stack current None w r lt = w
   marks_one marks stack current (Some s) w r lt = chosen (slice_index_or marks s false) refl
     where
       chosen : (b : Bool) → slice_index_or marks s false ≡ b → Walking nodes (slice_set marks s true) (cond b stack (stack ++ s ∷ [])) current
       chosen true is = mark_new marks stack stack current s w r lt (λ n e. e) (λ n e. inl e) (inr (index_marked marks s is))
-      chosen false is = mark_new marks stack (stack ++ s ∷ []) current s w r lt (λ n e. in_old n s stack e) (λ n e. in_split n s stack e) (inl (in_last s stack))
+      chosen false is = mark_new marks stack (stack ++ s ∷ []) current s w r lt (λ n e. is_in_first n stack (s ∷ []) e) (λ n e. is_in_pushed n s stack e) (inl (is_in_last s stack))
 
-  pub lighter_one : (marks : List Bool) (stack : List ℕ) (o : Option ℕ) → IsWithin (length marks) o → weight (marks_after marks o) (stack_after marks stack o) ≤ weight marks stack
+  pub lighter_one : (marks : List Bool) (stack : List ℕ) (o : Option ℕ) → IsBelow (length marks) o → walk_weight (marks_after marks o) (stack_after marks stack o) ≤ walk_weight marks stack
   lighter_one marks stack None lt = omega arith
   lighter_one marks stack (Some s) lt = chosen (slice_index_or marks s false) refl
     where
-      chosen : (b : Bool) → slice_index_or marks s false ≡ b → weight (slice_set marks s true) (cond b stack (stack ++ s ∷ [])) ≤ weight marks stack
+      chosen : (b : Bool) → slice_index_or marks s false ≡ b → walk_weight (slice_set marks s true) (cond b stack (stack ++ s ∷ [])) ≤ walk_weight marks stack
       chosen true is = omega (arith, unmarked_same marks s is)
       chosen false is = omega (arith, unmarked_set marks s lt is, length-append stack (s ∷ []))
 
-  pub lighter_by : (marks marks' : List Bool) (stack stack' : List ℕ) (o : Option ℕ) → IsWithin (length marks) o → marks' ≡ marks_after marks o → stack' ≡ stack_after marks stack o → weight marks' stack' ≤ weight marks stack
-  lighter_by marks marks' stack stack' o lt e e' = subst (λ m. weight m stack' ≤ weight marks stack) (sym e) (subst (λ s. weight (marks_after marks o) s ≤ weight marks stack) (sym e') (lighter_one marks stack o lt))
+  pub lighter_by : (marks marks' : List Bool) (stack stack' : List ℕ) (o : Option ℕ) → IsBelow (length marks) o → marks' ≡ marks_after marks o → stack' ≡ stack_after marks stack o → walk_weight marks' stack' ≤ walk_weight marks stack
+  lighter_by marks marks' stack stack' o lt e e' = subst (λ m. walk_weight m stack' ≤ walk_weight marks stack) (sym e) (subst (λ s. walk_weight (marks_after marks o) s ≤ walk_weight marks stack) (sym e') (lighter_one marks stack o lt))
 
   pub marked_after : (marks : List Bool) (o : Option ℕ) (s : ℕ) → o ≡ Some s → s < length marks → slice_get (marks_after marks o) s ≡ Some true
   marked_after marks None s e lt = cc
-  marked_after marks (Some t) s e lt = let same : t ≡ s = cc in subst (λ m. slice_get (slice_set marks m true) s ≡ Some true) (sym same) (set_here marks s lt)
+  marked_after marks (Some t) s e lt = let same : t ≡ s = cc in subst (λ m. slice_get (slice_set marks m true) s ≡ Some true) (sym same) (set_here marks s true lt)
 
   pub after_keeps : (marks : List Bool) (o : Option ℕ) (n : ℕ) → slice_get marks n ≡ Some true → slice_get (marks_after marks o) n ≡ Some true
   after_keeps marks None n e = e
@@ -142,7 +106,7 @@ module _ (nodes : List Node) (within : AllWithin nodes) where
 
   pub long_after : (marks : List Bool) (o : Option ℕ) → length (marks_after marks o) ≡ length marks
   long_after marks None = refl
-  long_after marks (Some s) = set_long marks s
+  long_after marks (Some s) = length-set marks s true
 
   -- a node has no third successor
   two_slots : (node : Node) (slot s : ℕ) → slice_get (node_succs node) slot ≡ Some s → (slot ≡ 0) ⊎ (slot ≡ 1)
@@ -156,7 +120,7 @@ module _ (nodes : List Node) (within : AllWithin nodes) where
   two_slots (Test test taken other) (suc (suc slot)) s e = cc
   two_slots (Return a) (suc (suc slot)) s e = cc
 
-  succ_within : (o : Option ℕ) (n slot : ℕ) → slice_get (succs_at nodes n) slot ≡ o → IsWithin (length nodes) o
+  succ_within : (o : Option ℕ) (n slot : ℕ) → slice_get (succs_at nodes n) slot ≡ o → IsBelow (length nodes) o
   succ_within None n slot e = tt
   succ_within (Some s) n slot e = within n slot s e
 
@@ -164,7 +128,7 @@ module _ (nodes : List Node) (within : AllWithin nodes) where
   succ_reached None n slot r e = tt
   succ_reached (Some s) n slot r e = along n slot s r e
 
-  pub first_within : (node : Node) (n slot : ℕ) → slice_get nodes n ≡ Some node → IsWithin (length nodes) (slice_get (node_succs node) slot)
+  pub first_within : (node : Node) (n slot : ℕ) → slice_get nodes n ≡ Some node → IsBelow (length nodes) (slice_get (node_succs node) slot)
   first_within node n slot e = succ_within (slice_get (node_succs node) slot) n slot (ap (λ o. slice_get (succs_of o) slot) e)
 
   -- the whole visit of a node
@@ -223,14 +187,14 @@ module _ (nodes : List Node) (within : AllWithin nodes) where
   -- the last of the stack becomes the current one
   pub popped : (marks : List Bool) (stack : List ℕ) (n : ℕ) → Walking nodes marks (stack ++ n ∷ []) None → (slice_get marks n ≡ Some true) × Walking nodes marks stack (Some n)
   popped marks stack n w = (
-    w.stacked n (in_last n stack),
+    w.stacked n (is_in_last n stack),
     record {
       long = w.long;
       sound = w.sound;
       begun = w.begun;
-      stacked = λ m e. w.stacked m (in_old m n stack e);
+      stacked = λ m e. w.stacked m (is_in_first m stack (n ∷ []) e);
       closed = λ m e. elim (w.closed m e) [
-        | inl q ↦ elim (in_split m n stack q) [ inl p ↦ inl p | inr p ↦ inr (inl (ap Some p)) ]
+        | inl q ↦ elim (is_in_pushed m n stack q) [ inl p ↦ inl p | inr p ↦ inr (inl (ap Some p)) ]
         | inr (inl q) ↦ cc
         | inr (inr q) ↦ inr (inr q)
       ];
@@ -239,6 +203,7 @@ module _ (nodes : List Node) (within : AllWithin nodes) where
 
 -- ---- the beginning
 
+-- where node 0 alone is marked, a marked node is node 0
 first_set : (n : ℕ) → 0 < n → (marks : List Bool) → marks ≡ replicate n false → (k : ℕ) → slice_get (slice_set marks 0 true) k ≡ Some true → k ≡ 0
 first_set zero lt marks e k is = absurd (omega (arith, lt))
 first_set (suc n) lt [] e k is = cc
@@ -256,13 +221,13 @@ pub walk_begins : (nodes : List Node) (marks marks' : List Bool) (stack : List �
 walk_begins nodes marks marks' stack some e e' e'' =
     let long : length marks ≡ length nodes = ap length e ∙ length-replicate (length nodes) false in
     let w : Walking nodes (slice_set marks 0 true) (0 ∷ []) None = record {
-      long = set_long marks 0 ∙ long;
+      long = length-set marks 0 true ∙ long;
       sound = λ n is. let z = first_set (length nodes) some marks e n is in subst (Reached nodes) (sym z) at_start;
-      begun = set_here marks 0 (omega (arith, long, some));
-      stacked = λ n is. let z = in_one n is in subst (λ m. slice_get (slice_set marks 0 true) m ≡ Some true) z (set_here marks 0 (omega (arith, long, some)));
+      begun = set_here marks 0 true (omega (arith, long, some));
+      stacked = λ n is. let z = in_one n is in subst (λ m. slice_get (slice_set marks 0 true) m ≡ Some true) z (set_here marks 0 true (omega (arith, long, some)));
       closed = λ n is. let z = first_set (length nodes) some marks e n is in inl (subst (λ m. is_in m (0 ∷ []) ≡ true) (sym z) refl);
     } in
     subst (λ m. Walking nodes m stack None) (sym e') (subst (λ s. Walking nodes (slice_set marks 0 true) s None) (sym e'') w)
   where
     in_one : (n : ℕ) → is_in n (0 ∷ []) ≡ true → 0 ≡ n
-    in_one n is = elim (in_split n 0 [] is) [ inl p ↦ cc | inr p ↦ p ]
+    in_one n is = elim (is_in_pushed n 0 [] is) [ inl p ↦ cc | inr p ↦ p ]

@@ -3,10 +3,11 @@ use Rattle.std.proofs.Common.{◌≡◌, ℕ, zero, suc, ◌<◌, true, List, []
 use Rattle.flow_graph.specs.declared.nodes.Node.{Node}
 use Rattle.flow_graph.specs.Graphs.{AllWithin, Reached, SuccsBelow}
 use Rattle.flow_graph.specs.declared.nodes.Node.TheVariants.{Start, Skip, Assign, Print, Call, Test, Return}
-use Rattle.flow_graph.specs.Kept.{AreKept, marked, rank, redirected}
+use Rattle.flow_graph.specs.Kept.{AreKept, marked, marked_below, redirected}
 use Rattle.std.specs.Prelude.{Bool, false}
-use Rattle.flow_graph.proofs.Ranks.{succs_below}
+use Rattle.flow_graph.specs.BoundLaws.{succs_below}
 
+-- where all items are marked, the marked ones are the list
 all_marked : {A : Type 0} (marks : List Bool) (xs : List A) → length marks ≡ length xs → ((n : ℕ) → n < length xs → slice_get marks n ≡ Some true) → marked marks xs ≡ xs
 all_marked [] [] long all = refl
 all_marked [] (x ∷ xs) long all = absurd (omega (arith, long))
@@ -14,7 +15,8 @@ all_marked (b ∷ marks) [] long all = absurd (omega (arith, long))
 all_marked (true ∷ marks) (x ∷ xs) long all = ap (λ l. x ∷ l) (all_marked marks xs (omega (arith, long)) (λ n lt. all (suc n) (omega (arith, lt))))
 all_marked (false ∷ marks) (x ∷ xs) long all = let first = all 0 (omega arith) in cc
 
-full_rank : (marks : List Bool) (n : ℕ) → ((k : ℕ) → k < length marks → slice_get marks k ≡ Some true) → n < length marks → rank marks n ≡ n
+-- and the new number of each is its old one
+full_rank : (marks : List Bool) (n : ℕ) → ((k : ℕ) → k < length marks → slice_get marks k ≡ Some true) → n < length marks → marked_below marks n ≡ n
 full_rank [] n all lt = absurd (omega (arith, lt))
 full_rank (true ∷ marks) zero all lt = refl
 full_rank (false ∷ marks) zero all lt = refl
@@ -35,10 +37,11 @@ module _ (size : ℕ) (to : ℕ → ℕ) (same : (n : ℕ) → n < size → to n
   all_unmoved [] below = refl
   all_unmoved (node ∷ nodes) below = ap (λ l. redirected to node ∷ l) (all_unmoved nodes (λ n. below (suc n))) ∙ ap (λ m. m ∷ nodes) (unmoved node (below 0 node refl))
 
+-- where every node is reached, all nodes are kept, with their numbers
 pub whole_kept : (raw nodes : List Node) → AllWithin raw → AreKept raw nodes → ((n : ℕ) → n < length raw → Reached raw n) → nodes ≡ raw
 whole_kept raw nodes within kept reached =
     let all : (n : ℕ) → n < length raw → slice_get kept.marks n ≡ Some true = λ n lt. (kept.are_marks.exact n lt).1 (reached n lt) in
     let long = kept.are_marks.long in
     kept.are
-    ∙ ap (map (redirected (rank kept.marks))) (all_marked kept.marks raw long all)
-    ∙ all_unmoved (length raw) (rank kept.marks) (λ n lt. full_rank kept.marks n (λ k h. all k (omega (arith, h, long))) (omega (arith, lt, long))) raw (λ n node here. succs_below raw n node within here)
+    ∙ ap (map (redirected (marked_below kept.marks))) (all_marked kept.marks raw long all)
+    ∙ all_unmoved (length raw) (marked_below kept.marks) (λ n lt. full_rank kept.marks n (λ k h. all k (omega (arith, h, long))) (omega (arith, lt, long))) raw (λ n node here. succs_below raw n node within here)

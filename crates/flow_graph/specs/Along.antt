@@ -1,6 +1,7 @@
 -- The path along which a run goes to its return, and when the runs of a rewritten graph follow those of the graph.
+-- Cited by contracts of motion_rewrite.
 use Rattle.std.specs.Prelude.{◌≡◌, ℕ, List, [], ◌∷◌, length}
-use Rattle.mir_base.specs.Frames.{Entry, Answer, Frame, first_frame, resumed, Transition, Continues, Prints, Calls, Returns, Traps, Code}
+use Rattle.mir_base.specs.Frames.{CallEntry, Answer, Frame, first_frame, resumed, Transition, Continues, Prints, Calls, Returns, Traps, Code}
 use Rattle.mir_base.specs.UnitRuns.{Machine, AreAnswers, EndsInReturn, IsEntry, unit_run}
 use Rattle.flow_graph.specs.Graphs.{GraphShape}
 use Rattle.flow_graph.specs.Machines.{machine_of}
@@ -24,18 +25,18 @@ GoesAlong code [] frame answers = ⊥
 GoesAlong code (n ∷ path) frame answers = (frame.place ≡ n) × StepsAlong path (GoesAlong code path) (code frame) answers
 
 -- the run of the machine with these arguments and answers goes along the path to its return
-abbrev pub RunsAlong : Machine → Entry → List Answer → List ℕ → Type 0
+abbrev pub RunsAlong : Machine → CallEntry → List Answer → List ℕ → Type 0
 RunsAlong machine entry answers path = GoesAlong machine.code path (first_frame entry) answers
 
--- where a run of the graph goes along a full path to its return, the run of the result with the same arguments and answers
--- goes along the path over it
+-- where a run of the graph goes along a full path to its return, the run of the result with the same arguments and
+-- answers goes along the corresponding path of it
 pub record RunsFollow (graph result : GraphShape) : Type 0 where
-  pub follow : (path over : List ℕ) (entry : Entry) (answers : List Answer) → IsFullPath graph.nodes path → IsOver graph.nodes result.nodes path over → IsEntry (machine_of graph) entry → AreAnswers answers
+  pub follow : (path over : List ℕ) (entry : CallEntry) (answers : List Answer) → IsFullPath graph.nodes path → IsOver graph.nodes result.nodes path over → IsEntry (machine_of graph) entry → AreAnswers answers
       → RunsAlong (machine_of graph) entry answers path → RunsAlong (machine_of result) entry answers over
 
--- the run of the graph with these arguments and answers goes along a full path, and that of the result along the path over
--- it, at whose end it returns
-pub record RunOver (graph result : GraphShape) (entry : Entry) (answers : List Answer) : Type 0 where
+-- the run of the graph with these arguments and answers goes along a full path, and that of the result along the
+-- corresponding path of it, at whose end it returns
+pub record RunOver (graph result : GraphShape) (entry : CallEntry) (answers : List Answer) : Type 0 where
   pub path : List ℕ
   pub full : IsFullPath graph.nodes path
   pub along : RunsAlong (machine_of graph) entry answers path

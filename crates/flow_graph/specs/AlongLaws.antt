@@ -1,11 +1,11 @@
--- Laws of runs along paths. A run that goes along a path ends in its return, after as many steps as the path has places; in a
--- graph it counts what the assignments on the path count; and each run of a graph that ends in its return goes along a full
--- path.
-use Rattle.std.proofs.Common.{◌≡◌, ℕ, zero, suc, ◌+◌, ◌<◌, Bool, true, false, cond, List, [], ◌∷◌, length, slice_get, Option, Some, None, refl, sym, ap, ◌∙◌, subst, arith}
+-- Laws of runs along paths. A run that goes along a path ends in its return, after as many steps as the path has
+-- places; in a graph it counts what the assignments on the path count; and each run of a graph that ends in its
+-- return goes along a full path. For proofs only: `InsertionRunLaws` stands on them.
+use Rattle.std.proofs.Common.{◌≡◌, ℕ, zero, suc, ◌+◌, ◌<◌, Bool, true, false, if◌then◌else◌, List, [], ◌∷◌, length, slice_get, Option, Some, None, refl, sym, ap, ◌∙◌, subst, arith}
 use Rattle.std.proofs.lemmas.Option.{slice_get_within}
 use Rattle.mir_base.specs.declared.instructions.Rhs.{Rhs}
 use Rattle.mir_base.specs.declared.operators.Trap.TheVariants.{ZeroDivisor}
-use Rattle.mir_base.specs.Frames.{Entry, Answer, Frame, first_frame, resumed, Transition, Continues, Prints, Calls, Returns, Traps, Code}
+use Rattle.mir_base.specs.Frames.{CallEntry, Answer, Frame, first_frame, resumed, Transition, Continues, Prints, Calls, Returns, Traps, Code}
 use Rattle.mir_base.specs.Units.{test_holds, at, assigned, assign_transition}
 use Rattle.mir_base.specs.Expressions.{rhs_traps, rhs_value, rhs_count}
 use Rattle.mir_base.specs.ExpressionLaws.{assign_is}
@@ -14,18 +14,20 @@ use Rattle.flow_graph.specs.declared.nodes.Node.{Node}
 use Rattle.flow_graph.specs.declared.nodes.Node.TheVariants.{Start, Skip, Assign, Print, Call, Test, Return}
 use Rattle.flow_graph.specs.Along.{StepsAlong, GoesAlong, RunsAlong, RunsFollow, RunOver}
 use Rattle.flow_graph.specs.Graphs.{GraphShape, CanMake, succs_of}
-use Rattle.flow_graph.specs.InsertionNodes.{some_at}
+use Rattle.flow_graph.specs.ListLaws.{some_at}
 use Rattle.flow_graph.specs.InsertionRuns.{counts}
 use Rattle.flow_graph.specs.Machines.{node_transition, graph_code, machine_of}
 use Rattle.flow_graph.specs.Over.{IsOver, weigh, weight_at}
 use Rattle.flow_graph.specs.Paths.{HasEdge, IsPath, Ends, IsReturnAt, IsFullPath, is_return}
 use Rattle.flow_graph.specs.Sums.{sum_on}
 
+-- a number is 0 and an equal number
 and_none : (a b : ℕ) → a ≡ b → a ≡ 0 + b
 and_none a b same = omega (arith, same)
 
 -- ---- a run along a path returns
 
+-- a run that goes along a whole path ends in a return
 along_returns : (code : Code) (path : List ℕ) (frame : Frame) (answers : List Answer) → GoesAlong code path frame answers → EndsInReturn (frame_run code (length path) frame answers).events
 along_returns code [] frame answers goes = absurd goes
 along_returns code (n ∷ places) frame answers goes = step places (along_returns code places) (code frame) answers goes.1
@@ -41,7 +43,7 @@ along_returns code (n ∷ places) frame answers goes = step places (along_return
     step path later (Traps kind c) more steps = absurd steps
 
 -- after as many steps as the path has places
-pub runs_return : (machine : Machine) (entry : Entry) (answers : List Answer) (path : List ℕ) → RunsAlong machine entry answers path → EndsInReturn (unit_run machine entry answers (length path)).events
+pub runs_return : (machine : Machine) (entry : CallEntry) (answers : List Answer) (path : List ℕ) → RunsAlong machine entry answers path → EndsInReturn (unit_run machine entry answers (length path)).events
 runs_return machine entry answers path runs = along_returns machine.code path (first_frame entry) answers runs
 
 module _ (graph : GraphShape) where
@@ -73,10 +75,10 @@ module _ (graph : GraphShape) where
               → (y : ℕ) (t : Rhs) (s : ℕ) (rest : List Answer) (b : Bool) → rhs_traps frame.values t ≡ b → StepsAlong over (GoesAlong code over) (assign_transition y t s frame) rest
               → (after_transition (frame_run code (length over)) (assign_transition y t s frame) rest).counted ≡ rhs_count t + sum_on (weight_at counts graph.nodes) over
           assign over after y t s rest true trap goes =
-              let is = assign_is y t s frame ∙ ap (λ q. cond q (Traps ZeroDivisor 1) (Continues (rhs_count t) (assigned y (rhs_value frame.values t) s frame))) trap in
+              let is = assign_is y t s frame ∙ ap (λ q. (if q then Traps ZeroDivisor 1 else Continues (rhs_count t) (assigned y (rhs_value frame.values t) s frame))) trap in
               absurd (subst (λ q. StepsAlong over (GoesAlong code over) q rest) is goes)
           assign over after y t s rest false calm goes =
-              let is = assign_is y t s frame ∙ ap (λ q. cond q (Traps ZeroDivisor 1) (Continues (rhs_count t) (assigned y (rhs_value frame.values t) s frame))) calm in
+              let is = assign_is y t s frame ∙ ap (λ q. (if q then Traps ZeroDivisor 1 else Continues (rhs_count t) (assigned y (rhs_value frame.values t) s frame))) calm in
               ap (λ q. (after_transition (frame_run code (length over)) q rest).counted) is
               ∙ counted over after (rhs_count t) (assigned y (rhs_value frame.values t) s frame) rest (subst (λ q. StepsAlong over (GoesAlong code over) q rest) is goes)
       step path later (Some (Print a next)) more steps = and_none _ _ (later (at next frame) more steps)
@@ -86,7 +88,7 @@ module _ (graph : GraphShape) where
       step [] later (Some (Return a)) more steps = refl
       step (m ∷ path) later (Some (Return a)) more steps = absurd steps
 
-  pub runs_count : (entry : Entry) (answers : List Answer) (path : List ℕ) → RunsAlong (machine_of graph) entry answers path → (unit_run (machine_of graph) entry answers (length path)).counted ≡ sum_on (weight_at counts graph.nodes) path
+  pub runs_count : (entry : CallEntry) (answers : List Answer) (path : List ℕ) → RunsAlong (machine_of graph) entry answers path → (unit_run (machine_of graph) entry answers (length path)).counted ≡ sum_on (weight_at counts graph.nodes) path
   runs_count entry answers path runs = along_counts path (first_frame entry) answers runs
 
   -- ---- a run that returns goes along a full path
@@ -127,9 +129,9 @@ module _ (graph : GraphShape) where
         at_node (Assign x rhs s) is more shown = assigns_at (rhs_traps f.values rhs) refl
           where
             assigns_at : (b : Bool) → rhs_traps f.values rhs ≡ b → PathFrom f.place f more
-            assigns_at b trap = decided b (ap (λ o. node_transition graph.received o f) is ∙ assign_is x rhs s f ∙ ap (λ q. cond q (Traps ZeroDivisor 1) (Continues (rhs_count rhs) (assigned x (rhs_value f.values rhs) s f))) trap)
+            assigns_at b trap = decided b (ap (λ o. node_transition graph.received o f) is ∙ assign_is x rhs s f ∙ ap (λ q. (if q then Traps ZeroDivisor 1 else Continues (rhs_count rhs) (assigned x (rhs_value f.values rhs) s f))) trap)
               where
-                decided : (b : Bool) → code f ≡ cond b (Traps ZeroDivisor 1) (Continues (rhs_count rhs) (assigned x (rhs_value f.values rhs) s f)) → PathFrom f.place f more
+                decided : (b : Bool) → code f ≡ (if b then Traps ZeroDivisor 1 else Continues (rhs_count rhs) (assigned x (rhs_value f.values rhs) s f)) → PathFrom f.place f more
                 decided true e = absurd (subst (λ t. EndsInReturn (after_transition (frame_run code k) t more).events) e shown)
                 decided false e = continues k way f (assigned x (rhs_value f.values rhs) s f) (rhs_count rhs) more e (to (Assign x rhs s) 0 s is refl) shown
         at_node (Print a s) is more shown =
@@ -151,7 +153,7 @@ module _ (graph : GraphShape) where
             (way g more (goes_to f g edge) (subst (λ t. EndsInReturn (after_transition (frame_run code k) t (a ∷ more)).events) step shown))
         at_node (Test test taken other) is more shown = chosen (test_holds f.values test) (ap (λ o. node_transition graph.received o f) is)
           where
-            chosen : (b : Bool) → code f ≡ Continues 0 (at (cond b taken other) f) → PathFrom f.place f more
+            chosen : (b : Bool) → code f ≡ Continues 0 (at (if b then taken else other) f) → PathFrom f.place f more
             chosen true e = continues k way f (at taken f) 0 more e (to (Test test taken other) 0 taken is refl) shown
             chosen false e = continues k way f (at other f) 0 more e (to (Test test taken other) 1 other is refl) shown
         at_node (Return a) is more shown = record {
@@ -167,7 +169,7 @@ module _ (graph : GraphShape) where
     way_from zero f answers within ends = absurd ends
     way_from (suc k) f answers within ends = one_more k (way_from k) f answers within ends
 
-    pub returning_path : (entry : Entry) (answers : List Answer) (n : ℕ) → EndsInReturn (unit_run (machine_of graph) entry answers n).events → (path : List ℕ) × IsFullPath graph.nodes path × RunsAlong (machine_of graph) entry answers path
+    pub returning_path : (entry : CallEntry) (answers : List Answer) (n : ℕ) → EndsInReturn (unit_run (machine_of graph) entry answers n).events → (path : List ℕ) × IsFullPath graph.nodes path × RunsAlong (machine_of graph) entry answers path
     returning_path entry answers n ends =
         let start = can.start in
         let way = way_from n (first_frame entry) answers (slice_get_within graph.nodes 0 _ start.1) ends in
@@ -175,7 +177,7 @@ module _ (graph : GraphShape) where
 
     -- so where its runs are followed, each run that returns has one over it, which returns too
     pub run_over : (result : GraphShape) → RunsFollow graph result → ((path : List ℕ) → IsFullPath graph.nodes path → (over : List ℕ) × IsOver graph.nodes result.nodes path over)
-        → (entry : Entry) (answers : List Answer) → IsEntry (machine_of graph) entry → AreAnswers answers → (n : ℕ) → EndsInReturn (unit_run (machine_of graph) entry answers n).events → RunOver graph result entry answers
+        → (entry : CallEntry) (answers : List Answer) → IsEntry (machine_of graph) entry → AreAnswers answers → (n : ℕ) → EndsInReturn (unit_run (machine_of graph) entry answers n).events → RunOver graph result entry answers
     run_over result follows overs entry answers is_entry are n ends =
         let way = returning_path entry answers n ends in
         let over = overs way.0 way.1 in

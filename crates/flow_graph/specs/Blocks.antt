@@ -1,4 +1,5 @@
--- The blocks of a graph: longest lists of nodes that are always passed one after the other.
+-- The blocks of a graph: longest lists of nodes that are always passed one after the other. Cited by contracts, those
+-- of path_laws too; what is kept while blocks are made only by those of src/blocks.rt.
 use Rattle.std.specs.Prelude.{◌≡◌, ◌≢◌, ℕ, ◌<◌, ◌≤◌, ◌+◌, nat_eq, ◌⊎◌, Bool, true, not, is_some, if◌then◌else◌, List, [], ◌∷◌, ◌++◌, length, slice_get, slice_index_or, slice_range, Option, Some, None}
 use Rattle.flow_graph.specs.declared.nodes.Node.{Node}
 use Rattle.flow_graph.specs.Edges.{preds_of}
@@ -33,7 +34,7 @@ pub record IsBlock (nodes : List Node) (list : List ℕ) : Type 0 where
   pub last : (m : ℕ) → Ends m list → IsLast nodes m
 
 -- node n stands in the list of this number
-pub record Stands (lists : List (List ℕ)) (b n : ℕ) : Type 0 where
+pub record StandsIn (lists : List (List ℕ)) (b n : ℕ) : Type 0 where
   pub list : List ℕ
   pub listed : slice_get lists b ≡ Some list
   pub place : ℕ
@@ -43,7 +44,7 @@ pub record Stands (lists : List (List ℕ)) (b n : ℕ) : Type 0 where
 pub record IsBlocks (nodes : List Node) (lists : List (List ℕ)) : Type 0 where
   pub blocks : (b : ℕ) (list : List ℕ) → slice_get lists b ≡ Some list → IsBlock nodes list
   pub ascend : (b c m n : ℕ) (early late : List ℕ) → b < c → slice_get lists b ≡ Some early → slice_get lists c ≡ Some late → Begins m early → Begins n late → m < n
-  pub every : (n : ℕ) → n < length nodes → (b : ℕ) × Stands lists b n
+  pub every : (n : ℕ) → n < length nodes → (b : ℕ) × StandsIn lists b n
 
 -- the blocks as contracts see them, and how many nodes there are
 pub record BlocksShape : Type 0 where
@@ -55,6 +56,10 @@ pub record AreBlocksOf (nodes : List Node) (blocks : BlocksShape) : Type 0 where
   pub count : blocks.nodes ≡ length nodes
   pub are : IsBlocks nodes blocks.lists
 
+-- any lists that are the blocks of these nodes are equal to these lists
+abbrev pub AreOnlyBlocks : List Node → List (List ℕ) → Type 0
+AreOnlyBlocks nodes lists = (others : List (List ℕ)) → IsBlocks nodes others → lists ≡ others
+
 -- ---- what the calls look at
 
 -- the only item of a list
@@ -63,6 +68,7 @@ only [] = None
 only (x ∷ []) = Some x
 only (x ∷ y ∷ xs) = None
 
+-- the node, where one edge enters it
 abbrev pub next_from : List Node → Option ℕ → Option ℕ
 next_from nodes None = None
 next_from nodes (Some n) = if is_some (only (preds_of nodes n)) then Some n else None
@@ -71,6 +77,7 @@ next_from nodes (Some n) = if is_some (only (preds_of nodes n)) then Some n else
 abbrev pub next_of : List Node → ℕ → Option ℕ
 next_of nodes m = next_from nodes (only (succs_at nodes m))
 
+-- whether the node that one edge comes from has more than one successor, or there is no one such node
 abbrev pub first_from : List Node → Option ℕ → Bool
 first_from nodes None = true
 first_from nodes (Some m) = not (is_some (only (succs_at nodes m)))
@@ -82,10 +89,10 @@ is_first nodes n = first_from nodes (only (preds_of nodes n))
 -- ---- how they are kept
 
 -- the parts of a list between each number and the next
-abbrev pub cut : List ℕ → List ℕ → List (List ℕ)
-cut order [] = []
-cut order (s ∷ []) = []
-cut order (s ∷ e ∷ starts) = slice_range order s e ∷ cut order (e ∷ starts)
+abbrev pub parts_at : List ℕ → List ℕ → List (List ℕ)
+parts_at order [] = []
+parts_at order (s ∷ []) = []
+parts_at order (s ∷ e ∷ starts) = slice_range order s e ∷ parts_at order (e ∷ starts)
 
 -- none is above the next, and the last is this one
 abbrev pub AreStarts : ℕ → List ℕ → Type 0
@@ -96,13 +103,21 @@ AreStarts end (s ∷ e ∷ starts) = (s ≤ e) × AreStarts end (e ∷ starts)
 -- what `Blocks` keeps: the nodes in order of blocks, where each block begins, and the block of each node
 pub record AreParts (order starts block_of : List ℕ) : Type 0 where
   pub starts_are : AreStarts (length order) starts
-  pub stands : (n : ℕ) → n < length block_of → Stands (cut order starts) (slice_index_or block_of n 0) n
+  pub stands : (n : ℕ) → n < length block_of → StandsIn (parts_at order starts) (slice_index_or block_of n 0) n
 
 -- ---- while they are made
 
 -- a node that has its block; the others have a number that is none
 abbrev pub IsPlaced : ℕ → List ℕ → ℕ → Type 0
 IsPlaced none block_of n = slice_index_or block_of n none ≢ none
+
+-- a node that has no block yet
+abbrev pub IsUnplaced : ℕ → List ℕ → ℕ → Type 0
+IsUnplaced none block_of n = slice_index_or block_of n none ≡ none
+
+-- a node that has its block is glued only to a node that has its block
+abbrev pub GluedToPlaced : List Node → List ℕ → Type 0
+GluedToPlaced nodes block_of = (m n : ℕ) → IsGlued nodes m n → IsPlaced (length nodes) block_of n → IsPlaced (length nodes) block_of m
 
 -- the blocks whose first nodes are below this number
 pub record AreMade (nodes : List Node) (below : ℕ) (lists : List (List ℕ)) (block_of : List ℕ) : Type 0 where
@@ -113,17 +128,17 @@ pub record AreMade (nodes : List Node) (below : ℕ) (lists : List (List ℕ)) (
   pub ascend : (b c m n : ℕ) (early late : List ℕ) → b < c → slice_get lists b ≡ Some early → slice_get lists c ≡ Some late → Begins m early → Begins n late → m < n
   pub firsts : (n : ℕ) → n < below → IsFirst nodes n → IsPlaced (length nodes) block_of n
   pub placed_under : (n : ℕ) → IsFirst nodes n → IsPlaced (length nodes) block_of n → n < below
-  pub closed : (m n : ℕ) → IsGlued nodes m n → IsPlaced (length nodes) block_of n → IsPlaced (length nodes) block_of m
-  pub sound : (n : ℕ) → IsPlaced (length nodes) block_of n → Stands lists (slice_index_or block_of n (length nodes)) n
-  pub complete : (b n : ℕ) → Stands lists b n → IsPlaced (length nodes) block_of n
+  pub closed : GluedToPlaced nodes block_of
+  pub sound : (n : ℕ) → IsPlaced (length nodes) block_of n → StandsIn lists (slice_index_or block_of n (length nodes)) n
+  pub complete : (b n : ℕ) → StandsIn lists b n → IsPlaced (length nodes) block_of n
 
 -- and how they are kept
-pub record AreKept (nodes : List Node) (below : ℕ) (order starts block_of : List ℕ) : Type 0 where
+pub record AreStored (nodes : List Node) (below : ℕ) (order starts block_of : List ℕ) : Type 0 where
   pub starts_are : AreStarts (length order) starts
-  pub made : AreMade nodes below (cut order starts) block_of
+  pub made : AreMade nodes below (parts_at order starts) block_of
 
 -- from its first node a block has been followed to this node
-pub record IsFollowed (nodes : List Node) (head node block : ℕ) (order longer block_of after : List ℕ) : Type 0 where
+pub record IsBlockSoFar (nodes : List Node) (head node block : ℕ) (order longer block_of after : List ℕ) : Type 0 where
   pub chain : List ℕ
   pub longer_is : longer ≡ order ++ chain
   pub is_chain : IsChain nodes chain
@@ -133,6 +148,10 @@ pub record IsFollowed (nodes : List Node) (head node block : ℕ) (order longer 
   pub were : (n : ℕ) → (slice_index_or after n (length nodes) ≡ slice_index_or block_of n (length nodes)) ⊎ ((slice_index_or after n (length nodes) ≡ block) × ((i : ℕ) × (slice_get chain i ≡ Some n)))
   pub put : (i n : ℕ) → slice_get chain i ≡ Some n → slice_index_or after n (length nodes) ≡ block
   pub closed : (m n : ℕ) → IsGlued nodes m n → IsPlaced (length nodes) after n → IsPlaced (length nodes) after m × (m ≢ node)
+
+-- a block has been followed from its first node to its last
+abbrev pub IsFollowedBlock : List Node → ℕ → ℕ → List ℕ → List ℕ → List ℕ → List ℕ → Type 0
+IsFollowedBlock nodes head block order longer block_of after = (node : ℕ) × IsBlockSoFar nodes head node block order longer block_of after × IsLast nodes node
 
 -- how many have no block yet
 abbrev pub unplaced : ℕ → List ℕ → ℕ

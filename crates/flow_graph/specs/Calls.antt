@@ -1,5 +1,5 @@
--- Which units are called, and with how many arguments: a rewriting that makes no other calls gives units that fit into
--- the program again.
+-- Which units are called, and with how many arguments: a rewriting that makes no other calls gives units that fit
+-- into the program again. Cited by contracts, those of the passes above too.
 use Rattle.std.specs.Prelude.{◌≡◌, ℕ, List, length, slice_get, Option, Some, None}
 use Rattle.mir_base.specs.declared.instructions.Inst.{Inst}
 use Rattle.mir_base.specs.declared.instructions.Inst.TheVariants as insts
@@ -39,3 +39,7 @@ pub record NodesCall (nodes : List Node) (called count : ℕ) : Type 0 where
   pub node : Node
   pub here : slice_get nodes number ≡ Some node
   pub calls : node_call node ≡ Some (called, count)
+
+-- each call of the one, as `BodyCalls body` or `NodesCall nodes`, is a call of the other
+abbrev pub CallsAmong : (ℕ → ℕ → Type 0) → (ℕ → ℕ → Type 0) → Type 0
+CallsAmong new old = (called count : ℕ) → new called count → old called count

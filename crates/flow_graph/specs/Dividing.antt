@@ -1,4 +1,4 @@
--- Dividing assignments, and that a pass keeps each of them.
+-- Dividing assignments, and that a pass keeps each of them. Cited by contracts of the passes above.
 use Rattle.std.specs.Prelude.{◌≡◌, ◌<◌, ℕ, true, List, slice_get, Some}
 use Rattle.mir_base.specs.declared.instructions.Operand.{Operand}
 use Rattle.mir_base.specs.declared.instructions.Rhs.TheVariants.{Binary}

@@ -1,5 +1,5 @@
--- Passes that keep each dividing assignment: one after the other, with old nodes in their places, and where nodes that are
--- not reached are dropped.
+-- Laws of passes that keep each dividing assignment: one after the other, with old nodes in their places, and where
+-- nodes that are not reached are dropped. For proofs only, of edge_split, jump_clean and motion_rewrite.
 use Rattle.std.proofs.Common.{◌≡◌, ℕ, true, List, slice_get, Some, option_map, ap, ◌∙◌}
 use Rattle.std.proofs.lemmas.Option.{slice_get-map, slice_get_within}
 use Rattle.mir_base.specs.declared.instructions.Operand.{Operand}
@@ -10,7 +10,7 @@ use Rattle.flow_graph.specs.declared.nodes.Node.{Node}
 use Rattle.flow_graph.specs.declared.nodes.Node.TheVariants.{Assign}
 use Rattle.flow_graph.specs.Dividing.{DividesAt, DividesStay}
 use Rattle.flow_graph.specs.Graphs.{Reached}
-use Rattle.flow_graph.specs.Kept.{AreKept, marked, rank, redirected}
+use Rattle.flow_graph.specs.Kept.{AreKept, marked, marked_below, redirected}
 use Rattle.flow_graph.specs.KeptLaws.{at_rank, rank_below}
 
 -- two passes
@@ -38,19 +38,19 @@ module _ (raw nodes : List Node) (kept : AreKept raw nodes) (reached : (n x : �
   is_marked : (n x : ℕ) (op : Op) → DividesAt raw n x op → slice_get kept.marks n ≡ Some true
   is_marked n x op at = (kept.are_marks.exact n (slice_get_within raw n _ at.is)).1 (reached n x op at)
 
-  stands : (n x : ℕ) (op : Op) → DividesAt raw n x op → DividesAt nodes (rank kept.marks n) x op
+  stands : (n x : ℕ) (op : Op) → DividesAt raw n x op → DividesAt nodes (marked_below kept.marks n) x op
   stands n x op at = record {
     left = at.left;
     right = at.right;
-    next = rank kept.marks at.next;
-    is = ap (λ l. slice_get l (rank kept.marks n)) kept.are ∙ slice_get-map (redirected (rank kept.marks)) (marked kept.marks raw) (rank kept.marks n)
-        ∙ ap (option_map (redirected (rank kept.marks))) (at_rank kept.marks raw n (is_marked n x op at) kept.are_marks.long ∙ at.is);
+    next = marked_below kept.marks at.next;
+    is = ap (λ l. slice_get l (marked_below kept.marks n)) kept.are ∙ slice_get-map (redirected (marked_below kept.marks)) (marked kept.marks raw) (marked_below kept.marks n)
+        ∙ ap (option_map (redirected (marked_below kept.marks))) (at_rank kept.marks raw n (is_marked n x op at) kept.are_marks.long ∙ at.is);
     may_trap = at.may_trap;
   }
 
   pub kept_stay : DividesStay raw nodes
   kept_stay = record {
-    place = rank kept.marks;
+    place = marked_below kept.marks;
     stays = stands;
     in_order = λ n m x y op other at at' lt. rank_below kept.marks n m (is_marked n x op at) lt;
   }

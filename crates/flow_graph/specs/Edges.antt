@@ -1,5 +1,6 @@
--- The edges of a graph in order, by source and by target, and when a graph is split.
-use Rattle.std.specs.Prelude.{◌≡◌, ℕ, zero, suc, ◌+◌, ◌<◌, ◌≤◌, Bool, true, false, ◌&&◌, nat_lt, cond, eqb, List, [], ◌∷◌, ◌++◌, map, length, slice_get, slice_index_or, Option, Some}
+-- The edges of a graph in order, by source and by target, and when a graph is split. Cited by contracts, those of the
+-- crates above too.
+use Rattle.std.specs.Prelude.{◌≡◌, ℕ, zero, suc, ◌+◌, ◌<◌, ◌≤◌, Bool, true, false, ◌&&◌, nat_lt, if◌then◌else◌, nat_eq, List, [], ◌∷◌, ◌++◌, map, length, slice_get, slice_index_or, Option, Some}
 use Rattle.flow_graph.specs.declared.edges.Edge.{Edge}
 use Rattle.flow_graph.specs.declared.nodes.Node.{Node}
 use Rattle.flow_graph.specs.declared.nodes.Node.TheVariants.{Skip}
@@ -10,10 +11,14 @@ abbrev pub leaving : ℕ → List ℕ → List Edge
 leaving n [] = []
 leaving n (s ∷ succs) = record { source = n; target = s } ∷ leaving n succs
 
+-- the edges that leave a node, which has the number n
+abbrev pub leaving_node : ℕ → Node → List Edge
+leaving_node n node = leaving n (node_succs node)
+
 -- the edges of the nodes from number n on, by source and then by slot
 abbrev pub edges_from : ℕ → List Node → List Edge
 edges_from n [] = []
-edges_from n (node ∷ nodes) = leaving n (node_succs node) ++ edges_from (suc n) nodes
+edges_from n (node ∷ nodes) = leaving_node n node ++ edges_from (suc n) nodes
 
 -- all edges as contracts see them, and how many nodes there are
 pub record EdgesShape : Type 0 where
@@ -30,14 +35,14 @@ edges_of nodes = record { nodes = length nodes; edges = edges_from 0 nodes }
 -- n, and the end of the edges of the node before
 abbrev pub first_leaving : ℕ → List Edge → ℕ
 first_leaving n [] = 0
-first_leaving n (edge ∷ edges) = cond (nat_lt edge.source n) 1 0 + first_leaving n edges
+first_leaving n (edge ∷ edges) = (if nat_lt edge.source n then 1 else 0) + first_leaving n edges
 
 -- ---- by target
 
 -- the edges that enter node s, in their order
 abbrev pub entering : ℕ → List Edge → List Edge
 entering s [] = []
-entering s (edge ∷ edges) = cond (eqb edge.target s) (edge ∷ entering s edges) (entering s edges)
+entering s (edge ∷ edges) = if nat_eq edge.target s then edge ∷ entering s edges else entering s edges
 
 -- the edges that enter nodes below n: first those of node 0, then those of node 1, and so on
 abbrev pub by_target : ℕ → List Edge → List Edge
@@ -51,8 +56,9 @@ first_entering n edges = length (by_target n edges)
 -- the sources of the edges that enter node s, one entry for each edge
 abbrev pub preds_among : ℕ → List Edge → List ℕ
 preds_among s [] = []
-preds_among s (edge ∷ edges) = cond (eqb edge.target s) (edge.source ∷ preds_among s edges) (preds_among s edges)
+preds_among s (edge ∷ edges) = if nat_eq edge.target s then edge.source ∷ preds_among s edges else preds_among s edges
 
+-- the same of the edges of these nodes
 abbrev pub preds_of : List Node → ℕ → List ℕ
 preds_of nodes s = preds_among s (edges_from 0 nodes)
 
@@ -67,6 +73,15 @@ pub record IsTable (n : ℕ) (number : ℕ → ℕ) (table : List ℕ) : Type 0 
   pub long : length table ≡ suc n
   pub are : (k : ℕ) → k ≤ n → slice_index_or table k 0 ≡ number k
 
+-- where the edges that leave each node begin, and how many edges there are at the end
+abbrev pub AreLeavingStarts : ℕ → List Edge → List ℕ → Type 0
+AreLeavingStarts nodes edges starts = IsTable nodes (λ n. first_leaving n edges) starts
+
+-- where the edges that enter each node begin among those by target, and how many edges there are at the end
+abbrev pub AreEnteringStarts : ℕ → List Edge → List ℕ → Type 0
+AreEnteringStarts nodes edges entries = IsTable nodes (λ n. first_entering n edges) entries
+
+-- the number of the node that an edge leaves
 abbrev pub source_of : Edge → ℕ
 source_of edge = edge.source
 
@@ -74,8 +89,8 @@ source_of edge = edge.source
 pub record AreIndexed (nodes : ℕ) (edges targeted : List Edge) (preds starts entries : List ℕ) : Type 0 where
   pub by_targets : targeted ≡ by_target nodes edges
   pub preds_are : preds ≡ map source_of targeted
-  pub starts_are : IsTable nodes (λ n. first_leaving n edges) starts
-  pub entries_are : IsTable nodes (λ n. first_entering n edges) entries
+  pub starts_are : AreLeavingStarts nodes edges starts
+  pub entries_are : AreEnteringStarts nodes edges entries
 
 -- ---- split graphs
 
@@ -84,14 +99,16 @@ pub record IsSplit (nodes : List Node) : Type 0 where
   pub by_skips : (s i n : ℕ) → s < length nodes → 1 < length (preds_of nodes s) → slice_get (preds_of nodes s) i ≡ Some n → slice_get nodes n ≡ Some (Skip s)
   pub once : (s i j n : ℕ) → s < length nodes → 1 < length (preds_of nodes s) → slice_get (preds_of nodes s) i ≡ Some n → slice_get (preds_of nodes s) j ≡ Some n → i ≡ j
 
+-- the node is a Skip to this one
 abbrev pub is_skip_to : ℕ → Option Node → Bool
-is_skip_to to (Some (Skip next)) = eqb next to
+is_skip_to to (Some (Skip next)) = nat_eq next to
 is_skip_to to _ = false
 
+-- all of these are
 abbrev pub all_skips : List Node → ℕ → List ℕ → Bool
 all_skips nodes to [] = true
 all_skips nodes to (n ∷ ns) = is_skip_to to (slice_get nodes n) && all_skips nodes to ns
 
 -- a node that is entered at most once, or by Skips alone
 abbrev pub enters_well : List Node → ℕ → Bool
-enters_well nodes s = cond (nat_lt 1 (length (preds_of nodes s))) (all_skips nodes s (preds_of nodes s)) true
+enters_well nodes s = if nat_lt 1 (length (preds_of nodes s)) then all_skips nodes s (preds_of nodes s) else true

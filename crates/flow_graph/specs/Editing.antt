@@ -1,5 +1,6 @@
--- What an editor does to the nodes of a graph: it puts new assignments before nodes, one at a time, and changes assignments.
-use Rattle.std.specs.Prelude.{ℕ, zero, suc, Bool, true, false, cond, eqb, List, [], ◌∷◌, ◌++◌, map, length, Option, Some, None}
+-- What an editor does to the nodes of a graph: it puts new assignments before nodes, one at a time, and changes
+-- assignments. Cited by contracts, those of motion_rewrite too.
+use Rattle.std.specs.Prelude.{ℕ, zero, suc, Bool, true, false, if◌then◌else◌, nat_eq, List, [], ◌∷◌, ◌++◌, map, length, Option, Some, None}
 use Rattle.mir_base.specs.declared.instructions.Rhs.{Rhs}
 use Rattle.mir_base.specs.Shapes.{AllBelow, rhs_vars}
 use Rattle.flow_graph.specs.declared.nodes.Node.{Node}
@@ -15,7 +16,7 @@ pub record EditorShape : Type 0 where
 
 -- where an edge to n leads once node `new` is put before `node`
 abbrev pub past : ℕ → ℕ → ℕ → ℕ
-past node new n = cond (eqb n node) new n
+past node new n = if nat_eq n node then new else n
 
 -- a new node gets the next number: all edges that entered `node` enter it, and its successor is `node`
 abbrev pub put_before : ℕ → ℕ → Rhs → List Node → List Node
@@ -46,12 +47,15 @@ change_each changes (suc count) n nodes = change_each changes count (suc n) (cha
 
 -- ---- on graphs
 
+-- the graph with an assignment put before a node
 abbrev pub graph_put : ℕ → ℕ → Rhs → GraphShape → GraphShape
 graph_put node x rhs graph = record graph { nodes = put_before node x rhs graph.nodes }
 
+-- the graph with a node changed
 abbrev pub graph_changed : ℕ → Change → GraphShape → GraphShape
 graph_changed node change graph = record graph { nodes = change_at node change graph.nodes }
 
+-- the graph with more variables
 abbrev pub graph_extended : List (List ℕ) → GraphShape → GraphShape
 graph_extended extra graph = record graph { vars = graph.vars ++ extra }
 
@@ -60,19 +64,24 @@ abbrev pub change_to : Option Rhs → Change
 change_to None = Removed
 change_to (Some rhs) = Replaced rhs
 
+-- the variables of a right side, where there is one, are below a bound
 abbrev pub rhs_below : ℕ → Option Rhs → Type 0
 rhs_below vars None = Unit {0}
 rhs_below vars (Some rhs) = AllBelow vars (rhs_vars rhs)
 
+-- the node is an assignment
 abbrev pub is_assignment : Option Node → Bool
 is_assignment (Some (Assign x rhs next)) = true
 is_assignment _ = false
 
+-- the graph with several assignments put before a node
 abbrev pub graph_put_all : ℕ → List Insertion → GraphShape → GraphShape
 graph_put_all n puts graph = record graph { nodes = put_all n puts graph.nodes }
 
+-- with those for each node below a bound put before it
 abbrev pub graph_put_each : (ℕ → List Insertion) → ℕ → GraphShape → GraphShape
 graph_put_each inserts count graph = record graph { nodes = put_each inserts count 0 graph.nodes }
 
+-- with each node below a bound changed
 abbrev pub graph_change_each : (ℕ → Change) → ℕ → GraphShape → GraphShape
 graph_change_each changes count graph = record graph { nodes = change_each changes count 0 graph.nodes }

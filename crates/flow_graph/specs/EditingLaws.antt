@@ -1,127 +1,30 @@
--- Laws of an editor: each edit of a graph gives a graph, and the edits of a rewriting, made in order, give the rewritten
--- nodes.
-use Rattle.std.proofs.Common.{◌≡◌, ℕ, zero, suc, ◌<◌, ◌≤◌, cond, List, [], ◌∷◌, map, length, slice_get, Some, option_map, ◌⊎◌, inl, inr, refl, sym, ap, ◌∙◌, subst, arith, length-append}
+-- Laws of an editor: each edit of a graph gives a graph, what a change leaves as it is, and that old nodes are still
+-- reached. For proofs only, of src/editor.rt and motion_rewrite.
+use Rattle.std.proofs.Common.{◌≡◌, ℕ, zero, suc, ◌<◌, ◌≤◌, if◌then◌else◌, List, [], ◌∷◌, map, length, slice_get, Some, option_map, ◌⊎◌, inl, inr, refl, sym, ap, ◌∙◌, subst, arith, length-append}
 use Rattle.std.proofs.lemmas.Bool.{cases_eq, cases_lt, eq-eqb, ne_eqb}
 use Rattle.std.proofs.lemmas.List.{length-map}
 use Rattle.std.proofs.lemmas.Option.{slice_get-map, slice_get_within, same_Some}
 use Rattle.mir_base.specs.declared.instructions.Rhs.{Rhs}
 use Rattle.mir_base.specs.Shapes.{AllBelow, rhs_vars}
+use Rattle.flow_graph.specs.ListLaws.{get_left, get_right_at}
 use Rattle.flow_graph.specs.declared.nodes.Node.{Node}
-use Rattle.flow_graph.specs.declared.nodes.Node.TheVariants.{Start, Skip, Assign, Print, Call, Test, Return}
-use Rattle.flow_graph.specs.CallLaws.{mapped_from}
+use Rattle.flow_graph.specs.declared.nodes.Node.TheVariants.{Start, Assign}
+use Rattle.flow_graph.specs.NodeLaws.{mapped_from, redirected_start, redirected_succs, redirected_vars, changed_below, changed_kept, changed_start, changed_succs}
 use Rattle.flow_graph.specs.Graphs.{node_succs, succs_of, node_vars, IsEdge, Reached, at_start, along, IsGraph}
 use Rattle.flow_graph.specs.Kept.{redirected}
-use Rattle.flow_graph.specs.Insertions.{Change, Kept, Replaced, Removed, changed, ChangeBelow}
-use Rattle.flow_graph.specs.InsertionNodes.{front_get, back_get, edge_node}
+use Rattle.flow_graph.specs.Insertions.{Change, Kept, changed, ChangeBelow}
+use Rattle.flow_graph.specs.InsertionNodes.{edge_node}
 use Rattle.flow_graph.specs.Editing.{past, put_before, change_at}
 
 -- ---- where edges lead
 
+-- an edge to the node now leads to the new one
 pub past_same : (node new : ℕ) → past node new node ≡ new
-past_same node new = ap (λ b. cond b new node) (eq-eqb node node refl)
+past_same node new = ap (λ b. (if b then new else node)) (eq-eqb node node refl)
 
+-- and any other edge where it led
 pub past_other : (node new n : ℕ) → (n ≡ node → ⊥) → past node new n ≡ n
-past_other node new n differ = ap (λ b. cond b new n) (ne_eqb n node differ)
-
-redirected_succs : (to : ℕ → ℕ) (node : Node) → node_succs (redirected to node) ≡ map to (node_succs node)
-redirected_succs to (Start next) = refl
-redirected_succs to (Skip next) = refl
-redirected_succs to (Assign x rhs next) = refl
-redirected_succs to (Print a next) = refl
-redirected_succs to (Call into unit operands next) = refl
-redirected_succs to (Test test taken other) = refl
-redirected_succs to (Return a) = refl
-
-redirected_vars : (to : ℕ → ℕ) (node : Node) → node_vars (redirected to node) ≡ node_vars node
-redirected_vars to (Start next) = refl
-redirected_vars to (Skip next) = refl
-redirected_vars to (Assign x rhs next) = refl
-redirected_vars to (Print a next) = refl
-redirected_vars to (Call into unit operands next) = refl
-redirected_vars to (Test test taken other) = refl
-redirected_vars to (Return a) = refl
-
-redirected_start : (to : ℕ → ℕ) (node : Node) (s : ℕ) → redirected to node ≡ Start s → (t : ℕ) × (node ≡ Start t)
-redirected_start to (Start next) s e = (next, refl)
-redirected_start to (Skip next) s e = cc
-redirected_start to (Assign x rhs next) s e = cc
-redirected_start to (Print a next) s e = cc
-redirected_start to (Call into unit operands next) s e = cc
-redirected_start to (Test test taken other) s e = cc
-redirected_start to (Return a) s e = cc
-
--- the same numbers for the successors, and two other numbers one after the other
-pub redirected_same : (to to' : ℕ → ℕ) (node : Node) → ((slot s : ℕ) → slice_get (node_succs node) slot ≡ Some s → to s ≡ to' s) → redirected to node ≡ redirected to' node
-redirected_same to to' (Start next) same = ap Start (same 0 next refl)
-redirected_same to to' (Skip next) same = ap Skip (same 0 next refl)
-redirected_same to to' (Assign x rhs next) same = ap (Assign x rhs) (same 0 next refl)
-redirected_same to to' (Print a next) same = ap (Print a) (same 0 next refl)
-redirected_same to to' (Call into unit operands next) same = ap (Call into unit operands) (same 0 next refl)
-redirected_same to to' (Test test taken other) same = ap (λ n. Test test n (to other)) (same 0 taken refl) ∙ ap (Test test (to' taken)) (same 1 other refl)
-redirected_same to to' (Return a) same = refl
-
-pub redirected_twice : (to to' : ℕ → ℕ) (node : Node) → redirected to' (redirected to node) ≡ redirected (λ n. to' (to n)) node
-redirected_twice to to' (Start next) = refl
-redirected_twice to to' (Skip next) = refl
-redirected_twice to to' (Assign x rhs next) = refl
-redirected_twice to to' (Print a next) = refl
-redirected_twice to to' (Call into unit operands next) = refl
-redirected_twice to to' (Test test taken other) = refl
-redirected_twice to to' (Return a) = refl
-
-pub redirected_none : (to : ℕ → ℕ) (node : Node) → ((slot s : ℕ) → slice_get (node_succs node) slot ≡ Some s → to s ≡ s) → redirected to node ≡ node
-redirected_none to (Start next) same = ap Start (same 0 next refl)
-redirected_none to (Skip next) same = ap Skip (same 0 next refl)
-redirected_none to (Assign x rhs next) same = ap (Assign x rhs) (same 0 next refl)
-redirected_none to (Print a next) same = ap (Print a) (same 0 next refl)
-redirected_none to (Call into unit operands next) same = ap (Call into unit operands) (same 0 next refl)
-redirected_none to (Test test taken other) same = ap (λ n. Test test n (to other)) (same 0 taken refl) ∙ ap (Test test taken) (same 1 other refl)
-redirected_none to (Return a) same = refl
-
--- a changed node leads where it led
-pub redirected_changed : (to : ℕ → ℕ) (change : Change) (node : Node) → redirected to (changed change node) ≡ changed change (redirected to node)
-redirected_changed to change (Start next) = refl
-redirected_changed to change (Skip next) = refl
-redirected_changed to Kept (Assign x rhs next) = refl
-redirected_changed to (Replaced other) (Assign x rhs next) = refl
-redirected_changed to Removed (Assign x rhs next) = refl
-redirected_changed to change (Print a next) = refl
-redirected_changed to change (Call into unit operands next) = refl
-redirected_changed to change (Test test taken other) = refl
-redirected_changed to change (Return a) = refl
-
-pub changed_succs : (change : Change) (node : Node) → node_succs (changed change node) ≡ node_succs node
-changed_succs change (Start next) = refl
-changed_succs change (Skip next) = refl
-changed_succs Kept (Assign x rhs next) = refl
-changed_succs (Replaced other) (Assign x rhs next) = refl
-changed_succs Removed (Assign x rhs next) = refl
-changed_succs change (Print a next) = refl
-changed_succs change (Call into unit operands next) = refl
-changed_succs change (Test test taken other) = refl
-changed_succs change (Return a) = refl
-
-changed_start : (change : Change) (node : Node) (s : ℕ) → changed change node ≡ Start s → (t : ℕ) × (node ≡ Start t)
-changed_start change (Start next) s e = (next, refl)
-changed_start change (Skip next) s e = cc
-changed_start Kept (Assign x rhs next) s e = cc
-changed_start (Replaced other) (Assign x rhs next) s e = cc
-changed_start Removed (Assign x rhs next) s e = cc
-changed_start change (Print a next) s e = cc
-changed_start change (Call into unit operands next) s e = cc
-changed_start change (Test test taken other) s e = cc
-changed_start change (Return a) s e = cc
-
-changed_below : (change : Change) (k : ℕ) → ChangeBelow k change → (node : Node) → AllBelow k (node_vars node) → AllBelow k (node_vars (changed change node))
-changed_below change k fits (Start next) below = below
-changed_below change k fits (Skip next) below = below
-changed_below Kept k fits (Assign x rhs next) below = below
-changed_below (Replaced other) k fits (Assign x rhs next) below = (below.0, fits)
-changed_below Removed k fits (Assign x rhs next) below = tt
-changed_below change k fits (Print a next) below = below
-changed_below change k fits (Call into unit operands next) below = below
-changed_below change k fits (Test test taken other) below = below
-changed_below change k fits (Return a) below = below
+past_other node new n differ = ap (λ b. (if b then new else n)) (ne_eqb n node differ)
 
 -- ---- one node put before another
 
@@ -138,10 +41,10 @@ module _ (vars : List (List ℕ)) (received : List ℕ) (nodes : List Node) (is_
   old_at : (m : ℕ) (old : Node) → slice_get nodes m ≡ Some old → slice_get result m ≡ Some (redirected to old)
   old_at m old was =
       let lt : m < length (map (redirected to) nodes) = omega (arith, slice_get_within nodes m old was, length-map nodes (redirected to)) in
-      front_get (map (redirected to) nodes) (Assign x rhs node ∷ []) m lt ∙ slice_get-map (redirected to) nodes m ∙ ap (option_map (redirected to)) was
+      get_left (map (redirected to) nodes) (Assign x rhs node ∷ []) m lt ∙ slice_get-map (redirected to) nodes m ∙ ap (option_map (redirected to)) was
 
   new_at : slice_get result (length nodes) ≡ Some (Assign x rhs node)
-  new_at = back_get (map (redirected to) nodes) (Assign x rhs node ∷ []) (length nodes) 0 (omega (arith, length-map nodes (redirected to)))
+  new_at = get_right_at (map (redirected to) nodes) (Assign x rhs node ∷ []) (length nodes) 0 (omega (arith, length-map nodes (redirected to)))
 
   edge_to : (m slot s : ℕ) → IsEdge nodes m slot s → IsEdge result m slot (to s)
   edge_to m slot s edge =
@@ -157,7 +60,7 @@ module _ (vars : List (List ℕ)) (received : List ℕ) (nodes : List Node) (is_
   place : (m : ℕ) (found : Node) → slice_get result m ≡ Some found → Place m found
   place m found at = elim (cases_lt m (length nodes)) [
     | inl lt ↦
-        let from = mapped_from (redirected to) (slice_get nodes m) found (sym (slice_get-map (redirected to) nodes m) ∙ sym (front_get (map (redirected to) nodes) (Assign x rhs node ∷ []) m (omega (arith, lt, length-map nodes (redirected to)))) ∙ at) in
+        let from = mapped_from (redirected to) (slice_get nodes m) found (sym (slice_get-map (redirected to) nodes m) ∙ sym (get_left (map (redirected to) nodes) (Assign x rhs node ∷ []) m (omega (arith, lt, length-map nodes (redirected to)))) ∙ at) in
         inl (from.0, from.1, sym from.2)
     | inr ge ↦
         let is : m ≡ length nodes = omega (arith, ge, slice_get_within result m found at, result_length) in
@@ -235,11 +138,13 @@ module _ (vars : List (List ℕ)) (received : List ℕ) (nodes : List Node) (is_
 
 -- ---- one node changed
 
+-- there are equally many nodes
 pub change_length : (n : ℕ) (change : Change) (nodes : List Node) → length (change_at n change nodes) ≡ length nodes
 change_length n change [] = refl
 change_length zero change (node ∷ nodes) = refl
 change_length (suc n) change (node ∷ nodes) = ap suc (change_length n change nodes)
 
+-- each node has its successors
 pub change_succs : (n : ℕ) (change : Change) (nodes : List Node) (m : ℕ) → succs_of (slice_get (change_at n change nodes) m) ≡ succs_of (slice_get nodes m)
 change_succs n change [] m = refl
 change_succs zero change (node ∷ nodes) zero = changed_succs change node
@@ -247,6 +152,7 @@ change_succs zero change (node ∷ nodes) (suc m) = refl
 change_succs (suc n) change (node ∷ nodes) zero = refl
 change_succs (suc n) change (node ∷ nodes) (suc m) = change_succs n change nodes m
 
+-- a node after the change is the old one or the old one changed
 change_get : (n : ℕ) (change : Change) (nodes : List Node) (m : ℕ) (found : Node) → slice_get (change_at n change nodes) m ≡ Some found → (old : Node) × (slice_get nodes m ≡ Some old) × ((found ≡ old) ⊎ (found ≡ changed change old))
 change_get n change [] m found at = cc
 change_get zero change (node ∷ nodes) zero found at = (node, refl, inr (sym (same_Some (changed change node) found at)))
@@ -254,11 +160,13 @@ change_get zero change (node ∷ nodes) (suc m) found at = (found, at, inl refl)
 change_get (suc n) change (node ∷ nodes) zero found at = (found, at, inl refl)
 change_get (suc n) change (node ∷ nodes) (suc m) found at = change_get n change nodes m found at
 
+-- a change leaves Start as it is
 change_start : (n : ℕ) (change : Change) (nodes : List Node) (s : ℕ) → slice_get nodes 0 ≡ Some (Start s) → slice_get (change_at n change nodes) 0 ≡ Some (Start s)
 change_start n change [] s at = cc
 change_start zero change (node ∷ nodes) s at = ap (λ q. Some (changed change q)) (same_Some node (Start s) at)
 change_start (suc n) change (node ∷ nodes) s at = at
 
+-- so the changed nodes are a graph
 pub change_graph : (vars : List (List ℕ)) (received : List ℕ) (nodes : List Node) (n : ℕ) (change : Change) → IsGraph vars received nodes → ChangeBelow (length vars) change → IsGraph vars received (change_at n change nodes)
 change_graph vars received nodes n change is_graph fits =
     let can = is_graph.can in
@@ -295,16 +203,8 @@ change_other zero (suc m) change (node ∷ nodes) differ = refl
 change_other (suc n) zero change (node ∷ nodes) differ = refl
 change_other (suc n) (suc m) change (node ∷ nodes) differ = change_other n m change nodes (λ e. differ (ap suc e))
 
+-- a change that keeps a node changes nothing
 pub change_none : (n : ℕ) (nodes : List Node) → change_at n Kept nodes ≡ nodes
 change_none n [] = refl
-change_none zero (node ∷ nodes) = ap (λ q. q ∷ nodes) (kept_one node)
-  where
-    kept_one : (old : Node) → changed Kept old ≡ old
-    kept_one (Start next) = refl
-    kept_one (Skip next) = refl
-    kept_one (Assign x rhs next) = refl
-    kept_one (Print a next) = refl
-    kept_one (Call into unit operands next) = refl
-    kept_one (Test test taken other) = refl
-    kept_one (Return a) = refl
+change_none zero (node ∷ nodes) = ap (λ q. q ∷ nodes) (changed_kept node)
 change_none (suc n) (node ∷ nodes) = ap (λ l. node ∷ l) (change_none n nodes)

@@ -1,6 +1,6 @@
--- Law: the changes of a rewriting, and then its insertions, made one at a time in order of the nodes, give the rewritten
--- nodes.
-use Rattle.std.proofs.Common.{◌≡◌, ℕ, zero, suc, ◌+◌, ◌-◌, ◌<◌, ◌≤◌, cond, nat_lt, eqb, List, [], ◌∷◌, ◌++◌, map, length, slice_get, inl, inr, refl, sym, ap, ◌∙◌, arith, length-append, append-nil, append_assoc}
+-- Law: the changes of a rewriting, and then its insertions, made one at a time in order of the nodes, give the
+-- rewritten nodes. For proofs only, of motion_rewrite.
+use Rattle.std.proofs.Common.{◌≡◌, ℕ, zero, suc, ◌+◌, ◌-◌, ◌<◌, ◌≤◌, if◌then◌else◌, nat_lt, nat_eq, List, [], ◌∷◌, ◌++◌, map, length, slice_get, inl, inr, refl, sym, ap, ◌∙◌, arith, length-append, append-nil, append_assoc}
 use Rattle.std.proofs.lemmas.Bool.{cases_eq, cases_lt, eq-eqb, ne_eqb, lt-ltb, le-ltb}
 use Rattle.std.proofs.lemmas.List.{map-append, length-map}
 use Rattle.mir_base.specs.declared.instructions.Rhs.{Rhs}
@@ -11,10 +11,12 @@ use Rattle.flow_graph.specs.Kept.{redirected}
 use Rattle.flow_graph.specs.Insertions.{Insertion, Change, Rewriting, changed, put_below, entry_among, entry, chain, chains, olds, rewritten_nodes}
 use Rattle.flow_graph.specs.InsertionNodes.{rewritten_length}
 use Rattle.flow_graph.specs.Editing.{past, put_before, change_at, put_all, put_each, change_each}
-use Rattle.flow_graph.specs.EditingLaws.{past_same, past_other, redirected_same, redirected_twice, redirected_none, changed_succs}
+use Rattle.flow_graph.specs.EditingLaws.{past_same, past_other}
+use Rattle.flow_graph.specs.NodeLaws.{redirected_same, redirected_twice, redirected_none, changed_succs}
 
 -- ---- the same insertions
 
+-- how many are put before the nodes below n depends only on the lists of those nodes
 below_same : (i i' : ℕ → List Insertion) (n : ℕ) → ((m : ℕ) → m < n → i m ≡ i' m) → put_below i n ≡ put_below i' n
 below_same i i' zero same = refl
 below_same i i' (suc n) same =
@@ -31,18 +33,21 @@ below_none i n (suc count) none =
     let last = ap {B = ℕ} length (none (n + count) (omega arith)) in
     omega (arith, e, last, below_none i n count none)
 
+-- where nothing is put from node n on, there are no chains
 chains_none : (i : ℕ → List Insertion) (count n k : ℕ) → ((m : ℕ) → n ≤ m → i m ≡ []) → chains i count n k ≡ []
 chains_none i zero n k none = refl
 chains_none i (suc count) n k none =
     ap (λ l. chain n k l ++ chains i count (suc n) (k + length (i n))) (none n (omega arith))
     ∙ chains_none i count (suc n) (k + length (i n)) (λ m le. none m (omega (arith, le)))
 
+-- chains depend only on the lists of the nodes that they stand before
 chains_same : (i i' : ℕ → List Insertion) (count n k : ℕ) → ((m : ℕ) → m < n + count → i m ≡ i' m) → chains i count n k ≡ chains i' count n k
 chains_same i i' zero n k same = refl
 chains_same i i' (suc count) n k same =
     ap (λ l. chain n k l ++ chains i count (suc n) (k + length l)) (same n (omega arith))
     ∙ ap (λ l. chain n k (i' n) ++ l) (chains_same i i' count (suc n) (k + length (i' n)) (λ m lt. same m (omega (arith, lt))))
 
+-- where a node is entered depends only on the lists of the old nodes
 entry_same : (i i' : ℕ → List Insertion) (old n : ℕ) → ((m : ℕ) → m < old → i m ≡ i' m) → n < old → entry i old n ≡ entry i' old n
 entry_same i i' old n same lt =
     ap (λ l. entry_among n (old + put_below i n) l) (same n lt)
@@ -173,27 +178,27 @@ module _ (changes : ℕ → Change) (i i' : ℕ → List Insertion) (n : ℕ) (p
 -- ---- all of them
 
 -- what has been put once all is put before the nodes below n, and these before node n
-abbrev so_far : (ℕ → List Insertion) → ℕ → List Insertion → ℕ → List Insertion
-so_far inserts n front m = cond (nat_lt m n) (inserts m) (cond (eqb m n) front [])
+abbrev put_so_far : (ℕ → List Insertion) → ℕ → List Insertion → ℕ → List Insertion
+put_so_far inserts n front m = if nat_lt m n then inserts m else (if nat_eq m n then front else [])
 
 module _ (inserts : ℕ → List Insertion) (n : ℕ) (front : List Insertion) where
-  far_below : (m : ℕ) → m < n → so_far inserts n front m ≡ inserts m
-  far_below m lt = ap (λ b. cond b (inserts m) (cond (eqb m n) front [])) (lt-ltb m n lt)
+  far_below : (m : ℕ) → m < n → put_so_far inserts n front m ≡ inserts m
+  far_below m lt = ap (λ b. (if b then inserts m else (if nat_eq m n then front else []))) (lt-ltb m n lt)
 
-  far_at : so_far inserts n front n ≡ front
-  far_at = ap (λ b. cond b (inserts n) (cond (eqb n n) front [])) (le-ltb n n (omega arith)) ∙ ap (λ b. cond b front []) (eq-eqb n n refl)
+  far_at : put_so_far inserts n front n ≡ front
+  far_at = ap (λ b. (if b then inserts n else (if nat_eq n n then front else []))) (le-ltb n n (omega arith)) ∙ ap (λ b. (if b then front else [])) (eq-eqb n n refl)
 
-  far_above : (m : ℕ) → n < m → so_far inserts n front m ≡ []
-  far_above m lt = ap (λ b. cond b (inserts m) (cond (eqb m n) front [])) (le-ltb m n (omega (arith, lt))) ∙ ap (λ b. cond b front []) (ne_eqb m n (λ e. omega (arith, e, lt)))
+  far_above : (m : ℕ) → n < m → put_so_far inserts n front m ≡ []
+  far_above m lt = ap (λ b. (if b then inserts m else (if nat_eq m n then front else []))) (le-ltb m n (omega (arith, lt))) ∙ ap (λ b. (if b then front else [])) (ne_eqb m n (λ e. omega (arith, e, lt)))
 
 module _ (changes : ℕ → Change) (inserts : ℕ → List Insertion) (nodes : List Node) (within : AllWithin nodes) where
   abbrev state : ℕ → List Insertion → List Node
-  state n front = rewritten_nodes (record { inserts = so_far inserts n front; changes = changes }) nodes
+  state n front = rewritten_nodes (record { inserts = put_so_far inserts n front; changes = changes }) nodes
 
   all_put : (n : ℕ) (front puts : List Insertion) → n < length nodes → put_all n puts (state n front) ≡ state n (front ++ puts)
   all_put n front [] lt = ap (state n) (sym (append-nil front))
   all_put n front (put ∷ puts) lt =
-      let one = one_more changes (so_far inserts n front) (so_far inserts n (front ++ put ∷ [])) n put
+      let one = one_more changes (put_so_far inserts n front) (put_so_far inserts n (front ++ put ∷ [])) n put
       (λ m differ. elim (cases_lt m n) [
         | inl less ↦ far_below inserts n front m less ∙ sym (far_below inserts n (front ++ put ∷ []) m less)
         | inr ge ↦ far_above inserts n front m (omega (arith, ge, differ)) ∙ sym (far_above inserts n (front ++ put ∷ []) m (omega (arith, ge, differ)))
@@ -204,36 +209,38 @@ module _ (changes : ℕ → Change) (inserts : ℕ → List Insertion) (nodes : 
       ap (put_all n puts) one ∙ all_put n (front ++ put ∷ []) puts lt ∙ ap (state n) (append_assoc front (put ∷ []) puts)
 
   next_node : (n : ℕ) → state n (inserts n) ≡ state (suc n) []
-  next_node n = rewritten_same changes (so_far inserts n (inserts n)) (so_far inserts (suc n) []) nodes within (λ m lt. elim (cases_lt m n) [
+  next_node n = rewritten_same changes (put_so_far inserts n (inserts n)) (put_so_far inserts (suc n) []) nodes within (λ m lt. elim (cases_lt m n) [
     | inl less ↦ far_below inserts n (inserts n) m less ∙ sym (far_below inserts (suc n) [] m (omega (arith, less)))
     | inr ge ↦ elim (cases_eq m n) [
-      | inl is ↦ ap (so_far inserts n (inserts n)) is ∙ far_at inserts n (inserts n) ∙ ap inserts (sym is) ∙ sym (far_below inserts (suc n) [] m (omega (arith, is)))
+      | inl is ↦ ap (put_so_far inserts n (inserts n)) is ∙ far_at inserts n (inserts n) ∙ ap inserts (sym is) ∙ sym (far_below inserts (suc n) [] m (omega (arith, is)))
       | inr differ ↦ far_above inserts n (inserts n) m (omega (arith, ge, differ)) ∙ sym (elim (cases_eq m (suc n)) [
-        | inl is ↦ ap (so_far inserts (suc n) []) is ∙ far_at inserts (suc n) []
+        | inl is ↦ ap (put_so_far inserts (suc n) []) is ∙ far_at inserts (suc n) []
         | inr other ↦ far_above inserts (suc n) [] m (omega (arith, ge, differ, other))
       ])
     ]
   ])
 
   each_put : (count n : ℕ) → n + count ≡ length nodes → put_each inserts count n (state n []) ≡ rewritten_nodes (record { inserts = inserts; changes = changes }) nodes
-  each_put zero n sum = rewritten_same changes (so_far inserts n []) inserts nodes within (λ m lt. far_below inserts n [] m (omega (arith, sum, lt)))
+  each_put zero n sum = rewritten_same changes (put_so_far inserts n []) inserts nodes within (λ m lt. far_below inserts n [] m (omega (arith, sum, lt)))
   each_put (suc count) n sum =
       ap (put_each inserts count (suc n)) (all_put n [] (inserts n) (omega (arith, sum)) ∙ next_node n)
       ∙ each_put count (suc n) (omega (arith, sum))
 
 -- ---- the changes
 
-changed_front : (changes : ℕ → Change) (to : ℕ → ℕ) (front : List Node) (node : Node) (rest : List Node) (change : Change) → change_at (length front) change (front ++ node ∷ rest) ≡ front ++ changed change node ∷ rest
-changed_front changes to [] node rest change = refl
-changed_front changes to (first ∷ front) node rest change = ap (λ l. first ∷ l) (changed_front changes to front node rest change)
+-- a change at the first node after a prefix changes that node alone
+changed_first : (changes : ℕ → Change) (to : ℕ → ℕ) (front : List Node) (node : Node) (rest : List Node) (change : Change) → change_at (length front) change (front ++ node ∷ rest) ≡ front ++ changed change node ∷ rest
+changed_first changes to [] node rest change = refl
+changed_first changes to (first ∷ front) node rest change = ap (λ l. first ∷ l) (changed_first changes to front node rest change)
 
+-- changes made one after the other at all nodes after a prefix give the changed nodes
 each_changed : (changes : ℕ → Change) (to : ℕ → ℕ) (front rest : List Node) (n : ℕ) → length front ≡ n → ((m slot s : ℕ) → IsEdge rest m slot s → to s ≡ s) → change_each changes (length rest) n (front ++ rest) ≡ front ++ olds changes to n rest
 each_changed changes to front [] n long same = refl
 each_changed changes to front (node ∷ rest) n long same =
     let own : redirected to (changed (changes n) node) ≡ changed (changes n) node = redirected_none to (changed (changes n) node) (λ slot s at. same 0 slot s (ap (λ l. slice_get l slot) (sym (changed_succs (changes n) node)) ∙ at)) in
     let longer : length (front ++ changed (changes n) node ∷ []) ≡ suc n = omega (arith, length-append front (changed (changes n) node ∷ []), long) in
     ap (λ k. change_each changes (length rest) (suc n) (change_at k (changes n) (front ++ node ∷ rest))) (sym long)
-    ∙ ap (change_each changes (length rest) (suc n)) (changed_front changes to front node rest (changes n) ∙ sym (append_assoc front (changed (changes n) node ∷ []) rest))
+    ∙ ap (change_each changes (length rest) (suc n)) (changed_first changes to front node rest (changes n) ∙ sym (append_assoc front (changed (changes n) node ∷ []) rest))
     ∙ each_changed changes to (front ++ changed (changes n) node ∷ []) rest (suc n) longer (λ m. same (suc m))
     ∙ append_assoc front (changed (changes n) node ∷ []) (olds changes to (suc n) rest)
     ∙ ap (λ q. front ++ q ∷ olds changes to (suc n) rest) (sym own)
@@ -241,7 +248,7 @@ each_changed changes to front (node ∷ rest) n long same =
 -- The changes, and then the insertions, in order of the nodes
 pub edited_in_order : (r : Rewriting) (nodes : List Node) → AllWithin nodes → put_each r.inserts (length nodes) 0 (change_each r.changes (length nodes) 0 nodes) ≡ rewritten_nodes r nodes
 edited_in_order r nodes within =
-    let none = so_far r.inserts 0 [] in
+    let none = put_so_far r.inserts 0 [] in
     let empty : (m : ℕ) → none m ≡ [] = λ m. elim (cases_eq m 0) [ inl is ↦ ap none is ∙ far_at r.inserts 0 [] | inr differ ↦ far_above r.inserts 0 [] m (omega (arith, differ)) ] in
     let start : change_each r.changes (length nodes) 0 nodes ≡ rewritten_nodes (record { inserts = none; changes = r.changes }) nodes =
     each_changed r.changes (entry none (length nodes)) [] nodes 0 refl (λ m slot s edge. ap (entry_among s (length nodes + put_below none s)) (empty s))
@@ -251,20 +258,24 @@ edited_in_order r nodes within =
 
 -- ---- lengths
 
+-- one node more for each assignment that is put
 pub put_length : (n x : ℕ) (rhs : Rhs) (nodes : List Node) → length (put_before n x rhs nodes) ≡ suc (length nodes)
 put_length n x rhs nodes = omega (arith, length-append (map (redirected (past n (length nodes))) nodes) (Assign x rhs n ∷ []), length-map nodes (redirected (past n (length nodes))))
 
+-- and for several of them
 pub put_all_length : (n : ℕ) (puts : List Insertion) (nodes : List Node) → length (put_all n puts nodes) ≡ length nodes + length puts
 put_all_length n [] nodes = omega arith
 put_all_length n (put ∷ puts) nodes = omega (arith, put_all_length n puts (put_before n put.var put.rhs nodes), put_length n put.var put.rhs nodes)
 
 -- ---- the same rewriting
 
+-- equal changes give equal old nodes
 olds_changed : (changes changes' : ℕ → Change) (to : ℕ → ℕ) (n : ℕ) (nodes : List Node) → ((m : ℕ) → changes m ≡ changes' m) → olds changes to n nodes ≡ olds changes' to n nodes
 olds_changed changes changes' to n [] same = refl
 olds_changed changes changes' to n (node ∷ nodes) same =
     ap (λ c. redirected to (changed c node) ∷ olds changes to (suc n) nodes) (same n) ∙ ap (λ l. redirected to (changed (changes' n) node) ∷ l) (olds_changed changes changes' to (suc n) nodes same)
 
+-- rewritings with equal insertions and changes give equal nodes
 pub rewritten_alike : (r r' : Rewriting) (nodes : List Node) → AllWithin nodes → ((m : ℕ) → r.inserts m ≡ r'.inserts m) → ((m : ℕ) → r.changes m ≡ r'.changes m) → rewritten_nodes r nodes ≡ rewritten_nodes r' nodes
 rewritten_alike r r' nodes within same_inserts same_changes =
     rewritten_same r.changes r.inserts r'.inserts nodes within (λ m lt. same_inserts m)

@@ -1,6 +1,6 @@
 -- Graphs as contracts see them: their edges, which nodes are reached, what a node reads and assigns, and what is true
--- of each graph.
-use Rattle.std.specs.Prelude.{◌≡◌, ℕ, ◌<◌, ◌≤◌, Bool, true, false, eqb, List, [], ◌∷◌, ◌++◌, flat_map, length, slice_get, Option, Some, None}
+-- of each graph. Cited by contracts, those of the crates above too.
+use Rattle.std.specs.Prelude.{◌≡◌, ℕ, ◌<◌, ◌≤◌, Bool, true, false, nat_eq, List, [], ◌∷◌, ◌++◌, flat_map, length, slice_get, Option, Some, None}
 use Rattle.mir_base.specs.declared.instructions.Rhs.{Rhs}
 use Rattle.mir_base.specs.Shapes.{operand_vars, rhs_vars, test_vars, into_vars, AllBelow, AllDiffer}
 use Rattle.flow_graph.specs.declared.nodes.Node.{Node}
@@ -37,6 +37,7 @@ following (Some (Call into unit operands next)) = Some next
 following (Some (Test test taken other)) = Some other
 following (Some (Return a)) = None
 
+-- the successors of a node that may be absent
 abbrev pub succs_of : Option Node → List ℕ
 succs_of None = []
 succs_of (Some node) = node_succs node
@@ -59,9 +60,9 @@ pub data Reached (nodes : List Node) : ℕ → Type 0 where
   along : (m slot s : ℕ) → Reached nodes m → IsEdge nodes m slot s → Reached nodes s
 
 -- the number, where there is one, is below n
-abbrev pub IsWithin : ℕ → Option ℕ → Type 0
-IsWithin n None = Unit {0}
-IsWithin n (Some s) = s < n
+abbrev pub IsBelow : ℕ → Option ℕ → Type 0
+IsBelow n None = Unit {0}
+IsBelow n (Some s) = s < n
 
 -- the successors of a node are below n
 abbrev pub SuccsBelow : ℕ → Node → Type 0
@@ -99,10 +100,10 @@ node_reads graph (Return a) = operand_vars a
 abbrev pub assigns : GraphShape → ℕ → Node → Bool
 assigns graph x (Start next) = false
 assigns graph x (Skip next) = false
-assigns graph x (Assign y rhs next) = eqb x y
+assigns graph x (Assign y rhs next) = nat_eq x y
 assigns graph x (Print a next) = false
 assigns graph x (Call None unit operands next) = false
-assigns graph x (Call (Some y) unit operands next) = eqb x y
+assigns graph x (Call (Some y) unit operands next) = nat_eq x y
 assigns graph x (Test test taken other) = false
 assigns graph x (Return a) = false
 
@@ -134,7 +135,11 @@ pub record CanMake (vars : List (List ℕ)) (received : List ℕ) (nodes : List 
   pub received_differ : AllDiffer received
   pub names : AllDiffer vars
 
--- and every node is reached
+-- every node is reached
+abbrev pub AllReached : List Node → Type 0
+AllReached nodes = (n : ℕ) → n < length nodes → Reached nodes n
+
+-- a graph can be made of these, and every node is reached
 pub record IsGraph (vars : List (List ℕ)) (received : List ℕ) (nodes : List Node) : Type 0 where
   pub can : CanMake vars received nodes
-  pub reached : (n : ℕ) → n < length nodes → Reached nodes n
+  pub reached : AllReached nodes

@@ -1,60 +1,25 @@
--- Laws: the rewritten graph is a graph, and makes no calls but those of the graph.
-use Rattle.std.proofs.Common.{◌≡◌, ℕ, zero, suc, ◌+◌, ◌-◌, ◌<◌, ◌≤◌, List, [], ◌∷◌, ◌++◌, length, slice_get, Some, inl, inr, refl, sym, ap, ◌∙◌, subst, arith, length-append}
+-- Laws: the rewritten graph is a graph, and makes no calls but those of the graph. For proofs only, of
+-- motion_rewrite.
+use Rattle.std.proofs.Common.{◌≡◌, ℕ, zero, suc, ◌+◌, ◌-◌, ◌<◌, ◌≤◌, List, [], ◌∷◌, ◌++◌, length, slice_get, Some, inl, inr, sym, ap, ◌∙◌, subst, arith, length-append}
 use Rattle.std.proofs.lemmas.Bool.{cases_lt}
 use Rattle.std.proofs.lemmas.Option.{slice_get_within}
+pub use Rattle.mir_base.specs.BelowLaws.{all_below_more}
 use Rattle.mir_base.specs.Shapes.{AllBelow, rhs_vars}
 use Rattle.flow_graph.specs.declared.nodes.Node.{Node}
-use Rattle.flow_graph.specs.declared.nodes.Node.TheVariants.{Start, Skip, Assign, Print, Call, Test, Return}
+use Rattle.flow_graph.specs.declared.nodes.Node.TheVariants.{Start}
 use Rattle.flow_graph.specs.Calls.{NodesCall, node_call}
-use Rattle.flow_graph.specs.CallLaws.{redirected_call}
+use Rattle.flow_graph.specs.NodeLaws.{redirected_call, redirected_start, redirected_vars, changed_call, changed_start, changed_below}
 use Rattle.flow_graph.specs.Graphs.{GraphShape, IsEdge, Reached, at_start, along, CanMake, IsGraph, node_vars}
-use Rattle.flow_graph.specs.Kept.{redirected}
-use Rattle.flow_graph.specs.Insertions.{Insertion, Change, Kept, Replaced, Removed, Rewriting, changed, put_below, entry_among, entry, rewritten_nodes, rewritten, ChangeBelow, InsertionsBelow, CanRewrite}
-use Rattle.flow_graph.specs.InsertionNodes.{put_mono, place_found, rewritten_length, old_get, node_at, old_edge, new_edge, edge_at, entry_is}
+use Rattle.flow_graph.specs.Insertions.{Insertion, Rewriting, changed, put_below, entry_among, entry, rewritten_nodes, rewritten, InsertionsBelow, CanRewrite}
+use Rattle.flow_graph.specs.InsertionNodes.{put_mono, place_found, rewritten_length, old_get, node_at, old_edge, new_edge, edge_cases, entry_is}
 
--- ---- one node
+-- ---- one insertion
 
-rewritten_start : (to : ℕ → ℕ) (change : Change) (node : Node) (s : ℕ) → redirected to (changed change node) ≡ Start s → (t : ℕ) × (node ≡ Start t)
-rewritten_start to change (Start next) s e = (next, refl)
-rewritten_start to change (Skip next) s e = cc
-rewritten_start to Kept (Assign x rhs next) s e = cc
-rewritten_start to (Replaced other) (Assign x rhs next) s e = cc
-rewritten_start to Removed (Assign x rhs next) s e = cc
-rewritten_start to change (Print a next) s e = cc
-rewritten_start to change (Call into unit operands next) s e = cc
-rewritten_start to change (Test test taken other) s e = cc
-rewritten_start to change (Return a) s e = cc
-
-pub below_more : (m k : ℕ) (xs : List ℕ) → m ≤ k → AllBelow m xs → AllBelow k xs
-below_more m k [] le below = tt
-below_more m k (x ∷ xs) le below = (omega (arith, le, below.0), below_more m k xs le below.1)
-
-rewritten_below : (to : ℕ → ℕ) (change : Change) (k : ℕ) → ChangeBelow k change → (node : Node) → AllBelow k (node_vars node) → AllBelow k (node_vars (redirected to (changed change node)))
-rewritten_below to change k fits (Start next) below = below
-rewritten_below to change k fits (Skip next) below = below
-rewritten_below to Kept k fits (Assign x rhs next) below = below
-rewritten_below to (Replaced other) k fits (Assign x rhs next) below = (below.0, fits)
-rewritten_below to Removed k fits (Assign x rhs next) below = tt
-rewritten_below to change k fits (Print a next) below = below
-rewritten_below to change k fits (Call into unit operands next) below = below
-rewritten_below to change k fits (Test test taken other) below = below
-rewritten_below to change k fits (Return a) below = below
-
+-- each of the insertions has its variables in range
 insertion_below : (k : ℕ) (puts : List Insertion) (j : ℕ) (put : Insertion) → InsertionsBelow k puts → slice_get puts j ≡ Some put → (put.var < k) × AllBelow k (rhs_vars put.rhs)
 insertion_below k [] j put below at_j = cc
 insertion_below k (first ∷ puts) zero put below at_j = let same : first ≡ put = cc in subst (λ (p : Insertion). (p.var < k) × AllBelow k (rhs_vars p.rhs)) same below.0
 insertion_below k (first ∷ puts) (suc j) put below at_j = insertion_below k puts j put below.1 at_j
-
-changed_call : (change : Change) (node : Node) → node_call (changed change node) ≡ node_call node
-changed_call change (Start next) = refl
-changed_call change (Skip next) = refl
-changed_call Kept (Assign x rhs next) = refl
-changed_call (Replaced other) (Assign x rhs next) = refl
-changed_call Removed (Assign x rhs next) = refl
-changed_call change (Print a next) = refl
-changed_call change (Call into unit operands next) = refl
-changed_call change (Test test taken other) = refl
-changed_call change (Return a) = refl
 
 module _ (r : Rewriting) (extra : List (List ℕ)) (graph : GraphShape) (fits : CanRewrite r extra graph) where
   abbrev nodes : List Node
@@ -84,7 +49,7 @@ module _ (r : Rewriting) (extra : List (List ℕ)) (graph : GraphShape) (fits : 
   edge_within : CanMake graph.vars graph.received nodes → (m slot s : ℕ) → IsEdge raw m slot s → (1 ≤ s) × (s < length raw)
   edge_within can m slot s edge =
       let long = rewritten_length r nodes in
-      elim (edge_at r nodes m slot s edge) [
+      elim (edge_cases r nodes m slot s edge) [
         | inl o ↦
             let target = can.succs m slot o.target o.edge in
             let e = entry_within o.target target.0 target.1 in
@@ -109,16 +74,17 @@ module _ (r : Rewriting) (extra : List (List ℕ)) (graph : GraphShape) (fits : 
         start = (to can.start.0, old_get r nodes 0 (Start can.start.0) can.start.1);
         only = λ n s there. elim (node_at r nodes n (Start s) there) [
           | inl o ↦
-              let was = rewritten_start to (r.changes n) o.old s (sym o.is) in
+              let new = redirected_start to (changed (r.changes n) o.old) s (sym o.is) in
+              let was = changed_start (r.changes n) o.old new.0 new.1 in
               can.only n was.0 (o.was ∙ ap Some was.1)
           | inr w ↦ let never = w.is in absurd (cc)
         ];
         succs = edge_within can;
         below = λ m node there. elim (node_at r nodes m node there) [
-          | inl o ↦ subst (λ x. AllBelow all (node_vars x)) (sym o.is) (rewritten_below to (r.changes m) all (fits.change m (slice_get_within nodes m o.old o.was)) o.old (below_more (length graph.vars) all (node_vars o.old) more (can.below m o.old o.was)))
+          | inl o ↦ subst (λ x. AllBelow all (node_vars x)) (sym o.is) (subst (AllBelow all) (sym (redirected_vars to (changed (r.changes m) o.old))) (changed_below (r.changes m) all (fits.change m (slice_get_within nodes m o.old o.was)) o.old (all_below_more (length graph.vars) all (node_vars o.old) more (can.below m o.old o.was))))
           | inr w ↦ subst (λ x. AllBelow all (node_vars x)) (sym w.is) (insertion_below all (r.inserts w.n) w.j w.put (fits.put w.n w.below) w.listed)
         ];
-        received_below = below_more (length graph.vars) all graph.received more can.received_below;
+        received_below = all_below_more (length graph.vars) all graph.received more can.received_below;
         received_differ = can.received_differ;
         names = fits.names;
       }

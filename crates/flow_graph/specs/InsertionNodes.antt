@@ -1,38 +1,23 @@
--- Laws of rewritten nodes: each is an old node, changed, or one of the new ones in the chain before an old node; and which
--- edges there are.
+-- Laws of rewritten nodes: each is an old node, changed, or one of the new ones in the chain before an old node; and
+-- which edges there are. For proofs only: the other files on insertions and motion_rewrite cite them.
 use Rattle.std.proofs.Common.{◌≡◌, ℕ, zero, suc, ◌+◌, ◌-◌, ◌<◌, ◌≤◌, List, [], ◌∷◌, ◌++◌, map, length, slice_get, Option, Some, None, option_map, ◌⊎◌, inl, inr, refl, sym, ap, ◌∙◌, subst, arith, length-append}
 use Rattle.std.proofs.lemmas.Option.{slice_get-map, slice_get_within, same_Some}
 use Rattle.std.proofs.lemmas.Bool.{cases_lt}
+use Rattle.flow_graph.specs.ListLaws.{some_at, get_left, get_right_at}
+pub use Rattle.flow_graph.specs.ListLaws.{some_at as some_at, get_left as front_get, get_right_at as back_get}
 use Rattle.flow_graph.specs.declared.nodes.Node.{Node}
-use Rattle.flow_graph.specs.declared.nodes.Node.TheVariants.{Start, Skip, Assign, Print, Call, Test, Return}
+use Rattle.flow_graph.specs.declared.nodes.Node.TheVariants.{Assign}
 use Rattle.flow_graph.specs.Graphs.{node_succs, succs_of, IsEdge}
 use Rattle.flow_graph.specs.Kept.{redirected}
-use Rattle.flow_graph.specs.CallLaws.{mapped_from}
+use Rattle.flow_graph.specs.NodeLaws.{mapped_from, rewritten_succs}
 use Rattle.flow_graph.specs.Paths.{HasEdge}
-use Rattle.flow_graph.specs.Insertions.{Insertion, Change, Kept, Replaced, Removed, Rewriting, changed, put_below, entry_among, entry, chain, chains, olds, rewritten_nodes}
-
--- ---- lists
-
-pub some_at : {A : Type 0} (xs : List A) (n : ℕ) → n < length xs → (x : A) × (slice_get xs n ≡ Some x)
-some_at [] n lt = absurd (omega (arith, lt))
-some_at (x ∷ xs) zero lt = (x, refl)
-some_at (x ∷ xs) (suc n) lt = some_at xs n (omega (arith, lt))
-
-pub front_get : {A : Type 0} (xs ys : List A) (n : ℕ) → n < length xs → slice_get (xs ++ ys) n ≡ slice_get xs n
-front_get [] ys n lt = absurd (omega (arith, lt))
-front_get (x ∷ xs) ys zero lt = refl
-front_get (x ∷ xs) ys (suc n) lt = front_get xs ys n (omega (arith, lt))
-
-pub back_get : {A : Type 0} (xs ys : List A) (n k : ℕ) → n ≡ length xs + k → slice_get (xs ++ ys) n ≡ slice_get ys k
-back_get [] ys n k e = ap (slice_get ys) (omega (arith, e))
-back_get (x ∷ xs) ys zero k e = absurd (omega (arith, e))
-back_get (x ∷ xs) ys (suc n) k e = back_get xs ys n k (omega (arith, e))
+use Rattle.flow_graph.specs.Insertions.{Insertion, Change, Rewriting, changed, put_below, entry_among, entry, chain, chains, olds, rewritten_nodes}
 
 -- ---- places of new nodes
 
 module _ (inserts : ℕ → List Insertion) where
   -- the j-th new node before node n, counted from the first new node
-  pub record IsPlace (q n j : ℕ) : Type 0 where
+  pub record IsNewPlace (q n j : ℕ) : Type 0 where
     pub within : j < length (inserts n)
     pub is : q ≡ put_below inserts n + j
 
@@ -47,14 +32,14 @@ module _ (inserts : ℕ → List Insertion) where
   ]
 
   -- each number has one place
-  pub place_found : (m q : ℕ) → q < put_below inserts m → (n : ℕ) × (j : ℕ) × (n < m) × IsPlace q n j
+  pub place_found : (m q : ℕ) → q < put_below inserts m → (n : ℕ) × (j : ℕ) × (n < m) × IsNewPlace q n j
   place_found zero q lt = absurd (omega (arith, lt))
   place_found (suc m) q lt = elim (cases_lt q (put_below inserts m)) [
     | inl less ↦ let r = place_found m q less in (r.0, r.1, omega (arith, r.2), r.3)
     | inr ge ↦ (m, q - put_below inserts m, omega arith, record { within = omega (arith, lt, ge); is = omega (arith, ge) })
   ]
 
-  pub place_same : (q n j m l : ℕ) → IsPlace q n j → IsPlace q m l → (n ≡ m) × (j ≡ l)
+  pub place_same : (q n j m l : ℕ) → IsNewPlace q n j → IsNewPlace q m l → (n ≡ m) × (j ≡ l)
   place_same q n j m l one other =
       elim (cases_lt n m) [
         | inl lt ↦ absurd (omega (arith, one.within, one.is, other.is, put_mono n m lt))
@@ -73,10 +58,12 @@ module _ (inserts : ℕ → List Insertion) where
 abbrev pub Link : ℕ → ℕ → ℕ → ℕ → ℕ → Type 0
 Link n k count j next = ((suc j < count) × (next ≡ k + suc j)) ⊎ ((suc j ≡ count) × (next ≡ n))
 
+-- a chain has a node for each assignment put
 chain_length : (n k : ℕ) (puts : List Insertion) → length (chain n k puts) ≡ length puts
 chain_length n k [] = refl
 chain_length n k (put ∷ puts) = ap suc (chain_length n (suc k) puts)
 
+-- a node of a chain is its assignment, and leads to the next or to node n
 chain_get : (n k : ℕ) (puts : List Insertion) (j : ℕ) (put : Insertion) → slice_get puts j ≡ Some put → (next : ℕ) × Link n k (length puts) j next × (slice_get (chain n k puts) j ≡ Some (Assign put.var put.rhs next))
 chain_get n k [] j put at_j = cc
 chain_get n k (first ∷ puts) zero put at_j = (entry_among n (suc k) puts, leads puts, ap (λ (p : Insertion). Some (Assign p.var p.rhs (entry_among n (suc k) puts))) (same_Some first put at_j))
@@ -113,7 +100,7 @@ module _ (inserts : ℕ → List Insertion) where
       let place : (put_below inserts (n + 0) - put_below inserts n) + j ≡ j = omega (arith, same) in
       let k_is : k ≡ k + (put_below inserts (n + 0) - put_below inserts n) = omega (arith, same) in
       ap (slice_get (front ++ back)) place
-      ∙ front_get front back j (omega (arith, lt, long, chain_length n k (inserts n)))
+      ∙ get_left front back j (omega (arith, lt, long, chain_length n k (inserts n)))
       ∙ ap (λ m. slice_get (chain m k (inserts m)) j) n_is
       ∙ ap (λ q. slice_get (chain (n + 0) q (inserts (n + 0))) j) k_is
   chains_get (suc count) n k (suc d) j inside lt =
@@ -125,7 +112,7 @@ module _ (inserts : ℕ → List Insertion) where
       let rises : put_below inserts n + length (inserts n) ≤ put_below inserts (suc n + d) = put_mono inserts n (suc n + d) (omega arith) in
       let place : (put_below inserts (n + suc d) - put_below inserts n) + j ≡ length front + ((put_below inserts (suc n + d) - put_below inserts (suc n)) + j) = omega (arith, same, rises, chain_length n k (inserts n)) in
       let k_is : (k + length (inserts n)) + (put_below inserts (suc n + d) - put_below inserts (suc n)) ≡ k + (put_below inserts (n + suc d) - put_below inserts n) = omega (arith, same, rises) in
-      back_get front back ((put_below inserts (n + suc d) - put_below inserts n) + j) ((put_below inserts (suc n + d) - put_below inserts (suc n)) + j) place
+      get_right_at front back ((put_below inserts (n + suc d) - put_below inserts n) + j) ((put_below inserts (suc n + d) - put_below inserts (suc n)) + j) place
       ∙ chains_get count (suc n) (k + length (inserts n)) d j (omega (arith, inside)) (omega (arith, lt, long))
       ∙ ap (λ q. slice_get (chain (suc n + d) q (inserts (suc n + d))) j) k_is
       ∙ ap (λ m. slice_get (chain m (k + (put_below inserts (n + suc d) - put_below inserts n)) (inserts m)) j) n_is
@@ -144,20 +131,9 @@ module _ (changes : ℕ → Change) (to : ℕ → ℕ) where
       let sum : suc k + m ≡ k + suc m = omega arith in
       olds_get nodes (suc k) m ∙ ap (λ q. option_map (λ old. redirected to (changed (changes q) old)) (slice_get nodes m)) sum
 
--- a changed node has its successors
-pub rewritten_succs : (to : ℕ → ℕ) (change : Change) (node : Node) → node_succs (redirected to (changed change node)) ≡ map to (node_succs node)
-rewritten_succs to change (Start next) = refl
-rewritten_succs to change (Skip next) = refl
-rewritten_succs to Kept (Assign x rhs next) = refl
-rewritten_succs to (Replaced other) (Assign x rhs next) = refl
-rewritten_succs to Removed (Assign x rhs next) = refl
-rewritten_succs to change (Print a next) = refl
-rewritten_succs to change (Call into unit operands next) = refl
-rewritten_succs to change (Test test taken other) = refl
-rewritten_succs to change (Return a) = refl
-
 -- ---- the whole
 
+-- a number that has an edge has a node, and the edge is at a slot of it
 pub edge_node : (nodes : List Node) (m slot s : ℕ) → IsEdge nodes m slot s → (node : Node) × (slice_get nodes m ≡ Some node) × (slice_get (node_succs node) slot ≡ Some s)
 edge_node nodes m slot s = from (slice_get nodes m)
   where
@@ -201,7 +177,7 @@ module _ (r : Rewriting) (nodes : List Node) where
       let front = olds r.changes to 0 nodes in
       let lt : m < length front = omega (arith, slice_get_within nodes m old was, olds_length r.changes to 0 nodes) in
       let sum : 0 + m ≡ m = omega arith in
-      front_get front (chains r.inserts (length nodes) 0 (length nodes)) m lt
+      get_left front (chains r.inserts (length nodes) 0 (length nodes)) m lt
       ∙ olds_get r.changes to nodes 0 m
       ∙ ap (λ q. option_map (λ node. redirected to (changed (r.changes q) node)) (slice_get nodes m)) sum
       ∙ ap (option_map (λ node. redirected to (changed (r.changes m) node))) was
@@ -215,7 +191,7 @@ module _ (r : Rewriting) (nodes : List Node) where
       let same = ap {B = ℕ} (put_below r.inserts) sum in
       let count : length nodes + (put_below r.inserts n + j) ≡ length front + ((put_below r.inserts (0 + n) - put_below r.inserts 0) + j) = omega (arith, olds_length r.changes to 0 nodes, same) in
       let first : length nodes + (put_below r.inserts (0 + n) - put_below r.inserts 0) ≡ length nodes + put_below r.inserts n = omega (arith, same) in
-      back_get front back (length nodes + (put_below r.inserts n + j)) ((put_below r.inserts (0 + n) - put_below r.inserts 0) + j) count
+      get_right_at front back (length nodes + (put_below r.inserts n + j)) ((put_below r.inserts (0 + n) - put_below r.inserts 0) + j) count
       ∙ chains_get r.inserts (length nodes) 0 (length nodes) n j below (subst (λ m. j < length (r.inserts m)) sum within)
       ∙ ap (λ q. slice_get (chain (0 + n) q (r.inserts (0 + n))) j) first
       ∙ ap (λ m. slice_get (chain m (length nodes + put_below r.inserts n) (r.inserts m)) j) (sym sum)
@@ -273,8 +249,8 @@ module _ (r : Rewriting) (nodes : List Node) where
       let w = new_get n j put.0 below put.1 in
       (w.0, (0, ap (λ o. slice_get (succs_of o) 0) w.2), w.1)
 
-  pub edge_at : (m slot s : ℕ) → IsEdge (rewritten_nodes r nodes) m slot s → IsOldEdge m slot s ⊎ IsNewEdge m slot s
-  edge_at m slot s edge =
+  pub edge_cases : (m slot s : ℕ) → IsEdge (rewritten_nodes r nodes) m slot s → IsOldEdge m slot s ⊎ IsNewEdge m slot s
+  edge_cases m slot s edge =
       let node = edge_node (rewritten_nodes r nodes) m slot s edge in
       elim (node_at m node.0 node.1) [
         | inl o ↦

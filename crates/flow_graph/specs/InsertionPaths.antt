@@ -1,6 +1,6 @@
--- Paths of the rewritten graph: over each full path of the graph lies exactly one, through the same old nodes and the chains
--- before them; and what is assigned on it is a sum along the path.
-use Rattle.std.proofs.Common.{◌≡◌, ℕ, zero, suc, ◌+◌, ◌<◌, ◌≤◌, true, cond, nat_lt, filter, List, [], ◌∷◌, map, length, slice_get, Option, Some, None, option_map, refl, sym, ap, ◌∙◌, subst, arith}
+-- Laws of paths of the rewritten graph: over each full path of the graph lies exactly one, through the same old nodes
+-- and the chains before them; and what is assigned on it is a sum along the path. For proofs only, of motion_rewrite.
+use Rattle.std.proofs.Common.{◌≡◌, ℕ, zero, suc, ◌+◌, ◌<◌, ◌≤◌, true, if◌then◌else◌, nat_lt, filter, List, [], ◌∷◌, map, length, slice_get, Option, Some, None, option_map, refl, sym, ap, ◌∙◌, subst, arith}
 use Rattle.std.proofs.lemmas.Option.{slice_get-map, same_Some, none-some}
 use Rattle.std.proofs.lemmas.Bool.{lt-ltb, le-ltb, false≢true}
 use Rattle.mir_base.specs.declared.instructions.Operand.{Operand}
@@ -8,42 +8,39 @@ use Rattle.mir_base.specs.declared.instructions.Rhs.{Rhs}
 use Rattle.mir_base.specs.Shapes.{AllBelow}
 use Rattle.flow_graph.specs.declared.nodes.Node.{Node}
 use Rattle.flow_graph.specs.declared.nodes.Node.TheVariants.{Start, Skip, Assign, Print, Call, Test, Return}
-use Rattle.flow_graph.specs.Graphs.{GraphShape, IsGraph, node_succs, succs_of, IsEdge, AllWithin}
+use Rattle.flow_graph.specs.Graphs.{GraphShape, IsGraph, node_succs, succs_of, AllWithin}
 use Rattle.flow_graph.specs.Paths.{HasEdge, IsPath, Begins, Ends, is_return, IsReturnAt, IsFullPath}
 use Rattle.flow_graph.specs.Kept.{redirected}
 use Rattle.flow_graph.specs.Over.{IsOver, through, over_path, weigh, weigh_all, weight_at, new_weight_at}
 use Rattle.flow_graph.specs.Sums.{sum_on}
 use Rattle.flow_graph.specs.Insertions.{Insertion, Change, Kept, Replaced, Removed, Rewriting, changed, put_below, entry_among, entry, chain, rewritten_nodes, CanRewrite}
-use Rattle.flow_graph.specs.InsertionNodes.{some_at, chain_slice, old_get, old_edge, rewritten_succs, rewritten_length, edge_node}
+use Rattle.flow_graph.specs.ListLaws.{some_at}
+use Rattle.flow_graph.specs.BoundLaws.{slot_within}
+use Rattle.flow_graph.specs.NodeLaws.{rewritten_succs}
+use Rattle.flow_graph.specs.InsertionNodes.{chain_slice, old_get, old_edge, rewritten_length}
 use Rattle.flow_graph.specs.InsertionGraphs.{start_entry}
 
 -- ---- chains
 
 -- from number k on there are new nodes before node n that make these assignments
-abbrev pub IsChain : List Node → ℕ → ℕ → List Insertion → Type 0
-IsChain nodes n k [] = Unit {0}
-IsChain nodes n k (put ∷ puts) = (slice_get nodes k ≡ Some (Assign put.var put.rhs (entry_among n (suc k) puts))) × IsChain nodes n (suc k) puts
+abbrev pub IsInsertionChain : List Node → ℕ → ℕ → List Insertion → Type 0
+IsInsertionChain nodes n k [] = Unit {0}
+IsInsertionChain nodes n k (put ∷ puts) = (slice_get nodes k ≡ Some (Assign put.var put.rhs (entry_among n (suc k) puts))) × IsInsertionChain nodes n (suc k) puts
 
-chain_from : (nodes : List Node) (n k : ℕ) (puts : List Insertion) → ((j : ℕ) → j < length puts → slice_get nodes (k + j) ≡ slice_get (chain n k puts) j) → IsChain nodes n k puts
+-- nodes that stand from k on as those of the chain form the insertion chain
+chain_from : (nodes : List Node) (n k : ℕ) (puts : List Insertion) → ((j : ℕ) → j < length puts → slice_get nodes (k + j) ≡ slice_get (chain n k puts) j) → IsInsertionChain nodes n k puts
 chain_from nodes n k [] are = tt
 chain_from nodes n k (put ∷ puts) are =
     let none : k ≡ k + 0 = omega arith in
     (ap (slice_get nodes) none ∙ are 0 (omega arith), chain_from nodes n (suc k) puts (λ j lt. (let more : suc k + j ≡ k + suc j = omega arith in ap (slice_get nodes) more ∙ are (suc j) (omega (arith, lt)))))
 
-pub chain_is : (r : Rewriting) (nodes : List Node) (n : ℕ) → n < length nodes → IsChain (rewritten_nodes r nodes) n (length nodes + put_below r.inserts n) (r.inserts n)
+-- the new nodes before a node are the chain of its insertions
+pub chain_is : (r : Rewriting) (nodes : List Node) (n : ℕ) → n < length nodes → IsInsertionChain (rewritten_nodes r nodes) n (length nodes + put_below r.inserts n) (r.inserts n)
 chain_is r nodes n below = chain_from (rewritten_nodes r nodes) n (length nodes + put_below r.inserts n) (r.inserts n) (λ j lt. (let same : (length nodes + put_below r.inserts n) + j ≡ length nodes + (put_below r.inserts n + j) = omega arith in ap (slice_get (rewritten_nodes r nodes)) same ∙ chain_slice r nodes n j below lt))
 
 -- ---- one chain
 
--- only a node of the list has an edge
-pub edge_within : (nodes : List Node) (n slot s : ℕ) → IsEdge nodes n slot s → n < length nodes
-edge_within nodes n slot s edge = let node = edge_node nodes n slot s edge in within nodes n node.0 node.1
-  where
-    within : (xs : List Node) (k : ℕ) (x : Node) → slice_get xs k ≡ Some x → k < length xs
-    within [] k x e = cc
-    within (y ∷ xs) zero x e = omega arith
-    within (y ∷ xs) (suc k) x e = omega (arith, within xs k x e)
-
+-- a node that is tested to be a Return is one
 return_is : (o : Option Node) → is_return o ≡ true → (a : Operand) × (o ≡ Some (Return a))
 return_is None is = absurd (false≢true is)
 return_is (Some (Start next)) is = absurd (false≢true is)
@@ -54,12 +51,15 @@ return_is (Some (Call into unit operands next)) is = absurd (false≢true is)
 return_is (Some (Test test taken other)) is = absurd (false≢true is)
 return_is (Some (Return a)) is = (a, refl)
 
+-- an old node stays in the path of the old nodes
 keep_old : (k n : ℕ) (path : List ℕ) → n < k → filter (λ m. nat_lt m k) (n ∷ path) ≡ n ∷ filter (λ m. nat_lt m k) path
-keep_old k n path lt = ap (λ b. cond b (n ∷ filter (λ m. nat_lt m k) path) (filter (λ m. nat_lt m k) path)) (lt-ltb n k lt)
+keep_old k n path lt = ap (λ b. (if b then (n ∷ filter (λ m. nat_lt m k) path) else (filter (λ m. nat_lt m k) path))) (lt-ltb n k lt)
 
+-- a new node is left out of it
 skip_new : (k n : ℕ) (path : List ℕ) → k ≤ n → filter (λ m. nat_lt m k) (n ∷ path) ≡ filter (λ m. nat_lt m k) path
-skip_new k n path le = ap (λ b. cond b (n ∷ filter (λ m. nat_lt m k) path) (filter (λ m. nat_lt m k) path)) (le-ltb n k le)
+skip_new k n path le = ap (λ b. (if b then (n ∷ filter (λ m. nat_lt m k) path) else (filter (λ m. nat_lt m k) path))) (le-ltb n k le)
 
+-- the old nodes of a path through a chain are those of the path
 filter_through : (old k : ℕ) (puts : List Insertion) (path : List ℕ) → old ≤ k → filter (λ m. nat_lt m old) (through k puts path) ≡ filter (λ m. nat_lt m old) path
 filter_through old k [] path le = refl
 filter_through old k (put ∷ puts) path le = skip_new old k (through (suc k) puts path) le ∙ filter_through old (suc k) puts path (omega (arith, le))
@@ -74,7 +74,7 @@ module _ (nodes : List Node) (n : ℕ) where
   enters m k [] path edge is = (edge, is)
   enters m k (put ∷ puts) path edge is = (edge, is)
 
-  through_path : (k : ℕ) (puts : List Insertion) (path : List ℕ) → IsChain nodes n k puts → IsPath nodes (n ∷ path) → IsPath nodes (through k puts (n ∷ path))
+  through_path : (k : ℕ) (puts : List Insertion) (path : List ℕ) → IsInsertionChain nodes n k puts → IsPath nodes (n ∷ path) → IsPath nodes (through k puts (n ∷ path))
   through_path k [] path c is = is
   through_path k (put ∷ puts) path c is = enters k (suc k) puts path (0, ap (λ o. slice_get (succs_of o) 0) c.0) (through_path (suc k) puts path c.1 is)
 
@@ -88,12 +88,14 @@ module _ (nodes : List Node) (n : ℕ) where
 
 -- ---- sums
 
-through_weight : (weight : ℕ → Rhs → ℕ) (nodes : List Node) (n k : ℕ) (puts : List Insertion) (path : List ℕ) → IsChain nodes n k puts → sum_on (weight_at weight nodes) (through k puts path) ≡ weigh_all weight puts + sum_on (weight_at weight nodes) path
+-- a path through a chain weighs as much more as the assignments put
+through_weight : (weight : ℕ → Rhs → ℕ) (nodes : List Node) (n k : ℕ) (puts : List Insertion) (path : List ℕ) → IsInsertionChain nodes n k puts → sum_on (weight_at weight nodes) (through k puts path) ≡ weigh_all weight puts + sum_on (weight_at weight nodes) path
 through_weight weight nodes n k [] path c = omega arith
 through_weight weight nodes n k (put ∷ puts) path c =
     let first : weight_at weight nodes k ≡ weight put.var put.rhs = ap (weigh weight) c.0 in
     omega (arith, first, through_weight weight nodes n (suc k) puts path c.1)
 
+-- a node weighs the same wherever its edges lead
 redirected_weight : (weight : ℕ → Rhs → ℕ) (to : ℕ → ℕ) (change : Change) (node : Node) → weigh weight (Some (redirected to (changed change node))) ≡ weigh weight (Some (changed change node))
 redirected_weight weight to change (Start next) = refl
 redirected_weight weight to change (Skip next) = refl
@@ -123,10 +125,10 @@ module _ (r : Rewriting) (nodes : List Node) where
   pub path_within : (path : List ℕ) → IsPath nodes path → AllBelow (length nodes) path
   path_within [] is = tt
   path_within (n ∷ []) is = (is, tt)
-  path_within (n ∷ m ∷ path) is = (edge_within nodes n is.0.0 m is.0.1, path_within (m ∷ path) is.1)
+  path_within (n ∷ m ∷ path) is = (slot_within nodes n is.0.0 m is.0.1, path_within (m ∷ path) is.1)
 
-  -- The weight of the assignments on the path over a path is a sum along the path: at each node, of what is put before it
-  -- and of what becomes of it
+  -- The weight of the assignments on the corresponding path of a path is a sum along the path: at each node, of what is
+  -- put before it and of what becomes of it
   pub over_weight : (weight : ℕ → Rhs → ℕ) (path : List ℕ) → AllBelow (length nodes) path → sum_on (weight_at weight (rewritten_nodes r nodes)) (over_path r.inserts (length nodes) path) ≡ sum_on (new_weight_at weight r nodes) path
   over_weight weight [] within = refl
   over_weight weight (n ∷ path) within =
@@ -146,7 +148,7 @@ module _ (r : Rewriting) (nodes : List Node) where
   path_over [] is = is
   path_over (n ∷ []) is = through_path raw n (first_new n) (r.inserts n) [] (chain_is r nodes n is) (omega (arith, rewritten_length r nodes, is))
   path_over (n ∷ m ∷ path) is =
-      through_path raw n (first_new n) (r.inserts n) (over (m ∷ path)) (chain_is r nodes n (edge_within nodes n is.0.0 m is.0.1))
+      through_path raw n (first_new n) (r.inserts n) (over (m ∷ path)) (chain_is r nodes n (slot_within nodes n is.0.0 m is.0.1))
       (enters raw m n (first_new m) (r.inserts m) (over path) (is.0.0, old_edge r nodes n is.0.0 m is.0.1) (path_over (m ∷ path) is.1))
 
   ends_over : (last : ℕ) (path : List ℕ) → Ends last path → Ends last (over path)
@@ -200,7 +202,7 @@ module _ (r : Rewriting) (nodes : List Node) where
     is : entry_among n k puts ∷ q ≡ through k puts (n ∷ over_path r.inserts (length nodes) rest)
 
   module _ (within : AllWithin nodes) where
-    lies : (q : List ℕ) (last n k : ℕ) (puts : List Insertion) → IsChain raw n k puts → length nodes ≤ k → n < length nodes → IsPath raw (entry_among n k puts ∷ q) → Ends last (entry_among n k puts ∷ q) → IsReturnAt raw last → Lies n k puts q
+    lies : (q : List ℕ) (last n k : ℕ) (puts : List Insertion) → IsInsertionChain raw n k puts → length nodes ≤ k → n < length nodes → IsPath raw (entry_among n k puts ∷ q) → Ends last (entry_among n k puts ∷ q) → IsReturnAt raw last → Lies n k puts q
     lies [] last n k [] c above lt is ends returns = record { rest = []; same = keep_old (length nodes) n [] lt; is = refl }
     lies [] last n k (put ∷ puts) c above lt is ends returns = absurd (false≢true (sym (ap is_return c.0) ∙ ap (λ m. is_return (slice_get raw m)) ends ∙ returns))
     lies (b ∷ q) last n k [] c above lt is ends returns =

@@ -1,13 +1,14 @@
--- Laws: a rewriting that preserves a relation of values keeps what the graph does; it counts no more where it counts no more
--- on each full path; and where a run of the graph goes along a path, that of the result goes along the path over it.
-use Rattle.std.proofs.Common.{◌≡◌, ℕ, zero, suc, ◌+◌, ◌<◌, ◌≤◌, Bool, true, false, not, ◌&&◌, cond, eqb, List, [], ◌∷◌, ◌++◌, reverse, length, slice_get, ℤ, Option, Some, None, option_map, ◌⊎◌, inl, inr, refl, sym, ap, ◌∙◌, subst, arith, le_refl, append_assoc}
+-- Laws: a rewriting that preserves a relation of values keeps what the graph does; it evaluates no more operators
+-- where it evaluates no more operators on each full path; and where a run of the graph goes along a path, that of the
+-- result goes along the corresponding path of it. For proofs only, of motion_rewrite.
+use Rattle.std.proofs.Common.{◌≡◌, ℕ, zero, suc, ◌+◌, ◌<◌, ◌≤◌, Bool, true, false, not, ◌&&◌, if◌then◌else◌, nat_eq, List, [], ◌∷◌, ◌++◌, reverse, length, slice_get, ℤ, Option, Some, None, option_map, ◌⊎◌, inl, inr, refl, sym, ap, ◌∙◌, subst, arith, le_refl, append_assoc}
 use Rattle.std.proofs.lemmas.List.{reverse-append}
 use Rattle.std.proofs.lemmas.Bool.{cases_Bool, cases_lt, true≢false, false≢true}
 use Rattle.mir_base.specs.declared.instructions.Operand.{Operand}
 use Rattle.mir_base.specs.declared.instructions.Rhs.{Rhs}
 use Rattle.mir_base.specs.declared.instructions.Test.{Test as MirTest}
 use Rattle.mir_base.specs.declared.operators.Trap.TheVariants.{ZeroDivisor}
-use Rattle.mir_base.specs.Frames.{Values, with_value, all_zero, Entry, Answer, Frame, first_frame, resumed, Transition, Continues, Prints, Calls, Returns, Traps, Code}
+use Rattle.mir_base.specs.Frames.{Values, with_value, all_zero, CallEntry, Answer, Frame, first_frame, resumed, Transition, Continues, Prints, Calls, Returns, Traps, Code}
 use Rattle.mir_base.specs.Units.{test_holds, at, assigned, assign_transition}
 use Rattle.mir_base.specs.Expressions.{rhs_traps, rhs_value, rhs_count}
 use Rattle.mir_base.specs.ExpressionLaws.{assign_is}
@@ -26,22 +27,25 @@ use Rattle.flow_graph.specs.Paths.{HasEdge, Begins, Ends, Trace, from_start, goe
 use Rattle.flow_graph.specs.PathLaws.{trace_path}
 use Rattle.flow_graph.specs.Sums.{sum_on, sum_append, sum_reverse}
 use Rattle.flow_graph.specs.Insertions.{Insertion, Change, Kept, Replaced, Removed, Rewriting, changed_assign, changed, put_below, entry_among, entry, rewritten_nodes, CanRewrite}
-use Rattle.flow_graph.specs.InsertionNodes.{some_at, old_get}
+use Rattle.flow_graph.specs.ListLaws.{some_at}
+use Rattle.flow_graph.specs.InsertionNodes.{old_get}
 use Rattle.flow_graph.specs.InsertionGraphs.{start_entry}
-use Rattle.flow_graph.specs.InsertionPaths.{IsChain, chain_is}
+use Rattle.flow_graph.specs.InsertionPaths.{IsInsertionChain, chain_is}
 use Rattle.flow_graph.specs.Over.{weigh, weigh_all, weight_at, new_weight_at, through, over_path}
-use Rattle.flow_graph.specs.InsertionRuns.{after, are_calm, ValueRelation, BothAssign, TrapsAfter, Preserves, counts, CountsNoMore}
+use Rattle.flow_graph.specs.InsertionRuns.{values_after, none_traps, ValueRelation, BothAssign, TrapsAfter, Preserves, counts, CountsNoMore}
 
 -- ---- a run along a chain
 
 -- the frame after the new assignments before node n
 abbrev landed : ℕ → List Insertion → Frame → Frame
-landed n puts f = record { place = n; arguments = f.arguments; values = after puts f.values }
+landed n puts f = record { place = n; arguments = f.arguments; values = values_after puts f.values }
 
+-- where both tests hold, each does
 both_true : (b c : Bool) → b && c ≡ true → (b ≡ true) × (c ≡ true)
 both_true true c e = (refl, e)
 both_true false c e = absurd (false≢true e)
 
+-- what does not hold is false
 not_true : (b : Bool) → not b ≡ true → b ≡ false
 not_true true e = absurd (false≢true e)
 not_true false e = refl
@@ -55,28 +59,28 @@ module _ (received : List ℕ) (nodes : List Node) where
   one_calm a x next rhs f is calm =
       ap (λ o. node_transition received o (at a f)) is
       ∙ assign_is x rhs next (at a f)
-      ∙ ap (λ b. cond b (Traps ZeroDivisor 1) (Continues (rhs_count rhs) (assigned x (rhs_value f.values rhs) next f))) calm
+      ∙ ap (λ b. (if b then Traps ZeroDivisor 1 else Continues (rhs_count rhs) (assigned x (rhs_value f.values rhs) next f))) calm
 
   one_trap : (a x next : ℕ) (rhs : Rhs) (f : Frame) → slice_get nodes a ≡ Some (Assign x rhs next) → rhs_traps f.values rhs ≡ true → code_of (at a f) ≡ Traps ZeroDivisor 1
   one_trap a x next rhs f is trap =
       ap (λ o. node_transition received o (at a f)) is
       ∙ assign_is x rhs next (at a f)
-      ∙ ap (λ b. cond b (Traps ZeroDivisor 1) (Continues (rhs_count rhs) (assigned x (rhs_value f.values rhs) next f))) trap
+      ∙ ap (λ b. (if b then Traps ZeroDivisor 1 else Continues (rhs_count rhs) (assigned x (rhs_value f.values rhs) next f))) trap
 
-  chain_silent : (n k : ℕ) (puts : List Insertion) → IsChain nodes n k puts → (f : Frame) → are_calm puts f.values ≡ true → Silently code_of (length puts) (at (entry_among n k puts) f) (landed n puts f) (weigh_all counts puts)
+  chain_silent : (n k : ℕ) (puts : List Insertion) → IsInsertionChain nodes n k puts → (f : Frame) → none_traps puts f.values ≡ true → Silently code_of (length puts) (at (entry_among n k puts) f) (landed n puts f) (weigh_all counts puts)
   chain_silent n k [] c f calm = (refl, refl)
   chain_silent n k (put ∷ puts) c f calm =
       let g = record f { values = with_value put.var (rhs_value f.values put.rhs) f.values } in
       let both = both_true _ _ calm in
       (at (entry_among n (suc k) puts) g, rhs_count put.rhs, weigh_all counts puts, one_calm k put.var (entry_among n (suc k) puts) put.rhs f c.0 (not_true _ both.0), chain_silent n (suc k) puts c.1 g both.1, refl)
 
-  chain_traps : (n k : ℕ) (puts : List Insertion) → IsChain nodes n k puts → (f : Frame) → are_calm puts f.values ≡ false → (steps : ℕ) × TrapsAfter code_of steps (at (entry_among n k puts) f)
+  chain_traps : (n k : ℕ) (puts : List Insertion) → IsInsertionChain nodes n k puts → (f : Frame) → none_traps puts f.values ≡ false → (steps : ℕ) × TrapsAfter code_of steps (at (entry_among n k puts) f)
   chain_traps n k [] c f trap = absurd (true≢false trap)
   chain_traps n k (put ∷ puts) c f trap = elim (cases_Bool (rhs_traps f.values put.rhs)) [
     | inl now ↦ (0, record { there = at k f; cost = 0; silent = (refl, refl); counted = 1; is = one_trap k put.var (entry_among n (suc k) puts) put.rhs f c.0 now })
     | inr calm ↦
         let g = record f { values = with_value put.var (rhs_value f.values put.rhs) f.values } in
-        let later = chain_traps n (suc k) puts c.1 g (sym (ap (λ b. not b && are_calm puts g.values) calm) ∙ trap) in (
+        let later = chain_traps n (suc k) puts c.1 g (sym (ap (λ b. not b && none_traps puts g.values) calm) ∙ trap) in (
           suc later.0,
           record {
             there = later.1.there;
@@ -90,8 +94,9 @@ module _ (received : List ℕ) (nodes : List Node) where
 
 -- ---- assignments
 
-with_other : (x y : ℕ) (c : ℤ) (v : Values) (b : Bool) → b ≡ false → cond b c (v y) ≡ v y
-with_other x y c v b e = ap (λ q. cond q c (v y)) e
+-- an assignment leaves the value of another variable
+with_other : (x y : ℕ) (c : ℤ) (v : Values) (b : Bool) → b ≡ false → (if b then c else v y) ≡ v y
+with_other x y c v b e = ap (λ q. (if q then c else v y)) e
 
 module _ (r : Rewriting) (extra : List (List ℕ)) (graph : GraphShape) (Holds : ValueRelation) (fits : CanRewrite r extra graph) (is_graph : IsGraph graph.vars graph.received graph.nodes) (preserves : Preserves graph r Holds) where
   abbrev nodes : List Node
@@ -125,7 +130,7 @@ module _ (r : Rewriting) (extra : List (List ℕ)) (graph : GraphShape) (Holds :
     place : g.place ≡ to f.place
     arguments : g.arguments ≡ f.arguments
     holds : (f.place ≡ 0) ⊎ Holds f.place before f.values g.values
-    calm : are_calm (r.inserts f.place) g.values ≡ true
+    calm : none_traps (r.inserts f.place) g.values ≡ true
     counted : x ≡ sum_on cost before
     counted' : y ≡ sum_on paid before
 
@@ -165,7 +170,7 @@ module _ (r : Rewriting) (extra : List (List ℕ)) (graph : GraphShape) (Holds :
   -- where the values are related before the successor, the two are near each other, or both will trap
   settle : (n s : ℕ) (before : List ℕ) (x y : ℕ) (arguments : List ℤ) (v w : Values) → Trace nodes n before → HasEdge nodes n s → Holds s (n ∷ before) v w → x ≡ sum_on cost (n ∷ before) → y ≡ sum_on paid (n ∷ before)
       → Next (n ∷ before) x y (record { place = s; arguments = arguments; values = v }) (record { place = to s; arguments = arguments; values = w })
-  settle n s before x y arguments v w trace edge holds is_x is_y = elim (cases_Bool (are_calm (r.inserts s) w)) [
+  settle n s before x y arguments v w trace edge holds is_x is_y = elim (cases_Bool (none_traps (r.inserts s) w)) [
     | inl calm ↦ inl (record { trace = goes_on n s before trace edge; place = refl; arguments = refl; holds = inr holds; calm = calm; counted = is_x; counted' = is_y })
     | inr trap ↦
         let first = preserves.traps s (n ∷ before) arguments v w (goes_on n s before trace edge) holds trap in
@@ -175,9 +180,9 @@ module _ (r : Rewriting) (extra : List (List ℕ)) (graph : GraphShape) (Holds :
   ]
 
   -- at a node: the first side with values v, the second after what is put before it
-  module _ (n : ℕ) (before : List ℕ) (x y : ℕ) (arguments : List ℤ) (v w : Values) (trace : Trace graph.nodes n before) (calm : are_calm (r.inserts n) w ≡ true) (counted : x ≡ sum_on cost before) (counted' : y ≡ sum_on paid before) where
+  module _ (n : ℕ) (before : List ℕ) (x y : ℕ) (arguments : List ℤ) (v w : Values) (trace : Trace graph.nodes n before) (calm : none_traps (r.inserts n) w ≡ true) (counted : x ≡ sum_on cost before) (counted' : y ≡ sum_on paid before) where
     abbrev w' : Values
-    w' = after (r.inserts n) w
+    w' = values_after (r.inserts n) w
 
     abbrev y' : ℕ
     y' = y + weigh_all counts (r.inserts n)
@@ -186,7 +191,7 @@ module _ (r : Rewriting) (extra : List (List ℕ)) (graph : GraphShape) (Holds :
     f = record { place = n; arguments = arguments; values = v }
 
     abbrev h : Frame
-    h = record { place = n; arguments = arguments; values = after (r.inserts n) w }
+    h = record { place = n; arguments = arguments; values = values_after (r.inserts n) w }
 
     onward : (node : Node) → slice_get nodes n ≡ Some node → (s slot x1 y1 : ℕ) (v1 w1 : Values) → slice_get (node_succs node) slot ≡ Some s → x1 ≡ x + weigh counts (Some node) → y1 ≡ y' + weigh counts (Some (changed (r.changes n) node)) → Holds s (n ∷ before) v1 w1
         → Next (n ∷ before) x1 y1 (record { place = s; arguments = arguments; values = v1 }) (record { place = to s; arguments = arguments; values = w1 })
@@ -195,7 +200,7 @@ module _ (r : Rewriting) (extra : List (List ℕ)) (graph : GraphShape) (Holds :
         let paid_is : paid n ≡ weigh_all counts (r.inserts n) + weigh counts (Some (changed (r.changes n) node)) = ap (λ o. weigh_all counts (r.inserts n) + weigh counts (option_map (changed (r.changes n)) o)) is in
         settle n s before x1 y1 arguments v1 w1 trace (slot, ap (λ o. slice_get (succs_of o) slot) is ∙ leads) holds (omega (arith, counted, is_x, cost_is)) (omega (arith, counted', is_y, paid_is))
 
-    trapping : (c d : ℕ) (next next' : Frame) (b : Bool) → (b ≡ false → Next (n ∷ before) (x + c) (y' + d) next next') → Follows (n ∷ before) x y' (cond b (Traps ZeroDivisor 1) (Continues c next)) (cond b (Traps ZeroDivisor 1) (Continues d next'))
+    trapping : (c d : ℕ) (next next' : Frame) (b : Bool) → (b ≡ false → Next (n ∷ before) (x + c) (y' + d) next next') → Follows (n ∷ before) x y' (if b then Traps ZeroDivisor 1 else Continues c next) (if b then Traps ZeroDivisor 1 else Continues d next')
     trapping c d next next' true near = (1, refl)
     trapping c d next next' false near = (d, next', refl, near refl)
 
@@ -206,11 +211,11 @@ module _ (r : Rewriting) (extra : List (List ℕ)) (graph : GraphShape) (Holds :
         let next = assigned z (rhs_value v rhs) s f in
         let next' = assigned z (rhs_value w' other) (to s) h in
         subst (λ t. Follows (n ∷ before) x y' t (assign_transition z other (to s) h)) (sym (assign_is z rhs s f))
-        (subst (Follows (n ∷ before) x y' (cond (rhs_traps v rhs) (Traps ZeroDivisor 1) (Continues (rhs_count rhs) next))) (sym (assign_is z other (to s) h ∙ ap (λ b. cond b (Traps ZeroDivisor 1) (Continues (rhs_count other) next')) (sym alike))) (trapping (rhs_count rhs) (rhs_count other) next next' (rhs_traps v rhs) near))
+        (subst (Follows (n ∷ before) x y' (if rhs_traps v rhs then Traps ZeroDivisor 1 else Continues (rhs_count rhs) next)) (sym (assign_is z other (to s) h ∙ ap (λ b. (if b then Traps ZeroDivisor 1 else Continues (rhs_count other) next')) (sym alike))) (trapping (rhs_count rhs) (rhs_count other) next next' (rhs_traps v rhs) near))
 
     module _ (holds : Holds n before v w) where
       -- a node that is not changed, with the values after it
-      kept_next : (node : Node) → slice_get nodes n ≡ Some node → r.changes n ≡ Kept → (s slot x1 y1 : ℕ) (v1 w1 : Values) → slice_get (node_succs node) slot ≡ Some s → x1 ≡ x + weigh counts (Some node) → y1 ≡ y' + weigh counts (Some (changed Kept node)) → BothAssign (λ z. assigns graph z node) v (after (r.inserts n) w) v1 w1
+      kept_next : (node : Node) → slice_get nodes n ≡ Some node → r.changes n ≡ Kept → (s slot x1 y1 : ℕ) (v1 w1 : Values) → slice_get (node_succs node) slot ≡ Some s → x1 ≡ x + weigh counts (Some node) → y1 ≡ y' + weigh counts (Some (changed Kept node)) → BothAssign (λ z. assigns graph z node) v (values_after (r.inserts n) w) v1 w1
           → Next (n ∷ before) x1 y1 (record { place = s; arguments = arguments; values = v1 }) (record { place = to s; arguments = arguments; values = w1 })
       kept_next node is kept s slot x1 y1 v1 w1 leads is_x is_y both =
           let edge : HasEdge nodes n s = (slot, ap (λ o. slice_get (succs_of o) slot) is ∙ leads) in
@@ -219,11 +224,11 @@ module _ (r : Rewriting) (extra : List (List ℕ)) (graph : GraphShape) (Holds :
       none_assigned : (node : Node) → ((z : ℕ) → assigns graph z node ≡ false) → BothAssign (λ z. assigns graph z node) v w' v w'
       none_assigned node none = record { same = λ z e. absurd (true≢false (sym e ∙ none z)); first_keeps = λ z e. refl; second_keeps = λ z e. refl }
 
-      one_assigned : (z : ℕ) (c d : ℤ) (node : Node) → c ≡ d → ((q : ℕ) → assigns graph q node ≡ eqb q z) → BothAssign (λ q. assigns graph q node) v w' (with_value z c v) (with_value z d w')
+      one_assigned : (z : ℕ) (c d : ℤ) (node : Node) → c ≡ d → ((q : ℕ) → assigns graph q node ≡ nat_eq q z) → BothAssign (λ q. assigns graph q node) v w' (with_value z c v) (with_value z d w')
       one_assigned z c d node same are = record {
-        same = λ q e. (let is : eqb q z ≡ true = sym (are q) ∙ e in ap (λ b. cond b c (v q)) is ∙ same ∙ sym (ap (λ b. cond b d (w' q)) is));
-        first_keeps = λ q e. with_other z q c v (eqb q z) (sym (are q) ∙ e);
-        second_keeps = λ q e. with_other z q d w' (eqb q z) (sym (are q) ∙ e);
+        same = λ q e. (let is : nat_eq q z ≡ true = sym (are q) ∙ e in ap (λ b. (if b then c else v q)) is ∙ same ∙ sym (ap (λ b. (if b then d else w' q)) is));
+        first_keeps = λ q e. with_other z q c v (nat_eq q z) (sym (are q) ∙ e);
+        second_keeps = λ q e. with_other z q d w' (nat_eq q z) (sym (are q) ∙ e);
       }
 
       follows_assign : (z : ℕ) (rhs : Rhs) (s : ℕ) → slice_get nodes n ≡ Some (Assign z rhs s) → (change : Change) → r.changes n ≡ change → Follows (n ∷ before) x y' (assign_transition z rhs s f) (node_transition graph.received (Some (redirected to (changed_assign change z rhs s))) h)
@@ -236,14 +241,14 @@ module _ (r : Rewriting) (extra : List (List ℕ)) (graph : GraphShape) (Holds :
       follows_assign z rhs s is Removed change =
           let p = preserves.removes n s z rhs before v w trace is change holds calm in
           let next = assigned z (rhs_value v rhs) s f in
-          subst (λ t. Follows (n ∷ before) x y' t (Continues 0 (at (to s) h))) (sym (assign_is z rhs s f ∙ ap (λ b. cond b (Traps ZeroDivisor 1) (Continues (rhs_count rhs) next)) p.0))
+          subst (λ t. Follows (n ∷ before) x y' t (Continues 0 (at (to s) h))) (sym (assign_is z rhs s f ∙ ap (λ b. (if b then Traps ZeroDivisor 1 else Continues (rhs_count rhs) next)) p.0))
           (0, at (to s) h, refl, onward (Assign z rhs s) is s 0 (x + rhs_count rhs) (y' + 0) _ _ refl refl (ap (λ c. y' + weigh counts (Some (changed_assign c z rhs s))) (sym change)) p.1)
 
       follows_call : (into : Option ℕ) (unit : ℕ) (operands : List Operand) (s : ℕ) → slice_get nodes n ≡ Some (Call into unit operands s) → r.changes n ≡ Kept → (answer : Answer) → Next (n ∷ before) x y' (resumed into answer (at s f)) (resumed into answer (at (to s) h))
       follows_call None unit operands s is kept answer = kept_next (Call None unit operands s) is kept s 0 x y' v w' refl (omega arith) (omega arith) (none_assigned (Call None unit operands s) (λ z. refl))
       follows_call (Some z) unit operands s is kept answer = kept_next (Call (Some z) unit operands s) is kept s 0 x y' (with_value z answer.value v) (with_value z answer.value w') refl (omega arith) (omega arith) (one_assigned z answer.value answer.value (Call (Some z) unit operands s) refl (λ q. refl))
 
-      follows_test : (test : MirTest) (s o : ℕ) → slice_get nodes n ≡ Some (Test test s o) → r.changes n ≡ Kept → (b : Bool) → Follows (n ∷ before) x y' (Continues 0 (at (cond b s o) f)) (Continues 0 (at (cond b (to s) (to o)) h))
+      follows_test : (test : MirTest) (s o : ℕ) → slice_get nodes n ≡ Some (Test test s o) → r.changes n ≡ Kept → (b : Bool) → Follows (n ∷ before) x y' (Continues 0 (at (if b then s else o) f)) (Continues 0 (at (if b then to s else to o) h))
       follows_test test s o is kept true = (0, at (to s) h, refl, kept_next (Test test s o) is kept s 0 (x + 0) (y' + 0) v w' refl refl refl (none_assigned (Test test s o) (λ z. refl)))
       follows_test test s o is kept false = (0, at (to o) h, refl, kept_next (Test test s o) is kept o 1 (x + 0) (y' + 0) v w' refl refl refl (none_assigned (Test test s o) (λ z. refl)))
 
@@ -297,7 +302,7 @@ module _ (r : Rewriting) (extra : List (List ℕ)) (graph : GraphShape) (Holds :
       follows (Test test s o) is some = elim (preserves.changes n (Test test s o) is) [
         | inl kept ↦
             let equal = preserves.reads n (Test test s o) before v w trace is kept holds calm in
-            subst (λ b. Follows (n ∷ before) x y' (Continues 0 (at (cond (test_holds v test) s o) f)) (Continues 0 (at (cond b (to s) (to o)) h))) (sym (test_equal w' v test equal)) (follows_test test s o is kept (test_holds v test))
+            subst (λ b. Follows (n ∷ before) x y' (Continues 0 (at (if test_holds v test then s else o) f)) (Continues 0 (at (if b then to s else to o) h))) (sym (test_equal w' v test equal)) (follows_test test s o is kept (test_holds v test))
         | inr other ↦ let never = other.3 in absurd (cc)
       ]
       follows (Return a) is some = elim (preserves.changes n (Return a) is) [
@@ -328,21 +333,21 @@ module _ (r : Rewriting) (extra : List (List ℕ)) (graph : GraphShape) (Holds :
       let n = f.place in
       let place = trace_within n before near.trace in
       let node = some_at nodes n place in
-      let same : landed n (r.inserts n) g ≡ record { place = n; arguments = f.arguments; values = after (r.inserts n) g.values } = ap (λ a. (record { place = n; arguments = a; values = after (r.inserts n) g.values })) near.arguments in
+      let same : landed n (r.inserts n) g ≡ record { place = n; arguments = f.arguments; values = values_after (r.inserts n) g.values } = ap (λ a. (record { place = n; arguments = a; values = values_after (r.inserts n) g.values })) near.arguments in
       subst (λ h. Follows (n ∷ before) x (y + weigh_all counts (r.inserts n)) (code f) (code' h)) (sym same)
       (elim (cases_lt 0 n) [
         | inl some ↦ elim near.holds [
           | inl none ↦ absurd (omega (arith, none, some))
           | inr holds ↦
-              subst (λ o. Follows (n ∷ before) x (y + weigh_all counts (r.inserts n)) (node_transition graph.received o f) (code' (record { place = n; arguments = f.arguments; values = after (r.inserts n) g.values }))) (sym node.1)
-              (subst (λ o. Follows (n ∷ before) x (y + weigh_all counts (r.inserts n)) (node_transition graph.received (Some node.0) f) (node_transition graph.received o (record { place = n; arguments = f.arguments; values = after (r.inserts n) g.values }))) (sym (old_get r nodes n node.0 node.1))
+              subst (λ o. Follows (n ∷ before) x (y + weigh_all counts (r.inserts n)) (node_transition graph.received o f) (code' (record { place = n; arguments = f.arguments; values = values_after (r.inserts n) g.values }))) (sym node.1)
+              (subst (λ o. Follows (n ∷ before) x (y + weigh_all counts (r.inserts n)) (node_transition graph.received (Some node.0) f) (node_transition graph.received o (record { place = n; arguments = f.arguments; values = values_after (r.inserts n) g.values }))) (sym (old_get r nodes n node.0 node.1))
               (follows n before x y f.arguments f.values g.values near.trace near.calm near.counted near.counted' holds node.0 node.1 some))
         ]
         | inr none ↦ follows_start n before x y f.arguments f.values g.values near.trace near.calm near.counted near.counted' (omega (arith, none))
       ])
 
   starts : (arguments : List ℤ) → NearAt [] 0 0 (record { place = 0; arguments = arguments; values = all_zero }) (record { place = 0; arguments = arguments; values = all_zero })
-  starts arguments = record { trace = from_start; place = sym (start_entry r extra graph fits); arguments = refl; holds = inl refl; calm = ap (λ l. are_calm l all_zero) fits.at_start; counted = refl; counted' = refl }
+  starts arguments = record { trace = from_start; place = sym (start_entry r extra graph fits); arguments = refl; holds = inl refl; calm = ap (λ l. none_traps l all_zero) fits.at_start; counted = refl; counted' = refl }
 
   -- ---- the simulation
 
@@ -359,7 +364,7 @@ module _ (r : Rewriting) (extra : List (List ℕ)) (graph : GraphShape) (Holds :
   from_follows path x y h (Returns answer) a = record { steps = 0; cost = 0; there = h; silent = (refl, refl); is = a.0; cheaper = λ cheap. let least = a.1 cheap in omega (arith, least) }
   from_follows path x y h (Traps kind n) a = record { steps = 0; cost = 0; there = h; silent = (refl, refl); counted = a.0; is = a.1 }
 
-  -- both will trap: the second waits until the first does
+  -- both will trap: the second stays where it is until the first does
   trap_responds : (z x y : ℕ) (f g : Frame) → BothTrap z f g → Responds (CountsNoMore r graph.nodes) Near code' z x y g (code f)
   trap_responds zero x y f g b =
       let is : code f ≡ Traps ZeroDivisor b.first.counted = ap code b.first.silent.0 ∙ b.first.is in
@@ -376,7 +381,7 @@ module _ (r : Rewriting) (extra : List (List ℕ)) (graph : GraphShape) (Holds :
         moves = inr (omega arith);
       })
 
-  near_silent : (f g : Frame) → f.place < length nodes → g.place ≡ to f.place → are_calm (r.inserts f.place) g.values ≡ true → Silently code' (length (r.inserts f.place)) g (landed f.place (r.inserts f.place) g) (weigh_all counts (r.inserts f.place))
+  near_silent : (f g : Frame) → f.place < length nodes → g.place ≡ to f.place → none_traps (r.inserts f.place) g.values ≡ true → Silently code' (length (r.inserts f.place)) g (landed f.place (r.inserts f.place) g) (weigh_all counts (r.inserts f.place))
   near_silent f g below e calm =
       let run = chain_silent graph.received raw f.place (first_new f.place) (r.inserts f.place) (chain_is r nodes f.place below) g calm in
       let same : g ≡ at (to f.place) g = ap (λ q. at q g) e in
@@ -404,7 +409,7 @@ module _ (r : Rewriting) (extra : List (List ℕ)) (graph : GraphShape) (Holds :
 
   -- ---- runs along paths
 
-  along_chain : (n k : ℕ) (puts : List Insertion) → IsChain raw n k puts → (rest : List ℕ) (g : Frame) (answers : List Answer) → are_calm puts g.values ≡ true → GoesAlong code' (n ∷ rest) (landed n puts g) answers → GoesAlong code' (through k puts (n ∷ rest)) (at (entry_among n k puts) g) answers
+  along_chain : (n k : ℕ) (puts : List Insertion) → IsInsertionChain raw n k puts → (rest : List ℕ) (g : Frame) (answers : List Answer) → none_traps puts g.values ≡ true → GoesAlong code' (n ∷ rest) (landed n puts g) answers → GoesAlong code' (through k puts (n ∷ rest)) (at (entry_among n k puts) g) answers
   along_chain n k [] c rest g answers calm goes = goes
   along_chain n k (put ∷ puts) c rest g answers calm goes =
       let over = through (suc k) puts (n ∷ rest) in
@@ -423,7 +428,7 @@ module _ (r : Rewriting) (extra : List (List ℕ)) (graph : GraphShape) (Holds :
   abbrev over_of : List ℕ → List ℕ
   over_of path = over_path r.inserts (length graph.nodes) path
 
-  -- the second goes along what is over the rest of the path, wherever the first goes along the rest
+  -- the second goes along the path over the remainder of the path, wherever the first goes along the remainder
   abbrev GoesOver : List ℕ → Type 0
   GoesOver path = (before : List ℕ) (x y : ℕ) (f g : Frame) (answers : List Answer) → Next before x y f g → GoesAlong code path f answers → GoesAlong code' (over_of path) g answers
 
@@ -453,5 +458,5 @@ module _ (r : Rewriting) (extra : List (List ℕ)) (graph : GraphShape) (Holds :
     | inr trap ↦ absurd (trap_returns trap.0 (n ∷ path) f answers trap.1.first goes)
   ]
 
-  pub rewritten_runs : (path : List ℕ) (entry : Entry) (answers : List Answer) → RunsAlong (graph_machine graph.received graph.nodes) entry answers path → RunsAlong (graph_machine graph.received (rewritten_nodes r graph.nodes)) entry answers (over_path r.inserts (length graph.nodes) path)
+  pub rewritten_runs : (path : List ℕ) (entry : CallEntry) (answers : List Answer) → RunsAlong (graph_machine graph.received graph.nodes) entry answers path → RunsAlong (graph_machine graph.received (rewritten_nodes r graph.nodes)) entry answers (over_path r.inserts (length graph.nodes) path)
   rewritten_runs path entry answers runs = goes_over path [] 0 0 (first_frame entry) (first_frame entry) answers (inl (starts entry.arguments)) runs

@@ -1,5 +1,5 @@
--- When a rewriting keeps what a graph does: a relation between the values of the two sides before each old node, which the
--- new assignments and the changed ones keep up.
+-- When a rewriting keeps what a graph does: a relation between the values of the two sides before each old node,
+-- which the new assignments and the changed ones keep up. For proofs only, of motion_rewrite.
 use Rattle.std.specs.Prelude.{◌≡◌, ◌⊎◌, ℕ, ◌≤◌, Bool, true, false, not, ◌&&◌, List, [], ◌∷◌, slice_get, ℤ, Some}
 use Rattle.mir_base.specs.declared.instructions.Rhs.{Rhs}
 use Rattle.mir_base.specs.declared.operators.Trap.TheVariants.{ZeroDivisor}
@@ -19,14 +19,14 @@ use Rattle.flow_graph.specs.Over.{weight_at, new_weight_at}
 -- ---- new assignments
 
 -- the values after them
-abbrev pub after : List Insertion → Values → Values
-after [] values = values
-after (put ∷ puts) values = after puts (with_value put.var (rhs_value values put.rhs) values)
+abbrev pub values_after : List Insertion → Values → Values
+values_after [] values = values
+values_after (put ∷ puts) values = values_after puts (with_value put.var (rhs_value values put.rhs) values)
 
 -- none of them traps
-abbrev pub are_calm : List Insertion → Values → Bool
-are_calm [] values = true
-are_calm (put ∷ puts) values = not (rhs_traps values put.rhs) && are_calm puts (with_value put.var (rhs_value values put.rhs) values)
+abbrev pub none_traps : List Insertion → Values → Bool
+none_traps [] values = true
+none_traps (put ∷ puts) values = not (rhs_traps values put.rhs) && none_traps puts (with_value put.var (rhs_value values put.rhs) values)
 
 -- ---- values of the two sides
 
@@ -56,23 +56,24 @@ pub record Preserves (graph : GraphShape) (r : Rewriting) (Holds : ValueRelation
   -- it holds after Start, where the values of both sides are equal
   pub starts : (s : ℕ) (values : Values) → HasEdge graph.nodes 0 s → Holds s (0 ∷ []) values values
   -- where a new assignment traps, the graph traps too, after silent steps
-  pub traps : (n : ℕ) (before : List ℕ) (arguments : List ℤ) (v w : Values) → Trace graph.nodes n before → Holds n before v w → are_calm (r.inserts n) w ≡ false
+  pub traps : (n : ℕ) (before : List ℕ) (arguments : List ℤ) (v w : Values) → Trace graph.nodes n before → Holds n before v w → none_traps (r.inserts n) w ≡ false
       → (steps : ℕ) × TrapsAfter (graph_code graph.received graph.nodes) steps (record { place = n; arguments = arguments; values = v })
   -- what a node reads that is not changed has the same value on both sides
-  pub reads : (n : ℕ) (node : Node) (before : List ℕ) (v w : Values) → Trace graph.nodes n before → slice_get graph.nodes n ≡ Some node → r.changes n ≡ Kept → Holds n before v w → are_calm (r.inserts n) w ≡ true
-      → EqualOn (node_reads graph node) (after (r.inserts n) w) v
+  pub reads : (n : ℕ) (node : Node) (before : List ℕ) (v w : Values) → Trace graph.nodes n before → slice_get graph.nodes n ≡ Some node → r.changes n ≡ Kept → Holds n before v w → none_traps (r.inserts n) w ≡ true
+      → EqualOn (node_reads graph node) (values_after (r.inserts n) w) v
   -- and what it assigns keeps the relation
-  pub keeps : (n s : ℕ) (node : Node) (before : List ℕ) (v w v' w' : Values) → Trace graph.nodes n before → slice_get graph.nodes n ≡ Some node → HasEdge graph.nodes n s → r.changes n ≡ Kept → Holds n before v w → are_calm (r.inserts n) w ≡ true
-      → BothAssign (λ x. assigns graph x node) v (after (r.inserts n) w) v' w' → Holds s (n ∷ before) v' w'
+  pub keeps : (n s : ℕ) (node : Node) (before : List ℕ) (v w v' w' : Values) → Trace graph.nodes n before → slice_get graph.nodes n ≡ Some node → HasEdge graph.nodes n s → r.changes n ≡ Kept → Holds n before v w → none_traps (r.inserts n) w ≡ true
+      → BothAssign (λ x. assigns graph x node) v (values_after (r.inserts n) w) v' w' → Holds s (n ∷ before) v' w'
   -- an assignment with another right side traps where the old one does, and else keeps the relation
-  pub replaces : (n s x : ℕ) (rhs other : Rhs) (before : List ℕ) (v w : Values) → Trace graph.nodes n before → slice_get graph.nodes n ≡ Some (Assign x rhs s) → r.changes n ≡ Replaced other → Holds n before v w → are_calm (r.inserts n) w ≡ true
-      → (rhs_traps v rhs ≡ rhs_traps (after (r.inserts n) w) other) × (rhs_traps v rhs ≡ false → Holds s (n ∷ before) (with_value x (rhs_value v rhs) v) (with_value x (rhs_value (after (r.inserts n) w) other) (after (r.inserts n) w)))
+  pub replaces : (n s x : ℕ) (rhs other : Rhs) (before : List ℕ) (v w : Values) → Trace graph.nodes n before → slice_get graph.nodes n ≡ Some (Assign x rhs s) → r.changes n ≡ Replaced other → Holds n before v w → none_traps (r.inserts n) w ≡ true
+      → (rhs_traps v rhs ≡ rhs_traps (values_after (r.inserts n) w) other) × (rhs_traps v rhs ≡ false → Holds s (n ∷ before) (with_value x (rhs_value v rhs) v) (with_value x (rhs_value (values_after (r.inserts n) w) other) (values_after (r.inserts n) w)))
   -- an assignment that is removed does not trap, and the relation is kept without it
-  pub removes : (n s x : ℕ) (rhs : Rhs) (before : List ℕ) (v w : Values) → Trace graph.nodes n before → slice_get graph.nodes n ≡ Some (Assign x rhs s) → r.changes n ≡ Removed → Holds n before v w → are_calm (r.inserts n) w ≡ true
-      → (rhs_traps v rhs ≡ false) × Holds s (n ∷ before) (with_value x (rhs_value v rhs) v) (after (r.inserts n) w)
+  pub removes : (n s x : ℕ) (rhs : Rhs) (before : List ℕ) (v w : Values) → Trace graph.nodes n before → slice_get graph.nodes n ≡ Some (Assign x rhs s) → r.changes n ≡ Removed → Holds n before v w → none_traps (r.inserts n) w ≡ true
+      → (rhs_traps v rhs ≡ false) × Holds s (n ∷ before) (with_value x (rhs_value v rhs) v) (values_after (r.inserts n) w)
 
 -- ---- counts
 
+-- the number of operators that an assignment evaluates
 abbrev pub counts : ℕ → Rhs → ℕ
 counts x rhs = rhs_count rhs
 

@@ -1,25 +1,30 @@
--- Law: a split graph stays split. What entered a node enters the first of the new nodes before it, and each other node of a
--- chain, and the node after it, is entered once.
-use Rattle.std.proofs.Common.{◌≡◌, ℕ, zero, suc, ◌+◌, ◌<◌, ◌≤◌, cond, eqb, List, [], ◌∷◌, ◌++◌, map, length, slice_get, Some, ◌⊎◌, inl, inr, refl, sym, ap, ◌∙◌, subst, arith, append-nil, length-append}
+-- Law: a split graph stays split. What entered a node enters the first of the new nodes before it, and each other
+-- node of a chain, and the node after it, is entered once. For proofs only, of motion_rewrite.
+use Rattle.std.proofs.Common.{◌≡◌, ℕ, zero, suc, ◌+◌, ◌<◌, ◌≤◌, if◌then◌else◌, nat_eq, List, [], ◌∷◌, ◌++◌, map, length, slice_get, Some, ◌⊎◌, inl, inr, refl, sym, ap, ◌∙◌, subst, arith, append-nil, length-append}
 use Rattle.std.proofs.lemmas.Bool.{cases_eq, cases_lt, eq-eqb}
 use Rattle.std.proofs.lemmas.Option.{slice_get_within}
+use Rattle.flow_graph.specs.ListLaws.{get_left, get_right_at}
 use Rattle.flow_graph.specs.declared.nodes.Node.{Node}
 use Rattle.flow_graph.specs.declared.nodes.Node.TheVariants.{Skip}
 use Rattle.flow_graph.specs.Graphs.{node_succs, succs_of, AllWithin, IsEdge}
 use Rattle.flow_graph.specs.Edges.{leaving, edges_from, preds_among, preds_of, IsSplit}
-use Rattle.flow_graph.specs.EdgeLaws.{edges_from-append, not_eqb}
+use Rattle.std.proofs.lemmas.Bool.{ne_eqb}
+use Rattle.flow_graph.specs.LeavingLaws.{edges_from_append}
 use Rattle.flow_graph.specs.PredLaws.{preds_append}
 use Rattle.flow_graph.specs.Insertions.{Insertion, Change, Rewriting, put_below, entry, olds, chains, rewritten_nodes}
-use Rattle.flow_graph.specs.InsertionNodes.{front_get, back_get, olds_length, rewritten_succs, IsPlace, Link, place_same, old_get, entry_is, edge_node, edge_at}
+use Rattle.flow_graph.specs.NodeLaws.{rewritten_succs}
+use Rattle.flow_graph.specs.InsertionNodes.{olds_length, IsNewPlace, Link, place_same, old_get, entry_is, edge_node, edge_cases}
 
 -- ---- no edge, and at most one
 
+-- where no successor is s, the node is no predecessor of s
 none_leaving : (s k : ℕ) (succs : List ℕ) → ((slot : ℕ) → slice_get succs slot ≡ Some s → ⊥) → preds_among s (leaving k succs) ≡ []
 none_leaving s k [] none = refl
 none_leaving s k (t ∷ succs) none =
-    ap (λ b. cond b (k ∷ preds_among s (leaving k succs)) (preds_among s (leaving k succs))) (not_eqb t s (λ e. none 0 (ap Some e)))
+    ap (λ b. (if b then k ∷ preds_among s (leaving k succs) else preds_among s (leaving k succs))) (ne_eqb t s (λ e. none 0 (ap Some e)))
     ∙ none_leaving s k succs (λ slot. none (suc slot))
 
+-- where no edge leads to s, it has no predecessors
 none_preds : (s k : ℕ) (nodes : List Node) → ((m slot : ℕ) → IsEdge nodes m slot s → ⊥) → preds_among s (edges_from k nodes) ≡ []
 none_preds s k [] none = refl
 none_preds s k (node ∷ nodes) none =
@@ -27,11 +32,12 @@ none_preds s k (node ∷ nodes) none =
     ∙ ap (λ l. l ++ preds_among s (edges_from (suc k) nodes)) (none_leaving s k (node_succs node) (none 0))
     ∙ none_preds s (suc k) nodes (λ m. none (suc m))
 
+-- a node with one successor at most enters s by its first edge and by no other, or not at all
 first_leaves : (s k : ℕ) (succs : List ℕ) → ((slot t : ℕ) → slice_get succs slot ≡ Some t → slot ≡ 0) → ((slice_get succs 0 ≡ Some s) × (length (preds_among s (leaving k succs)) ≤ 1)) ⊎ ((slot : ℕ) → slice_get succs slot ≡ Some s → ⊥)
 first_leaves s k [] single = inr (λ slot e. cc)
 first_leaves s k (t ∷ u ∷ succs) single = absurd (omega (arith, single 1 u refl))
 first_leaves s k (t ∷ []) single = elim (cases_eq t s) [
-  | inl same ↦ let one = ap (λ b. length (cond b (k ∷ []) [])) (eq-eqb t s same) in inl (ap Some same, omega (arith, one))
+  | inl same ↦ let one = ap (λ b. length (if b then k ∷ [] else [])) (eq-eqb t s same) in inl (ap Some same, omega (arith, one))
   | inr differ ↦ inr (λ slot e. other differ slot e)
 ]
   where
@@ -65,14 +71,14 @@ few_preds s k (node ∷ nodes) single same =
 -- ---- other successors
 
 module _ (changes : ℕ → Change) (to : ℕ → ℕ) (s t : ℕ) where
-  moved_leaving : (k : ℕ) (succs : List ℕ) → ((slot u : ℕ) → slice_get succs slot ≡ Some u → eqb (to u) s ≡ eqb u t) → preds_among s (leaving k (map to succs)) ≡ preds_among t (leaving k succs)
+  moved_leaving : (k : ℕ) (succs : List ℕ) → ((slot u : ℕ) → slice_get succs slot ≡ Some u → nat_eq (to u) s ≡ nat_eq u t) → preds_among s (leaving k (map to succs)) ≡ preds_among t (leaving k succs)
   moved_leaving k [] as_before = refl
   moved_leaving k (u ∷ succs) as_before =
-      ap (λ b. cond b (k ∷ preds_among s (leaving k (map to succs))) (preds_among s (leaving k (map to succs)))) (as_before 0 u refl)
-      ∙ ap (λ l. cond (eqb u t) (k ∷ l) l) (moved_leaving k succs (λ slot. as_before (suc slot)))
+      ap (λ b. (if b then k ∷ preds_among s (leaving k (map to succs)) else preds_among s (leaving k (map to succs)))) (as_before 0 u refl)
+      ∙ ap (λ l. (if nat_eq u t then k ∷ l else l)) (moved_leaving k succs (λ slot. as_before (suc slot)))
 
   -- where the edges that led to t are those that now lead to s
-  moved_preds : (k : ℕ) (nodes : List Node) → ((m slot u : ℕ) → IsEdge nodes m slot u → eqb (to u) s ≡ eqb u t) → preds_among s (edges_from k (olds changes to k nodes)) ≡ preds_among t (edges_from k nodes)
+  moved_preds : (k : ℕ) (nodes : List Node) → ((m slot u : ℕ) → IsEdge nodes m slot u → nat_eq (to u) s ≡ nat_eq u t) → preds_among s (edges_from k (olds changes to k nodes)) ≡ preds_among t (edges_from k nodes)
   moved_preds k [] as_before = refl
   moved_preds k (node ∷ nodes) as_before =
       ap (λ l. preds_among s (leaving k l ++ edges_from (suc k) (olds changes to (suc k) nodes))) (rewritten_succs to _ node)
@@ -115,7 +121,7 @@ module _ (inserts : ℕ → List Insertion) (nodes : ℕ) where
     n : ℕ
     j : ℕ
     below : n < nodes
-    place : IsPlace inserts q n j
+    place : IsNewPlace inserts q n j
     link : Link n (nodes + put_below inserts n) (length (inserts n)) j s
 
   leads_to_no_entry : (q s t : ℕ) → LeadsTo q s → t < nodes → entry inserts nodes t ≡ s → ⊥
@@ -169,8 +175,8 @@ module _ (r : Rewriting) (nodes : List Node) (within : AllWithin nodes) where
   new_target : (m slot s : ℕ) → IsEdge back m slot s → (slot ≡ 0) × LeadsTo r.inserts (length nodes) m s
   new_target m slot s e =
       let number : length nodes + m ≡ length front + m = omega (arith, olds_length r.changes to 0 nodes) in
-      let edge : IsEdge raw (length nodes + m) slot s = ap (λ o. slice_get (succs_of o) slot) (back_get front back (length nodes + m) m number) ∙ e in
-      elim (edge_at r nodes (length nodes + m) slot s edge) [
+      let edge : IsEdge raw (length nodes + m) slot s = ap (λ o. slice_get (succs_of o) slot) (get_right_at front back (length nodes + m) m number) ∙ e in
+      elim (edge_cases r nodes (length nodes + m) slot s edge) [
         | inl o ↦ let node = edge_node nodes (length nodes + m) slot o.target o.edge in absurd (omega (arith, slice_get_within nodes (length nodes + m) node.0 node.1))
         | inr w ↦
             let same : m ≡ put_below r.inserts w.new.n + w.new.j = omega (arith, w.new.at) in
@@ -181,15 +187,15 @@ module _ (r : Rewriting) (nodes : List Node) (within : AllWithin nodes) where
   old_target m slot s e =
       let node = edge_node front m slot s e in
       let lt = slice_get_within front m node.0 node.1 in
-      let edge : IsEdge raw m slot s = ap (λ o. slice_get (succs_of o) slot) (front_get front back m lt) ∙ e in
-      elim (edge_at r nodes m slot s edge) [
+      let edge : IsEdge raw m slot s = ap (λ o. slice_get (succs_of o) slot) (get_left front back m lt) ∙ e in
+      elim (edge_cases r nodes m slot s edge) [
         | inl o ↦ (o.target, within m slot o.target o.edge, o.is)
         | inr w ↦ absurd (omega (arith, w.new.at, lt, olds_length r.changes to 0 nodes))
       ]
 
   preds_parts : (s : ℕ) → preds_of raw s ≡ preds_among s (edges_from 0 front) ++ preds_among s (edges_from (0 + length front) back)
   preds_parts s =
-      ap (preds_among s) (edges_from-append 0 front back) ∙ preds_append s (edges_from 0 front) (edges_from (0 + length front) back)
+      ap (preds_among s) (edges_from_append 0 front back) ∙ preds_append s (edges_from 0 front) (edges_from (0 + length front) back)
 
   -- what enters the entry of a node is what entered the node
   pub entry_preds : (t : ℕ) → t < length nodes → preds_of (rewritten_nodes r nodes) (entry r.inserts (length nodes) t) ≡ preds_of nodes t
@@ -198,10 +204,10 @@ module _ (r : Rewriting) (nodes : List Node) (within : AllWithin nodes) where
       let none = none_preds (to t) (0 + length front) back (λ m slot edge. leads_to_no_entry r.inserts (length nodes) m (to t) t (new_target m slot (to t) edge).1 lt refl) in
       preds_parts (to t) ∙ ap (λ l. l ++ preds_among (to t) (edges_from (0 + length front) back)) kept ∙ ap (λ l. preds_of nodes t ++ l) none ∙ append-nil (preds_of nodes t)
     where
-      same_target : (u : ℕ) → u < length nodes → eqb (to u) (to t) ≡ eqb u t
+      same_target : (u : ℕ) → u < length nodes → nat_eq (to u) (to t) ≡ nat_eq u t
       same_target u u_in = elim (cases_eq u t) [
         | inl same ↦ eq-eqb (to u) (to t) (ap to same) ∙ sym (eq-eqb u t same)
-        | inr differ ↦ not_eqb (to u) (to t) (λ e. differ (entry_same r.inserts (length nodes) u t u_in lt e)) ∙ sym (not_eqb u t differ)
+        | inr differ ↦ ne_eqb (to u) (to t) (λ e. differ (entry_same r.inserts (length nodes) u t u_in lt e)) ∙ sym (ne_eqb u t differ)
       ]
 
   -- a node that is no entry is entered at most once, along a chain

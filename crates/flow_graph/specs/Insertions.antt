@@ -1,5 +1,5 @@
--- Rewritings that put new assignments before the nodes of a graph, in chains, and change the right sides of old ones. Old
--- nodes keep their numbers.
+-- Rewritings that put new assignments before the nodes of a graph, in chains, and change the right sides of old ones.
+-- Old nodes keep their numbers. Cited by contracts, those of motion_rewrite too.
 use Rattle.std.specs.Prelude.{◌≡◌, ℕ, zero, suc, ◌+◌, ◌<◌, List, [], ◌∷◌, ◌++◌, length}
 use Rattle.mir_base.specs.declared.instructions.Rhs.{Rhs}
 use Rattle.mir_base.specs.Shapes.{AllBelow, AllDiffer, rhs_vars}
@@ -26,11 +26,13 @@ pub record Rewriting : Type 0 where
   pub inserts : ℕ → List Insertion
   pub changes : ℕ → Change
 
+-- what becomes of an assignment
 abbrev pub changed_assign : Change → ℕ → Rhs → ℕ → Node
 changed_assign Kept x rhs next = Assign x rhs next
 changed_assign (Replaced other) x rhs next = Assign x other next
 changed_assign Removed x rhs next = Skip next
 
+-- what becomes of a node: any but an assignment stays as it is
 abbrev pub changed : Change → Node → Node
 changed change (Start next) = Start next
 changed change (Skip next) = Skip next
@@ -73,6 +75,7 @@ abbrev pub olds : (ℕ → Change) → (ℕ → ℕ) → ℕ → List Node → L
 olds changes to n [] = []
 olds changes to n (node ∷ nodes) = redirected to (changed (changes n) node) ∷ olds changes to (suc n) nodes
 
+-- the old nodes, changed and with their edges led to the new ones, and then the new nodes
 abbrev pub rewritten_nodes : Rewriting → List Node → List Node
 rewritten_nodes r nodes = olds r.changes (entry r.inserts (length nodes)) 0 nodes ++ chains r.inserts (length nodes) 0 (length nodes)
 
@@ -88,6 +91,7 @@ ChangeBelow vars Kept = Unit {0}
 ChangeBelow vars (Replaced rhs) = AllBelow vars (rhs_vars rhs)
 ChangeBelow vars Removed = Unit {0}
 
+-- the variables of the insertions are below a bound
 abbrev pub InsertionsBelow : ℕ → List Insertion → Type 0
 InsertionsBelow vars [] = Unit {0}
 InsertionsBelow vars (put ∷ puts) = ((put.var < vars) × AllBelow vars (rhs_vars put.rhs)) × InsertionsBelow vars puts

@@ -1,8 +1,10 @@
--- The nodes of a list that are reached, renumbered in their old order: what is kept when a graph is made.
+-- The nodes of a list that are reached, renumbered in their old order: what is kept when a graph is made. Cited by
+-- contracts, those of jump_clean too.
 use Rattle.std.specs.Prelude.{◌≡◌, ℕ, zero, suc, ◌<◌, ◌↔◌, Bool, true, false, List, [], ◌∷◌, map, length, slice_get, Some}
 use Rattle.flow_graph.specs.declared.nodes.Node.{Node}
 use Rattle.flow_graph.specs.declared.nodes.Node.TheVariants.{Start, Skip, Assign, Print, Call, Test, Return}
 use Rattle.flow_graph.specs.Graphs.{GraphShape, Reached}
+use Rattle.flow_graph.specs.Tables.{number_at}
 
 -- the node with other numbers for its successors
 abbrev pub redirected : (ℕ → ℕ) → Node → Node
@@ -14,12 +16,16 @@ redirected to (Call into unit operands next) = Call into unit operands (to next)
 redirected to (Test test taken other) = Test test (to taken) (to other)
 redirected to (Return a) = Return a
 
+-- the node with the number at each successor in a table for that successor
+abbrev pub redirected_by : List ℕ → Node → Node
+redirected_by to = redirected (number_at to)
+
 -- how many of the first n are marked
-abbrev pub rank : List Bool → ℕ → ℕ
-rank marks zero = 0
-rank [] (suc n) = 0
-rank (true ∷ marks) (suc n) = suc (rank marks n)
-rank (false ∷ marks) (suc n) = rank marks n
+abbrev pub marked_below : List Bool → ℕ → ℕ
+marked_below marks zero = 0
+marked_below [] (suc n) = 0
+marked_below (true ∷ marks) (suc n) = suc (marked_below marks n)
+marked_below (false ∷ marks) (suc n) = marked_below marks n
 
 -- the marked ones
 abbrev pub marked : {A : Type 0} → List Bool → List A → List A
@@ -34,11 +40,15 @@ pub record MarkReached (raw : List Node) (marks : List Bool) : Type 0 where
   pub long : length marks ≡ length raw
   pub exact : (n : ℕ) → n < length raw → (slice_get marks n ≡ Some true) ↔ Reached raw n
 
+-- the marked nodes, with their ranks for numbers
+abbrev pub kept_nodes : List Bool → List Node → List Node
+kept_nodes marks raw = map (redirected (marked_below marks)) (marked marks raw)
+
 -- these are the reached nodes of the list, renumbered in their old order
 pub record AreKept (raw nodes : List Node) : Type 0 where
   pub marks : List Bool
   pub are_marks : MarkReached raw marks
-  pub are : nodes ≡ map (redirected (rank marks)) (marked marks raw)
+  pub are : nodes ≡ kept_nodes marks raw
 
 -- the graph with these nodes, of which the reached ones are kept
 pub record IsMade (name : List ℕ) (vars : List (List ℕ)) (received : List ℕ) (raw : List Node) (graph : GraphShape) : Type 0 where
@@ -50,4 +60,4 @@ pub record IsMade (name : List ℕ) (vars : List (List ℕ)) (received : List �
 -- the number that each node gets stands at its old number
 pub record AreRanks (marks : List Bool) (ranks : List ℕ) : Type 0 where
   pub long : length ranks ≡ length marks
-  pub are : (n : ℕ) → n < length marks → slice_get ranks n ≡ Some (rank marks n)
+  pub are : (n : ℕ) → n < length marks → slice_get ranks n ≡ Some (marked_below marks n)

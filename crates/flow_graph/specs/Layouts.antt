@@ -1,5 +1,6 @@
--- The unit of a graph: what its plan emits, with the variables numbered by their first occurrence.
-use Rattle.std.specs.Prelude.{◌≡◌, ℕ, ◌+◌, cond, eqb, List, [], ◌∷◌, ◌++◌, map, length, slice_get, slice_index_or, Option, Some, None}
+-- The unit of a graph: what its plan emits, with the variables numbered by their first occurrence. Cited by contracts
+-- of `layout`.
+use Rattle.std.specs.Prelude.{◌≡◌, ℕ, ◌+◌, if◌then◌else◌, nat_eq, List, [], ◌∷◌, ◌++◌, map, length, slice_get, slice_index_or, Option, Some, None}
 use Rattle.mir_base.specs.declared.instructions.Inst.{Inst}
 use Rattle.mir_base.specs.declared.instructions.Inst.TheVariants as insts
 use Rattle.mir_base.specs.Shapes.{UnitShape}
@@ -24,10 +25,12 @@ emitted_by place (Some (Call into unit operands next)) = insts.Call into unit op
 emitted_by place (Some (Test test taken other)) = insts.If test (place taken) ∷ []
 emitted_by place (Some (Return a)) = insts.Return a ∷ []
 
+-- the instructions of an item: those of its node, or a Goto
 abbrev pub item_insts : List Node → (ℕ → ℕ) → Item → List Inst
 item_insts nodes place (Placed n) = emitted_by place (slice_get nodes n)
 item_insts nodes place (Jump n) = insts.Goto (place n) ∷ []
 
+-- those of the items, the newest item last
 abbrev pub emitted : List Node → (ℕ → ℕ) → List Item → List Inst
 emitted nodes place [] = []
 emitted nodes place (item ∷ older) = emitted nodes place older ++ item_insts nodes place item
@@ -44,7 +47,7 @@ size nodes receives (item ∷ older) = size nodes receives older + item_size nod
 -- the place of a node: how many instructions there are before it
 abbrev pub place_in : List Node → ℕ → List Item → ℕ → ℕ
 place_in nodes receives [] n = 0
-place_in nodes receives (Placed m ∷ older) n = cond (eqb m n) (size nodes receives older) (place_in nodes receives older n)
+place_in nodes receives (Placed m ∷ older) n = if nat_eq m n then size nodes receives older else place_in nodes receives older n
 place_in nodes receives (Jump m ∷ older) n = place_in nodes receives older n
 
 -- the body before its variables are renumbered

@@ -1,4 +1,5 @@
--- The graph of a unit: Start for the receives, and a node for each other place that is reached.
+-- The graph of a unit: Start for the receives, and a node for each other place that is reached. Cited by contracts of
+-- `lower` and of what calls it.
 use Rattle.std.specs.Prelude.{◌≡◌, ℕ, suc, ◌<◌, List, [], ◌∷◌, slice_get, pos, Option, Some, None}
 use Rattle.mir_base.specs.declared.instructions.Operand.TheVariants.{Const}
 use Rattle.mir_base.specs.declared.instructions.Inst.{Inst}

@@ -1,6 +1,6 @@
--- Law: where every way leads silently to an evaluation that traps now, and nothing on the way assigns what it reads, the graph
--- traps after silent steps.
-use Rattle.std.proofs.Common.{◌≡◌, ℕ, suc, ◌+◌, Bool, true, false, cond, List, [], ◌∷◌, slice_get, ℤ, Some, inl, inr, refl, sym, ap, ◌∙◌, eqb}
+-- Law: where every way leads silently to an evaluation that traps now, and nothing on the way assigns what it reads,
+-- the graph traps after silent steps. For proofs only, of passes that move assignments.
+use Rattle.std.proofs.Common.{◌≡◌, ℕ, suc, ◌+◌, Bool, true, false, if◌then◌else◌, List, [], ◌∷◌, slice_get, ℤ, Some, inl, inr, refl, sym, ap, ◌∙◌, nat_eq}
 use Rattle.std.proofs.lemmas.Bool.{cases_Bool}
 use Rattle.mir_base.specs.declared.instructions.Rhs.{Rhs}
 use Rattle.mir_base.specs.declared.operators.Trap.TheVariants.{ZeroDivisor}
@@ -19,13 +19,10 @@ use Rattle.flow_graph.specs.Sinking.{NoneSet}
 
 -- the node shows nothing and goes on
 abbrev pub goes_silently : Node → Bool
-goes_silently (Start next) = false
 goes_silently (Skip next) = true
 goes_silently (Assign x rhs next) = true
-goes_silently (Print a next) = false
-goes_silently (Call into unit operands next) = false
 goes_silently (Test test taken other) = true
-goes_silently (Return a) = false
+goes_silently _ = false
 
 -- on every way from node n, after at most k nodes that go on silently and assign nothing that it reads, comes a node that
 -- evaluates this right side
@@ -37,9 +34,9 @@ module _ (graph : GraphShape) (rhs : Rhs) where
   abbrev code : Code
   code = graph_code graph.received graph.nodes
 
-  still_traps : (x : ℕ) (c : ℤ) (v : Values) (node : Node) (xs : List ℕ) → ((y : ℕ) → assigns graph y node ≡ eqb y x) → NoneSet graph node xs → EqualOn xs (with_value x c v) v
+  still_traps : (x : ℕ) (c : ℤ) (v : Values) (node : Node) (xs : List ℕ) → ((y : ℕ) → assigns graph y node ≡ nat_eq y x) → NoneSet graph node xs → EqualOn xs (with_value x c v) v
   still_traps x c v node [] is none = tt
-  still_traps x c v node (y ∷ xs) is none = (ap (λ b. cond b c (v y)) (sym (is y) ∙ none.0), still_traps x c v node xs is none.1)
+  still_traps x c v node (y ∷ xs) is none = (ap (λ b. (if b then c else v y)) (sym (is y) ∙ none.0), still_traps x c v node xs is none.1)
 
   -- one silent step, and then the trap
   one_step : (f g : Frame) (count : ℕ) → code f ≡ Continues count g → (steps : ℕ) × TrapsAfter code steps g → (steps : ℕ) × TrapsAfter code steps f
@@ -54,7 +51,7 @@ module _ (graph : GraphShape) (rhs : Rhs) where
           cost = 0;
           silent = (refl, refl);
           counted = 1;
-          is = ap (λ o. node_transition graph.received o f) is ∙ assign_is x rhs next f ∙ ap (λ b. cond b (Traps ZeroDivisor 1) (Continues (rhs_count rhs) (assigned x (rhs_value v rhs) next f))) trap;
+          is = ap (λ o. node_transition graph.received o f) is ∙ assign_is x rhs next f ∙ ap (λ b. (if b then Traps ZeroDivisor 1 else Continues (rhs_count rhs) (assigned x (rhs_value v rhs) next f))) trap;
         },
       )
   must_trap k n arguments v (onward j m (Start next) is silent none must) trap = let never : false ≡ true = silent in absurd (cc)
@@ -65,11 +62,11 @@ module _ (graph : GraphShape) (rhs : Rhs) where
       let f : Frame = record { place = n; arguments = arguments; values = v } in
       let steps = ap (λ o. node_transition graph.received o f) is ∙ assign_is x t next f in
       elim (cases_Bool (rhs_traps v t)) [
-        | inl now ↦ (0, record { there = f; cost = 0; silent = (refl, refl); counted = 1; is = steps ∙ ap (λ b. cond b (Traps ZeroDivisor 1) (Continues (rhs_count t) (assigned x (rhs_value v t) next f))) now })
+        | inl now ↦ (0, record { there = f; cost = 0; silent = (refl, refl); counted = 1; is = steps ∙ ap (λ b. (if b then Traps ZeroDivisor 1 else Continues (rhs_count t) (assigned x (rhs_value v t) next f))) now })
         | inr calm ↦
             let c = rhs_value v t in
             let still = traps_equal (with_value x c v) v rhs (still_traps x c v (Assign x t next) (rhs_vars rhs) (λ y. refl) none) ∙ trap in
-            one_step f (assigned x c next f) (rhs_count t) (steps ∙ ap (λ b. cond b (Traps ZeroDivisor 1) (Continues (rhs_count t) (assigned x c next f))) calm) (must_trap j next arguments (with_value x c v) (must 0 next refl) still)
+            one_step f (assigned x c next f) (rhs_count t) (steps ∙ ap (λ b. (if b then Traps ZeroDivisor 1 else Continues (rhs_count t) (assigned x c next f))) calm) (must_trap j next arguments (with_value x c v) (must 0 next refl) still)
       ]
   must_trap k n arguments v (onward j m (Print a next) is silent none must) trap = let never : false ≡ true = silent in absurd (cc)
   must_trap k n arguments v (onward j m (Call into unit operands next) is silent none must) trap = let never : false ≡ true = silent in absurd (cc)
@@ -77,7 +74,7 @@ module _ (graph : GraphShape) (rhs : Rhs) where
       let f : Frame = record { place = n; arguments = arguments; values = v } in
       let steps = ap (λ o. node_transition graph.received o f) is in
       elim (cases_Bool (test_holds v test)) [
-        | inl holds ↦ one_step f (at taken f) 0 (steps ∙ ap (λ b. Continues 0 (at (cond b taken other) f)) holds) (must_trap j taken arguments v (must 0 taken refl) trap)
-        | inr fails ↦ one_step f (at other f) 0 (steps ∙ ap (λ b. Continues 0 (at (cond b taken other) f)) fails) (must_trap j other arguments v (must 1 other refl) trap)
+        | inl holds ↦ one_step f (at taken f) 0 (steps ∙ ap (λ b. Continues 0 (at (if b then taken else other) f)) holds) (must_trap j taken arguments v (must 0 taken refl) trap)
+        | inr fails ↦ one_step f (at other f) 0 (steps ∙ ap (λ b. Continues 0 (at (if b then taken else other) f)) fails) (must_trap j other arguments v (must 1 other refl) trap)
       ]
   must_trap k n arguments v (onward j m (Return a) is silent none must) trap = let never : false ≡ true = silent in absurd (cc)

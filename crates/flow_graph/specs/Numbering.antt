@@ -1,5 +1,6 @@
--- Variables numbered anew, in the order of their first occurrence.
-use Rattle.std.specs.Prelude.{ℕ, suc, Bool, false, cond, eqb, ◌||◌, List, [], ◌∷◌, ◌++◌, map, flat_map, option_map}
+-- Variables numbered anew, in the order of their first occurrence. Cited by contracts of src/seen.rt and
+-- src/rename.rt.
+use Rattle.std.specs.Prelude.{ℕ, suc, Bool, false, if◌then◌else◌, nat_eq, ◌||◌, List, [], ◌∷◌, ◌++◌, map, flat_map, option_map}
 use Rattle.mir_base.specs.declared.instructions.Operand.{Operand}
 use Rattle.mir_base.specs.declared.instructions.Operand.TheVariants.{Var, Const}
 use Rattle.mir_base.specs.declared.instructions.Rhs.{Rhs}
@@ -10,19 +11,20 @@ use Rattle.mir_base.specs.declared.instructions.Inst.{Inst}
 use Rattle.mir_base.specs.declared.instructions.Inst.TheVariants as insts
 use Rattle.mir_base.specs.Shapes.{inst_vars}
 
+-- whether a number stands in a list
 abbrev pub is_in : ℕ → List ℕ → Bool
 is_in x [] = false
-is_in x (y ∷ ys) = eqb y x || is_in x ys
+is_in x (y ∷ ys) = nat_eq y x || is_in x ys
 
 -- the place of the first x in a list, and its length where there is none
 abbrev pub position : List ℕ → ℕ → ℕ
 position [] x = 0
-position (y ∷ ys) x = cond (eqb y x) 0 (suc (position ys x))
+position (y ∷ ys) x = if nat_eq y x then 0 else suc (position ys x)
 
 -- a list of variables, and after it those of another list that are new, in the order of their first occurrence
 abbrev pub seen_after : List ℕ → List ℕ → List ℕ
 seen_after seen [] = seen
-seen_after seen (x ∷ xs) = cond (is_in x seen) (seen_after seen xs) (seen_after (seen ++ x ∷ []) xs)
+seen_after seen (x ∷ xs) = if is_in x seen then seen_after seen xs else seen_after (seen ++ x ∷ []) xs
 
 -- the variables that occur in a body, in the order of their first occurrence in its text
 abbrev pub seen_in : List Inst → List ℕ
@@ -30,20 +32,24 @@ seen_in body = seen_after [] (flat_map inst_vars body)
 
 -- ---- with other numbers
 
+-- an operand with its variable renumbered
 abbrev pub renamed_operand : (ℕ → ℕ) → Operand → Operand
 renamed_operand to (Var x) = Var (to x)
 renamed_operand to (Const c) = Const c
 
+-- a right side with its variables renumbered
 abbrev pub renamed_rhs : (ℕ → ℕ) → Rhs → Rhs
 renamed_rhs to (Plain a) = Plain (renamed_operand to a)
 renamed_rhs to (Unary op a) = Unary op (renamed_operand to a)
 renamed_rhs to (Binary op a b) = Binary op (renamed_operand to a) (renamed_operand to b)
 
+-- a test with its variables renumbered
 abbrev pub renamed_test : (ℕ → ℕ) → Condition → Condition
 renamed_test to (Rel op a b) = Rel op (renamed_operand to a) (renamed_operand to b)
 renamed_test to (Holds a) = Holds (renamed_operand to a)
 renamed_test to (Fails a) = Fails (renamed_operand to a)
 
+-- an instruction with its variables renumbered
 abbrev pub renamed : (ℕ → ℕ) → Inst → Inst
 renamed to (insts.Receive x) = insts.Receive (to x)
 renamed to (insts.Assign x rhs) = insts.Assign (to x) (renamed_rhs to rhs)

@@ -1,12 +1,13 @@
--- A list of nodes has one graph that is made of it, a unit one graph, and a graph one layout.
+-- Laws: a list of nodes has one graph that is made of it, a unit one graph, and a graph one layout. For proofs only,
+-- of jump_clean, motion_rewrite and mir_opt.
 use Rattle.std.proofs.Common.{◌≡◌, ℕ, zero, suc, ◌+◌, ◌-◌, ◌<◌, Bool, true, false, List, [], ◌∷◌, length, map, slice_get, slice_index_or, Some, None, inl, inr, refl, sym, ap, ◌∙◌, arith}
 use Rattle.std.proofs.lemmas.Bool.{cases_lt}
-use Rattle.std.proofs.lemmas.Option.{slice_get-get_or, slice_get_past}
+use Rattle.std.proofs.lemmas.Option.{slice_get-get_or, slice_get_past, same_Some}
 use Rattle.mir_base.specs.Shapes.{UnitShape}
 use Rattle.flow_graph.specs.declared.nodes.Node.{Node}
 use Rattle.flow_graph.specs.declared.plan.Item.{Item}
 use Rattle.flow_graph.specs.Graphs.{GraphShape}
-use Rattle.flow_graph.specs.Kept.{redirected, rank, marked, MarkReached, AreKept, IsMade}
+use Rattle.flow_graph.specs.Kept.{redirected, marked_below, marked, MarkReached, AreKept, IsMade}
 use Rattle.flow_graph.specs.ListLaws.{cons_same}
 use Rattle.flow_graph.specs.Layouts.{IsLayout, plain_body}
 use Rattle.flow_graph.specs.Lowered.{IsLowered}
@@ -15,16 +16,14 @@ use Rattle.flow_graph.specs.Plans.{IsPlan, IsWholePlan, next_item, start_succ}
 
 -- ---- the graph that is made of nodes
 
-some_same : {A : Type 0} {x y : A} → Some x ≡ Some y → x ≡ y
-some_same e = cc
-
 -- lists that are equal place by place
 pub same_places : {A : Type 0} (xs ys : List A) → ((n : ℕ) → slice_get xs n ≡ slice_get ys n) → xs ≡ ys
 same_places [] [] same = refl
 same_places [] (y ∷ ys) same = let e : None ≡ Some y = same 0 in cc
 same_places (x ∷ xs) [] same = let e : Some x ≡ None = same 0 in cc
-same_places (x ∷ xs) (y ∷ ys) same = cons_same (some_same (same 0)) (same_places xs ys (λ n. same (suc n)))
+same_places (x ∷ xs) (y ∷ ys) same = cons_same (same_Some _ _ (same 0)) (same_places xs ys (λ n. same (suc n)))
 
+-- the marks of the reached nodes are determined
 pub marks_are_one : (raw : List Node) (a b : List Bool) → MarkReached raw a → MarkReached raw b → a ≡ b
 marks_are_one raw a b p q = same_places a b by_place
   where
@@ -49,10 +48,11 @@ marks_are_one raw a b p q = same_places a b by_place
       | inr ge ↦ slice_get_past a n (omega (arith, ge, p.long)) ∙ sym (slice_get_past b n (omega (arith, ge, q.long)))
     ]
 
+-- so are the nodes that are kept
 pub kept_are_one : (raw a b : List Node) → AreKept raw a → AreKept raw b → a ≡ b
 kept_are_one raw a b p q =
     let marks : p.marks ≡ q.marks = marks_are_one raw p.marks q.marks p.are_marks q.are_marks in
-    p.are ∙ ap (λ m. map (redirected (rank m)) (marked m raw)) marks ∙ sym q.are
+    p.are ∙ ap (λ m. map (redirected (marked_below m)) (marked m raw)) marks ∙ sym q.are
 
 -- graphs with equal parts are equal
 pub same_graphs : (a b : GraphShape) → a.name ≡ b.name → a.vars ≡ b.vars → a.received ≡ b.received → a.nodes ≡ b.nodes → a ≡ b
@@ -60,10 +60,12 @@ same_graphs a b name vars received nodes =
     ap (λ x. record a { name = x }) name ∙ ap (λ x. record { name = b.name; vars = x; received = a.received; nodes = a.nodes }) vars
     ∙ ap (λ x. record { name = b.name; vars = b.vars; received = x; nodes = a.nodes }) received ∙ ap (λ x. record b { nodes = x }) nodes
 
+-- and the graph that is made
 pub made_is_one : (name : List ℕ) (vars : List (List ℕ)) (received : List ℕ) (raw : List Node) (a b : GraphShape) → IsMade name vars received raw a → IsMade name vars received raw b → a ≡ b
 made_is_one name vars received raw a b p q =
     same_graphs a b (p.name_is ∙ sym q.name_is) (p.vars_are ∙ sym q.vars_are) (p.received_are ∙ sym q.received_are) (kept_are_one raw a.nodes b.nodes p.nodes_are q.nodes_are)
 
+-- and the graph of a unit
 pub lowered_is_one : (unit : UnitShape) (a b : GraphShape) → IsLowered unit a → IsLowered unit b → a ≡ b
 lowered_is_one unit a b p q = made_is_one _ _ _ _ a b p.made q.made
 
@@ -76,7 +78,7 @@ module _ (nodes : List Node) (first : ℕ) where
   plans_alike (item ∷ p) [] long is is' = absurd (omega (arith, long))
   plans_alike (item ∷ p) (item' ∷ q) long is is' =
       let older : p ≡ q = plans_alike p q (omega (arith, long)) is.1 is'.1 in
-      cons_same (some_same (sym is.0 ∙ ap (next_item nodes first) older ∙ is'.0)) older
+      cons_same (same_Some _ _ (sym is.0 ∙ ap (next_item nodes first) older ∙ is'.0)) older
 
   -- nothing comes after a plan that is complete
   none_longer : (p : List Item) → IsPlan nodes first p → next_item nodes first p ≡ None → (k : ℕ) (q : List Item) → length q ≡ suc k + length p → IsPlan nodes first q → ⊥
@@ -87,6 +89,7 @@ module _ (nodes : List Node) (first : ℕ) where
       cc
   none_longer p is complete (suc k) (item ∷ q) long is' = none_longer p is complete k q (omega (arith, long)) is'.1
 
+-- the whole plan of a graph is determined
 pub plan_is_one : (nodes : List Node) (p q : List Item) → IsWholePlan nodes p → IsWholePlan nodes q → p ≡ q
 plan_is_one nodes p q is is' = elim (cases_lt (length p) (length q)) [
   | inl lt ↦ absurd (none_longer nodes first p is.is_plan is.complete (length q - length p - 1) q (omega (arith, lt)) is'.is_plan)
@@ -104,6 +107,7 @@ pub same_units : (a b : UnitShape) → a.name ≡ b.name → a.vars ≡ b.vars �
 same_units a b name vars body =
     ap (λ x. record a { name = x }) name ∙ ap (λ x. record { name = b.name; vars = x; body = a.body }) vars ∙ ap (λ x. record b { body = x }) body
 
+-- and the unit of a graph
 pub layout_is_one : (graph : GraphShape) (a b : UnitShape) → IsLayout graph a → IsLayout graph b → a ≡ b
 layout_is_one graph a b p q =
     let plan : p.laid.plan ≡ q.laid.plan = plan_is_one graph.nodes p.laid.plan q.laid.plan p.laid.is_plan q.laid.is_plan in

@@ -1,4 +1,5 @@
--- The path of a rewritten graph over a path of the graph, and what assignments weigh on it.
+-- The path of a rewritten graph over a path of the graph, and what assignments weigh on it. For proofs only, of
+-- motion_rewrite.
 use Rattle.std.specs.Prelude.{◌≡◌, ℕ, suc, ◌+◌, nat_lt, filter, List, [], ◌∷◌, length, slice_get, Option, Some, None, option_map}
 use Rattle.mir_base.specs.declared.instructions.Rhs.{Rhs}
 use Rattle.flow_graph.specs.declared.nodes.Node.{Node}
@@ -41,5 +42,6 @@ weigh_all weight (put ∷ puts) = weight put.var put.rhs + weigh_all weight puts
 abbrev pub weight_at : (ℕ → Rhs → ℕ) → List Node → ℕ → ℕ
 weight_at weight nodes n = weigh weight (slice_get nodes n)
 
+-- afterwards: the insertions before the node, and what becomes of the node
 abbrev pub new_weight_at : (ℕ → Rhs → ℕ) → Rewriting → List Node → ℕ → ℕ
 new_weight_at weight r nodes n = weigh_all weight (r.inserts n) + weigh weight (option_map (changed (r.changes n)) (slice_get nodes n))

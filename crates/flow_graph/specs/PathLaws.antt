@@ -1,5 +1,5 @@
 -- Laws of paths: the traces of a node are the paths from Start to it, and the nodes that have one are those that are
--- reached.
+-- reached. For proofs only, of path_laws and the crates above it.
 use Rattle.std.proofs.Common.{◌≡◌, ℕ, ◌<◌, List, [], ◌∷◌, ◌++◌, length, reverse, sym, ap, ◌∙◌, subst, append_assoc}
 use Rattle.std.proofs.lemmas.List.{reverse-append}
 use Rattle.flow_graph.specs.declared.nodes.Node.{Node}
@@ -37,6 +37,7 @@ pub reached_trace : (nodes : List Node) (n : ℕ) → Reached nodes n → (befor
 reached_trace nodes n at_start = ([], from_start)
 reached_trace nodes n (along m slot s reached edge) = let r = reached_trace nodes m reached in (m ∷ r.0, goes_on m n r.0 r.1 (slot, edge))
 
+-- a node with a path from Start is reached
 pub trace_reached : (nodes : List Node) (n : ℕ) (before : List ℕ) → Trace nodes n before → Reached nodes n
 trace_reached nodes n before from_start = at_start
 trace_reached nodes n before (goes_on m k earlier trace edge) = along m edge.0 n (trace_reached nodes m earlier trace) edge.1

@@ -1,5 +1,5 @@
--- Paths of a graph: as lists of nodes in the order in which they are passed, and as the nodes before a node, the nearest
--- first.
+-- Paths of a graph: as lists of nodes in the order in which they are passed, and as the nodes before a node, the
+-- nearest first. Cited by contracts of path_laws and motion_rewrite.
 use Rattle.std.specs.Prelude.{◌≡◌, ℕ, ◌<◌, Bool, true, false, List, [], ◌∷◌, length, slice_get, Option, Some}
 use Rattle.flow_graph.specs.declared.nodes.Node.{Node}
 use Rattle.flow_graph.specs.declared.nodes.Node.TheVariants.{Return}
@@ -26,6 +26,7 @@ Ends n [] = ⊥
 Ends n (m ∷ []) = m ≡ n
 Ends n (m ∷ k ∷ path) = Ends n (k ∷ path)
 
+-- the node is a Return
 abbrev pub is_return : Option Node → Bool
 is_return (Some (Return a)) = true
 is_return _ = false

@@ -1,6 +1,6 @@
 -- What the laying out of a graph keeps: marks of the placed nodes, the table of their places, and the table of the
--- variables seen.
-use Rattle.std.specs.Prelude.{◌≡◌, ℕ, ◌+◌, ◌<◌, ◌≤◌, Bool, true, false, cond, List, [], ◌∷◌, reverse, take, length, slice_get, slice_set, slice_index_or, Option, Some, None}
+-- variables seen. Cited by contracts of src/plan.rt, src/emit.rt and src/seen.rt alone.
+use Rattle.std.specs.Prelude.{◌≡◌, ℕ, ◌+◌, ◌<◌, ◌≤◌, Bool, true, false, if◌then◌else◌, List, [], ◌∷◌, reverse, take, length, slice_get, slice_set, slice_index_or, Option, Some, None}
 use Rattle.flow_graph.specs.declared.plan.Item.{Item}
 use Rattle.flow_graph.specs.declared.plan.Item.TheVariants.{Placed, Jump}
 use Rattle.flow_graph.specs.declared.nodes.Node.{Node}
@@ -24,6 +24,7 @@ ItemsWithin n [] = Unit {0}
 ItemsWithin n (Placed m ∷ items) = (m < n) × ItemsWithin n items
 ItemsWithin n (Jump m ∷ items) = (m < n) × ItemsWithin n items
 
+-- the `taken` of a Test
 abbrev pub taken_of : Option Node → Option ℕ
 taken_of (Some (Test test taken other)) = Some taken
 taken_of _ = None
@@ -31,8 +32,9 @@ taken_of _ = None
 -- the number where it is not marked
 abbrev pub open_by : List Bool → Option ℕ → Option ℕ
 open_by placed None = None
-open_by placed (Some n) = cond (slice_index_or placed n false) None (Some n)
+open_by placed (Some n) = if slice_index_or placed n false then None else Some n
 
+-- the `taken` of an item that is a placed Test, where it is not marked
 abbrev pub open_by_item : List Node → List Bool → Item → Option ℕ
 open_by_item nodes placed (Placed n) = open_by placed (taken_of (slice_get nodes n))
 open_by_item nodes placed (Jump n) = None
@@ -42,6 +44,7 @@ abbrev pub open_item : List Node → List Item → Item → Option ℕ
 open_item nodes plan (Placed n) = open_at plan (slice_get nodes n)
 open_item nodes plan (Jump n) = None
 
+-- the open successor of an item, where there is an item
 abbrev pub open_if : List Node → List Item → Option Item → Option ℕ
 open_if nodes plan None = None
 open_if nodes plan (Some item) = open_item nodes plan item
@@ -51,14 +54,16 @@ pub record AreClosed (nodes : List Node) (items : List Item) (first : ℕ) : Typ
   pub few : first ≤ length items
   pub none : first_open nodes (reverse items) (reverse (take first items)) ≡ None
 
--- the item of this number, if there is one, tells the first open successor
-abbrev pub TellsFirstOpen : List Node → List Item → ℕ → Type 0
-TellsFirstOpen nodes items number = first_open nodes (reverse items) (reverse items) ≡ open_if nodes (reverse items) (slice_get items number)
+-- the item of this number, if there is one, has the first open successor
+abbrev pub FirstOpenIsAt : List Node → List Item → ℕ → Type 0
+FirstOpenIsAt nodes items number = first_open nodes (reverse items) (reverse items) ≡ open_if nodes (reverse items) (slice_get items number)
 
+-- the node that follows an item in its trace
 abbrev pub follower_of : List Node → Item → Option ℕ
 follower_of nodes (Placed n) = following (slice_get nodes n)
 follower_of nodes (Jump n) = None
 
+-- the marks after an item
 abbrev pub placed_after : List Bool → Item → List Bool
 placed_after placed (Placed n) = slice_set placed n true
 placed_after placed (Jump n) = placed
@@ -79,6 +84,7 @@ pub record ArePlaces (nodes : List Node) (receives : ℕ) (plan : List Item) (pl
   pub long : length places ≡ length nodes
   pub are : (n : ℕ) → n < length nodes → slice_index_or places n 0 ≡ place_in nodes receives plan n
 
+-- the table of places after an item
 abbrev pub places_after : List ℕ → Item → ℕ → List ℕ
 places_after places (Placed n) place = slice_set places n place
 places_after places (Jump n) place = places
@@ -92,7 +98,7 @@ pub record Seen : Type 0 where
 
 -- the place of a variable that was seen
 abbrev pub place_of : List ℕ → ℕ → Option ℕ
-place_of seen x = cond (is_in x seen) (Some (position seen x)) None
+place_of seen x = if is_in x seen then Some (position seen x) else None
 
 -- the table has the places of the variables seen
 pub record ArePositions (seen : List ℕ) (table : List (Option ℕ)) : Type 0 where

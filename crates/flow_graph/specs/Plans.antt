@@ -1,6 +1,6 @@
--- The order in which the nodes of a graph are laid out: traces, each begun where a test leads that has no place yet, and
--- the jumps that end them.
-use Rattle.std.specs.Prelude.{◌≡◌, ℕ, Bool, false, cond, eqb, ◌||◌, List, [], ◌∷◌, slice_get, Option, Some, None, option_map}
+-- The order in which the nodes of a graph are laid out, in traces: each later trace begins at the `taken` of a Test,
+-- where that has no place yet, and ends in a Return or a jump. Cited by contracts of `layout`.
+use Rattle.std.specs.Prelude.{◌≡◌, ℕ, Bool, false, if◌then◌else◌, nat_eq, ◌||◌, List, [], ◌∷◌, slice_get, Option, Some, None, option_map}
 use Rattle.flow_graph.specs.declared.plan.Item.{Item}
 use Rattle.flow_graph.specs.declared.plan.Item.TheVariants.{Placed, Jump}
 use Rattle.flow_graph.specs.declared.nodes.Node.{Node}
@@ -10,14 +10,15 @@ use Rattle.flow_graph.specs.Graphs.{following}
 -- A plan is a list of items, the latest first. Node n has a place in it where it was placed
 abbrev pub is_placed : ℕ → List Item → Bool
 is_placed n [] = false
-is_placed n (Placed m ∷ older) = eqb m n || is_placed n older
+is_placed n (Placed m ∷ older) = nat_eq m n || is_placed n older
 is_placed n (Jump m ∷ older) = is_placed n older
 
 -- the `taken` successor of a Test, where the plan has not placed it
 abbrev pub open_at : List Item → Option Node → Option ℕ
-open_at plan (Some (Test test taken other)) = cond (is_placed taken plan) None (Some taken)
+open_at plan (Some (Test test taken other)) = if is_placed taken plan then None else Some taken
 open_at plan _ = None
 
+-- the first of two numbers that is there
 abbrev pub or_else : Option ℕ → Option ℕ → Option ℕ
 or_else None second = second
 or_else (Some n) second = Some n
@@ -36,7 +37,7 @@ new_trace nodes plan = option_map Placed (first_open nodes plan plan)
 -- A trace goes on with the node that follows, or ends with a jump to it where it has a place; where none follows, a new
 -- trace begins
 abbrev pub after_node : List Node → List Item → Option ℕ → Option Item
-after_node nodes plan (Some s) = Some (cond (is_placed s plan) (Jump s) (Placed s))
+after_node nodes plan (Some s) = Some (if is_placed s plan then Jump s else Placed s)
 after_node nodes plan None = new_trace nodes plan
 
 -- What comes after the items of a plan, if anything; the first item is Start's successor

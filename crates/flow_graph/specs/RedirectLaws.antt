@@ -1,5 +1,6 @@
--- Laws: a node with other numbers for its successors does the same, step for step, at the other numbers.
-use Rattle.std.proofs.Common.{◌≡◌, ℕ, Bool, true, false, cond, List, slice_get, ℤ, Option, Some, None, option_map, refl, sym, ap, ◌∙◌, subst, le_refl}
+-- Laws: a node with other numbers for its successors does the same, step for step, at the other numbers. For proofs
+-- only, of edge_split and jump_clean too.
+use Rattle.std.proofs.Common.{◌≡◌, ℕ, Bool, true, false, if◌then◌else◌, List, slice_get, ℤ, Option, Some, None, option_map, refl, sym, ap, ◌∙◌, subst, le_refl}
 use Rattle.mir_base.specs.declared.instructions.Rhs.{Rhs}
 use Rattle.mir_base.specs.declared.instructions.Rhs.TheVariants.{Plain, Unary, Binary}
 use Rattle.mir_base.specs.declared.operators.Trap.TheVariants.{ZeroDivisor}
@@ -18,10 +19,12 @@ pub record Shifted (to : ℕ → ℕ) (P : ℕ → Type 0) (f g : Frame) : Type 
   pub good : P f.place
   pub is : g ≡ at (to f.place) f
 
+-- a frame that a call returns to may be moved to another place before that or after it
 pub resumed_at : (into : Option ℕ) (a : Answer) (p q : ℕ) (f : Frame) → resumed into a (at q f) ≡ at q (resumed into a (at p f))
 resumed_at None a p q f = refl
 resumed_at (Some x) a p q f = refl
 
+-- the return of a call changes no place
 pub resumed_place : (into : Option ℕ) (a : Answer) (f : Frame) → (resumed into a f).place ≡ f.place
 resumed_place None a f = refl
 resumed_place (Some x) a f = refl
@@ -32,13 +35,15 @@ assigns_alike S x (Plain a) p p' q f s = (le_refl 0, s _)
 assigns_alike S x (Unary op a) p p' q f s = (le_refl 1, s _)
 assigns_alike S x (Binary op a b) p p' q f s = binary (traps op (operand_value f.values b))
   where
-    binary : (b' : Bool) → Alike S (cond b' (Traps ZeroDivisor 1) (Continues 1 (assigned x (value_of_op op (operand_value f.values a) (operand_value f.values b)) p f))) (cond b' (Traps ZeroDivisor 1) (Continues 1 (assigned x (value_of_op op (operand_value f.values a) (operand_value f.values b)) p' f)))
+    binary : (b' : Bool) → Alike S (if b' then Traps ZeroDivisor 1 else Continues 1 (assigned x (value_of_op op (operand_value f.values a) (operand_value f.values b)) p f)) (if b' then Traps ZeroDivisor 1 else Continues 1 (assigned x (value_of_op op (operand_value f.values a) (operand_value f.values b)) p' f))
     binary true = refl
     binary false = (le_refl 1, s _)
 
+-- a frame, and the same at the number that its place gets
 pub shifted_to : (to : ℕ → ℕ) (P : ℕ → Type 0) (s : ℕ) (f g : Frame) → f.place ≡ s → P s → g ≡ at (to s) f → Shifted to P f g
 shifted_to to P s f g e p is = record { good = subst P (sym e) p; is = is ∙ ap (λ n. at (to n) f) (sym e) }
 
+-- a redirected node does what the node does, at corresponding places
 pub redirects_alike : (received : List ℕ) (to : ℕ → ℕ) (P : ℕ → Type 0) (o : Option Node) → ((slot s : ℕ) → slice_get (succs_of o) slot ≡ Some s → P s) → (f : Frame) (q : ℕ) → Alike (Shifted to P) (node_transition received o f) (node_transition received (option_map (redirected to) o) (at q f))
 redirects_alike received to P None good f q = refl
 redirects_alike received to P (Some (Start next)) good f q = (le_refl 0, record { good = good 0 next refl; is = refl })
@@ -48,7 +53,7 @@ redirects_alike received to P (Some (Print a next)) good f q = (refl, record { g
 redirects_alike received to P (Some (Call into unit operands next)) good f q = (refl, refl, λ a fits. shifted_to to P next (resumed into a (at next f)) (resumed into a (at (to next) f)) (resumed_place into a (at next f)) (good 0 next refl) (resumed_at into a next (to next) f))
 redirects_alike received to P (Some (Test test taken other)) good f q = (le_refl 0, chosen (test_holds f.values test))
   where
-    chosen : (b : Bool) → Shifted to P (at (cond b taken other) f) (at (cond b (to taken) (to other)) (at q f))
+    chosen : (b : Bool) → Shifted to P (at (if b then taken else other) f) (at (if b then to taken else to other) (at q f))
     chosen true = record { good = good 0 taken refl; is = refl }
     chosen false = record { good = good 1 other refl; is = refl }
 redirects_alike received to P (Some (Return a)) good f q = refl

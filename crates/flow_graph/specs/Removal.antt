@@ -1,5 +1,6 @@
--- Law: assignments whose variable is not live after them may be removed.
-use Rattle.std.proofs.Common.{◌≡◌, ℕ, ◌+◌, ◌<◌, ◌≤◌, false, cond, eqb, List, [], ◌∷◌, ◌++◌, length, slice_get, Option, Some, None, option_map, ◌⊎◌, inl, inr, refl, sym, ap, ◌∙◌, subst, arith, append-nil}
+-- Law: assignments whose variable is not live after them may be removed. For proofs only, of a pass that removes
+-- them.
+use Rattle.std.proofs.Common.{◌≡◌, ℕ, ◌+◌, ◌<◌, ◌≤◌, false, if◌then◌else◌, nat_eq, List, [], ◌∷◌, ◌++◌, length, slice_get, Option, Some, None, option_map, ◌⊎◌, inl, inr, refl, sym, ap, ◌∙◌, subst, arith, append-nil}
 use Rattle.std.proofs.lemmas.Bool.{cases_Bool, true≢false, eqb-true}
 use Rattle.mir_base.specs.declared.instructions.Rhs.{Rhs}
 use Rattle.mir_base.specs.Frames.{Values}
@@ -10,11 +11,12 @@ use Rattle.flow_graph.specs.declared.nodes.Node.{Node}
 use Rattle.flow_graph.specs.declared.nodes.Node.TheVariants.{Start, Skip, Assign, Print, Call, Test, Return}
 use Rattle.mir_base.specs.EqualValues.{EqualOn}
 use Rattle.flow_graph.specs.Graphs.{GraphShape, IsGraph, node_reads, assigns, succs_of}
-use Rattle.flow_graph.specs.InsertionNodes.{some_at}
+use Rattle.flow_graph.specs.ListLaws.{some_at}
 use Rattle.flow_graph.specs.Over.{weigh, weight_at, new_weight_at}
 use Rattle.flow_graph.specs.InsertionRunLaws.{rewritten_same, rewritten_cheaper}
 use Rattle.flow_graph.specs.InsertionRuns.{Preserves, counts}
 use Rattle.flow_graph.specs.Insertions.{Change, Kept, Replaced, Removed, Rewriting, changed, ChangeBelow, CanRewrite, rewritten_nodes}
+use Rattle.flow_graph.specs.NodeLaws.{changed_kept}
 use Rattle.flow_graph.specs.Machines.{graph_machine}
 use Rattle.flow_graph.specs.Paths.{HasEdge}
 use Rattle.flow_graph.specs.Sums.{sum_on}
@@ -65,9 +67,9 @@ module _ (graph : GraphShape) (changes : ℕ → Change) (Live : ℕ → ℕ →
         let dead = removes.dead n s x rhs is change in (
           dead.1 v,
           record {
-            equal = λ y live. elim (cases_Bool (eqb y x)) [
+            equal = λ y live. elim (cases_Bool (nat_eq y x)) [
               | inl same ↦ absurd (dead.0 (subst (Live s) (eqb-true y x same) live))
-              | inr differ ↦ ap (λ b. cond b (rhs_value v rhs) (v y)) differ ∙ holds.equal y (removes.back n s y (Assign x rhs s) is (0, next_edge n s x rhs is) live differ)
+              | inr differ ↦ ap (λ b. (if b then rhs_value v rhs else v y)) differ ∙ holds.equal y (removes.back n s y (Assign x rhs s) is (0, next_edge n s x rhs is) live differ)
             ];
           },
         );
@@ -89,22 +91,13 @@ module _ (graph : GraphShape) (changes : ℕ → Change) (Live : ℕ → ℕ →
           let node = some_at graph.nodes n lt in
           elim (removes.only n node.0 node.1) [ inl kept ↦ subst (ChangeBelow (length (graph.vars ++ []))) (sym kept) tt | inr removed ↦ subst (ChangeBelow (length (graph.vars ++ []))) (sym removed.0) tt ]
 
-  -- the graph without them does the same, and counts no more
+  -- the graph without them does the same, and evaluates no more operators
   pub removal_same : UnitSame (graph_machine graph.received graph.nodes) (graph_machine graph.received (rewritten_nodes (removing changes) graph.nodes))
   removal_same = rewritten_same (removing changes) [] graph LiveEqual removal_fits is_graph removal_preserves
 
   weighs_less : (n : ℕ) → new_weight_at counts (removing changes) graph.nodes n ≤ weight_at counts graph.nodes n
   weighs_less n = from (slice_get graph.nodes n) refl
     where
-      kept_weight : (node : Node) → weigh counts (Some (changed Kept node)) ≤ weigh counts (Some node)
-      kept_weight (Start next) = omega arith
-      kept_weight (Skip next) = omega arith
-      kept_weight (Assign x rhs next) = omega arith
-      kept_weight (Print a next) = omega arith
-      kept_weight (Call into unit operands next) = omega arith
-      kept_weight (Test test taken other) = omega arith
-      kept_weight (Return a) = omega arith
-
       removed_weight : (node : Node) → weigh counts (Some (changed Removed node)) ≤ weigh counts (Some node)
       removed_weight (Start next) = omega arith
       removed_weight (Skip next) = omega arith
@@ -117,7 +110,7 @@ module _ (graph : GraphShape) (changes : ℕ → Change) (Live : ℕ → ℕ →
       from : (o : Option Node) → slice_get graph.nodes n ≡ o → 0 + weigh counts (option_map (changed (changes n)) o) ≤ weigh counts o
       from None is = omega arith
       from (Some node) is = elim (removes.only n node is) [
-        | inl kept ↦ (let e = ap (λ c. weigh counts (Some (changed c node))) kept in omega (arith, e, kept_weight node))
+        | inl kept ↦ (let e = ap (λ c. weigh counts (Some (changed c node))) kept in omega (arith, e, ap {B = ℕ} (λ m. weigh counts (Some m)) (changed_kept node)))
         | inr removed ↦ (let e = ap (λ c. weigh counts (Some (changed c node))) removed.0 in omega (arith, e, removed_weight node))
       ]
 

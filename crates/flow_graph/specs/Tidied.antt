@@ -1,4 +1,4 @@
--- Units from bodies whose variables have any numbers.
+-- Units from bodies whose variables have any numbers. Cited by contracts of `tidied`.
 use Rattle.std.specs.Prelude.{ℕ, List, [], map, slice_index_or}
 use Rattle.mir_base.specs.declared.instructions.Inst.{Inst}
 use Rattle.mir_base.specs.Shapes.{UnitShape}

@@ -1,9 +1,9 @@
 // The blocks of a graph.
 ghost use Rattle.std.specs.Prelude.{◌≡◌, ◌≢◌, ℕ, ◌+◌, ◌<◌, ◌++◌, [], ◌∷◌, length, replicate, slice_get, slice_index_or, slice_set, Some, IfOk, OnOk};
-ghost use Rattle.flow_graph.specs.Blocks.{AreBlocksOf, AreKept, IsFirst, IsFollowed, IsGlued, IsLast, IsPlaced, Stands, is_first, next_of, only};
+ghost use Rattle.flow_graph.specs.Blocks.{AreBlocksOf, AreOnlyBlocks, AreStored, IsFirst, IsBlockSoFar, IsGlued, IsLast, IsPlaced, StandsIn, is_first, next_of, only, IsUnplaced, GluedToPlaced, IsFollowedBlock};
 ghost use Rattle.flow_graph.specs.Edges.{edges_of};
 
-use crate::edges::part;
+use crate::tables::{bounds, filled, part};
 use crate::{Edges, Graph};
 use mir_base::{Items, Memory};
 use std::alloc::Global;
@@ -22,21 +22,24 @@ pub struct Blocks {
 
 impl Model for Blocks {
     ghost use Rattle.std.specs.Prelude.{length};
-    ghost use Rattle.flow_graph.specs.Blocks.{AreParts, BlocksShape, cut};
+    ghost use Rattle.flow_graph.specs.Blocks.{AreParts, BlocksShape, parts_at};
 
     ghost Value = { BlocksShape };
 
-    ghost view = { λ b. record { nodes = length b.block_of; lists = cut b.order b.starts } };
+    ghost view = { λ b. record { nodes = length b.block_of; lists = parts_at b.order b.starts } };
 
     ghost invariant = { λ b. AreParts b.order b.starts b.block_of };
 }
 
 impl Blocks {
-    /// The blocks of a graph, in time linear in nodes and edges; `edges` are those of `graph`. Its only refusal is want
-    /// of memory.
+    /// The blocks of a graph, in time linear in nodes and edges; `edges` are those of `graph`. It fails only with
+    /// `Memory`.
     pub fn of(alloc: Global, graph: &Graph, edges: &Edges) -> Result<Blocks, Memory>
         requires { edges.now ≡ edges_of graph.now.nodes }
-        ensures { IfOk result (λ blocks. AreBlocksOf graph.now.nodes blocks) }
+        ensures blocks { IfOk result (λ blocks. AreBlocksOf graph.now.nodes blocks) }
+
+        // no other lists of lists are the blocks of this graph
+        ensures only { IfOk result (λ blocks. AreOnlyBlocks graph.now.nodes blocks.lists) }
     {
         let nodes = graph.nodes().len();
         let mut order = Vec::with_capacity(alloc, nodes)?;
@@ -52,14 +55,14 @@ impl Blocks {
         })
     }
 
-    /// How many blocks there are. It takes no memory.
+    /// The number of blocks. It does not allocate.
     pub fn len(&self) -> usize
         ensures { result ≡ length self.now.lists }
     {
         self.starts.items().len() - 1
     }
 
-    /// The nodes of a block, in the order in which they are passed. It takes no memory.
+    /// The nodes of the block of this number, in the order in which they are passed. It does not allocate.
     pub fn nodes(&self, block: usize) -> &[usize]
         requires { block < length self.now.lists }
         ensures { slice_get self.now.lists block ≡ Some result.now }
@@ -68,29 +71,13 @@ impl Blocks {
         part(self.order.items(), first, end)
     }
 
-    /// The number of the block in which a node stands. It takes no memory.
+    /// The number of the block in which a node stands. It does not allocate.
     pub fn block_of(&self, node: usize) -> usize
         requires { node < self.now.nodes }
-        ensures { Stands self.now.lists result node }
+        ensures { StandsIn self.now.lists result node }
     {
         self.block_of.items()[node]
     }
-}
-
-/// A list of so many equal numbers.
-fn filled(alloc: Global, number: usize, count: usize) -> Result<Vec<usize>, Memory>
-    ensures { IfOk result (λ list. list.items ≡ replicate count number) }
-{
-    Ok(vec![in alloc; number; count]?)
-}
-
-/// Where a block begins and ends.
-fn bounds(starts: &[usize], block: usize) -> (usize, usize)
-    requires { block + 1 < length starts.now }
-    ensures first { result.0 ≡ slice_index_or starts.now block 0 }
-    ensures end { result.1 ≡ slice_index_or starts.now (block + 1) 0 }
-{
-    (starts[block], starts[block + 1])
 }
 
 /// Adds the block that begins at this node, if one does.
@@ -104,8 +91,9 @@ fn add(
 ) -> Result<(), Memory>
     requires edges { edges.now ≡ edges_of graph.now.nodes }
     requires there { head < length graph.now.nodes }
-    requires before { AreKept graph.now.nodes head order.old.items starts.old.items block_of.old }
-    ensures { OnOk result (AreKept graph.now.nodes (head + 1) order.new.items starts.new.items block_of.new) }
+    requires before { AreStored graph.now.nodes head order.old.items starts.old.items block_of.old }
+    ensures { OnOk result
+        (AreStored graph.now.nodes (head + 1) order.new.items starts.new.items block_of.new) }
 {
     if !is_first(graph, edges, head) {
         return Ok(());
@@ -130,9 +118,11 @@ fn follow(
     requires block { block < length graph.now.nodes }
     requires first { IsFirst graph.now.nodes head }
     requires long { length block_of.old ≡ length graph.now.nodes }
-    requires unplaced { slice_index_or block_of.old head (length graph.now.nodes) ≡ length graph.now.nodes }
-    requires closed { (m n : ℕ) → IsGlued graph.now.nodes m n → IsPlaced (length graph.now.nodes) block_of.old n → IsPlaced (length graph.now.nodes) block_of.old m }
-    ensures { OnOk result ((node : ℕ) × IsFollowed graph.now.nodes head node block order.old.items order.new.items block_of.old block_of.new × IsLast graph.now.nodes node) }
+    requires unplaced { IsUnplaced (length graph.now.nodes) block_of.old head }
+    requires closed { GluedToPlaced graph.now.nodes block_of.old }
+    ensures { OnOk result
+        (IsFollowedBlock graph.now.nodes head block order.old.items order.new.items
+        block_of.old block_of.new) }
 {
     let _nodes = graph.nodes();
     let mut node = head;
@@ -160,7 +150,7 @@ fn put(
     Ok(())
 }
 
-/// The node after this one in its block.
+/// The node after `node` in its block, where there is one.
 fn next(graph: &Graph, edges: &Edges, node: usize) -> Option<usize>
     requires edges { edges.now ≡ edges_of graph.now.nodes }
     requires there { node < length graph.now.nodes }

@@ -1,9 +1,10 @@
 // The edges of a graph, by source and by target.
-ghost use Rattle.std.specs.Prelude.{◌≡◌, ◌<◌, ◌≤◌, length, slice_get, slice_range, suc, IfOk, Some};
+ghost use Rattle.std.specs.Prelude.{◌≡◌, ◌<◌, ◌≤◌, length, slice_get, slice_range, suc, IfOk, Some, ◌+◌};
 ghost use Rattle.flow_graph.specs.Edges.{by_target, edges_of, first_entering, first_leaving, preds_among};
 
 use crate::Graph;
 use crate::edge_lists::{entries, list, sort, sources};
+use crate::tables::{bounds, part};
 use mir_base::{Items, Memory};
 use std::alloc::Global;
 use std::marker::Model;
@@ -41,7 +42,7 @@ impl Model for Edges {
 }
 
 impl Edges {
-    /// The edges of a graph, in time linear in nodes and edges. Its only refusal is want of memory.
+    /// The edges of a graph, in time linear in nodes and edges. It fails only with `Memory`.
     pub fn of(alloc: Global, graph: &Graph) -> Result<Edges, Memory>
         ensures { IfOk result (λ edges. edges ≡ edges_of graph.now.nodes) }
     {
@@ -65,14 +66,14 @@ impl Edges {
         })
     }
 
-    /// How many edges there are. It takes no memory.
+    /// The number of edges. It does not allocate.
     pub fn len(&self) -> usize
         ensures { result ≡ length self.now.edges }
     {
         self.edges.items().len()
     }
 
-    /// The edge of this number. It takes no memory.
+    /// The edge of this number. It does not allocate.
     pub fn edge(&self, number: usize) -> Edge
         requires { number < length self.now.edges }
         ensures { slice_get self.now.edges number ≡ Some result }
@@ -80,18 +81,17 @@ impl Edges {
         self.edges.items()[number]
     }
 
-    /// The numbers of the edges that leave a node: from the first answer up to, and not including, the second. It takes
-    /// no memory.
+    /// The numbers of the edges that leave a node: from the first answer up to, and not including, the second. It does
+    /// not allocate.
     pub fn leaving(&self, node: usize) -> (usize, usize)
         requires { node < self.now.nodes }
         ensures first { result.0 ≡ first_leaving node self.now.edges }
         ensures end { result.1 ≡ first_leaving (suc node) self.now.edges }
     {
-        let starts = self.starts.items();
-        (starts[node], starts[node + 1])
+        bounds(self.starts.items(), node)
     }
 
-    /// The edge of this number by target. It takes no memory.
+    /// The edge of this number by target. It does not allocate.
     pub fn entering_edge(&self, number: usize) -> Edge
         requires { number < length (by_target self.now.nodes self.now.edges) }
         ensures { slice_get (by_target self.now.nodes self.now.edges) number ≡ Some result }
@@ -100,17 +100,16 @@ impl Edges {
     }
 
     /// The numbers by target of the edges that enter a node: from the first answer up to, and not including, the
-    /// second. It takes no memory.
+    /// second. It does not allocate.
     pub fn entering(&self, node: usize) -> (usize, usize)
         requires { node < self.now.nodes }
         ensures first { result.0 ≡ first_entering node self.now.edges }
         ensures end { result.1 ≡ first_entering (suc node) self.now.edges }
     {
-        let entries = self.entries.items();
-        (entries[node], entries[node + 1])
+        bounds(self.entries.items(), node)
     }
 
-    /// The sources of the edges that enter a node, one entry for each edge. It takes no memory.
+    /// The sources of the edges that enter a node, one entry for each edge. It does not allocate.
     pub fn preds(&self, node: usize) -> &[usize]
         requires { node < self.now.nodes }
         ensures { result.now ≡ preds_among node self.now.edges }
@@ -118,13 +117,4 @@ impl Edges {
         let (first, end) = self.entering(node);
         part(self.sources.items(), first, end)
     }
-}
-
-/// The numbers from place `first` up to, and not including, place `end`.
-pub(crate) fn part(numbers: &[usize], first: usize, end: usize) -> &[usize]
-    requires ordered { first ≤ end }
-    requires within { end ≤ length numbers.now }
-    ensures { result.now ≡ slice_range numbers.now first end }
-{
-    &numbers[first..end]
 }

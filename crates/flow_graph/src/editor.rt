@@ -2,13 +2,13 @@
 ghost use Rattle.std.specs.Prelude.{◌≡◌, [], ◌∷◌, ◌++◌, ◌+◌, ◌<◌, ◌≤◌, ℕ, nat_lt, length, slice_get, slice_index_or, take, IfOk, IsTrue, OnOk, Some};
 ghost use Rattle.mir_base.specs.Shapes.{AllBelow, AllDiffer, rhs_vars};
 ghost use Rattle.node_list.specs.Lists.{is_listed, list_at, node_after};
-ghost use Rattle.flow_graph.specs.Edited.{edited_from, leads, number_in};
+ghost use Rattle.flow_graph.specs.Edited.{edited_from, leads, number_or_none, AreFirsts, OldsLeadToOlds};
 ghost use Rattle.flow_graph.specs.Editing.{change_to, graph_changed, graph_extended, graph_put, is_assignment, rhs_below};
 ghost use Rattle.flow_graph.specs.Graphs.{SuccsBelow};
 ghost use Rattle.flow_graph.specs.Insertions.{changed};
 ghost use Rattle.flow_graph.specs.Kept.{redirected};
 
-use crate::keep::redirect;
+use crate::nodes::redirect;
 use crate::sharing::Names;
 use crate::{Graph, Node};
 use mir_base::{Items, Memory, Name, Rhs};
@@ -17,11 +17,11 @@ use std::alloc::{AllocError, Global};
 use std::marker::Model;
 use std::mem;
 
-/// A graph that is being edited, with room for some more nodes. Contracts see it as the graph and how many assignments
-/// there still is room for.
+/// A graph that is being edited: `open` takes a graph, `put_before` and `change` edit it, and `close` gives the graph.
+/// Contracts see it as the graph as it stands and the number of assignments for which there is still room.
 ///
-/// Each old node has a list of nodes that ends with it: the new ones before it, in order, and then the node. Edges lead to
-/// lists.
+/// Each old node has a list of nodes that ends with it: the new ones before it, in order, and then the node. An edge of an
+/// old node leads to the first node of its target's list; the edge of a new node leads to the next node of its own list.
 #[derive(Drop)]
 pub struct Editor {
     name: Name,
@@ -35,23 +35,31 @@ pub struct Editor {
 }
 
 impl Model for Editor {
-    ghost use Rattle.std.specs.Prelude.{◌-◌, length, take};
-    ghost use Rattle.flow_graph.specs.Edited.{edited_from, HoldsEdits};
+    ghost use Rattle.std.specs.Prelude.{◌-◌, length};
+    ghost use Rattle.flow_graph.specs.Edited.{edited_nodes, HoldsEdits};
     ghost use Rattle.flow_graph.specs.Editing.{EditorShape};
 
     ghost Value = { EditorShape };
 
     ghost view = { λ editor. record {
-      graph = record { name = editor.name; vars = editor.vars; received = editor.received; nodes = edited_from editor.links.lists 0 (take editor.used editor.nodes.items) };
+      graph = record {
+        name = editor.name;
+        vars = editor.vars;
+        received = editor.received;
+        nodes = edited_nodes editor.links.lists editor.used editor.nodes.items;
+      };
       spare = length editor.nodes.items - editor.used;
     } };
 
-    ghost invariant = { λ editor. HoldsEdits editor.vars editor.received editor.nodes.items editor.olds editor.used editor.links };
+    ghost invariant = { λ editor.
+        HoldsEdits editor.vars editor.received editor.nodes.items
+        editor.olds editor.used editor.links };
 }
 
 impl Editor {
-    /// The graph with these variables after its own, and with room for so many new assignments. The memory for them is
-    /// taken here, and want of it is the only refusal.
+    /// The graph with the variables `extra` after its own, and with room for `room` new assignments. The names of the
+    /// graph's variables and of `extra` together are distinct. All memory for the edits is allocated here. It fails only
+    /// with `Memory`.
     pub fn open(
         alloc: Global,
         graph: &Graph,
@@ -59,7 +67,7 @@ impl Editor {
         room: usize,
     ) -> Result<Editor, Memory>
         requires { AllDiffer (graph.now.vars ++ extra.items) }
-        ensures graph { IfOk result (λ editor. editor.graph ≡ graph_extended extra.items graph.now) }
+        ensures graph { IfOk result (λ made. made.graph ≡ graph_extended extra.items graph.now) }
         ensures spare { IfOk result (λ editor. editor.spare ≡ room) }
     {
         let Some(total) = graph.len().checked_add(room) else {
@@ -82,8 +90,9 @@ impl Editor {
         })
     }
 
-    /// Puts a new assignment before a node. It gets the next number, all edges that entered the node enter it, and its
-    /// successor is the node. It takes no memory.
+    /// Puts the assignment of `rhs` to the variable `x` before `node`. It gets the next number, all edges that entered the
+    /// node enter it, and its successor is the node. There is room for it, `node` is a node of the graph and not Start,
+    /// and `x` and the variables of `rhs` are variables of the graph. It does not allocate.
     pub fn put_before(&mut self, node: usize, x: usize, rhs: Rhs)
         requires spare { 1 ≤ self.old.spare }
         requires some { 1 ≤ node }
@@ -99,7 +108,8 @@ impl Editor {
         self.used = new + 1;
     }
 
-    /// Gives an assignment another right side, or makes it a Skip where there is none. It takes no memory.
+    /// Gives an assignment the right side `rhs`, or makes it a Skip where `rhs` is `None`. `node` is an assignment, and the
+    /// variables of `rhs` are variables of the graph. It does not allocate.
     pub fn change(&mut self, node: usize, rhs: Option<Rhs>)
         requires node { IsTrue (is_assignment (slice_get self.old.graph.nodes node)) }
         requires rhs { rhs_below (length self.old.graph.vars) rhs }
@@ -110,7 +120,7 @@ impl Editor {
         self.nodes[node] = changed(old, rhs);
     }
 
-    /// The graph. Its only refusal is want of memory.
+    /// The graph with all edits made. It fails only with `Memory`.
     pub fn close(self) -> Result<Graph, Memory>
         ensures { IfOk result (λ graph. graph ≡ self.graph) }
     {
@@ -128,7 +138,7 @@ impl Editor {
     }
 }
 
-/// Copies of the nodes, and so many Skips after them.
+/// Copies of the nodes, and `room` Skips after them.
 fn with_room(alloc: Global, nodes: &[Node], room: usize) -> Result<Vec<Node>, Memory>
     ensures all { IfOk result (λ all. take (length nodes.now) all.items ≡ nodes.now) }
     ensures long { IfOk result (λ all. length all.items ≡ length nodes.now + room) }
@@ -143,7 +153,7 @@ fn with_room(alloc: Global, nodes: &[Node], room: usize) -> Result<Vec<Node>, Me
     Ok(all)
 }
 
-/// So many lists, each with its own number, for nodes numbered below `total`.
+/// `lists` lists, each of which has its own number alone, for nodes numbered below `total`.
 fn one_each(alloc: Global, total: usize, lists: usize) -> Result<Links, Memory>
     requires { lists ≤ total }
     ensures nodes { IfOk result (λ links. links.nodes ≡ total) }
@@ -180,7 +190,7 @@ fn changed(node: Node, rhs: Option<Rhs>) -> Node
 fn first_nodes(alloc: Global, links: &Links, lists: usize) -> Result<Vec<usize>, Memory>
     requires { length links.now.lists ≡ lists }
     ensures long { IfOk result (λ firsts. length firsts.items ≡ lists) }
-    ensures each { IfOk result (λ firsts. (s : ℕ) → s < lists → slice_get firsts.items s ≡ Some (number_in (slice_get (list_at links.now.lists s) 0))) }
+    ensures each { IfOk result (λ firsts. AreFirsts lists links.now.lists firsts.items) }
 {
     let mut firsts = Vec::new(alloc);
     for list in 0..lists {
@@ -189,7 +199,7 @@ fn first_nodes(alloc: Global, links: &Links, lists: usize) -> Result<Vec<usize>,
     Ok(firsts)
 }
 
-/// The nodes with their edges.
+/// The nodes with their edges: the first `firsts.len()` of them are the old ones.
 fn led_nodes(
     alloc: Global,
     nodes: Vec<Node>,
@@ -197,9 +207,9 @@ fn led_nodes(
     links: &Links,
 ) -> Result<Vec<Node>, Memory>
     requires count { length links.now.lists ≡ length firsts.now }
-    requires firsts { (s : ℕ) → s < length firsts.now → slice_get firsts.now s ≡ Some (number_in (slice_get (list_at links.now.lists s) 0)) }
+    requires firsts { AreFirsts (length firsts.now) links.now.lists firsts.now }
     requires listed { (n : ℕ) → n < length nodes.items → IsTrue (is_listed links.now.lists n) }
-    requires below { (n : ℕ) (node : Node) → n < length firsts.now → slice_get nodes.items n ≡ Some node → SuccsBelow (length firsts.now) node }
+    requires below { OldsLeadToOlds (length firsts.now) nodes.items }
     ensures { IfOk result (λ led. led.items ≡ edited_from links.now.lists 0 nodes.items) }
 {
     let mut led = Vec::new(alloc);
@@ -211,10 +221,10 @@ fn led_nodes(
     Ok(led)
 }
 
-/// A node with its edges.
+/// The node of this number with its edges.
 fn led_node(number: usize, node: Node, firsts: &[usize], links: &Links) -> Node
     requires count { length links.now.lists ≡ length firsts.now }
-    requires firsts { (s : ℕ) → s < length firsts.now → slice_get firsts.now s ≡ Some (number_in (slice_get (list_at links.now.lists s) 0)) }
+    requires firsts { AreFirsts (length firsts.now) links.now.lists firsts.now }
     requires listed { IsTrue (is_listed links.now.lists number) }
     requires below { number < length firsts.now → SuccsBelow (length firsts.now) node }
     ensures { result ≡ redirected (leads links.now.lists number) node }

@@ -1,16 +1,18 @@
 // The instructions that a plan emits.
 ghost use Rattle.std.specs.Prelude.{◌≡◌, ℕ, ◌+◌, ◌^◌, ◌<◌, ◌≤◌, [], ◌∷◌, ◌++◌, length, reverse, replicate, slice_index_or, IfOk, OnOk, Some};
 ghost use Rattle.std.specs.Option.{option_to_list};
-ghost use Rattle.flow_graph.specs.Graphs.{AllWithin, IsWithin};
+ghost use Rattle.flow_graph.specs.Graphs.{AllWithin, IsBelow};
 ghost use Rattle.flow_graph.specs.Layouts.{emitted_by, item_insts, item_size, plain_body};
 ghost use Rattle.flow_graph.specs.Placing.{ArePlaces, ItemsWithin, places_after, taken_of};
+ghost use Rattle.flow_graph.specs.Tables.{number_at};
 
 use crate::Node;
 use crate::plan::Item;
+use crate::tables::filled;
 use mir_base::{Inst, Memory};
 use std::alloc::Global;
 
-/// The place of each node: how many instructions there are before it, the receives included.
+/// The place of each node: the number of instructions before it, the receives included.
 pub(crate) fn places(
     alloc: Global,
     nodes: &[Node],
@@ -19,9 +21,10 @@ pub(crate) fn places(
 ) -> Result<Vec<usize>, Memory>
     requires items { ItemsWithin (length nodes.now) items.now }
     requires room { receives + length items.now < 2 ^ 64 }
-    ensures { IfOk result (λ places. ArePlaces nodes.now receives (reverse items.now) places.items) }
+    ensures { IfOk result (λ places.
+        ArePlaces nodes.now receives (reverse items.now) places.items) }
 {
-    let mut places = zeros(alloc, nodes.len())?;
+    let mut places = filled(alloc, 0, nodes.len())?;
     let mut place = receives;
     for item in items {
         set_place(&mut places, *item, place);
@@ -30,14 +33,7 @@ pub(crate) fn places(
     Ok(places)
 }
 
-/// So many zeros.
-fn zeros(alloc: Global, count: usize) -> Result<Vec<usize>, Memory>
-    ensures { IfOk result (λ zeros. zeros.items ≡ replicate count 0) }
-{
-    Ok(vec![in alloc; 0; count]?)
-}
-
-/// Notes the place of a node that is placed.
+/// Writes the place of a node that is placed into the table.
 fn set_place(places: &mut Vec<usize>, item: Item, place: usize)
     requires { ItemsWithin (length places.old.items) (item ∷ []) }
     ensures { places.new.items ≡ places_after places.old.items item place }
@@ -47,7 +43,7 @@ fn set_place(places: &mut Vec<usize>, item: Item, place: usize)
     }
 }
 
-/// How many instructions an item emits.
+/// The number of instructions that an item emits.
 fn item_size(nodes: &[Node], item: Item) -> usize
     requires { ItemsWithin (length nodes.now) (item ∷ []) }
     ensures size { result ≡ item_size nodes.now item }
@@ -59,7 +55,7 @@ fn item_size(nodes: &[Node], item: Item) -> usize
     }
 }
 
-/// How many instructions a node emits.
+/// The number of instructions that a node emits.
 fn node_size(node: &Node) -> usize
     ensures size { result ≡ length (emitted_by (λ n. n) (Some node.now)) }
     ensures few { result ≤ 1 }
@@ -86,7 +82,8 @@ pub(crate) fn emit(
     requires within { AllWithin nodes.now }
     requires items { ItemsWithin (length nodes.now) items.now }
     requires places { ArePlaces nodes.now (length received.now) (reverse items.now) places.now }
-    ensures { IfOk result (λ body. body.items ≡ plain_body received.now nodes.now (reverse items.now)) }
+    ensures { IfOk result (λ body.
+        body.items ≡ plain_body received.now nodes.now (reverse items.now)) }
 {
     let mut body = Vec::with_capacity(alloc, items.len())?;
     for x in received {
@@ -114,7 +111,8 @@ fn emit_item(nodes: &[Node], places: &[usize], item: Item) -> Result<Option<Inst
     requires within { AllWithin nodes.now }
     requires long { length places.now ≡ length nodes.now }
     requires item { ItemsWithin (length nodes.now) (item ∷ []) }
-    ensures { IfOk result (λ inst. option_to_list inst ≡ item_insts nodes.now (λ n. slice_index_or places.now n 0) item) }
+    ensures { IfOk result (λ inst.
+        option_to_list inst ≡ item_insts nodes.now (number_at places.now) item) }
 {
     match item {
         Item::Placed(node) => emit_node(places, &nodes[node]),
@@ -124,8 +122,9 @@ fn emit_item(nodes: &[Node], places: &[usize], item: Item) -> Result<Option<Inst
 
 /// The instruction that a node emits.
 fn emit_node(places: &[usize], node: &Node) -> Result<Option<Inst>, Memory>
-    requires { IsWithin (length places.now) (taken_of (Some node.now)) }
-    ensures { IfOk result (λ inst. option_to_list inst ≡ emitted_by (λ n. slice_index_or places.now n 0) (Some node.now)) }
+    requires { IsBelow (length places.now) (taken_of (Some node.now)) }
+    ensures { IfOk result (λ inst.
+        option_to_list inst ≡ emitted_by (number_at places.now) (Some node.now)) }
 {
     Ok(match node {
         Node::Start(_) => None,

@@ -27,20 +27,25 @@ impl Model for Graph {
 
     ghost Value = { GraphShape };
 
-    ghost view = { λ graph. record { name = graph.name; vars = graph.vars; received = graph.received; nodes = graph.nodes } };
+    ghost view = { λ graph. record {
+      name = graph.name;
+      vars = graph.vars;
+      received = graph.received;
+      nodes = graph.nodes;
+    } };
 
     ghost invariant = { λ graph. IsGraph graph.vars graph.received graph.nodes };
 }
 
 impl Graph {
-    /// How many nodes there are. It takes no memory.
+    /// The number of nodes. It does not allocate.
     pub fn len(&self) -> usize
         ensures { result ≡ length self.now.nodes }
     {
         self.nodes.items().len()
     }
 
-    /// The node of this number. It takes no memory.
+    /// The node of this number. It does not allocate.
     pub fn node(&self, node: usize) -> &Node
         requires { node < length self.now.nodes }
         ensures { slice_get self.now.nodes node ≡ Some result.now }
@@ -49,7 +54,7 @@ impl Graph {
     }
 
     /// The successors of the node of this number, in order: of a Test `taken` and then `other`, of a Return none. It
-    /// takes no memory.
+    /// does not allocate.
     pub fn succs(&self, node: usize) -> SmallVec<usize, 2>
         requires { node < length self.now.nodes }
         ensures { result.items ≡ succs_at self.now.nodes node }
@@ -58,7 +63,7 @@ impl Graph {
         succs_of(self.alloc, node)
     }
 
-    /// All nodes, by number. It takes no memory.
+    /// All nodes, by number. It does not allocate.
     pub fn nodes(&self) -> &[Node]
         ensures value { result.now ≡ self.now.nodes }
         ensures graph { IsGraph self.now.vars self.now.received result.now }
@@ -66,28 +71,28 @@ impl Graph {
         self.nodes.items()
     }
 
-    /// The name of the unit. It takes no memory.
+    /// The name of the unit. It does not allocate.
     pub fn name(&self) -> &Name
         ensures { result.now ≡ self.now.name }
     {
         &self.name
     }
 
-    /// The names of the variables, by number. It takes no memory.
+    /// The names of the variables, by number. It does not allocate.
     pub fn vars(&self) -> &[Name]
         ensures { result.now ≡ self.now.vars }
     {
         self.vars.items()
     }
 
-    /// The same names, to be shared. It takes no memory.
+    /// The same names, to be shared. It does not allocate.
     pub(crate) fn shared_names(&self) -> &Names
         ensures { result.now ≡ self.now.vars }
     {
         &self.vars
     }
 
-    /// The received variables, in the order of the arguments. It takes no memory.
+    /// The received variables, in the order of the arguments. It does not allocate.
     pub fn received(&self) -> &[usize]
         ensures { result.now ≡ self.now.received }
     {

@@ -1,8 +1,9 @@
 // Graphs from lists of nodes: the nodes that are reached are kept and renumbered.
-ghost use Rattle.std.specs.Prelude.{◌≡◌, ℕ, ◌<◌, [], ◌∷◌, ◌++◌, cond, length, map, slice_index_or, IfOk, OnOk};
-ghost use Rattle.flow_graph.specs.Graphs.{AllWithin, CanMake, SuccsBelow};
-ghost use Rattle.flow_graph.specs.Kept.{redirected, rank, marked, AreRanks, IsMade};
+ghost use Rattle.std.specs.Prelude.{◌≡◌, ℕ, ◌<◌, [], ◌∷◌, ◌++◌, cond, length, map, IfOk, OnOk, if◌then◌else◌};
+ghost use Rattle.flow_graph.specs.Graphs.{AllWithin, CanMake};
+ghost use Rattle.flow_graph.specs.Kept.{redirected, marked_below, marked, AreRanks, IsMade, kept_nodes};
 
+use crate::nodes::redirect;
 use crate::reach::reach;
 use crate::sharing::Names;
 use crate::{Graph, Node};
@@ -32,7 +33,7 @@ pub(crate) fn make(
     })
 }
 
-/// For each node, how many before it are marked: the number that it gets.
+/// For each node, the number of marked nodes before it: the number that it gets.
 fn ranks(alloc: Global, marks: &[bool]) -> Result<Vec<usize>, Memory>
     ensures { IfOk result (λ ranks. AreRanks marks.now ranks.items) }
 {
@@ -57,7 +58,7 @@ fn keep(
     requires long { length marks.now ≡ length nodes.items }
     requires ranks { AreRanks marks.now ranks.now }
     requires within { AllWithin nodes.items }
-    ensures { IfOk result (λ kept. kept.items ≡ map (redirected (rank marks.now)) (marked marks.now nodes.items)) }
+    ensures { IfOk result (λ kept. kept.items ≡ kept_nodes marks.now nodes.items) }
 {
     let mut kept = Vec::with_capacity(alloc, nodes.len())?;
     let mut number = 0;
@@ -71,26 +72,11 @@ fn keep(
 
 /// Pushes the node where it is marked.
 fn push_if(kept: &mut Vec<Node>, marked: bool, node: Node) -> Result<(), Memory>
-    ensures { OnOk result (kept.new.items ≡ cond marked (kept.old.items ++ node ∷ []) kept.old.items) }
+    ensures { OnOk result
+        (kept.new.items ≡ if marked then kept.old.items ++ node ∷ [] else kept.old.items) }
 {
     if marked {
         kept.push(node)?;
     }
     Ok(())
-}
-
-/// The node with other numbers for its successors.
-pub(crate) fn redirect(node: Node, to: &[usize]) -> Node
-    requires { SuccsBelow (length to.now) node }
-    ensures { result ≡ redirected (λ n. slice_index_or to.now n 0) node }
-{
-    match node {
-        Node::Start(next) => Node::Start(to[next]),
-        Node::Skip(next) => Node::Skip(to[next]),
-        Node::Assign(x, rhs, next) => Node::Assign(x, rhs, to[next]),
-        Node::Print(a, next) => Node::Print(a, to[next]),
-        Node::Call(into, unit, args, next) => Node::Call(into, unit, args, to[next]),
-        Node::Test(test, taken, other) => Node::Test(test, to[taken], to[other]),
-        Node::Return(a) => Node::Return(a),
-    }
 }

@@ -1,7 +1,7 @@
 // The unit of a graph.
 ghost use Rattle.std.specs.Prelude.{◌≡◌, ℕ, ◌<◌, length, slice_get, IfOk};
 ghost use Rattle.mir_base.specs.UnitRuns.{UnitCheaper, UnitSame, unit_machine};
-ghost use Rattle.flow_graph.specs.Calls.{BodyCalls, NodesCall};
+ghost use Rattle.flow_graph.specs.Calls.{BodyCalls, NodesCall, CallsAmong};
 ghost use Rattle.flow_graph.specs.Graphs.{IsGraph};
 ghost use Rattle.flow_graph.specs.Keeps.{AsGraph, AsUnit, Keeps};
 ghost use Rattle.flow_graph.specs.Layouts.{IsLaid, IsLayout};
@@ -17,12 +17,12 @@ use crate::{Graph, Node};
 use mir_base::{Inst, Items, Memory, Name, Unit as MirUnit};
 use std::alloc::Global;
 
-/// The unit of a graph. The receives stand first, and then traces of nodes. The first trace begins at Start's successor,
-/// and each later one at the `taken` successor of the first Test, in the order of placing, whose `taken` successor has
-/// no place yet. A trace goes on with the only successor of a node or the `other` of a Test; it ends after a Return, and
-/// with a Goto where that node has a place already. A Skip emits nothing. The variables of the unit are those that
-/// occur, in the order of their first occurrence. The unit does the same as the graph and counts no more. The time is
-/// linear in nodes and edges. The only refusal is want of memory.
+/// The unit of a graph. The receives stand first, and then traces of nodes. The first trace begins at Start's
+/// successor, and each later one at the `taken` successor of the first Test, in the order of placing, whose `taken`
+/// successor has no place yet. A trace goes on with the only successor of a node or the `other` of a Test; it ends
+/// after a Return, and with a Goto where that node has a place already. A Skip emits nothing. The variables of the unit
+/// are those that occur, in the order of their first occurrence. The unit does the same as the graph and evaluates no
+/// more operators. The time is linear in nodes and edges. It fails only with `Memory`.
 pub fn layout(alloc: Global, graph: &Graph) -> Result<MirUnit, Memory>
     ensures layout { IfOk result (λ unit. IsLayout graph.now unit) }
     ensures same { IfOk result (λ unit. UnitSame (machine_of graph.now) (unit_machine unit)) }
@@ -31,7 +31,8 @@ pub fn layout(alloc: Global, graph: &Graph) -> Result<MirUnit, Memory>
 
     // the unit can be lowered again, and makes no calls but those of the graph
     ensures lowers { IfOk result (λ unit. CanLower unit.body) }
-    ensures calls { IfOk result (λ unit. (called count : ℕ) → BodyCalls unit.body called count → NodesCall graph.now.nodes called count) }
+    ensures calls { IfOk result (λ unit.
+        CallsAmong (BodyCalls unit.body) (NodesCall graph.now.nodes)) }
 {
     let unit = layout_unit(alloc, graph)?;
     Ok(unit)
@@ -61,7 +62,8 @@ struct Laid {
 /// Lays out the nodes of a graph.
 fn lay(alloc: Global, vars: &[Name], received: &[usize], nodes: &[Node]) -> Result<Laid, Memory>
     requires { IsGraph vars.now received.now nodes.now }
-    ensures { IfOk result (λ laid. IsLaid vars.now received.now nodes.now laid.names.items laid.body.items) }
+    ensures { IfOk result (λ laid.
+        IsLaid vars.now received.now nodes.now laid.names.items laid.body.items) }
 {
     let items = plan(alloc, nodes, start_succ(nodes))?;
     let places = places(alloc, nodes, items.as_slice(), received.len())?;

@@ -6,7 +6,7 @@
 //! and which unit the calls answer.
 //!
 //! The theorem that this crate carries is that going into a graph and back changes nothing: what `lower`, `layout` and
-//! `with_nodes` answer does the same as what they take, and counts no more.
+//! `with_nodes` answer does the same as what they take, and evaluates no more operators.
 #![tactic(auto)]
 
 mod blocks;
@@ -26,8 +26,7 @@ mod rename;
 mod seen;
 mod sharing;
 mod split;
-#[cfg(test)]
-mod tests;
+mod tables;
 mod tidying;
 
 pub use blocks::Blocks;
@@ -36,6 +35,6 @@ pub use editor::Editor;
 pub use graphs::Graph;
 pub use laying::layout;
 pub use lowering::lower;
-pub use nodes::Node;
+pub use nodes::{Node, redirect};
 pub use split::is_split;
 pub use tidying::tidied;

@@ -2,8 +2,8 @@
 ghost use Rattle.std.specs.Prelude.{◌≡◌, ℕ, ◌+◌, ◌-◌, ◌^◌, ◌<◌, length, Some, All, IfOk};
 ghost use Rattle.mir_base.specs.Shapes.{inst_vars, receives_in, AllBelow, IsTidy};
 ghost use Rattle.mir_base.specs.UnitRuns.{UnitCheaper, UnitSame, unit_machine};
-ghost use Rattle.flow_graph.specs.Calls.{BodyCalls, NodesCall};
-ghost use Rattle.flow_graph.specs.Graphs.{IsWithin};
+ghost use Rattle.flow_graph.specs.Calls.{BodyCalls, NodesCall, CallsAmong};
+ghost use Rattle.flow_graph.specs.Graphs.{IsBelow};
 ghost use Rattle.flow_graph.specs.Keeps.{AsGraph, AsUnit, Keeps};
 ghost use Rattle.flow_graph.specs.Lowered.{CanLower, IsLowered, all_nodes, place_node, received_in, target_of};
 ghost use Rattle.flow_graph.specs.Machines.{machine_of};
@@ -16,17 +16,19 @@ use std::alloc::Global;
 
 /// The graph of a unit: Start for its receives, and one node for each other place that is reached, in order of place. A
 /// Goto becomes a Skip, an If a Test whose `other` is the next place, and the place of `end` a Return of 0. Variables
-/// keep their numbers. The graph does the same as the unit and counts no more. The time is linear in the instructions.
-/// The only refusal is want of memory.
+/// keep their numbers. The graph does the same as the unit and evaluates no more operators. The time is linear in the
+/// instructions. It fails only with `Memory`.
 pub fn lower(alloc: Global, unit: &MirUnit) -> Result<Graph, Memory>
     requires { CanLower unit.now.body }
     ensures lowered { IfOk result (λ graph. IsLowered unit.now graph) }
     ensures same { IfOk result (λ graph. UnitSame (unit_machine unit.now) (machine_of graph)) }
-    ensures cheaper { IfOk result (λ graph. UnitCheaper (unit_machine unit.now) (machine_of graph)) }
+    ensures cheaper { IfOk result (λ graph.
+        UnitCheaper (unit_machine unit.now) (machine_of graph)) }
     ensures keeps { IfOk result (λ graph. Keeps (AsUnit unit.now) (AsGraph graph)) }
 
     // the graph makes no calls but those of the unit
-    ensures calls { IfOk result (λ graph. (called count : ℕ) → NodesCall graph.nodes called count → BodyCalls unit.now.body called count) }
+    ensures calls { IfOk result (λ graph.
+        CallsAmong (NodesCall graph.nodes) (BodyCalls unit.now.body)) }
 {
     let graph = lower_unit(alloc, unit)?;
     Ok(graph)
@@ -82,7 +84,7 @@ fn all_nodes(alloc: Global, insts: &[Inst], receives: usize) -> Result<Vec<Node>
 /// The node of the instruction at this place, where each place has the number after its own.
 fn node_at(place: usize, inst: &Inst) -> Result<Node, Memory>
     requires place { place + 2 < 2 ^ 64 }
-    requires target { IsWithin (2 ^ 64 - 1) (target_of (Some inst.now)) }
+    requires target { IsBelow (2 ^ 64 - 1) (target_of (Some inst.now)) }
     ensures { IfOk result (λ node. node ≡ place_node place inst.now) }
 {
     Ok(match inst {

@@ -1,8 +1,8 @@
 // Graphs from other graphs: a pass writes a list of nodes, and the graph of those that are reached is made of it.
 ghost use Rattle.std.specs.Prelude.{◌≡◌, ◌++◌, ◌<◌, ℕ, length, IfOk};
 ghost use Rattle.mir_base.specs.UnitRuns.{UnitCheaper, UnitSame};
-ghost use Rattle.flow_graph.specs.Calls.{NodesCall};
-ghost use Rattle.flow_graph.specs.Graphs.{CanMake, Reached};
+ghost use Rattle.flow_graph.specs.Calls.{NodesCall, CallsAmong};
+ghost use Rattle.flow_graph.specs.Graphs.{CanMake, Reached, AllReached};
 ghost use Rattle.flow_graph.specs.Kept.{IsMade};
 ghost use Rattle.flow_graph.specs.Machines.{graph_machine, machine_of};
 
@@ -13,8 +13,10 @@ use std::alloc::Global;
 
 impl Graph {
     /// The graph with the name and the received variables of this one, with the variables of this one and after them
-    /// `extra`, and with those of `nodes` that are reached from node 0, renumbered in their old order. It is the one
-    /// way by which other crates make graphs. Its only refusal is want of memory.
+    /// `extra`, and with those of `nodes` that are reached from node 0, renumbered in their old order. The first of
+    /// `nodes` is their only Start, no edge leads to it, successors and variables are in range, and the names of all
+    /// variables are distinct. Other crates make graphs by this call, `lower` and `Editor` alone. It fails only with
+    /// `Memory`.
     pub fn with_nodes(
         &self,
         alloc: Global,
@@ -22,24 +24,29 @@ impl Graph {
         nodes: Vec<Node>,
     ) -> Result<Graph, Memory>
         requires { CanMake (self.now.vars ++ extra.items) self.now.received nodes.items }
-        ensures made { IfOk result (λ graph. IsMade self.now.name (self.now.vars ++ extra.items) self.now.received nodes.items graph) }
+        ensures made { IfOk result (λ graph.
+            IsMade self.now.name (self.now.vars ++ extra.items) self.now.received
+            nodes.items graph) }
 
         // where every node is reached, the nodes are those of the list
-        ensures whole { IfOk result (λ graph. ((n : ℕ) → n < length nodes.items → Reached nodes.items n) → graph.nodes ≡ nodes.items) }
+        ensures whole { IfOk result (λ graph. AllReached nodes.items → graph.nodes ≡ nodes.items) }
 
-        // the graph does the same as the list of nodes whole, and counts no more
-        ensures same { IfOk result (λ graph. UnitSame (graph_machine self.now.received nodes.items) (machine_of graph)) }
-        ensures cheaper { IfOk result (λ graph. UnitCheaper (graph_machine self.now.received nodes.items) (machine_of graph)) }
+        // the graph does the same as the list of nodes whole, and evaluates no more operators
+        ensures same { IfOk result (λ graph.
+            UnitSame (graph_machine self.now.received nodes.items) (machine_of graph)) }
+        ensures cheaper { IfOk result (λ graph.
+            UnitCheaper (graph_machine self.now.received nodes.items) (machine_of graph)) }
 
         // the graph makes no calls but those of the list
-        ensures calls { IfOk result (λ graph. (called count : ℕ) → NodesCall graph.nodes called count → NodesCall nodes.items called count) }
+        ensures calls { IfOk result (λ graph.
+            CallsAmong (NodesCall graph.nodes) (NodesCall nodes.items)) }
     {
         let graph = with_all(self, alloc, extra, nodes)?;
         Ok(graph)
     }
 }
 
-/// The graph of the nodes that are reached.
+/// The graph of those of `nodes` that are reached, with the variables `extra` after those of `graph`.
 fn with_all(
     graph: &Graph,
     alloc: Global,
@@ -47,7 +54,8 @@ fn with_all(
     nodes: Vec<Node>,
 ) -> Result<Graph, Memory>
     requires { CanMake (graph.now.vars ++ extra.items) graph.now.received nodes.items }
-    ensures { IfOk result (λ made. IsMade graph.now.name (graph.now.vars ++ extra.items) graph.now.received nodes.items made) }
+    ensures { IfOk result (λ made.
+        IsMade graph.now.name (graph.now.vars ++ extra.items) graph.now.received nodes.items made) }
 {
     let name = graph.name().clone()?;
     let vars = graph.shared_names().with(alloc, extra)?;

@@ -1,6 +1,7 @@
 // The nodes of a graph.
-ghost use Rattle.std.specs.Prelude.{◌≡◌, slice_get};
-ghost use Rattle.flow_graph.specs.Graphs.{following, node_succs};
+ghost use Rattle.std.specs.Prelude.{◌≡◌, length, slice_get};
+ghost use Rattle.flow_graph.specs.Graphs.{node_succs, SuccsBelow};
+ghost use Rattle.flow_graph.specs.Kept.{redirected_by};
 
 use mir_base::{Args, Operand, Rhs, Test};
 use std::alloc::AllocError;
@@ -65,5 +66,21 @@ impl Node {
             Node::Test(_, _, other) => Some(*other),
             _ => None,
         }
+    }
+}
+
+/// The node with other successors: `to[s]` in the place of each successor `s`, which is an index into `to`.
+pub fn redirect(node: Node, to: &[usize]) -> Node
+    requires { SuccsBelow (length to.now) node }
+    ensures { result ≡ redirected_by to.now node }
+{
+    match node {
+        Node::Start(next) => Node::Start(to[next]),
+        Node::Skip(next) => Node::Skip(to[next]),
+        Node::Assign(x, rhs, next) => Node::Assign(x, rhs, to[next]),
+        Node::Print(a, next) => Node::Print(a, to[next]),
+        Node::Call(into, unit, args, next) => Node::Call(into, unit, args, to[next]),
+        Node::Test(test, taken, other) => Node::Test(test, to[taken], to[other]),
+        Node::Return(a) => Node::Return(a),
     }
 }

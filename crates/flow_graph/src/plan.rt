@@ -1,7 +1,7 @@
 // The order in which the nodes of a graph are laid out.
 ghost use Rattle.std.specs.Prelude.{◌≡◌, ℕ, ◌+◌, ◌<◌, ◌≤◌, [], ◌∷◌, ◌++◌, cond, false, length, reverse, slice_get, slice_index_or, IfOk, OnOk, Some, None};
-ghost use Rattle.flow_graph.specs.Graphs.{AllWithin, IsWithin, following};
-ghost use Rattle.flow_graph.specs.Placing.{AreClosed, ArePlaced, ItemsWithin, TellsFirstOpen, follower_of, open_by, open_by_item, placed_after, taken_of};
+ghost use Rattle.flow_graph.specs.Graphs.{AllWithin, IsBelow, following};
+ghost use Rattle.flow_graph.specs.Placing.{AreClosed, ArePlaced, ItemsWithin, FirstOpenIsAt, follower_of, open_by, open_by_item, placed_after, taken_of};
 ghost use Rattle.flow_graph.specs.declared.plan.Item.TheVariants.{Jump, Placed};
 ghost use Rattle.flow_graph.specs.Plans.{IsPlan, new_trace, next_item};
 
@@ -24,7 +24,8 @@ pub(crate) fn plan(alloc: Global, nodes: &[Node], first: usize) -> Result<Vec<It
     requires within { AllWithin nodes.now }
     requires first { first < length nodes.now }
     ensures plan { IfOk result (λ items. IsPlan nodes.now first (reverse items.items)) }
-    ensures complete { IfOk result (λ items. next_item nodes.now first (reverse items.items) ≡ None) }
+    ensures complete { IfOk result (λ items.
+        next_item nodes.now first (reverse items.items) ≡ None) }
     ensures within { IfOk result (λ items. ItemsWithin (length nodes.now) items.items) }
 {
     let mut items = Vec::new(alloc);
@@ -61,7 +62,7 @@ fn next(
     requires within { AllWithin nodes.now }
     requires items { ItemsWithin (length nodes.now) items.now }
     requires placed { ArePlaced nodes.now placed.now (reverse items.now) }
-    requires open { TellsFirstOpen nodes.now items.now closed }
+    requires open { FirstOpenIsAt nodes.now items.now closed }
     ensures { result ≡ next_item nodes.now first (reverse items.now) }
 {
     match items.last() {
@@ -116,7 +117,7 @@ fn begin_trace(nodes: &[Node], items: &[Item], placed: &[bool], closed: usize) -
     requires within { AllWithin nodes.now }
     requires items { ItemsWithin (length nodes.now) items.now }
     requires placed { ArePlaced nodes.now placed.now (reverse items.now) }
-    requires open { TellsFirstOpen nodes.now items.now closed }
+    requires open { FirstOpenIsAt nodes.now items.now closed }
     ensures { result ≡ new_trace nodes.now (reverse items.now) }
 {
     match items.get(closed) {
@@ -128,15 +129,15 @@ fn begin_trace(nodes: &[Node], items: &[Item], placed: &[bool], closed: usize) -
     }
 }
 
-/// The number of the first item from number `closed` on that is a Test with an open `taken`, and how many items there
-/// are where there is none. A node that was placed stays so, and no item is looked at again once it is passed.
+/// The number of the first item from number `closed` on that is a Test with an open `taken`; the number of items, where
+/// there is none. A node that was placed stays so, and no item is looked at again once it is passed.
 fn pass_closed(nodes: &[Node], items: &[Item], placed: &[bool], closed: usize) -> usize
     requires within { AllWithin nodes.now }
     requires items { ItemsWithin (length nodes.now) items.now }
     requires placed { ArePlaced nodes.now placed.now (reverse items.now) }
     requires closed { AreClosed nodes.now items.now closed }
     ensures closed { AreClosed nodes.now items.now result }
-    ensures open { TellsFirstOpen nodes.now items.now result }
+    ensures open { FirstOpenIsAt nodes.now items.now result }
 {
     for number in closed..items.len() {
         if open_at(nodes, items[number], placed).is_some() {
@@ -161,7 +162,7 @@ fn open_at(nodes: &[Node], item: Item, placed: &[bool]) -> Option<usize>
 
 /// The `taken` successor of a Test, where it is not placed.
 fn open_of(node: &Node, placed: &[bool]) -> Option<usize>
-    requires { IsWithin (length placed.now) (taken_of (Some node.now)) }
+    requires { IsBelow (length placed.now) (taken_of (Some node.now)) }
     ensures { result ≡ open_by placed.now (taken_of (Some node.now)) }
 {
     match node {

@@ -1,8 +1,8 @@
 // The nodes that are reached, found by a walk from node 0.
 ghost use Rattle.std.specs.Prelude.{◌≡◌, ℕ, ◌<◌, ◌≤◌, true, false, replicate, length, slice_get, IfOk, OnOk, Some, None};
-ghost use Rattle.flow_graph.specs.Graphs.{AllWithin, IsWithin};
+ghost use Rattle.flow_graph.specs.Graphs.{AllWithin, IsBelow};
 ghost use Rattle.flow_graph.specs.Kept.{MarkReached};
-ghost use Rattle.flow_graph.specs.Walks.{Walking, marks_after, stack_after, weight};
+ghost use Rattle.flow_graph.specs.Walks.{Walking, marks_after, stack_after, walk_weight};
 
 use crate::Node;
 use mir_base::Memory;
@@ -24,7 +24,7 @@ pub(crate) fn reach(alloc: Global, nodes: &[Node]) -> Result<Vec<bool>, Memory>
     Ok(marks)
 }
 
-/// So many marks, none of them set.
+/// `count` marks, none of them set.
 pub(crate) fn no_marks(alloc: Global, count: usize) -> Result<Vec<bool>, Memory>
     ensures { IfOk result (λ marks. marks.items ≡ replicate count false) }
 {
@@ -43,7 +43,9 @@ fn visit(
     requires walking { Walking nodes.now marks.old.items stack.old.items (Some node) }
     requires marked { slice_get marks.old.items node ≡ Some true }
     ensures walking { OnOk result (Walking nodes.now marks.new.items stack.new.items None) }
-    ensures lighter { OnOk result (weight marks.new.items stack.new.items ≤ weight marks.old.items stack.old.items) }
+    ensures lighter { OnOk result
+        (walk_weight marks.new.items stack.new.items
+        ≤ walk_weight marks.old.items stack.old.items) }
 {
     let here = &nodes[node];
     let first = here.first_succ();
@@ -55,9 +57,10 @@ fn visit(
 
 /// Marks a node, and puts it on the stack where it was not marked before.
 fn mark(marks: &mut Vec<bool>, stack: &mut Vec<usize>, node: Option<usize>) -> Result<(), Memory>
-    requires { IsWithin (length marks.old.items) node }
+    requires { IsBelow (length marks.old.items) node }
     ensures marks { OnOk result (marks.new.items ≡ marks_after marks.old.items node) }
-    ensures stack { OnOk result (stack.new.items ≡ stack_after marks.old.items stack.old.items node) }
+    ensures stack { OnOk result
+        (stack.new.items ≡ stack_after marks.old.items stack.old.items node) }
 {
     if let Some(node) = node {
         if !marks[node] {

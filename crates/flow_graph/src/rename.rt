@@ -20,6 +20,7 @@ pub(crate) fn rename(alloc: Global, seen: &SeenVars, body: &[Inst]) -> Result<Ve
     Ok(renamed)
 }
 
+/// The instruction with its variables renumbered.
 fn rename_inst(alloc: Global, seen: &SeenVars, inst: &Inst) -> Result<Inst, Memory>
     requires { AllBelow seen.now.vars (inst_vars inst.now) }
     ensures { IfOk result (λ new. new ≡ renamed (position seen.now.seen) inst.now) }
@@ -35,6 +36,7 @@ fn rename_inst(alloc: Global, seen: &SeenVars, inst: &Inst) -> Result<Inst, Memo
     })
 }
 
+/// The operand with its variable, if it is one, renumbered.
 fn rename_operand(seen: &SeenVars, a: Operand) -> Operand
     requires { AllBelow seen.now.vars (operand_vars a) }
     ensures { result ≡ renamed_operand (position seen.now.seen) a }
@@ -45,6 +47,7 @@ fn rename_operand(seen: &SeenVars, a: Operand) -> Operand
     }
 }
 
+/// The right side with its variables renumbered.
 fn rename_rhs(seen: &SeenVars, rhs: Rhs) -> Rhs
     requires { AllBelow seen.now.vars (rhs_vars rhs) }
     ensures { result ≡ renamed_rhs (position seen.now.seen) rhs }
@@ -56,6 +59,7 @@ fn rename_rhs(seen: &SeenVars, rhs: Rhs) -> Rhs
     }
 }
 
+/// The test with its variables renumbered.
 fn rename_test(seen: &SeenVars, test: Test) -> Test
     requires { AllBelow seen.now.vars (test_vars test) }
     ensures { result ≡ renamed_test (position seen.now.seen) test }
@@ -67,6 +71,7 @@ fn rename_test(seen: &SeenVars, test: Test) -> Test
     }
 }
 
+/// The call with its variables renumbered.
 fn rename_call(
     alloc: Global,
     seen: &SeenVars,
@@ -75,15 +80,18 @@ fn rename_call(
     operands: &[Operand],
 ) -> Result<Inst, Memory>
     requires { AllBelow seen.now.vars (into_vars into ++ flat_map operand_vars operands.now) }
-    ensures { IfOk result (λ new. new ≡ renamed (position seen.now.seen) (Call into unit operands.now)) }
+    ensures { IfOk result (λ new.
+        new ≡ renamed (position seen.now.seen) (Call into unit operands.now)) }
 {
     let args = rename_args(alloc, seen, operands)?;
     Ok(Inst::Call(rename_into(seen, into), unit, args))
 }
 
+/// The arguments with their variables renumbered.
 fn rename_args(alloc: Global, seen: &SeenVars, operands: &[Operand]) -> Result<Args, Memory>
     requires { AllBelow seen.now.vars (flat_map operand_vars operands.now) }
-    ensures { IfOk result (λ args. args ≡ map (renamed_operand (position seen.now.seen)) operands.now) }
+    ensures { IfOk result (λ args.
+        args ≡ map (renamed_operand (position seen.now.seen)) operands.now) }
 {
     let mut renamed = Vec::new(alloc);
     for a in operands {
@@ -92,6 +100,7 @@ fn rename_args(alloc: Global, seen: &SeenVars, operands: &[Operand]) -> Result<A
     Args::of(alloc, renamed.as_slice())
 }
 
+/// The variable that gets the result, renumbered.
 fn rename_into(seen: &SeenVars, into: Option<usize>) -> Option<usize>
     requires { AllBelow seen.now.vars (into_vars into) }
     ensures { result ≡ option_map (position seen.now.seen) into }
@@ -105,7 +114,8 @@ fn rename_into(seen: &SeenVars, into: Option<usize>) -> Option<usize>
 /// The names of these variables.
 pub(crate) fn names(alloc: Global, vars: &[Name], seen: &[usize]) -> Result<Vec<Name>, Memory>
     requires { AllBelow (length vars.now) seen.now }
-    ensures { IfOk result (λ names. names.items ≡ map (λ x. slice_index_or vars.now x []) seen.now) }
+    ensures { IfOk result (λ names.
+        names.items ≡ map (λ x. slice_index_or vars.now x []) seen.now) }
 {
     let mut names = Vec::with_capacity(alloc, seen.len())?;
     for x in seen {

@@ -7,8 +7,8 @@ use mir_base::{Inst, Memory, Operand, Rhs, Test};
 use std::alloc::Global;
 use std::marker::Model;
 
-/// The variables seen so far, and a table that has the place of each of them in that order. Contracts see it as how many
-/// variables there are and the list of those seen.
+/// The variables seen so far, and a table that has the place of each of them in that order. Contracts see it as the
+/// number of variables and the list of those seen.
 #[derive(Drop)]
 pub(crate) struct SeenVars {
     seen: Vec<usize>,
@@ -27,7 +27,7 @@ impl Model for SeenVars {
 }
 
 impl SeenVars {
-    /// None of so many variables is seen.
+    /// No variable is seen; the variables are numbered below `vars`.
     fn new(alloc: Global, vars: usize) -> Result<SeenVars, Memory>
         ensures { IfOk result (λ new. new ≡ record { vars = vars; seen = [] }) }
     {
@@ -70,6 +70,7 @@ impl SeenVars {
         Ok(())
     }
 
+    /// Sees the variable of an operand, where it is one.
     fn see_operand(&mut self, a: Operand) -> Result<(), Memory>
         requires { AllBelow self.old.vars (operand_vars a) }
         ensures vars { self.new.vars ≡ self.old.vars }
@@ -81,16 +82,19 @@ impl SeenVars {
         }
     }
 
+    /// Sees the variables of two operands.
     fn see_two(&mut self, a: Operand, b: Operand) -> Result<(), Memory>
         requires { AllBelow self.old.vars (operand_vars a ++ operand_vars b) }
         ensures vars { self.new.vars ≡ self.old.vars }
-        ensures seen { OnOk result (self.new.seen ≡ seen_after self.old.seen (operand_vars a ++ operand_vars b)) }
+        ensures seen { OnOk result
+            (self.new.seen ≡ seen_after self.old.seen (operand_vars a ++ operand_vars b)) }
     {
         self.see_operand(a)?;
         self.see_operand(b)?;
         Ok(())
     }
 
+    /// Sees the variables of a right side.
     fn see_rhs(&mut self, rhs: Rhs) -> Result<(), Memory>
         requires { AllBelow self.old.vars (rhs_vars rhs) }
         ensures vars { self.new.vars ≡ self.old.vars }
@@ -103,6 +107,7 @@ impl SeenVars {
         }
     }
 
+    /// Sees the variables of a test.
     fn see_test(&mut self, test: Test) -> Result<(), Memory>
         requires { AllBelow self.old.vars (test_vars test) }
         ensures vars { self.new.vars ≡ self.old.vars }
@@ -115,10 +120,12 @@ impl SeenVars {
         }
     }
 
+    /// Sees the variables of several operands.
     fn see_operands(&mut self, operands: &[Operand]) -> Result<(), Memory>
         requires { AllBelow self.old.vars (flat_map operand_vars operands.now) }
         ensures vars { self.new.vars ≡ self.old.vars }
-        ensures seen { OnOk result (self.new.seen ≡ seen_after self.old.seen (flat_map operand_vars operands.now)) }
+        ensures seen { OnOk result
+            (self.new.seen ≡ seen_after self.old.seen (flat_map operand_vars operands.now)) }
     {
         for a in operands {
             self.see_operand(*a)?;
@@ -126,6 +133,7 @@ impl SeenVars {
         Ok(())
     }
 
+    /// Sees the variables of an assignment: the one that it assigns first.
     fn see_assign(&mut self, x: usize, rhs: Rhs) -> Result<(), Memory>
         requires { AllBelow self.old.vars (x ∷ rhs_vars rhs) }
         ensures vars { self.new.vars ≡ self.old.vars }
@@ -136,10 +144,13 @@ impl SeenVars {
         Ok(())
     }
 
+    /// Sees the variables of a call: the one that gets the result first.
     fn see_call(&mut self, into: Option<usize>, operands: &[Operand]) -> Result<(), Memory>
         requires { AllBelow self.old.vars (into_vars into ++ flat_map operand_vars operands.now) }
         ensures vars { self.new.vars ≡ self.old.vars }
-        ensures seen { OnOk result (self.new.seen ≡ seen_after self.old.seen (into_vars into ++ flat_map operand_vars operands.now)) }
+        ensures seen { OnOk result
+            (self.new.seen ≡ seen_after self.old.seen
+            (into_vars into ++ flat_map operand_vars operands.now)) }
     {
         match into {
             None => self.see_operands(operands),
@@ -150,6 +161,7 @@ impl SeenVars {
         }
     }
 
+    /// Sees the variables of an instruction.
     fn see_inst(&mut self, inst: &Inst) -> Result<(), Memory>
         requires { AllBelow self.old.vars (inst_vars inst.now) }
         ensures vars { self.new.vars ≡ self.old.vars }
@@ -166,7 +178,7 @@ impl SeenVars {
         }
     }
 
-    /// The variables that occur in a body, of so many.
+    /// The variables that occur in a body, which are numbered below `vars`.
     pub(crate) fn of(alloc: Global, vars: usize, body: &[Inst]) -> Result<SeenVars, Memory>
         requires { AllBelow vars (flat_map inst_vars body.now) }
         ensures { IfOk result (λ seen. seen ≡ record { vars = vars; seen = seen_in body.now }) }

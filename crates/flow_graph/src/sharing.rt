@@ -6,7 +6,7 @@ use std::alloc::Global;
 use std::marker::Model;
 use std::rc::Rc;
 
-/// Names of variables, of which a share takes no memory. Contracts see them as the list of these.
+/// Names of variables, of which a share does not allocate. Contracts see them as the list of these.
 #[derive(Drop)]
 pub(crate) struct Names {
     shared: Rc<Items<Name>>,
@@ -21,7 +21,7 @@ impl Model for Names {
 }
 
 impl Names {
-    /// Copies of these names. Its only refusal is want of memory.
+    /// Copies of these names. It fails only with `Memory`.
     pub(crate) fn copied(alloc: Global, names: &[Name]) -> Result<Names, Memory>
         ensures { IfOk result (λ copied. copied ≡ names.now) }
     {
@@ -29,7 +29,7 @@ impl Names {
         Names::of(alloc, all)
     }
 
-    /// These names. Its only refusal is want of memory.
+    /// These names. It fails only with `Memory`.
     fn of(alloc: Global, names: Vec<Name>) -> Result<Names, Memory>
         ensures { IfOk result (λ made. made ≡ names.items) }
     {
@@ -37,7 +37,7 @@ impl Names {
         Ok(Names { shared })
     }
 
-    /// The names and others after them; a share where there are no others. Its only refusal is want of memory.
+    /// The names and others after them; a share where there are no others. It fails only with `Memory`.
     pub(crate) fn with(&self, alloc: Global, extra: Vec<Name>) -> Result<Names, Memory>
         ensures { IfOk result (λ all. all ≡ self.now ++ extra.items) }
     {
@@ -49,7 +49,7 @@ impl Names {
         }
     }
 
-    /// A share of the names. It takes no memory, and is refused only where there are too many shares to count.
+    /// A share of the names. It does not allocate, and is refused only where there are too many shares to count.
     fn share(&self) -> Result<Names, Memory>
         ensures { IfOk result (λ share. share ≡ self.now) }
     {
@@ -57,7 +57,7 @@ impl Names {
         Ok(Names { shared })
     }
 
-    /// The names, in order. It takes no memory.
+    /// The names, in order. It does not allocate.
     pub(crate) fn items(&self) -> &[Name]
         ensures { result.now ≡ self.now }
     {

@@ -6,7 +6,7 @@ ghost use Rattle.mir_base.specs.Shapes.{AllBelow};
 use crate::{Edges, Graph, Node};
 
 /// Whether the graph is split: each node with more than one entering edge is entered only from Skips, each of which
-/// enters it once. `edges` are those of `graph`. It takes no memory.
+/// enters it once. `edges` are those of `graph`. It does not allocate.
 pub fn is_split(graph: &Graph, edges: &Edges) -> bool
     requires { edges.now ≡ edges_of graph.now.nodes }
     ensures { IsTrue result ↔ IsSplit graph.now.nodes }

@@ -9,7 +9,7 @@ use mir_base::{Inst, Items, Memory, Name, Unit as MirUnit};
 use std::alloc::Global;
 
 /// The unit of this name and body, with the variables that occur numbered in the order of their first occurrence. The
-/// variables have these names by their old numbers. Its only refusal is want of memory.
+/// variables have these names by their old numbers. It fails only with `Memory`.
 pub fn tidied(alloc: Global, name: Name, vars: &[Name], body: &[Inst]) -> Result<MirUnit, Memory>
     requires differ { AllDiffer vars.now }
     requires below { AllBelow (length vars.now) (flat_map inst_vars body.now) }

@@ -1,5 +1,5 @@
 use Rattle.std.proofs.Common.{◌≡◌, ◌-◌, ◌++◌, [], ◌∷◌, length, sym, ap, arith, ◌∙◌, true, false}
-use Rattle.flow_graph.proofs.Blocking.{kept_more, kept_on, length-cut}
+use Rattle.flow_graph.proofs.Blocking.{kept_more, kept_on, length_cut}
 use Rattle.flow_graph.proofs.blocks.add.Goals as goal
 
 pub returns-then-not-is_first : goal.returns-then-not-is_first
@@ -9,13 +9,13 @@ returns-then-not-is_first c =
 
 pub follow-requires-clause-block : goal.follow-requires-clause-block
 follow-requires-clause-block c =
-    let long = length-cut (length c.args.order.now.items) c.args.order.now.items c.args.starts.now.items c.requires.before.starts_are in
+    let long = length_cut (length c.args.order.now.items) c.args.order.now.items c.args.starts.now.items c.requires.before.starts_are in
     omega (arith, long, c.len-block.ensures, c.requires.before.made.few, c.requires.there)
 
 pub returns : goal.returns
 returns c =
     let first : c.is_first.result ≡ true = c.if-not-is_first.false in
-    let long = length-cut (length c.args.order.now.items) c.args.order.now.items c.args.starts.now.items c.requires.before.starts_are in
+    let long = length_cut (length c.args.order.now.items) c.args.order.now.items c.args.starts.now.items c.requires.before.starts_are in
     let f = c.in_ok-follow.ensures in
     let read : c.len.result ≡ c.follow.new.order.len = c.len.ensures in
     let kept = c.follow.new.order.ok.0 in

@@ -1,7 +1,8 @@
 use Rattle.std.proofs.Common.{◌<◌, ◌∙◌, suc, ◌++◌, ap, sym, subst, refl, arith, map, length, slice_get, slice_index_or, false}
-use Rattle.flow_graph.specs.Kept.{rank, marked, redirected}
+use Rattle.flow_graph.specs.Kept.{marked_below, marked, redirected}
 use Rattle.flow_graph.specs.Graphs.{SuccsBelow}
-use Rattle.flow_graph.proofs.Ranks.{succs_below, redirects_same, keep_one, marks_index}
+use Rattle.flow_graph.specs.BoundLaws.{succs_below}
+use Rattle.flow_graph.proofs.Ranks.{redirects_same, keep_one, marks_index}
 use Rattle.flow_graph.proofs.keep.keep.Goals as goal
 
 pub loop-node-init : goal.loop-node-init
@@ -9,7 +10,7 @@ loop-node-init c =
     let all = c.into_iter-node-iterator.ensures.into_iter_gives.0 in
     let marks = c.args.marks.now in
     record {
-      all = ap (λ l. l ++ map (redirected (rank marks)) (marked marks c.into_iter-node-iterator.result.rest.items)) c.in_ok-kept.ensures.items ∙ ap (λ l. map (redirected (rank marks)) (marked marks l)) all;
+      all = ap (λ l. l ++ map (redirected (marked_below marks)) (marked marks c.into_iter-node-iterator.result.rest.items)) c.in_ok-kept.ensures.items ∙ ap (λ l. map (redirected (marked_below marks)) (marked marks l)) all;
       count = omega (arith, ap length all, c.requires.long);
       below = λ k node e. subst (λ n. SuccsBelow n node) (sym c.requires.long) (succs_below c.args.nodes.items k node c.requires.within (sym (ap (λ l. slice_get l k) all) ∙ e));
     }
@@ -27,7 +28,7 @@ loop-node-preserved c =
     let below = inv.below 0 c.in-Some.node (ap (λ l. slice_get l 0) steps) in
     let lt : c.loop-node.number < length marks = omega (arith, inv.count, ap length steps) in
     record {
-      all = keep_one (redirected (rank marks)) marks c.loop-node.kept.items c.push_if.new.kept.items c.loop-node.node-iterator.rest.items c.next.new.self.rest.items c.loop-node.number (slice_index_or marks c.loop-node.number false) c.in-Some.node c.redirect-node.result _ (marks_index marks c.loop-node.number _ lt refl) steps (c.redirect-node.ensures ∙ redirects_same marks c.args.ranks.now c.in-Some.node c.requires.ranks below) c.in_ok-push_if.ensures inv.all;
+      all = keep_one (redirected (marked_below marks)) marks c.loop-node.kept.items c.push_if.new.kept.items c.loop-node.node-iterator.rest.items c.next.new.self.rest.items c.loop-node.number (slice_index_or marks c.loop-node.number false) c.in-Some.node c.redirect-node.result _ (marks_index marks c.loop-node.number _ lt refl) steps (c.redirect-node.ensures ∙ redirects_same marks c.args.ranks.now c.in-Some.node c.requires.ranks below) c.in_ok-push_if.ensures inv.all;
       count = omega (arith, inv.count, ap length steps);
       below = λ k node e. inv.below (suc k) node (ap (λ l. slice_get l (suc k)) steps ∙ e);
     }

@@ -1,15 +1,15 @@
 use Rattle.std.proofs.Common.{◌≡◌, ◌∙◌, List, ap, sym, subst, map, Bool}
 use Rattle.flow_graph.specs.declared.nodes.Node.{Node}
 use Rattle.flow_graph.specs.Graphs.{IsGraph}
-use Rattle.flow_graph.specs.Kept.{AreKept, MarkReached, redirected, rank, marked}
+use Rattle.flow_graph.specs.Kept.{AreKept, MarkReached, redirected, marked_below, marked}
 use Rattle.flow_graph.proofs.Made.{make_graph}
 use Rattle.flow_graph.proofs.keep.make.Goals as goal
 
-kept_with : (raw raw' nodes : List Node) (marks marks' : List Bool) → raw' ≡ raw → marks' ≡ marks → MarkReached raw' marks → nodes ≡ map (redirected (rank marks')) (marked marks' raw) → AreKept raw nodes
+kept_with : (raw raw' nodes : List Node) (marks marks' : List Bool) → raw' ≡ raw → marks' ≡ marks → MarkReached raw' marks → nodes ≡ map (redirected (marked_below marks')) (marked marks' raw) → AreKept raw nodes
 kept_with raw raw' nodes marks marks' e e' m is = record {
   marks = marks;
   are_marks = subst (λ r. MarkReached r marks) e m;
-  are = is ∙ ap (λ l. map (redirected (rank l)) (marked l raw)) e';
+  are = is ∙ ap (λ l. map (redirected (marked_below l)) (marked l raw)) e';
 }
 
 pub invariant_of-result : goal.invariant_of-result

@@ -1,5 +1,5 @@
 use Rattle.std.proofs.Common.{◌≡◌, ◌∙◌, suc, ◌+◌, ◌++◌, ◌∷◌, [], ap, arith, length, length-append, true, false}
-use Rattle.flow_graph.specs.Kept.{rank as rank_of}
+use Rattle.flow_graph.specs.Kept.{marked_below as rank_of}
 use Rattle.flow_graph.proofs.Ranks.{rank_more, rank_same, ranked, marks_index}
 use Rattle.flow_graph.proofs.keep.ranks.Goals.{then-mark, else-mark}
 use Rattle.flow_graph.proofs.keep.ranks.Goals as goal

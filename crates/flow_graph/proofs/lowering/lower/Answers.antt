@@ -1,20 +1,18 @@
-use Rattle.flow_graph.proofs.CallLaws.{lowered_calls}
-use Rattle.flow_graph.proofs.LowerMade.{lowered_same, lowered_cheaper}
+use Rattle.flow_graph.specs.Keeps.{AsGraph, AsUnit, Keeps}
+use Rattle.flow_graph.proofs.LowerMade.{lowered_keeps}
 use Rattle.flow_graph.proofs.lowering.lower.Goals as goal
 
-pub returns-clause-same : goal.returns-clause-same
-returns-clause-same c = lowered_same c.args.unit.now c.in_ok-graph.graph c.lower_unit.ensures.tidy c.lower_unit.ensures.below c.requires c.in_ok-graph.ensures.lowered
-
-pub returns-clause-cheaper : goal.returns-clause-cheaper
-returns-clause-cheaper c = lowered_cheaper c.args.unit.now c.in_ok-graph.graph c.lower_unit.ensures.tidy c.lower_unit.ensures.below c.requires c.in_ok-graph.ensures.lowered
+kept : (c : goal.In_ok-graph) → Keeps (AsUnit c.args.unit.now) (AsGraph c.in_ok-graph.graph)
+kept c = lowered_keeps c.args.unit.now c.in_ok-graph.graph c.lower_unit.ensures.tidy c.lower_unit.ensures.below c.requires c.in_ok-graph.ensures.lowered
 
 pub returns-clause-calls : goal.returns-clause-calls
-returns-clause-calls c = λ called count. lowered_calls c.args.unit.now c.in_ok-graph.graph c.in_ok-graph.ensures.lowered called count
+returns-clause-calls c = let k = kept c in k.calls
+
+pub returns-clause-cheaper : goal.returns-clause-cheaper
+returns-clause-cheaper c = let k = kept c in k.cheaper
+
+pub returns-clause-same : goal.returns-clause-same
+returns-clause-same c = let k = kept c in k.same
 
 pub returns-clause-keeps : goal.returns-clause-keeps
-returns-clause-keeps c = record {
-  name = c.in_ok-graph.ensures.lowered.made.name_is;
-  same = returns-clause-same c;
-  cheaper = returns-clause-cheaper c;
-  calls = returns-clause-calls c;
-}
+returns-clause-keeps c = kept c

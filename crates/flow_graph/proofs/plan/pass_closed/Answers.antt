@@ -2,7 +2,7 @@ use Rattle.std.proofs.Common.{◌≡◌, ◌∙◌, sym, subst, arith, length}
 use Rattle.std.proofs.lemmas.Option.{slice_get-get_or}
 use Rattle.flow_graph.specs.declared.plan.Item.TheVariants.{Placed}
 use Rattle.flow_graph.specs.Placing.{AreClosed}
-use Rattle.flow_graph.proofs.Scans.{item_within, tells_open, tells_none, closed_past}
+use Rattle.flow_graph.proofs.Scans.{item_within, first_open_marked, first_open_none, closed_past}
 use Rattle.flow_graph.proofs.plan.pass_closed.Goals as goal
 
 pub open_at-requires-clause-item : goal.open_at-requires-clause-item
@@ -11,20 +11,16 @@ open_at-requires-clause-item c =
 
 pub returns-then-is_some-clause-open : goal.returns-then-is_some-clause-open
 returns-then-is_some-clause-open c =
-    let items = c.args.items.now in
-    let i = c.loop-number.number in
-    let here = slice_get-get_or items i (Placed 0) (omega arith) in
-    tells_open c.args.nodes.now c.args.placed.now items i _ c.open_at.result c.requires.within c.requires.placed c.loop-number.invariant here c.open_at.ensures (sym c.is_some.ensures ∙ c.if-is_some.true)
+    let here = slice_get-get_or c.args.items.now c.loop-number.number (Placed 0) (omega arith) in
+    first_open_marked c.args.nodes.now c.args.placed.now c.args.items.now c.loop-number.number _ c.open_at.result c.requires.within c.requires.placed c.loop-number.invariant here c.open_at.ensures (sym c.is_some.ensures ∙ c.if-is_some.true)
 
 pub loop-number-preserved : goal.loop-number-preserved
 loop-number-preserved c =
-    let items = c.args.items.now in
-    let i = c.loop-number.number in
-    let here = slice_get-get_or items i (Placed 0) (omega arith) in
-    closed_past c.args.nodes.now c.args.placed.now items i _ c.open_at.result c.requires.within c.requires.placed c.loop-number.invariant here c.open_at.ensures (sym c.is_some.ensures ∙ c.if-is_some.false)
+    closed_past c.args.nodes.now c.args.placed.now c.args.items.now c.loop-number.number _ c.open_at.result c.requires.within c.requires.placed c.loop-number.invariant
+    (slice_get-get_or c.args.items.now c.loop-number.number (Placed 0) (omega arith)) c.open_at.ensures (sym c.is_some.ensures ∙ c.if-is_some.false)
 
 pub returns-clause-open : goal.returns-clause-open
 returns-clause-open c =
     let items = c.args.items.now in
     let end : c.loop-number.number ≡ length items = omega arith in
-    tells_none c.args.nodes.now items (length items) (subst (AreClosed c.args.nodes.now items) end c.loop-number.invariant) (omega arith)
+    first_open_none c.args.nodes.now items (length items) (subst (AreClosed c.args.nodes.now items) end c.loop-number.invariant) (omega arith)

@@ -1,6 +1,6 @@
 use Rattle.std.proofs.Common.{◌≡◌, ◌<◌, ◌∙◌, ◌∷◌, [], ap, sym, subst, refl, arith, length, reverse, Some}
 use Rattle.flow_graph.specs.Plans.{IsPlan, next_item}
-use Rattle.flow_graph.specs.Placing.{AreClosed, ArePlaced, ItemsWithin, TellsFirstOpen, plan_weight}
+use Rattle.flow_graph.specs.Placing.{AreClosed, ArePlaced, ItemsWithin, FirstOpenIsAt, plan_weight}
 use Rattle.flow_graph.proofs.Scans.{next_within, placed_more, plan_lighter, plan_begins, within_more, reverse_more, closed_stays}
 use Rattle.flow_graph.proofs.plan.plan.Goals as goal
 
@@ -10,7 +10,7 @@ loop-item-init c = record {
   within = subst (ItemsWithin (length c.args.nodes.now)) (sym c.new-items.ensures.items) tt;
   placed = plan_begins c.args.nodes.now c.in_ok-placed.placed.items c.new-items.result.items c.in_ok-placed.ensures c.new-items.ensures.items;
   closed = subst (λ l. AreClosed c.args.nodes.now l 0) (sym c.new-items.ensures.items) (record { few = omega arith; none = refl });
-  open_ = subst (λ l. TellsFirstOpen c.args.nodes.now l 0) (sym c.new-items.ensures.items) refl;
+  open_ = subst (λ l. FirstOpenIsAt c.args.nodes.now l 0) (sym c.new-items.ensures.items) refl;
 }
 
 pub add-requires : goal.add-requires
@@ -39,7 +39,7 @@ loop-item-preserved c =
       within = subst (ItemsWithin (length nodes)) (sym c.in_ok-add.ensures.items) (within_more (length nodes) c.loop-item.items.items c.in-Some.item inv.within w);
       placed = subst (ArePlaced nodes c.add.new.placed.items) (sym more) (placed_more nodes c.loop-item.placed.items c.add.new.placed.items (reverse c.loop-item.items.items) c.in-Some.item inv.placed w c.in_ok-add.ensures.placed);
       closed = subst (λ l. AreClosed nodes l c.pass_closed-closed.result) c.as_slice-in-Some.ensures.value c.pass_closed-closed.ensures.closed;
-      open_ = subst (λ l. TellsFirstOpen nodes l c.pass_closed-closed.result) c.as_slice-in-Some.ensures.value c.pass_closed-closed.ensures.open;
+      open_ = subst (λ l. FirstOpenIsAt nodes l c.pass_closed-closed.result) c.as_slice-in-Some.ensures.value c.pass_closed-closed.ensures.open;
     }
 
 pub pass_closed-closed-requires-clause-items : goal.pass_closed-closed-requires-clause-items

@@ -1,9 +1,9 @@
 use Rattle.std.proofs.Common.{None}
-use Rattle.flow_graph.specs.Walks.{Walking, weight}
+use Rattle.flow_graph.specs.Walks.{Walking, walk_weight}
 use Rattle.flow_graph.proofs.reach.reach.Given as goal
 
 abbrev pub invariant-loop-node : goal.invariant-loop-node
 invariant-loop-node l = Walking l.nodes l.marks.items l.stack.items None
 
 abbrev pub decreases-loop-node : goal.decreases-loop-node
-decreases-loop-node l = weight l.marks.items l.stack.items
+decreases-loop-node l = walk_weight l.marks.items l.stack.items

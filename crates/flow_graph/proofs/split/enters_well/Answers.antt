@@ -1,7 +1,7 @@
 use Rattle.std.proofs.Common.{◌∙◌, ap, sym, subst, length}
 use Rattle.mir_base.specs.Shapes.{AllBelow}
 use Rattle.flow_graph.specs.Edges.{EdgesShape, preds_among}
-use Rattle.flow_graph.proofs.Splits.{preds_below}
+use Rattle.flow_graph.specs.EdgeLaws.{preds_below}
 use Rattle.flow_graph.proofs.split.enters_well.Goals as goal
 
 pub all_skips-requires : goal.all_skips-requires

@@ -1,6 +1,7 @@
 use Rattle.std.proofs.Common.{◌≡◌, ◌≤◌, length, replicate, ap, subst, arith, ◌∙◌}
 use Rattle.flow_graph.specs.Graphs.{IsGraph}
-use Rattle.flow_graph.specs.Blocks.{AreKept}
+use Rattle.flow_graph.specs.Blocks.{AreBlocksOf, AreStored, parts_at}
+use Rattle.flow_graph.specs.BlockLaws.{blocks_same}
 use Rattle.flow_graph.proofs.Blocking.{blocks_made, kept_none, parts_made}
 use Rattle.flow_graph.proofs.blocks.Blocks.of.Goals as goal
 use Rattle.flow_graph.proofs.blocks.Blocks.of.Goals.{After-of-3}
@@ -13,20 +14,28 @@ loop-head-init c =
 graph : (c : After-of-3) → IsGraph c.args.graph.now.vars c.args.graph.now.received c.args.graph.now.nodes
 graph c = subst (IsGraph c.args.graph.now.vars c.args.graph.now.received) c.nodes-nodes.ensures.value c.nodes-nodes.ensures.graph
 
-kept : (c : After-of-3) → AreKept c.args.graph.now.nodes (length c.args.graph.now.nodes) c.loop-head.order.items c.loop-head.starts.items c.loop-head.block_of.items
+kept : (c : After-of-3) → AreStored c.args.graph.now.nodes (length c.args.graph.now.nodes) c.loop-head.order.items c.loop-head.starts.items c.loop-head.block_of.items
 kept c =
     let late : length c.nodes-nodes.result.now ≤ c.loop-head.head = c.loop-head-test.false in
     let most : c.loop-head.head ≤ length c.nodes-nodes.result.now = c.loop-head.auto.head-end in
     let count : length c.nodes-nodes.result.now ≡ length c.args.graph.now.nodes = ap length c.nodes-nodes.ensures.value in
     let e : c.loop-head.head ≡ length c.args.graph.now.nodes = omega arith in
-    subst (λ n. AreKept c.args.graph.now.nodes n c.loop-head.order.items c.loop-head.starts.items c.loop-head.block_of.items) e c.loop-head.invariant
+    subst (λ n. AreStored c.args.graph.now.nodes n c.loop-head.order.items c.loop-head.starts.items c.loop-head.block_of.items) e c.loop-head.invariant
 
 pub invariant_of-result : goal.invariant_of-result
 invariant_of-result c =
     let known = (goal.at.invariant_of-result c).After-of-3 in
     rw (c.of.ensures, c.of-2.ensures, c.of-3.ensures) (parts_made c.args.graph.now.vars c.args.graph.now.received c.args.graph.now.nodes c.loop-head.order.items c.loop-head.starts.items c.loop-head.block_of.items (graph known) (kept known))
 
-pub returns : goal.returns
-returns c =
-    let known = (goal.at.returns c).After-of-3 in
-    rw (c.of.ensures, c.of-2.ensures, c.of-3.ensures) (blocks_made c.args.graph.now.vars c.args.graph.now.received c.args.graph.now.nodes c.loop-head.order.items c.loop-head.starts.items c.loop-head.block_of.items (graph known) (kept known))
+are : (c : After-of-3) → AreBlocksOf c.args.graph.now.nodes (record { nodes = length c.loop-head.block_of.items; lists = parts_at c.loop-head.order.items c.loop-head.starts.items })
+are c = blocks_made c.args.graph.now.vars c.args.graph.now.received c.args.graph.now.nodes c.loop-head.order.items c.loop-head.starts.items c.loop-head.block_of.items (graph c) (kept c)
+
+pub returns-clause-blocks : goal.returns-clause-blocks
+returns-clause-blocks c =
+    let known = (goal.at.returns-clause-blocks c).After-of-3 in
+    rw (c.of.ensures, c.of-2.ensures, c.of-3.ensures) (are known)
+
+pub returns-clause-only : goal.returns-clause-only
+returns-clause-only c =
+    let known = (goal.at.returns-clause-only c).After-of-3 in
+    rw (c.of.ensures, c.of-2.ensures) (λ others are_blocks. blocks_same c.args.graph.now.nodes (parts_at c.loop-head.order.items c.loop-head.starts.items) others (are known).are are_blocks)

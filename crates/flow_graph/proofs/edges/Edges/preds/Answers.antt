@@ -1,6 +1,6 @@
 use Rattle.std.proofs.Common.{◌∙◌, ap, arith, map, length, slice_range}
 use Rattle.flow_graph.specs.Edges.{by_target, source_of}
-use Rattle.flow_graph.proofs.EdgeOrder.{row_of, row_within, sources_by_target}
+use Rattle.flow_graph.proofs.EdgeOrder.{entering_row, row_within, sources_by_target}
 use Rattle.flow_graph.proofs.edges.Edges.preds.Goals as goal
 
 pub part-requires-clause-within : goal.part-requires-clause-within
@@ -17,4 +17,4 @@ returns c =
     ∙ ap (λ l. slice_range l c.entering-first.result.0 c.entering-first.result.1) table
     ∙ ap (λ n. slice_range (map source_of (by_target now.nodes now.edges)) n c.entering-first.result.1) c.entering-first.ensures.first
     ∙ ap (slice_range (map source_of (by_target now.nodes now.edges)) _) c.entering-first.ensures.end
-    ∙ row_of now.nodes c.args.node now.edges c.requires
+    ∙ entering_row now.nodes c.args.node now.edges c.requires

@@ -4,7 +4,7 @@ use Rattle.std.proofs.lemmas.Option.{slice_get_past, get_or_from_slice_get}
 use Rattle.flow_graph.proofs.Edits.{used_length, edited_change, held_change}
 use Rattle.flow_graph.specs.Editing.{EditorShape, change_at, change_to, is_assignment, rhs_below}
 use Rattle.flow_graph.specs.Edited.{HoldsEdits, edited_from}
-use Rattle.flow_graph.specs.InsertionNodes.{some_at}
+use Rattle.flow_graph.specs.ListLaws.{some_at}
 use Rattle.flow_graph.specs.Insertions.{ChangeBelow, changed}
 use Rattle.flow_graph.specs.declared.nodes.Node.{Node}
 use Rattle.mir_base.specs.declared.instructions.Rhs.{Rhs}

@@ -1,5 +1,6 @@
 use Rattle.std.proofs.Common.{◌≡◌, ◌<◌, length, slice_get, Some, ap, sym, ◌∙◌, subst, arith}
-use Rattle.flow_graph.proofs.Edits.{succs_below, take_get}
+use Rattle.flow_graph.specs.ListLaws.{get_take}
+use Rattle.flow_graph.specs.BoundLaws.{node_succs_below}
 use Rattle.flow_graph.specs.Graphs.{SuccsBelow, succs_of}
 use Rattle.flow_graph.proofs.editor.Editor.close.Goals as goal
 
@@ -7,5 +8,5 @@ pub led_nodes-requires-clause-below : goal.led_nodes-requires-clause-below
 led_nodes-requires-clause-below c = λ n node lt at.
     let long : length c.as_slice.result.now ≡ c.self.inside.olds = ap length c.as_slice.ensures.value ∙ c.in_ok-firsts.ensures.long in
     let inside : n < c.self.inside.olds = omega (arith, lt, long) in
-    let there : slice_get c.self.inside.nodes.items n ≡ Some node = sym (take_get c.self.inside.nodes.items c.self.inside.used n (omega (arith, inside, c.self.invariant.some))) ∙ ap (λ l. slice_get l n) (sym c.truncate.ensures.items) ∙ at in
-    subst (λ k. SuccsBelow k node) (sym long) (succs_below c.self.inside.olds node (λ slot s leads. c.self.invariant.targets n slot s inside (ap (λ o. slice_get (succs_of o) slot) there ∙ leads)))
+    let there : slice_get c.self.inside.nodes.items n ≡ Some node = sym (get_take c.self.inside.nodes.items c.self.inside.used n (omega (arith, inside, c.self.invariant.some))) ∙ ap (λ l. slice_get l n) (sym c.truncate.ensures.items) ∙ at in
+    subst (λ k. SuccsBelow k node) (sym long) (node_succs_below c.self.inside.olds node (λ slot s leads. c.self.invariant.targets n slot s inside (ap (λ o. slice_get (succs_of o) slot) there ∙ leads)))

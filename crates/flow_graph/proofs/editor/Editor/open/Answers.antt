@@ -3,7 +3,7 @@ use Rattle.mir_base.specs.Shapes.{AllDiffer}
 use Rattle.flow_graph.proofs.Edits.{edited_open, held_open}
 use Rattle.flow_graph.specs.Edited.{HoldsEdits, edited_from}
 use Rattle.flow_graph.specs.Graphs.{IsGraph}
-use Rattle.flow_graph.specs.InsertionGraphs.{below_more}
+use Rattle.mir_base.specs.BelowLaws.{all_below_more}
 use Rattle.flow_graph.specs.declared.nodes.Node.{Node}
 use Rattle.flow_graph.proofs.editor.Editor.open.Goals as goal
 use Rattle.flow_graph.proofs.editor.Editor.open.Goals.{In_ok-links}
@@ -18,8 +18,8 @@ more_vars vars extra received nodes g differ =
         start = can.start;
         only = can.only;
         succs = can.succs;
-        below = λ n node at. below_more (length vars) (length (vars ++ extra)) _ more (can.below n node at);
-        received_below = below_more (length vars) (length (vars ++ extra)) received more can.received_below;
+        below = λ n node at. all_below_more (length vars) (length (vars ++ extra)) _ more (can.below n node at);
+        received_below = all_below_more (length vars) (length (vars ++ extra)) received more can.received_below;
         received_differ = can.received_differ;
         names = differ;
       };

@@ -2,7 +2,7 @@ use Rattle.std.proofs.Common.{◌∙◌, [], sym, subst, refl, length}
 use Rattle.std.proofs.lemmas.Option.{slice_get_read}
 use Rattle.mir_base.specs.Shapes.{AllBelow, inst_vars}
 use Rattle.flow_graph.proofs.Renames.{seen_more}
-use Rattle.flow_graph.proofs.SeenLists.{below_one}
+use Rattle.mir_base.specs.BelowLaws.{all_below_item}
 use Rattle.flow_graph.proofs.seen.SeenVars.of.Goals as goal
 
 pub see_inst-requires : goal.see_inst-requires
@@ -10,7 +10,7 @@ see_inst-requires c =
     let body = c.args.body.now in
     let i = c.loop-inst.inst-index in
     let here = slice_get_read body (length body) i c.inst-item.result refl c.loop-inst-test.true c.inst-item.is in
-    subst (λ n. AllBelow n (inst_vars c.inst-item.result)) (sym c.loop-inst.invariant.vars) (below_one inst_vars c.args.vars body i c.inst-item.result c.requires here)
+    subst (λ n. AllBelow n (inst_vars c.inst-item.result)) (sym c.loop-inst.invariant.vars) (all_below_item inst_vars c.args.vars body i c.inst-item.result c.requires here)
 
 pub loop-inst-preserved : goal.loop-inst-preserved
 loop-inst-preserved c =
