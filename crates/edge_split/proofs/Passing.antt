@@ -1,5 +1,6 @@
 -- Nodes whose edges go through new Skips do the same: a step to a new Skip is followed by the Skip's own.
 use Rattle.std.proofs.Common.{◌≡◌, ℕ, ◌<◌, ◌≤◌, Bool, true, false, cond, List, [], ◌∷◌, length, slice_get, Some, ◌⊎◌, inl, inr, refl, sym, ap, ◌∙◌, subst, arith, le_refl}
+use Rattle.flow_graph.specs.ListLaws.{some_at}
 use Rattle.mir_base.specs.Frames.{Frame, resumed, Code}
 use Rattle.mir_base.specs.Units.{at, test_holds}
 use Rattle.mir_base.specs.UnitRuns.{UnitSame, UnitCheaper}
@@ -13,12 +14,12 @@ use Rattle.flow_graph.specs.Graphs.{node_succs, succs_of, AllWithin}
 use Rattle.flow_graph.specs.Machines.{node_transition, graph_code, graph_machine}
 use Rattle.flow_graph.specs.RedirectLaws.{assigns_alike, resumed_at, resumed_place}
 use Rattle.edge_split.specs.Split.{with_succs}
-use Rattle.edge_split.proofs.Targets.{in_some}
 
 -- u is t, or a Skip that leads there
 abbrev pub Way : List Node → ℕ → ℕ → Type 0
 Way result u t = (u ≡ t) ⊎ (slice_get result u ≡ Some (Skip t))
 
+-- each of these successors is passed to by a way to the other in its place
 abbrev pub Ways : List Node → List ℕ → List ℕ → Type 0
 Ways result [] [] = Unit {0}
 Ways result [] (t ∷ ts) = ⊥
@@ -74,7 +75,7 @@ module _ (received : List ℕ) (nodes result : List Node) (passes : Passes nodes
 
   respond_here : (z x y : ℕ) (f : Frame) → f.place < length nodes → y ≤ x → Responds (Unit {0}) Close code' z x y f (graph_code received nodes f)
   respond_here z x y f lt le =
-      let node = in_some nodes f.place lt in
+      let node = some_at nodes f.place lt in
       let old = passes.olds f.place node.0 node.1 in
       let alike = alike_here f node.0 old.0 old.2 (λ slot s e. passes.within f.place slot s (ap (λ o. slice_get (succs_of o) slot) node.1 ∙ e)) in
       subst (λ o. Responds (Unit {0}) Close code' z x y f (node_transition received o f)) (sym node.1)

@@ -1,6 +1,7 @@
 -- The nodes of the split graph: a graph can be made of them, they are split, all of them are reached, and they do the
 -- same as the old nodes.
 use Rattle.std.proofs.Common.{◌≡◌, ℕ, zero, suc, ◌+◌, ◌-◌, ◌<◌, ◌≤◌, Bool, true, false, cond, List, [], ◌∷◌, ◌++◌, length, map, slice_get, Option, Some, None, option_map, ◌⊎◌, inl, inr, refl, sym, ap, ◌∙◌, subst, arith, length-append, append-nil}
+use Rattle.flow_graph.specs.ListLaws.{get_append, get_left_some, get_right}
 use Rattle.std.specs.Prelude.{filter}
 use Rattle.std.proofs.lemmas.Bool.{cases_lt, ltb-false}
 use Rattle.std.proofs.lemmas.Grind.{flat_map-append}
@@ -12,16 +13,17 @@ use Rattle.mir_base.specs.UnitRuns.{UnitSame, UnitCheaper}
 use Rattle.flow_graph.specs.declared.edges.Edge.{Edge}
 use Rattle.flow_graph.specs.declared.nodes.Node.{Node}
 use Rattle.flow_graph.specs.declared.nodes.Node.TheVariants.{Start, Skip}
-use Rattle.flow_graph.specs.CallLaws.{mapped_from}
+use Rattle.flow_graph.specs.NodeLaws.{mapped_from}
 use Rattle.flow_graph.specs.Calls.{NodesCall, node_call}
 use Rattle.flow_graph.specs.EdgeLaws.{pred_is}
 use Rattle.flow_graph.specs.Edges.{edges_from, preds_of, IsSplit}
-use Rattle.flow_graph.specs.Graphs.{GraphShape, node_succs, node_vars, succs_at, succs_of, AllWithin, IsEdge, Reached, at_start, along, CanMake, IsGraph}
+use Rattle.flow_graph.specs.Graphs.{GraphShape, node_succs, node_vars, succs_of, IsEdge, Reached, at_start, along, CanMake, IsGraph}
 use Rattle.flow_graph.specs.Machines.{graph_machine, machine_of}
 use Rattle.flow_graph.specs.Paths.{HasEdge}
 use Rattle.flow_graph.specs.PredLaws.{skip_once}
-use Rattle.edge_split.specs.Split.{IsEdgeSplit, is_join, through, with_succs, rerouted, split_nodes, times}
-use Rattle.edge_split.proofs.Targets.{in_append, in_front, in_back, target_of, targets, edges_targets, edge_place, place_edge, times_append, preds_times}
+use Rattle.node_list.specs.Lists.{times_in}
+use Rattle.edge_split.specs.Split.{IsEdgeSplit, is_join, through_skips, with_succs, rerouted, split_nodes}
+use Rattle.edge_split.proofs.Targets.{edge_target, targets, edges_targets, edge_place, place_edge, times_append, preds_times}
 use Rattle.edge_split.proofs.Through.{with_vars, with_call, with_start, was_start, with_through, rerouted_targets, rerouted_long, in_through, through_new, AllUnder, old_times, new_once, joins_none}
 use Rattle.edge_split.proofs.Passing.{Way, Ways, Passes, passes_same, passes_cheaper}
 
@@ -31,21 +33,25 @@ use Rattle.edge_split.proofs.Passing.{Way, Ways, Passes, passes_same, passes_che
 abbrev after : List Node → List Node
 after nodes = rerouted (is_join nodes) (length nodes) nodes ++ map Skip (filter (is_join nodes) (targets nodes))
 
-skips_of : (join : ℕ → Bool) (edges : List Edge) → map (λ (edge : Edge). Skip edge.target) (filter (λ (edge : Edge). join edge.target) edges) ≡ map Skip (filter join (map target_of edges))
+-- choosing edges by their targets is choosing among the targets
+skips_of : (join : ℕ → Bool) (edges : List Edge) → map (λ (edge : Edge). Skip edge.target) (filter (λ (edge : Edge). join edge.target) edges) ≡ map Skip (filter join (map edge_target edges))
 skips_of join [] = refl
 skips_of join (edge ∷ edges) = chosen (join edge.target) (skips_of join edges)
   where
-    chosen : (b : Bool) → map (λ (edge : Edge). Skip edge.target) (filter (λ (edge : Edge). join edge.target) edges) ≡ map Skip (filter join (map target_of edges)) → map (λ (edge : Edge). Skip edge.target) (cond b (edge ∷ filter (λ (edge : Edge). join edge.target) edges) (filter (λ (edge : Edge). join edge.target) edges)) ≡ map Skip (cond b (edge.target ∷ filter join (map target_of edges)) (filter join (map target_of edges)))
+    chosen : (b : Bool) → map (λ (edge : Edge). Skip edge.target) (filter (λ (edge : Edge). join edge.target) edges) ≡ map Skip (filter join (map edge_target edges)) → map (λ (edge : Edge). Skip edge.target) (cond b (edge ∷ filter (λ (edge : Edge). join edge.target) edges) (filter (λ (edge : Edge). join edge.target) edges)) ≡ map Skip (cond b (edge.target ∷ filter join (map edge_target edges)) (filter join (map edge_target edges)))
     chosen true e = ap (λ l. Skip edge.target ∷ l) e
     chosen false e = e
 
+-- so the split graph is the one above
 split_is : (nodes : List Node) → split_nodes nodes ≡ after nodes
 split_is nodes = ap (λ l. rerouted (is_join nodes) (length nodes) nodes ++ l) (skips_of (is_join nodes) (edges_from 0 nodes) ∙ ap (λ ts. map Skip (filter (is_join nodes) ts)) (edges_targets 0 nodes))
 
+-- the target of a new Skip is the one it was made for
 skips_targets : (ts : List ℕ) → targets (map Skip ts) ≡ ts
 skips_targets [] = refl
 skips_targets (t ∷ ts) = ap (λ l. t ∷ l) (skips_targets ts)
 
+-- what a filter keeps stood in the list
 in_filter : (join : ℕ → Bool) (ts : List ℕ) (j s : ℕ) → slice_get (filter join ts) j ≡ Some s → (i : ℕ) × (slice_get ts i ≡ Some s)
 in_filter join [] j s e = cc
 in_filter join (t ∷ ts) j s e = chosen (join t) j e (λ i. in_filter join ts i s)
@@ -60,7 +66,7 @@ in_filter join (t ∷ ts) j s e = chosen (join t) j e (λ i. in_filter join ts i
 -- a node of the first part was an old node
 was_old : (join : ℕ → Bool) (nodes : List Node) (k n : ℕ) (node' : Node) → slice_get (rerouted join k nodes) n ≡ Some node' → (node : Node) × (us : List ℕ) × (slice_get nodes n ≡ Some node) × (node' ≡ with_succs node us)
 was_old join [] k n node' e = cc
-was_old join (node ∷ nodes) k zero node' e = (node, through join k (node_succs node), refl, cc)
+was_old join (node ∷ nodes) k zero node' e = (node, through_skips join k (node_succs node), refl, cc)
 was_old join (node ∷ nodes) k (suc n) node' e = was_old join nodes _ n node' e
 
 -- from number k on, the result has a Skip to each of these
@@ -69,35 +75,36 @@ Stand result k ts = (j s : ℕ) → slice_get ts j ≡ Some s → slice_get resu
 
 module _ (result : List Node) (join : ℕ → Bool) where
   stand_front : (k : ℕ) (xs ys : List ℕ) → Stand result k (xs ++ ys) → Stand result k xs
-  stand_front k xs ys stand j s e = stand j s (in_front xs ys j s e)
+  stand_front k xs ys stand j s e = stand j s (get_left_some xs ys j s e)
 
   stand_back : (k : ℕ) (xs ys : List ℕ) → Stand result k (xs ++ ys) → Stand result (k + length xs) ys
   stand_back k xs ys stand j s e =
       let sum : k + (length xs + j) ≡ k + length xs + j = omega arith in
-      ap (slice_get result) (sym sum) ∙ stand (length xs + j) s (in_back xs ys j ∙ e)
+      ap (slice_get result) (sym sum) ∙ stand (length xs + j) s (get_right xs ys j ∙ e)
 
-  through_ways : (ts : List ℕ) (k : ℕ) → Stand result k (filter join ts) → Ways result (through join k ts) ts
+  through_ways : (ts : List ℕ) (k : ℕ) → Stand result k (filter join ts) → Ways result (through_skips join k ts) ts
   through_ways [] k stand = tt
   through_ways (t ∷ ts) k stand = chosen (join t) stand (through_ways ts (suc k)) (through_ways ts k)
     where
-      chosen : (b : Bool) → Stand result k (cond b (t ∷ filter join ts) (filter join ts)) → (Stand result (suc k) (filter join ts) → Ways result (through join (suc k) ts) ts) → (Stand result k (filter join ts) → Ways result (through join k ts) ts) → Ways result (cond b (k ∷ through join (suc k) ts) (t ∷ through join k ts)) (t ∷ ts)
+      chosen : (b : Bool) → Stand result k (cond b (t ∷ filter join ts) (filter join ts)) → (Stand result (suc k) (filter join ts) → Ways result (through_skips join (suc k) ts) ts) → (Stand result k (filter join ts) → Ways result (through_skips join k ts) ts) → Ways result (cond b (k ∷ through_skips join (suc k) ts) (t ∷ through_skips join k ts)) (t ∷ ts)
       chosen true stand later here =
           let first : k ≡ k + 0 = omega arith in
           (inr (ap (slice_get result) first ∙ stand 0 t refl), later (λ j s e. let sum : suc k + j ≡ k + suc j = omega arith in ap (slice_get result) sum ∙ stand (suc j) s e))
       chosen false stand later here = (inl refl, here stand)
 
   -- an old node has ways to its successors
-  old_ways : (nodes : List Node) (k m : ℕ) (node : Node) → Stand result k (filter join (targets nodes)) → slice_get nodes m ≡ Some node → (first : ℕ) × (slice_get (rerouted join k nodes) m ≡ Some (with_succs node (through join first (node_succs node)))) × Ways result (through join first (node_succs node)) (node_succs node)
+  old_ways : (nodes : List Node) (k m : ℕ) (node : Node) → Stand result k (filter join (targets nodes)) → slice_get nodes m ≡ Some node → (first : ℕ) × (slice_get (rerouted join k nodes) m ≡ Some (with_succs node (through_skips join first (node_succs node)))) × Ways result (through_skips join first (node_succs node)) (node_succs node)
   old_ways [] k m node stand here = cc
   old_ways (x ∷ nodes) k zero node stand here =
       let same : x ≡ node = cc in
       let parts = subst (Stand result k) (filter-append join (node_succs x) (targets nodes)) stand in
-      subst (λ y. (first : ℕ) × (slice_get (rerouted join k (x ∷ nodes)) 0 ≡ Some (with_succs y (through join first (node_succs y)))) × Ways result (through join first (node_succs y)) (node_succs y)) same
+      subst (λ y. (first : ℕ) × (slice_get (rerouted join k (x ∷ nodes)) 0 ≡ Some (with_succs y (through_skips join first (node_succs y)))) × Ways result (through_skips join first (node_succs y)) (node_succs y)) same
       (k, refl, through_ways (node_succs x) k (stand_front k (filter join (node_succs x)) (filter join (targets nodes)) parts))
   old_ways (x ∷ nodes) k (suc m) node stand here =
       let parts = subst (Stand result k) (filter-append join (node_succs x) (targets nodes)) stand in
       old_ways nodes (k + length (filter join (node_succs x))) m node (stand_back k (filter join (node_succs x)) (filter join (targets nodes)) parts) here
 
+-- the new successor in a slot has a way to the old one of that slot
 ways_slot : (result : List Node) (us ts : List ℕ) (slot t : ℕ) → Ways result us ts → slice_get ts slot ≡ Some t → (u : ℕ) × (slice_get us slot ≡ Some u) × Way result u t
 ways_slot result [] [] slot t ways e = cc
 ways_slot result [] (s ∷ ts) slot t ways e = absurd ways
@@ -105,6 +112,7 @@ ways_slot result (u ∷ us) [] slot t ways e = cc
 ways_slot result (u ∷ us) (s ∷ ts) zero t ways e = let same : s ≡ t = cc in (u, refl, subst (Way result u) same ways.0)
 ways_slot result (u ∷ us) (s ∷ ts) (suc slot) t ways e = ways_slot result us ts slot t ways.1 e
 
+-- what has successors is a node
 some_node : (o : Option Node) (slot s : ℕ) → slice_get (succs_of o) slot ≡ Some s → (node : Node) × (o ≡ Some node) × (slice_get (node_succs node) slot ≡ Some s)
 some_node None slot s e = cc
 some_node (Some node) slot s e = (node, refl, e)
@@ -127,11 +135,11 @@ module _ (vars : List (List ℕ)) (received : List ℕ) (nodes : List Node) (gra
   after_long : length (after nodes) ≡ length nodes + length joins
   after_long = length-append olds (map Skip joins) ∙ omega (arith, rerouted_long join (length nodes) nodes, length-map joins Skip)
 
-  after_targets : targets (after nodes) ≡ through join (length nodes) (targets nodes) ++ joins
+  after_targets : targets (after nodes) ≡ through_skips join (length nodes) (targets nodes) ++ joins
   after_targets =
       flat_map-append node_succs olds (map Skip joins)
       ∙ ap (λ l. l ++ targets (map Skip joins)) (rerouted_targets join nodes (length nodes))
-      ∙ ap (λ l. through join (length nodes) (targets nodes) ++ l) (skips_targets joins)
+      ∙ ap (λ l. through_skips join (length nodes) (targets nodes) ++ l) (skips_targets joins)
 
   -- targets are nodes, but not node 0
   target_in : (i t : ℕ) → slice_get (targets nodes) i ≡ Some t → (1 ≤ t) × (t < length nodes)
@@ -142,7 +150,7 @@ module _ (vars : List (List ℕ)) (received : List ℕ) (nodes : List Node) (gra
 
   -- a node of the split graph is an old one with other successors, or a new Skip
   after_node : (n : ℕ) (node' : Node) → slice_get (after nodes) n ≡ Some node' → ((node : Node) × (us : List ℕ) × (slice_get nodes n ≡ Some node) × (node' ≡ with_succs node us)) ⊎ ((t : ℕ) × (node' ≡ Skip t))
-  after_node n node' e = elim (in_append olds (map Skip joins) n node' e) [
+  after_node n node' e = elim (get_append olds (map Skip joins) n node' e) [
     | inl old ↦ inl (was_old join nodes (length nodes) n node' old)
     | inr new ↦ let p = mapped_from Skip (slice_get joins new.0) node' (sym (slice_get-map Skip joins new.0) ∙ new.2) in inr (p.0, sym p.2)
   ]
@@ -151,7 +159,7 @@ module _ (vars : List (List ℕ)) (received : List ℕ) (nodes : List Node) (gra
   after_edge : (m slot s : ℕ) → IsEdge (after nodes) m slot s → ((length nodes ≤ s) × (s < length (after nodes))) ⊎ ((i : ℕ) × (slice_get (targets nodes) i ≡ Some s))
   after_edge m slot s edge =
       let p = edge_place (after nodes) m slot s edge in
-      elim (in_append (through join (length nodes) (targets nodes)) joins p.0 s (ap (λ l. slice_get l p.0) (sym after_targets) ∙ p.1)) [
+      elim (get_append (through_skips join (length nodes) (targets nodes)) joins p.0 s (ap (λ l. slice_get l p.0) (sym after_targets) ∙ p.1)) [
         | inl to ↦ elim (in_through join (targets nodes) (length nodes) p.0 s to) [
           | inl new ↦ inl (new.0, omega (arith, new.1, after_long))
           | inr old ↦ inr (p.0, old.1)
@@ -163,14 +171,14 @@ module _ (vars : List (List ℕ)) (received : List ℕ) (nodes : List Node) (gra
   stand : Stand (after nodes) (length nodes) joins
   stand j s e =
       let place : length nodes + j ≡ length olds + j = omega (arith, rerouted_long join (length nodes) nodes) in
-      ap (slice_get (after nodes)) place ∙ in_back olds (map Skip joins) j ∙ slice_get-map Skip joins j ∙ ap (option_map Skip) e
+      ap (slice_get (after nodes)) place ∙ get_right olds (map Skip joins) j ∙ slice_get-map Skip joins j ∙ ap (option_map Skip) e
 
   can_make : CanMake (vars ++ []) received (after nodes)
   can_make = record {
     start =
         let old = old_ways (after nodes) join nodes (length nodes) 0 (Start graph.can.start.0) stand graph.can.start.1 in
-        let start = with_start graph.can.start.0 (through join old.0 (graph.can.start.0 ∷ [])) in
-        (start.0, in_front olds (map Skip joins) 0 _ old.1 ∙ ap Some start.1);
+        let start = with_start graph.can.start.0 (through_skips join old.0 (graph.can.start.0 ∷ [])) in
+        (start.0, get_left_some olds (map Skip joins) 0 _ old.1 ∙ ap Some start.1);
     only = λ n s e. elim (after_node n (Start s) e) [
       | inl old ↦ let start = was_start old.0 old.1 s (sym old.3) in graph.can.only n start.0 (old.2 ∙ ap Some start.1)
       | inr new ↦ let both : Start s ≡ Skip new.0 = new.1 in cc
@@ -193,8 +201,8 @@ module _ (vars : List (List ℕ)) (received : List ℕ) (nodes : List Node) (gra
   -- ---- split
 
   -- an old node that is entered more than once in the split graph is a join, and a new Skip is entered once at most
-  after_times : (s : ℕ) → length (preds_of (after nodes) s) ≡ times s (through join (length nodes) (targets nodes)) + times s joins
-  after_times s = preds_times (after nodes) s ∙ ap (times s) after_targets ∙ times_append s (through join (length nodes) (targets nodes)) joins
+  after_times : (s : ℕ) → length (preds_of (after nodes) s) ≡ times_in s (through_skips join (length nodes) (targets nodes)) + times_in s joins
+  after_times s = preds_times (after nodes) s ∙ ap (times_in s) after_targets ∙ times_append s (through_skips join (length nodes) (targets nodes)) joins
 
   old_preds : (s : ℕ) → s < length nodes → length (preds_of (after nodes) s) ≡ length (preds_of nodes s)
   old_preds s lt = after_times s ∙ old_times join s (targets nodes) (length nodes) lt ∙ sym (preds_times nodes s)
@@ -214,7 +222,7 @@ module _ (vars : List (List ℕ)) (received : List ℕ) (nodes : List Node) (gra
   entered_by_skip : (s n : ℕ) → 1 < length (preds_of (after nodes) s) → HasEdge (after nodes) n s → slice_get (after nodes) n ≡ Some (Skip s)
   entered_by_skip s n many edge =
       let node = some_node (slice_get (after nodes) n) edge.0 s edge.1 in
-      elim (in_append olds (map Skip joins) n node.0 node.1) [
+      elim (get_append olds (map Skip joins) n node.0 node.1) [
         | inl old ↦ absurd (not_from_old n edge.0 s many (ap (λ o. slice_get (succs_of o) edge.0) old ∙ node.2))
         | inr new ↦
             let p = mapped_from Skip (slice_get joins new.0) node.0 (sym (slice_get-map Skip joins new.0) ∙ new.2) in
@@ -241,8 +249,8 @@ module _ (vars : List (List ℕ)) (received : List ℕ) (nodes : List Node) (gra
   old_reached n (along m slot s r edge) =
       let node = some_node (slice_get nodes m) slot s edge in
       let old = old_ways (after nodes) join nodes (length nodes) m node.0 stand node.1 in
-      let way = ways_slot (after nodes) (through join old.0 (node_succs node.0)) (node_succs node.0) slot s old.2 node.2 in
-      let to : Reached (after nodes) way.0 = along m slot way.0 (old_reached m r) (ap (λ o. slice_get (succs_of o) slot) (in_front olds (map Skip joins) m _ old.1) ∙ ap (λ l. slice_get l slot) (with_through join old.0 node.0) ∙ way.1) in
+      let way = ways_slot (after nodes) (through_skips join old.0 (node_succs node.0)) (node_succs node.0) slot s old.2 node.2 in
+      let to : Reached (after nodes) way.0 = along m slot way.0 (old_reached m r) (ap (λ o. slice_get (succs_of o) slot) (get_left_some olds (map Skip joins) m _ old.1) ∙ ap (λ l. slice_get l slot) (with_through join old.0 node.0) ∙ way.1) in
       elim way.2 [
         | inl same ↦ subst (Reached (after nodes)) same to
         | inr skip ↦ along way.0 0 s to (ap (λ o. slice_get (succs_of o) 0) skip)
@@ -254,7 +262,7 @@ module _ (vars : List (List ℕ)) (received : List ℕ) (nodes : List Node) (gra
       let p = place_edge olds t.0 (length nodes + j) (ap (λ l. slice_get l t.0) (rerouted_targets join nodes (length nodes)) ∙ t.1) in
       let node = some_node (slice_get olds p.0) p.1.0 (length nodes + j) p.1.1 in
       let low : p.0 < length nodes = omega (arith, slice_get_within olds p.0 node.0 node.1, rerouted_long join (length nodes) nodes) in
-      along p.0 p.1.0 (length nodes + j) (old_reached p.0 (graph.reached p.0 low)) (ap (λ o. slice_get (succs_of o) p.1.0) (in_front olds (map Skip joins) p.0 node.0 node.1) ∙ node.2)
+      along p.0 p.1.0 (length nodes + j) (old_reached p.0 (graph.reached p.0 low)) (ap (λ o. slice_get (succs_of o) p.1.0) (get_left_some olds (map Skip joins) p.0 node.0 node.1) ∙ node.2)
 
   all_reached : (n : ℕ) → n < length (after nodes) → Reached (after nodes) n
   all_reached n lt = elim (cases_lt n (length nodes)) [
@@ -272,7 +280,7 @@ module _ (vars : List (List ℕ)) (received : List ℕ) (nodes : List Node) (gra
     within = λ m slot s edge. (graph.can.succs m slot s edge).1;
     olds = λ m node here.
         let old = old_ways (after nodes) join nodes (length nodes) m node stand here in
-        (through join old.0 (node_succs node), in_front olds (map Skip joins) m _ old.1, old.2);
+        (through_skips join old.0 (node_succs node), get_left_some olds (map Skip joins) m _ old.1, old.2);
   }
 
   after_same : UnitSame (graph_machine received nodes) (graph_machine received (after nodes))
@@ -317,15 +325,6 @@ module _ (graph : GraphShape) (is_graph : IsGraph graph.vars graph.received grap
 
 -- ---- while the nodes are made
 
-all_below : (m : ℕ) (ts : List ℕ) → ((slot s : ℕ) → slice_get ts slot ≡ Some s → s < m) → AllBelow m ts
-all_below m [] low = tt
-all_below m (t ∷ ts) low = (low 0 t refl, all_below m ts (λ slot. low (suc slot)))
-
-pub succs_below : (nodes : List Node) (n : ℕ) (node : Node) → AllWithin nodes → slice_get nodes n ≡ Some node → AllBelow (length nodes) (node_succs node)
-succs_below nodes n node within here = all_below (length nodes) (node_succs node) (λ slot s e. within n slot s (ap (λ o. slice_get (succs_of o) slot) here ∙ e))
-
-pub succs_at_below : (nodes : List Node) (n : ℕ) → AllWithin nodes → AllBelow (length nodes) (succs_at nodes n)
-succs_at_below nodes n within = all_below (length nodes) (succs_at nodes n) (within n)
-
+-- once no old node is left, these are the nodes of the split graph
 pub all_made : (nodes old made both : List Node) → both ≡ old ++ made → old ++ [] ≡ rerouted (is_join nodes) (length nodes) nodes → made ++ [] ≡ map Skip (filter (is_join nodes) (targets nodes)) → both ≡ split_nodes nodes
 all_made nodes old made both is olds skips = is ∙ ap (λ l. l ++ made) (sym (append-nil old) ∙ olds) ∙ ap (λ l. rerouted (is_join nodes) (length nodes) nodes ++ l) (sym (append-nil made) ∙ skips) ∙ sym (split_is nodes)

@@ -1,5 +1,5 @@
 -- A loop whose test stands last, as an example: its split graph, and an assignment that an editor puts before the Skip by
--- which the loop is entered. No contract cites this file.
+-- which the loop is entered. For proofs only.
 use Rattle.std.proofs.Common.{◌≡◌, List, [], ◌∷◌, slice_get, Some, refl}
 use Rattle.std.specs.Prelude.{pos}
 use Rattle.mir_base.specs.declared.operators.Op.TheVariants.{Add}
@@ -33,5 +33,6 @@ loop_is_split = refl
 pub start_leads_to_it : slice_get (put_before 5 4 sum_of_inputs (split_nodes repeat_loop)) 0 ≡ Some (Start 7)
 start_leads_to_it = refl
 
+-- and the new node leads on to where Start led
 pub it_leads_on : slice_get (put_before 5 4 sum_of_inputs (split_nodes repeat_loop)) 7 ≡ Some (Assign 4 sum_of_inputs 5)
 it_leads_on = refl

@@ -1,10 +1,11 @@
--- The split graph: a new Skip on each edge that enters a node with more than one entering edge.
-use Rattle.std.specs.Prelude.{◌≡◌, ℕ, suc, ◌+◌, Bool, cond, nat_eq, nat_lt, filter, List, [], ◌∷◌, ◌++◌, length, map, slice_index}
+-- The split graph: a new Skip on each edge that enters a node with more than one entering edge. Cited by contracts.
+use Rattle.std.specs.Prelude.{◌≡◌, ℕ, suc, ◌+◌, Bool, if◌then◌else◌, nat_lt, filter, List, [], ◌∷◌, ◌++◌, length, map, min, slice_index, slice_set}
 use Rattle.flow_graph.specs.declared.edges.Edge.{Edge}
 use Rattle.flow_graph.specs.declared.nodes.Node.{Node}
 use Rattle.flow_graph.specs.declared.nodes.Node.TheVariants.{Start, Skip, Assign, Print, Call, Test}
-use Rattle.flow_graph.specs.Edges.{edges_from, preds_among}
+use Rattle.flow_graph.specs.Edges.{edges_from, preds_among, preds_of}
 use Rattle.flow_graph.specs.Graphs.{GraphShape, node_succs}
+use Rattle.node_list.specs.Lists.{times_in}
 
 -- more than one of these edges enters node s
 abbrev pub is_entered_twice : List Edge → ℕ → Bool
@@ -14,14 +15,17 @@ is_entered_twice edges s = nat_lt 1 (length (preds_among s edges))
 abbrev pub has_more : List ℕ → ℕ → Bool
 has_more entries s = nat_lt 1 (slice_index entries s)
 
--- whether this is n, as a number
-abbrev pub hit : ℕ → ℕ → ℕ
-hit t n = cond (nat_eq t n) 1 0
+-- for each node how many edges enter it, counted up to two
+abbrev pub CountEntries : List Node → List ℕ → Type 0
+CountEntries nodes counts = (s : ℕ) → slice_index counts s ≡ min 2 (length (preds_of nodes s))
 
--- how often n is among these
-abbrev pub times : ℕ → List ℕ → ℕ
-times n [] = 0
-times n (t ∷ ts) = hit t n + times n ts
+-- and these successors counted too
+abbrev pub AddEntries : List ℕ → List ℕ → List ℕ → Type 0
+AddEntries counts counts' succs = (s : ℕ) → slice_index counts' s ≡ min 2 (slice_index counts s + times_in s succs)
+
+-- one more for one node
+abbrev pub entered_again : List ℕ → ℕ → List ℕ
+entered_again counts node = slice_set counts node (min 2 (slice_index counts node + 1))
 
 -- more than one edge enters node s
 abbrev pub is_join : List Node → ℕ → Bool
@@ -36,9 +40,9 @@ abbrev pub joins_among : (ℕ → Bool) → List ℕ → List ℕ
 joins_among join succs = filter join succs
 
 -- each successor that is a join gives way to a new Skip; the new Skips are numbered from k on
-abbrev pub through : (ℕ → Bool) → ℕ → List ℕ → List ℕ
-through join k [] = []
-through join k (s ∷ succs) = cond (join s) (k ∷ through join (suc k) succs) (s ∷ through join k succs)
+abbrev pub through_skips : (ℕ → Bool) → ℕ → List ℕ → List ℕ
+through_skips join k [] = []
+through_skips join k (s ∷ succs) = if join s then k ∷ through_skips join (suc k) succs else s ∷ through_skips join k succs
 
 -- the node with these successors
 abbrev pub with_succs : Node → List ℕ → Node
@@ -53,7 +57,7 @@ with_succs node _ = node
 -- the nodes whose edges into joins lead to new Skips, numbered from k on in the order of the edges
 abbrev pub rerouted : (ℕ → Bool) → ℕ → List Node → List Node
 rerouted join k [] = []
-rerouted join k (node ∷ nodes) = with_succs node (through join k (node_succs node)) ∷ rerouted join (k + length (joins_among join (node_succs node))) nodes
+rerouted join k (node ∷ nodes) = with_succs node (through_skips join k (node_succs node)) ∷ rerouted join (k + length (joins_among join (node_succs node))) nodes
 
 -- and after them the new Skips, one for each edge into a join
 abbrev pub split_nodes : List Node → List Node

@@ -1,33 +1,30 @@
--- Dividing assignments stay in a split graph, each in its place.
-use Rattle.std.proofs.Common.{◌≡◌, ℕ, zero, suc, ◌+◌, Bool, true, false, cond, List, [], ◌∷◌, ◌++◌, length, slice_get, Some, refl, sym, ap, ◌∙◌, subst}
+-- Dividing assignments stay in a split graph, each in its place. For proofs only.
+use Rattle.std.proofs.Common.{◌≡◌, ℕ, zero, suc, ◌+◌, Bool, true, false, if◌then◌else◌, List, [], ◌∷◌, length, slice_get, Some, refl, sym, ap, ◌∙◌, subst}
+use Rattle.flow_graph.specs.ListLaws.{get_left_some}
 use Rattle.mir_base.specs.declared.instructions.Rhs.{Rhs}
 use Rattle.flow_graph.specs.declared.nodes.Node.{Node}
 use Rattle.flow_graph.specs.declared.nodes.Node.TheVariants.{Assign}
 use Rattle.flow_graph.specs.Dividing.{DividesStay}
 use Rattle.flow_graph.specs.DividingLaws.{stay_in_place}
 use Rattle.flow_graph.specs.Graphs.{GraphShape, node_succs}
-use Rattle.edge_split.specs.Split.{IsEdgeSplit, is_join, joins_among, rerouted, split_nodes, through, with_succs}
-
-some_front : {A : Type 0} (xs ys : List A) (n : ℕ) (x : A) → slice_get xs n ≡ Some x → slice_get (xs ++ ys) n ≡ Some x
-some_front [] ys n x is = cc
-some_front (y ∷ xs) ys zero x is = is
-some_front (y ∷ xs) ys (suc n) x is = some_front xs ys n x is
+use Rattle.edge_split.specs.Split.{IsEdgeSplit, is_join, joins_among, rerouted, split_nodes, through_skips, with_succs}
 
 -- an assignment with another successor
 module _ (join : ℕ → Bool) (x : ℕ) (rhs : Rhs) (next : ℕ) where
-  assigns_still : (k : ℕ) → (after : ℕ) × (with_succs (Assign x rhs next) (through join k (next ∷ [])) ≡ Assign x rhs after)
-  assigns_still k = elim (join next) as (λ b. (after : ℕ) × (with_succs (Assign x rhs next) (cond b (k ∷ []) (next ∷ [])) ≡ Assign x rhs after)) [ true ↦ (k, refl) | false ↦ (next, refl) ]
+  assigns_still : (k : ℕ) → (after : ℕ) × (with_succs (Assign x rhs next) (through_skips join k (next ∷ [])) ≡ Assign x rhs after)
+  assigns_still k = elim (join next) as (λ b. (after : ℕ) × (with_succs (Assign x rhs next) (if b then k ∷ [] else next ∷ []) ≡ Assign x rhs after)) [ true ↦ (k, refl) | false ↦ (next, refl) ]
 
   rerouted_assigns : (nodes : List Node) (k n : ℕ) → slice_get nodes n ≡ Some (Assign x rhs next) → (after : ℕ) × (slice_get (rerouted join k nodes) n ≡ Some (Assign x rhs after))
   rerouted_assigns [] k n is = cc
   rerouted_assigns (node ∷ nodes) k zero is =
       let same : node ≡ Assign x rhs next = cc in
       let still = assigns_still k in
-      (still.0, ap (λ (m : Node). Some (with_succs m (through join k (node_succs m)))) same ∙ ap Some still.1)
+      (still.0, ap (λ (m : Node). Some (with_succs m (through_skips join k (node_succs m)))) same ∙ ap Some still.1)
   rerouted_assigns (node ∷ nodes) k (suc n) is = rerouted_assigns nodes (k + length (joins_among join (node_succs node))) n is
 
+-- so each stays at its number
 pub split_stay : (graph result : GraphShape) → IsEdgeSplit graph result → DividesStay graph.nodes result.nodes
 split_stay graph result split = subst (DividesStay graph.nodes) (sym split.nodes_are)
     (stay_in_place graph.nodes (split_nodes graph.nodes) (λ n x op left right next may_trap is.
     let there = rerouted_assigns (is_join graph.nodes) x _ next graph.nodes (length graph.nodes) n is in
-    (there.0, some_front (rerouted (is_join graph.nodes) (length graph.nodes) graph.nodes) _ n _ there.1)))
+    (there.0, get_left_some (rerouted (is_join graph.nodes) (length graph.nodes) graph.nodes) _ n _ there.1)))

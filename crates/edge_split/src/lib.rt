@@ -2,7 +2,7 @@
 //! one entering edge, so that new nodes can be put on every edge that needs one.
 //!
 //! The theorem that this crate carries is the contract of `split`: the answer is the exact graph, it is split, does the
-//! same as the graph that goes in, and counts no more.
+//! same as the graph that goes in, and evaluates no more operators.
 //!
 //! In `specs/Split.antt` the split graph is defined. All of its nodes are reached, so none is dropped when the graph is
 //! made, and the new Skips stand behind the old nodes, which keep their numbers. That it does the same is a simulation:
@@ -11,7 +11,5 @@
 
 mod entries;
 mod splitting;
-#[cfg(test)]
-mod tests;
 
 pub use splitting::split;

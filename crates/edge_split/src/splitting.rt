@@ -1,36 +1,32 @@
 // The split graph.
-ghost use Rattle.std.specs.Prelude.{◌≡◌, ℕ, ◌+◌, ◌^◌, ◌<◌, ◌++◌, [], ◌∷◌, length, map, IfOk, OnOk};
+ghost use Rattle.std.specs.Prelude.{◌≡◌, ◌^◌, ◌<◌, [], ◌∷◌, length, IfOk, OnOk};
 ghost use Rattle.mir_base.specs.Shapes.{AllBelow};
-ghost use Rattle.mir_base.specs.UnitRuns.{UnitCheaper, UnitSame};
-ghost use Rattle.flow_graph.specs.declared.nodes.Node.TheVariants.{Skip};
-ghost use Rattle.flow_graph.specs.Calls.{NodesCall};
-ghost use Rattle.flow_graph.specs.Dividing.{DividesStay};
 ghost use Rattle.flow_graph.specs.Edges.{IsSplit};
 ghost use Rattle.flow_graph.specs.Graphs.{IsGraph, node_succs};
-ghost use Rattle.flow_graph.specs.Keeps.{AsGraph, Keeps};
-ghost use Rattle.flow_graph.specs.Machines.{machine_of};
-ghost use Rattle.edge_split.specs.Split.{IsEdgeSplit, has_more, joins_among, split_nodes, through, with_succs};
+ghost use Rattle.flow_graph.specs.Passes.{GraphCalls, GraphCheaper, GraphDivides, GraphKeeps, GraphSame};
+ghost use Rattle.edge_split.specs.NewSkips.{MakesSkips, node_through, succs_through};
+ghost use Rattle.edge_split.specs.Split.{IsEdgeSplit, split_nodes};
 
 use crate::entries::entries;
 use flow_graph::{Graph, Node};
 use mir_base::Memory;
 use std::alloc::Global;
 
-/// The split graph: for each edge that enters a node with more than one entering edge, in the order of source and then of
-/// successor slot, a new Skip is put on the edge. The new Skips take the next numbers, and old nodes keep theirs. The time
-/// is linear in nodes and edges. Its only refusal is want of memory.
+/// The split graph: for each edge that enters a node with more than one entering edge, in the order of source and then
+/// of successor slot, a new Skip is put on the edge. The new Skips take the next numbers, and old nodes keep theirs.
+/// The time is linear in nodes and edges. It fails only with `Memory`.
 pub fn split(alloc: Global, graph: &Graph) -> Result<Graph, Memory>
-    ensures exact { IfOk result (λ made. IsEdgeSplit graph.now made) }
+    ensures exact { IfOk result (IsEdgeSplit graph.now) }
     ensures split { IfOk result (λ made. IsSplit made.nodes) }
-    ensures same { IfOk result (λ made. UnitSame (machine_of graph.now) (machine_of made)) }
-    ensures cheaper { IfOk result (λ made. UnitCheaper (machine_of graph.now) (machine_of made)) }
-    ensures keeps { IfOk result (λ made. Keeps (AsGraph graph.now) (AsGraph made)) }
+    ensures same { IfOk result (GraphSame graph.now) }
+    ensures cheaper { IfOk result (GraphCheaper graph.now) }
+    ensures keeps { IfOk result (GraphKeeps graph.now) }
 
     // each dividing assignment stays
-    ensures divides { IfOk result (λ made. DividesStay graph.now.nodes made.nodes) }
+    ensures divides { IfOk result (GraphDivides graph.now) }
 
     // it makes no calls but those of the graph
-    ensures calls { IfOk result (λ made. (called count : ℕ) → NodesCall made.nodes called count → NodesCall graph.now.nodes called count) }
+    ensures calls { IfOk result (GraphCalls graph.now) }
 {
     let nodes = all_nodes(alloc, graph)?;
     let extra = Vec::new(alloc);
@@ -76,8 +72,8 @@ impl NewSkips {
         requires room { self.old.first < 2 ^ 63 }
         ensures entries { self.new.entries.items ≡ self.old.entries.items }
         ensures first { self.new.first ≡ self.old.first }
-        ensures made { OnOk result (self.new.made.items ≡ self.old.made.items ++ map Skip (joins_among (has_more self.old.entries.items) (node_succs node.now))) }
-        ensures node { IfOk result (λ rerouted. rerouted ≡ with_succs node.now (through (has_more self.old.entries.items) (self.old.first + length self.old.made.items) (node_succs node.now))) }
+        ensures made { OnOk result (MakesSkips self.old self.new (node_succs node.now)) }
+        ensures node { IfOk result (λ made. made ≡ node_through self.old node.now) }
     {
         Ok(match node {
             Node::Start(next) => Node::Start(self.entry(*next)?),
@@ -101,8 +97,8 @@ impl NewSkips {
         requires room { self.old.first < 2 ^ 63 }
         ensures entries { self.new.entries.items ≡ self.old.entries.items }
         ensures first { self.new.first ≡ self.old.first }
-        ensures made { OnOk result (self.new.made.items ≡ self.old.made.items ++ map Skip (joins_among (has_more self.old.entries.items) (target ∷ []))) }
-        ensures entry { IfOk result (λ entry. entry ∷ [] ≡ through (has_more self.old.entries.items) (self.old.first + length self.old.made.items) (target ∷ [])) }
+        ensures made { OnOk result (MakesSkips self.old self.new (target ∷ [])) }
+        ensures entry { IfOk result (λ entry. entry ∷ [] ≡ succs_through self.old (target ∷ [])) }
     {
         if self.entries[target] > 1 {
             let entry = self.first + self.made.len();

@@ -5,8 +5,9 @@ use Rattle.flow_graph.specs.declared.nodes.Node.TheVariants.{Skip}
 use Rattle.flow_graph.specs.Calls.{NodesCall, node_call}
 use Rattle.flow_graph.specs.CallLaws.{redirected_calls}
 use Rattle.jump_clean.specs.Cleaned.{AreCleaned}
-use Rattle.jump_clean.specs.TurnLaws.{Becomes, BecomesAt, all_become}
+use Rattle.jump_clean.specs.ReductionLaws.{Becomes, BecomesAt, all_become}
 
+-- a Test that becomes a Skip is no Call, so the result calls nothing new
 become_calls : (before after : List Node) (called count : ℕ) → Becomes before after → NodesCall after called count → NodesCall before called count
 become_calls before after called count p c = by_case (p.at_node c.number)
   where
@@ -18,7 +19,8 @@ become_calls before after called count p c = by_case (p.at_node c.number)
         let none : ◌≡◌ {A = Option (ℕ × ℕ)} None (Some (called, count)) = ap node_call skip ∙ c.calls in
         absurd (cc)
 
+-- the cleaned nodes make no calls but those of the old ones
 pub cleaned_calls : (nodes cleaned : List Node) (called count : ℕ) → AreCleaned nodes cleaned → NodesCall cleaned called count → NodesCall nodes called count
 cleaned_calls nodes cleaned called count are c =
-    become_calls nodes are.turned called count (all_become nodes are.are_turned.order are.turned are.are_turned.turns)
-    (redirected_calls (λ n. slice_index_or are.ends n 0) are.turned called count (subst (λ ns. NodesCall ns called count) are.are c))
+    become_calls nodes are.reduced called count (all_become nodes are.are_reduced.order are.reduced are.are_reduced.reductions)
+    (redirected_calls (λ n. slice_index_or are.ends n 0) are.reduced called count (subst (λ ns. NodesCall ns called count) are.are c))

@@ -17,7 +17,7 @@ use Rattle.flow_graph.specs.Kept.{redirected}
 use Rattle.flow_graph.specs.RedirectLaws.{Shifted, redirects_alike}
 use Rattle.jump_clean.specs.Chains.{Skips, AreEnds}
 use Rattle.jump_clean.specs.ChainLaws.{to_itself, to_next, end_is_one, end_later, ends_at_other, skip_or_other}
-use Rattle.jump_clean.specs.TurnLaws.{skips_within}
+use Rattle.jump_clean.specs.ReductionLaws.{skips_within}
 
 module _ (received : List ℕ) (nodes : List Node) (within : AllWithin nodes) (some : 0 < length nodes) (ends : List ℕ) (are : AreEnds nodes ends) (first : slice_index_or ends 0 0 ≡ 0) where
   abbrev to : ℕ → ℕ
@@ -72,9 +72,9 @@ module _ (received : List ℕ) (nodes : List Node) (within : AllWithin nodes) (s
         moves = inl (omega arith);
       }
 
-  -- on the way, the second side waits
-  on_the_way : (z x y : ℕ) (f g : Frame) (next : ℕ) → Ahead (suc z) x y f g → slice_get nodes f.place ≡ Some (Skip next) → Responds (Unit {0}) Ahead code' (suc z) x y g (Continues 0 (at next f))
-  on_the_way z x y f g next a is =
+  -- inside the chain, the second side waits
+  in_the_chain : (z x y : ℕ) (f g : Frame) (next : ℕ) → Ahead (suc z) x y f g → slice_get nodes f.place ≡ Some (Skip next) → Responds (Unit {0}) Ahead code' (suc z) x y g (Continues 0 (at next f))
+  in_the_chain z x y f g next a is =
       let both : Some (Skip a.leads.0) ≡ Some (Skip next) = sym a.leads.1 ∙ is in
       let same : a.leads.0 ≡ next = cc in
       let e : to next ≡ to f.place = end_of_next f.place next a.here is in
@@ -95,7 +95,7 @@ module _ (received : List ℕ) (nodes : List Node) (within : AllWithin nodes) (s
 
   at_skip : (z x y : ℕ) (f g : Frame) (next : ℕ) → Ahead z x y f g → slice_get nodes f.place ≡ Some (Skip next) → Responds (Unit {0}) Ahead code' z x y g (Continues 0 (at next f))
   at_skip zero x y f g next a is = at_circle x y f g next a is
-  at_skip (suc z) x y f g next a is = on_the_way z x y f g next a is
+  at_skip (suc z) x y f g next a is = in_the_chain z x y f g next a is
 
   -- any other node is its own end of chain
   at_other : (z x y : ℕ) (f g : Frame) → Ahead z x y f g → ((next : ℕ) → slice_get nodes f.place ≡ Some (Skip next) → ⊥) → Responds (Unit {0}) Ahead code' z x y g (code f)

@@ -1,4 +1,4 @@
-pub mod TurnSame
+pub mod ReductionSame
 pub mod EndSame
 pub mod Follow
 pub mod Moves

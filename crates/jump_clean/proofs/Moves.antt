@@ -1,32 +1,37 @@
 -- Classes that are joined.
 use Rattle.std.proofs.Common.{◌≡◌, ◌≢◌, ℕ, ◌+◌, ◌<◌, List, [], ◌∷◌, ◌++◌, length, drop, slice_set, slice_index_or, ◌⊎◌, inl, inr, refl, sym, ap, ◌∙◌, subst, arith}
-use Rattle.std.proofs.lemmas.Bool.{cases_lt}
+use Rattle.std.proofs.lemmas.List.{length-set, get_or_past, get_or-set_same, get_or-set_other}
+use Rattle.std.proofs.lemmas.Bool.{cases_lt, cases_eq}
 use Rattle.mir_base.specs.Shapes.{AllBelow}
-use Rattle.jump_clean.specs.ListLaws.{same_or_not, set_long, past_index, index_here, index_elsewhere}
 use Rattle.jump_clean.specs.ChainLaws.{In}
 use Rattle.jump_clean.specs.Classes.{class, members_of, HasMembers, AreMoved}
-use Rattle.jump_clean.proofs.Follow.{in_rest, below_at}
+use Rattle.jump_clean.proofs.Follow.{in_rest, rest_below}
 
+-- a number of the first list, or of the second, is in both together, and there is no other
 pub in_left : (x : ℕ) (xs ys : List ℕ) → In x xs → In x (xs ++ ys)
 in_left x [] ys h = absurd h
 in_left x (y ∷ xs) ys (inl e) = inl e
 in_left x (y ∷ xs) ys (inr h) = inr (in_left x xs ys h)
 
+-- the second list
 pub in_right : (x : ℕ) (xs ys : List ℕ) → In x ys → In x (xs ++ ys)
 in_right x [] ys h = h
 in_right x (y ∷ xs) ys h = inr (in_right x xs ys h)
 
+-- either
 pub in_either : (x : ℕ) (xs ys : List ℕ) → In x (xs ++ ys) → In x xs ⊎ In x ys
 in_either x [] ys h = inr h
 in_either x (y ∷ xs) ys (inl e) = inl (inl e)
 in_either x (y ∷ xs) ys (inr h) = elim (in_either x xs ys h) [ inl p ↦ inl (inr p) | inr p ↦ inr p ]
 
-pub all_below : (k : ℕ) (xs : List ℕ) → ((n : ℕ) → In n xs → n < k) → AllBelow k xs
-all_below k [] h = tt
-all_below k (x ∷ xs) h = (h x (inl refl), all_below k xs (λ n p. h n (inr p)))
+-- a list is below a bound if each of its numbers is
+pub members_below : (k : ℕ) (xs : List ℕ) → ((n : ℕ) → In n xs → n < k) → AllBelow k xs
+members_below k [] h = tt
+members_below k (x ∷ xs) h = (h x (inl refl), members_below k xs (λ n p. h n (inr p)))
 
 -- ---- each node alone
 
+-- where each node is alone, it is the one member of its class
 pub alone : (of : List ℕ) (members : List (List ℕ)) (nodes : ℕ) → length of ≡ nodes → length members ≡ nodes → ((k : ℕ) → k < nodes → class of k ≡ k) → ((k : ℕ) → k < nodes → members_of members k ≡ k ∷ []) → HasMembers of members
 alone of members nodes long long' own single = record {
   long = long' ∙ sym long;
@@ -36,7 +41,7 @@ alone of members nodes long long' own single = record {
       subst (λ c. In n (members_of members c)) (sym own_n) (subst (In n) (sym (single n (omega (arith, lt, long)))) (inl refl));
   only = λ n c h. elim (cases_lt c nodes) [
     | inl lt ↦ from_single n c lt (subst (In n) (single c lt) h)
-    | inr ge ↦ absurd (subst (In n) (past_index members c [] (omega (arith, ge, long'))) h)
+    | inr ge ↦ absurd (subst (In n) (get_or_past members c [] (omega (arith, ge, long'))) h)
   ];
 }
   where
@@ -46,6 +51,7 @@ alone of members nodes long long' own single = record {
 
 -- ---- new numbers for some nodes
 
+-- one more node gets the new number
 pub relabel_step : (nodes : List ℕ) (into i : ℕ) (of first : List ℕ) → i < length nodes → length of ≡ length first → AllBelow (length of) (drop i nodes) → ((n : ℕ) → In n nodes → (class of n ≡ into) ⊎ In n (drop i nodes)) → ((n : ℕ) → (class of n ≡ class first n) ⊎ In n nodes) → In (slice_index_or nodes i 0) nodes →
     (length (slice_set of (slice_index_or nodes i 0) into) ≡ length first)
     × AllBelow (length (slice_set of (slice_index_or nodes i 0) into)) (drop (i + 1) nodes)
@@ -53,19 +59,19 @@ pub relabel_step : (nodes : List ℕ) (into i : ℕ) (of first : List ℕ) → i
     × ((n : ℕ) → (class (slice_set of (slice_index_or nodes i 0) into) n ≡ class first n) ⊎ In n nodes)
 relabel_step nodes into i of first lt long below gone others one =
     let x = slice_index_or nodes i 0 in
-    let b = below_at (length of) nodes i lt below in (
-      set_long of x into ∙ long,
-      subst (λ k. AllBelow k (drop (i + 1) nodes)) (sym (set_long of x into)) b.1,
-      λ n h. elim (same_or_not n x) [
-        | inl same ↦ inl (ap (class (slice_set of x into)) same ∙ index_here of x into 0 b.0)
+    let b = rest_below (length of) nodes i lt below in (
+      length-set of x into ∙ long,
+      subst (λ k. AllBelow k (drop (i + 1) nodes)) (sym (length-set of x into)) b.1,
+      λ n h. elim (cases_eq n x) [
+        | inl same ↦ inl (ap (class (slice_set of x into)) same ∙ get_or-set_same of x into 0 b.0)
         | inr other ↦ elim (gone n h) [
-          | inl old ↦ inl (index_elsewhere of x n into 0 other ∙ old)
+          | inl old ↦ inl (get_or-set_other of x n into 0 other ∙ old)
           | inr rest ↦ elim (in_rest nodes i n lt rest) [ inl same ↦ absurd (other (sym same)) | inr later ↦ inr later ]
         ]
       ],
-      λ n. elim (same_or_not n x) [
+      λ n. elim (cases_eq n x) [
         | inl same ↦ inr (subst (λ k. In k nodes) (sym same) one)
-        | inr other ↦ elim (others n) [ inl old ↦ inl (index_elsewhere of x n into 0 other ∙ old) | inr h ↦ inr h ]
+        | inr other ↦ elim (others n) [ inl old ↦ inl (get_or-set_other of x n into 0 other ∙ old) | inr h ↦ inr h ]
       ],
     )
 
@@ -90,44 +96,44 @@ module _ (of of' : List ℕ) (members members' : List (List ℕ)) (from into : �
     long = long;
     gone = λ n lt is. (gone n (in_moved n lt is), in_moved n lt is);
     stayed = λ n lt other. stayed n other;
-    below = all_below (length of) moved (λ n h. (from_moved n h).0);
+    below = members_below (length of) moved (λ n h. (from_moved n h).0);
   }
 
   left : length (slice_set members from []) ≡ length of
-  left = set_long members from [] ∙ has.long
+  left = length-set members from [] ∙ has.long
 
   members_into : members_of members' into ≡ members_of members into ++ moved
   members_into =
-      ap (λ l. members_of l into) added ∙ index_here (slice_set members from []) into _ [] (omega (arith, left, low'))
-      ∙ ap (λ l. l ++ moved) (index_elsewhere members from into [] [] (λ e. apart (sym e)))
+      ap (λ l. members_of l into) added ∙ get_or-set_same (slice_set members from []) into _ [] (omega (arith, left, low'))
+      ∙ ap (λ l. l ++ moved) (get_or-set_other members from into [] [] (λ e. apart (sym e)))
 
   members_from : members_of members' from ≡ []
-  members_from = ap (λ l. members_of l from) added ∙ index_elsewhere (slice_set members from []) into from _ [] apart ∙ index_here members from [] [] (omega (arith, has.long, low))
+  members_from = ap (λ l. members_of l from) added ∙ get_or-set_other (slice_set members from []) into from _ [] apart ∙ get_or-set_same members from [] [] (omega (arith, has.long, low))
 
   members_other : (c : ℕ) → c ≢ into → c ≢ from → members_of members' c ≡ members_of members c
-  members_other c not_into not_from = ap (λ l. members_of l c) added ∙ index_elsewhere (slice_set members from []) into c _ [] not_into ∙ index_elsewhere members from c [] [] not_from
+  members_other c not_into not_from = ap (λ l. members_of l c) added ∙ get_or-set_other (slice_set members from []) into c _ [] not_into ∙ get_or-set_other members from c [] [] not_from
 
   pub has_moved : HasMembers of' members'
   has_moved = record {
-    long = ap length added ∙ set_long (slice_set members from []) into _ ∙ left ∙ sym long;
-    within = λ n lt. elim (same_or_not (class of n) from) [
+    long = ap length added ∙ length-set (slice_set members from []) into _ ∙ left ∙ sym long;
+    within = λ n lt. elim (cases_eq (class of n) from) [
       | inl is ↦ let new = gone n (in_moved n (omega (arith, lt, long)) is) in omega (arith, new, low', long)
       | inr other ↦ let old = stayed n other in let w = has.within n (omega (arith, lt, long)) in omega (arith, old, w, long)
     ];
-    all = λ n lt. elim (same_or_not (class of n) from) [
+    all = λ n lt. elim (cases_eq (class of n) from) [
       | inl is ↦
           let h = in_moved n (omega (arith, lt, long)) is in
           subst (λ c. In n (members_of members' c)) (sym (gone n h)) (subst (In n) (sym members_into) (in_right n (members_of members into) moved h))
       | inr other ↦ subst (λ c. In n (members_of members' c)) (sym (stayed n other)) (still n (class of n) other (has.all n (omega (arith, lt, long))))
     ];
-    only = λ n c h. elim (same_or_not c into) [
+    only = λ n c h. elim (cases_eq c into) [
       | inl is ↦ elim (in_either n (members_of members into) moved (subst (In n) members_into (subst (λ d. In n (members_of members' d)) is h))) [
         | inl old ↦
             let o = has.only n into old in
             (omega (arith, o.0, long), stayed n (λ e. apart (sym e ∙ o.1)) ∙ o.1 ∙ sym is)
         | inr new ↦ let o = from_moved n new in (omega (arith, o.0, long), gone n new ∙ sym is)
       ]
-      | inr not_into ↦ elim (same_or_not c from) [
+      | inr not_into ↦ elim (cases_eq c from) [
         | inl is ↦ absurd (subst (In n) members_from (subst (λ d. In n (members_of members' d)) is h))
         | inr not_from ↦
             let o = has.only n c (subst (In n) (members_other c not_into not_from) h) in
@@ -137,7 +143,7 @@ module _ (of of' : List ℕ) (members members' : List (List ℕ)) (from into : �
   }
     where
       still : (n c : ℕ) → c ≢ from → In n (members_of members c) → In n (members_of members' c)
-      still n c other h = elim (same_or_not c into) [
+      still n c other h = elim (cases_eq c into) [
         | inl is ↦ subst (λ d. In n (members_of members' d)) (sym is) (subst (In n) (sym members_into) (in_left n (members_of members into) moved (subst (λ d. In n (members_of members d)) is h)))
         | inr not_into ↦ subst (In n) (sym (members_other c not_into other)) h
       ]

@@ -1,6 +1,6 @@
 -- The sources of the edges that enter a node.
-use Rattle.std.proofs.Common.{◌≡◌, ℕ, zero, suc, ◌+◌, ◌<◌, List, [], ◌∷◌, ◌++◌, length, drop, slice_get, slice_index_or, Option, Some, None, ◌⊎◌, inl, inr, refl, sym, ap, subst}
-use Rattle.std.proofs.lemmas.Option.{slice_get_within}
+use Rattle.std.proofs.Common.{◌≡◌, ℕ, zero, suc, ◌+◌, ◌<◌, List, [], ◌∷◌, ◌++◌, length, drop, slice_get, slice_index_or, Some, ◌⊎◌, inl, inr, sym, ap, subst}
+use Rattle.flow_graph.specs.BoundLaws.{edge_within}
 use Rattle.flow_graph.specs.declared.edges.Edge.{Edge}
 use Rattle.flow_graph.specs.declared.nodes.Node.{Node}
 use Rattle.flow_graph.specs.Graphs.{succs_of}
@@ -10,11 +10,13 @@ use Rattle.jump_clean.specs.ChainLaws.{In}
 use Rattle.jump_clean.proofs.Follow.{in_rest, in_place}
 use Rattle.jump_clean.proofs.Moves.{in_either, in_left, in_right}
 
+-- an element that has a place is in the list
 in_at : (xs : List ℕ) (i n : ℕ) → slice_get xs i ≡ Some n → In n xs
 in_at [] i n e = cc
 in_at (x ∷ xs) zero n e = let same : x ≡ n = cc in inl same
 in_at (x ∷ xs) (suc i) n e = inr (in_at xs i n e)
 
+-- and one in the list has a place
 at_in : (xs : List ℕ) (n : ℕ) → In n xs → (i : ℕ) × (slice_get xs i ≡ Some n)
 at_in [] n h = absurd h
 at_in (x ∷ xs) n (inl e) = (0, ap Some e)
@@ -24,18 +26,15 @@ at_in (x ∷ xs) n (inr h) = let r = at_in xs n h in (suc r.0, r.1)
 pub in_preds : (nodes : List Node) (m s slot : ℕ) → slice_get (succs_of (slice_get nodes m)) slot ≡ Some s → In m (preds_among s (edges_from 0 nodes))
 in_preds nodes m s slot e = let r = pred_has nodes m s (slot, e) in in_at (preds_among s (edges_from 0 nodes)) r.0 m r.1
 
-pub preds_below : (nodes : List Node) (s m : ℕ) → In m (preds_among s (edges_from 0 nodes)) → m < length nodes
-preds_below nodes s m h =
+-- and each source is a node
+pub pred_within : (nodes : List Node) (s m : ℕ) → In m (preds_among s (edges_from 0 nodes)) → m < length nodes
+pred_within nodes s m h =
     let p = at_in (preds_among s (edges_from 0 nodes)) m h in
-    let edge = pred_is nodes s p.0 m p.1 in
-    there edge.0 (slice_get nodes m) refl edge.1
-  where
-    there : (slot : ℕ) (o : Option Node) → slice_get nodes m ≡ o → slice_get (succs_of o) slot ≡ Some s → m < length nodes
-    there slot None is e = cc
-    there slot (Some node) is e = slice_get_within nodes m node is
+    edge_within nodes m s (pred_is nodes s p.0 m p.1)
 
 -- ---- the sources for several nodes
 
+-- the sources for one more node
 pub more_preds : (nodes : List ℕ) (edges : List Edge) (i : ℕ) (preds preds' : List ℕ) → i < length nodes → preds' ≡ preds ++ preds_among (slice_index_or nodes i 0) edges → ((n m : ℕ) → In n nodes → In m (preds_among n edges) → In m preds ⊎ In n (drop i nodes)) → (n m : ℕ) → In n nodes → In m (preds_among n edges) → In m preds' ⊎ In n (drop (i + 1) nodes)
 more_preds nodes edges i preds preds' lt is all n m h h' = elim (all n m h h') [
   | inl p ↦ inl (subst (In m) (sym is) (in_left m preds (preds_among (slice_index_or nodes i 0) edges) p))
@@ -45,6 +44,7 @@ more_preds nodes edges i preds preds' lt is all n m h h' = elim (all n m h h') [
   ]
 ]
 
+-- and no others
 pub only_preds : (nodes : List ℕ) (edges : List Edge) (i : ℕ) (preds preds' : List ℕ) → i < length nodes → preds' ≡ preds ++ preds_among (slice_index_or nodes i 0) edges → ((m : ℕ) → In m preds → (n : ℕ) × In n nodes × In m (preds_among n edges)) → (m : ℕ) → In m preds' → (n : ℕ) × In n nodes × In m (preds_among n edges)
 only_preds nodes edges i preds preds' lt is only m h = elim (in_either m preds (preds_among (slice_index_or nodes i 0) edges) (subst (In m) is h)) [
   | inl p ↦ only m p

@@ -1,4 +1,4 @@
--- The laws of chains: each node has exactly one end of chain.
+-- The laws of chains: each node has exactly one end of chain. `In` is cited by contracts.
 use Rattle.std.proofs.Common.{◌≡◌, ℕ, zero, suc, ◌+◌, ◌-◌, ◌<◌, ◌≤◌, Bool, true, false, List, [], ◌∷◌, ◌++◌, length, slice_get, replicate, Option, Some, None, ◌⊎◌, inl, inr, refl, sym, ap, ◌∙◌, subst, arith, zero-add, suc-add}
 use Rattle.std.proofs.lemmas.Bool.{cases_lt}
 use Rattle.flow_graph.specs.declared.nodes.Node.{Node}
@@ -7,6 +7,7 @@ use Rattle.jump_clean.specs.Chains.{Skips, SkipsTo, EndsChains, IsEnd}
 
 -- ---- Skips one after the other
 
+-- chains of Skips join end to end, and their lengths add up
 skips_trans : (nodes : List Node) (j k a b c : ℕ) → Skips nodes j a b → Skips nodes k b c → Skips nodes (j + k) a c
 skips_trans nodes zero k a b c s t = rw (zero-add k) (subst (λ m. Skips nodes k m c) (sym s) t)
 skips_trans nodes (suc j) k a b c s t = rw (suc-add j k) (s.0, s.1, skips_trans nodes j k s.0 b c s.2 t)
@@ -47,7 +48,7 @@ module _ (nodes : List Node) where
     | inr s ↦ let a = is'.ends.least e s in let b = is.ends.least e' (is'.ends.back e s) in omega (arith, a, b)
   ]
 
-  -- the end of chain is that of each node on the way
+  -- the end of chain is that of each node of the chain
   pub end_from : (n m e : ℕ) → SkipsTo nodes n m → IsEnd nodes m e → IsEnd nodes n e
   end_from n m e s is = record { leads = to_trans n m e s is.leads; ends = is.ends }
 
@@ -79,69 +80,70 @@ skip_or_other (Some (Call into unit operands s)) = inr (λ next e. cc)
 skip_or_other (Some (Test test taken other)) = inr (λ next e. cc)
 skip_or_other (Some (Return a)) = inr (λ next e. cc)
 
--- ---- the Skips on a way
+-- ---- the Skips of a chain
 
+-- the number is one of the list
 abbrev pub In : ℕ → List ℕ → Type 0
 In x [] = ⊥
 In x (y ∷ ys) = (y ≡ x) ⊎ In x ys
 
 -- these Skips lead from node n to node m, each but the first the successor of the one before
-abbrev pub IsWay : List Node → List ℕ → ℕ → ℕ → Type 0
-IsWay nodes [] n m = n ≡ m
-IsWay nodes (k ∷ way) n m = (k ≡ n) × (next : ℕ) × (slice_get nodes k ≡ Some (Skip next)) × IsWay nodes way next m
+abbrev pub IsSkipChain : List Node → List ℕ → ℕ → ℕ → Type 0
+IsSkipChain nodes [] n m = n ≡ m
+IsSkipChain nodes (k ∷ chain) n m = (k ≡ n) × (next : ℕ) × (slice_get nodes k ≡ Some (Skip next)) × IsSkipChain nodes chain next m
 
 module _ (nodes : List Node) where
-  pub way_leads : (way : List ℕ) (n m : ℕ) → IsWay nodes way n m → SkipsTo nodes n m
-  way_leads [] n m w = subst (SkipsTo nodes n) w (to_itself nodes n)
-  way_leads (k ∷ way) n m w = subst (λ i. SkipsTo nodes i m) w.0 (to_trans nodes k w.1 m (to_next nodes k w.1 w.2) (way_leads way w.1 m w.3))
+  pub chain_leads : (chain : List ℕ) (n m : ℕ) → IsSkipChain nodes chain n m → SkipsTo nodes n m
+  chain_leads [] n m w = subst (SkipsTo nodes n) w (to_itself nodes n)
+  chain_leads (k ∷ chain) n m w = subst (λ i. SkipsTo nodes i m) w.0 (to_trans nodes k w.1 m (to_next nodes k w.1 w.2) (chain_leads chain w.1 m w.3))
 
-  -- each Skip on the way is led to, and leads on
-  pub led_to : (way : List ℕ) (n m x : ℕ) → IsWay nodes way n m → In x way → SkipsTo nodes n x
+  -- each Skip of the chain is led to, and leads on
+  pub led_to : (chain : List ℕ) (n m x : ℕ) → IsSkipChain nodes chain n m → In x chain → SkipsTo nodes n x
   led_to [] n m x w h = absurd h
-  led_to (k ∷ way) n m x w (inl e) = subst (SkipsTo nodes n) (sym w.0 ∙ e) (to_itself nodes n)
-  led_to (k ∷ way) n m x w (inr h) = subst (λ i. SkipsTo nodes i x) w.0 (to_trans nodes k w.1 x (to_next nodes k w.1 w.2) (led_to way w.1 m x w.3 h))
+  led_to (k ∷ chain) n m x w (inl e) = subst (SkipsTo nodes n) (sym w.0 ∙ e) (to_itself nodes n)
+  led_to (k ∷ chain) n m x w (inr h) = subst (λ i. SkipsTo nodes i x) w.0 (to_trans nodes k w.1 x (to_next nodes k w.1 w.2) (led_to chain w.1 m x w.3 h))
 
-  pub leads_on : (way : List ℕ) (n m x : ℕ) → IsWay nodes way n m → In x way → SkipsTo nodes x m
+  pub leads_on : (chain : List ℕ) (n m x : ℕ) → IsSkipChain nodes chain n m → In x chain → SkipsTo nodes x m
   leads_on [] n m x w h = absurd h
-  leads_on (k ∷ way) n m x w (inl e) = subst (λ i. SkipsTo nodes i m) (sym w.0 ∙ e) (way_leads (k ∷ way) n m w)
-  leads_on (k ∷ way) n m x w (inr h) = leads_on way w.1 m x w.3 h
+  leads_on (k ∷ chain) n m x w (inl e) = subst (λ i. SkipsTo nodes i m) (sym w.0 ∙ e) (chain_leads (k ∷ chain) n m w)
+  leads_on (k ∷ chain) n m x w (inr h) = leads_on chain w.1 m x w.3 h
 
-  pub way_push : (way : List ℕ) (n m next : ℕ) → IsWay nodes way n m → slice_get nodes m ≡ Some (Skip next) → IsWay nodes (way ++ m ∷ []) n next
-  way_push [] n m next w is = (sym w, next, is, refl)
-  way_push (k ∷ way) n m next w is = (w.0, w.1, w.2, way_push way w.1 m next w.3 is)
+  pub chain_push : (chain : List ℕ) (n m next : ℕ) → IsSkipChain nodes chain n m → slice_get nodes m ≡ Some (Skip next) → IsSkipChain nodes (chain ++ m ∷ []) n next
+  chain_push [] n m next w is = (sym w, next, is, refl)
+  chain_push (k ∷ chain) n m next w is = (w.0, w.1, w.2, chain_push chain w.1 m next w.3 is)
 
-  pub way_rest : (front way : List ℕ) (c n m : ℕ) → IsWay nodes (front ++ c ∷ way) n m → SkipsTo nodes n c × IsWay nodes (c ∷ way) c m
-  way_rest [] way c n m w = (subst (SkipsTo nodes n) (sym w.0) (to_itself nodes n), (refl, w.1, w.2, w.3))
-  way_rest (k ∷ front) way c n m w =
-      let r = way_rest front way c w.1 m w.3 in
+  pub chain_rest : (front chain : List ℕ) (c n m : ℕ) → IsSkipChain nodes (front ++ c ∷ chain) n m → SkipsTo nodes n c × IsSkipChain nodes (c ∷ chain) c m
+  chain_rest [] chain c n m w = (subst (SkipsTo nodes n) (sym w.0) (to_itself nodes n), (refl, w.1, w.2, w.3))
+  chain_rest (k ∷ front) chain c n m w =
+      let r = chain_rest front chain c w.1 m w.3 in
       (subst (λ i. SkipsTo nodes i c) w.0 (to_trans nodes k w.1 c (to_next nodes k w.1 w.2) r.0), r.1)
 
-  -- the successor of a Skip on the way is on it too, or is where it leads
-  next_on : (way : List ℕ) (n m x next : ℕ) → IsWay nodes way n m → In x way → slice_get nodes x ≡ Some (Skip next) → In next way ⊎ (next ≡ m)
+  -- the successor of a Skip of the chain is in it too, or is where it leads
+  next_on : (chain : List ℕ) (n m x next : ℕ) → IsSkipChain nodes chain n m → In x chain → slice_get nodes x ≡ Some (Skip next) → In next chain ⊎ (next ≡ m)
   next_on [] n m x next w h is = absurd h
-  next_on (k ∷ way) n m x next w (inl e) is =
+  next_on (k ∷ chain) n m x next w (inl e) is =
       let both : Some (Skip w.1) ≡ Some (Skip next) = sym w.2 ∙ ap (slice_get nodes) e ∙ is in
       let same : w.1 ≡ next = cc in
-      first way w.3 same
+      first chain w.3 same
     where
-      first : (rest : List ℕ) → IsWay nodes rest w.1 m → w.1 ≡ next → In next (k ∷ rest) ⊎ (next ≡ m)
+      first : (rest : List ℕ) → IsSkipChain nodes rest w.1 m → w.1 ≡ next → In next (k ∷ rest) ⊎ (next ≡ m)
       first [] r same = inr (sym same ∙ r)
       first (i ∷ rest) r same = inl (inr (inl (r.0 ∙ same)))
-  next_on (k ∷ way) n m x next w (inr h) is = elim (next_on way w.1 m x next w.3 h is) [ inl p ↦ inl (inr p) | inr p ↦ inr p ]
+  next_on (k ∷ chain) n m x next w (inr h) is = elim (next_on chain w.1 m x next w.3 h is) [ inl p ↦ inl (inr p) | inr p ↦ inr p ]
 
   -- the Skips from node c back to it: Skips lead from each of them only to others of them
-  circle_closed : (way : List ℕ) (c x y : ℕ) → IsWay nodes (c ∷ way) c c → In x (c ∷ way) → SkipsTo nodes x y → In y (c ∷ way)
-  circle_closed way c x y w h s = by_count s.count x h s.skips
+  circle_closed : (chain : List ℕ) (c x y : ℕ) → IsSkipChain nodes (c ∷ chain) c c → In x (c ∷ chain) → SkipsTo nodes x y → In y (c ∷ chain)
+  circle_closed chain c x y w h s = by_count s.count x h s.skips
     where
-      by_count : (k x : ℕ) → In x (c ∷ way) → Skips nodes k x y → In y (c ∷ way)
-      by_count zero x h t = subst (λ i. In i (c ∷ way)) t h
-      by_count (suc k) x h t = by_count k t.0 (elim (next_on (c ∷ way) c c x t.0 w h t.1) [ inl p ↦ p | inr p ↦ inl (sym p) ]) t.2
+      by_count : (k x : ℕ) → In x (c ∷ chain) → Skips nodes k x y → In y (c ∷ chain)
+      by_count zero x h t = subst (λ i. In i (c ∷ chain)) t h
+      by_count (suc k) x h t = by_count k t.0 (elim (next_on (c ∷ chain) c c x t.0 w h t.1) [ inl p ↦ p | inr p ↦ inl (sym p) ]) t.2
 
   -- the least of them ends chains
-  pub circle_ends : (way : List ℕ) (c e : ℕ) → IsWay nodes (c ∷ way) c c → In e (c ∷ way) → ((x : ℕ) → In x (c ∷ way) → e ≤ x) → EndsChains nodes e
-  circle_ends way c e w h least = record {
-    back = λ m s. to_trans nodes m c e (leads_on (c ∷ way) c c m w (circle_closed way c e m w h s)) (led_to (c ∷ way) c c e w h);
-    least = λ m s. least m (circle_closed way c e m w h s);
+  pub circle_ends : (chain : List ℕ) (c e : ℕ) → IsSkipChain nodes (c ∷ chain) c c → In e (c ∷ chain) → ((x : ℕ) → In x (c ∷ chain) → e ≤ x) → EndsChains nodes e
+  circle_ends chain c e w h least = record {
+    back = λ m s. to_trans nodes m c e (leads_on (c ∷ chain) c c m w (circle_closed chain c e m w h s)) (led_to (c ∷ chain) c c e w h);
+    least = λ m s. least m (circle_closed chain c e m w h s);
   }
 
 -- ---- each node has an end of chain
@@ -156,6 +158,7 @@ least_of x (z ∷ xs) =
       | inr ge ↦ (x, inl refl, λ y h. elim h [ inl p ↦ omega (arith, p) | inr p ↦ omega (arith, ge, r.2 y p) ])
     ]
 
+-- a list divided at one of its elements
 split_at : (x : ℕ) (xs : List ℕ) → In x xs → (front : List ℕ) × (rest : List ℕ) × (xs ≡ front ++ x ∷ rest)
 split_at x [] h = absurd h
 split_at x (y ∷ ys) (inl e) = ([], ys, ap (λ z. z ∷ ys) e)
@@ -167,17 +170,20 @@ unmarked [] = 0
 unmarked (true ∷ marks) = unmarked marks
 unmarked (false ∷ marks) = suc (unmarked marks)
 
+-- marks one more place
 mark : List Bool → ℕ → List Bool
 mark [] n = []
 mark (b ∷ marks) zero = true ∷ marks
 mark (b ∷ marks) (suc n) = b ∷ mark marks n
 
+-- marking adds no place
 mark_long : (marks : List Bool) (n : ℕ) → length (mark marks n) ≡ length marks
 unfolding mark
 mark_long [] n = refl
 mark_long (b ∷ marks) zero = refl
 mark_long (b ∷ marks) (suc n) = ap suc (mark_long marks n)
 
+-- marking a place that was unmarked leaves one unmarked place fewer, so marking ends
 mark_less : (marks : List Bool) (n : ℕ) → slice_get marks n ≡ Some false → suc (unmarked (mark marks n)) ≡ unmarked marks
 unfolding mark unmarked
 mark_less [] n e = cc
@@ -186,6 +192,7 @@ mark_less (false ∷ marks) zero e = refl
 mark_less (true ∷ marks) (suc n) e = mark_less marks n e
 mark_less (false ∷ marks) (suc n) e = ap suc (mark_less marks n e)
 
+-- a mark is new only at the place that was marked
 mark_tells : (marks : List Bool) (n m : ℕ) → slice_get (mark marks n) m ≡ Some true → (m ≡ n) ⊎ (slice_get marks m ≡ Some true)
 unfolding mark
 mark_tells [] n m e = inr e
@@ -194,17 +201,20 @@ mark_tells (b ∷ marks) zero (suc m) e = inr e
 mark_tells (b ∷ marks) (suc n) zero e = inr e
 mark_tells (b ∷ marks) (suc n) (suc m) e = elim (mark_tells marks n m e) [ inl p ↦ inl (ap suc p) | inr p ↦ inr p ]
 
+-- each place is either marked or unmarked
 marked_or_not : (marks : List Bool) (n : ℕ) → n < length marks → (slice_get marks n ≡ Some true) ⊎ (slice_get marks n ≡ Some false)
 marked_or_not [] n lt = absurd (omega (arith, lt))
 marked_or_not (true ∷ marks) zero lt = inl refl
 marked_or_not (false ∷ marks) zero lt = inr refl
 marked_or_not (b ∷ marks) (suc n) lt = marked_or_not marks n (omega (arith, lt))
 
+-- what is in a list is in a longer one
 pub in_push : (x y : ℕ) (xs : List ℕ) → In x xs → In x (xs ++ y ∷ [])
 in_push x y [] h = absurd h
 in_push x y (z ∷ xs) (inl e) = inl e
 in_push x y (z ∷ xs) (inr h) = inr (in_push x y xs h)
 
+-- and so is the last
 pub in_last : (x : ℕ) (xs : List ℕ) → In x (xs ++ x ∷ [])
 in_last x [] = inl refl
 in_last x (z ∷ xs) = inr (in_last x xs)
@@ -215,41 +225,41 @@ SkipsWithin nodes = (n next : ℕ) → slice_get nodes n ≡ Some (Skip next) �
 
 module _ (nodes : List Node) (within : SkipsWithin nodes) where
   -- some Skips lead from the start to node n, and each marked node is one of them
-  record Following (marks : List Bool) (way : List ℕ) (start n : ℕ) : Type 0 where
+  record Following (marks : List Bool) (chain : List ℕ) (start n : ℕ) : Type 0 where
     long : length marks ≡ length nodes
-    on_way : (m : ℕ) → slice_get marks m ≡ Some true → In m way
-    is_way : IsWay nodes way start n
+    in_chain : (m : ℕ) → slice_get marks m ≡ Some true → In m chain
+    is_chain : IsSkipChain nodes chain start n
     here : n < length nodes
 
   -- a node that comes for the second time is on a circle
-  comes_again : (marks : List Bool) (way : List ℕ) (start n : ℕ) → Following marks way start n → slice_get marks n ≡ Some true → (e : ℕ) × IsEnd nodes start e
-  comes_again marks way start n f again =
-      let s = split_at n way (f.on_way n again) in
-      let r = way_rest nodes s.0 s.1 n start n (subst (λ l. IsWay nodes l start n) s.2 f.is_way) in
+  comes_again : (marks : List Bool) (chain : List ℕ) (start n : ℕ) → Following marks chain start n → slice_get marks n ≡ Some true → (e : ℕ) × IsEnd nodes start e
+  comes_again marks chain start n f again =
+      let s = split_at n chain (f.in_chain n again) in
+      let r = chain_rest nodes s.0 s.1 n start n (subst (λ l. IsSkipChain nodes l start n) s.2 f.is_chain) in
       let least = least_of n s.1 in
       (least.0, record { leads = to_trans nodes start n least.0 r.0 (led_to nodes (n ∷ s.1) n n least.0 r.1 least.1); ends = circle_ends nodes s.1 n least.0 r.1 least.1 least.2 })
 
-  goes_on : (marks : List Bool) (way : List ℕ) (start n next : ℕ) → Following marks way start n → slice_get nodes n ≡ Some (Skip next) → Following (mark marks n) (way ++ n ∷ []) start next
-  goes_on marks way start n next f skip = record {
+  goes_on : (marks : List Bool) (chain : List ℕ) (start n next : ℕ) → Following marks chain start n → slice_get nodes n ≡ Some (Skip next) → Following (mark marks n) (chain ++ n ∷ []) start next
+  goes_on marks chain start n next f skip = record {
     long = mark_long marks n ∙ f.long;
-    on_way = λ m e. elim (mark_tells marks n m e) [ inl p ↦ subst (λ i. In i (way ++ n ∷ [])) (sym p) (in_last n way) | inr p ↦ in_push m n way (f.on_way m p) ];
-    is_way = way_push nodes way start n next f.is_way skip;
+    in_chain = λ m e. elim (mark_tells marks n m e) [ inl p ↦ subst (λ i. In i (chain ++ n ∷ [])) (sym p) (in_last n chain) | inr p ↦ in_push m n chain (f.in_chain m p) ];
+    is_chain = chain_push nodes chain start n next f.is_chain skip;
     here = within n next skip;
   }
 
-  at_node : (marks : List Bool) (way : List ℕ) (start n : ℕ) → Following marks way start n → ((next : ℕ) → slice_get nodes n ≡ Some (Skip next) → slice_get marks n ≡ Some false → (e : ℕ) × IsEnd nodes start e) → (e : ℕ) × IsEnd nodes start e
-  at_node marks way start n f onward = elim (skip_or_other (slice_get nodes n)) [
-    | inr other ↦ (n, record { leads = way_leads nodes way start n f.is_way; ends = ends_at_other nodes n other })
-    | inl skip ↦ elim (marked_or_not marks n (omega (arith, f.here, f.long))) [ inl again ↦ comes_again marks way start n f again | inr new ↦ onward skip.0 skip.1 new ]
+  at_node : (marks : List Bool) (chain : List ℕ) (start n : ℕ) → Following marks chain start n → ((next : ℕ) → slice_get nodes n ≡ Some (Skip next) → slice_get marks n ≡ Some false → (e : ℕ) × IsEnd nodes start e) → (e : ℕ) × IsEnd nodes start e
+  at_node marks chain start n f onward = elim (skip_or_other (slice_get nodes n)) [
+    | inr other ↦ (n, record { leads = chain_leads nodes chain start n f.is_chain; ends = ends_at_other nodes n other })
+    | inl skip ↦ elim (marked_or_not marks n (omega (arith, f.here, f.long))) [ inl again ↦ comes_again marks chain start n f again | inr new ↦ onward skip.0 skip.1 new ]
   ]
 
   -- the chain is followed until a node that is no Skip, or one that comes for the second time
-  follow_chain : (left : ℕ) (marks : List Bool) (way : List ℕ) (start n : ℕ) → unmarked marks ≡ left → Following marks way start n → (e : ℕ) × IsEnd nodes start e
-  follow_chain zero marks way start n is f = at_node marks way start n f (λ next skip new. absurd (omega (arith, mark_less marks n new, is)))
-  follow_chain (suc left) marks way start n is f = at_node marks way start n f (λ next skip new. follow_chain left (mark marks n) (way ++ n ∷ []) start next (omega (arith, mark_less marks n new, is)) (goes_on marks way start n next f skip))
+  follow_chain : (left : ℕ) (marks : List Bool) (chain : List ℕ) (start n : ℕ) → unmarked marks ≡ left → Following marks chain start n → (e : ℕ) × IsEnd nodes start e
+  follow_chain zero marks chain start n is f = at_node marks chain start n f (λ next skip new. absurd (omega (arith, mark_less marks n new, is)))
+  follow_chain (suc left) marks chain start n is f = at_node marks chain start n f (λ next skip new. follow_chain left (mark marks n) (chain ++ n ∷ []) start next (omega (arith, mark_less marks n new, is)) (goes_on marks chain start n next f skip))
 
   pub has_end : (n : ℕ) → n < length nodes → (e : ℕ) × IsEnd nodes n e
-  has_end n lt = follow_chain (unmarked (replicate (length nodes) false)) (replicate (length nodes) false) [] n n refl (record { long = none_long (length nodes); on_way = λ m e. absurd (none (length nodes) m e); is_way = refl; here = lt })
+  has_end n lt = follow_chain (unmarked (replicate (length nodes) false)) (replicate (length nodes) false) [] n n refl (record { long = none_long (length nodes); in_chain = λ m e. absurd (none (length nodes) m e); is_chain = refl; here = lt })
     where
       none_long : (k : ℕ) → length (replicate k false) ≡ k
       none_long zero = refl

@@ -1,4 +1,4 @@
--- Chains of Skips, and the nodes at which they end.
+-- Chains of Skips, and the nodes at which they end. Cited by contracts.
 use Rattle.std.specs.Prelude.{◌≡◌, ℕ, zero, suc, ◌<◌, ◌≤◌, List, length, slice_get, slice_index_or, Some}
 use Rattle.flow_graph.specs.declared.nodes.Node.{Node}
 use Rattle.flow_graph.specs.declared.nodes.Node.TheVariants.{Skip}

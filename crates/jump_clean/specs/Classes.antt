@@ -1,6 +1,7 @@
--- Classes of nodes: the number of the class of each node, and the members of each class.
-use Rattle.std.specs.Prelude.{◌≡◌, ◌≢◌, ℕ, ◌<◌, List, length, slice_index_or, [], ◌⊎◌}
+-- Classes of nodes: the number of the class of each node, and the members of each class. Cited by contracts.
+use Rattle.std.specs.Prelude.{◌≡◌, ◌≢◌, ℕ, ◌<◌, List, length, map, slice_index_or, slice_set, [], ◌++◌, ◌⊎◌}
 use Rattle.mir_base.specs.Shapes.{AllBelow}
+use Rattle.jump_clean.specs.declared.classes.Classes.{Classes}
 use Rattle.jump_clean.specs.ChainLaws.{In}
 
 -- the class of a node
@@ -17,6 +18,22 @@ pub record HasMembers (of : List ℕ) (members : List (List ℕ)) : Type 0 where
   pub within : (n : ℕ) → n < length of → class of n < length of
   pub all : (n : ℕ) → n < length of → In n (members_of members (class of n))
   pub only : (n c : ℕ) → In n (members_of members c) → (n < length of) × (class of n ≡ c)
+
+-- the members of each class, by its number
+abbrev pub members_in : Classes → List (List ℕ)
+members_in classes = map (λ v. v.items) classes.members.items
+
+-- so it is with the members that are kept
+abbrev pub HaveMembers : Classes → Type 0
+HaveMembers classes = HasMembers classes.of.items (members_in classes)
+
+-- each of so many nodes is in the class of its own number
+abbrev pub AreAlone : ℕ → List ℕ → Type 0
+AreAlone nodes of = (n : ℕ) → n < nodes → class of n ≡ n
+
+-- the members of each class, with more in one of them
+abbrev pub with_more : List (List ℕ) → ℕ → List ℕ → List (List ℕ)
+with_more members c nodes = slice_set members c (members_of members c ++ nodes)
 
 -- the nodes of the one class, which are these, have gone into the other, and all others are where they were
 pub record AreMoved (of of' : List ℕ) (from into : ℕ) (moved : List ℕ) : Type 0 where

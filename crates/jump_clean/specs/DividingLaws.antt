@@ -1,5 +1,8 @@
--- Cleaning keeps each dividing assignment: only Skips, and Tests that have become Skips, are no longer reached.
-use Rattle.std.proofs.Common.{◌≡◌, ℕ, zero, suc, ◌<◌, List, [], ◌∷◌, length, map, slice_get, slice_index_or, Option, Some, None, option_map, ◌⊎◌, inl, inr, refl, sym, ap, ◌∙◌, subst, arith}
+-- Cleaning keeps each dividing assignment: only Skips, and Tests that have become Skips, are no longer reached. For proofs only.
+use Rattle.std.proofs.Common.{◌≡◌, ℕ, zero, suc, ◌<◌, List, [], ◌∷◌, length, slice_get, slice_index_or, Option, Some, None, option_map, ◌⊎◌, inl, inr, refl, sym, ap, ◌∙◌, subst, arith}
+use Rattle.flow_graph.specs.NodeLaws.{redirected_succs_of}
+use Rattle.flow_graph.specs.BoundLaws.{slot_within}
+use Rattle.std.proofs.lemmas.Bool.{cases_eq}
 use Rattle.std.proofs.lemmas.Option.{slice_get-map, slice_get_within}
 use Rattle.mir_base.specs.declared.instructions.Test as tests
 use Rattle.mir_base.specs.declared.instructions.Rhs.{Rhs}
@@ -9,112 +12,95 @@ use Rattle.flow_graph.specs.declared.nodes.Node.{Node}
 use Rattle.flow_graph.specs.declared.nodes.Node.TheVariants.{Start, Skip, Assign, Print, Call, Test, Return}
 use Rattle.flow_graph.specs.Dividing.{DividesAt, DividesStay}
 use Rattle.flow_graph.specs.DividingLaws.{kept_stay, stay_in_place, stay_trans}
-use Rattle.flow_graph.specs.Graphs.{AllWithin, GraphShape, IsEdge, IsGraph, Reached, along, at_start, succs_of}
+use Rattle.flow_graph.specs.Graphs.{AllWithin, GraphShape, IsGraph, Reached, along, at_start, succs_of}
 use Rattle.flow_graph.specs.Kept.{redirected}
 use Rattle.jump_clean.specs.Chains.{IsEnd, SkipsTo}
 use Rattle.jump_clean.specs.ChainLaws.{end_is_one, end_later, ends_at_other, skip_or_other, to_itself, to_next}
 use Rattle.jump_clean.specs.Cleaned.{AreCleaned, IsClean}
-use Rattle.jump_clean.specs.ListLaws.{same_or_not}
-use Rattle.jump_clean.specs.TurnLaws.{Becomes, BecomesAt, all_become, all_long, leads_still, one_becomes, turned_elsewhere}
-use Rattle.jump_clean.specs.Turns.{TurnsAll}
+use Rattle.jump_clean.specs.ReductionLaws.{Becomes, BecomesAt, all_become, all_long, leads_still, one_becomes, reduced_elsewhere}
+use Rattle.jump_clean.specs.Reductions.{AreReductions}
 
 -- Skips lead from both successors of a Test that has become a Skip to one node
-pub record Meet (nodes : List Node) (taken other : ℕ) : Type 0 where
+pub record BranchesMeet (nodes : List Node) (taken other : ℕ) : Type 0 where
   pub end : ℕ
   pub from_taken : SkipsTo nodes taken end
   pub from_other : SkipsTo nodes other end
 
-turned_meet : (nodes : List Node) (order : List ℕ) (turned : List Node) → TurnsAll nodes order turned → (m : ℕ) (test : tests.Test) (taken other : ℕ) → slice_get nodes m ≡ Some (Test test taken other) → slice_get turned m ≡ Some (Skip taken) → Meet turned taken other
-turned_meet nodes [] turned turns m test taken other was is = let both : Some (Test test taken other) ≡ Some (Skip taken) = sym was ∙ ap (λ l. slice_get l m) (sym turns) ∙ is in cc
-turned_meet nodes (n ∷ order) turned turns m test taken other was is = elim (same_or_not m n) [
-  | inl same ↦ here same ((all_become nodes order middle turns.1).at_node m)
+-- a Test that was reduced to a Skip had branches that meet, and they still do in the result
+reduced_meet : (nodes : List Node) (order : List ℕ) (reduced : List Node) → AreReductions nodes order reduced → (m : ℕ) (test : tests.Test) (taken other : ℕ) → slice_get nodes m ≡ Some (Test test taken other) → slice_get reduced m ≡ Some (Skip taken) → BranchesMeet reduced taken other
+reduced_meet nodes [] reduced reductions m test taken other was is = let both : Some (Test test taken other) ≡ Some (Skip taken) = sym was ∙ ap (λ l. slice_get l m) (sym reductions) ∙ is in cc
+reduced_meet nodes (n ∷ order) reduced reductions m test taken other was is = elim (cases_eq m n) [
+  | inl same ↦ here same ((all_become nodes order middle reductions.1).at_node m)
   | inr apart ↦
-      let before = turned_meet nodes order middle turns.1 m test taken other was (sym (turned_elsewhere middle n turned turns.2 m apart) ∙ is) in
-      record { end = before.end; from_taken = leads_still middle turned becomes taken before.end before.from_taken; from_other = leads_still middle turned becomes other before.end before.from_other }
+      let before = reduced_meet nodes order middle reductions.1 m test taken other was (sym (reduced_elsewhere middle n reduced reductions.2 m apart) ∙ is) in
+      record { end = before.end; from_taken = leads_still middle reduced becomes taken before.end before.from_taken; from_other = leads_still middle reduced becomes other before.end before.from_other }
 ]
   where
     middle : List Node
-    middle = turns.0
+    middle = reductions.0
 
-    becomes : Becomes turns.0 turned
-    becomes = one_becomes turns.0 n turned turns.2
+    becomes : Becomes reductions.0 reduced
+    becomes = one_becomes reductions.0 n reduced reductions.2
 
-    here : m ≡ n → BecomesAt (slice_get nodes m) (slice_get turns.0 m) → Meet turned taken other
+    here : m ≡ n → BecomesAt (slice_get nodes m) (slice_get reductions.0 m) → BranchesMeet reduced taken other
     here same (inl stays) =
-        let turn = turns.2.same in
-        let both : Some (Test test taken other) ≡ Some (Test turn.test turns.2.taken turn.other) = sym was ∙ stays ∙ ap (slice_get turns.0) same ∙ turn.is in
-        let one : turns.2.taken ≡ taken = cc in
-        let two : turn.other ≡ other = cc in
+        let reduction = reductions.2.same in
+        let both : Some (Test test taken other) ≡ Some (Test reduction.test reductions.2.taken reduction.other) = sym was ∙ stays ∙ ap (slice_get reductions.0) same ∙ reduction.is in
+        let one : reductions.2.taken ≡ taken = cc in
+        let two : reduction.other ≡ other = cc in
         record {
-          end = turn.end;
-          from_taken = leads_still turns.0 turned becomes taken turn.end (subst (λ k. SkipsTo turns.0 k turn.end) one turn.taken_end.leads);
-          from_other = leads_still turns.0 turned becomes other turn.end (subst (λ k. SkipsTo turns.0 k turn.end) two turn.other_end.leads);
+          end = reduction.end;
+          from_taken = leads_still reductions.0 reduced becomes taken reduction.end (subst (λ k. SkipsTo reductions.0 k reduction.end) one reduction.taken_end.leads);
+          from_other = leads_still reductions.0 reduced becomes other reduction.end (subst (λ k. SkipsTo reductions.0 k reduction.end) two reduction.other_end.leads);
         }
     here same (inr r) =
-        let both : Some (Skip r.1) ≡ Some (Test turns.2.same.test turns.2.taken turns.2.same.other) = sym r.4 ∙ ap (slice_get turns.0) same ∙ turns.2.same.is in cc
-
-edges_redirected : (to : ℕ → ℕ) (node : Option Node) → succs_of (option_map (redirected to) node) ≡ map to (succs_of node)
-edges_redirected to None = refl
-edges_redirected to (Some (Start next)) = refl
-edges_redirected to (Some (Skip next)) = refl
-edges_redirected to (Some (Assign x rhs next)) = refl
-edges_redirected to (Some (Print a next)) = refl
-edges_redirected to (Some (Call into unit operands next)) = refl
-edges_redirected to (Some (Test test taken other)) = refl
-edges_redirected to (Some (Return a)) = refl
+        let both : Some (Skip r.1) ≡ Some (Test reductions.2.same.test reductions.2.taken reductions.2.same.other) = sym r.4 ∙ ap (slice_get reductions.0) same ∙ reductions.2.same.is in cc
 
 -- the end of chain of each node that is reached is reached among the cleaned nodes
 module _ (nodes cleaned : List Node) (within : AllWithin nodes) (start : (s : ℕ) × (slice_get nodes 0 ≡ Some (Start s))) (are : AreCleaned nodes cleaned) where
-  becomes : Becomes nodes are.turned
-  becomes = all_become nodes are.are_turned.order are.turned are.are_turned.turns
+  becomes : Becomes nodes are.reduced
+  becomes = all_become nodes are.are_reduced.order are.reduced are.are_reduced.reductions
 
-  is_end : (n : ℕ) → n < length nodes → IsEnd are.turned n (slice_index_or are.ends n 0)
-  is_end n lt = are.are_ends.are n (omega (arith, lt, all_long nodes are.are_turned.order are.turned are.are_turned.turns))
+  is_end : (n : ℕ) → n < length nodes → IsEnd are.reduced n (slice_index_or are.ends n 0)
+  is_end n lt = are.are_ends.are n (omega (arith, lt, all_long nodes are.are_reduced.order are.reduced are.are_reduced.reductions))
 
   -- a node that is no Skip is its own end
-  ends_itself : (n : ℕ) → n < length nodes → ((next : ℕ) → slice_get are.turned n ≡ Some (Skip next) → ⊥) → slice_index_or are.ends n 0 ≡ n
-  ends_itself n lt other = end_is_one are.turned n (slice_index_or are.ends n 0) n (is_end n lt) (record { leads = to_itself are.turned n; ends = ends_at_other are.turned n other })
+  ends_itself : (n : ℕ) → n < length nodes → ((next : ℕ) → slice_get are.reduced n ≡ Some (Skip next) → ⊥) → slice_index_or are.ends n 0 ≡ n
+  ends_itself n lt other = end_is_one are.reduced n (slice_index_or are.ends n 0) n (is_end n lt) (record { leads = to_itself are.reduced n; ends = ends_at_other are.reduced n other })
 
   -- a Skip has the end of its successor
-  end_of_next : (n next : ℕ) → n < length nodes → next < length nodes → slice_get are.turned n ≡ Some (Skip next) → slice_index_or are.ends next 0 ≡ slice_index_or are.ends n 0
-  end_of_next n next lt lt' is = end_is_one are.turned next (slice_index_or are.ends next 0) (slice_index_or are.ends n 0) (is_end next lt') (end_later are.turned n next (slice_index_or are.ends n 0) (to_next are.turned n next is) (is_end n lt))
+  end_of_next : (n next : ℕ) → n < length nodes → next < length nodes → slice_get are.reduced n ≡ Some (Skip next) → slice_index_or are.ends next 0 ≡ slice_index_or are.ends n 0
+  end_of_next n next lt lt' is = end_is_one are.reduced next (slice_index_or are.ends next 0) (slice_index_or are.ends n 0) (is_end next lt') (end_later are.reduced n next (slice_index_or are.ends n 0) (to_next are.reduced n next is) (is_end n lt))
 
   -- nodes that meet have one end
-  ends_meet : (taken other : ℕ) → taken < length nodes → other < length nodes → Meet are.turned taken other → slice_index_or are.ends other 0 ≡ slice_index_or are.ends taken 0
+  ends_meet : (taken other : ℕ) → taken < length nodes → other < length nodes → BranchesMeet are.reduced taken other → slice_index_or are.ends other 0 ≡ slice_index_or are.ends taken 0
   ends_meet taken other lt lt' meet =
-      end_is_one are.turned meet.end (slice_index_or are.ends other 0) (slice_index_or are.ends taken 0)
-      (end_later are.turned other meet.end (slice_index_or are.ends other 0) meet.from_other (is_end other lt'))
-      (end_later are.turned taken meet.end (slice_index_or are.ends taken 0) meet.from_taken (is_end taken lt))
+      end_is_one are.reduced meet.end (slice_index_or are.ends other 0) (slice_index_or are.ends taken 0)
+      (end_later are.reduced other meet.end (slice_index_or are.ends other 0) meet.from_other (is_end other lt'))
+      (end_later are.reduced taken meet.end (slice_index_or are.ends taken 0) meet.from_taken (is_end taken lt))
 
-  cleaned_at : (n : ℕ) → slice_get cleaned n ≡ option_map (redirected (λ m. slice_index_or are.ends m 0)) (slice_get are.turned n)
-  cleaned_at n = ap (λ l. slice_get l n) are.are ∙ slice_get-map (redirected (λ m. slice_index_or are.ends m 0)) are.turned n
-
-  edge_within : (m slot s : ℕ) → IsEdge nodes m slot s → m < length nodes
-  edge_within m slot s edge = there (slice_get nodes m) refl
-    where
-      there : (node : Option Node) → slice_get nodes m ≡ node → m < length nodes
-      there None none = let e : slice_get (succs_of None) slot ≡ Some s = sym (ap (λ o. slice_get (succs_of o) slot) none) ∙ edge in cc
-      there (Some node) some = slice_get_within nodes m node some
+  cleaned_at : (n : ℕ) → slice_get cleaned n ≡ option_map (redirected (λ m. slice_index_or are.ends m 0)) (slice_get are.reduced n)
+  cleaned_at n = ap (λ l. slice_get l n) are.are ∙ slice_get-map (redirected (λ m. slice_index_or are.ends m 0)) are.reduced n
 
   end_reached : (n : ℕ) → Reached nodes n → Reached cleaned (slice_index_or are.ends n 0)
   end_reached _ at_start = subst (Reached cleaned) (sym (ends_itself 0 (slice_get_within nodes 0 _ start.1) no_skip)) at_start
     where
-      no_skip : (next : ℕ) → slice_get are.turned 0 ≡ Some (Skip next) → ⊥
+      no_skip : (next : ℕ) → slice_get are.reduced 0 ≡ Some (Skip next) → ⊥
       no_skip next is = by_case (becomes.at_node 0)
         where
-          by_case : BecomesAt (slice_get nodes 0) (slice_get are.turned 0) → ⊥
+          by_case : BecomesAt (slice_get nodes 0) (slice_get are.reduced 0) → ⊥
           by_case (inl same) = let both : Some (Start start.0) ≡ Some (Skip next) = sym start.1 ∙ same ∙ is in cc
           by_case (inr r) = let both : Some (Start start.0) ≡ Some (Test r.0 r.1 r.2) = sym start.1 ∙ r.3 in cc
-  end_reached _ (along m slot s reached edge) = onward (end_reached m reached) (becomes.at_node m) (skip_or_other (slice_get are.turned m))
+  end_reached _ (along m slot s reached edge) = onward (end_reached m reached) (becomes.at_node m) (skip_or_other (slice_get are.reduced m))
     where
       lt : m < length nodes
-      lt = edge_within m slot s edge
+      lt = slot_within nodes m slot s edge
 
       lt' : s < length nodes
       lt' = within m slot s edge
 
       -- of a Skip there is one edge
-      of_skip : Reached cleaned (slice_index_or are.ends m 0) → (next : ℕ) → slice_get are.turned m ≡ Some (Skip next) → slice_get (next ∷ []) slot ≡ Some s → Reached cleaned (slice_index_or are.ends s 0)
+      of_skip : Reached cleaned (slice_index_or are.ends m 0) → (next : ℕ) → slice_get are.reduced m ≡ Some (Skip next) → slice_get (next ∷ []) slot ≡ Some s → Reached cleaned (slice_index_or are.ends s 0)
       of_skip before next is e = by_slot slot e
         where
           by_slot : (k : ℕ) → slice_get (next ∷ []) k ≡ Some s → Reached cleaned (slice_index_or are.ends s 0)
@@ -124,7 +110,7 @@ module _ (nodes cleaned : List Node) (within : AllWithin nodes) (start : (s : �
           by_slot (suc k) e = cc
 
       -- of a Test that has become a Skip both successors have its end
-      of_test : Reached cleaned (slice_index_or are.ends m 0) → (r : (test : tests.Test) × (taken : ℕ) × (other : ℕ) × (slice_get nodes m ≡ Some (Test test taken other)) × (slice_get are.turned m ≡ Some (Skip taken))) → slice_get (r.1 ∷ r.2 ∷ []) slot ≡ Some s → Reached cleaned (slice_index_or are.ends s 0)
+      of_test : Reached cleaned (slice_index_or are.ends m 0) → (r : (test : tests.Test) × (taken : ℕ) × (other : ℕ) × (slice_get nodes m ≡ Some (Test test taken other)) × (slice_get are.reduced m ≡ Some (Skip taken))) → slice_get (r.1 ∷ r.2 ∷ []) slot ≡ Some s → Reached cleaned (slice_index_or are.ends s 0)
       of_test before r e = by_slot slot e
         where
           lt_taken : r.1 < length nodes
@@ -137,48 +123,48 @@ module _ (nodes cleaned : List Node) (within : AllWithin nodes) (start : (s : �
           by_slot zero e = let same : r.1 ≡ s = cc in subst (λ k. Reached cleaned (slice_index_or are.ends k 0)) same (subst (Reached cleaned) (sym taken_end) before)
           by_slot (suc zero) e =
               let same : r.2 ≡ s = cc in
-              let meet = turned_meet nodes are.are_turned.order are.turned are.are_turned.turns m r.0 r.1 r.2 r.3 r.4 in
+              let meet = reduced_meet nodes are.are_reduced.order are.reduced are.are_reduced.reductions m r.0 r.1 r.2 r.3 r.4 in
               let lt_other : r.2 < length nodes = subst (λ k. k < length nodes) (sym same) lt' in
               subst (λ k. Reached cleaned (slice_index_or are.ends k 0)) same (subst (Reached cleaned) (sym (ends_meet r.1 r.2 lt_taken lt_other meet ∙ taken_end)) before)
           by_slot (suc (suc k)) e = cc
 
       -- of any other node each edge leads to the end of its target
-      of_other : Reached cleaned (slice_index_or are.ends m 0) → slice_get nodes m ≡ slice_get are.turned m → ((next : ℕ) → slice_get are.turned m ≡ Some (Skip next) → ⊥) → Reached cleaned (slice_index_or are.ends s 0)
+      of_other : Reached cleaned (slice_index_or are.ends m 0) → slice_get nodes m ≡ slice_get are.reduced m → ((next : ℕ) → slice_get are.reduced m ≡ Some (Skip next) → ⊥) → Reached cleaned (slice_index_or are.ends s 0)
       of_other before same other =
           let here : Reached cleaned m = subst (Reached cleaned) (ends_itself m lt other) before in
           along m slot (slice_index_or are.ends s 0) here
-          (ap (λ o. slice_get (succs_of o) slot) (cleaned_at m) ∙ ap (λ l. slice_get l slot) (edges_redirected (λ k. slice_index_or are.ends k 0) (slice_get are.turned m))
-          ∙ slice_get-map (λ k. slice_index_or are.ends k 0) (succs_of (slice_get are.turned m)) slot
+          (ap (λ o. slice_get (succs_of o) slot) (cleaned_at m) ∙ ap (λ l. slice_get l slot) (redirected_succs_of (λ k. slice_index_or are.ends k 0) (slice_get are.reduced m))
+          ∙ slice_get-map (λ k. slice_index_or are.ends k 0) (succs_of (slice_get are.reduced m)) slot
           ∙ ap (option_map (λ k. slice_index_or are.ends k 0)) (ap (λ o. slice_get (succs_of o) slot) (sym same) ∙ edge))
 
-      onward : Reached cleaned (slice_index_or are.ends m 0) → BecomesAt (slice_get nodes m) (slice_get are.turned m) → ((next : ℕ) × (slice_get are.turned m ≡ Some (Skip next))) ⊎ ((next : ℕ) → slice_get are.turned m ≡ Some (Skip next) → ⊥) → Reached cleaned (slice_index_or are.ends s 0)
+      onward : Reached cleaned (slice_index_or are.ends m 0) → BecomesAt (slice_get nodes m) (slice_get are.reduced m) → ((next : ℕ) × (slice_get are.reduced m ≡ Some (Skip next))) ⊎ ((next : ℕ) → slice_get are.reduced m ≡ Some (Skip next) → ⊥) → Reached cleaned (slice_index_or are.ends s 0)
       onward before (inl same) (inl skip) = of_skip before skip.0 skip.1 (sym (ap (λ o. slice_get (succs_of o) slot) (same ∙ skip.1)) ∙ edge)
       onward before (inl same) (inr other) = of_other before same other
       onward before (inr r) skip = of_test before r (sym (ap (λ o. slice_get (succs_of o) slot) r.3) ∙ edge)
 
   -- ---- assignments
 
-  assign_turned : (n x : ℕ) (rhs : Rhs) (next : ℕ) → slice_get nodes n ≡ Some (Assign x rhs next) → slice_get are.turned n ≡ Some (Assign x rhs next)
-  assign_turned n x rhs next is = by_case (becomes.at_node n)
+  assign_reduced : (n x : ℕ) (rhs : Rhs) (next : ℕ) → slice_get nodes n ≡ Some (Assign x rhs next) → slice_get are.reduced n ≡ Some (Assign x rhs next)
+  assign_reduced n x rhs next is = by_case (becomes.at_node n)
     where
-      by_case : BecomesAt (slice_get nodes n) (slice_get are.turned n) → slice_get are.turned n ≡ Some (Assign x rhs next)
+      by_case : BecomesAt (slice_get nodes n) (slice_get are.reduced n) → slice_get are.reduced n ≡ Some (Assign x rhs next)
       by_case (inl same) = sym same ∙ is
       by_case (inr r) = let both : Some (Assign x rhs next) ≡ Some (Test r.0 r.1 r.2) = sym is ∙ r.3 in cc
 
   pub assign_cleaned : (n x : ℕ) (rhs : Rhs) (next : ℕ) → slice_get nodes n ≡ Some (Assign x rhs next) → slice_get cleaned n ≡ Some (Assign x rhs (slice_index_or are.ends next 0))
-  assign_cleaned n x rhs next is = cleaned_at n ∙ ap (option_map (redirected (λ m. slice_index_or are.ends m 0))) (assign_turned n x rhs next is)
+  assign_cleaned n x rhs next is = cleaned_at n ∙ ap (option_map (redirected (λ m. slice_index_or are.ends m 0))) (assign_reduced n x rhs next is)
 
   pub assign_reached : (n x : ℕ) (rhs : Rhs) (next : ℕ) → slice_get nodes n ≡ Some (Assign x rhs next) → Reached nodes n → Reached cleaned n
   assign_reached n x rhs next is reached = subst (Reached cleaned) (ends_itself n (slice_get_within nodes n _ is) no_skip) (end_reached n reached)
     where
-      no_skip : (m : ℕ) → slice_get are.turned n ≡ Some (Skip m) → ⊥
-      no_skip m skip = let both : Some (Assign x rhs next) ≡ Some (Skip m) = sym (assign_turned n x rhs next is) ∙ skip in cc
+      no_skip : (m : ℕ) → slice_get are.reduced n ≡ Some (Skip m) → ⊥
+      no_skip m skip = let both : Some (Assign x rhs next) ≡ Some (Skip m) = sym (assign_reduced n x rhs next is) ∙ skip in cc
 
   -- and an assignment that is there was there
   pub assign_was : (n x : ℕ) (rhs : Rhs) (next : ℕ) → slice_get cleaned n ≡ Some (Assign x rhs next) → (before : ℕ) × (slice_get nodes n ≡ Some (Assign x rhs before))
-  assign_was n x rhs next is = by_node (slice_get are.turned n) refl (sym (cleaned_at n) ∙ is)
+  assign_was n x rhs next is = by_node (slice_get are.reduced n) refl (sym (cleaned_at n) ∙ is)
     where
-      by_node : (node : Option Node) → slice_get are.turned n ≡ node → option_map (redirected (λ m. slice_index_or are.ends m 0)) node ≡ Some (Assign x rhs next) → (before : ℕ) × (slice_get nodes n ≡ Some (Assign x rhs before))
+      by_node : (node : Option Node) → slice_get are.reduced n ≡ node → option_map (redirected (λ m. slice_index_or are.ends m 0)) node ≡ Some (Assign x rhs next) → (before : ℕ) × (slice_get nodes n ≡ Some (Assign x rhs before))
       by_node None at e = cc
       by_node (Some (Start s)) at e = cc
       by_node (Some (Skip s)) at e = cc
@@ -187,7 +173,7 @@ module _ (nodes cleaned : List Node) (within : AllWithin nodes) (start : (s : �
           let two : other ≡ rhs = cc in
           (s, was_before (becomes.at_node n) ∙ at ∙ ap (λ k. Some (Assign k other s)) one ∙ ap (λ r. Some (Assign x r s)) two)
         where
-          was_before : BecomesAt (slice_get nodes n) (slice_get are.turned n) → slice_get nodes n ≡ slice_get are.turned n
+          was_before : BecomesAt (slice_get nodes n) (slice_get are.reduced n) → slice_get nodes n ≡ slice_get are.reduced n
           was_before (inl same) = same
           was_before (inr r) = let both : Some (Skip r.1) ≡ Some (Assign y other s) = sym r.4 ∙ at in cc
       by_node (Some (Print a s)) at e = cc
@@ -195,6 +181,7 @@ module _ (nodes cleaned : List Node) (within : AllWithin nodes) (start : (s : �
       by_node (Some (Test test taken other)) at e = cc
       by_node (Some (Return a)) at e = cc
 
+-- each dividing assignment stays at its number, and is reached, so it is kept
 pub clean_stay : (graph cleaned : GraphShape) → IsGraph graph.vars graph.received graph.nodes → IsClean graph cleaned → DividesStay graph.nodes cleaned.nodes
 clean_stay graph cleaned is clean = stay_trans graph.nodes clean.nodes cleaned.nodes
     (stay_in_place graph.nodes clean.nodes (λ n x op left right next may_trap here. (_, assign_cleaned graph.nodes clean.nodes within is.can.start clean.are_cleaned n x (Binary op left right) next here)))

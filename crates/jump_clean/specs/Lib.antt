@@ -1,9 +1,8 @@
 pub mod Chains
-pub mod Turns
+pub mod Reductions
 pub mod Cleaned
-pub mod ListLaws
 pub mod ChainLaws
-pub mod TurnLaws
+pub mod ReductionLaws
 pub mod Following
 pub mod Classes
 pub mod Joining

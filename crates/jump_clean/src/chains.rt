@@ -1,11 +1,11 @@
 // The ends of chains of Skips, found in one pass: no Skip is passed twice.
-ghost use Rattle.std.specs.Prelude.{◌≡◌, ℕ, ◌<◌, ◌≤◌, ◌∷◌, length, replicate, slice_get, IfOk, OnOk, Some, ◌⊎◌};
+ghost use Rattle.std.specs.Prelude.{◌≡◌, ℕ, ◌<◌, ◌≤◌, ◌∷◌, length, replicate, slice_get, IfOk, OnOk, Some};
 ghost use Rattle.flow_graph.specs.Graphs.{AllWithin};
 ghost use Rattle.mir_base.specs.Shapes.{AllBelow};
-ghost use Rattle.jump_clean.specs.declared.chains.Found.TheVariants.{Nothing, OnTheWay, End};
+ghost use Rattle.jump_clean.specs.declared.chains.Found.TheVariants.{Nothing, InChain, End};
 ghost use Rattle.jump_clean.specs.Chains.{AreEnds, IsEnd};
 ghost use Rattle.jump_clean.specs.ChainLaws.{In};
-ghost use Rattle.jump_clean.specs.Following.{AreFound, EndsAt, IsLeastFrom, onward_of, skip_succ};
+ghost use Rattle.jump_clean.specs.Following.{AreFound, EndsAt, IsLeastFrom, OnlyNoted, onward_of, skip_succ};
 
 use flow_graph::Node;
 use mir_base::Memory;
@@ -17,7 +17,7 @@ pub(crate) enum Found {
     /// Nothing.
     Nothing,
     /// It is a Skip of the chain that is followed now.
-    OnTheWay,
+    InChain,
     /// The end of its chain.
     End(usize),
 }
@@ -36,13 +36,14 @@ pub(crate) fn ends(alloc: Global, nodes: &[Node]) -> Result<Vec<usize>, Memory>
     Ok(ends)
 }
 
+/// The table in which nothing is known of so many nodes.
 fn nothing_found(alloc: Global, count: usize) -> Result<Vec<Found>, Memory>
     ensures { IfOk result (λ found. found.items ≡ replicate count Nothing) }
 {
     Ok(vec![in alloc; Found::Nothing; count]?)
 }
 
-/// The end of the chain that begins at a node. It is noted for each Skip on the way.
+/// The end of the chain that begins at a node. It is noted for each Skip of the chain.
 fn end_of(
     alloc: Global,
     nodes: &[Node],
@@ -55,15 +56,15 @@ fn end_of(
     ensures end { IfOk result (λ end. IsEnd nodes.now start end) }
     ensures found { OnOk result (AreFound nodes.now found.new.items) }
 {
-    let mut way = Vec::new(alloc);
+    let mut chain = Vec::new(alloc);
     let mut n = start;
     while let Some(next) = onward(&nodes[n], found[n]) {
-        found[n] = Found::OnTheWay;
-        way.push(n)?;
+        found[n] = Found::InChain;
+        chain.push(n)?;
         n = next;
     }
-    let end = end_at(found[n], way.as_slice(), n);
-    note(found, way.as_slice(), end);
+    let end = end_at(found[n], chain.as_slice(), n);
+    note(found, chain.as_slice(), end);
     Ok(end)
 }
 
@@ -73,7 +74,7 @@ fn onward(node: &Node, found: Found) -> Option<usize>
 {
     match found {
         Found::Nothing => skip_succ(node),
-        Found::OnTheWay => None,
+        Found::InChain => None,
         Found::End(_) => None,
     }
 }
@@ -89,33 +90,33 @@ pub(crate) fn skip_succ(node: &Node) -> Option<usize>
 }
 
 /// The end of the chain, where node `n` is no Skip, or comes for the second time, or its end of chain is known.
-fn end_at(found: Found, way: &[usize], n: usize) -> usize
-    requires { found ≡ OnTheWay → In n way.now }
-    ensures { EndsAt found way.now n result }
+fn end_at(found: Found, chain: &[usize], n: usize) -> usize
+    requires { found ≡ InChain → In n chain.now }
+    ensures { EndsAt found chain.now n result }
 {
     match found {
         Found::Nothing => n,
-        Found::OnTheWay => least_on_circle(way, n),
+        Found::InChain => least_on_circle(chain, n),
         Found::End(end) => end,
     }
 }
 
-/// The least number of a circle: of the last Skips on the way, from node `first` on.
-fn least_on_circle(way: &[usize], first: usize) -> usize
-    requires { In first way.now }
-    ensures { IsLeastFrom way.now first result }
+/// The least number of a circle: of the last Skips of the chain, from node `first` on.
+fn least_on_circle(chain: &[usize], first: usize) -> usize
+    requires { In first chain.now }
+    ensures { IsLeastFrom chain.now first result }
 {
-    let place = place_of(way, first);
-    least(first, &way[place + 1..])
+    let place = place_of(chain, first);
+    least(first, &chain[place + 1..])
 }
 
 /// The place of a number that is one of these.
-fn place_of(way: &[usize], n: usize) -> usize
-    requires { In n way.now }
-    ensures { slice_get way.now result ≡ Some n }
+fn place_of(chain: &[usize], n: usize) -> usize
+    requires { In n chain.now }
+    ensures { slice_get chain.now result ≡ Some n }
 {
     let mut place = 0;
-    while way[place] != n {
+    while chain[place] != n {
         place += 1;
     }
     place
@@ -133,14 +134,14 @@ fn least(first: usize, others: &[usize]) -> usize
     least
 }
 
-/// Notes the end of chain of each node on the way.
-fn note(found: &mut Vec<Found>, way: &[usize], end: usize)
-    requires { AllBelow (length found.old.items) way.now }
+/// Notes the end of chain of each node of the chain.
+fn note(found: &mut Vec<Found>, chain: &[usize], end: usize)
+    requires { AllBelow (length found.old.items) chain.now }
     ensures long { length found.new.items ≡ length found.old.items }
-    ensures noted { (n : ℕ) → In n way.now → slice_get found.new.items n ≡ Some (End end) }
-    ensures others { (n : ℕ) → (slice_get found.new.items n ≡ slice_get found.old.items n) ⊎ ((slice_get found.new.items n ≡ Some (End end)) × In n way.now) }
+    ensures noted { (n : ℕ) → In n chain.now → slice_get found.new.items n ≡ Some (End end) }
+    ensures others { OnlyNoted found.old.items found.new.items end chain.now }
 {
-    for n in way {
+    for n in chain {
         found[*n] = Found::End(end);
     }
 }

@@ -1,8 +1,8 @@
 // Classes of nodes whose chains have the same end.
-ghost use Rattle.std.specs.Prelude.{◌≡◌, ◌≢◌, ℕ, ◌<◌, ◌++◌, [], ◌∷◌, length, map, slice_index_or, slice_set, IfOk, OnOk, ◌⊎◌};
+ghost use Rattle.std.specs.Prelude.{◌≡◌, ◌≢◌, ℕ, ◌<◌, [], ◌∷◌, length, slice_set, IfOk, OnOk, ◌⊎◌};
 ghost use Rattle.mir_base.specs.Shapes.{AllBelow};
 ghost use Rattle.jump_clean.specs.ChainLaws.{In};
-ghost use Rattle.jump_clean.specs.Classes.{class, AreJoined, AreMoved, HasMembers};
+ghost use Rattle.jump_clean.specs.Classes.{class, members_in, members_of, with_more, AreAlone, AreJoined, AreMoved, HaveMembers};
 
 use mir_base::Memory;
 use smallvec::SmallVec;
@@ -22,8 +22,8 @@ impl Classes {
     /// Each node alone, in the class of its own number.
     pub(crate) fn apart(alloc: Global, nodes: usize) -> Result<Classes, Memory>
         ensures long { IfOk result (λ classes. length classes.of.items ≡ nodes) }
-        ensures apart { IfOk result (λ classes. (n : ℕ) → n < nodes → class classes.of.items n ≡ n) }
-        ensures members { IfOk result (λ classes. HasMembers classes.of.items (map (λ v. v.items) classes.members.items)) }
+        ensures apart { IfOk result (λ classes. AreAlone nodes classes.of.items) }
+        ensures members { IfOk result HaveMembers }
     {
         let mut of = Vec::with_capacity(alloc, nodes)?;
         let mut members = Vec::with_capacity(alloc, nodes)?;
@@ -37,11 +37,12 @@ impl Classes {
     /// Joins the classes of two nodes, and answers the members of the one that went into the other: the smaller one, so
     /// that no node moves more often than the logarithm of the number of nodes.
     pub(crate) fn join(&mut self, alloc: Global, a: usize, b: usize) -> Result<Members, Memory>
-        requires members { HasMembers self.old.of.items (map (λ v. v.items) self.old.members.items) }
+        requires members { HaveMembers self.old }
         requires a { a < length self.old.of.items }
         requires b { b < length self.old.of.items }
-        ensures members { OnOk result (HasMembers self.new.of.items (map (λ v. v.items) self.new.members.items)) }
-        ensures joined { IfOk result (λ moved. AreJoined self.old.of.items self.new.of.items a b moved.items) }
+        ensures members { OnOk result (HaveMembers self.new) }
+        ensures joined { IfOk result (λ moved.
+            AreJoined self.old.of.items self.new.of.items a b moved.items) }
     {
         let first = self.of[a];
         let second = self.of[b];
@@ -57,17 +58,39 @@ impl Classes {
 
     /// Moves all members of a class into another one, and answers them.
     fn move_all(&mut self, alloc: Global, from: usize, into: usize) -> Result<Members, Memory>
-        requires members { HasMembers self.old.of.items (map (λ v. v.items) self.old.members.items) }
+        requires members { HaveMembers self.old }
         requires from { from < length self.old.of.items }
         requires into { into < length self.old.of.items }
         requires apart { from ≢ into }
-        ensures members { OnOk result (HasMembers self.new.of.items (map (λ v. v.items) self.new.members.items)) }
-        ensures moved { IfOk result (λ moved. AreMoved self.old.of.items self.new.of.items from into moved.items) }
+        ensures members { OnOk result (HaveMembers self.new) }
+        ensures moved { IfOk result (λ moved.
+            AreMoved self.old.of.items self.new.of.items from into moved.items) }
     {
-        let moved = take(&mut self.members, alloc, from);
+        let moved = self.take(alloc, from);
         relabel(&mut self.of, moved.as_slice(), into);
-        add(&mut self.members, into, moved.as_slice())?;
+        self.add(into, moved.as_slice())?;
         Ok(moved)
+    }
+
+    /// Takes the members of a class away from it.
+    fn take(&mut self, alloc: Global, class: usize) -> Members
+        requires { class < length self.old.members.items }
+        ensures taken { result.items ≡ members_of (members_in self.old) class }
+        ensures left { members_in self.new ≡ slice_set (members_in self.old) class [] }
+        ensures of { self.new.of.items ≡ self.old.of.items }
+    {
+        std::mem::replace(&mut self.members[class], SmallVec::new(alloc))
+    }
+
+    /// Adds members to a class.
+    fn add(&mut self, class: usize, nodes: &[usize]) -> Result<(), Memory>
+        requires { class < length self.old.members.items }
+        ensures added { OnOk result (
+            members_in self.new ≡ with_more (members_in self.old) class nodes.now) }
+        ensures of { self.new.of.items ≡ self.old.of.items }
+    {
+        self.members[class].extend_from_slice(nodes)?;
+        Ok(())
     }
 }
 
@@ -78,24 +101,6 @@ fn one(alloc: Global, n: usize) -> Members
     let mut list = SmallVec::new(alloc);
     list.push_reserved(n);
     list
-}
-
-/// Takes the members of a class away from it.
-fn take(members: &mut Vec<Members>, alloc: Global, class: usize) -> Members
-    requires { class < length members.old.items }
-    ensures taken { result.items ≡ slice_index_or (map (λ v. v.items) members.old.items) class [] }
-    ensures left { map (λ v. v.items) members.new.items ≡ slice_set (map (λ v. v.items) members.old.items) class [] }
-{
-    std::mem::replace(&mut members[class], SmallVec::new(alloc))
-}
-
-/// Adds members to a class.
-fn add(members: &mut Vec<Members>, class: usize, nodes: &[usize]) -> Result<(), Memory>
-    requires { class < length members.old.items }
-    ensures { OnOk result (map (λ v. v.items) members.new.items ≡ slice_set (map (λ v. v.items) members.old.items) class (slice_index_or (map (λ v. v.items) members.old.items) class [] ++ nodes.now)) }
-{
-    members[class].extend_from_slice(nodes)?;
-    Ok(())
 }
 
 /// Puts these nodes into a class.

@@ -1,17 +1,13 @@
 // Graphs with clean jumps.
-ghost use Rattle.std.specs.Prelude.{◌≡◌, ℕ, length, map, slice_index_or, IfOk};
-ghost use Rattle.mir_base.specs.UnitRuns.{UnitCheaper, UnitSame};
-ghost use Rattle.flow_graph.specs.Calls.{NodesCall};
-ghost use Rattle.flow_graph.specs.Dividing.{DividesStay};
-ghost use Rattle.flow_graph.specs.Graphs.{AllWithin, GraphShape, IsGraph, SuccsBelow};
-ghost use Rattle.flow_graph.specs.Kept.{redirected};
-ghost use Rattle.flow_graph.specs.Keeps.{AsGraph, Keeps};
-ghost use Rattle.flow_graph.specs.Machines.{machine_of};
-ghost use Rattle.jump_clean.specs.Cleaned.{AreCleaned, HasCleanJumps, IsClean};
+ghost use Rattle.std.specs.Prelude.{◌≡◌, length, map, IfOk};
+ghost use Rattle.flow_graph.specs.Graphs.{AllWithin, IsGraph};
+ghost use Rattle.flow_graph.specs.Kept.{redirected_by};
+ghost use Rattle.flow_graph.specs.Passes.{GraphCalls, GraphCheaper, GraphDivides, GraphKeeps, GraphSame};
+ghost use Rattle.jump_clean.specs.Cleaned.{AreCleaned, HasCleanJumps, IsClean, IsOnlyClean};
 
 use crate::chains::ends;
-use crate::turning::turn_all;
-use flow_graph::{Edges, Graph, Node};
+use crate::reducing::reduce_all;
+use flow_graph::{Edges, Graph, Node, redirect};
 use mir_base::Memory;
 use std::alloc::Global;
 
@@ -21,23 +17,23 @@ use std::alloc::Global;
 /// (`specs/CleanLaws.antt`). Then each successor is replaced by its end of chain, and the nodes that are not reached are
 /// dropped. So each Skip that is left is its own successor: a circle of Skips stays as its least-numbered one.
 ///
-/// The graph does the same and counts no more. The time is that of the nodes times the logarithm of their number: a node
-/// moves from one class to another at most that often. The only refusal is want of memory.
+/// The graph does the same and evaluates no more operators. The time is that of the nodes times the logarithm of their
+/// number: a node moves from one class to another at most that often. It fails only with `Memory`.
 pub fn clean(alloc: Global, graph: &Graph) -> Result<Graph, Memory>
-    ensures clean { IfOk result (λ cleaned. IsClean graph.now cleaned) }
+    ensures clean { IfOk result (IsClean graph.now) }
 
     // there is no other such graph: the order in which Tests become Skips does not matter
-    ensures only { IfOk result (λ cleaned. (other : GraphShape) → IsClean graph.now other → other ≡ cleaned) }
+    ensures only { IfOk result (IsOnlyClean graph.now) }
     ensures jumps { IfOk result (λ cleaned. HasCleanJumps cleaned.nodes) }
-    ensures same { IfOk result (λ cleaned. UnitSame (machine_of graph.now) (machine_of cleaned)) }
-    ensures cheaper { IfOk result (λ cleaned. UnitCheaper (machine_of graph.now) (machine_of cleaned)) }
-    ensures keeps { IfOk result (λ cleaned. Keeps (AsGraph graph.now) (AsGraph cleaned)) }
+    ensures same { IfOk result (GraphSame graph.now) }
+    ensures cheaper { IfOk result (GraphCheaper graph.now) }
+    ensures keeps { IfOk result (GraphKeeps graph.now) }
 
     // each dividing assignment stays
-    ensures divides { IfOk result (λ cleaned. DividesStay graph.now.nodes cleaned.nodes) }
+    ensures divides { IfOk result (GraphDivides graph.now) }
 
     // it makes no calls but those of the graph
-    ensures calls { IfOk result (λ cleaned. (called count : ℕ) → NodesCall cleaned.nodes called count → NodesCall graph.now.nodes called count) }
+    ensures calls { IfOk result (GraphCalls graph.now) }
 {
     let nodes = cleaned(alloc, graph)?;
     let extra = Vec::new(alloc);
@@ -53,12 +49,13 @@ fn cleaned(alloc: Global, graph: &Graph) -> Result<Vec<Node>, Memory>
     let nodes = graph.nodes();
     let edges = Edges::of(alloc, graph)?;
     let nodes = copied(alloc, nodes)?;
-    let turned = turn_all(alloc, &edges, nodes)?;
-    let ends = ends(alloc, turned.as_slice())?;
-    let cleaned = redirect_all(alloc, turned, ends.as_slice())?;
+    let reduced = reduce_all(alloc, &edges, nodes)?;
+    let ends = ends(alloc, reduced.as_slice())?;
+    let cleaned = redirect_all(alloc, reduced, ends.as_slice())?;
     Ok(cleaned)
 }
 
+/// A copy of the nodes.
 fn copied(alloc: Global, nodes: &[Node]) -> Result<Vec<Node>, Memory>
     ensures { IfOk result (λ copied. copied.items ≡ nodes.now) }
 {
@@ -73,27 +70,11 @@ fn copied(alloc: Global, nodes: &[Node]) -> Result<Vec<Node>, Memory>
 fn redirect_all(alloc: Global, nodes: Vec<Node>, to: &[usize]) -> Result<Vec<Node>, Memory>
     requires within { AllWithin nodes.items }
     requires long { length to.now ≡ length nodes.items }
-    ensures { IfOk result (λ redirected_nodes. redirected_nodes.items ≡ map (redirected (λ n. slice_index_or to.now n 0)) nodes.items) }
+    ensures { IfOk result (λ made. made.items ≡ map (redirected_by to.now) nodes.items) }
 {
     let mut redirected = Vec::with_capacity(alloc, nodes.len())?;
     for node in nodes {
         redirected.push(redirect(node, to))?;
     }
     Ok(redirected)
-}
-
-/// The node with other numbers for its successors.
-fn redirect(node: Node, to: &[usize]) -> Node
-    requires { SuccsBelow (length to.now) node }
-    ensures { result ≡ redirected (λ n. slice_index_or to.now n 0) node }
-{
-    match node {
-        Node::Start(next) => Node::Start(to[next]),
-        Node::Skip(next) => Node::Skip(to[next]),
-        Node::Assign(x, rhs, next) => Node::Assign(x, rhs, to[next]),
-        Node::Print(a, next) => Node::Print(a, to[next]),
-        Node::Call(into, unit, args, next) => Node::Call(into, unit, args, to[next]),
-        Node::Test(test, taken, other) => Node::Test(test, to[taken], to[other]),
-        Node::Return(a) => Node::Return(a),
-    }
 }

@@ -2,14 +2,12 @@
 //! way: each Skip that is left is its own successor, and no Test has two equal successors.
 //!
 //! The theorem that this crate carries is the contract of `clean`: the answer is the exact graph, it does the same as
-//! the graph that goes in, and it counts no more.
+//! the graph that goes in, and it evaluates no more operators.
 #![tactic(auto)]
 
 mod chains;
 mod classes;
 mod cleaning;
-#[cfg(test)]
-mod tests;
-mod turning;
+mod reducing;
 
 pub use cleaning::clean;

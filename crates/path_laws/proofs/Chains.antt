@@ -1,29 +1,10 @@
 -- A bit through blocks is a bit through their nodes.
-use Rattle.std.proofs.Common.{◌≡◌, ℕ, zero, suc, ◌<◌, ◌⊎◌, ◌↔◌, inl, inr, Bool, true, false, not, ◌||◌, ◌&&◌, List, [], ◌∷◌, ◌++◌, length, take, slice_get, Some, refl, sym, ap, subst, arith, ◌∙◌}
+use Rattle.std.proofs.Common.{◌≡◌, ℕ, zero, suc, ◌<◌, ◌↔◌, inl, inr, Bool, true, false, not, ◌||◌, ◌&&◌, List, [], ◌∷◌, ◌++◌, length, take, slice_get, Some, refl, sym, ap, subst, arith, ◌∙◌}
+use Rattle.flow_graph.specs.ListLaws.{take_next}
+use Rattle.std.proofs.lemmas.List.{take_all}
+use Rattle.std.proofs.lemmas.Bool.{or_cases, or_left, or_right, and_parts, not-true, not_from_false}
 use Rattle.path_laws.specs.Leads.{Leads, at_seed, one_more}
 use Rattle.path_laws.specs.Blockwise.{blocks_some, passed, passed_all}
-
-or_parts : (a b : Bool) → (a || b) ≡ true → (a ≡ true) ⊎ (b ≡ true)
-or_parts true b h = inl refl
-or_parts false b h = inr h
-
-or_left : (a b : Bool) → a ≡ true → (a || b) ≡ true
-or_left a b h = rw h refl
-
-or_right : (a b : Bool) → b ≡ true → (a || b) ≡ true
-or_right true b h = refl
-or_right false b h = h
-
-and_parts : (a b : Bool) → (a && b) ≡ true → (a ≡ true) × (b ≡ true)
-and_parts true b h = (refl, h)
-and_parts false b h = absurd (cc)
-
-not_true : (a : Bool) → not a ≡ true → a ≡ false
-not_true true h = absurd (cc)
-not_true false h = refl
-
-not_false : (a : Bool) → a ≡ false → not a ≡ true
-not_false a h = rw h refl
 
 -- what a block does as a whole: its seeds, and what comes to it where none of its nodes blocks that
 apart : (r s x k a : Bool) → (r || ((s || (x && not k)) && not a)) ≡ ((r || ((s || (false && not k)) && not a)) || (x && not (k || a)))
@@ -40,6 +21,7 @@ apart false false true false true = refl
 apart false false true false false = refl
 apart false false false k a = refl
 
+-- what comes out of a path: what it seeds itself, and what comes to it where none of its nodes blocks that
 pub passed_apart : (seed block : ℕ → Bool) (path : List ℕ) (x : Bool) → passed_all seed block x path ≡ (passed_all seed block false path || (x && not (blocks_some block path)))
 passed_apart seed block [] x = and_true x
   where
@@ -51,18 +33,16 @@ passed_apart seed block (n ∷ path) x =
     let empty = passed_apart seed block path (passed seed block n false) in
     first ∙ apart (passed_all seed block false path) (seed n) x (block n) (blocks_some block path) ∙ ap (λ r. r || (x && not (block n || blocks_some block path))) (sym empty)
 
+-- a path that goes on is passed in two steps
 pub passed_append : (seed block : ℕ → Bool) (xs ys : List ℕ) (x : Bool) → passed_all seed block x (xs ++ ys) ≡ passed_all seed block (passed_all seed block x xs) ys
 passed_append seed block [] ys x = refl
 passed_append seed block (n ∷ xs) ys x = passed_append seed block xs ys (passed seed block n x)
 
-pub take_next : (xs : List ℕ) (i n : ℕ) → slice_get xs i ≡ Some n → take (suc i) xs ≡ take i xs ++ n ∷ []
-take_next [] i n e = cc
-take_next (x ∷ xs) zero n e = let same : x ≡ n = cc in ap (λ k. k ∷ []) same
-take_next (x ∷ xs) (suc i) n e = ap (λ l. x ∷ l) (take_next xs i n e)
-
+-- and one that goes on by one node
 pub passed_next : (seed block : ℕ → Bool) (xs : List ℕ) (i n : ℕ) (x : Bool) → slice_get xs i ≡ Some n → passed_all seed block x (take (suc i) xs) ≡ passed seed block n (passed_all seed block x (take i xs))
 passed_next seed block xs i n x e = ap (passed_all seed block x) (take_next xs i n e) ∙ passed_append seed block (take i xs) (n ∷ []) x
 
+-- a path that goes on blocks where either part does
 pub blocks_append : (block : ℕ → Bool) (xs ys : List ℕ) → blocks_some block (xs ++ ys) ≡ (blocks_some block xs || blocks_some block ys)
 blocks_append block [] ys = refl
 blocks_append block (n ∷ xs) ys = ap (λ b. block n || b) (blocks_append block xs ys) ∙ or_assoc (block n) (blocks_some block xs) (blocks_some block ys)
@@ -83,21 +63,15 @@ pub record AreRuns (nodes count : ℕ) (steps : ℕ → ℕ → Type 0) (paths :
   pub sound : (c d : ℕ) → between c d → (c < count) × (d < count) × ((m : ℕ) × (k : ℕ) × (i : ℕ) × (slice_get (paths c) 0 ≡ Some m) × (slice_get (paths d) i ≡ Some k) × (suc i ≡ length (paths d)) × steps m k)
   pub complete : (c m k : ℕ) → c < count → slice_get (paths c) 0 ≡ Some m → steps m k → (d : ℕ) × (i : ℕ) × between c d × (slice_get (paths d) i ≡ Some k) × (suc i ≡ length (paths d))
 
-take_whole : (xs : List ℕ) (i : ℕ) → i ≡ length xs → take i xs ≡ xs
-take_whole [] zero e = refl
-take_whole [] (suc i) e = refl
-take_whole (x ∷ xs) zero e = absurd (omega (arith, e))
-take_whole (x ∷ xs) (suc i) e = ap (λ l. x ∷ l) (take_whole xs i (omega (arith, e)))
-
 module _ (steps : ℕ → ℕ → Type 0) (seed block : ℕ → Bool) where
   abbrev Led : ℕ → Type 0
   Led n = Leads steps seed block n
 
   -- what comes out of a node has come from a seed, if what came to it has
   run_one : (p : ℕ) (x : Bool) → (x ≡ true → block p ≡ false → Led p) → passed seed block p x ≡ true → Led p
-  run_one p x from on = elim (or_parts (seed p) (x && not (block p)) on) as (λ _. Led p) [
+  run_one p x from on = elim (or_cases (seed p) (x && not (block p)) on) as (λ _. Led p) [
     | inl here ↦ at_seed p here
-    | inr came ↦ let parts = and_parts x (not (block p)) came in from parts.0 (not_true (block p) parts.1)
+    | inr came ↦ let parts = and_parts x (not (block p)) came in from parts.0 (not-true (block p) parts.1)
   ]
 
   -- and so it is with a run
@@ -134,16 +108,16 @@ module _ (steps : ℕ → ℕ → Type 0) (seed block : ℕ → Bool) where
 
     -- a block that leads to a seed: so does the node from which the flow leaves it
     pub last_leads : (d : ℕ) → d < count → Leads between block_seed block_stop d → (k : ℕ) → Ahead d k → Led k
-    last_leads d h (at_seed c on) k (i, at, end) = run_sound (paths d) false i k (are.runs d h) (λ m first bad free. absurd (cc)) at (ap (passed_all seed block false) (take_whole (paths d) (suc i) end) ∙ on)
+    last_leads d h (at_seed c on) k (i, at, end) = run_sound (paths d) false i k (are.runs d h) (λ m first bad free. absurd (cc)) at (ap (passed_all seed block false) (take_all (suc i) (paths d) (omega (arith, end))) ∙ on)
     last_leads d h (one_more c e step free rest) k (i, at, end) =
         let s = are.sound d e step in
-        let whole : passed_all seed block true (paths d) ≡ true = passed_apart seed block (paths d) true ∙ or_right (passed_all seed block false (paths d)) (not (blocks_some block (paths d))) (not_false (blocks_some block (paths d)) free) in
+        let whole : passed_all seed block true (paths d) ≡ true = passed_apart seed block (paths d) true ∙ or_right (passed_all seed block false (paths d)) (not (blocks_some block (paths d))) (not_from_false (blocks_some block (paths d)) free) in
         run_sound (paths d) true i k (are.runs d h)
         (λ m first on m_free.
         let both : Some s.2.0 ≡ Some m = sym s.2.3 ∙ first in
         let same : s.2.0 ≡ m = cc in
         one_more m s.2.1 (subst (λ j. steps j s.2.1) same s.2.6) m_free (last_leads e s.1 rest s.2.1 (s.2.2, s.2.4, s.2.5)))
-        at (ap (passed_all seed block true) (take_whole (paths d) (suc i) end) ∙ whole)
+        at (ap (passed_all seed block true) (take_all (suc i) (paths d) (omega (arith, end))) ∙ whole)
 
     -- the bits of blocks, and what comes to each
     module _ (w x : ℕ → Bool) (w_is : (c : ℕ) → c < count → (w c ≡ true) ↔ Leads between block_seed block_stop c) (x_sound : (c : ℕ) → c < count → x c ≡ true → (d : ℕ) × between c d × (w d ≡ true)) (x_complete : (c d : ℕ) → c < count → between c d → w d ≡ true → x c ≡ true) where
@@ -159,12 +133,12 @@ module _ (steps : ℕ → ℕ → Type 0) (seed block : ℕ → Bool) where
       after_sound c i n h at on = run_sound (paths c) (x c) i n (are.runs c h) (λ m first came free. let s = comes_sound c m h first came in one_more m s.0 s.1 free s.2) at on
 
       last_on : (d : ℕ) → d < count → passed_all seed block (x d) (paths d) ≡ true → w d ≡ true
-      last_on d h on = elim (or_parts (block_seed d) (x d && not (block_stop d)) (sym (passed_apart seed block (paths d) (x d)) ∙ on)) as (λ _. w d ≡ true) [
+      last_on d h on = elim (or_cases (block_seed d) (x d && not (block_stop d)) (sym (passed_apart seed block (paths d) (x d)) ∙ on)) as (λ _. w d ≡ true) [
         | inl here ↦ (w_is d h).1 (at_seed d here)
         | inr came ↦
             let parts = and_parts (x d) (not (block_stop d)) came in
             let from = x_sound d h parts.0 in
-            (w_is d h).1 (one_more d from.0 from.1 (not_true (block_stop d) parts.1) ((w_is from.0 (are.sound d from.0 from.1).1).0 from.2))
+            (w_is d h).1 (one_more d from.0 from.1 (not-true (block_stop d) parts.1) ((w_is from.0 (are.sound d from.0 from.1).1).0 from.2))
       ]
 
       pub after_complete : (n : ℕ) → Led n → (c i : ℕ) → c < count → slice_get (paths c) i ≡ Some n → passed_all seed block (x c) (take (suc i) (paths c)) ≡ true
@@ -173,7 +147,7 @@ module _ (steps : ℕ → ℕ → Type 0) (seed block : ℕ → Bool) where
           let out = are.complete c n k h at step in
           let d_in = (are.sound c out.0 out.2).1 in
           let on = after_complete k rest out.0 out.1 d_in out.3 in
-          let w_on = last_on out.0 d_in (ap (passed_all seed block (x out.0)) (sym (take_whole (paths out.0) (suc out.1) out.4)) ∙ on) in
+          let w_on = last_on out.0 d_in (ap (passed_all seed block (x out.0)) (sym (take_all (suc out.1) (paths out.0) (omega (arith, out.4)))) ∙ on) in
           let x_on = x_complete c out.0 h out.2 w_on in
           passed_next seed block (paths c) zero n (x c) at ∙ or_right (seed n) (x c && not (block n)) (rw (x_on, free) refl)
       after_complete n (one_more m k step free rest) c (suc i) h at =
@@ -192,7 +166,7 @@ module _ (steps : ℕ → ℕ → Type 0) (seed block : ℕ → Bool) where
           let out = are.complete c n k h at step in
           let d_in = (are.sound c out.0 out.2).1 in
           let on = after_complete k leads out.0 out.1 d_in out.3 in
-          x_complete c out.0 h out.2 (last_on out.0 d_in (ap (passed_all seed block (x out.0)) (sym (take_whole (paths out.0) (suc out.1) out.4)) ∙ on))
+          x_complete c out.0 h out.2 (last_on out.0 d_in (ap (passed_all seed block (x out.0)) (sym (take_all (suc out.1) (paths out.0) (omega (arith, out.4)))) ∙ on))
       before_complete c (suc i) n k h at step leads =
           let back = run_back (paths c) i n (are.runs c h) at in
           let same : k ≡ back.0 = back.3 k step in

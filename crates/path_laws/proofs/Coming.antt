@@ -7,9 +7,10 @@ use Rattle.flow_graph.specs.declared.nodes.Node.{Node}
 use Rattle.flow_graph.specs.Blocks.{IsBlocks}
 use Rattle.flow_graph.specs.Graphs.{AllWithin}
 use Rattle.path_laws.specs.Between.{AreBetween}
-use Rattle.path_laws.specs.Blockwise.{Answers, AreAnswered, AreComing, ArePassed, AreStopped, blocks_some, came, flow_order, list_at, passed_all}
+use Rattle.node_list.specs.Lists.{list_at}
+use Rattle.path_laws.specs.Blockwise.{HasAnswer, AreAnswered, AreComing, ArePassed, AreStopped, blocks_some, came, flow_order, passed_all}
 use Rattle.path_laws.specs.Leads.{Leads, at_seed, one_more, steps_of}
-use Rattle.path_laws.specs.Nets.{StepAlong, edge_at}
+use Rattle.flow_graph.specs.FlowEdges.{StepAlong, edge_at}
 use Rattle.path_laws.specs.Paths.{AreRows, has_bit}
 use Rattle.path_laws.proofs.Chains.{AreRuns, after_complete, after_sound, before_complete, before_sound}
 use Rattle.path_laws.proofs.Runs.{are_runs}
@@ -63,7 +64,7 @@ module _ (against : Bool) (nodes : List Node) (lists : List (List ℕ)) (edges :
   pick : (way : Bool) (seed' stop' : ℕ → Bool) (on : Bool) (i n : ℕ) (list : List ℕ)
       → ((passed_all seed' stop' on (take (suc i) list) ≡ true) ↔ Leads (steps_of way nodes) seed' stop' n)
       → ((passed_all seed' stop' on (take i list) ≡ true) ↔ ((k : ℕ) × steps_of way nodes n k × Leads (steps_of way nodes) seed' stop' k))
-      → (passed_all seed' stop' on (came way i list) ≡ true) ↔ Answers way nodes seed' stop' n
+      → (passed_all seed' stop' on (came way i list) ≡ true) ↔ HasAnswer way nodes seed' stop' n
   pick true seed' stop' on i n list this that = this
   pick false seed' stop' on i n list this that = that
 
@@ -85,6 +86,7 @@ led_blocks against nodes lists bits count edges slice firsts path seed stop seed
     within : (m n : ℕ) → StepAlong edges m n → n < length lists
     within m n (e, h', source, target) = subst (λ k. k < length lists) source (between.source e (edge_at edges e) (slice_get-get_or edges e _ h'))
 
+-- what the edges between blocks bring to each block gives the answers at its nodes, as a slice has the edges
 pub coming_from : (against : Bool) (nodes : List Node) (lists : List (List ℕ)) (edges slice : List Edge) (firsts : List ℕ) (are : IsBlocks nodes lists) (between : AreBetween against nodes lists (length lists) edges firsts) (within : AllWithin nodes)
     (bits count : ℕ) (seed stop : ℕ → ℕ → Bool) (work rows : List (List Bool)) (count_is : count ≡ length lists) (slice_is : slice ≡ edges)
     (leads : (c b : ℕ) → c < length lists → b < bits → (has_bit work b c ≡ true) ↔ Leads (StepAlong edges) (λ k. passed_all (seed b) (stop b) false (flow_order against (list_at lists k))) (λ k. blocks_some (stop b) (flow_order against (list_at lists k))) c)
@@ -96,17 +98,18 @@ coming_from against nodes lists edges slice firsts are between within bits count
 
 -- ---- the answer at a node
 
+-- a node of a block has a place in the order of the flow too
 placed : (against : Bool) (list : List ℕ) (place n : ℕ) → slice_get list place ≡ Some n → (i : ℕ) × (slice_get (flow_order against list) i ≡ Some n)
 placed true list place n at =
     let h : place < length list = slice_get_within list place n at in
-    let j = length list - 1 - place in
     let back : length list - 1 - (length list - 1 - place) ≡ place = omega (arith, h) in
     let long : length (reverse list) ≡ length list = length-reverse list in
     (length list - 1 - place, slice_get-get_or (reverse list) (length list - 1 - place) 0 (omega (arith, h, long)) ∙ ap Some (get_or-reverse list (length list - 1 - place) 0 (omega (arith, h)) ∙ ap (λ k. get_or list k 0) back ∙ get_or_from_slice_get list place n 0 at))
 placed false list place n at = (place, at)
 
+-- the answer at a node, which stands in one of the blocks
 pub answer_at : (against : Bool) (nodes : List Node) (lists : List (List ℕ)) (bits : ℕ) (seed stop : ℕ → ℕ → Bool) (rows : List (List Bool)) → IsBlocks nodes lists → AreAnswered against nodes bits (λ c. flow_order against (list_at lists c)) seed stop rows
-    → (n b : ℕ) → n < length nodes → b < bits → (has_bit rows b n ≡ true) ↔ Answers against nodes (seed b) (stop b) n
+    → (n b : ℕ) → n < length nodes → b < bits → (has_bit rows b n ≡ true) ↔ HasAnswer against nodes (seed b) (stop b) n
 answer_at against nodes lists bits seed stop rows blocks are n b h l =
     let s = blocks.every n h in
     let same : list_at lists s.0 ≡ s.1.list = get_or_from_slice_get lists s.0 s.1.list [] s.1.listed in

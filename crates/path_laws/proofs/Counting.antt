@@ -1,26 +1,27 @@
 -- The edges that leave blocks are no more than those from last nodes of blocks to first ones.
-use Rattle.std.proofs.Common.{◌≡◌, ℕ, zero, suc, ◌+◌, ◌<◌, ◌≤◌, ◌⊎◌, inl, inr, Bool, true, false, ◌||◌, cond, nat_eq, List, [], ◌∷◌, length, slice_get, Some, refl, sym, ap, subst, arith, ◌∙◌}
-use Rattle.std.proofs.lemmas.Bool.{cases_eq, cases_lt, eq-eqb, ne_eqb, lt-ltb, le-ltb}
+use Rattle.std.proofs.Common.{◌≡◌, ℕ, zero, suc, ◌+◌, ◌<◌, ◌≤◌, ◌⊎◌, inl, inr, Bool, true, false, cond, nat_eq, List, [], ◌∷◌, length, slice_get, Some, refl, sym, ap, subst, arith, ◌∙◌}
+use Rattle.std.proofs.lemmas.Bool.{cases_eq, cases_lt, eq-eqb, ne_eqb, lt-ltb, le-ltb, or_right}
 use Rattle.std.proofs.lemmas.Option.{slice_get-get_or}
 use Rattle.flow_graph.specs.declared.edges.Edge.{Edge}
 use Rattle.flow_graph.specs.declared.nodes.Node.{Node}
 use Rattle.flow_graph.specs.BlockLaws.{one_block}
-use Rattle.flow_graph.specs.Blocks.{IsBlock, IsBlocks, IsChain, Stands}
-use Rattle.flow_graph.specs.EdgeLaws.{edge_is, first_entering-suc}
+use Rattle.flow_graph.specs.Blocks.{IsBlock, IsBlocks, IsChain, StandsIn}
+use Rattle.flow_graph.specs.EdgeLaws.{edge_is, first_entering_suc}
 use Rattle.flow_graph.specs.Edges.{edges_from, entering}
 use Rattle.flow_graph.specs.Graphs.{AllWithin}
 use Rattle.flow_graph.specs.Paths.{Begins, Ends, HasEdge}
 use Rattle.path_laws.specs.Between.{IsAhead, ahead_of, count_at, end_at, out_below}
-use Rattle.path_laws.specs.Blockwise.{list_at}
+use Rattle.node_list.specs.Lists.{list_at}
 use Rattle.path_laws.specs.Crossings.{begins_with, crosses, crossings, ends_with, some_list}
-use Rattle.path_laws.specs.Nets.{first_among}
-use Rattle.path_laws.specs.NetsLaws.{node_within}
-use Rattle.path_laws.proofs.Runs.{enters_first, steps_ahead}
+use Rattle.flow_graph.specs.FlowEdges.{first_among}
+use Rattle.flow_graph.specs.BoundLaws.{slot_within}
+use Rattle.path_laws.proofs.Runs.{first_begins, enters_first, steps_ahead}
 
 -- ---- the edges of one node
 
+-- the edges of a node are those between its first number and that of the next node
 pub count_is : (way : Bool) (n : ℕ) (edges : List Edge) → first_among way edges n + count_at way n edges ≡ first_among way edges (suc n)
-count_is true n edges = omega (arith, first_entering-suc n edges, all edges)
+count_is true n edges = omega (arith, first_entering_suc n edges, all edges)
   where
     one : (t : Bool) (edge : Edge) (rest : List Edge) (k : ℕ) → length rest ≡ k → length (cond t (edge ∷ rest) rest) ≡ cond t 1 0 + k
     one true edge rest k e = omega (arith, e)
@@ -42,6 +43,7 @@ count_is false n (edge ∷ edges) =
 
 -- ---- the node from which the flow leaves
 
+-- the node ahead as a relation and as a number
 pub ahead_is : (way : Bool) (list : List ℕ) (n : ℕ) → IsAhead way n list → ahead_of way list ≡ n
 ahead_is true [] n a = absurd a
 ahead_is true (m ∷ list) n a = a
@@ -49,12 +51,14 @@ ahead_is false [] n a = absurd a
 ahead_is false (m ∷ []) n a = a
 ahead_is false (m ∷ k ∷ list) n a = ahead_is false (k ∷ list) n a
 
+-- a chain is not empty, so there is a node at which the flow leaves it
 is_ahead : (way : Bool) (nodes : List Node) (list : List ℕ) → IsChain nodes list → IsAhead way (ahead_of way list) list
 is_ahead way nodes [] is = absurd is
 is_ahead true nodes (m ∷ list) is = refl
 is_ahead false nodes (m ∷ []) is = refl
 is_ahead false nodes (m ∷ k ∷ list) is = is_ahead false nodes (k ∷ list) is.1
 
+-- that node has a place in the list
 ahead_stands : (way : Bool) (list : List ℕ) (n : ℕ) → IsAhead way n list → (i : ℕ) × (slice_get list i ≡ Some n)
 ahead_stands true [] n a = absurd a
 ahead_stands true (m ∷ list) n a = (0, ap Some a)
@@ -64,14 +68,17 @@ ahead_stands false (m ∷ k ∷ list) n a = let r = ahead_stands false (k ∷ li
 
 -- ---- how often an edge is counted
 
+-- how many of the first blocks the flow leaves at this node
 hits : Bool → List (List ℕ) → ℕ → ℕ → ℕ
 hits way lists k zero = 0
 hits way lists k (suc b) = hits way lists k b + cond (nat_eq k (ahead_of way (list_at lists b))) 1 0
 
+-- without edges nothing is counted
 none_out : (way : Bool) (lists : List (List ℕ)) (below : ℕ) → out_below way lists [] below ≡ 0
 none_out way lists zero = refl
 none_out way lists (suc b) = omega (arith, none_out way lists b)
 
+-- one more edge is counted once for each block that the flow leaves by it
 one_out : (way : Bool) (lists : List (List ℕ)) (edge : Edge) (edges : List Edge) (below : ℕ) → out_below way lists (edge ∷ edges) below ≡ hits way lists (end_at way edge) below + out_below way lists edges below
 unfolding hits
 one_out way lists edge edges zero = refl
@@ -90,11 +97,11 @@ module _ (way : Bool) (nodes : List Node) (lists : List (List ℕ)) (are : IsBlo
   leaves : (b : ℕ) → b < length lists → IsAhead way (ahead b) (list_at lists b)
   leaves b h = is_ahead way nodes (list_at lists b) (block_is b h).chain
 
-  stands : (b : ℕ) → b < length lists → Stands lists b (ahead b)
+  stands : (b : ℕ) → b < length lists → StandsIn lists b (ahead b)
   stands b h = let r = ahead_stands way (list_at lists b) (ahead b) (leaves b h) in record { list = list_at lists b; listed = listed b h; place = r.0; is = r.1 }
 
   apart : (b c : ℕ) → b < length lists → c < length lists → ahead b ≡ ahead c → b ≡ c
-  apart b c h l e = one_block nodes lists b c (ahead c) are (subst (Stands lists b) e (stands b h)) (stands c l)
+  apart b c h l e = one_block nodes lists b c (ahead c) are (subst (StandsIn lists b) e (stands b h)) (stands c l)
 
   -- each edge is counted at most once
   hits_one : (k below : ℕ) → below ≤ length lists → (hits way lists k below ≡ 0) ⊎ ((hits way lists k below ≡ 1) × ((b : ℕ) × (b < below) × (ahead b ≡ k)))
@@ -115,27 +122,23 @@ module _ (way : Bool) (nodes : List Node) (lists : List (List ℕ)) (are : IsBlo
         ]
   ]
 
+-- a test that holds of one list holds of some list
 some_at : (test : List ℕ → Bool) (lists : List (List ℕ)) (b : ℕ) (list : List ℕ) → slice_get lists b ≡ Some list → test list ≡ true → some_list test lists ≡ true
 some_at test [] b list e on = cc
 some_at test (l ∷ lists) zero list e on = let same : l ≡ list = cc in rw (same, on) refl
-some_at test (l ∷ lists) (suc b) list e on = or_second (test l) (some_list test lists) (some_at test lists b list e on)
-  where
-    or_second : (a c : Bool) → c ≡ true → (a || c) ≡ true
-    or_second true c h = refl
-    or_second false c h = h
+some_at test (l ∷ lists) (suc b) list e on = or_right (test l) (some_list test lists) (some_at test lists b list e on)
 
+-- the computed tests agree with the propositions, here that a list begins with a node
 begins_true : (list : List ℕ) (n : ℕ) → Begins n list → begins_with n list ≡ true
 begins_true [] n b = absurd b
 begins_true (m ∷ list) n b = eq-eqb m n b
 
-first_begins : (list : List ℕ) (n : ℕ) → slice_get list 0 ≡ Some n → Begins n list
-first_begins [] n e = cc
-first_begins (m ∷ list) n e = cc
-
+-- the first node has place 0
 begins_first : (list : List ℕ) (n : ℕ) → Begins n list → slice_get list 0 ≡ Some n
 begins_first [] n b = absurd b
 begins_first (m ∷ list) n b = ap Some b
 
+-- and that it ends with one
 ends_true : (list : List ℕ) (n : ℕ) → Ends n list → ends_with n list ≡ true
 ends_true [] n e = absurd e
 ends_true (m ∷ []) n e = eq-eqb m n e
@@ -150,12 +153,13 @@ crosses_if false nodes lists are within edge b list step listed ahead =
     let to = some_at (begins_with edge.target) lists t.0 t.1.list t.1.listed (begins_true t.1.list edge.target (first_begins t.1.list edge.target first)) in
     rw (on, to) refl
 crosses_if true nodes lists are within edge b list step listed ahead =
-    let s = are.every edge.source (node_within nodes edge.source step.0 edge.target step.1) in
+    let s = are.every edge.source (slot_within nodes edge.source step.0 edge.target step.1) in
     let last = steps_ahead false nodes list s.1.list edge.target edge.source s.1.place (are.blocks b list listed) (are.blocks s.0 s.1.list s.1.listed) (begins_first list edge.target ahead) s.1.is step in
     let on = some_at (ends_with edge.source) lists s.0 s.1.list s.1.listed (ends_true s.1.list edge.source last) in
     let to = some_at (begins_with edge.target) lists b list listed (begins_true list edge.target ahead) in
     rw (on, to) refl
 
+-- so no more edges are counted than lead from the last node of a block to the first of one
 few_out : (way : Bool) (nodes : List Node) (lists : List (List ℕ)) → IsBlocks nodes lists → AllWithin nodes → (edges : List Edge) → ((e : ℕ) (edge : Edge) → slice_get edges e ≡ Some edge → HasEdge nodes edge.source edge.target) → out_below way lists edges (length lists) ≤ crossings lists edges
 few_out way nodes lists are within [] steps = omega (arith, none_out way lists (length lists))
 few_out way nodes lists are within (edge ∷ edges) steps =

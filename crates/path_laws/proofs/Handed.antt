@@ -4,14 +4,14 @@ use Rattle.std.proofs.lemmas.Bool.{cases_lt}
 use Rattle.std.proofs.Math.Nat.{mul-le-mul_right}
 use Rattle.flow_graph.specs.declared.edges.Edge.{Edge}
 use Rattle.path_laws.specs.Crossings.{crossings}
-use Rattle.bit_rows.specs.Bits.{AreAlike, AreEquallyLong}
+use Rattle.bit_rows.specs.Bits.{AreEquallyLong}
 use Rattle.flow_graph.specs.declared.nodes.Node.{Node}
 use Rattle.flow_graph.specs.Blocks.{AreBlocksOf, BlocksShape}
 use Rattle.flow_graph.specs.Edges.{EdgesShape, edges_from, edges_of}
 use Rattle.flow_graph.specs.Graphs.{AllWithin}
 use Rattle.path_laws.specs.Paths.{AreRows, width}
-use Rattle.path_laws.specs.RowLaws.{as_many, as_wide, like_rows, width_is}
-use Rattle.path_laws.specs.Seeds.{IsProblem}
+use Rattle.path_laws.specs.RowLaws.{rows_as_many, as_wide, width_is}
+use Rattle.path_laws.specs.Seeds.{IsPathProblem}
 
 module _ (nodes : List Node) (bits : ℕ) (born : List (List Bool)) (born_are : AreRows (length nodes) (width born) born) (even : AreEquallyLong bits born) where
   pub born_long : AreRows (length nodes) bits born
@@ -23,13 +23,10 @@ module _ (nodes : List Node) (bits : ℕ) (born : List (List Bool)) (born_are : 
   pub as_born : (rows : List (List Bool)) → AreRows (length nodes) bits rows → AreRows (length nodes) (width born) rows
   as_born rows are = as_wide (length nodes) bits born rows born_long are
 
-  pub flipped_born : (rows made : List (List Bool)) → AreRows (length nodes) bits rows → AreAlike rows made → AreRows (length nodes) (width born) made
-  flipped_born rows made are alike = as_born made (like_rows (length nodes) bits rows made are alike)
-
   pub stop_long : (stop : List (List Bool)) → AreRows (length nodes) (width born) stop → AreRows (length nodes) bits stop
-  stop_long stop are = as_many (length nodes) bits born stop born_long are
+  stop_long stop are = rows_as_many (length nodes) bits born stop born_long are
 
-  pub problem : (edges : EdgesShape) (blocks : BlocksShape) (stop : List (List Bool)) → AllWithin nodes → edges ≡ edges_of nodes → AreBlocksOf nodes blocks → AreRows (length nodes) (width born) stop → IsProblem nodes edges blocks bits born stop
+  pub problem : (edges : EdgesShape) (blocks : BlocksShape) (stop : List (List Bool)) → AllWithin nodes → edges ≡ edges_of nodes → AreBlocksOf nodes blocks → AreRows (length nodes) (width born) stop → IsPathProblem nodes edges blocks bits born stop
   problem edges blocks stop within edges_are blocks_are stop_are = record {
     flow = record { within = within; edges_are = edges_are; born_rows = born_long; stop_rows = stop_long stop stop_are };
     blocks_are = blocks_are;

@@ -3,10 +3,12 @@ use Rattle.std.proofs.Common.{◌≡◌, ℕ, zero, suc, ◌+◌, ◌<◌, ◌�
 use Rattle.std.proofs.lemmas.Bool.{cases_eq, cases_Bool, eqb-true, or_cases}
 use Rattle.path_laws.proofs.BitNets.{BitNet, BitLaws, bit_along, BitSolves, BitLeast}
 
+-- whether a bit is true at one of the first indices
 any_below : (ℕ → Bool) → ℕ → Bool
 any_below f zero = false
 any_below f (suc n) = any_below f n || f n
 
+-- one such index makes it true
 any_below_true : (f : ℕ → Bool) (n i : ℕ) → i < n → f i ≡ true → any_below f n ≡ true
 unfolding any_below
 any_below_true f zero i h t = absurd (omega arith)
@@ -20,6 +22,7 @@ any_below_true f (suc n) i h t =
     or_true true = refl
     or_true false = refl
 
+-- and if it is true, there is such an index
 any_below_some : (f : ℕ → Bool) (n : ℕ) → any_below f n ≡ true → (i : ℕ) × (i < n) × (f i ≡ true)
 unfolding any_below
 any_below_some f zero h = absurd (cc)
@@ -29,28 +32,34 @@ any_below_some f (suc n) h =
       | inr here ↦ (n, omega arith, here)
     ]
 
+-- at how many of the first indices a bit is true
 count : (ℕ → Bool) → ℕ → ℕ
 count f zero = zero
 count f (suc n) = count f n + cond (f n) 1 0
 
+-- one index adds at most one
 bit_le_one : (b : Bool) → cond b 1 0 ≤ 1
 bit_le_one true = omega arith
 bit_le_one false = omega arith
 
+-- so the count is at most the number of indices
 count_le : (f : ℕ → Bool) (n : ℕ) → count f n ≤ n
 unfolding count
 count_le f zero = omega arith
 count_le f (suc n) = let a : count f n ≤ n = count_le f n in let b : cond (f n) 1 0 ≤ 1 = bit_le_one (f n) in omega arith
 
+-- implication between two bits orders their counts
 bit_mono : (a b : Bool) → (a ≡ true → b ≡ true) → cond a 1 0 ≤ cond b 1 0
 bit_mono true b h = rw (h refl) (omega arith)
 bit_mono false b h = omega arith
 
+-- so a function that is true at more indices has the greater count
 count_mono : (f g : ℕ → Bool) (n : ℕ) → ((i : ℕ) → f i ≡ true → g i ≡ true) → count f n ≤ count g n
 unfolding count
 count_mono f g zero h = omega arith
 count_mono f g (suc n) h = let a : count f n ≤ count g n = count_mono f g n h in let b : cond (f n) 1 0 ≤ cond (g n) 1 0 = bit_mono (f n) (g n) (h n) in omega arith
 
+-- by at least one where some index is new
 count_more : (f g : ℕ → Bool) (n i : ℕ) → i < n → ((i : ℕ) → f i ≡ true → g i ≡ true) → f i ≡ false → g i ≡ true → count f n + 1 ≤ count g n
 unfolding count
 count_more f g zero i l h off on = absurd (omega arith)

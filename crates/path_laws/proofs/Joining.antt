@@ -1,27 +1,15 @@
 -- One more edge along which a row is joined.
-use Rattle.std.proofs.Common.{◌≡◌, ◌≢◌, ℕ, ◌+◌, ◌<◌, ◌⊎◌, Bool, true, false, ◌||◌, List, [], length, get_or, set, refl, sym, ap, inl, inr, arith, ◌∙◌}
-use Rattle.std.proofs.lemmas.Bool.{cases_eq}
+use Rattle.std.proofs.Common.{◌≡◌, ◌≢◌, ℕ, ◌+◌, ◌<◌, Bool, true, false, ◌||◌, List, [], length, get_or, set, sym, ap, inl, inr, arith, ◌∙◌}
+use Rattle.std.proofs.lemmas.Bool.{cases_eq, or_cases, or_left, or_right}
 use Rattle.std.proofs.lemmas.List.{get_or-set_same, get_or-set_other, length-set}
-use Rattle.bit_rows.specs.BitLaws.{length-or, or_bit}
+use Rattle.bit_rows.specs.BitLaws.{length_or, or_bit}
 use Rattle.bit_rows.specs.Bits.{or_bits, row_of}
 use Rattle.flow_graph.specs.declared.edges.Edge.{Edge}
 use Rattle.flow_graph.specs.declared.nodes.Node.{Node}
 use Rattle.path_laws.specs.Leads.{SomeStep}
-use Rattle.path_laws.specs.Nets.{edge_at, flow_edges}
+use Rattle.flow_graph.specs.FlowEdges.{edge_at, flow_edges}
 use Rattle.path_laws.specs.Paths.{AreRows, has_bit}
-use Rattle.path_laws.proofs.RowBits.{step_at}
-
-or_parts : (a b : Bool) → (a || b) ≡ true → (a ≡ true) ⊎ (b ≡ true)
-or_parts true b h = inl refl
-or_parts false b h = inr h
-
-or_first : (a b : Bool) → a ≡ true → (a || b) ≡ true
-or_first true b h = refl
-or_first false b h = absurd (cc)
-
-or_second : (a b : Bool) → b ≡ true → (a || b) ≡ true
-or_second true b h = refl
-or_second false b h = h
+use Rattle.path_laws.proofs.RowBits.{flow_step}
 
 module _ (count bits : ℕ) (rows all after : List (List Bool)) (number : ℕ) (edges : List Edge) (all_rows : AreRows count bits all) (rows_rows : AreRows count bits rows)
     (t_in : (edge_at edges number).target < count) (s_in : (edge_at edges number).source < count)
@@ -51,7 +39,7 @@ module _ (count bits : ℕ) (rows all after : List (List Bool)) (number : ℕ) (
   shape_more = record {
     len = ap length is ∙ length-set all t (or_bits (row_of all t) (row_of rows s)) ∙ all_rows.len;
     each = λ n h. elim (cases_eq n t) as (λ _. length (row_of after n) ≡ bits) [
-      | inl e ↦ rw (e, here) (length-or (row_of all t) (row_of rows s) long ∙ all_rows.each t t_in)
+      | inl e ↦ rw (e, here) (length_or (row_of all t) (row_of rows s) long ∙ all_rows.each t t_in)
       | inr d ↦ rw (other n d) (all_rows.each n h)
     ];
   }
@@ -61,7 +49,7 @@ module _ (count bits : ℕ) (rows all after : List (List Bool)) (number : ℕ) (
 
   pub sound_more : ((n b : ℕ) → n < count → has_bit all b n ≡ true → Comes number n b) → (n b : ℕ) → n < count → has_bit after b n ≡ true → Comes (number + 1) n b
   sound_more sound n b h on = elim (cases_eq n t) as (λ _. Comes (number + 1) n b) [
-    | inl e ↦ elim (or_parts (has_bit all b t) (has_bit rows b s) (sym (bit_here b) ∙ rw e at on)) as (λ _. Comes (number + 1) n b) [
+    | inl e ↦ elim (or_cases (has_bit all b t) (has_bit rows b s) (sym (bit_here b) ∙ rw e at on)) as (λ _. Comes (number + 1) n b) [
       | inl was ↦ let c = sound t b t_in was in let l : c.0 < number = c.1 in (c.0, omega arith, c.2 ∙ sym e, c.3)
       | inr now ↦ (number, omega arith, sym e, now)
     ]
@@ -72,8 +60,8 @@ module _ (count bits : ℕ) (rows all after : List (List Bool)) (number : ℕ) (
       → (e b : ℕ) → e < number + 1 → has_bit rows b (edge_at edges e).source ≡ true → has_bit after b (edge_at edges e).target ≡ true
   complete_more complete e b h on = elim (cases_eq (edge_at edges e).target t) as (λ _. has_bit after b (edge_at edges e).target ≡ true) [
     | inl same ↦ rw same (bit_here b ∙ elim (cases_eq e number) as (λ _. (has_bit all b t || has_bit rows b s) ≡ true) [
-      | inl last ↦ or_second (has_bit all b t) (has_bit rows b s) (rw last at on)
-      | inr d ↦ or_first (has_bit all b t) (has_bit rows b s) (rw same at (complete e b (omega arith) on))
+      | inl last ↦ or_right (has_bit all b t) (has_bit rows b s) (rw last at on)
+      | inr d ↦ or_left (has_bit all b t) (has_bit rows b s) (rw same at (complete e b (omega arith) on))
     ])
     | inr apart ↦ bit_other (edge_at edges e).target b apart ∙ complete e b (let d : e ≢ number = λ last. apart (ap (λ k. (edge_at edges k).target) last) in omega arith) on
   ]
@@ -82,4 +70,4 @@ module _ (count bits : ℕ) (rows all after : List (List Bool)) (number : ℕ) (
 pub step_from : (against : Bool) (nodes : List Node) (rows : List (List Bool)) (n b : ℕ) → (e : ℕ) × (e < length (flow_edges against nodes)) × ((edge_at (flow_edges against nodes) e).target ≡ n) × (has_bit rows b (edge_at (flow_edges against nodes) e).source ≡ true)
     → SomeStep against nodes rows b n
 step_from against nodes rows n b (e, h, t_is, on) =
-    ((edge_at (flow_edges against nodes) e).source, rw (← t_is) (step_at against nodes e h), on)
+    ((edge_at (flow_edges against nodes) e).source, rw (← t_is) (flow_step against nodes e h), on)

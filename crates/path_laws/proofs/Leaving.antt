@@ -1,36 +1,25 @@
 -- The edges between blocks while they are listed.
 use Rattle.std.proofs.Common.{◌≡◌, ℕ, zero, suc, ◌+◌, ◌-◌, ◌<◌, ◌≤◌, ◌⊎◌, inl, inr, Bool, true, false, List, [], ◌∷◌, ◌++◌, length, get_or, slice_get, Some, refl, sym, ap, subst, arith, ◌∙◌, length-append, append_assoc}
+use Rattle.flow_graph.specs.ListLaws.{get_left_some, get_right, get_append}
 use Rattle.std.proofs.lemmas.Bool.{cases_eq, cases_lt}
 use Rattle.std.proofs.lemmas.List.{get_or_append_left}
 use Rattle.std.proofs.lemmas.Option.{get_or_from_slice_get, slice_get_within, slice_get-get_or}
 use Rattle.flow_graph.specs.declared.edges.Edge.{Edge}
 use Rattle.flow_graph.specs.declared.nodes.Node.{Node}
-use Rattle.flow_graph.specs.Blocks.{Stands}
+use Rattle.flow_graph.specs.Blocks.{StandsIn}
 use Rattle.flow_graph.specs.Graphs.{AllWithin}
 use Rattle.flow_graph.specs.Paths.{Ends}
 use Rattle.flow_graph.specs.Edges.{edges_from}
 use Rattle.path_laws.specs.Between.{AreBetween, AreOut, AreOutTo, IsAhead, IsAheadOf, IsBetween, ahead_of, count_at, out_below}
-use Rattle.path_laws.specs.Blockwise.{list_at}
+use Rattle.node_list.specs.Lists.{list_at}
 use Rattle.path_laws.specs.Leads.{steps_of}
-use Rattle.path_laws.specs.Nets.{AreFlowEdges, IsListedFlow, edge_at, first_out, flow_edges, number_at}
+use Rattle.flow_graph.specs.FlowEdges.{AreFlowEdges, edge_at, first_out, flow_edges}
+use Rattle.flow_graph.specs.Tables.{number_at}
+use Rattle.path_laws.specs.Nets.{IsListedFlow}
 use Rattle.path_laws.specs.Paths.{AreRows}
-use Rattle.path_laws.specs.NetsLaws.{flow_edges_are}
+use Rattle.flow_graph.specs.FlowEdgeLaws.{flow_edges_are}
 use Rattle.path_laws.proofs.Counting.{ahead_is, count_is}
-use Rattle.path_laws.proofs.RowBits.{step_at, step_edge}
-
-get_front : (xs ys : List Edge) (i : ℕ) (x : Edge) → slice_get xs i ≡ Some x → slice_get (xs ++ ys) i ≡ Some x
-get_front [] ys i x e = cc
-get_front (y ∷ xs) ys zero x e = e
-get_front (y ∷ xs) ys (suc i) x e = get_front xs ys i x e
-
-get_later : (xs ys : List Edge) (i : ℕ) (x : Edge) → slice_get ys i ≡ Some x → slice_get (xs ++ ys) (length xs + i) ≡ Some x
-get_later [] ys i x e = let k : 0 + i ≡ i = omega arith in ap (slice_get ys) k ∙ e
-get_later (y ∷ xs) ys i x e = let k : suc (length xs) + i ≡ suc (length xs + i) = omega arith in ap (slice_get (y ∷ (xs ++ ys))) k ∙ get_later xs ys i x e
-
-get_either : (xs ys : List Edge) (i : ℕ) (x : Edge) → slice_get (xs ++ ys) i ≡ Some x → (slice_get xs i ≡ Some x) ⊎ ((j : ℕ) × (i ≡ length xs + j) × (slice_get ys j ≡ Some x))
-get_either [] ys i x e = inr (i, omega arith, e)
-get_either (y ∷ xs) ys zero x e = inl e
-get_either (y ∷ xs) ys (suc i) x e = elim (get_either xs ys i x e) [ inl h ↦ inl h | inr p ↦ inr (p.0, omega (arith, p.1), p.2) ]
+use Rattle.path_laws.proofs.RowBits.{flow_step, step_edge}
 
 -- ---- the edges that leave one block
 
@@ -55,11 +44,11 @@ module _ (against : Bool) (nodes : List Node) (lists : List (List ℕ)) (block f
 
   pub out_more : (within : AllWithin nodes) (number source target : ℕ) (list more : List Edge) (edge : Edge) → AreOutTo against nodes lists block from (first_out against nodes from) number before list
       → slice_get (flow_edges against nodes) number ≡ Some (record { source = source; target = target }) → first_out against nodes from ≤ number → number < first_out against nodes (suc from)
-      → edge.source ≡ block → Stands lists edge.target target → more ≡ list ++ edge ∷ [] → AreOutTo against nodes lists block from (first_out against nodes from) (number + 1) before more
+      → edge.source ≡ block → StandsIn lists edge.target target → more ≡ list ++ edge ∷ [] → AreOutTo against nodes lists block from (first_out against nodes from) (number + 1) before more
   out_more within number source target list more edge so_far at low high block_is stands more_is =
       let is : edge_at (flow_edges against nodes) number ≡ record { source = source; target = target } = get_or_from_slice_get (flow_edges against nodes) number _ _ at in
       let from_is : source ≡ from = (flow_edges_are nodes within against).only number from (record { source = source; target = target }) at low high in
-      let step : steps_of against nodes target source = subst (λ (e : Edge). steps_of against nodes e.target e.source) is (step_at against nodes number (slice_get_within (flow_edges against nodes) number _ at)) in
+      let step : steps_of against nodes target source = subst (λ (e : Edge). steps_of against nodes e.target e.source) is (flow_step against nodes number (slice_get_within (flow_edges against nodes) number _ at)) in
       let this : IsBetween against nodes lists edge = record {
         within = slice_get_within lists edge.target stands.list stands.listed;
         from = from;
@@ -73,11 +62,11 @@ module _ (against : Bool) (nodes : List Node) (lists : List (List ℕ)) (block f
         list_is = more_is ∙ ap (λ l. l ++ edge ∷ []) so_far.list_is ∙ append_assoc before so_far.out (edge ∷ []);
         many = omega (arith, so_far.many, length-append so_far.out (edge ∷ []));
         most = omega (arith, high);
-        source = λ e x h. elim (get_either so_far.out (edge ∷ []) e x h) as (λ _. x.source ≡ block) [ inl old ↦ so_far.source e x old | inr new ↦ one_source edge x new.0 new.2 block_is ];
-        sound = λ e x h. elim (get_either so_far.out (edge ∷ []) e x h) as (λ _. IsBetween against nodes lists x) [ inl old ↦ so_far.sound e x old | inr new ↦ subst (IsBetween against nodes lists) (one_is edge x new.0 new.2) this ];
-        complete = λ e l h. elim (cases_eq e number) as (λ _. (i : ℕ) × (x : Edge) × (slice_get (so_far.out ++ edge ∷ []) i ≡ Some x) × Stands lists x.target (edge_at (flow_edges against nodes) e).target) [
-          | inl same ↦ (length so_far.out + 0, edge, get_later so_far.out (edge ∷ []) 0 edge refl, subst (Stands lists edge.target) (sym (ap (λ k. (edge_at (flow_edges against nodes) k).target) same ∙ ap (λ (y : Edge). y.target) is)) stands)
-          | inr d ↦ let old = so_far.complete e l (omega (arith, h, d)) in (old.0, old.1, get_front so_far.out (edge ∷ []) old.0 old.1 old.2, old.3)
+        source = λ e x h. elim (get_append so_far.out (edge ∷ []) e x h) as (λ _. x.source ≡ block) [ inl old ↦ so_far.source e x old | inr new ↦ one_source edge x new.0 new.2 block_is ];
+        sound = λ e x h. elim (get_append so_far.out (edge ∷ []) e x h) as (λ _. IsBetween against nodes lists x) [ inl old ↦ so_far.sound e x old | inr new ↦ subst (IsBetween against nodes lists) (one_is edge x new.0 new.2) this ];
+        complete = λ e l h. elim (cases_eq e number) as (λ _. (i : ℕ) × (x : Edge) × (slice_get (so_far.out ++ edge ∷ []) i ≡ Some x) × StandsIn lists x.target (edge_at (flow_edges against nodes) e).target) [
+          | inl same ↦ (length so_far.out + 0, edge, get_right so_far.out (edge ∷ []) 0, subst (StandsIn lists edge.target) (sym (ap (λ k. (edge_at (flow_edges against nodes) k).target) same ∙ ap (λ (y : Edge). y.target) is)) stands)
+          | inr d ↦ let old = so_far.complete e l (omega (arith, h, d)) in (old.0, old.1, get_left_some so_far.out (edge ∷ []) old.0 old.1 old.2, old.3)
         ];
       }
     where
@@ -104,7 +93,7 @@ module _ (against : Bool) (nodes : List Node) (lists : List (List ℕ)) (block f
           let low : first_out against nodes from ≤ edge.0 = rw edge.2 at stands.0 in
           let high : edge.0 < first_out against nodes (suc from) = rw edge.2 at stands.1 in
           let r = so_far.complete edge.0 low (omega (arith, high, late)) in
-          (r.0, r.1, r.2, subst (Stands lists r.1.target) edge.3 r.3);
+          (r.0, r.1, r.2, subst (StandsIn lists r.1.target) edge.3 r.3);
     },
   )
 
@@ -154,7 +143,7 @@ module _ (against : Bool) (nodes : List Node) (lists : List (List ℕ)) where
     far n h = ap (λ l. number_at l n) longer_is ∙ past firsts (length more) n (omega (arith, h, are.long))
 
     either : (e : ℕ) (edge : Edge) → slice_get more e ≡ Some edge → (slice_get edges e ≡ Some edge) ⊎ ((j : ℕ) × (e ≡ length edges + j) × (slice_get out j ≡ Some edge))
-    either e edge h = get_either edges out e edge (subst (λ l. slice_get l e ≡ Some edge) more_is h)
+    either e edge h = get_append edges out e edge (subst (λ l. slice_get l e ≡ Some edge) more_is h)
 
     same_ahead : (list : List ℕ) (k : ℕ) → IsAhead against from list → IsAhead against k list → k ≡ from
     same_ahead list k a b = go against list a b
@@ -214,16 +203,16 @@ module _ (against : Bool) (nodes : List Node) (lists : List (List ℕ)) where
             (omega (arith, begins, new.1), omega (arith, ends, slice_get_within more e edge h))
       ];
       sound = λ e edge h. elim (either e edge h) as (λ _. IsBetween against nodes lists edge) [ inl old ↦ are.sound e edge old | inr new ↦ leave.sound new.0 edge new.2 ];
-      complete = λ b k to lt at step. elim (cases_eq b block) as (λ _. (e : ℕ) × (edge : Edge) × (slice_get more e ≡ Some edge) × (edge.source ≡ b) × Stands lists edge.target to) [
+      complete = λ b k to lt at step. elim (cases_eq b block) as (λ _. (e : ℕ) × (edge : Edge) × (slice_get more e ≡ Some edge) × (edge.source ≡ b) × StandsIn lists edge.target to) [
         | inl here ↦
             let listed : Some ahead.list ≡ Some at.list = sym ahead.listed ∙ ap (slice_get lists) (sym here) ∙ at.listed in
             let same_list : at.list ≡ ahead.list = cc in
             let same : k ≡ from = same_ahead ahead.list k ahead.ahead (subst (IsAhead against k) same_list at.ahead) in
             let r = leave.complete to (subst (steps_of against nodes to) same step) in
-            (length edges + r.0, r.1, subst (λ l. slice_get l (length edges + r.0) ≡ Some r.1) (sym more_is) (get_later edges out r.0 r.1 r.2), leave.source r.0 r.1 r.2 ∙ sym here, r.3)
+            (length edges + r.0, r.1, subst (λ l. slice_get l (length edges + r.0) ≡ Some r.1) (sym more_is) (get_right edges out r.0 ∙ r.2), leave.source r.0 r.1 r.2 ∙ sym here, r.3)
         | inr d ↦
             let r = are.complete b k to (omega (arith, lt, d)) at step in
-            (r.0, r.1, subst (λ l. slice_get l r.0 ≡ Some r.1) (sym more_is) (get_front edges out r.0 r.1 r.2), r.3, r.4)
+            (r.0, r.1, subst (λ l. slice_get l r.0 ≡ Some r.1) (sym more_is) (get_left_some edges out r.0 r.1 r.2), r.3, r.4)
       ];
     }
 
@@ -258,7 +247,5 @@ pub between_listed : (against : Bool) (nodes : List Node) (lists : List (List �
     → slice ≡ edges → table ≡ firsts → count ≡ length lists → AreRows (length lists) bits seeds → AreRows (length lists) bits stops → IsListedFlow count slice table bits seeds stops
 between_listed against nodes lists edges slice firsts table count bits seeds stops are slice_is table_is count_is seed_rows stop_rows = rw (slice_is, table_is, count_is) (record {
   long = omega (arith, are.long);
-  are = between_flow against nodes lists edges firsts are;
-  first_rows = seed_rows;
-  block_rows = stop_rows;
+  flow = record { are = between_flow against nodes lists edges firsts are; first_rows = seed_rows; block_rows = stop_rows };
 })

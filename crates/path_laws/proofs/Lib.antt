@@ -8,9 +8,9 @@ pub mod Complements
 pub mod Induction
 pub mod Joining
 pub mod RowBits
-pub mod Rowwise
 pub mod Ways
 pub mod Places
 pub mod Filled
 pub mod Handed
 pub mod Counting
+pub mod Told

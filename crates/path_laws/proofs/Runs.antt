@@ -1,41 +1,38 @@
 -- The blocks of a graph are runs of the flow, and the edges between them are the steps between runs.
-use Rattle.std.proofs.Common.{◌≡◌, ℕ, zero, suc, ◌-◌, ◌<◌, inl, inr, Bool, true, false, List, [], ◌∷◌, ◌++◌, length, reverse, slice_get, Some, refl, sym, ap, subst, arith, ◌∙◌, length-append}
-use Rattle.std.proofs.lemmas.List.{get_or-reverse, length-reverse, reverse-append}
+use Rattle.std.proofs.Common.{◌≡◌, ℕ, zero, suc, ◌<◌, inl, inr, Bool, true, false, List, [], ◌∷◌, ◌++◌, length, reverse, slice_get, Some, refl, sym, ap, subst, arith, ◌∙◌, length-append}
+use Rattle.flow_graph.specs.ListLaws.{get_left_some, get_last}
+use Rattle.std.proofs.lemmas.List.{reverse-append}
 use Rattle.std.proofs.lemmas.Option.{slice_get_within, slice_get-get_or, get_or_from_slice_get}
 use Rattle.flow_graph.specs.declared.edges.Edge.{Edge}
 use Rattle.flow_graph.specs.declared.nodes.Node.{Node}
 use Rattle.flow_graph.specs.BlockLaws.{chain_inner, chain_on, edge_within, glued_edge, one_block, only_from, only_to}
-use Rattle.flow_graph.specs.Blocks.{IsBlock, IsBlocks, IsChain, IsGlued, Stands}
+use Rattle.flow_graph.specs.Blocks.{IsBlock, IsBlocks, IsChain, IsGlued, StandsIn}
 use Rattle.flow_graph.specs.Graphs.{AllWithin}
 use Rattle.flow_graph.specs.Paths.{Begins, Ends}
 use Rattle.path_laws.specs.Between.{AreBetween, IsAhead}
-use Rattle.path_laws.specs.Blockwise.{flow_order, list_at}
+use Rattle.node_list.specs.Lists.{list_at}
+use Rattle.path_laws.specs.Blockwise.{flow_order}
 use Rattle.path_laws.specs.Leads.{steps_of}
-use Rattle.path_laws.specs.Nets.{StepAlong, edge_at}
+use Rattle.flow_graph.specs.FlowEdges.{StepAlong, edge_at}
 use Rattle.path_laws.proofs.Chains.{AreRuns, IsRun}
+use Rattle.path_laws.proofs.Places.{reversed_item}
 
--- ---- a list turned round
+-- ---- a list in reverse
 
-get_front : {A : Type 0} (xs ys : List A) (i : ℕ) (x : A) → slice_get xs i ≡ Some x → slice_get (xs ++ ys) i ≡ Some x
-get_front [] ys i x e = cc
-get_front (y ∷ xs) ys zero x e = e
-get_front (y ∷ xs) ys (suc i) x e = get_front xs ys i x e
+-- reversing a list exchanges its ends: the last becomes the first
+reversed_first : (list : List ℕ) (m : ℕ) → Ends m list → slice_get (reverse list) 0 ≡ Some m
+reversed_first [] m e = absurd e
+reversed_first (k ∷ []) m e = ap Some e
+reversed_first (j ∷ k ∷ list) m e = ap (λ l. slice_get l 0) (reverse-append (j ∷ []) (k ∷ list)) ∙ get_left_some (reverse (k ∷ list)) (j ∷ []) 0 m (reversed_first (k ∷ list) m e)
 
-get_back : {A : Type 0} (xs : List A) (x : A) → slice_get (xs ++ x ∷ []) (length xs) ≡ Some x
-get_back [] x = refl
-get_back (y ∷ xs) x = get_back xs x
-
-turned_first : (list : List ℕ) (m : ℕ) → Ends m list → slice_get (reverse list) 0 ≡ Some m
-turned_first [] m e = absurd e
-turned_first (k ∷ []) m e = ap Some e
-turned_first (j ∷ k ∷ list) m e = ap (λ l. slice_get l 0) (reverse-append (j ∷ []) (k ∷ list)) ∙ get_front (reverse (k ∷ list)) (j ∷ []) 0 m (turned_first (k ∷ list) m e)
-
-turned_last : (list : List ℕ) (m : ℕ) → Begins m list → (i : ℕ) × (slice_get (reverse list) i ≡ Some m) × (suc i ≡ length (reverse list))
-turned_last [] m b = absurd b
-turned_last (k ∷ list) m b =
+-- and the first the last
+reversed_last : (list : List ℕ) (m : ℕ) → Begins m list → (i : ℕ) × (slice_get (reverse list) i ≡ Some m) × (suc i ≡ length (reverse list))
+reversed_last [] m b = absurd b
+reversed_last (k ∷ list) m b =
     let whole : reverse (k ∷ list) ≡ reverse list ++ k ∷ [] = reverse-append (k ∷ []) list in
-    (length (reverse list), ap (λ l. slice_get l (length (reverse list))) whole ∙ get_back (reverse list) k ∙ ap Some b, omega (arith, ap length whole, length-append (reverse list) (k ∷ [])))
+    (length (reverse list), ap (λ l. slice_get l (length (reverse list))) whole ∙ get_last (reverse list) k ∙ ap Some b, omega (arith, ap length whole, length-append (reverse list) (k ∷ [])))
 
+-- the last node has the last place
 last_of : (list : List ℕ) (m : ℕ) → Ends m list → (i : ℕ) × (slice_get list i ≡ Some m) × (suc i ≡ length list)
 last_of [] m e = absurd e
 last_of (k ∷ []) m e = (0, ap Some e, omega arith)
@@ -49,34 +46,42 @@ run_more steps [] p q is step one = (step, one, tt)
 run_more steps (j ∷ []) p q is step one = (is.0, is.1, (step, one, tt))
 run_more steps (j ∷ k ∷ path) p q is step one = (is.0, is.1, run_more steps (k ∷ path) p q is.2 step one)
 
+-- each edge of a chain is a step along the flow
 along_run : (nodes : List Node) (chain : List ℕ) → IsChain nodes chain → IsRun (steps_of false nodes) chain
 along_run nodes [] is = absurd is
 along_run nodes (n ∷ []) is = tt
 along_run nodes (m ∷ n ∷ chain) is = (glued_edge nodes m n is.0, λ k edge. only_from nodes m n k is.0.enters edge, along_run nodes (n ∷ chain) is.1)
 
+-- and of the reversed chain a step against it
 against_run : (nodes : List Node) (chain : List ℕ) → IsChain nodes chain → IsRun (steps_of true nodes) (reverse chain)
 against_run nodes [] is = absurd is
 against_run nodes (n ∷ []) is = tt
 against_run nodes (m ∷ n ∷ chain) is =
     let rest = against_run nodes (n ∷ chain) is.1 in
-    let turned : reverse (n ∷ chain) ≡ reverse chain ++ n ∷ [] = reverse-append (n ∷ []) chain in
+    let backward : reverse (n ∷ chain) ≡ reverse chain ++ n ∷ [] = reverse-append (n ∷ []) chain in
     let whole : reverse (m ∷ n ∷ chain) ≡ reverse chain ++ n ∷ m ∷ [] = reverse-append (m ∷ n ∷ []) chain in
     subst (IsRun (steps_of true nodes)) (sym whole)
-    (run_more (steps_of true nodes) (reverse chain) n m (subst (IsRun (steps_of true nodes)) turned rest) (glued_edge nodes m n is.0) (λ k edge. only_to nodes m n k is.0.leaves edge))
+    (run_more (steps_of true nodes) (reverse chain) n m (subst (IsRun (steps_of true nodes)) backward rest) (glued_edge nodes m n is.0) (λ k edge. only_to nodes m n k is.0.leaves edge))
 
+-- so a block in the order of the flow is a run, whatever the direction
 block_run : (against : Bool) (nodes : List Node) (list : List ℕ) → IsChain nodes list → IsRun (steps_of against nodes) (flow_order against list)
 block_run true nodes list is = against_run nodes list is
 block_run false nodes list is = along_run nodes list is
 
 -- the node ahead is the last in the order of the flow
 pub ahead_last : (against : Bool) (list : List ℕ) (n : ℕ) → IsAhead against n list → (i : ℕ) × (slice_get (flow_order against list) i ≡ Some n) × (suc i ≡ length (flow_order against list))
-ahead_last true list n ahead = turned_last list n ahead
+ahead_last true list n ahead = reversed_last list n ahead
 ahead_last false list n ahead = last_of list n ahead
+
+-- what stands first begins a list
+pub first_begins : (list : List ℕ) (n : ℕ) → slice_get list 0 ≡ Some n → Begins n list
+first_begins [] n e = cc
+first_begins (m ∷ list) n e = cc
 
 -- a node that steps back to the node ahead of a block is the first of its own in the order of the flow
 pub enters_first : (against : Bool) (nodes : List Node) (list from_list : List ℕ) (m k place : ℕ) → IsBlock nodes list → IsBlock nodes from_list → slice_get list place ≡ Some m → IsAhead against k from_list → steps_of against nodes m k → slice_get (flow_order against list) 0 ≡ Some m
 enters_first true nodes list from_list m k place is from at ahead step = elim (chain_on nodes list place m is.chain at) as (λ _. slice_get (reverse list) 0 ≡ Some m) [
-  | inl ends ↦ turned_first list m ends
+  | inl ends ↦ reversed_first list m ends
   | inr next ↦ let same : k ≡ next.0 = only_to nodes m next.0 k next.2.leaves step in absurd (from.first k ahead m (subst (IsGlued nodes m) (sym same) next.2))
 ]
 enters_first false nodes list from_list m k zero is from at ahead step = at
@@ -87,35 +92,27 @@ enters_first false nodes list from_list m k (suc place) is from at ahead step =
 
 -- a node to which the first of a block steps back is the one ahead of its own
 pub steps_ahead : (against : Bool) (nodes : List Node) (list from_list : List ℕ) (m k place : ℕ) → IsBlock nodes list → IsBlock nodes from_list → slice_get (flow_order against list) 0 ≡ Some m → slice_get from_list place ≡ Some k → steps_of against nodes m k → IsAhead against k from_list
-steps_ahead true nodes list from_list m k zero is from first at step = begins from_list at
-  where
-    begins : (l : List ℕ) → slice_get l 0 ≡ Some k → Begins k l
-    begins [] e = cc
-    begins (j ∷ l) e = cc
+steps_ahead true nodes list from_list m k zero is from first at step = first_begins from_list k at
 steps_ahead true nodes list from_list m k (suc place) is from first at step =
     let before = chain_inner nodes from_list place k from.chain at in
     let same : m ≡ before.0 = only_from nodes before.0 k m before.2.enters step in
-    absurd (is.last m (turned_ends list m first) k (subst (λ j. IsGlued nodes j k) (sym same) before.2))
+    absurd (is.last m (reversed_ends list m first) k (subst (λ j. IsGlued nodes j k) (sym same) before.2))
   where
     ends_back : (xs : List ℕ) (x y : ℕ) → slice_get (reverse (x ∷ xs)) 0 ≡ Some y → Ends y (x ∷ xs)
     ends_back [] x y e = cc
-    ends_back (z ∷ xs) x y e = ends_back xs z y (front (reverse (z ∷ xs)) (turned_last (z ∷ xs) z refl) (sym (ap (λ l. slice_get l 0) (reverse-append (x ∷ []) (z ∷ xs))) ∙ e))
+    ends_back (z ∷ xs) x y e = ends_back xs z y (front (reverse (z ∷ xs)) (reversed_last (z ∷ xs) z refl) (sym (ap (λ l. slice_get l 0) (reverse-append (x ∷ []) (z ∷ xs))) ∙ e))
       where
         front : (l : List ℕ) → (i : ℕ) × (slice_get l i ≡ Some z) × (suc i ≡ length l) → slice_get (l ++ x ∷ []) 0 ≡ Some y → slice_get l 0 ≡ Some y
         front [] some e = absurd (omega (arith, some.2))
         front (j ∷ l) some e = e
 
-    turned_ends : (l : List ℕ) (y : ℕ) → slice_get (reverse l) 0 ≡ Some y → Ends y l
-    turned_ends [] y e = cc
-    turned_ends (x ∷ l) y e = ends_back l x y e
+    reversed_ends : (l : List ℕ) (y : ℕ) → slice_get (reverse l) 0 ≡ Some y → Ends y l
+    reversed_ends [] y e = cc
+    reversed_ends (x ∷ l) y e = ends_back l x y e
 steps_ahead false nodes list from_list m k place is from first at step = elim (chain_on nodes from_list place k from.chain at) as (λ _. Ends k from_list) [
   | inl ends ↦ ends
-  | inr next ↦ let same : m ≡ next.0 = only_to nodes k next.0 m next.2.leaves step in absurd (is.first m (begins list first) k (subst (IsGlued nodes k) (sym same) next.2))
+  | inr next ↦ let same : m ≡ next.0 = only_to nodes k next.0 m next.2.leaves step in absurd (is.first m (first_begins list m first) k (subst (IsGlued nodes k) (sym same) next.2))
 ]
-  where
-    begins : (l : List ℕ) → slice_get l 0 ≡ Some m → Begins m l
-    begins [] e = cc
-    begins (j ∷ l) e = cc
 
 module _ (against : Bool) (nodes : List Node) (lists : List (List ℕ)) (edges : List Edge) (firsts : List ℕ) (are : IsBlocks nodes lists) (between : AreBetween against nodes lists (length lists) edges firsts) (within : AllWithin nodes) where
   abbrev path : ℕ → List ℕ
@@ -159,19 +156,13 @@ module _ (against : Bool) (nodes : List Node) (lists : List (List ℕ)) (edges :
       let last = ahead_last against s.1.list k ahead in
       let from_list : list_at lists s.0 ≡ s.1.list = is_list s.0 s.1.list s.1.listed in
       let edge = between.complete s.0 k m (slice_get_within lists s.0 s.1.list s.1.listed) (record { list = s.1.list; listed = s.1.listed; ahead = ahead }) step in
-      let stands : Stands lists c m = first_stands against (list_at lists c) (listed c h) first in
+      let stands : StandsIn lists c m = first_stands against (list_at lists c) (listed c h) first in
       let same : edge.1.target ≡ c = one_block nodes lists edge.1.target c m are edge.4 stands in
       let is : edge_at edges edge.0 ≡ edge.1 = get_or_from_slice_get edges edge.0 edge.1 _ edge.2 in
       (s.0, last.0, (edge.0, slice_get_within edges edge.0 edge.1 edge.2, ap (λ (x : Edge). x.source) is ∙ edge.3, ap (λ (x : Edge). x.target) is ∙ same), rw from_list last.1, rw from_list last.2)
     where
-      find : (l : List ℕ) (i : ℕ) → slice_get (reverse l) i ≡ Some m → (j : ℕ) × (slice_get l j ≡ Some m)
-      find l i e =
-          let h : i < length l = subst (λ n. i < n) (length-reverse l) (slice_get_within (reverse l) i m e) in
-          let j = length l - 1 - i in
-          (j, slice_get-get_or l j 0 (omega (arith, h)) ∙ ap Some (sym (get_or-reverse l i 0 h) ∙ get_or_from_slice_get (reverse l) i m 0 e))
-
-      first_stands : (way : Bool) (list : List ℕ) → slice_get lists c ≡ Some list → slice_get (flow_order way list) 0 ≡ Some m → Stands lists c m
-      first_stands true list at e = let f = find list 0 e in record { list = list; listed = at; place = f.0; is = f.1 }
+      first_stands : (way : Bool) (list : List ℕ) → slice_get lists c ≡ Some list → slice_get (flow_order way list) 0 ≡ Some m → StandsIn lists c m
+      first_stands true list at e = let f = reversed_item list 0 m e in record { list = list; listed = at; place = f.0; is = f.1 }
       first_stands false list at e = record { list = list; listed = at; place = 0; is = e }
 
   pub are_runs : AreRuns (length nodes) (length lists) (steps_of against nodes) path (StepAlong edges)

@@ -5,7 +5,7 @@ use Rattle.flow_graph.specs.declared.nodes.Node.{Node}
 use Rattle.flow_graph.specs.Graphs.{Reached}
 use Rattle.flow_graph.specs.PathLaws.{reached_trace}
 use Rattle.flow_graph.specs.Paths.{Begins, HasEdge, IsPath, Trace, from_start, goes_on, is_return}
-use Rattle.path_laws.specs.NetsLaws.{node_within}
+use Rattle.flow_graph.specs.BoundLaws.{slot_within}
 use Rattle.path_laws.specs.Leads.{Leads, at_seed, one_more, steps_of}
 use Rattle.path_laws.specs.Paths.{BornAfter, BornAhead, BornBefore, EndsBorn, EndsWell, Meets, Since}
 
@@ -30,18 +30,22 @@ module _ (nodes : List Node) (born stop : ℕ → Bool) where
 
 -- ---- every path from a node
 
+-- truth values taken apart: of a conjunction both parts hold
 and_parts : (a b : Bool) → (a && b) ≡ true → (a ≡ true) × (b ≡ true)
 and_parts true b h = (refl, h)
 and_parts false b h = absurd (cc)
 
+-- of a disjunction one part holds
 or_parts : (a b : Bool) → (a || b) ≡ true → (a ≡ true) ⊎ (b ≡ true)
 or_parts true b h = inl refl
 or_parts false b h = inr h
 
+-- what is not true is false
 not_true : (a : Bool) → not a ≡ true → a ≡ false
 not_true true h = absurd (cc)
 not_true false h = refl
 
+-- one true part makes a disjunction true
 is_on : (a b : Bool) → (a ≡ true) ⊎ (b ≡ true) → (a || b) ≡ true
 is_on true b h = refl
 is_on false b (inl h) = absurd (cc)
@@ -139,7 +143,7 @@ module _ (nodes : List Node) (born stop seed : ℕ → Bool) (seed_is : (n : ℕ
         | inr start ↦ ([], subst (λ k. Trace nodes k []) (sym (eqb-true m 0 start)) from_start, (off, inr tt))
       ]
   trace_from_leads reached m h (one_more k p step free rest) =
-      let t = trace_from_leads reached p (node_within nodes p step.0 m step.1) rest in
+      let t = trace_from_leads reached p (slot_within nodes p step.0 m step.1) rest in
       (p ∷ t.0, goes_on p m t.0 t.1 step, (free, inr t.2))
 
   pub leads_from_trace : (m : ℕ) (before : List ℕ) → m < length nodes → Trace nodes m before → Unheld (m ∷ before) → Leads (steps_of false nodes) seed born m
@@ -149,18 +153,18 @@ module _ (nodes : List Node) (born stop seed : ℕ → Bool) (seed_is : (n : ℕ
       or_true true = refl
       or_true false = refl
   leads_from_trace m before h (goes_on p k earlier trace step) (off, inl stopped) = at_seed m (seed_is m h ∙ rw (off, stopped) refl)
-  leads_from_trace m before h (goes_on p k earlier trace step) (off, inr unheld) = one_more m p step off (leads_from_trace p earlier (node_within nodes p step.0 m step.1) trace unheld)
+  leads_from_trace m before h (goes_on p k earlier trace step) (off, inr unheld) = one_more m p step off (leads_from_trace p earlier (slot_within nodes p step.0 m step.1) trace unheld)
 
   pub before_from_none : (n : ℕ) → n ≢ 0 → ((m : ℕ) → HasEdge nodes m n → Leads (steps_of false nodes) seed born m → ⊥) → BornBefore nodes born stop n
   before_from_none n apart none before from_start = absurd (apart refl)
   before_from_none n apart none before (goes_on m k earlier trace step) = elim (since_or_unheld (m ∷ earlier)) as (λ _. Since born stop (m ∷ earlier)) [
     | inl since ↦ since
-    | inr unheld ↦ absurd (none m step (leads_from_trace m earlier (node_within nodes m step.0 n step.1) trace unheld))
+    | inr unheld ↦ absurd (none m step (leads_from_trace m earlier (slot_within nodes m step.0 n step.1) trace unheld))
   ]
 
   pub none_from_before : ((k : ℕ) → k < length nodes → Reached nodes k) → (n : ℕ) → BornBefore nodes born stop n → (m : ℕ) → HasEdge nodes m n → Leads (steps_of false nodes) seed born m → ⊥
   none_from_before reached n all m step leads =
-      let t = trace_from_leads reached m (node_within nodes m step.0 n step.1) leads in
+      let t = trace_from_leads reached m (slot_within nodes m step.0 n step.1) leads in
       not_held (m ∷ t.0) (all (m ∷ t.0) (goes_on m n t.0 t.1 step)) t.2
 
   pub not_at_start : BornBefore nodes born stop 0 → ⊥

@@ -1,14 +1,17 @@
 -- The edges between blocks: those of the flow that leave a block's last node in the order of the flow, as edges of a flow over
--- blocks.
+-- blocks. Cited by contracts.
 use Rattle.std.specs.Prelude.{◌≡◌, ℕ, zero, suc, nat_eq, if◌then◌else◌, ◌+◌, ◌<◌, ◌≤◌, Bool, true, false, List, [], ◌∷◌, ◌++◌, length, slice_get, Some}
 use Rattle.flow_graph.specs.declared.edges.Edge.{Edge}
 use Rattle.flow_graph.specs.declared.nodes.Node.{Node}
-use Rattle.flow_graph.specs.Blocks.{Stands}
+use Rattle.flow_graph.specs.Blocks.{BlocksShape, StandsIn}
 use Rattle.flow_graph.specs.Paths.{Begins, Ends}
 use Rattle.flow_graph.specs.Edges.{edges_from}
-use Rattle.path_laws.specs.Blockwise.{list_at}
+use Rattle.flow_graph.specs.Graphs.{GraphShape}
+use Rattle.node_list.specs.Lists.{list_at}
+use Rattle.path_laws.specs.declared.between.BlockEdges.{BlockEdges}
 use Rattle.path_laws.specs.Leads.{steps_of}
-use Rattle.path_laws.specs.Nets.{edge_at, first_out, flow_edges, number_at}
+use Rattle.flow_graph.specs.FlowEdges.{edge_at, first_out, flow_edges}
+use Rattle.flow_graph.specs.Tables.{number_at}
 
 -- node n is the one from which the flow leaves the list: along the edges its last, against them its first
 abbrev pub IsAhead : Bool → ℕ → List ℕ → Type 0
@@ -50,7 +53,7 @@ pub record IsBetween (against : Bool) (nodes : List Node) (lists : List (List �
   pub from : ℕ
   pub to : ℕ
   pub leaves : IsAheadOf against lists edge.source from
-  pub enters : Stands lists edge.target to
+  pub enters : StandsIn lists edge.target to
   pub step : steps_of against nodes to from
 
 -- the edges that leave this block
@@ -58,7 +61,7 @@ pub record AreOut (against : Bool) (nodes : List Node) (lists : List (List ℕ))
   pub few : length out ≤ count_at against from (edges_from 0 nodes)
   pub source : (e : ℕ) (edge : Edge) → slice_get out e ≡ Some edge → edge.source ≡ block
   pub sound : (e : ℕ) (edge : Edge) → slice_get out e ≡ Some edge → IsBetween against nodes lists edge
-  pub complete : (to : ℕ) → steps_of against nodes to from → (e : ℕ) × (edge : Edge) × (slice_get out e ≡ Some edge) × Stands lists edge.target to
+  pub complete : (to : ℕ) → steps_of against nodes to from → (e : ℕ) × (edge : Edge) × (slice_get out e ≡ Some edge) × StandsIn lists edge.target to
 
 -- the edges that leave the blocks below this number, in order of these, and the number of the first edge of each
 pub record AreBetween (against : Bool) (nodes : List Node) (lists : List (List ℕ)) (below : ℕ) (edges : List Edge) (firsts : List ℕ) : Type 0 where
@@ -70,7 +73,15 @@ pub record AreBetween (against : Bool) (nodes : List Node) (lists : List (List �
   pub only : (e n : ℕ) (edge : Edge) → slice_get edges e ≡ Some edge → number_at firsts n ≤ e → e < number_at firsts (suc n) → edge.source ≡ n
   pub stands : (e : ℕ) (edge : Edge) → slice_get edges e ≡ Some edge → (number_at firsts edge.source ≤ e) × (e < number_at firsts (suc edge.source))
   pub sound : (e : ℕ) (edge : Edge) → slice_get edges e ≡ Some edge → IsBetween against nodes lists edge
-  pub complete : (b from to : ℕ) → b < below → IsAheadOf against lists b from → steps_of against nodes to from → (e : ℕ) × (edge : Edge) × (slice_get edges e ≡ Some edge) × (edge.source ≡ b) × Stands lists edge.target to
+  pub complete : (b from to : ℕ) → b < below → IsAheadOf against lists b from → steps_of against nodes to from → (e : ℕ) × (edge : Edge) × (slice_get edges e ≡ Some edge) × (edge.source ≡ b) × StandsIn lists edge.target to
+
+-- the edges that leave all blocks
+abbrev pub AreBlockEdges : Bool → List Node → List (List ℕ) → BlockEdges → Type 0
+AreBlockEdges against nodes lists made = AreBetween against nodes lists (length lists) made.edges.items made.firsts.items
+
+-- to a list of edges those are added that leave this block, whose last node in the order of the flow is `from`
+abbrev pub AddsOut : Bool → GraphShape → BlocksShape → ℕ → ℕ → List Edge → List Edge → Type 0
+AddsOut against graph blocks block from old new = (out : List Edge) × (new ≡ old ++ out) × AreOut against graph.nodes blocks.lists block from out
 
 -- those of them whose numbers in the flow go from this one up to that one, at the end of a list
 pub record AreOutTo (against : Bool) (nodes : List Node) (lists : List (List ℕ)) (block from first number : ℕ) (before list : List Edge) : Type 0 where
@@ -80,4 +91,4 @@ pub record AreOutTo (against : Bool) (nodes : List Node) (lists : List (List ℕ
   pub most : number ≤ first_out against nodes (suc from)
   pub source : (e : ℕ) (edge : Edge) → slice_get out e ≡ Some edge → edge.source ≡ block
   pub sound : (e : ℕ) (edge : Edge) → slice_get out e ≡ Some edge → IsBetween against nodes lists edge
-  pub complete : (e : ℕ) → first ≤ e → e < number → (i : ℕ) × (edge : Edge) × (slice_get out i ≡ Some edge) × Stands lists edge.target (edge_at (flow_edges against nodes) e).target
+  pub complete : (e : ℕ) → first ≤ e → e < number → (i : ℕ) × (edge : Edge) × (slice_get out i ≡ Some edge) × StandsIn lists edge.target (edge_at (flow_edges against nodes) e).target

@@ -1,8 +1,9 @@
 -- A bit along the nodes of a block, in the order in which the flow passes them: what comes out of a node, of a block, and what
--- a block does to it as a whole.
-use Rattle.std.specs.Prelude.{◌≡◌, ℕ, suc, ◌<◌, ◌≤◌, ◌↔◌, nat_lt, nat_eq, if◌then◌else◌, Bool, true, false, not, ◌||◌, ◌&&◌, List, [], ◌∷◌, length, reverse, take, slice_get, slice_index_or, Some}
+-- a block does to it as a whole. Cited by contracts.
+use Rattle.std.specs.Prelude.{◌≡◌, ℕ, suc, ◌<◌, ◌≤◌, ◌↔◌, nat_lt, nat_eq, if◌then◌else◌, Bool, true, false, not, ◌||◌, ◌&&◌, List, [], ◌∷◌, length, reverse, take, slice_get, Some}
 use Rattle.flow_graph.specs.declared.nodes.Node.{Node}
 use Rattle.flow_graph.specs.Paths.{HasEdge}
+use Rattle.node_list.specs.Lists.{list_at}
 use Rattle.path_laws.specs.Leads.{Leads, steps_of}
 use Rattle.path_laws.specs.Paths.{AreRows, has_bit}
 
@@ -25,13 +26,10 @@ abbrev pub flow_order : Bool → List ℕ → List ℕ
 flow_order true list = reverse list
 flow_order false list = list
 
-abbrev pub list_at : List (List ℕ) → ℕ → List ℕ
-list_at lists b = slice_index_or lists b []
-
 -- the answer at a node: against the edges whether its bit comes from a seed, and along them whether that of a predecessor does
-abbrev pub Answers : Bool → List Node → (ℕ → Bool) → (ℕ → Bool) → ℕ → Type 0
-Answers true nodes seed block n = Leads (steps_of true nodes) seed block n
-Answers false nodes seed block n = (m : ℕ) × HasEdge nodes m n × Leads (steps_of false nodes) seed block m
+abbrev pub HasAnswer : Bool → List Node → (ℕ → Bool) → (ℕ → Bool) → ℕ → Type 0
+HasAnswer true nodes seed block n = Leads (steps_of true nodes) seed block n
+HasAnswer false nodes seed block n = (m : ℕ) × HasEdge nodes m n × Leads (steps_of false nodes) seed block m
 
 -- so far: of the blocks before this one all nodes, of this one those before this place, and of the others none
 abbrev pub so_far : (ℕ → List ℕ) → ℕ → ℕ → ℕ → List ℕ
@@ -50,7 +48,7 @@ pub record AreStopped (count bits : ℕ) (paths : ℕ → List ℕ) (stop : ℕ 
 -- the rows of these nodes are answers
 pub record AreAnswered (against : Bool) (nodes : List Node) (bits : ℕ) (paths : ℕ → List ℕ) (seed stop : ℕ → ℕ → Bool) (rows : List (List Bool)) : Type 0 where
   pub shape : AreRows (length nodes) bits rows
-  pub are : (c i n b : ℕ) → slice_get (paths c) i ≡ Some n → b < bits → (has_bit rows b n ≡ true) ↔ Answers against nodes (seed b) (stop b) n
+  pub are : (c i n b : ℕ) → slice_get (paths c) i ≡ Some n → b < bits → (has_bit rows b n ≡ true) ↔ HasAnswer against nodes (seed b) (stop b) n
 
 -- what has come to the node at this place when its row is written: against the edges the node counts, along them not
 abbrev pub came : Bool → ℕ → List ℕ → List ℕ
@@ -61,4 +59,4 @@ came false i path = take i path
 pub record AreComing (against : Bool) (nodes : List Node) (lists : List (List ℕ)) (bits : ℕ) (seed stop : ℕ → ℕ → Bool) (from : ℕ) (rows : List (List Bool)) : Type 0 where
   pub shape : AreRows (length lists) bits rows
   pub are : (c i n b : ℕ) → from ≤ c → c < length lists → b < bits → slice_get (flow_order against (list_at lists c)) i ≡ Some n
-      → (passed_all (seed b) (stop b) (has_bit rows b c) (came against i (flow_order against (list_at lists c))) ≡ true) ↔ Answers against nodes (seed b) (stop b) n
+      → (passed_all (seed b) (stop b) (has_bit rows b c) (came against i (flow_order against (list_at lists c))) ≡ true) ↔ HasAnswer against nodes (seed b) (stop b) n

@@ -1,6 +1,9 @@
--- How many edges lead from the last node of a block to the first of one.
-use Rattle.std.specs.Prelude.{ℕ, ◌+◌, nat_eq, if◌then◌else◌, Bool, false, ◌||◌, ◌&&◌, List, [], ◌∷◌}
+-- How many edges lead from the last node of a block to the first of one. Cited by contracts.
+use Rattle.std.specs.Prelude.{ℕ, ◌+◌, ◌*◌, nat_eq, if◌then◌else◌, Bool, false, ◌||◌, ◌&&◌, List, [], ◌∷◌}
 use Rattle.flow_graph.specs.declared.edges.Edge.{Edge}
+use Rattle.flow_graph.specs.Blocks.{BlocksShape}
+use Rattle.flow_graph.specs.Edges.{EdgesShape}
+use Rattle.path_laws.specs.Paths.{width}
 
 -- whether a list begins with this node
 abbrev pub begins_with : ℕ → List ℕ → Bool
@@ -26,3 +29,7 @@ crosses lists edge = some_list (ends_with edge.source) lists && some_list (begin
 abbrev pub crossings : List (List ℕ) → List Edge → ℕ
 crossings lists [] = 0
 crossings lists (edge ∷ edges) = (if crosses lists edge then 1 else 0) + crossings lists edges
+
+-- by how much the counter of pushes of a path call may rise: those edges, each once more often than a row has bits
+abbrev pub push_room : BlocksShape → EdgesShape → List (List Bool) → ℕ
+push_room blocks edges rows = crossings blocks.lists edges.edges * (width rows + 1)

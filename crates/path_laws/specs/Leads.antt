@@ -1,4 +1,4 @@
--- Where a bit flows from, as a relation on nodes alone.
+-- Where a bit flows from, as a relation on nodes alone. Cited by contracts.
 use Rattle.std.specs.Prelude.{◌≡◌, ℕ, Bool, true, false, List}
 use Rattle.flow_graph.specs.declared.nodes.Node.{Node}
 use Rattle.flow_graph.specs.Paths.{HasEdge}

@@ -5,8 +5,11 @@ pub mod RowLaws
 pub mod Leads
 pub mod Nets
 pub mod NetsLaws
+pub mod Flow
 pub mod Seeds
 pub mod SeedsLaws
 pub mod Blockwise
 pub mod Between
 pub mod Crossings
+pub mod Problem
+pub mod Statements

@@ -1,15 +1,19 @@
--- The laws of rows ordered by implication.
-use Rattle.std.specs.Prelude.{◌≡◌, ◌≢◌, ◌+◌, ◌<◌, ◌≤◌, Bool, true, false, not, ◌||◌, ◌&&◌, cond, List, [], ◌∷◌, length, refl}
-use Rattle.std.proofs.Common.{suc, sym, ap, ◌∙◌, ◌⊎◌, inl, inr, arith}
+-- The laws of rows ordered by implication. Cited by the ghost members of `Bits`.
+use Rattle.std.specs.Prelude.{◌≡◌, ◌≢◌, ◌+◌, ◌<◌, ◌≤◌, Bool, true, false, not, ◌||◌, ◌&&◌, if◌then◌else◌, List, [], ◌∷◌, length, refl}
+use Rattle.flow_graph.specs.ListLaws.{cons_same}
+use Rattle.std.proofs.lemmas.Bool.{or_left, or_right}
+use Rattle.std.proofs.Common.{suc, sym, ap, ◌∙◌, ◌⊎◌, inl, inr, arith, if◌then◌else◌}
 use Rattle.fix_solve.specs.Order.{OrderLaws, IsLeastUpper}
-use Rattle.bit_rows.specs.BitLaws.{length-minus}
+use Rattle.bit_rows.specs.BitLaws.{length_minus}
 use Rattle.bit_rows.specs.Bits.{or_bits, minus_bits}
 use Rattle.path_laws.specs.Order.{BelowBits, trues}
 
+-- the order is reflexive
 pub below_refl : (xs : List Bool) → BelowBits xs xs
 below_refl [] = tt
 below_refl (x ∷ xs) = (λ h. h, below_refl xs)
 
+-- and transitive
 pub below_trans : (xs ys zs : List Bool) → BelowBits xs ys → BelowBits ys zs → BelowBits xs zs
 below_trans [] [] [] p q = tt
 below_trans [] [] (z ∷ zs) p q = absurd q
@@ -18,20 +22,20 @@ below_trans (x ∷ xs) [] zs p q = absurd p
 below_trans (x ∷ xs) (y ∷ ys) [] p q = absurd q
 below_trans (x ∷ xs) (y ∷ ys) (z ∷ zs) p q = (λ h. q.0 (p.0 h), below_trans xs ys zs p.1 q.1)
 
+-- bits that imply each other are equal
 same_bits : (x y : Bool) → (x ≡ true → y ≡ true) → (y ≡ true → x ≡ true) → x ≡ y
 same_bits true y p q = sym (p refl)
 same_bits false true p q = q refl
 same_bits false false p q = refl
 
-cons_same : (x y : Bool) (xs ys : List Bool) → x ≡ y → xs ≡ ys → x ∷ xs ≡ y ∷ ys
-cons_same x y xs ys p q = cc
-
+-- and antisymmetric
 pub below_antisym : (xs ys : List Bool) → BelowBits xs ys → BelowBits ys xs → xs ≡ ys
 below_antisym [] [] p q = refl
 below_antisym [] (y ∷ ys) p q = absurd p
 below_antisym (x ∷ xs) [] p q = absurd p
-below_antisym (x ∷ xs) (y ∷ ys) p q = cons_same x y xs ys (same_bits x y p.0 q.0) (below_antisym xs ys p.1 q.1)
+below_antisym (x ∷ xs) (y ∷ ys) p q = cons_same (same_bits x y p.0 q.0) (below_antisym xs ys p.1 q.1)
 
+-- only rows of one length are in order
 pub below_length : (xs ys : List Bool) → BelowBits xs ys → length xs ≡ length ys
 below_length [] [] p = refl
 below_length [] (y ∷ ys) p = absurd p
@@ -45,50 +49,42 @@ trues_rise [] (y ∷ ys) p = absurd p
 trues_rise (x ∷ xs) [] p = absurd p
 trues_rise (x ∷ xs) (y ∷ ys) p = step x y p.0 (trues_rise xs ys p.1)
   where
-    step : (x y : Bool) → (x ≡ true → y ≡ true) → (xs ≡ ys) ⊎ (trues xs < trues ys) → (x ∷ xs ≡ y ∷ ys) ⊎ (cond x 1 0 + trues xs < cond y 1 0 + trues ys)
-    step true true h (inl e) = inl (cons_same true true xs ys refl e)
+    step : (x y : Bool) → (x ≡ true → y ≡ true) → (xs ≡ ys) ⊎ (trues xs < trues ys) → (x ∷ xs ≡ y ∷ ys) ⊎ ((if x then 1 else 0) + trues xs < (if y then 1 else 0) + trues ys)
+    step true true h (inl e) = inl (cons_same refl e)
     step true true h (inr l) = inr (omega arith)
     step true false h r = let bad : false ≡ true = h refl in absurd (cc)
     step false true h (inl e) = inr (rw e (omega arith))
     step false true h (inr l) = inr (omega arith)
-    step false false h (inl e) = inl (cons_same false false xs ys refl e)
+    step false false h (inl e) = inl (cons_same refl e)
     step false false h (inr l) = inr (omega arith)
 
+-- a row that lies below another and differs from it has fewer true bits
 trues_rise_strictly : (xs ys : List Bool) → BelowBits xs ys → xs ≢ ys → trues xs < trues ys
 trues_rise_strictly xs ys p d = elim (trues_rise xs ys p) as (λ _. trues xs < trues ys) [ inl e ↦ absurd (d e) | inr l ↦ l ]
 
+-- so these are values that can be solved for
 pub bits_laws : OrderLaws BelowBits length trues
-bits_laws = record {
-  reflexive = below_refl;
-  transitive = below_trans;
-  antisymmetric = below_antisym;
-  same_size = below_length;
-  rises = trues_rise_strictly;
-}
+bits_laws = record { reflexive = below_refl; transitive = below_trans; antisymmetric = below_antisym; same_size = below_length; rises = trues_rise_strictly }
 
-or_left : (x y : Bool) → x ≡ true → (x || y) ≡ true
-or_left true y h = refl
-or_left false y h = absurd (cc)
-
-or_right : (x y : Bool) → y ≡ true → (x || y) ≡ true
-or_right true y h = refl
-or_right false y h = h
-
+-- the disjunction implies whatever both of its parts imply
 or_least : (x y z : Bool) → (x ≡ true → z ≡ true) → (y ≡ true → z ≡ true) → (x || y) ≡ true → z ≡ true
 or_least true y z p q h = p refl
 or_least false y z p q h = q h
 
+-- so the disjunction of two rows lies above the first
 below_or_left : (xs ys : List Bool) → length xs ≡ length ys → BelowBits xs (or_bits xs ys)
 below_or_left [] ys e = tt
 below_or_left (x ∷ xs) [] e = absurd (omega (arith, e))
 below_or_left (x ∷ xs) (y ∷ ys) e = (or_left x y, below_or_left xs ys (let e' : suc (length xs) ≡ suc (length ys) = e in omega arith))
 
+-- and above the second
 below_or_right : (xs ys : List Bool) → length xs ≡ length ys → BelowBits ys (or_bits xs ys)
 below_or_right [] [] e = tt
 below_or_right [] (y ∷ ys) e = absurd (omega (arith, e))
 below_or_right (x ∷ xs) [] e = absurd (omega (arith, e))
 below_or_right (x ∷ xs) (y ∷ ys) e = (or_right x y, below_or_right xs ys (let e' : suc (length xs) ≡ suc (length ys) = e in omega arith))
 
+-- and below each row that lies above both
 below_or_least : (xs ys zs : List Bool) → BelowBits xs zs → BelowBits ys zs → BelowBits (or_bits xs ys) zs
 below_or_least [] ys zs p q = p
 below_or_least (x ∷ xs) [] [] p q = absurd p
@@ -96,6 +92,7 @@ below_or_least (x ∷ xs) [] (z ∷ zs) p q = absurd q
 below_or_least (x ∷ xs) (y ∷ ys) [] p q = absurd p
 below_or_least (x ∷ xs) (y ∷ ys) (z ∷ zs) p q = (or_least x y z p.0 q.0, below_or_least xs ys zs p.1 q.1)
 
+-- the disjunction is the least upper bound
 pub or_joins : (xs ys : List Bool) → length xs ≡ length ys → IsLeastUpper BelowBits xs ys (or_bits xs ys)
 or_joins xs ys e = record {
   left = below_or_left xs ys e;
@@ -103,10 +100,12 @@ or_joins xs ys e = record {
   least = below_or_least xs ys;
 }
 
+-- taking away the same bit from two keeps their order
 minus_up : (x y s : Bool) → (x ≡ true → y ≡ true) → (x && not s) ≡ true → (y && not s) ≡ true
 minus_up true y s p h = rw (p refl) h
 minus_up false y s p h = absurd (cc)
 
+-- taking bits away keeps the order
 pub minus_mono : (xs ys s : List Bool) → BelowBits xs ys → BelowBits (minus_bits xs s) (minus_bits ys s)
 minus_mono [] [] s p = tt
 minus_mono [] (y ∷ ys) s p = absurd p
@@ -114,15 +113,18 @@ minus_mono (x ∷ xs) [] s p = absurd p
 minus_mono (x ∷ xs) (y ∷ ys) [] p = tt
 minus_mono (x ∷ xs) (y ∷ ys) (t ∷ s) p = (minus_up x y t p.0, minus_mono xs ys s p.1)
 
+-- no more bits are true than there are
 pub trues_le : (xs : List Bool) → trues xs ≤ length xs
 trues_le [] = omega arith
 trues_le (true ∷ xs) = let a : trues xs ≤ length xs = trues_le xs in omega arith
 trues_le (false ∷ xs) = let a : trues xs ≤ length xs = trues_le xs in omega arith
 
+-- what is left of a bit implies the bit
 minus_down : (x s : Bool) → (x && not s) ≡ true → x ≡ true
 minus_down true s h = refl
 minus_down false s h = absurd (cc)
 
+-- what is left of a row is below it
 pub minus_below : (xs ys : List Bool) → length xs ≡ length ys → BelowBits (minus_bits xs ys) xs
 minus_below [] ys e = tt
 minus_below (x ∷ xs) [] e = absurd (omega (arith, e))
@@ -134,4 +136,4 @@ loop_joins xs ys e = record { left = below_refl xs; right = minus_below xs ys e;
 
 -- what another edge brings
 pub push_joins : (old from block : List Bool) → length from ≡ length old → length block ≡ length old → IsLeastUpper BelowBits old (minus_bits from block) (or_bits old (minus_bits from block))
-push_joins old from block e d = or_joins old (minus_bits from block) (sym (length-minus from block (e ∙ sym d) ∙ e))
+push_joins old from block e d = or_joins old (minus_bits from block) (sym (length_minus from block (e ∙ sym d) ∙ e))

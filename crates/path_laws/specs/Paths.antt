@@ -1,7 +1,8 @@
--- What the calls say of paths: where a bit is born and stopped on them.
-use Rattle.std.specs.Prelude.{◌≡◌, ℕ, ◌<◌, ◌⊎◌, Bool, true, false, List, [], ◌∷◌, length, slice_index_or}
+-- What the calls say of paths: where a bit is born and stopped on them. Cited by contracts.
+use Rattle.std.specs.Prelude.{◌≡◌, ℕ, ◌<◌, ◌⊎◌, ◌↔◌, Bool, true, false, List, [], ◌∷◌, length, slice_index_or}
 use Rattle.bit_rows.specs.Bits.{row_of}
 use Rattle.flow_graph.specs.declared.nodes.Node.{Node}
+use Rattle.flow_graph.specs.Graphs.{GraphShape}
 use Rattle.flow_graph.specs.Paths.{Begins, HasEdge, IsPath, IsReturnAt, Trace}
 
 -- whether the row of a node has a bit
@@ -17,6 +18,18 @@ pub record AreRows (nodes bits : ℕ) (rows : List (List Bool)) : Type 0 where
   pub len : length rows ≡ nodes
   pub each : (n : ℕ) → n < nodes → length (row_of rows n) ≡ bits
 
+-- one row for each node of the graph, each of so many bits
+abbrev pub HaveShape : GraphShape → ℕ → List (List Bool) → Type 0
+HaveShape graph bits rows = AreRows (length graph.nodes) bits rows
+
+-- of so many bits, the rows tell at which nodes of the graph each holds
+abbrev pub Tell : GraphShape → ℕ → List (List Bool) → (ℕ → ℕ → Type 0) → Type 0
+Tell graph bits rows Holds = (n b : ℕ) → n < length graph.nodes → b < bits → (has_bit rows b n ≡ true) ↔ Holds b n
+
+-- the rows tell at which nodes of the graph each bit holds, whatever its index
+abbrev pub TellEach : GraphShape → (ℕ → ℕ → Type 0) → List (List Bool) → Type 0
+TellEach graph Holds rows = (n b : ℕ) → n < length graph.nodes → (has_bit rows b n ≡ true) ↔ Holds b n
+
 -- ---- every path to a node
 
 -- of the nodes before a node, the nearest first, one has the bit born, and none after that one stops it
@@ -27,6 +40,10 @@ Since born stop (m ∷ before) = (born m ≡ true) ⊎ ((stop m ≡ false) × Si
 -- so it is on every path from Start to node n
 abbrev pub BornBefore : List Node → (ℕ → Bool) → (ℕ → Bool) → ℕ → Type 0
 BornBefore nodes born stop n = (before : List ℕ) → Trace nodes n before → Since born stop before
+
+-- the rows tell at which nodes each bit is so, for the bits that these rows bear and stop
+abbrev pub AreBornBefore : GraphShape → List (List Bool) → List (List Bool) → List (List Bool) → Type 0
+AreBornBefore graph born stop rows = Tell graph (width born) rows (λ b n. BornBefore graph.nodes (has_bit born b) (has_bit stop b) n)
 
 -- ---- every path from a node
 
@@ -45,6 +62,10 @@ Meets born (n ∷ path) = (born n ≡ true) ⊎ Meets born path
 abbrev pub BornAfter : List Node → (ℕ → Bool) → (ℕ → Bool) → ℕ → Type 0
 BornAfter nodes born stop n = (path : List ℕ) → IsPath nodes path → Begins n path → EndsWell nodes stop path → Meets born path
 
+-- the rows tell at which nodes each bit is so
+abbrev pub AreBornAfter : GraphShape → List (List Bool) → List (List Bool) → List (List Bool) → Type 0
+AreBornAfter graph born stop rows = Tell graph (width born) rows (λ b n. BornAfter graph.nodes (has_bit born b) (has_bit stop b) n)
+
 -- ---- some path from a node
 
 -- at the last node the bit is born, and no node before it stops it
@@ -59,6 +80,10 @@ pub record BornAhead (nodes : List Node) (born stop : ℕ → Bool) (n : ℕ) : 
   pub is_path : IsPath nodes path
   pub begins : Begins n path
   pub ends : EndsBorn born stop path
+
+-- the rows tell at which nodes each bit is so
+abbrev pub AreBornAhead : GraphShape → List (List Bool) → List (List Bool) → List (List Bool) → Type 0
+AreBornAhead graph born stop rows = Tell graph (width born) rows (λ b n. BornAhead graph.nodes (has_bit born b) (has_bit stop b) n)
 
 -- ---- at a neighbour
 

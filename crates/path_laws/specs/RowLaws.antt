@@ -1,4 +1,4 @@
--- Laws of rows written one at a time.
+-- Rows written one at a time, and their shape. `Written` is cited by contracts, the laws by proofs, also above this crate.
 use Rattle.std.proofs.Common.{◌≡◌, ◌≢◌, ℕ, ◌<◌, Bool, List, [], length, set, sym, ap, inl, inr, arith, ◌∙◌}
 use Rattle.std.proofs.lemmas.Bool.{cases_eq}
 use Rattle.std.proofs.lemmas.List.{get_or-set_same, get_or-set_other, length-set}
@@ -11,6 +11,7 @@ pub record Written (rows after : List (List Bool)) (node : ℕ) (row : List Bool
   pub here : row_of after node ≡ row
   pub others : (n : ℕ) → n ≢ node → row_of after n ≡ row_of rows n
 
+-- a row that was set was written
 pub put : (rows after : List (List Bool)) (node : ℕ) (row : List Bool) → node < length rows → after ≡ set rows node row → Written rows after node row
 put rows after node row h is = record {
   len = ap length is ∙ length-set rows node row;
@@ -35,6 +36,7 @@ remade rows put after node row f h made is =
 pub written : (rows put after : List (List Bool)) (node : ℕ) (row : List Bool) (f : List Bool → List Bool) → node < length rows → put ≡ set rows node row → after ≡ set put node (f (row_of put node)) → Written rows after node (f row)
 written rows mid after node row f h put_is after_is = remade rows mid after node row f h (put rows mid node row h put_is) after_is
 
+-- writing a row of the right length keeps the shape
 pub written_shape : (nodes bits node : ℕ) (rows after : List (List Bool)) (row : List Bool) → AreRows nodes bits rows → Written rows after node row → length row ≡ bits → AreRows nodes bits after
 written_shape nodes bits node rows after row shape made long = record {
   len = made.len ∙ shape.len;
@@ -50,19 +52,23 @@ written_shape nodes bits node rows after row shape made long = record {
 pub width_is : (nodes bits n : ℕ) (rows : List (List Bool)) → AreRows nodes bits rows → n < nodes → width rows ≡ bits
 width_is nodes bits n rows shape h = shape.each 0 (omega (arith, h))
 
+-- so the shape can be said with the width of the first rows
 pub as_wide : (nodes bits : ℕ) (first rows : List (List Bool)) → AreRows nodes bits first → AreRows nodes bits rows → AreRows nodes (width first) rows
 as_wide nodes bits first rows shape is = record { len = is.len; each = λ n h. is.each n h ∙ sym (width_is nodes bits n first shape h) }
 
-pub as_many : (nodes bits : ℕ) (first rows : List (List Bool)) → AreRows nodes bits first → AreRows nodes (width first) rows → AreRows nodes bits rows
-as_many nodes bits first rows shape is = record { len = is.len; each = λ n h. is.each n h ∙ width_is nodes bits n first shape h }
+-- and back
+pub rows_as_many : (nodes bits : ℕ) (first rows : List (List Bool)) → AreRows nodes bits first → AreRows nodes (width first) rows → AreRows nodes bits rows
+rows_as_many nodes bits first rows shape is = record { len = is.len; each = λ n h. is.each n h ∙ width_is nodes bits n first shape h }
 
 -- ---- rows of one shape
 
+-- rows of one shape are alike
 pub are_alike : (nodes bits : ℕ) (rows other : List (List Bool)) → AreRows nodes bits rows → AreRows nodes bits other → AreAlike rows other
 are_alike nodes bits rows other are is = record {
   len = is.len ∙ sym are.len;
   each = λ n h. let h' : n < nodes = rw are.len at h in is.each n h' ∙ sym (are.each n h');
 }
 
+-- and what is alike to rows has their shape
 pub like_rows : (nodes bits : ℕ) (rows made : List (List Bool)) → AreRows nodes bits rows → AreAlike rows made → AreRows nodes bits made
 like_rows nodes bits rows made are alike = record { len = alike.len ∙ are.len; each = λ n h. alike.each n (rw are.len h) ∙ are.each n h }

@@ -1,4 +1,4 @@
--- Where the bits of a path problem are seeded, and where they are blocked. The two problems on every path are solved by
+-- Where the bits of a path problem are seeded, and where they are blocked. Cited by contracts. The two problems on every path are solved by
 -- their complements: from where some path ends with no birth.
 use Rattle.std.specs.Prelude.{◌≡◌, ℕ, Bool, true, false, nat_eq, if◌then◌else◌, List, length, map, replicate, slice_get}
 use Rattle.std.specs.List.{range_with_len}
@@ -24,6 +24,7 @@ abbrev pub seed_row : Bool → Bool → List Node → List (List Bool) → List 
 seed_row true against nodes born stop n = minus_bits (ending_row against nodes (row_of stop n) n) (row_of born n)
 seed_row false against nodes born stop n = row_of born n
 
+-- the seeds of all nodes
 abbrev pub seeds_of : Bool → Bool → List Node → List (List Bool) → List (List Bool) → List (List Bool)
 seeds_of true against nodes born stop = map (seed_row true against nodes born stop) (range_with_len 0 (length nodes))
 seeds_of false against nodes born stop = born
@@ -41,7 +42,7 @@ pub record IsPathFlow (nodes : List Node) (edges : EdgesShape) (bits : ℕ) (bor
   pub stop_rows : AreRows (length nodes) bits stop
 
 -- and the blocks are those of the graph
-pub record IsProblem (nodes : List Node) (edges : EdgesShape) (blocks : BlocksShape) (bits : ℕ) (born stop : List (List Bool)) : Type 0 where
+pub record IsPathProblem (nodes : List Node) (edges : EdgesShape) (blocks : BlocksShape) (bits : ℕ) (born stop : List (List Bool)) : Type 0 where
   pub flow : IsPathFlow nodes edges bits born stop
   pub blocks_are : AreBlocksOf nodes blocks
 

@@ -1,13 +1,9 @@
 // The answers of a problem of paths: solved over blocks, and filled in at their nodes.
-ghost use Rattle.std.specs.Prelude.{◌≡◌, ℕ, ◌+◌, ◌*◌, ◌<◌, ◌≤◌, ◌↔◌, true, false, length, IfOk, OnOk};
-ghost use Rattle.bit_rows.specs.Bits.{row_of};
-ghost use Rattle.path_laws.specs.Between.{AreBetween};
-ghost use Rattle.path_laws.specs.Blockwise.{AreAnswered, AreComing, blocks_some, flow_order, list_at, passed_all};
-ghost use Rattle.path_laws.specs.Crossings.{crossings};
-ghost use Rattle.path_laws.specs.Leads.{Leads};
-ghost use Rattle.path_laws.specs.Nets.{StepAlong};
-ghost use Rattle.path_laws.specs.Paths.{AreRows, has_bit};
-ghost use Rattle.path_laws.specs.Seeds.{IsProblem, blocks_of, seeds_of};
+ghost use Rattle.std.specs.Prelude.{◌≡◌, ◌+◌, ◌≤◌, length, IfOk, OnOk};
+ghost use Rattle.bit_rows.specs.Bits.{AreEquallyLong};
+ghost use Rattle.flow_graph.specs.Blocks.{AreBlocksOf};
+ghost use Rattle.flow_graph.specs.Edges.{edges_of};
+ghost use Rattle.path_laws.specs.Problem.{AreLed, AreSolved, HasBetween, HasGraph, HaveBlockShape, HaveBornShape, HaveIncoming, IsProblem, born_room, room_along, room_in};
 
 use crate::between::{BlockEdges, between};
 use crate::bits::{BitFlow, Bits, least};
@@ -22,17 +18,24 @@ use std::alloc::Global;
 use std::marker::PhantomData;
 use std::sync::ledger::Ledger;
 
-/// The answers at all nodes.
+/// The answers at all nodes, for as many bits as the rows of births have.
 pub(crate) fn answers<L: Ledger>(
     alloc: Global,
     problem: &Problem<'_>,
     steps: &mut Steps<L>,
 ) -> Result<Rows, Memory>
-    requires { IsProblem problem.now.graph.now.nodes problem.now.edges.now problem.now.blocks.now problem.now.bits problem.now.born.now problem.now.stop.now }
-    ensures answers { IfOk result (λ rows. AreAnswered problem.now.against problem.now.graph.now.nodes problem.now.bits (λ c. flow_order problem.now.against (list_at problem.now.blocks.now.lists c)) (has_bit (seeds_of problem.now.every problem.now.against problem.now.graph.now.nodes problem.now.born.now problem.now.stop.now)) (has_bit (blocks_of problem.now.every problem.now.born.now problem.now.stop.now)) rows) }
-    ensures pushes { OnOk result (steps.new ≤ steps.old + crossings problem.now.blocks.now.lists problem.now.edges.now.edges * (problem.now.bits + 1)) }
+    requires edges { problem.now.edges.now ≡ edges_of problem.now.graph.now.nodes }
+    requires blocks { AreBlocksOf problem.now.graph.now.nodes problem.now.blocks.now }
+    requires born { HaveBornShape problem.now problem.now.born.now }
+    requires stop { HaveBornShape problem.now problem.now.stop.now }
+    requires bits { AreEquallyLong problem.now.bits problem.now.born.now }
+    ensures graph { OnOk result (HasGraph problem.now) }
+    ensures shape { IfOk result (HaveBornShape problem.now) }
+    ensures answers { IfOk result (AreSolved problem.now) }
+    ensures pushes { OnOk result (steps.new ≤ steps.old + born_room problem.now) }
     ensures counts { steps.old ≤ steps.new }
 {
+    let _nodes = problem.graph.nodes();
     let mut coming = coming(alloc, problem, steps)?;
     let rows = filled(alloc, problem, &mut coming)?;
     Ok(rows)
@@ -44,9 +47,9 @@ fn coming<L: Ledger>(
     problem: &Problem<'_>,
     steps: &mut Steps<L>,
 ) -> Result<Rows, Memory>
-    requires { IsProblem problem.now.graph.now.nodes problem.now.edges.now problem.now.blocks.now problem.now.bits problem.now.born.now problem.now.stop.now }
-    ensures coming { IfOk result (λ rows. AreComing problem.now.against problem.now.graph.now.nodes problem.now.blocks.now.lists problem.now.bits (has_bit (seeds_of problem.now.every problem.now.against problem.now.graph.now.nodes problem.now.born.now problem.now.stop.now)) (has_bit (blocks_of problem.now.every problem.now.born.now problem.now.stop.now)) 0 rows) }
-    ensures pushes { OnOk result (steps.new ≤ steps.old + crossings problem.now.blocks.now.lists problem.now.edges.now.edges * (problem.now.bits + 1)) }
+    requires { IsProblem problem.now }
+    ensures coming { IfOk result (λ rows. HaveIncoming problem.now 0 rows) }
+    ensures pushes { OnOk result (steps.new ≤ steps.old + room_in problem.now) }
     ensures counts { steps.old ≤ steps.new }
 {
     let _nodes = problem.graph.nodes();
@@ -70,11 +73,11 @@ fn led<L: Ledger>(
     between: &BlockEdges,
     steps: &mut Steps<L>,
 ) -> Result<Work<Bits>, Memory>
-    requires problem { IsProblem problem.now.graph.now.nodes problem.now.edges.now problem.now.blocks.now problem.now.bits problem.now.born.now problem.now.stop.now }
-    requires between { AreBetween problem.now.against problem.now.graph.now.nodes problem.now.blocks.now.lists (length problem.now.blocks.now.lists) between.now.edges.items between.now.firsts.items }
-    ensures shape { IfOk result (λ work. AreRows (length problem.now.blocks.now.lists) problem.now.bits work) }
-    ensures leads { IfOk result (λ work. (c b : ℕ) → c < length problem.now.blocks.now.lists → b < problem.now.bits → (has_bit work b c ≡ true) ↔ Leads (StepAlong between.now.edges.items) (λ k. passed_all (has_bit (seeds_of problem.now.every problem.now.against problem.now.graph.now.nodes problem.now.born.now problem.now.stop.now) b) (has_bit (blocks_of problem.now.every problem.now.born.now problem.now.stop.now) b) false (flow_order problem.now.against (list_at problem.now.blocks.now.lists k))) (λ k. blocks_some (has_bit (blocks_of problem.now.every problem.now.born.now problem.now.stop.now) b) (flow_order problem.now.against (list_at problem.now.blocks.now.lists k))) c) }
-    ensures pushes { OnOk result (steps.new ≤ steps.old + length between.now.edges.items * (problem.now.bits + 1)) }
+    requires problem { IsProblem problem.now }
+    requires between { HasBetween problem.now between.now }
+    ensures shape { IfOk result (HaveBlockShape problem.now) }
+    ensures leads { IfOk result (AreLed problem.now between.now.edges.items) }
+    ensures pushes { OnOk result (steps.new ≤ steps.old + room_along problem.now between.now) }
     ensures counts { steps.old ≤ steps.new }
 {
     let sums = summaries(alloc, problem)?;

@@ -1,9 +1,8 @@
 // The edges between blocks.
-ghost use Rattle.std.specs.Prelude.{◌≡◌, ◌<◌, ℕ, ◌++◌, length, slice_get, Some, IfOk, OnOk, List};
-ghost use Rattle.flow_graph.specs.declared.edges.Edge.{Edge};
+ghost use Rattle.std.specs.Prelude.{◌≡◌, ◌<◌, length, IfOk, OnOk};
 ghost use Rattle.flow_graph.specs.Blocks.{AreBlocksOf};
 ghost use Rattle.flow_graph.specs.Edges.{edges_of};
-ghost use Rattle.path_laws.specs.Between.{AreBetween, AreOut, IsAhead, IsAheadOf};
+ghost use Rattle.path_laws.specs.Between.{AddsOut, AreBlockEdges, IsAhead, IsAheadOf};
 
 use crate::graph_edges::{flow_edge, leaving};
 use flow_graph::{Blocks, Edge, Edges, Graph};
@@ -28,7 +27,7 @@ pub(crate) fn between(
 ) -> Result<BlockEdges, Memory>
     requires edges { edges.now ≡ edges_of graph.now.nodes }
     requires blocks { AreBlocksOf graph.now.nodes blocks.now }
-    ensures { IfOk result (λ made. AreBetween against graph.now.nodes blocks.now.lists (length blocks.now.lists) made.edges.items made.firsts.items) }
+    ensures { IfOk result (AreBlockEdges against graph.now.nodes blocks.now.lists) }
 {
     let mut list = Vec::new(alloc);
     let mut firsts = Vec::new(alloc);
@@ -70,7 +69,8 @@ fn leave(
     requires blocks { AreBlocksOf graph.now.nodes blocks.now }
     requires from { from < length graph.now.nodes }
     requires ahead { IsAheadOf against blocks.now.lists block from }
-    ensures { OnOk result ((out : List Edge) × (list.new.items ≡ list.old.items ++ out) × AreOut against graph.now.nodes blocks.now.lists block from out) }
+    ensures { OnOk result (
+        AddsOut against graph.now blocks.now block from list.old.items list.new.items) }
 {
     let _nodes = graph.nodes();
     let (first, end) = leaving(edges, against, from);

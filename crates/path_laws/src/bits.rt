@@ -1,12 +1,10 @@
 // Rows of bits as values of a flow over a list of edges.
-ghost use Rattle.std.specs.Prelude.{◌≡◌, ℕ, ◌+◌, ◌*◌, ◌<◌, ◌≤◌, ◌↔◌, true, length, IfOk, OnOk};
-ghost use Rattle.bit_rows.specs.Bits.{row_of};
-ghost use Rattle.path_laws.specs.Leads.{Leads};
-ghost use Rattle.path_laws.specs.Nets.{IsListedFlow, StepAlong, bit_flow, number_at};
-ghost use Rattle.path_laws.specs.NetsLaws.{bit_laws, listed_flow};
+ghost use Rattle.std.specs.Prelude.{◌≡◌, ◌+◌, ◌≤◌, length, IfOk, OnOk};
+ghost use Rattle.fix_solve.specs.Net.{most_pushes};
+ghost use Rattle.path_laws.specs.Flow.{AreLedBy, IsInOrder, flow_laws, net_of};
 ghost use Rattle.path_laws.specs.Order.{BelowBits, trues};
 ghost use Rattle.path_laws.specs.OrderLaws.{bits_laws};
-ghost use Rattle.path_laws.specs.Paths.{has_bit};
+ghost use Rattle.path_laws.specs.Paths.{AreRows};
 
 use bit_rows::{Row, RowView, Rows};
 use fix_solve::{Flow, Lattice, Steps, Work, solve};
@@ -31,7 +29,7 @@ impl Model for Bits {
 }
 
 impl Bits {
-    /// The row. It takes no memory.
+    /// The row. It does not allocate.
     pub fn row(&self) -> RowView<'_>
         ensures { result ≡ self.now }
     {
@@ -71,9 +69,9 @@ impl<'a, L: Ledger> Flow for BitFlow<'a, L> {
 
     type Ledger = L;
 
-    ghost valid = { λ f. IsListedFlow f.nodes f.edges.now f.firsts.now f.bits f.seeds.now f.stops.now };
+    ghost valid = { IsInOrder };
 
-    ghost net = { λ f. bit_flow f.nodes f.edges.now (number_at f.firsts.now) f.bits f.seeds.now f.stops.now };
+    ghost net = { net_of };
 
     fn nodes(&self) -> usize {
         self.nodes
@@ -101,9 +99,15 @@ impl<'a, L: Ledger> Flow for BitFlow<'a, L> {
         Ok(Bits { row })
     }
 
-    fn push(&self, number: usize, from: &Bits, into: &mut Bits, steps: &mut Steps<L>) -> bool {
+    fn push(
+        &self,
+        _number: usize,
+        target: usize,
+        from: &Bits,
+        into: &mut Bits,
+        steps: &mut Steps<L>,
+    ) -> bool {
         steps.tick();
-        let (_, target) = self.edge(number);
         let stop = self.stops.row(target);
         into.row.or_minus_from(&from.row.view(), &stop)
     }
@@ -113,7 +117,7 @@ impl<'a, L: Ledger> Flow for BitFlow<'a, L> {
         false
     }
 
-    ghost laws = { λ f valid. bit_laws f.nodes f.edges.now (number_at f.firsts.now) f.bits f.seeds.now f.stops.now (listed_flow f.nodes f.edges.now f.firsts.now f.bits f.seeds.now f.stops.now valid) };
+    ghost laws = { flow_laws };
 }
 
 /// The least rows: where each bit comes from a seed. The counter rises by the pushes.
@@ -122,11 +126,10 @@ pub(crate) fn least<L: Ledger>(
     flow: &BitFlow<'_, L>,
     steps: &mut Steps<L>,
 ) -> Result<Work<Bits>, Memory>
-    requires { IsListedFlow flow.now.nodes flow.now.edges.now flow.now.firsts.now flow.now.bits flow.now.seeds.now flow.now.stops.now }
-    ensures len { IfOk result (λ work. length work ≡ flow.now.nodes) }
-    ensures sizes { IfOk result (λ work. (n : ℕ) → n < flow.now.nodes → length (row_of work n) ≡ flow.now.bits) }
-    ensures leads { IfOk result (λ work. (n b : ℕ) → n < flow.now.nodes → b < flow.now.bits → (has_bit work b n ≡ true) ↔ Leads (StepAlong flow.now.edges.now) (has_bit flow.now.seeds.now b) (has_bit flow.now.stops.now b) n) }
-    ensures pushes { OnOk result (steps.new ≤ steps.old + length flow.now.edges.now * (flow.now.bits + 1)) }
+    requires { IsInOrder flow.now }
+    ensures shape { IfOk result (AreRows flow.now.nodes flow.now.bits) }
+    ensures leads { IfOk result (AreLedBy flow.now) }
+    ensures pushes { OnOk result (steps.new ≤ steps.old + most_pushes (net_of flow.now)) }
     ensures counts { steps.old ≤ steps.new }
 {
     let mut work = Work::new(alloc, flow)?;

@@ -1,12 +1,12 @@
 // The path calls.
-ghost use Rattle.std.specs.Prelude.{◌≡◌, ℕ, ◌+◌, ◌*◌, ◌<◌, ◌≤◌, ◌↔◌, true, length, IfOk, OnOk};
+ghost use Rattle.std.specs.Prelude.{◌≡◌, ◌+◌, ◌≤◌, ◌<◌, IfOk, OnOk};
 ghost use Rattle.flow_graph.specs.Blocks.{AreBlocksOf};
 ghost use Rattle.flow_graph.specs.Edges.{edges_of};
-ghost use Rattle.path_laws.specs.Crossings.{crossings};
-ghost use Rattle.path_laws.specs.Paths.{AreRows, BornAfter, BornAhead, BornBefore, has_bit, width};
+ghost use Rattle.path_laws.specs.Crossings.{push_room};
+ghost use Rattle.path_laws.specs.Paths.{AreBornAfter, AreBornAhead, AreBornBefore, HaveShape, width};
+ghost use Rattle.path_laws.specs.Statements.{AreTold};
 
 use crate::answers::answers;
-use crate::counted::{backward_all_from, backward_some_from, forward_all_from};
 use crate::problems::Problem;
 use bit_rows::Rows;
 use fix_solve::Steps;
@@ -18,7 +18,7 @@ use std::sync::ledger::{Blank, Ledger};
 
 /// Bit b at node n is true exactly where every path from Start to n has, before n, a node at which b is born and after
 /// which, before n, no node stops b. So no bit is true at Start. Rows go by nodes, and have equally many bits; `edges`
-/// are those of `graph`. Its only refusal is want of memory.
+/// are those of `graph`. It fails only with `Memory`.
 ///
 /// The complement is solved: after which nodes some path does not hold the bit.
 pub fn forward_all(
@@ -29,17 +29,19 @@ pub fn forward_all(
     stop: &Rows,
 ) -> Result<Rows, Memory>
     requires edges { edges.now ≡ edges_of graph.now.nodes }
-    requires born { AreRows (length graph.now.nodes) (width born.now) born.now }
-    requires stop { AreRows (length graph.now.nodes) (width born.now) stop.now }
-    ensures shape { IfOk result (λ rows. AreRows (length graph.now.nodes) (width born.now) rows) }
-    ensures paths { IfOk result (λ rows. (n b : ℕ) → n < length graph.now.nodes → b < width born.now → (has_bit rows b n ≡ true) ↔ BornBefore graph.now.nodes (has_bit born.now b) (has_bit stop.now b) n) }
+    requires born { HaveShape graph.now (width born.now) born.now }
+    requires stop { HaveShape graph.now (width born.now) stop.now }
+    ensures shape { IfOk result (HaveShape graph.now (width born.now)) }
+    ensures paths { IfOk result (AreBornBefore graph.now born.now stop.now) }
 {
-    let rows = forward_all_from::<Brand>(alloc, graph, edges, born, stop, Blank::new(1))?;
+    let blank = Blank::new(1);
+    let rows = told_from::<Brand>(alloc, graph, edges, born, stop, blank, Statement::Before)?;
     Ok(rows)
 }
 
-/// As `forward_all`, over blocks that are at hand. The counter never falls, and rises by at most the
-/// number of edges from last to first nodes of blocks times one more than the number of bits.
+/// As `forward_all`, with the blocks of `graph` at hand, and counted: `steps` never falls, and rises by at most the number of
+/// edges from the last node of a block to the first of one, times one more than the number of bits. It fails only with
+/// `Memory`.
 pub fn forward_all_in<L: Ledger>(
     alloc: Global,
     graph: &Graph,
@@ -51,14 +53,13 @@ pub fn forward_all_in<L: Ledger>(
 ) -> Result<Rows, Memory>
     requires edges { edges.now ≡ edges_of graph.now.nodes }
     requires blocks { AreBlocksOf graph.now.nodes blocks.now }
-    requires born { AreRows (length graph.now.nodes) (width born.now) born.now }
-    requires stop { AreRows (length graph.now.nodes) (width born.now) stop.now }
-    ensures shape { IfOk result (λ rows. AreRows (length graph.now.nodes) (width born.now) rows) }
-    ensures paths { IfOk result (λ rows. (n b : ℕ) → n < length graph.now.nodes → b < width born.now → (has_bit rows b n ≡ true) ↔ BornBefore graph.now.nodes (has_bit born.now b) (has_bit stop.now b) n) }
-    ensures pushes { OnOk result (steps.new ≤ steps.old + crossings blocks.now.lists edges.now.edges * (width born.now + 1)) }
+    requires born { HaveShape graph.now (width born.now) born.now }
+    requires stop { HaveShape graph.now (width born.now) stop.now }
+    ensures shape { IfOk result (HaveShape graph.now (width born.now)) }
+    ensures paths { IfOk result (AreBornBefore graph.now born.now stop.now) }
+    ensures pushes { OnOk result (steps.new ≤ steps.old + push_room blocks.now edges.now born.now) }
     ensures counts { steps.old ≤ steps.new }
 {
-    let _nodes = graph.nodes();
     let problem = Problem {
         graph,
         edges,
@@ -74,10 +75,10 @@ pub fn forward_all_in<L: Ledger>(
     Ok(rows)
 }
 
-/// Bit b at node n is true exactly where every path from n that ends at its first node that stops b, or at a Return with
-/// no such node before it, has on it a node at which b is born, the last node included. Where no path from n ends so, it
-/// is true. Rows go by nodes, and have equally many bits; `edges` are those of `graph`. Its only refusal is want of
-/// memory.
+/// Bit b at node n is true exactly where every path from n that ends at its first node that stops b, or at a Return
+/// with no such node before it, has on it a node at which b is born, the last node included. Where no path from n ends
+/// so, it is true. Rows go by nodes, and have equally many bits; `edges` are those of `graph`. It fails only with
+/// `Memory`.
 ///
 /// The complement is solved: where some path ends so and meets no birth.
 pub fn backward_all(
@@ -88,17 +89,19 @@ pub fn backward_all(
     stop: &Rows,
 ) -> Result<Rows, Memory>
     requires edges { edges.now ≡ edges_of graph.now.nodes }
-    requires born { AreRows (length graph.now.nodes) (width born.now) born.now }
-    requires stop { AreRows (length graph.now.nodes) (width born.now) stop.now }
-    ensures shape { IfOk result (λ rows. AreRows (length graph.now.nodes) (width born.now) rows) }
-    ensures paths { IfOk result (λ rows. (n b : ℕ) → n < length graph.now.nodes → b < width born.now → (has_bit rows b n ≡ true) ↔ BornAfter graph.now.nodes (has_bit born.now b) (has_bit stop.now b) n) }
+    requires born { HaveShape graph.now (width born.now) born.now }
+    requires stop { HaveShape graph.now (width born.now) stop.now }
+    ensures shape { IfOk result (HaveShape graph.now (width born.now)) }
+    ensures paths { IfOk result (AreBornAfter graph.now born.now stop.now) }
 {
-    let rows = backward_all_from::<Brand>(alloc, graph, edges, born, stop, Blank::new(1))?;
+    let blank = Blank::new(1);
+    let rows = told_from::<Brand>(alloc, graph, edges, born, stop, blank, Statement::After)?;
     Ok(rows)
 }
 
-/// As `backward_all`, over blocks that are at hand. The counter never falls, and rises by at most the
-/// number of edges from last to first nodes of blocks times one more than the number of bits.
+/// As `backward_all`, with the blocks of `graph` at hand, and counted: `steps` never falls, and rises by at most the number of
+/// edges from the last node of a block to the first of one, times one more than the number of bits. It fails only with
+/// `Memory`.
 pub fn backward_all_in<L: Ledger>(
     alloc: Global,
     graph: &Graph,
@@ -110,14 +113,13 @@ pub fn backward_all_in<L: Ledger>(
 ) -> Result<Rows, Memory>
     requires edges { edges.now ≡ edges_of graph.now.nodes }
     requires blocks { AreBlocksOf graph.now.nodes blocks.now }
-    requires born { AreRows (length graph.now.nodes) (width born.now) born.now }
-    requires stop { AreRows (length graph.now.nodes) (width born.now) stop.now }
-    ensures shape { IfOk result (λ rows. AreRows (length graph.now.nodes) (width born.now) rows) }
-    ensures paths { IfOk result (λ rows. (n b : ℕ) → n < length graph.now.nodes → b < width born.now → (has_bit rows b n ≡ true) ↔ BornAfter graph.now.nodes (has_bit born.now b) (has_bit stop.now b) n) }
-    ensures pushes { OnOk result (steps.new ≤ steps.old + crossings blocks.now.lists edges.now.edges * (width born.now + 1)) }
+    requires born { HaveShape graph.now (width born.now) born.now }
+    requires stop { HaveShape graph.now (width born.now) stop.now }
+    ensures shape { IfOk result (HaveShape graph.now (width born.now)) }
+    ensures paths { IfOk result (AreBornAfter graph.now born.now stop.now) }
+    ensures pushes { OnOk result (steps.new ≤ steps.old + push_room blocks.now edges.now born.now) }
     ensures counts { steps.old ≤ steps.new }
 {
-    let _nodes = graph.nodes();
     let problem = Problem {
         graph,
         edges,
@@ -134,8 +136,8 @@ pub fn backward_all_in<L: Ledger>(
 }
 
 /// Bit b at node n is true exactly where some path from n ends at a node at which b is born, with no node that stops b
-/// before that last node. Rows go by nodes, and have equally many bits; `edges` are those of `graph`. Its only refusal
-/// is want of memory.
+/// before that last node. Rows go by nodes, and have equally many bits; `edges` are those of `graph`. It fails only
+/// with `Memory`.
 pub fn backward_some(
     alloc: Global,
     graph: &Graph,
@@ -144,17 +146,19 @@ pub fn backward_some(
     stop: &Rows,
 ) -> Result<Rows, Memory>
     requires edges { edges.now ≡ edges_of graph.now.nodes }
-    requires born { AreRows (length graph.now.nodes) (width born.now) born.now }
-    requires stop { AreRows (length graph.now.nodes) (width born.now) stop.now }
-    ensures shape { IfOk result (λ rows. AreRows (length graph.now.nodes) (width born.now) rows) }
-    ensures paths { IfOk result (λ rows. (n b : ℕ) → n < length graph.now.nodes → b < width born.now → (has_bit rows b n ≡ true) ↔ BornAhead graph.now.nodes (has_bit born.now b) (has_bit stop.now b) n) }
+    requires born { HaveShape graph.now (width born.now) born.now }
+    requires stop { HaveShape graph.now (width born.now) stop.now }
+    ensures shape { IfOk result (HaveShape graph.now (width born.now)) }
+    ensures paths { IfOk result (AreBornAhead graph.now born.now stop.now) }
 {
-    let rows = backward_some_from::<Brand>(alloc, graph, edges, born, stop, Blank::new(1))?;
+    let blank = Blank::new(1);
+    let rows = told_from::<Brand>(alloc, graph, edges, born, stop, blank, Statement::Ahead)?;
     Ok(rows)
 }
 
-/// As `backward_some`, over blocks that are at hand. The counter never falls, and rises by at most the
-/// number of edges from last to first nodes of blocks times one more than the number of bits.
+/// As `backward_some`, with the blocks of `graph` at hand, and counted: `steps` never falls, and rises by at most the number of
+/// edges from the last node of a block to the first of one, times one more than the number of bits. It fails only with
+/// `Memory`.
 pub fn backward_some_in<L: Ledger>(
     alloc: Global,
     graph: &Graph,
@@ -166,14 +170,13 @@ pub fn backward_some_in<L: Ledger>(
 ) -> Result<Rows, Memory>
     requires edges { edges.now ≡ edges_of graph.now.nodes }
     requires blocks { AreBlocksOf graph.now.nodes blocks.now }
-    requires born { AreRows (length graph.now.nodes) (width born.now) born.now }
-    requires stop { AreRows (length graph.now.nodes) (width born.now) stop.now }
-    ensures shape { IfOk result (λ rows. AreRows (length graph.now.nodes) (width born.now) rows) }
-    ensures paths { IfOk result (λ rows. (n b : ℕ) → n < length graph.now.nodes → b < width born.now → (has_bit rows b n ≡ true) ↔ BornAhead graph.now.nodes (has_bit born.now b) (has_bit stop.now b) n) }
-    ensures pushes { OnOk result (steps.new ≤ steps.old + crossings blocks.now.lists edges.now.edges * (width born.now + 1)) }
+    requires born { HaveShape graph.now (width born.now) born.now }
+    requires stop { HaveShape graph.now (width born.now) stop.now }
+    ensures shape { IfOk result (HaveShape graph.now (width born.now)) }
+    ensures paths { IfOk result (AreBornAhead graph.now born.now stop.now) }
+    ensures pushes { OnOk result (steps.new ≤ steps.old + push_room blocks.now edges.now born.now) }
     ensures counts { steps.old ≤ steps.new }
 {
-    let _nodes = graph.nodes();
     let problem = Problem {
         graph,
         edges,
@@ -186,4 +189,43 @@ pub fn backward_some_in<L: Ledger>(
     };
     let rows = answers(alloc, &problem, steps)?;
     Ok(rows)
+}
+
+/// What a call says of the paths of each node.
+#[derive(Clone, Copy, Debug, PartialEq, Eq)]
+enum Statement {
+    /// On every path to the node the bit is born before it.
+    Before,
+    /// On every path from the node the bit is born.
+    After,
+    /// Some path from the node ends where the bit is born.
+    Ahead,
+}
+
+/// The rows that tell where a statement holds, with blocks of its own and the counter that this blank ledger gives.
+fn told_from<L: Ledger>(
+    alloc: Global,
+    graph: &Graph,
+    edges: &Edges,
+    born: &Rows,
+    stop: &Rows,
+    blank: Blank,
+    statement: Statement,
+) -> Result<Rows, Memory>
+    requires edges { edges.now ≡ edges_of graph.now.nodes }
+    requires born { HaveShape graph.now (width born.now) born.now }
+    requires stop { HaveShape graph.now (width born.now) stop.now }
+    requires name { blank.name ≡ L.name }
+    requires parts { blank.parts ≡ L.parts }
+    requires some { 0 < blank.parts }
+    ensures shape { IfOk result (HaveShape graph.now (width born.now)) }
+    ensures told { IfOk result (AreTold statement graph.now born.now stop.now) }
+{
+    let blocks = Blocks::of(alloc, graph, edges)?;
+    let mut steps = Steps::<L>::new(blank);
+    match statement {
+        Statement::Before => forward_all_in(alloc, graph, edges, &blocks, born, stop, &mut steps),
+        Statement::After => backward_all_in(alloc, graph, edges, &blocks, born, stop, &mut steps),
+        Statement::Ahead => backward_some_in(alloc, graph, edges, &blocks, born, stop, &mut steps),
+    }
 }

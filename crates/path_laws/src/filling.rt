@@ -1,10 +1,9 @@
 // The rows of nodes, from what comes to their blocks.
-ghost use Rattle.std.specs.Prelude.{◌≡◌, ◌+◌, ◌<◌, ℕ, if◌then◌else◌, length, slice_get, Some, IfOk};
+ghost use Rattle.std.specs.Prelude.{◌≡◌, ◌+◌, ◌<◌, length, IfOk};
 ghost use Rattle.bit_rows.specs.Bits.{row_of};
-ghost use Rattle.path_laws.specs.Blockwise.{AreAnswered, AreComing, flow_order, list_at, so_far};
-ghost use Rattle.path_laws.specs.Paths.{AreRows, has_bit};
+ghost use Rattle.path_laws.specs.Paths.{HaveShape};
+ghost use Rattle.path_laws.specs.Problem.{HaveAnswers, HaveIncoming, IsProblem, PassesNode, answer_row, orders, orders_below};
 ghost use Rattle.path_laws.specs.RowLaws.{Written};
-ghost use Rattle.path_laws.specs.Seeds.{IsProblem, blocks_of, passed_row, seeds_of};
 
 use crate::passing::{node_at, pass};
 use crate::problems::Problem;
@@ -18,9 +17,9 @@ pub(crate) fn filled(
     problem: &Problem<'_>,
     coming: &mut Rows,
 ) -> Result<Rows, Memory>
-    requires problem { IsProblem problem.now.graph.now.nodes problem.now.edges.now problem.now.blocks.now problem.now.bits problem.now.born.now problem.now.stop.now }
-    requires coming { AreComing problem.now.against problem.now.graph.now.nodes problem.now.blocks.now.lists problem.now.bits (has_bit (seeds_of problem.now.every problem.now.against problem.now.graph.now.nodes problem.now.born.now problem.now.stop.now)) (has_bit (blocks_of problem.now.every problem.now.born.now problem.now.stop.now)) 0 coming.old }
-    ensures { IfOk result (λ rows. AreAnswered problem.now.against problem.now.graph.now.nodes problem.now.bits (λ c. flow_order problem.now.against (list_at problem.now.blocks.now.lists c)) (has_bit (seeds_of problem.now.every problem.now.against problem.now.graph.now.nodes problem.now.born.now problem.now.stop.now)) (has_bit (blocks_of problem.now.every problem.now.born.now problem.now.stop.now)) rows) }
+    requires problem { IsProblem problem.now }
+    requires coming { HaveIncoming problem.now 0 coming.old }
+    ensures { IfOk result (λ rows. HaveAnswers problem.now (orders problem.now) rows) }
 {
     let mut rows = Rows::new(alloc, problem.graph.len(), problem.bits)?;
     for block in 0..problem.blocks.len() {
@@ -31,12 +30,12 @@ pub(crate) fn filled(
 
 /// The answers at the nodes of one block, in the order of the flow.
 fn fill(problem: &Problem<'_>, block: usize, coming: &mut Rows, rows: &mut Rows)
-    requires problem { IsProblem problem.now.graph.now.nodes problem.now.edges.now problem.now.blocks.now problem.now.bits problem.now.born.now problem.now.stop.now }
+    requires problem { IsProblem problem.now }
     requires block { block < length problem.now.blocks.now.lists }
-    requires coming { AreComing problem.now.against problem.now.graph.now.nodes problem.now.blocks.now.lists problem.now.bits (has_bit (seeds_of problem.now.every problem.now.against problem.now.graph.now.nodes problem.now.born.now problem.now.stop.now)) (has_bit (blocks_of problem.now.every problem.now.born.now problem.now.stop.now)) block coming.old }
-    requires rows { AreAnswered problem.now.against problem.now.graph.now.nodes problem.now.bits (so_far (λ c. flow_order problem.now.against (list_at problem.now.blocks.now.lists c)) block 0) (has_bit (seeds_of problem.now.every problem.now.against problem.now.graph.now.nodes problem.now.born.now problem.now.stop.now)) (has_bit (blocks_of problem.now.every problem.now.born.now problem.now.stop.now)) rows.old }
-    ensures coming { AreComing problem.now.against problem.now.graph.now.nodes problem.now.blocks.now.lists problem.now.bits (has_bit (seeds_of problem.now.every problem.now.against problem.now.graph.now.nodes problem.now.born.now problem.now.stop.now)) (has_bit (blocks_of problem.now.every problem.now.born.now problem.now.stop.now)) (block + 1) coming.new }
-    ensures rows { AreAnswered problem.now.against problem.now.graph.now.nodes problem.now.bits (so_far (λ c. flow_order problem.now.against (list_at problem.now.blocks.now.lists c)) (block + 1) 0) (has_bit (seeds_of problem.now.every problem.now.against problem.now.graph.now.nodes problem.now.born.now problem.now.stop.now)) (has_bit (blocks_of problem.now.every problem.now.born.now problem.now.stop.now)) rows.new }
+    requires coming { HaveIncoming problem.now block coming.old }
+    requires rows { HaveAnswers problem.now (orders_below problem.now block) rows.old }
+    ensures coming { HaveIncoming problem.now (block + 1) coming.new }
+    ensures rows { HaveAnswers problem.now (orders_below problem.now (block + 1)) rows.new }
 {
     let nodes = problem.blocks.nodes(block);
     for place in 0..nodes.len() {
@@ -47,13 +46,14 @@ fn fill(problem: &Problem<'_>, block: usize, coming: &mut Rows, rows: &mut Rows)
 
 /// The answer at one node: against the edges what comes out of it, along them what comes to it.
 fn fill_node(problem: &Problem<'_>, block: usize, node: usize, coming: &mut Rows, rows: &mut Rows)
-    requires problem { IsProblem problem.now.graph.now.nodes problem.now.edges.now problem.now.blocks.now problem.now.bits problem.now.born.now problem.now.stop.now }
+    requires problem { IsProblem problem.now }
     requires block { block < length coming.old }
     requires node { node < length problem.now.graph.now.nodes }
     requires coming_long { length (row_of coming.old block) ≡ problem.now.bits }
-    requires rows { AreRows (length problem.now.graph.now.nodes) problem.now.bits rows.old }
-    ensures coming { Written coming.old coming.new block (passed_row problem.now.every problem.now.against problem.now.graph.now.nodes problem.now.born.now problem.now.stop.now node (row_of coming.old block)) }
-    ensures rows { Written rows.old rows.new node (if problem.now.against then passed_row problem.now.every problem.now.against problem.now.graph.now.nodes problem.now.born.now problem.now.stop.now node (row_of coming.old block) else row_of coming.old block) }
+    requires rows { HaveShape problem.now.graph.now problem.now.bits rows.old }
+    ensures coming { PassesNode problem.now node block coming.old coming.new }
+    ensures rows { Written rows.old rows.new node (
+        answer_row problem.now node (row_of coming.old block)) }
 {
     if problem.against {
         pass(problem, coming, block, node);

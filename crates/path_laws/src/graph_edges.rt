@@ -1,6 +1,6 @@
 // The edges of a graph in the order of a flow.
-ghost use Rattle.std.specs.Prelude.{◌≡◌, ◌<◌, length, slice_get, suc, Some};
-ghost use Rattle.path_laws.specs.Nets.{edges_along, first_among};
+ghost use Rattle.std.specs.Prelude.{◌≡◌, ◌<◌, length, suc};
+ghost use Rattle.flow_graph.specs.FlowEdges.{IsFlowEdge, edges_along, first_among};
 
 use flow_graph::Edges;
 
@@ -8,7 +8,7 @@ use flow_graph::Edges;
 /// their targets.
 pub(crate) fn flow_edge(edges: &Edges, against: bool, number: usize) -> (usize, usize)
     requires { number < length (edges_along against edges.now) }
-    ensures { slice_get (edges_along against edges.now) number ≡ Some (record { source = result.0; target = result.1 }) }
+    ensures { IsFlowEdge against edges.now number result.0 result.1 }
 {
     if against {
         let edge = edges.entering_edge(number);

@@ -1,10 +1,11 @@
 // The disjunction of the rows of each node's neighbours.
-ghost use Rattle.std.specs.Prelude.{◌≡◌, ℕ, ◌<◌, ◌↔◌, true, length, IfOk, OnOk};
+ghost use Rattle.std.specs.Prelude.{◌≡◌, IfOk, OnOk};
 ghost use Rattle.flow_graph.specs.Edges.{edges_of};
 ghost use Rattle.flow_graph.specs.Graphs.{IsGraph};
 ghost use Rattle.path_laws.specs.Leads.{SomeStep};
-ghost use Rattle.path_laws.specs.Nets.{StepAlong, edge_at};
-ghost use Rattle.path_laws.specs.Paths.{AreRows, SomePred, SomeSucc, has_bit, width};
+ghost use Rattle.flow_graph.specs.FlowEdges.{HaveEndsBelow};
+ghost use Rattle.path_laws.specs.Nets.{ComeAlong};
+ghost use Rattle.path_laws.specs.Paths.{AreRows, HaveShape, SomePred, SomeSucc, TellEach, width};
 
 use crate::bits::Bits;
 use crate::graph_edges::flow_edge;
@@ -22,10 +23,10 @@ pub(crate) fn joined(
     bits: usize,
     work: &Work<Bits>,
 ) -> Result<Rows, Memory>
-    requires ends { (e : ℕ) → e < length edges.now → ((edge_at edges.now e).source < nodes) × ((edge_at edges.now e).target < nodes) }
+    requires ends { HaveEndsBelow nodes edges.now }
     requires work { AreRows nodes bits work.now }
-    ensures shape { IfOk result (λ all. AreRows nodes bits all) }
-    ensures joins { IfOk result (λ all. (n b : ℕ) → n < nodes → b < bits → (has_bit all b n ≡ true) ↔ ((m : ℕ) × StepAlong edges.now n m × (has_bit work.now b m ≡ true))) }
+    ensures shape { IfOk result (AreRows nodes bits) }
+    ensures joins { IfOk result (ComeAlong nodes bits edges.now work.now) }
 {
     let mut all = Rows::new(alloc, nodes, bits)?;
     for edge in edges {
@@ -44,10 +45,10 @@ fn one_step_on(
     rows: &Rows,
 ) -> Result<Rows, Memory>
     requires edges { edges.now ≡ edges_of graph.now.nodes }
-    requires rows { AreRows (length graph.now.nodes) bits rows.now }
+    requires rows { HaveShape graph.now bits rows.now }
     ensures graph { OnOk result (IsGraph graph.now.vars graph.now.received graph.now.nodes) }
-    ensures shape { IfOk result (λ all. AreRows (length graph.now.nodes) bits all) }
-    ensures joins { IfOk result (λ all. (n b : ℕ) → n < length graph.now.nodes → (has_bit all b n ≡ true) ↔ SomeStep against graph.now.nodes rows.now b n) }
+    ensures shape { IfOk result (HaveShape graph.now bits) }
+    ensures joins { IfOk result (TellEach graph.now (SomeStep against graph.now.nodes rows.now)) }
 {
     let nodes = graph.nodes().len();
     let mut all = Rows::new(alloc, nodes, bits)?;
@@ -59,7 +60,7 @@ fn one_step_on(
 }
 
 /// Bit b at node n is true exactly where some predecessor of n has it. Rows go by nodes, and have equally many bits;
-/// `edges` are those of `graph`. Its only refusal is want of memory.
+/// `edges` are those of `graph`. It fails only with `Memory`.
 pub fn some_predecessor(
     alloc: Global,
     graph: &Graph,
@@ -67,17 +68,17 @@ pub fn some_predecessor(
     rows: &Rows,
 ) -> Result<Rows, Memory>
     requires edges { edges.now ≡ edges_of graph.now.nodes }
-    requires rows { AreRows (length graph.now.nodes) (width rows.now) rows.now }
+    requires rows { HaveShape graph.now (width rows.now) rows.now }
     ensures graph { OnOk result (IsGraph graph.now.vars graph.now.received graph.now.nodes) }
-    ensures shape { IfOk result (λ all. AreRows (length graph.now.nodes) (width rows.now) all) }
-    ensures joins { IfOk result (λ all. (n b : ℕ) → n < length graph.now.nodes → (has_bit all b n ≡ true) ↔ SomePred graph.now.nodes rows.now b n) }
+    ensures shape { IfOk result (HaveShape graph.now (width rows.now)) }
+    ensures joins { IfOk result (TellEach graph.now (SomePred graph.now.nodes rows.now)) }
 {
     let all = one_step_on(alloc, graph, edges, false, rows.bits(), rows)?;
     Ok(all)
 }
 
-/// Bit b at node n is true exactly where some successor of n has it. Rows go by nodes, and have equally many bits; `edges`
-/// are those of `graph`. Its only refusal is want of memory.
+/// Bit b at node n is true exactly where some successor of n has it. Rows go by nodes, and have equally many bits;
+/// `edges` are those of `graph`. It fails only with `Memory`.
 pub fn some_successor(
     alloc: Global,
     graph: &Graph,
@@ -85,10 +86,10 @@ pub fn some_successor(
     rows: &Rows,
 ) -> Result<Rows, Memory>
     requires edges { edges.now ≡ edges_of graph.now.nodes }
-    requires rows { AreRows (length graph.now.nodes) (width rows.now) rows.now }
+    requires rows { HaveShape graph.now (width rows.now) rows.now }
     ensures graph { OnOk result (IsGraph graph.now.vars graph.now.received graph.now.nodes) }
-    ensures shape { IfOk result (λ all. AreRows (length graph.now.nodes) (width rows.now) all) }
-    ensures joins { IfOk result (λ all. (n b : ℕ) → n < length graph.now.nodes → (has_bit all b n ≡ true) ↔ SomeSucc graph.now.nodes rows.now b n) }
+    ensures shape { IfOk result (HaveShape graph.now (width rows.now)) }
+    ensures joins { IfOk result (TellEach graph.now (SomeSucc graph.now.nodes rows.now)) }
 {
     let all = one_step_on(alloc, graph, edges, true, rows.bits(), rows)?;
     Ok(all)

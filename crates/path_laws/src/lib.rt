@@ -9,7 +9,6 @@ mod answers;
 mod between;
 mod bits;
 mod calls;
-mod counted;
 mod filling;
 mod graph_edges;
 mod joins;
@@ -17,8 +16,6 @@ mod passing;
 mod problems;
 mod seeds;
 mod summaries;
-#[cfg(test)]
-mod tests;
 
 pub use calls::{
     backward_all, backward_all_in, backward_some, backward_some_in, forward_all, forward_all_in,

@@ -1,11 +1,11 @@
-// Where paths end of themselves.
+// Where paths end: at Start, or at a Return.
 ghost use Rattle.std.specs.Prelude.{◌≡◌, ◌<◌, length, Some};
 ghost use Rattle.flow_graph.specs.Paths.{is_return};
 ghost use Rattle.path_laws.specs.Seeds.{is_end};
 
 use flow_graph::{Graph, Node};
 
-/// Whether paths end at a node of themselves.
+/// Whether paths end at a node, whatever it stops.
 pub(crate) fn is_end(graph: &Graph, against: bool, node: usize) -> bool
     requires { node < length graph.now.nodes }
     ensures { result ≡ is_end against graph.now.nodes node }
@@ -17,6 +17,7 @@ pub(crate) fn is_end(graph: &Graph, against: bool, node: usize) -> bool
     }
 }
 
+/// Whether a node is a Return.
 fn is_return(node: &Node) -> bool
     ensures { result ≡ is_return (Some node.now) }
 {

@@ -1,8 +1,6 @@
 // What a block does to the bits that come to it.
-ghost use Rattle.std.specs.Prelude.{◌≡◌, ◌+◌, ◌<◌, ℕ, false, length, slice_get, Some, IfOk};
-ghost use Rattle.path_laws.specs.Blockwise.{ArePassed, AreStopped, flow_order, list_at, so_far};
-ghost use Rattle.path_laws.specs.Paths.{has_bit};
-ghost use Rattle.path_laws.specs.Seeds.{IsProblem, blocks_of, seeds_of};
+ghost use Rattle.std.specs.Prelude.{◌+◌, ◌<◌, length, IfOk};
+ghost use Rattle.path_laws.specs.Problem.{HaveBlocked, HavePassed, IsProblem, orders, orders_below};
 
 use crate::passing::{node_at, pass, stop_at};
 use crate::problems::Problem;
@@ -19,9 +17,9 @@ pub(crate) struct Sums {
 
 /// The summary of each block.
 pub(crate) fn summaries(alloc: Global, problem: &Problem<'_>) -> Result<Sums, Memory>
-    requires { IsProblem problem.now.graph.now.nodes problem.now.edges.now problem.now.blocks.now problem.now.bits problem.now.born.now problem.now.stop.now }
-    ensures seeds { IfOk result (λ made. ArePassed (length problem.now.blocks.now.lists) problem.now.bits (λ c. flow_order problem.now.against (list_at problem.now.blocks.now.lists c)) (has_bit (seeds_of problem.now.every problem.now.against problem.now.graph.now.nodes problem.now.born.now problem.now.stop.now)) (has_bit (blocks_of problem.now.every problem.now.born.now problem.now.stop.now)) (λ b c. false) made.seeds) }
-    ensures stops { IfOk result (λ made. AreStopped (length problem.now.blocks.now.lists) problem.now.bits (λ c. flow_order problem.now.against (list_at problem.now.blocks.now.lists c)) (has_bit (blocks_of problem.now.every problem.now.born.now problem.now.stop.now)) made.stops) }
+    requires { IsProblem problem.now }
+    ensures seeds { IfOk result (λ made. HavePassed problem.now (orders problem.now) made.seeds) }
+    ensures stops { IfOk result (λ made. HaveBlocked problem.now (orders problem.now) made.stops) }
 {
     let count = problem.blocks.len();
     let mut seeds = Rows::new(alloc, count, problem.bits)?;
@@ -34,12 +32,12 @@ pub(crate) fn summaries(alloc: Global, problem: &Problem<'_>) -> Result<Sums, Me
 
 /// The summary of one block: its nodes in the order of the flow.
 fn sum(problem: &Problem<'_>, block: usize, seeds: &mut Rows, stops: &mut Rows)
-    requires problem { IsProblem problem.now.graph.now.nodes problem.now.edges.now problem.now.blocks.now problem.now.bits problem.now.born.now problem.now.stop.now }
+    requires problem { IsProblem problem.now }
     requires block { block < length problem.now.blocks.now.lists }
-    requires seeds { ArePassed (length problem.now.blocks.now.lists) problem.now.bits (so_far (λ c. flow_order problem.now.against (list_at problem.now.blocks.now.lists c)) block 0) (has_bit (seeds_of problem.now.every problem.now.against problem.now.graph.now.nodes problem.now.born.now problem.now.stop.now)) (has_bit (blocks_of problem.now.every problem.now.born.now problem.now.stop.now)) (λ b c. false) seeds.old }
-    requires stops { AreStopped (length problem.now.blocks.now.lists) problem.now.bits (so_far (λ c. flow_order problem.now.against (list_at problem.now.blocks.now.lists c)) block 0) (has_bit (blocks_of problem.now.every problem.now.born.now problem.now.stop.now)) stops.old }
-    ensures seeds { ArePassed (length problem.now.blocks.now.lists) problem.now.bits (so_far (λ c. flow_order problem.now.against (list_at problem.now.blocks.now.lists c)) (block + 1) 0) (has_bit (seeds_of problem.now.every problem.now.against problem.now.graph.now.nodes problem.now.born.now problem.now.stop.now)) (has_bit (blocks_of problem.now.every problem.now.born.now problem.now.stop.now)) (λ b c. false) seeds.new }
-    ensures stops { AreStopped (length problem.now.blocks.now.lists) problem.now.bits (so_far (λ c. flow_order problem.now.against (list_at problem.now.blocks.now.lists c)) (block + 1) 0) (has_bit (blocks_of problem.now.every problem.now.born.now problem.now.stop.now)) stops.new }
+    requires seeds { HavePassed problem.now (orders_below problem.now block) seeds.old }
+    requires stops { HaveBlocked problem.now (orders_below problem.now block) stops.old }
+    ensures seeds { HavePassed problem.now (orders_below problem.now (block + 1)) seeds.new }
+    ensures stops { HaveBlocked problem.now (orders_below problem.now (block + 1)) stops.new }
 {
     let nodes = problem.blocks.nodes(block);
     for place in 0..nodes.len() {

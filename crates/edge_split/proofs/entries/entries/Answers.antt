@@ -1,9 +1,9 @@
 use Rattle.std.proofs.Common.{◌≡◌, ℕ, ◌+◌, ◌<◌, ◌≤◌, ◌∙◌, ap, sym, subst, length, min, take, slice_index, arith}
+use Rattle.flow_graph.specs.BoundLaws.{succs_at_below}
 use Rattle.std.proofs.lemmas.List.{length-replicate, take_all}
 use Rattle.flow_graph.specs.Graphs.{succs_at, AllWithin}
-use Rattle.edge_split.specs.Split.{times}
+use Rattle.node_list.specs.Lists.{times_in}
 use Rattle.edge_split.proofs.Targets.{none_counted, preds_times, targets, targets_front, times_append}
-use Rattle.edge_split.proofs.Splits.{succs_at_below}
 use Rattle.edge_split.proofs.entries.entries.Goals as goal
 
 pub loop-n-init : goal.loop-n-init
@@ -30,8 +30,8 @@ loop-n-preserved c =
     record {
       len = c.count.ensures.len ∙ inv.len;
       counted = λ s.
-          let one : slice_index c.count.new.entries.items s ≡ min 2 (slice_index c.loop-n.entries.items s + times s (succs_at nodes n)) = rw succs at (c.count.ensures.counted s) in
-          let all : times s (targets (take (n + 1) nodes)) ≡ times s (targets (take n nodes)) + times s (succs_at nodes n) = ap (times s) (targets_front nodes n lt) ∙ times_append s (targets (take n nodes)) (succs_at nodes n) in
+          let one : slice_index c.count.new.entries.items s ≡ min 2 (slice_index c.loop-n.entries.items s + times_in s (succs_at nodes n)) = rw succs at (c.count.ensures.counted s) in
+          let all : times_in s (targets (take (n + 1) nodes)) ≡ times_in s (targets (take n nodes)) + times_in s (succs_at nodes n) = ap (times_in s) (targets_front nodes n lt) ∙ times_append s (targets (take n nodes)) (succs_at nodes n) in
           omega (arith, one, all, inv.counted s);
     }
 
@@ -42,4 +42,4 @@ pub returns-clause-are : goal.returns-clause-are
 returns-clause-are c = λ s.
     let nodes = c.args.graph.now.nodes in
     let end : length nodes ≤ c.loop-n.n = omega (arith, c.loop-n-test.false, ap length c.nodes-nodes.ensures.value) in
-    c.loop-n.invariant.counted s ∙ ap (λ l. min 2 (times s (targets l))) (take_all c.loop-n.n nodes end) ∙ ap (min 2) (sym (preds_times nodes s))
+    c.loop-n.invariant.counted s ∙ ap (λ l. min 2 (times_in s (targets l))) (take_all c.loop-n.n nodes end) ∙ ap (min 2) (sym (preds_times nodes s))

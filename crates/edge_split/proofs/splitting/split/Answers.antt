@@ -41,12 +41,7 @@ pub returns-clause-calls : goal.returns-clause-calls
 returns-clause-calls c = edge_split_calls c.args.graph.now c.in_ok-nodes.ensures.graph c.in_ok-made.made (exact c)
 
 pub returns-clause-keeps : goal.returns-clause-keeps
-returns-clause-keeps c = record {
-  name = c.in_ok-made.ensures.made.name_is;
-  same = returns-clause-same c;
-  cheaper = returns-clause-cheaper c;
-  calls = returns-clause-calls c;
-}
+returns-clause-keeps c = record { name = c.in_ok-made.ensures.made.name_is; same = returns-clause-same c; cheaper = returns-clause-cheaper c; calls = returns-clause-calls c }
 
 pub returns-clause-divides : goal.returns-clause-divides
 returns-clause-divides c = split_stay c.args.graph.now c.in_ok-made.made (exact c)

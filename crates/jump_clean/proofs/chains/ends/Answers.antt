@@ -1,6 +1,6 @@
 use Rattle.std.proofs.Common.{◌≡◌, ◌++◌, ◌∷◌, [], ap, arith, length, length-append}
+use Rattle.flow_graph.specs.ListLaws.{table_push}
 use Rattle.jump_clean.specs.Chains.{IsEnd}
-use Rattle.jump_clean.specs.ListLaws.{table_push}
 use Rattle.jump_clean.proofs.chains.ends.Goals as goal
 
 pub loop-n-preserved : goal.loop-n-preserved

@@ -7,7 +7,7 @@ use Rattle.jump_clean.proofs.chains.note.Given as goal
 abbrev pub invariant-loop-n : goal.invariant-loop-n
 invariant-loop-n l = record {
   long : length l.found.items ≡ length l.initial.found.items;
-  below : AllBelow (length l.found.items) (drop l.n-index l.way);
-  noted : (n : ℕ) → In n l.way → (slice_get l.found.items n ≡ Some (End l.end)) ⊎ In n (drop l.n-index l.way);
-  others : (n : ℕ) → (slice_get l.found.items n ≡ slice_get l.initial.found.items n) ⊎ ((slice_get l.found.items n ≡ Some (End l.end)) × In n l.way);
+  below : AllBelow (length l.found.items) (drop l.n-index l.chain);
+  noted : (n : ℕ) → In n l.chain → (slice_get l.found.items n ≡ Some (End l.end)) ⊎ In n (drop l.n-index l.chain);
+  others : (n : ℕ) → (slice_get l.found.items n ≡ slice_get l.initial.found.items n) ⊎ ((slice_get l.found.items n ≡ Some (End l.end)) × In n l.chain);
 }

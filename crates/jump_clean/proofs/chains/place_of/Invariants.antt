@@ -3,7 +3,7 @@ use Rattle.jump_clean.specs.ChainLaws.{In}
 use Rattle.jump_clean.proofs.chains.place_of.Given as goal
 
 abbrev pub invariant-loop-place : goal.invariant-loop-place
-invariant-loop-place l = In l.n (drop l.place l.way)
+invariant-loop-place l = In l.n (drop l.place l.chain)
 
 abbrev pub decreases-loop-place : goal.decreases-loop-place
-decreases-loop-place l = length l.way - l.place
+decreases-loop-place l = length l.chain - l.place

@@ -1,8 +1,7 @@
 use Rattle.std.proofs.Common.{◌≤◌, length, arith}
 use Rattle.flow_graph.specs.Edges.{edges_from}
 use Rattle.path_laws.specs.Crossings.{crossings}
-use Rattle.path_laws.specs.Paths.{has_bit}
-use Rattle.path_laws.specs.Seeds.{blocks_of, seeds_of}
+use Rattle.path_laws.specs.Problem.{is_blocked, is_seed}
 use Rattle.path_laws.proofs.Coming.{coming_from}
 use Rattle.path_laws.proofs.Counting.{few_between}
 use Rattle.path_laws.proofs.Handed.{pushes_few}
@@ -18,7 +17,7 @@ pub returns-clause-coming : goal.returns-clause-coming
 returns-clause-coming g c =
     let p = c.args.problem.now in
     coming_from p.against p.graph.now.nodes p.blocks.now.lists c.in_ok-between.between.edges.items c.deref.result.now c.in_ok-between.between.firsts.items c.requires.blocks_are.are c.in_ok-between.ensures c.requires.flow.within p.bits c.len-count.result
-    (has_bit (seeds_of p.every p.against p.graph.now.nodes p.born.now p.stop.now)) (has_bit (blocks_of p.every p.born.now p.stop.now)) c.in_ok-work.work c.in_ok-rows.rows c.len-count.ensures c.deref.ensures.value c.in_ok-work.ensures.leads c.in_ok-rows.ensures.shape c.in_ok-rows.ensures.joins
+    (is_seed p) (is_blocked p) c.in_ok-work.work c.in_ok-rows.rows c.len-count.ensures c.deref.ensures.value c.in_ok-work.ensures.leads c.in_ok-rows.ensures.shape c.in_ok-rows.ensures.joins
 
 pub returns-clause-pushes : goal.returns-clause-pushes
 returns-clause-pushes g c =

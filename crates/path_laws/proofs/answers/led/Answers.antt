@@ -1,7 +1,4 @@
-use Rattle.std.proofs.Common.{ℕ, List}
-use Rattle.path_laws.specs.Blockwise.{flow_order, list_at}
-use Rattle.path_laws.specs.Paths.{has_bit}
-use Rattle.path_laws.specs.Seeds.{blocks_of, seeds_of}
+use Rattle.path_laws.specs.Problem.{is_blocked, is_seed, orders}
 use Rattle.path_laws.proofs.Coming.{led_blocks}
 use Rattle.path_laws.proofs.Leaving.{between_listed}
 use Rattle.path_laws.proofs.answers.led.Goals as goal
@@ -12,10 +9,11 @@ least-requires g c =
     between_listed p.against p.graph.now.nodes p.blocks.now.lists c.args.between.now.edges.items c.as_slice.result.now c.args.between.now.firsts.items c.as_slice-2.result.now c.len.result p.bits c.in_ok-sums.sums.seeds c.in_ok-sums.sums.stops
     c.requires.between c.as_slice.ensures.value c.as_slice-2.ensures.value c.len.ensures c.in_ok-sums.ensures.seeds.shape c.in_ok-sums.ensures.stops.shape
 
+pub returns-clause-shape : goal.returns-clause-shape
+returns-clause-shape g c = rw c.len.ensures at c.in_ok-work.ensures.shape
+
 pub returns-clause-leads : goal.returns-clause-leads
 returns-clause-leads g c =
     let p = c.args.problem.now in
-    let path : ℕ → List ℕ = λ k. flow_order p.against (list_at p.blocks.now.lists k) in
-    led_blocks p.against p.graph.now.nodes p.blocks.now.lists p.bits c.len.result c.args.between.now.edges.items c.as_slice.result.now c.args.between.now.firsts.items path
-    (has_bit (seeds_of p.every p.against p.graph.now.nodes p.born.now p.stop.now)) (has_bit (blocks_of p.every p.born.now p.stop.now)) c.in_ok-sums.sums.seeds c.in_ok-sums.sums.stops c.in_ok-work.work
+    led_blocks p.against p.graph.now.nodes p.blocks.now.lists p.bits c.len.result c.args.between.now.edges.items c.as_slice.result.now c.args.between.now.firsts.items (orders p) (is_seed p) (is_blocked p) c.in_ok-sums.sums.seeds c.in_ok-sums.sums.stops c.in_ok-work.work
     c.requires.between c.in_ok-sums.ensures.seeds c.in_ok-sums.ensures.stops c.len.ensures c.as_slice.ensures.value c.in_ok-work.ensures.leads

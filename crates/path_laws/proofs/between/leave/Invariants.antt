@@ -1,5 +1,5 @@
 use Rattle.path_laws.specs.Between.{AreOutTo}
-use Rattle.path_laws.specs.Nets.{first_out}
+use Rattle.flow_graph.specs.FlowEdges.{first_out}
 use Rattle.path_laws.proofs.between.leave.Given as goal
 
 abbrev pub invariant-loop-number : goal.invariant-loop-number

@@ -1,17 +1,19 @@
 use Rattle.std.proofs.Common.{◌≡◌, length, [], arith}
 use Rattle.std.proofs.lemmas.List.{get_or_default}
 use Rattle.bit_rows.specs.Bits.{row_of}
-use Rattle.path_laws.specs.Nets.{number_at}
-use Rattle.path_laws.specs.NetsLaws.{listed_flow}
+use Rattle.flow_graph.specs.Tables.{number_at}
 use Rattle.path_laws.proofs.RowBits.{rows_lead}
 use Rattle.path_laws.proofs.bits.least.Goals as goal
 
-pub returns-clause-sizes : goal.returns-clause-sizes
-returns-clause-sizes g c = λ n h.
-    let len : length c.solve.new.work ≡ c.args.flow.now.nodes = c.solve.ensures.len in
-    rw (get_or_default c.solve.new.work n [] (row_of c.args.flow.now.seeds.now n) (omega arith)) (c.solve.ensures.sizes n h)
+pub returns-clause-shape : goal.returns-clause-shape
+returns-clause-shape g c = record {
+  len = c.solve.ensures.len;
+  each = λ n h.
+      let len : length c.solve.new.work ≡ c.args.flow.now.nodes = c.solve.ensures.len in
+      rw (get_or_default c.solve.new.work n [] (row_of c.args.flow.now.seeds.now n) (omega arith)) (c.solve.ensures.sizes n h);
+}
 
 pub returns-clause-leads : goal.returns-clause-leads
 returns-clause-leads g c =
     let f = c.args.flow.now in
-    rows_lead f.nodes f.edges.now (number_at f.firsts.now) f.bits f.seeds.now f.stops.now _ (listed_flow f.nodes f.edges.now f.firsts.now f.bits f.seeds.now f.stops.now c.requires) c.solve.ensures.len c.solve.ensures.least
+    rows_lead f.nodes f.edges.now (number_at f.firsts.now) f.bits f.seeds.now f.stops.now _ c.requires.flow c.solve.ensures.len c.solve.ensures.least

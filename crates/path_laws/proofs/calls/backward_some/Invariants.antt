@@ -1,4 +1,4 @@
 use Rattle.path_laws.proofs.calls.backward_some.Given as goal
 
-abbrev pub ghosts-backward_some_from : goal.ghosts-backward_some_from
-ghosts-backward_some_from a = record { name = a.blank.name; parts = a.blank.parts }
+abbrev pub ghosts-told_from : goal.ghosts-told_from
+ghosts-told_from a = record { name = a.blank.name; parts = a.blank.parts }

@@ -1,7 +1,7 @@
 use Rattle.std.proofs.Common.{◌≡◌, ◌<◌, [], List, Bool, length, set, ◌∙◌}
 use Rattle.std.proofs.lemmas.List.{get_or_default}
 use Rattle.bit_rows.specs.Bits.{or_bits, row_of}
-use Rattle.path_laws.specs.Nets.{edge_at}
+use Rattle.flow_graph.specs.FlowEdges.{edge_at}
 use Rattle.path_laws.proofs.Joining.{complete_more, shape_more, sound_more}
 use Rattle.path_laws.proofs.joins.joined.Goals as goal
 

@@ -1,5 +1,5 @@
 use Rattle.std.proofs.Common.{◌≡◌, ℕ, ◌<◌, true}
-use Rattle.path_laws.specs.Nets.{edge_at}
+use Rattle.flow_graph.specs.FlowEdges.{edge_at}
 use Rattle.path_laws.specs.Paths.{AreRows, has_bit}
 use Rattle.path_laws.proofs.joins.joined.Given as goal
 

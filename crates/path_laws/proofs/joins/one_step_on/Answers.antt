@@ -3,8 +3,8 @@ use Rattle.std.proofs.lemmas.Option.{get_or_from_slice_get}
 use Rattle.bit_rows.specs.Bits.{or_bits, row_of}
 use Rattle.flow_graph.specs.Edges.{EdgesShape}
 use Rattle.flow_graph.specs.Graphs.{AllWithin}
-use Rattle.path_laws.specs.Nets.{edge_at, flow_edges}
-use Rattle.path_laws.specs.NetsLaws.{flow_edges_are, length-flow_edges}
+use Rattle.flow_graph.specs.FlowEdges.{edge_at, flow_edges}
+use Rattle.flow_graph.specs.FlowEdgeLaws.{flow_edges_are, length_flow_edges}
 use Rattle.path_laws.specs.Paths.{has_bit}
 use Rattle.path_laws.proofs.Joining.{complete_more, shape_more, sound_more, step_from}
 use Rattle.path_laws.proofs.RowBits.{step_edge}
@@ -16,7 +16,7 @@ within c = λ m slot s edge. rw (← c.nodes-nodes.ensures.value) (c.nodes-nodes
 
 -- as many as the graph has
 edges_long : (c : After-len-number-end) → c.len-number-end.result ≡ length (flow_edges c.args.against c.args.graph.now.nodes)
-edges_long c = c.len-number-end.ensures ∙ ap (λ (e : EdgesShape). length e.edges) c.requires.edges ∙ sym (length-flow_edges c.args.against c.args.graph.now.nodes (within c))
+edges_long c = c.len-number-end.ensures ∙ ap (λ (e : EdgesShape). length e.edges) c.requires.edges ∙ sym (length_flow_edges c.args.against c.args.graph.now.nodes (within c))
 
 pub flow_edge-source-requires : goal.flow_edge-source-requires
 flow_edge-source-requires c =

@@ -1,5 +1,5 @@
 use Rattle.std.proofs.Common.{◌≡◌, ℕ, ◌<◌, length, true}
-use Rattle.path_laws.specs.Nets.{edge_at, flow_edges}
+use Rattle.flow_graph.specs.FlowEdges.{edge_at, flow_edges}
 use Rattle.path_laws.specs.Paths.{AreRows, has_bit}
 use Rattle.path_laws.proofs.joins.one_step_on.Given as goal
 

@@ -1,30 +1,38 @@
-use Rattle.std.proofs.Common.{◌∙◌, ◌++◌, ℕ, [], ap, sym, subst, length, map, slice_set, inl, inr}
+use Rattle.std.proofs.Common.{◌≡◌, ◌∙◌, ℕ, [], ap, sym, subst, length, slice_set, ◌⊎◌, inl, inr}
 use Rattle.mir_base.specs.Shapes.{AllBelow}
 use Rattle.jump_clean.specs.ChainLaws.{In}
-use Rattle.jump_clean.specs.Classes.{members_of}
-use Rattle.jump_clean.proofs.Moves.{all_below, are_moved, has_moved}
+use Rattle.jump_clean.specs.Classes.{AreMoved, HaveMembers, class, members_in, with_more}
+use Rattle.jump_clean.proofs.Moves.{members_below, are_moved, has_moved}
 use Rattle.jump_clean.proofs.classes.Classes.move_all.Goals as goal
+use Rattle.jump_clean.proofs.classes.Classes.move_all.Goals.{In_ok-add}
 
 pub relabel-requires : goal.relabel-requires
 relabel-requires c =
-    subst (AllBelow (length c.args.self.now.of.items)) (sym c.as_slice.ensures) (all_below (length c.args.self.now.of.items) c.take-moved.result.items (λ n h. (c.requires.members.only n c.args.from (subst (In n) c.take-moved.ensures.taken h)).0))
+    let of : c.take-moved.new.self.of.items ≡ c.args.self.now.of.items = c.take-moved.ensures.of in
+    subst (λ l. AllBelow (length l) c.as_slice.result.now) (sym of)
+    (subst (AllBelow (length c.args.self.now.of.items)) (sym c.as_slice.ensures) (members_below (length c.args.self.now.of.items) c.take-moved.result.items (λ n h. (c.requires.members.only n c.args.from (subst (In n) c.take-moved.ensures.taken h)).0)))
+
+-- both facts at once: the members that were taken are exactly those that got the new number
+both : (c : In_ok-add) → AreMoved c.args.self.now.of.items c.add.new.self.of.items c.args.from c.args.into c.take-moved.result.items × HaveMembers c.add.new.self
+both c =
+    let old = c.args.self.now.of.items in
+    let members = members_in c.args.self.now in
+    let moved = c.take-moved.result.items in
+    let taken_of : c.take-moved.new.self.of.items ≡ c.args.self.now.of.items = c.take-moved.ensures.of in
+    let new_of : c.add.new.self.of.items ≡ c.relabel.new.of.items = c.in_ok-add.ensures.of in
+    let long = ap length new_of ∙ c.relabel.ensures.long ∙ ap length taken_of in
+    let gone = λ (n : ℕ) (h : In n c.take-moved.result.items). ap (λ l. class l n) new_of ∙ c.relabel.ensures.gone n (subst (In n) (sym c.as_slice.ensures) h) in
+    let others = λ (n : ℕ). elim (c.relabel.ensures.others n) as (λ _. (class c.add.new.self.of.items n ≡ class c.args.self.now.of.items n) ⊎ In n c.take-moved.result.items) [
+      | inl same ↦ inl (ap (λ l. class l n) new_of ∙ same ∙ ap (λ l. class l n) taken_of)
+      | inr h ↦ inr (subst (In n) c.as_slice.ensures h)
+    ] in
+    let added = c.in_ok-add.ensures.added ∙ ap (λ l. with_more l c.args.into c.as_slice-2.result.now) c.take-moved.ensures.left ∙ ap (with_more (slice_set members c.args.from []) c.args.into) c.as_slice-2.ensures in (
+      are_moved old c.add.new.self.of.items members (members_in c.add.new.self) c.args.from c.args.into moved c.requires.members c.requires.from c.requires.into c.requires.apart c.take-moved.ensures.taken long gone others added,
+      has_moved old c.add.new.self.of.items members (members_in c.add.new.self) c.args.from c.args.into moved c.requires.members c.requires.from c.requires.into c.requires.apart c.take-moved.ensures.taken long gone others added,
+    )
 
 pub returns-clause-members : goal.returns-clause-members
-returns-clause-members c =
-    let members = map (λ v. v.items) c.args.self.now.members.items in
-    let moved = c.take-moved.result.items in
-    let in_slice : (n : ℕ) → In n moved → In n c.as_slice.result.now = λ n h. subst (In n) (sym c.as_slice.ensures) h in
-    let in_list : (n : ℕ) → In n c.as_slice.result.now → In n moved = λ n h. subst (In n) c.as_slice.ensures h in
-    let left = c.take-moved.ensures.left in
-    let added = c.in_ok-add.ensures ∙ ap (λ l. slice_set l c.args.into (members_of l c.args.into ++ c.as_slice-2.result.now)) left ∙ ap (λ l. slice_set (slice_set members c.args.from []) c.args.into (members_of (slice_set members c.args.from []) c.args.into ++ l)) c.as_slice-2.ensures in
-    has_moved c.args.self.now.of.items c.relabel.new.of.items members (map (λ v. v.items) c.add.new.members.items) c.args.from c.args.into moved c.requires.members c.requires.from c.requires.into c.requires.apart c.take-moved.ensures.taken c.relabel.ensures.long (λ n h. c.relabel.ensures.gone n (in_slice n h)) (λ n. elim (c.relabel.ensures.others n) [ inl same ↦ inl same | inr h ↦ inr (in_list n h) ]) added
+returns-clause-members c = (both (goal.at.returns-clause-members c).In_ok-add).1
 
 pub returns-clause-moved : goal.returns-clause-moved
-returns-clause-moved c =
-    let members = map (λ v. v.items) c.args.self.now.members.items in
-    let moved = c.take-moved.result.items in
-    let in_slice : (n : ℕ) → In n moved → In n c.as_slice.result.now = λ n h. subst (In n) (sym c.as_slice.ensures) h in
-    let in_list : (n : ℕ) → In n c.as_slice.result.now → In n moved = λ n h. subst (In n) c.as_slice.ensures h in
-    let left = c.take-moved.ensures.left in
-    let added = c.in_ok-add.ensures ∙ ap (λ l. slice_set l c.args.into (members_of l c.args.into ++ c.as_slice-2.result.now)) left ∙ ap (λ l. slice_set (slice_set members c.args.from []) c.args.into (members_of (slice_set members c.args.from []) c.args.into ++ l)) c.as_slice-2.ensures in
-    are_moved c.args.self.now.of.items c.relabel.new.of.items members (map (λ v. v.items) c.add.new.members.items) c.args.from c.args.into moved c.requires.members c.requires.from c.requires.into c.requires.apart c.take-moved.ensures.taken c.relabel.ensures.long (λ n h. c.relabel.ensures.gone n (in_slice n h)) (λ n. elim (c.relabel.ensures.others n) [ inl same ↦ inl same | inr h ↦ inr (in_list n h) ]) added
+returns-clause-moved c = (both (goal.at.returns-clause-moved c).In_ok-add).0
