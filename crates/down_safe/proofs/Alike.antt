@@ -1,12 +1,13 @@
--- Statements on paths, whose bits are replaced by others that are equal at the nodes.
+-- Statements on paths, of bits that are equal at the nodes to others: they hold of the others too.
 use Rattle.std.proofs.Common.{◌≡◌, ℕ, ◌<◌, Bool, true, false, not, ◌&&◌, List, [], ◌∷◌, length, inl, inr, refl, sym, ◌∙◌}
 use Rattle.flow_graph.specs.declared.nodes.Node.{Node}
 use Rattle.flow_graph.specs.Paths.{HasEdge, IsPath, Trace, from_start, goes_on}
-use Rattle.path_laws.specs.NetsLaws.{node_within}
+use Rattle.flow_graph.specs.BoundLaws.{edge_within}
 use Rattle.path_laws.specs.Paths.{BornAfter, BornBefore, EndsWell, Meets, Since}
-use Rattle.motion_rewrite.specs.Placements.{Serves}
-use Rattle.down_safe.specs.Bits.{IsServed}
+use Rattle.motion_rewrite.specs.Placements.{ReachesAlong}
+use Rattle.down_safe.specs.Bits.{IsAvailableBit}
 
+-- what is set and not killed is both
 both_true : (a b : Bool) → (a && not b) ≡ true → (a ≡ true) × (b ≡ false)
 both_true true true h = absurd (cc)
 both_true true false h = (refl, refl)
@@ -17,14 +18,17 @@ module _ (nodes : List Node) where
   abbrev pub Alike : (ℕ → Bool) → (ℕ → Bool) → Type 0
   Alike f g = (n : ℕ) → n < length nodes → f n ≡ g n
 
+  -- the other way round
   turned : (f g : ℕ → Bool) → Alike f g → Alike g f
   turned f g same n h = sym (same n h)
 
+  -- an edge leaves a node that is there
   from_within : {m n : ℕ} → HasEdge nodes m n → m < length nodes
-  from_within {m = m} {n = n} edge = node_within nodes m edge.0 n edge.1
+  from_within {m = m} {n = n} edge = edge_within nodes m n edge
 
   -- ---- paths from a node
 
+  -- a path ends well by the one as by the other, and meets a born bit
   ends_alike : (stop stop' : ℕ → Bool) → Alike stop stop' → (path : List ℕ) → IsPath nodes path → EndsWell nodes stop path → EndsWell nodes stop' path
   ends_alike stop stop' same [] is ends = absurd is
   ends_alike stop stop' same (n ∷ []) is (inl stops) = inl (sym (same n is) ∙ stops)
@@ -38,45 +42,50 @@ module _ (nodes : List Node) where
   meets_alike born born' same (m ∷ n ∷ path) is (inl b) = inl (sym (same m (from_within is.0)) ∙ b)
   meets_alike born born' same (m ∷ n ∷ path) is (inr later) = inr (meets_alike born born' same (n ∷ path) is.1 later)
 
+  -- so the bit is born after a node alike
   pub after_alike : (born born' stop stop' : ℕ → Bool) → Alike born born' → Alike stop stop' → (n : ℕ) → BornAfter nodes born stop n → BornAfter nodes born' stop' n
   after_alike born born' stop stop' same_born same_stop n all path is begins ends =
       meets_alike born born' same_born path is (all path is begins (ends_alike stop' stop (turned stop stop' same_stop) path is ends))
 
   -- ---- paths to a node
 
-  serves_alike : (used used' killed killed' : ℕ → Bool) → Alike used used' → Alike killed killed' → (n : ℕ) (before : List ℕ) → Trace nodes n before
-      → Serves (λ m. used m ≡ true) killed before → Serves (λ m. used' m ≡ true) killed' before
-  serves_alike used used' killed killed' same_used same_killed n before from_start serves = absurd serves
-  serves_alike used used' killed killed' same_used same_killed n before (goes_on m k earlier trace edge) serves =
+  -- a use reaches along a path by the one as by the other
+  reaches_alike : (used used' killed killed' : ℕ → Bool) → Alike used used' → Alike killed killed' → (n : ℕ) (before : List ℕ) → Trace nodes n before
+      → ReachesAlong (λ m. used m ≡ true) killed before → ReachesAlong (λ m. used' m ≡ true) killed' before
+  reaches_alike used used' killed killed' same_used same_killed n before from_start reaches = absurd reaches
+  reaches_alike used used' killed killed' same_used same_killed n before (goes_on m k earlier trace edge) reaches =
       let h = from_within edge in (
-        sym (same_killed m h) ∙ serves.0,
-        elim serves.1 [
+        sym (same_killed m h) ∙ reaches.0,
+        elim reaches.1 [
           | inl used ↦ inl (sym (same_used m h) ∙ used)
-          | inr more ↦ inr (serves_alike used used' killed killed' same_used same_killed m earlier trace more)
+          | inr more ↦ inr (reaches_alike used used' killed killed' same_used same_killed m earlier trace more)
         ],
       )
 
-  pub served_alike : (used used' killed killed' : ℕ → Bool) → Alike used used' → Alike killed killed' → (n : ℕ) → IsServed nodes used killed n → IsServed nodes used' killed' n
-  served_alike used used' killed killed' same_used same_killed n all before trace = serves_alike used used' killed killed' same_used same_killed n before trace (all before trace)
+  -- so it is available alike
+  pub available_alike : (used used' killed killed' : ℕ → Bool) → Alike used used' → Alike killed killed' → (n : ℕ) → IsAvailableBit nodes used killed n → IsAvailableBit nodes used' killed' n
+  available_alike used used' killed killed' same_used same_killed n all before trace = reaches_alike used used' killed killed' same_used same_killed n before trace (all before trace)
 
-  -- what is born where it is used and not killed, and stopped where it is killed, is born before where it is served
+  -- what is born where it is used and not killed, and stopped where it is killed, is born before a node exactly where it is available there
   module _ (born used killed : ℕ → Bool) (is : (n : ℕ) → n < length nodes → born n ≡ (used n && not (killed n))) where
-    serves_since : (n : ℕ) (before : List ℕ) → Trace nodes n before → Since born killed before → Serves (λ m. used m ≡ true) killed before
-    serves_since n before from_start since = absurd since
-    serves_since n before (goes_on m k earlier trace edge) (inl b) =
+    -- along one path
+    since_reaches : (n : ℕ) (before : List ℕ) → Trace nodes n before → Since born killed before → ReachesAlong (λ m. used m ≡ true) killed before
+    since_reaches n before from_start since = absurd since
+    since_reaches n before (goes_on m k earlier trace edge) (inl b) =
         let both = both_true (used m) (killed m) (sym (is m (from_within edge)) ∙ b) in
         (both.1, inl both.0)
-    serves_since n before (goes_on m k earlier trace edge) (inr more) = (more.0, inr (serves_since m earlier trace more.1))
+    since_reaches n before (goes_on m k earlier trace edge) (inr more) = (more.0, inr (since_reaches m earlier trace more.1))
 
-    since_serves : (n : ℕ) (before : List ℕ) → Trace nodes n before → Serves (λ m. used m ≡ true) killed before → Since born killed before
-    since_serves n before from_start serves = absurd serves
-    since_serves n before (goes_on m k earlier trace edge) serves = elim serves.1 [
-      | inl use_here ↦ inl (is m (from_within edge) ∙ rw (use_here, serves.0) refl)
-      | inr more ↦ inr (serves.0, since_serves m earlier trace more)
+    reaches_since : (n : ℕ) (before : List ℕ) → Trace nodes n before → ReachesAlong (λ m. used m ≡ true) killed before → Since born killed before
+    reaches_since n before from_start reaches = absurd reaches
+    reaches_since n before (goes_on m k earlier trace edge) reaches = elim reaches.1 [
+      | inl use_here ↦ inl (is m (from_within edge) ∙ rw (use_here, reaches.0) refl)
+      | inr more ↦ inr (reaches.0, reaches_since m earlier trace more)
     ]
 
-    pub served_from_born : (n : ℕ) → BornBefore nodes born killed n → IsServed nodes used killed n
-    served_from_born n all before trace = serves_since n before trace (all before trace)
+    -- along all paths
+    pub available_from_born : (n : ℕ) → BornBefore nodes born killed n → IsAvailableBit nodes used killed n
+    available_from_born n all before trace = since_reaches n before trace (all before trace)
 
-    pub born_from_served : (n : ℕ) → IsServed nodes used killed n → BornBefore nodes born killed n
-    born_from_served n all before trace = since_serves n before trace (all before trace)
+    pub born_from_available : (n : ℕ) → IsAvailableBit nodes used killed n → BornBefore nodes born killed n
+    born_from_available n all before trace = reaches_since n before trace (all before trace)

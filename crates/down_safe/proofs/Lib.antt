@@ -1,4 +1,3 @@
 pub mod Admit
 pub mod Alike
 pub mod Earliest
-pub mod Made

@@ -1,17 +1,36 @@
--- What the rows say of one bit: where it is served on every path, what bars it from moving up, and where it is early.
-use Rattle.std.specs.Prelude.{◌≡◌, ℕ, Bool, true, not, ◌||◌, List}
+-- What rows of bits say from which the earliest nodes are read, of one bit and of all. A bit stands for an expression, and
+-- says by node where it is used, killed, available or down. Cited by contracts of private functions.
+use Rattle.std.specs.Prelude.{◌≡◌, ◌<◌, ℕ, Bool, true, not, ◌||◌, List, length}
 use Rattle.flow_graph.specs.declared.nodes.Node.{Node}
+use Rattle.flow_graph.specs.Graphs.{GraphShape}
 use Rattle.flow_graph.specs.Paths.{HasEdge, Trace}
-use Rattle.motion_rewrite.specs.Placements.{Serves}
+use Rattle.path_laws.specs.Paths.{Tell, has_bit, width}
+use Rattle.motion_rewrite.specs.Placements.{ReachesAlong}
 
--- every path from Start to n has, before n, a use such that neither it nor a later node before n kills
-abbrev pub IsServed : List Node → (ℕ → Bool) → (ℕ → Bool) → ℕ → Type 0
-IsServed nodes used killed n = (before : List ℕ) → Trace nodes n before → Serves (λ m. used m ≡ true) killed before
+-- ---- one bit
 
--- the node kills, or is neither up nor down
-abbrev pub is_bar : Bool → Bool → Bool → Bool
-is_bar killed up down = killed || not (up || down)
+-- available: every path from Start to n has, before n, a use such that neither it nor a later node before n kills
+abbrev pub IsAvailableBit : List Node → (ℕ → Bool) → (ℕ → Bool) → ℕ → Type 0
+IsAvailableBit nodes used killed n = (before : List ℕ) → Trace nodes n before → ReachesAlong (λ m. used m ≡ true) killed before
 
--- n is down, and some predecessor is a bar
-abbrev pub IsEarly : List Node → (ℕ → Bool) → (ℕ → Bool) → (ℕ → Bool) → ℕ → Type 0
-IsEarly nodes killed up down n = (down n ≡ true) × ((m : ℕ) × HasEdge nodes m n × (is_bar (killed m) (up m) (down m) ≡ true))
+-- blocking: the node kills, or is neither up nor down, so nothing is evaluated before it for what follows it
+abbrev pub is_blocking : Bool → Bool → Bool → Bool
+is_blocking killed up down = killed || not (up || down)
+
+-- earliest: n is down, and some predecessor is blocking
+abbrev pub IsEarliestBit : List Node → (ℕ → Bool) → (ℕ → Bool) → (ℕ → Bool) → ℕ → Type 0
+IsEarliestBit nodes killed up down n = (down n ≡ true) × ((m : ℕ) × HasEdge nodes m n × (is_blocking (killed m) (up m) (down m) ≡ true))
+
+-- ---- all bits
+
+-- the rows say where each bit is available
+abbrev pub AreAvailableRows : GraphShape → List (List Bool) → List (List Bool) → List (List Bool) → Type 0
+AreAvailableRows graph uses kills rows = Tell graph (width kills) rows (λ b. IsAvailableBit graph.nodes (has_bit uses b) (has_bit kills b))
+
+-- the rows say where each bit is blocking
+abbrev pub AreBlockingRows : List (List Bool) → List (List Bool) → List (List Bool) → List (List Bool) → Type 0
+AreBlockingRows kills up down rows = (n b : ℕ) → n < length kills → b < width kills → has_bit rows b n ≡ is_blocking (has_bit kills b n) (has_bit up b n) (has_bit down b n)
+
+-- the rows say where each bit is earliest
+abbrev pub AreEarliestRows : GraphShape → List (List Bool) → List (List Bool) → List (List Bool) → List (List Bool) → Type 0
+AreEarliestRows graph kills up down rows = Tell graph (width kills) rows (λ b. IsEarliestBit graph.nodes (has_bit kills b) (has_bit up b) (has_bit down b))

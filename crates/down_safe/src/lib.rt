@@ -13,8 +13,6 @@ mod nodes;
 mod placement;
 mod rule;
 mod safety;
-#[cfg(test)]
-mod tests;
 
 pub use nodes::busy;
 pub use placement::busy_placement;

@@ -1,10 +1,9 @@
 // The busy placement.
-ghost use Rattle.std.specs.Prelude.{◌≡◌, ℕ, length, slice_get, IfOk, Some};
-ghost use Rattle.mir_base.specs.declared.instructions.Expr.{Expr};
+ghost use Rattle.std.specs.Prelude.{◌≡◌, length, IfOk};
 ghost use Rattle.flow_graph.specs.Edges.{IsSplit, edges_of};
-ghost use Rattle.path_laws.specs.Paths.{AreRows};
-ghost use Rattle.motion_rewrite.specs.Placements.{IsAdmissible, places_of};
-ghost use Rattle.down_safe.specs.Busy.{IsBusy};
+ghost use Rattle.path_laws.specs.Paths.{HaveShape};
+ghost use Rattle.motion_rewrite.specs.Placements.{AreAdmissible};
+ghost use Rattle.down_safe.specs.Busy.{AreBusy};
 
 use crate::{DownRule, busy};
 use flow_graph::{Edges, Graph};
@@ -12,8 +11,8 @@ use mir_base::Memory;
 use motion_rewrite::{ExprTable, Placement};
 use std::alloc::Global;
 
-/// The busy placement of each expression of the table: it inserts at the earliest nodes and replaces every use. The graph
-/// is split, and `edges` are those of `graph`. Its only refusal is want of memory. It is the busy code motion of Knoop,
+/// The busy placement of each expression of the table: it inserts at the earliest nodes and replaces every use. The
+/// graph is split, and `edges` are those of `graph`. It fails only with `Memory`. It is the busy code motion of Knoop,
 /// Ruething and Steffen, *Optimal Code Motion: Theory and Practice*, TOPLAS 1994.
 pub fn busy_placement<R: DownRule>(
     alloc: Global,
@@ -24,10 +23,11 @@ pub fn busy_placement<R: DownRule>(
 ) -> Result<Placement, Memory>
     requires split { IsSplit graph.now.nodes }
     requires edges { edges.now ≡ edges_of graph.now.nodes }
-    ensures insert { IfOk result (λ p. AreRows (length graph.now.nodes) (length table.now) p.insert) }
-    ensures replace { IfOk result (λ p. AreRows (length graph.now.nodes) (length table.now) p.replace) }
-    ensures busy { IfOk result (λ p. (i : ℕ) (e : Expr) → slice_get table.now i ≡ Some e → IsBusy graph.now e (R.is_down rule.now graph.now e) (places_of p i)) }
-    ensures admissible { IfOk result (λ p. (i : ℕ) (e : Expr) → slice_get table.now i ≡ Some e → IsAdmissible graph.now e (R.is_down rule.now graph.now e) (places_of p i)) }
+    ensures insert { IfOk result (λ p. HaveShape graph.now (length table.now) p.insert) }
+    ensures replace { IfOk result (λ p. HaveShape graph.now (length table.now) p.replace) }
+    ensures busy { IfOk result (AreBusy graph.now table.now (R.is_down rule.now graph.now)) }
+    ensures admissible { IfOk result
+        (AreAdmissible graph.now table.now (R.is_down rule.now graph.now)) }
 {
     let busy = busy(alloc, rule, graph, edges, table)?;
     // The proof needs what holds of every graph: that each node is reached.

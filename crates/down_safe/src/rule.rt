@@ -1,13 +1,13 @@
 // Down rules.
-ghost use Rattle.std.specs.Prelude.{◌≡◌, ℕ, ◌<◌, ◌↔◌, true, List, length, slice_get, IfOk, Some};
+ghost use Rattle.std.specs.Prelude.{◌≡◌, ℕ, IfOk};
 ghost use Rattle.mir_base.specs.declared.instructions.Expr.{Expr};
 ghost use Rattle.flow_graph.specs.Edges.{IsSplit, edges_of};
-ghost use Rattle.flow_graph.specs.Graphs.{GraphShape, IsGraph};
-ghost use Rattle.path_laws.specs.Paths.{AreRows, has_bit};
+ghost use Rattle.flow_graph.specs.Graphs.{GraphShape};
 ghost use Rattle.motion_rewrite.specs.Expressions.{kills, uses};
-ghost use Rattle.motion_rewrite.specs.Rows.{AreRowsOf};
-ghost use Rattle.motion_rewrite.specs.Placements.{DownLaws, IsAnticipatable};
+ghost use Rattle.motion_rewrite.specs.Rows.{AreRowsOf, AreRowsWhere};
+ghost use Rattle.motion_rewrite.specs.Placements.{IsAnticipatable};
 ghost use Rattle.down_safe.specs.EveryPathLaws.{every_path_laws};
+ghost use Rattle.down_safe.specs.Rules.{HasDownLaws};
 
 use bit_rows::Rows;
 use flow_graph::{Edges, Graph};
@@ -21,9 +21,9 @@ use std::alloc::Global;
 pub trait DownRule {
     ghost is_down: { Self → GraphShape → Expr → ℕ → Type 0 };
 
-    /// At which nodes each expression of the table is down: one row for each node, one bit for each expression. The graph
-    /// is split, `edges` are those of `graph`, and `used` and `killed` are the rows of where each expression is used and
-    /// killed. Its only refusal is want of memory.
+    /// At which nodes each expression of the table is down: one row for each node, one bit for each expression. The
+    /// graph is split, `edges` are those of `graph`, and `used` and `killed` are the rows of where each expression is
+    /// used and killed. It fails only with `Memory`.
     fn down(
         &self,
         alloc: Global,
@@ -37,10 +37,9 @@ pub trait DownRule {
         requires edges { edges.now ≡ edges_of graph.now.nodes }
         requires used { AreRowsOf graph.now table.now (uses graph.now) used.now }
         requires killed { AreRowsOf graph.now table.now (kills graph.now) killed.now }
-        ensures shape { IfOk result (λ rows. AreRows (length graph.now.nodes) (length table.now) rows) }
-        ensures down { IfOk result (λ rows. (n i : ℕ) (e : Expr) → n < length graph.now.nodes → slice_get table.now i ≡ Some e → (has_bit rows i n ≡ true) ↔ is_down self.now graph.now e n) };
+        ensures { IfOk result (AreRowsWhere graph.now table.now (is_down self.now graph.now)) };
 
-    ghost laws: { (rule : Self) (graph : GraphShape) → IsGraph graph.vars graph.received graph.nodes → IsSplit graph.nodes → (e : Expr) → DownLaws graph e (is_down rule graph e) };
+    ghost laws: { (rule : Self) → HasDownLaws (is_down rule) };
 }
 
 /// The rule of anticipatable expressions: a node is down where every path from it that ends at its first killing node, or

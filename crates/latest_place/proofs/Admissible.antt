@@ -5,21 +5,23 @@ use Rattle.flow_graph.specs.Graphs.{GraphShape}
 use Rattle.flow_graph.specs.Paths.{HasEdge, IsPath, Trace, from_start, goes_on}
 use Rattle.motion_rewrite.specs.Expressions.{kills, uses}
 use Rattle.motion_rewrite.specs.PlacementLaws.{killing_not_down}
-use Rattle.motion_rewrite.specs.Placements.{DownLaws, IsAdmissible, IsSafe, Places, Serves}
+use Rattle.motion_rewrite.specs.Placements.{DownLaws, IsAdmissible, IsAvailableAfter, IsSafe, Places, ReachesAlong}
 use Rattle.down_safe.specs.Busy.{IsEarliest}
 use Rattle.latest_place.specs.Lazy.{ComesToUse, IsDelayed, IsLatest, IsLazy}
-use Rattle.latest_place.specs.Stable.{Stable, stable_of_dec, dec_is, dec_or, dec_both, by_cases, split_bit}
+use Rattle.latest_place.specs.Stable.{Stable, stable_of_dec, dec_is, dec_or, dec_both, stable_cases, split_bit}
 use Rattle.latest_place.specs.Walks.{Walks, trace_below}
 
-pub dec_serves : (good bad : ℕ → Bool) (before : List ℕ) → Dec (Serves (λ m. good m ≡ true) bad before)
-dec_serves good bad [] = no (λ h. h)
-dec_serves good bad (m ∷ before) = dec_both (dec_is (bad m) false) (dec_or (dec_is (good m) true) (dec_serves good bad before))
+-- that a good node reaches along a path can be tested
+pub dec_reaches : (good bad : ℕ → Bool) (before : List ℕ) → Dec (ReachesAlong (λ m. good m ≡ true) bad before)
+dec_reaches good bad [] = no (λ h. h)
+dec_reaches good bad (m ∷ before) = dec_both (dec_is (bad m) false) (dec_or (dec_is (good m) true) (dec_reaches good bad before))
 
 -- a path leaves n and comes, through nodes that are not latest, to a use that is not latest
 abbrev pub IsNeeded : GraphShape → Expr → (ℕ → Type 0) → ℕ → Type 0
 IsNeeded graph e Down n = (path : List ℕ) × IsPath graph.nodes (n ∷ path) × ComesToUse graph e Down path
 
 module _ (graph : GraphShape) (walks : Walks graph) (e : Expr) (Down : ℕ → Type 0) where
+  -- by the use at a successor, or by what a successor needs
   pub needed_at_once : (n s : ℕ) → HasEdge graph.nodes n s → ¬ (IsLatest graph e Down s) → uses graph e s ≡ true → IsNeeded graph e Down n
   needed_at_once n s edge not_latest used = (s ∷ [], (edge, walks.targets_below n s edge), (not_latest, used))
 
@@ -31,11 +33,12 @@ module _ (graph : GraphShape) (walks : Walks graph) (e : Expr) (Down : ℕ → T
       through (k ∷ path) comes = (not_latest, comes)
 
   module _ (laws : DownLaws graph e Down) where
+    -- Start is not down
     pub start_not_down : ¬ (Down 0)
     start_not_down = killing_not_down graph e Down laws 0 walks.start_below (walks.start_kills e) (walks.start_unused e)
 
     -- what an earliest node leads to without a use is down
-    pub delayed_down : (n : ℕ) (before : List ℕ) → Trace graph.nodes n before → IsEarliest graph e Down n ⊎ Serves (IsEarliest graph e Down) (uses graph e) before → Down n
+    pub delayed_down : (n : ℕ) (before : List ℕ) → Trace graph.nodes n before → IsEarliest graph e Down n ⊎ ReachesAlong (IsEarliest graph e Down) (uses graph e) before → Down n
     delayed_down n [] t o = elim o [ inl early ↦ early.0 | inr s ↦ absurd s ]
     delayed_down n (m ∷ before) (goes_on m0 n0 before0 t edge) o =
         elim o [ inl early ↦ early.0 | inr s ↦ laws.onward m n (delayed_down m before t s.1) s.0 edge ]
@@ -46,16 +49,17 @@ module _ (graph : GraphShape) (walks : Walks graph) (e : Expr) (Down : ℕ → T
 
     -- what stands before n and makes an insertion sure
     abbrev pub Behind : ℕ → List ℕ → Type 0
-    Behind n before = (Down n × ¬ (IsDelayed graph e Down n)) ⊎ Serves (λ m. uses graph e m ≡ true) (kills graph e) before
+    Behind n before = (Down n × ¬ (IsDelayed graph e Down n)) ⊎ IsAvailableAfter graph e (λ m. uses graph e m ≡ true) before
 
     module _ (p : Places) (is : IsLazy graph e Down p) where
-      pub serves : (n : ℕ) (before : List ℕ) → Trace graph.nodes n before → ¬ (IsLatest graph e Down n) → Ahead n → Behind n before
-          → Serves (λ m. p.inserts m ≡ true) (kills graph e) before
-      serves n before from_start not_latest ahead behind = elim behind [ inl d ↦ absurd (start_not_down d.0) | inr s ↦ absurd s ]
-      serves n before (goes_on m n0 path t edge) not_latest ahead behind =
+      -- so before a node that is not latest, with a use ahead of it, an insertion has made e available
+      pub inserted_before : (n : ℕ) (before : List ℕ) → Trace graph.nodes n before → ¬ (IsLatest graph e Down n) → Ahead n → Behind n before
+          → IsAvailableAfter graph e (λ m. p.inserts m ≡ true) before
+      inserted_before n before from_start not_latest ahead behind = elim behind [ inl d ↦ absurd (start_not_down d.0) | inr s ↦ absurd s ]
+      inserted_before n before (goes_on m n0 path t edge) not_latest ahead behind =
           stable (λ none.
           let from : kills graph e m ≡ false → Behind m path → ⊥ =
-          λ keeps back. none (keeps, inr (serves m path t (not_here none keeps) (inr needed) back)) in
+          λ keeps back. none (keeps, inr (inserted_before m path t (not_here none keeps) (inr needed) back)) in
           elim behind [
             | inl d ↦ split_bit (kills graph e m)
                 (λ kill. d.1 (λ path' t'. inl (d.0, (m, edge, inl kill))))
@@ -76,28 +80,29 @@ module _ (graph : GraphShape) (walks : Walks graph) (e : Expr) (Down : ℕ → T
             ]
           ])
         where
-          stable : Stable (Serves (λ k. p.inserts k ≡ true) (kills graph e) (m ∷ path))
-          stable = stable_of_dec (dec_serves p.inserts (kills graph e) (m ∷ path))
+          stable : Stable (IsAvailableAfter graph e (λ k. p.inserts k ≡ true) (m ∷ path))
+          stable = stable_of_dec (dec_reaches p.inserts (kills graph e) (m ∷ path))
 
           needed : IsNeeded graph e Down m
           needed = elim ahead [ inl used ↦ needed_at_once m n edge not_latest used | inr more ↦ needed_later m n edge not_latest more ]
 
-          not_here : ¬ (Serves (λ k. p.inserts k ≡ true) (kills graph e) (m ∷ path)) → kills graph e m ≡ false → ¬ (IsLatest graph e Down m)
+          not_here : ¬ (IsAvailableAfter graph e (λ k. p.inserts k ≡ true) (m ∷ path)) → kills graph e m ≡ false → ¬ (IsLatest graph e Down m)
           not_here none keeps latest = none (keeps, inl ((is.inserts_at m (walks.sources_below m n edge)).1 (latest, λ isolated. isolated needed.0 needed.1 needed.2)))
 
+      -- the theorem
       pub lazy_admissible : IsAdmissible graph e Down p
-      lazy_admissible = record { replaced_uses = λ n below r. ((is.replaces_at n below).0 r).0; safe = safe_at; served = served_at }
+      lazy_admissible = record { replaced_uses = λ n below r. ((is.replaces_at n below).0 r).0; safe = safe_at; available = available_at }
         where
           safe_at : (n : ℕ) → n < length graph.nodes → p.inserts n ≡ true → IsSafe graph e Down n
           safe_at n below i =
               let reach = walks.reached n below in
               inr (delayed_down n reach.0 reach.1 (((is.inserts_at n below).0 i).0.0 reach.0 reach.1))
 
-          served_at : (n : ℕ) (before : List ℕ) → p.replaces n ≡ true → Trace graph.nodes n before → (p.inserts n ≡ true) ⊎ Serves (λ m. p.inserts m ≡ true) (kills graph e) before
-          served_at n before r t =
+          available_at : (n : ℕ) (before : List ℕ) → p.replaces n ≡ true → Trace graph.nodes n before → (p.inserts n ≡ true) ⊎ IsAvailableAfter graph e (λ m. p.inserts m ≡ true) before
+          available_at n before r t =
               let below = trace_below graph walks n before t in
-              by_cases (IsLatest graph e Down n) (stable_of_dec (dec_or (dec_is (p.inserts n) true) (dec_serves p.inserts (kills graph e) before)))
+              stable_cases (IsLatest graph e Down n) (stable_of_dec (dec_or (dec_is (p.inserts n) true) (dec_reaches p.inserts (kills graph e) before)))
               (λ latest. inl ((is.inserts_at n below).1 (latest, λ isolated. ((is.replaces_at n below).0 r).1 (latest, isolated))))
               (λ not_latest.
               let used = ((is.replaces_at n below).0 r).0 in
-              inr (serves n before t not_latest (inl used) (inl (laws.used n below used, λ delayed. not_latest (delayed, inl used)))))
+              inr (inserted_before n before t not_latest (inl used) (inl (laws.used n below used, λ delayed. not_latest (delayed, inl used)))))

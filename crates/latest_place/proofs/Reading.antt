@@ -1,18 +1,19 @@
--- The rows give the lazy placement.
+-- The rows give the lazy placement: the bits of one expression say where it is delayed, latest and needed, one after the
+-- other, and the placement that is made of them is the lazy one.
 use Rattle.std.proofs.Common.{◌≡◌, ◌<◌, ◌↔◌, ◌&&◌, not, ℕ, Bool, true, false, refl, sym, subst, ◌∙◌, inl, inr, List, [], ◌∷◌, length}
 use Rattle.mir_base.specs.declared.instructions.Expr.{Expr}
 use Rattle.flow_graph.specs.Graphs.{GraphShape}
 use Rattle.flow_graph.specs.Paths.{Begins, HasEdge, IsPath, Trace, goes_on}
 use Rattle.path_laws.specs.Paths.{EndsBorn, Since}
 use Rattle.motion_rewrite.specs.Expressions.{uses}
-use Rattle.motion_rewrite.specs.Placements.{Places, Serves}
+use Rattle.motion_rewrite.specs.Placements.{Places, ReachesAlong}
 use Rattle.down_safe.specs.Busy.{IsEarliest}
 use Rattle.latest_place.specs.Lazy.{ComesToUse, IsDelayed, IsIsolated, IsLatest, IsLazy}
 use Rattle.latest_place.specs.Rows.{IsDelayedBit, IsLatestBit, IsNeededBit}
-use Rattle.latest_place.proofs.Admissible.{IsNeeded}
-use Rattle.latest_place.proofs.Says.{both_say, not_says, off_says}
 use Rattle.latest_place.specs.Stable.{not_both, split_bit}
 use Rattle.latest_place.specs.Walks.{Walks}
+use Rattle.latest_place.proofs.Admissible.{IsNeeded}
+use Rattle.latest_place.proofs.Says.{both_say, not_says, off_says}
 
 -- the bits of one expression, by node, each read from those before it
 pub record AreLazyBits (graph : GraphShape) (e : Expr) (Down : ℕ → Type 0) (early used delayed latest needed : ℕ → Bool) (p : Places) : Type 0 where
@@ -28,24 +29,24 @@ module _ (graph : GraphShape) (walks : Walks graph) (e : Expr) (Down : ℕ → T
     (rows : AreLazyBits graph e Down early used delayed latest needed p) where
   -- ---- delayed
 
-  since_serves : (n : ℕ) (before : List ℕ) → Trace graph.nodes n before → Since (λ m. early m && not (used m)) used before → Serves (IsEarliest graph e Down) (uses graph e) before
-  since_serves n [] t h = absurd h
-  since_serves n (m ∷ before) (goes_on m0 n0 before0 t edge) h =
+  reaches_from_since : (n : ℕ) (before : List ℕ) → Trace graph.nodes n before → Since (λ m. early m && not (used m)) used before → ReachesAlong (IsEarliest graph e Down) (uses graph e) before
+  reaches_from_since n [] t h = absurd h
+  reaches_from_since n (m ∷ before) (goes_on m0 n0 before0 t edge) h =
       let below = walks.sources_below m n edge in
       let free : used m ≡ false → uses graph e m ≡ false = λ off. sym (rows.used_is m below) ∙ off in
       elim h [
         | inl here ↦ (let both = (both_say (early m) (not (used m))).0 here in (free ((not_says (used m)).0 both.1), inl ((rows.early_is m below).0 both.0)))
-        | inr more ↦ (free more.0, inr (since_serves m before t more.1))
+        | inr more ↦ (free more.0, inr (reaches_from_since m before t more.1))
       ]
 
-  serves_since : (n : ℕ) (before : List ℕ) → Trace graph.nodes n before → Serves (IsEarliest graph e Down) (uses graph e) before → Since (λ m. early m && not (used m)) used before
-  serves_since n [] t h = absurd h
-  serves_since n (m ∷ before) (goes_on m0 n0 before0 t edge) h =
+  since_from_reaches : (n : ℕ) (before : List ℕ) → Trace graph.nodes n before → ReachesAlong (IsEarliest graph e Down) (uses graph e) before → Since (λ m. early m && not (used m)) used before
+  since_from_reaches n [] t h = absurd h
+  since_from_reaches n (m ∷ before) (goes_on m0 n0 before0 t edge) h =
       let below = walks.sources_below m n edge in
       let off : used m ≡ false = rows.used_is m below ∙ h.0 in
       elim h.1 [
         | inl here ↦ inl ((both_say (early m) (not (used m))).1 ((rows.early_is m below).1 here, (not_says (used m)).1 off))
-        | inr more ↦ inr (off, serves_since m before t more)
+        | inr more ↦ inr (off, since_from_reaches m before t more)
       ]
 
   delayed_says : (n : ℕ) → n < length graph.nodes → (delayed n ≡ true) ↔ IsDelayed graph e Down n
@@ -54,13 +55,13 @@ module _ (graph : GraphShape) (walks : Walks graph) (e : Expr) (Down : ℕ → T
       to : delayed n ≡ true → IsDelayed graph e Down n
       to on before t = elim ((rows.delayed_is n below).0 on) [
         | inl here ↦ inl ((rows.early_is n below).0 here)
-        | inr run ↦ inr (since_serves n before t (run before t))
+        | inr run ↦ inr (reaches_from_since n before t (run before t))
       ]
 
       from : IsDelayed graph e Down n → delayed n ≡ true
       from d = (rows.delayed_is n below).1 (split_bit (early n)
           (λ on. inl on)
-          (λ off. inr (λ before t. serves_since n before t (elim (d before t) [
+          (λ off. inr (λ before t. since_from_reaches n before t (elim (d before t) [
             | inl here ↦ not_both ((rows.early_is n below).1 here) off
             | inr s ↦ s
           ]))))

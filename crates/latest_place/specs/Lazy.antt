@@ -1,16 +1,19 @@
--- The lazy placement: as late as the earliest insertions can be delayed, and only where a use needs them.
+-- The lazy placement: as late as the earliest insertions can be delayed, and only where a use needs them. Cited by
+-- contracts.
 use Rattle.std.specs.Prelude.{◌≡◌, ◌⊎◌, ◌↔◌, ◌<◌, ℕ, true, List, [], ◌∷◌, length}
 use Rattle.mir_base.specs.declared.instructions.Expr.{Expr}
 use Rattle.flow_graph.specs.Graphs.{GraphShape}
 use Rattle.flow_graph.specs.Paths.{HasEdge, IsPath, Trace}
+use Rattle.motion_rewrite.specs.declared.placement.Placement.{Placement}
 use Rattle.motion_rewrite.specs.Expressions.{uses}
-use Rattle.motion_rewrite.specs.Placements.{Places, Serves}
+use Rattle.motion_rewrite.specs.Placements.{Places, ReachesAlong, places_of}
+use Rattle.motion_rewrite.specs.Tables.{ForEachExpr}
 use Rattle.down_safe.specs.Busy.{IsEarliest}
 
 -- every path from Start to n has a node, which may be n, that is earliest, such that no node from it up to the one before
 -- n uses e
 abbrev pub IsDelayed : GraphShape → Expr → (ℕ → Type 0) → ℕ → Type 0
-IsDelayed graph e Down n = (before : List ℕ) → Trace graph.nodes n before → IsEarliest graph e Down n ⊎ Serves (IsEarliest graph e Down) (uses graph e) before
+IsDelayed graph e Down n = (before : List ℕ) → Trace graph.nodes n before → IsEarliest graph e Down n ⊎ ReachesAlong (IsEarliest graph e Down) (uses graph e) before
 
 -- n is delayed, and uses e or has a successor that is not delayed
 abbrev pub IsLatest : GraphShape → Expr → (ℕ → Type 0) → ℕ → Type 0
@@ -30,3 +33,7 @@ IsIsolated graph e Down n = (path : List ℕ) → IsPath graph.nodes (n ∷ path
 pub record IsLazy (graph : GraphShape) (e : Expr) (Down : ℕ → Type 0) (p : Places) : Type 0 where
   pub inserts_at : (n : ℕ) → n < length graph.nodes → (p.inserts n ≡ true) ↔ (IsLatest graph e Down n × (IsIsolated graph e Down n → ⊥))
   pub replaces_at : (n : ℕ) → n < length graph.nodes → (p.replaces n ≡ true) ↔ ((uses graph e n ≡ true) × (IsLatest graph e Down n × IsIsolated graph e Down n → ⊥))
+
+-- the placement is the lazy one of each expression of the table
+abbrev pub AreLazy : GraphShape → List Expr → (Expr → ℕ → Type 0) → Placement → Type 0
+AreLazy graph table Down p = ForEachExpr table (λ i e. IsLazy graph e (Down e) (places_of p i))

@@ -1,15 +1,14 @@
--- There is one lazy placement.
-use Rattle.std.proofs.Common.{◌≡◌, ℕ, ◌<◌, Bool, true, false, List, [], length, slice_get, Some, refl, sym, ap, ◌∙◌, arith, true≢false}
+-- There is one lazy placement. For proofs only.
+use Rattle.std.proofs.Common.{◌≡◌, ℕ, ◌<◌, Bool, true, false, List, [], length, refl, sym, ap, ◌∙◌, arith, true≢false}
 use Rattle.std.specs.Prelude.{◌↔◌}
 use Rattle.std.proofs.lemmas.List.{ext_get_or}
 use Rattle.mir_base.specs.declared.instructions.Expr.{Expr}
-use Rattle.flow_graph.specs.InsertionNodes.{some_at}
-use Rattle.flow_graph.specs.Graphs.{GraphShape}
 use Rattle.bit_rows.specs.Bits.{row_of}
-use Rattle.path_laws.specs.Paths.{AreRows, has_bit}
+use Rattle.flow_graph.specs.ListLaws.{some_at}
+use Rattle.flow_graph.specs.Graphs.{GraphShape}
+use Rattle.path_laws.specs.Paths.{AreRows, HaveShape, has_bit}
 use Rattle.motion_rewrite.specs.declared.placement.Placement.{Placement}
-use Rattle.motion_rewrite.specs.Placements.{places_of}
-use Rattle.latest_place.specs.Lazy.{IsLazy}
+use Rattle.latest_place.specs.Lazy.{AreLazy}
 
 -- rows of equal shape that have the same bits are equal
 pub rows_are_one : (nodes bits : ℕ) (a b : List (List Bool)) → AreRows nodes bits a → AreRows nodes bits b → ((n i : ℕ) → n < nodes → i < bits → has_bit a i n ≡ has_bit b i n) → a ≡ b
@@ -18,15 +17,17 @@ rows_are_one nodes bits a b p q same =
     let within : n < nodes = omega (arith, lt, p.len) in
     ext_get_or false (row_of a n) (row_of b n) (p.each n within ∙ sym (q.each n within)) (λ i lt'. same n i within (omega (arith, lt', p.each n within))))
 
+-- bits that are set under one statement are equal
 one_bit : (P : Type 0) (x y : Bool) → (x ≡ true) ↔ P → (y ≡ true) ↔ P → x ≡ y
 one_bit P true true p q = refl
 one_bit P false false p q = refl
 one_bit P true false p q = absurd (true≢false (sym (q.1 (p.0 refl))))
 one_bit P false true p q = absurd (true≢false (sym (p.1 (q.0 refl))))
 
+-- two lazy placements have the same bits
 pub lazy_is_one : (graph : GraphShape) (table : List Expr) (Down : Expr → ℕ → Type 0) (p q : Placement)
-    → AreRows (length graph.nodes) (length table) p.insert → AreRows (length graph.nodes) (length table) p.replace → AreRows (length graph.nodes) (length table) q.insert → AreRows (length graph.nodes) (length table) q.replace
-    → ((i : ℕ) (e : Expr) → slice_get table i ≡ Some e → IsLazy graph e (Down e) (places_of p i)) → ((i : ℕ) (e : Expr) → slice_get table i ≡ Some e → IsLazy graph e (Down e) (places_of q i)) → p ≡ q
+    → HaveShape graph (length table) p.insert → HaveShape graph (length table) p.replace → HaveShape graph (length table) q.insert → HaveShape graph (length table) q.replace
+    → AreLazy graph table Down p → AreLazy graph table Down q → p ≡ q
 lazy_is_one graph table Down p q pi pr qi qr lazy lazy' =
     ap (λ x. record p { insert = x }) (rows_are_one (length graph.nodes) (length table) p.insert q.insert pi qi (λ n i lt lt'.
     let e = some_at table i lt' in

@@ -1,9 +1,14 @@
--- What rows of bits say from which the lazy placement is read. A bit stands for an expression, and says by node where it is
--- earliest, used, delayed or latest.
+-- What rows of bits say from which the lazy placement is read, of one bit and of all. A bit stands for an expression, and
+-- says by node where it is earliest, used, delayed or latest. Cited by contracts of private functions.
 use Rattle.std.specs.Prelude.{◌≡◌, ◌⊎◌, ◌&&◌, ℕ, Bool, true, false, not, List}
 use Rattle.flow_graph.specs.declared.nodes.Node.{Node}
+use Rattle.flow_graph.specs.Edges.{edges_of}
+use Rattle.flow_graph.specs.Graphs.{GraphShape}
 use Rattle.flow_graph.specs.Paths.{HasEdge}
-use Rattle.path_laws.specs.Paths.{BornAhead, BornBefore}
+use Rattle.path_laws.specs.Paths.{BornAhead, BornBefore, HaveShape, Tell, has_bit, width}
+use Rattle.latest_place.specs.declared.nodes.Uses.{Uses}
+
+-- ---- one bit
 
 -- n is earliest, or every path to n has an earliest node before n such that no node from it on uses
 abbrev pub IsDelayedBit : List Node → (ℕ → Bool) → (ℕ → Bool) → ℕ → Type 0
@@ -16,3 +21,31 @@ IsLatestBit nodes delayed uses n = (delayed n ≡ true) × ((uses n ≡ true) �
 -- from some successor of n a path comes, through nodes that are not latest, to a use that is not latest
 abbrev pub IsNeededBit : List Node → (ℕ → Bool) → (ℕ → Bool) → ℕ → Type 0
 IsNeededBit nodes latest uses n = (s : ℕ) × HasEdge nodes n s × BornAhead nodes (λ m. uses m && not (latest m)) latest s
+
+-- ---- all bits
+
+-- with the edges of the graph, one row for each node in both, and as many bits in the uses as in these rows
+pub record AreLikeUses (uses : Uses) (rows : List (List Bool)) : Type 0 where
+  pub edges_are : uses.edges.now ≡ edges_of uses.graph.now.nodes
+  pub rows_are : HaveShape uses.graph.now (width rows) rows
+  pub uses_are : HaveShape uses.graph.now (width rows) uses.rows.now
+
+-- the rows say where each bit is delayed
+abbrev pub AreDelayedRows : GraphShape → List (List Bool) → List (List Bool) → List (List Bool) → Type 0
+AreDelayedRows graph early uses rows = Tell graph (width early) rows (λ b. IsDelayedBit graph.nodes (has_bit early b) (has_bit uses b))
+
+-- the rows say where each bit is latest
+abbrev pub AreLatestRows : GraphShape → List (List Bool) → List (List Bool) → List (List Bool) → Type 0
+AreLatestRows graph delayed uses rows = Tell graph (width delayed) rows (λ b. IsLatestBit graph.nodes (has_bit delayed b) (has_bit uses b))
+
+-- the rows say where each bit is needed
+abbrev pub AreNeededRows : GraphShape → List (List Bool) → List (List Bool) → List (List Bool) → Type 0
+AreNeededRows graph latest uses rows = Tell graph (width latest) rows (λ b. IsNeededBit graph.nodes (has_bit latest b) (has_bit uses b))
+
+-- the rows have the latest bits that are needed
+abbrev pub AreInsertedRows : List (List Bool) → List (List Bool) → List (List Bool) → Type 0
+AreInsertedRows latest needed rows = (n b : ℕ) → has_bit rows b n ≡ (has_bit latest b n && has_bit needed b n)
+
+-- the rows have the used bits that are not both latest and not needed
+abbrev pub AreReplacedRows : List (List Bool) → List (List Bool) → List (List Bool) → List (List Bool) → Type 0
+AreReplacedRows uses latest needed rows = (n b : ℕ) → has_bit rows b n ≡ (has_bit uses b n && not (has_bit latest b n && not (has_bit needed b n)))

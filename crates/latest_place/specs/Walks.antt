@@ -1,5 +1,5 @@
--- What is used of a split graph: where its edges lead, and that into each node lead edges from one node alone, or from
--- Skips alone.
+-- What the proofs use of a split graph: where its edges lead, and that into each node lead edges from one node alone, or from
+-- Skips alone. For proofs only.
 use Rattle.std.proofs.Common.{◌≡◌, ◌<◌, ◌⊎◌, ℕ, zero, suc, true, false, List, [], ◌∷◌, length, slice_get, Option, Some, inl, inr, sym, ap, ◌∙◌, arith}
 use Rattle.std.proofs.Math.Decide.{dec_lt}
 use Rattle.std.proofs.lemmas.Option.{none-some, slice_get_within}
@@ -11,10 +11,11 @@ use Rattle.flow_graph.specs.Edges.{IsSplit, preds_of}
 use Rattle.flow_graph.specs.Graphs.{GraphShape, IsGraph, succs_of}
 use Rattle.flow_graph.specs.PathLaws.{reached_trace}
 use Rattle.flow_graph.specs.Paths.{HasEdge, Trace, from_start, goes_on}
-use Rattle.path_laws.specs.NetsLaws.{node_within}
+use Rattle.flow_graph.specs.BoundLaws.{edge_within}
 use Rattle.motion_rewrite.specs.ExpressionLaws.{start_kills, start_unused}
 use Rattle.motion_rewrite.specs.Expressions.{kills, uses}
 
+-- Start has no edge into it, uses nothing and kills all; edges join nodes that are there; each node is reached
 pub record Walks (graph : GraphShape) : Type 0 where
   pub start_below : 0 < length graph.nodes
   pub start_unentered : (m : ℕ) → HasEdge graph.nodes m 0 → ⊥
@@ -33,13 +34,14 @@ only_item (x ∷ []) zero (suc j) m k few here there = absurd (none-some _ there
 only_item (x ∷ []) (suc i) j m k few here there = absurd (none-some _ here)
 only_item (x ∷ y ∷ xs) i j m k few here there = absurd (few (omega arith))
 
+-- so it is of every split graph
 pub walks : (graph : GraphShape) → IsGraph graph.vars graph.received graph.nodes → IsSplit graph.nodes → Walks graph
 walks graph is_graph split = record {
   start_below = slice_get_within graph.nodes 0 _ is_graph.can.start.1;
   start_unentered = λ m edge. let above = (is_graph.can.succs m edge.0 0 edge.1).0 in absurd (omega arith);
   start_kills = λ e. start_kills graph e is_graph.can.start.0 0 is_graph.can.start.1;
   start_unused = λ e. start_unused graph e is_graph.can.start.0 0 is_graph.can.start.1;
-  sources_below = λ m n edge. node_within graph.nodes m edge.0 n edge.1;
+  sources_below = λ m n edge. edge_within graph.nodes m n edge;
   targets_below = λ m n edge. (is_graph.can.succs m edge.0 n edge.1).1;
   reached = λ n below. reached_trace graph.nodes n (is_graph.reached n below);
   one_or_skips = joins;

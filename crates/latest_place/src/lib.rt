@@ -7,7 +7,5 @@
 
 mod nodes;
 mod placement;
-#[cfg(test)]
-mod tests;
 
 pub use placement::lazy;

@@ -1,10 +1,9 @@
 // Where evaluations are delayed, latest and needed, and what is placed from that.
-ghost use Rattle.std.specs.Prelude.{◌≡◌, ℕ, ◌<◌, ◌↔◌, ◌&&◌, true, not, length, IfOk, OnOk};
-ghost use Rattle.flow_graph.specs.Edges.{edges_of};
-ghost use Rattle.flow_graph.specs.Graphs.{IsGraph};
-ghost use Rattle.path_laws.specs.Paths.{AreRows, has_bit, width};
+ghost use Rattle.std.specs.Prelude.{IfOk, OnOk};
 ghost use Rattle.bit_rows.specs.Bits.{AreAlike};
-ghost use Rattle.latest_place.specs.Rows.{IsDelayedBit, IsLatestBit, IsNeededBit};
+ghost use Rattle.flow_graph.specs.Graphs.{IsGraph};
+ghost use Rattle.path_laws.specs.Paths.{HaveShape, width};
+ghost use Rattle.latest_place.specs.Rows.{AreDelayedRows, AreInsertedRows, AreLatestRows, AreLikeUses, AreNeededRows, AreReplacedRows};
 
 use bit_rows::Rows;
 use flow_graph::{Edges, Graph};
@@ -12,76 +11,62 @@ use mir_base::Memory;
 use path_laws::{backward_some, forward_all, some_successor};
 use std::alloc::Global;
 
-/// Where an evaluation at the earliest nodes can be delayed to.
-pub(crate) fn delayed_rows(
-    alloc: Global,
-    graph: &Graph,
-    edges: &Edges,
-    early: &Rows,
-    uses: &Rows,
-) -> Result<Rows, Memory>
-    requires edges { edges.now ≡ edges_of graph.now.nodes }
-    requires early { AreRows (length graph.now.nodes) (width early.now) early.now }
-    requires uses { AreRows (length graph.now.nodes) (width early.now) uses.now }
-    ensures shape { IfOk result (λ rows. AreRows (length graph.now.nodes) (width early.now) rows) }
-    ensures bits { IfOk result (λ rows. (n b : ℕ) → n < length graph.now.nodes → b < width early.now → (has_bit rows b n ≡ true) ↔ IsDelayedBit graph.now.nodes (has_bit early.now b) (has_bit uses.now b) n) }
+/// Where the nodes of a graph use each bit.
+#[derive(Clone, Copy)]
+pub(crate) struct Uses<'a> {
+    pub(crate) graph: &'a Graph,
+    pub(crate) edges: &'a Edges,
+    pub(crate) rows: &'a Rows,
+}
+
+/// Where an evaluation at the earliest nodes can be delayed to: on every path to the node stands an earliest node, from which
+/// on no node before it uses the expression.
+pub(crate) fn delayed_rows(alloc: Global, uses: &Uses<'_>, early: &Rows) -> Result<Rows, Memory>
+    requires { AreLikeUses uses.now early.now }
+    ensures shape { IfOk result (HaveShape uses.now.graph.now (width early.now)) }
+    ensures bits { IfOk result (AreDelayedRows uses.now.graph.now early.now uses.now.rows.now) }
 {
     let mut born = early.copied(alloc)?;
-    born.minus_rows(uses);
-    let mut rows = forward_all(alloc, graph, edges, &born, uses)?;
+    born.minus_rows(uses.rows);
+    let mut rows = forward_all(alloc, uses.graph, uses.edges, &born, uses.rows)?;
     rows.or_rows(early);
     Ok(rows)
 }
 
-/// Where the delay ends.
-pub(crate) fn latest_rows(
-    alloc: Global,
-    graph: &Graph,
-    edges: &Edges,
-    delayed: &Rows,
-    uses: &Rows,
-) -> Result<Rows, Memory>
-    requires edges { edges.now ≡ edges_of graph.now.nodes }
-    requires delayed { AreRows (length graph.now.nodes) (width delayed.now) delayed.now }
-    requires uses { AreRows (length graph.now.nodes) (width delayed.now) uses.now }
-    ensures shape { IfOk result (λ rows. AreRows (length graph.now.nodes) (width delayed.now) rows) }
-    ensures bits { IfOk result (λ rows. (n b : ℕ) → n < length graph.now.nodes → b < width delayed.now → (has_bit rows b n ≡ true) ↔ IsLatestBit graph.now.nodes (has_bit delayed.now b) (has_bit uses.now b) n) }
+/// Where the delay ends: at a use, or before a node that it does not reach.
+pub(crate) fn latest_rows(alloc: Global, uses: &Uses<'_>, delayed: &Rows) -> Result<Rows, Memory>
+    requires { AreLikeUses uses.now delayed.now }
+    ensures shape { IfOk result (HaveShape uses.now.graph.now (width delayed.now)) }
+    ensures bits { IfOk result (AreLatestRows uses.now.graph.now delayed.now uses.now.rows.now) }
 {
     let mut undelayed = delayed.copied(alloc)?;
     undelayed.flip_rows(0);
-    let mut rows = some_successor(alloc, graph, edges, &undelayed)?;
-    rows.or_rows(uses);
+    let mut rows = some_successor(alloc, uses.graph, uses.edges, &undelayed)?;
+    rows.or_rows(uses.rows);
     rows.and_rows(delayed);
     Ok(rows)
 }
 
 /// Where what is evaluated is still used after the node.
-pub(crate) fn needed_rows(
-    alloc: Global,
-    graph: &Graph,
-    edges: &Edges,
-    latest: &Rows,
-    uses: &Rows,
-) -> Result<Rows, Memory>
-    requires edges { edges.now ≡ edges_of graph.now.nodes }
-    requires latest { AreRows (length graph.now.nodes) (width latest.now) latest.now }
-    requires uses { AreRows (length graph.now.nodes) (width latest.now) uses.now }
-    ensures graph { OnOk result (IsGraph graph.now.vars graph.now.received graph.now.nodes) }
-    ensures shape { IfOk result (λ rows. AreRows (length graph.now.nodes) (width latest.now) rows) }
-    ensures bits { IfOk result (λ rows. (n b : ℕ) → n < length graph.now.nodes → b < width latest.now → (has_bit rows b n ≡ true) ↔ IsNeededBit graph.now.nodes (has_bit latest.now b) (has_bit uses.now b) n) }
+pub(crate) fn needed_rows(alloc: Global, uses: &Uses<'_>, latest: &Rows) -> Result<Rows, Memory>
+    requires { AreLikeUses uses.now latest.now }
+    ensures graph { OnOk result
+        (IsGraph uses.now.graph.now.vars uses.now.graph.now.received uses.now.graph.now.nodes) }
+    ensures shape { IfOk result (HaveShape uses.now.graph.now (width latest.now)) }
+    ensures bits { IfOk result (AreNeededRows uses.now.graph.now latest.now uses.now.rows.now) }
 {
-    let mut born = uses.copied(alloc)?;
+    let mut born = uses.rows.copied(alloc)?;
     born.minus_rows(latest);
-    let ahead = backward_some(alloc, graph, edges, &born, latest)?;
-    let needed = some_successor(alloc, graph, edges, &ahead)?;
+    let ahead = backward_some(alloc, uses.graph, uses.edges, &born, latest)?;
+    let needed = some_successor(alloc, uses.graph, uses.edges, &ahead)?;
     Ok(needed)
 }
 
 /// The evaluations at the latest nodes that are needed.
 pub(crate) fn inserted_rows(alloc: Global, latest: &Rows, needed: &Rows) -> Result<Rows, Memory>
     requires { AreAlike latest.now needed.now }
-    ensures alike { IfOk result (λ rows. AreAlike latest.now rows) }
-    ensures bits { IfOk result (λ rows. (n b : ℕ) → has_bit rows b n ≡ (has_bit latest.now b n && has_bit needed.now b n)) }
+    ensures alike { IfOk result (AreAlike latest.now) }
+    ensures bits { IfOk result (AreInsertedRows latest.now needed.now) }
 {
     let mut rows = latest.copied(alloc)?;
     rows.and_rows(needed);
@@ -93,7 +78,7 @@ pub(crate) fn replaced_rows(uses: Rows, latest: Rows, needed: &Rows) -> Rows
     requires latest { AreAlike uses latest }
     requires needed { AreAlike latest needed.now }
     ensures alike { AreAlike uses result }
-    ensures bits { (n b : ℕ) → has_bit result b n ≡ (has_bit uses b n && not (has_bit latest b n && not (has_bit needed.now b n))) }
+    ensures bits { AreReplacedRows uses latest needed.now result }
 {
     let mut isolated = latest;
     isolated.minus_rows(needed);

@@ -1,12 +1,11 @@
 // The lazy placement of a table of expressions.
-ghost use Rattle.std.specs.Prelude.{◌≡◌, ℕ, length, slice_get, IfOk, Some};
-ghost use Rattle.mir_base.specs.declared.instructions.Expr.{Expr};
+ghost use Rattle.std.specs.Prelude.{◌≡◌, length, IfOk};
 ghost use Rattle.flow_graph.specs.Edges.{IsSplit, edges_of};
-ghost use Rattle.path_laws.specs.Paths.{AreRows};
-ghost use Rattle.motion_rewrite.specs.Placements.{CanFlatten, IsOptimal, places_of};
-ghost use Rattle.latest_place.specs.Lazy.{IsLazy};
+ghost use Rattle.path_laws.specs.Paths.{HaveShape};
+ghost use Rattle.motion_rewrite.specs.Placements.{AreOptimal, CanFlattenBy};
+ghost use Rattle.latest_place.specs.Lazy.{AreLazy};
 
-use crate::nodes::{delayed_rows, inserted_rows, latest_rows, needed_rows, replaced_rows};
+use crate::nodes::{Uses, delayed_rows, inserted_rows, latest_rows, needed_rows, replaced_rows};
 use down_safe::{DownRule, busy};
 use flow_graph::{Edges, Graph};
 use mir_base::Memory;
@@ -26,20 +25,25 @@ pub fn lazy<R: DownRule>(
 ) -> Result<Placement, Memory>
     requires split { IsSplit graph.now.nodes }
     requires edges { edges.now ≡ edges_of graph.now.nodes }
-    ensures insert { IfOk result (λ p. AreRows (length graph.now.nodes) (length table.now) p.insert) }
-    ensures replace { IfOk result (λ p. AreRows (length graph.now.nodes) (length table.now) p.replace) }
-    ensures lazy { IfOk result (λ p. (i : ℕ) (e : Expr) → slice_get table.now i ≡ Some e → IsLazy graph.now e (R.is_down rule.now graph.now e) (places_of p i)) }
+    ensures insert { IfOk result (λ p. HaveShape graph.now (length table.now) p.insert) }
+    ensures replace { IfOk result (λ p. HaveShape graph.now (length table.now) p.replace) }
+    ensures lazy { IfOk result (AreLazy graph.now table.now (R.is_down rule.now graph.now)) }
 
     // admissible, and no admissible placement evaluates less on any full path
-    ensures optimal { IfOk result (λ p. (i : ℕ) (e : Expr) → slice_get table.now i ≡ Some e → IsOptimal graph.now e (R.is_down rule.now graph.now e) (places_of p i)) }
+    ensures optimal { IfOk result (AreOptimal graph.now table.now (R.is_down rule.now graph.now)) }
 
     // so the graph can be flattened by it
-    ensures flattens { IfOk result (λ p. (i : ℕ) (e : Expr) → slice_get table.now i ≡ Some e → CanFlatten graph.now e (places_of p i)) }
+    ensures flattens { IfOk result (CanFlattenBy graph.now table.now) }
 {
     let busy = busy(alloc, rule, graph, edges, table)?;
-    let delayed = delayed_rows(alloc, graph, edges, &busy.early, &busy.uses)?;
-    let latest = latest_rows(alloc, graph, edges, &delayed, &busy.uses)?;
-    let needed = needed_rows(alloc, graph, edges, &latest, &busy.uses)?;
+    let uses = Uses {
+        graph,
+        edges,
+        rows: &busy.uses,
+    };
+    let delayed = delayed_rows(alloc, &uses, &busy.early)?;
+    let latest = latest_rows(alloc, &uses, &delayed)?;
+    let needed = needed_rows(alloc, &uses, &latest)?;
     let insert = inserted_rows(alloc, &latest, &needed)?;
     Ok(Placement {
         insert,

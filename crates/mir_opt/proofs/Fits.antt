@@ -10,13 +10,14 @@ use Rattle.mir_base.specs.UnitRuns.{UnitSame, UnitCheaper, body_machine, unit_ma
 use Rattle.mir_sim.specs.Calls.{HasCall, CallsNoMore}
 use Rattle.mir_sim.specs.Pairs.{AllUnitsSame, AllUnitsCheaper}
 use Rattle.flow_graph.specs.Calls.{BodyCalls, inst_call}
-use Rattle.flow_graph.specs.InsertionNodes.{some_at}
+use Rattle.flow_graph.specs.ListLaws.{some_at}
 use Rattle.flow_graph.specs.Lowered.{CanLower, target_of}
 use Rattle.mir_opt.specs.Made.{IsKept}
 use Rattle.mir_opt.proofs.Zips.{zip_at}
 
 -- ---- a unit of a program can be lowered
 
+-- its body can be lowered
 pub fits_lower : (units : List UnitShape) (body : List Inst) → BodyFits units body → CanLower body
 fits_lower units body fits = record {
   first = λ place x at. fits.insts place (Receive x) at;
@@ -53,20 +54,24 @@ called_fits units body called count fits c = go c.inst (fits.insts c.place c.ins
 
 -- ---- the units that were made
 
+-- the names of the units, by their numbers
 names_at : (units : List UnitShape) (n : ℕ) → slice_get (names_of units) n ≡ option_map (λ (u : UnitShape). u.name) (slice_get units n)
 names_at [] n = refl
 names_at (unit ∷ units) zero = refl
 names_at (unit ∷ units) (suc n) = names_at units n
 
+-- each unit has one name
 names_long : (units : List UnitShape) → length (names_of units) ≡ length units
 names_long [] = refl
 names_long (unit ∷ units) = ap suc (names_long units)
 
 -- units of a program, each kept
 module _ (sources targets : List UnitShape) (all : AllZip IsKept sources targets) where
+  -- there are as many targets as sources
   targets_long : length targets ≡ length sources
   targets_long = AllZip-long IsKept sources targets all
 
+  -- the body of a unit, by its number
   body_is : (units : List UnitShape) (n : ℕ) (unit : UnitShape) → slice_get units n ≡ Some unit → body_at units n ≡ unit.body
   body_is units n unit at = ap body_or_empty at
 
@@ -78,26 +83,32 @@ module _ (sources targets : List UnitShape) (all : AllZip IsKept sources targets
     target_at : slice_get targets n ≡ Some target
     kept : IsKept source target
 
+  -- each number has such units
   kept_at : (n : ℕ) → n < length sources → KeptAt n
   kept_at n lt =
       let s = some_at sources n lt in
       let t = some_at targets n (omega (arith, lt, targets_long)) in
       record { source = s.0; target = t.0; source_at = s.1; target_at = t.1; kept = zip_at IsKept sources targets all n s.0 t.0 s.1 t.1 }
 
+  -- the machines of the two, as the programs have them
+  source_machine : (n : ℕ) (m : KeptAt n) → unit_machine m.source ≡ machine_at (record { units = sources }) n
+  source_machine n m = ap body_machine (sym (body_is sources n m.source m.source_at))
+
+  target_machine : (n : ℕ) (m : KeptAt n) → unit_machine m.target ≡ machine_at (record { units = targets }) n
+  target_machine n m = ap body_machine (sym (body_is targets n m.target m.target_at))
+
+  -- they do the same, and the second evaluates no more
   same_at : (n : ℕ) → n < length sources → UnitSame (machine_at (record { units = sources }) n) (machine_at (record { units = targets }) n)
   same_at n lt =
       let m = kept_at n lt in
-      let source : unit_machine m.source ≡ machine_at (record { units = sources }) n = ap body_machine (sym (body_is sources n m.source m.source_at)) in
-      let target : unit_machine m.target ≡ machine_at (record { units = targets }) n = ap body_machine (sym (body_is targets n m.target m.target_at)) in
-      subst (λ a. UnitSame a (machine_at (record { units = targets }) n)) source (subst (UnitSame (unit_machine m.source)) target m.kept.keeps.same)
+      subst (λ a. UnitSame a (machine_at (record { units = targets }) n)) (source_machine n m) (subst (UnitSame (unit_machine m.source)) (target_machine n m) m.kept.keeps.same)
 
   cheaper_at : (n : ℕ) → n < length sources → UnitCheaper (machine_at (record { units = sources }) n) (machine_at (record { units = targets }) n)
   cheaper_at n lt =
       let m = kept_at n lt in
-      let source : unit_machine m.source ≡ machine_at (record { units = sources }) n = ap body_machine (sym (body_is sources n m.source m.source_at)) in
-      let target : unit_machine m.target ≡ machine_at (record { units = targets }) n = ap body_machine (sym (body_is targets n m.target m.target_at)) in
-      subst (λ a. UnitCheaper a (machine_at (record { units = targets }) n)) source (subst (UnitCheaper (unit_machine m.source)) target m.kept.keeps.cheaper)
+      subst (λ a. UnitCheaper a (machine_at (record { units = targets }) n)) (source_machine n m) (subst (UnitCheaper (unit_machine m.source)) (target_machine n m) m.kept.keeps.cheaper)
 
+  -- units of a number receive as many arguments, and have one name
   same_receives : (n : ℕ) → n < length sources → receives_in (body_at sources n) ≡ receives_in (body_at targets n)
   same_receives n lt = (same_at n lt).receives
 
@@ -106,21 +117,27 @@ module _ (sources targets : List UnitShape) (all : AllZip IsKept sources targets
       let m = kept_at n lt in
       names_at targets n ∙ ap (option_map (λ (u : UnitShape). u.name)) m.target_at ∙ ap Some m.kept.keeps.name ∙ sym (names_at sources n ∙ ap (option_map (λ (u : UnitShape). u.name)) m.source_at)
 
+  -- a name is that of a source
   within : (n : ℕ) → n < length (names_of targets) → n < length sources
   within n lt = omega (arith, lt, names_long targets, targets_long)
 
+  -- so the programs are the same unit by unit
   pub kept_same : AllUnitsSame (record { units = sources }) (record { units = targets })
   kept_same = record { units = sym targets_long; same = same_at }
 
   pub kept_cheaper : AllUnitsCheaper (record { units = sources }) (record { units = targets })
   kept_cheaper = record { cheaper = cheaper_at }
 
+  -- ---- the targets are a program
+
+  -- their names differ
   names_differ : IsProgram sources → AllDiffer (names_of targets)
   names_differ program i j lt lt' same =
       let a = within i lt in
       let b = within j lt' in
       program.names i j (omega (arith, a, names_long sources)) (omega (arith, b, names_long sources)) (sym (same_name i a) ∙ same ∙ same_name j b)
 
+  -- their bodies fit
   kept_fits : IsProgram sources → (n : ℕ) (unit : UnitShape) → slice_get targets n ≡ Some unit → BodyFits targets unit.body
   kept_fits program n unit at =
       let lt : n < length sources = omega (arith, slice_get_within targets n unit at, targets_long) in
@@ -143,6 +160,7 @@ module _ (sources targets : List UnitShape) (all : AllZip IsKept sources targets
       inst_fits n m place (Print a) here fits = tt
       inst_fits n m place (Return a) here fits = tt
 
+  -- so they are one
   pub kept_program : IsProgram sources → IsProgram targets
   kept_program program = record {
     some_unit = omega (arith, program.some_unit, targets_long);

@@ -2,35 +2,37 @@
 use Rattle.std.proofs.Common.{◌≡◌, List, sym, subst}
 use Rattle.std.specs.List.{AllZip}
 use Rattle.mir_base.specs.Shapes.{ProgramShape, UnitShape}
-use Rattle.mir_opt.specs.declared.stages.Stage.{Stage}
 use Rattle.mir_sim.specs.Calls.{CallsNoMore}
 use Rattle.mir_sim.specs.Pairs.{AllUnitsCheaper, AllUnitsSame}
 use Rattle.flow_graph.specs.Graphs.{GraphShape}
 use Rattle.flow_graph.specs.Keeps.{AsGraph, AsUnit, Keeps}
 use Rattle.flow_graph.specs.KeepsLaws.{keeps_trans}
 use Rattle.flow_graph.specs.Layouts.{IsLayout}
-use Rattle.mir_opt.specs.Made.{IsKept, IsLaidOut}
+use Rattle.mir_opt.specs.declared.stages.Stage.{Stage}
+use Rattle.mir_opt.specs.Made.{AllLaidOut, IsKept, IsLaidOut}
 use Rattle.mir_opt.specs.Stages.{AllKeep, AreLaid}
 use Rattle.mir_opt.proofs.Fits.{kept_calls, kept_cheaper, kept_same}
 use Rattle.mir_opt.proofs.Zips.{zip_map, zip_trans}
 
-module _ {T : Type 0} (graph_of : T → Stage → GraphShape) (stage : Stage) where
+module _ {T : Type 0} (graph_of : T → Stage → GraphShape) (stage : Stage) (units : List T) (targets : List UnitShape) (laid : AllLaidOut graph_of stage units targets) where
+  -- they are layouts
+  pub are_laid : AreLaid graph_of stage units targets
+  are_laid = zip_map (λ unit target. IsLaidOut (graph_of unit stage) target) (λ unit target. IsLayout (graph_of unit stage) target) (λ unit target laid. laid.layout) units targets laid
+
   -- a unit that is the layout of a graph that keeps the source keeps the source
-  pub laid_kept : (sources : List UnitShape) (units : List T) (targets : List UnitShape) → AllKeep graph_of sources units → AllZip (λ unit target. IsLaidOut (graph_of unit stage) target) units targets → AllZip IsKept sources targets
-  laid_kept sources units targets keep laid =
+  pub laid_kept : (sources : List UnitShape) → AllKeep graph_of sources units → AllZip IsKept sources targets
+  laid_kept sources keep =
       zip_trans (λ source unit. (stage : Stage) → Keeps (AsUnit source) (AsGraph (graph_of unit stage))) (λ unit target. IsLaidOut (graph_of unit stage) target) IsKept
       (λ source unit target keeps laid. record { keeps = keeps_trans (AsUnit source) (AsGraph (graph_of unit stage)) (AsUnit target) (keeps stage) laid.keeps; lowers = laid.lowers })
       sources units targets keep laid
 
-  -- so the programs are the same, unit by unit
-  pub laid_same : (source : ProgramShape) (units : List T) (program : ProgramShape) (targets : List UnitShape) → program.units ≡ targets → AllKeep graph_of source.units units → AllZip (λ unit target. IsLaidOut (graph_of unit stage) target) units targets → AllUnitsSame source program
-  laid_same source units program targets is keep laid = subst (λ l. AllUnitsSame source (record { units = l })) (sym is) (kept_same source.units targets (laid_kept source.units units targets keep laid))
+  -- so the programs are the same, unit by unit, no unit evaluates more operators, and none calls another unit
+  module _ (source program : ProgramShape) (is : program.units ≡ targets) (keep : AllKeep graph_of source.units units) where
+    pub laid_same : AllUnitsSame source program
+    laid_same = subst (λ l. AllUnitsSame source (record { units = l })) (sym is) (kept_same source.units targets (laid_kept source.units keep))
 
-  pub laid_cheaper : (source : ProgramShape) (units : List T) (program : ProgramShape) (targets : List UnitShape) → program.units ≡ targets → AllKeep graph_of source.units units → AllZip (λ unit target. IsLaidOut (graph_of unit stage) target) units targets → AllUnitsCheaper source program
-  laid_cheaper source units program targets is keep laid = subst (λ l. AllUnitsCheaper source (record { units = l })) (sym is) (kept_cheaper source.units targets (laid_kept source.units units targets keep laid))
+    pub laid_cheaper : AllUnitsCheaper source program
+    laid_cheaper = subst (λ l. AllUnitsCheaper source (record { units = l })) (sym is) (kept_cheaper source.units targets (laid_kept source.units keep))
 
-  pub laid_calls : (source : ProgramShape) (units : List T) (program : ProgramShape) (targets : List UnitShape) → program.units ≡ targets → AllKeep graph_of source.units units → AllZip (λ unit target. IsLaidOut (graph_of unit stage) target) units targets → CallsNoMore source program
-  laid_calls source units program targets is keep laid = subst (λ l. CallsNoMore source (record { units = l })) (sym is) (kept_calls source.units targets (laid_kept source.units units targets keep laid))
-
-  pub are_laid : (units : List T) (targets : List UnitShape) → AllZip (λ unit target. IsLaidOut (graph_of unit stage) target) units targets → AreLaid graph_of stage units targets
-  are_laid units targets laid = zip_map (λ unit target. IsLaidOut (graph_of unit stage) target) (λ unit target. IsLayout (graph_of unit stage) target) (λ unit target laid. laid.layout) units targets laid
+    pub laid_calls : CallsNoMore source program
+    laid_calls = subst (λ l. CallsNoMore source (record { units = l })) (sym is) (kept_calls source.units targets (laid_kept source.units keep))

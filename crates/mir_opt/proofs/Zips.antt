@@ -7,6 +7,7 @@ use Rattle.std.proofs.lemmas.Option.{slice_get-get_or}
 use Rattle.flow_graph.specs.ListLaws.{take_next}
 
 module _ {A B : Type 0} (R : A → B → Type 0) where
+  -- items at one place are related
   pub zip_at : (xs : List A) (ys : List B) → AllZip R xs ys → (n : ℕ) (x : A) (y : B) → slice_get xs n ≡ Some x → slice_get ys n ≡ Some y → R x y
   zip_at [] ys z n x y at at' = cc
   zip_at (a ∷ xs) [] z n x y at at' = absurd z
@@ -16,13 +17,14 @@ module _ {A B : Type 0} (R : A → B → Type 0) where
       subst (λ x. R x y) one (subst (R a) two z.0)
   zip_at (a ∷ xs) (b ∷ ys) z (suc n) x y at at' = zip_at xs ys z.1 n x y at at'
 
+  -- one more item of each list
   push_zip : (xs : List A) (ys : List B) (x : A) (y : B) → AllZip R xs ys → R x y → AllZip R (xs ++ x ∷ []) (ys ++ y ∷ [])
   push_zip [] [] x y z r = (r, tt)
   push_zip [] (b ∷ ys) x y z r = absurd z
   push_zip (a ∷ xs) [] x y z r = absurd z
   push_zip (a ∷ xs) (b ∷ ys) x y z r = (z.0, push_zip xs ys x y z.1 r)
 
-  -- one more item of each list
+  -- of a prefix of the first list
   pub next_zip : (xs : List A) (ys ys' : List B) (n : ℕ) (x : A) (y : B) → AllZip R (take n xs) ys → slice_get xs n ≡ Some x → R x y → ys' ≡ ys ++ y ∷ [] → AllZip R (take (n + 1) xs) ys'
   next_zip xs ys ys' n x y z at r is = subst (AllZip R (take (n + 1) xs)) (sym is) (subst (λ l. AllZip R l (ys ++ y ∷ [])) (sym (ap (λ m. take m xs) (add-one n) ∙ take_next xs n x at)) (push_zip (take n xs) ys x y z r))
 
@@ -33,12 +35,14 @@ module _ {A B : Type 0} (R : A → B → Type 0) where
   zip_all P holds (x ∷ xs) [] z = absurd z
   zip_all P holds (x ∷ xs) (y ∷ ys) z = All-cons P y ys (holds x y z.0) (zip_all P holds xs ys z.1)
 
+  -- what follows of related items
   pub zip_map : (Q : A → B → Type 0) → ((x : A) (y : B) → R x y → Q x y) → (xs : List A) (ys : List B) → AllZip R xs ys → AllZip Q xs ys
   zip_map Q holds [] [] z = tt
   zip_map Q holds [] (b ∷ ys) z = absurd z
   zip_map Q holds (a ∷ xs) [] z = absurd z
   zip_map Q holds (a ∷ xs) (b ∷ ys) z = (holds a b z.0, zip_map Q holds xs ys z.1)
 
+  -- by way of a third list
   pub zip_trans : {C : Type 0} (S : B → C → Type 0) (Q : A → C → Type 0) → ((x : A) (y : B) (w : C) → R x y → S y w → Q x w) → (xs : List A) (ys : List B) (ws : List C) → AllZip R xs ys → AllZip S ys ws → AllZip Q xs ws
   zip_trans S Q holds [] [] [] z z' = tt
   zip_trans S Q holds [] [] (w ∷ ws) z z' = absurd z'

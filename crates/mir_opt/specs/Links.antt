@@ -1,33 +1,33 @@
--- When a trail is linked: each part is the exact result of its pass on the part before.
-use Rattle.std.specs.Prelude.{◌≡◌, ℕ, List, length, slice_get, Some}
+-- When a trail is linked: each part is the exact result of its pass on the part before. Cited by contracts.
+use Rattle.std.specs.Prelude.{◌≡◌, ℕ, List, length}
 use Rattle.std.specs.List.{AllZip}
 use Rattle.mir_base.specs.declared.instructions.Expr.{Expr}
-use Rattle.mir_base.specs.Shapes.{UnitShape}
+use Rattle.mir_base.specs.Shapes.{ProgramShape, UnitShape}
 use Rattle.flow_graph.specs.declared.nodes.Node.{Node}
 use Rattle.flow_graph.specs.Graphs.{GraphShape}
 use Rattle.flow_graph.specs.Lowered.{IsLowered}
+use Rattle.path_laws.specs.Paths.{HaveShape}
 use Rattle.jump_clean.specs.Cleaned.{IsClean}
 use Rattle.edge_split.specs.Split.{IsEdgeSplit}
-use Rattle.path_laws.specs.Paths.{AreRows}
 use Rattle.motion_rewrite.specs.declared.placement.Placement.{Placement}
 use Rattle.motion_rewrite.specs.Flatten.{IsFlattened}
-use Rattle.motion_rewrite.specs.Placements.{IsAnticipatable, places_of}
+use Rattle.motion_rewrite.specs.Placements.{IsAnticipatable}
 use Rattle.motion_rewrite.specs.Tables.{movable_exprs}
-use Rattle.latest_place.specs.Lazy.{IsLazy}
+use Rattle.latest_place.specs.Lazy.{AreLazy}
 use Rattle.mir_opt.specs.declared.trails.UnitTrail.{UnitTrail}
 use Rattle.mir_opt.specs.declared.trails.Trail.{Trail}
 use Rattle.mir_opt.specs.declared.trails.MoveTrail.{MoveTrail}
 use Rattle.mir_opt.specs.declared.stages.Stage.{Stage}
 use Rattle.mir_opt.specs.declared.stages.Stage.TheVariants.{Result}
-use Rattle.mir_opt.specs.Stages.{AreLaid, graph_at}
+use Rattle.mir_opt.specs.Stages.{AllWithinAt, AreLaid, graph_at}
 
 -- ---- code motion
 
 -- the placement has a row for each node and a bit for each expression, and is the lazy one of each expression by the rule
 pub record IsLazyPlacement (Down : GraphShape → Expr → ℕ → Type 0) (graph : GraphShape) (table : List Expr) (placement : Placement) : Type 0 where
-  pub insert_rows : AreRows (length graph.nodes) (length table) placement.insert
-  pub replace_rows : AreRows (length graph.nodes) (length table) placement.replace
-  pub lazy : (i : ℕ) (e : Expr) → slice_get table i ≡ Some e → IsLazy graph e (Down graph e) (places_of placement i)
+  pub insert_rows : HaveShape graph (length table) placement.insert
+  pub replace_rows : HaveShape graph (length table) placement.replace
+  pub lazy : AreLazy graph table (Down graph) placement
 
 -- the steps of code motion: the split graph, the expressions of it that are moved, their lazy placement by the rule, and
 -- the graph rewritten by it
@@ -44,7 +44,7 @@ IsSafeMotion graph split table placement moved = IsMotion movable_exprs IsAntici
 -- ---- one unit
 
 -- what comes before code motion
-pub record IsFront (source : UnitShape) (lowered cleaned : GraphShape) : Type 0 where
+pub record IsBeforeMotion (source : UnitShape) (lowered cleaned : GraphShape) : Type 0 where
   pub lowers : IsLowered source lowered
   pub cleans : IsClean lowered cleaned
 
@@ -54,7 +54,7 @@ pub record IsBack (moved swept : GraphShape) : Type 0 where
 
 -- the steps of one unit of the source
 pub record LinksUnit (source : UnitShape) (unit : UnitTrail) : Type 0 where
-  pub front : IsFront source unit.lowered unit.cleaned
+  pub front : IsBeforeMotion source unit.lowered unit.cleaned
   pub motion : IsSafeMotion unit.cleaned unit.split unit.table unit.placement unit.moved
   pub back : IsBack unit.moved unit.swept
 
@@ -66,8 +66,22 @@ pub record AllLinked {T : Type 0} (graph_of : T → Stage → GraphShape) (Links
   pub steps : AllZip Links sources units
   pub laid : AreLaid graph_of Result units targets
 
+-- the trail of `optimise`
 abbrev pub IsLinked : Trail → Type 0
 IsLinked trail = AllLinked graph_at LinksUnit trail.source.units trail.units trail.target.units
 
+-- the trail of `motion`
 abbrev pub IsMoveLinked : MoveTrail → Type 0
 IsMoveLinked trail = AllLinked graph_at LinksUnit trail.source.units trail.units trail.target.units
+
+-- no other trail of the program is linked
+abbrev pub IsOnlyTrail : ProgramShape → Trail → Type 0
+IsOnlyTrail program trail = (other : Trail) → other.source ≡ program → IsLinked other → trail ≡ other
+
+-- no other move trail of the program is linked
+abbrev pub IsOnlyMoveTrail : ProgramShape → MoveTrail → Type 0
+IsOnlyMoveTrail program trail = (other : MoveTrail) → other.source ≡ program → IsMoveLinked other → trail ≡ other
+
+-- a unit of the source has no two values of linked steps whose graphs lead to nodes
+abbrev pub HasOneLink : {T : Type 0} → (T → Stage → GraphShape) → (UnitShape → T → Type 0) → Type 0
+HasOneLink {T = T} graph_of Links = (source : UnitShape) (a b : T) → AllWithinAt graph_of a → Links source a → Links source b → a ≡ b

@@ -1,4 +1,5 @@
--- A program has one linked trail, and one linked move trail: the graphs of a trail that is a value lead to nodes.
+-- A program has one linked trail, and one linked move trail: the graphs of a trail that is a value lead to nodes. For
+-- proofs only, and by `UnitSteps`.
 use Rattle.std.proofs.Common.{◌≡◌, ℕ, List, [], ◌∷◌, refl, sym, ap, ◌∙◌, subst}
 use Rattle.std.specs.List.{AllZip}
 use Rattle.mir_base.specs.declared.instructions.Expr.{Expr}
@@ -20,22 +21,25 @@ use Rattle.latest_place.specs.LazyLaws.{lazy_is_one}
 use Rattle.mir_opt.specs.declared.stages.Stage.{Stage}
 use Rattle.mir_opt.specs.declared.stages.Stage.TheVariants.{Lower, Motion, Result}
 use Rattle.mir_opt.specs.declared.trails.UnitTrail.{UnitTrail}
-use Rattle.mir_opt.specs.Links.{AllLinked, IsLazyPlacement, IsMotion, LinksUnit}
+use Rattle.mir_opt.specs.Links.{AllLinked, HasOneLink, IsLazyPlacement, IsMotion, LinksUnit}
 use Rattle.mir_opt.specs.Stages.{AllWithinAt, AreLaid, graph_at}
 
 -- ---- single passes
 
+-- a graph has one split graph
 split_is_one : (graph a b : GraphShape) → IsEdgeSplit graph a → IsEdgeSplit graph b → a ≡ b
 split_is_one graph a b p q = same_graphs a b (p.name_is ∙ sym q.name_is) (p.vars_are ∙ sym q.vars_are) (p.received_are ∙ sym q.received_are) (p.nodes_are ∙ sym q.nodes_are)
 
+-- and a split graph one lazy placement
 placement_is_one : (Down : GraphShape → Expr → ℕ → Type 0) (graph : GraphShape) (table : List Expr) (p q : Placement) → IsLazyPlacement Down graph table p → IsLazyPlacement Down graph table q → p ≡ q
 placement_is_one Down graph table p q lazy lazy' = lazy_is_one graph table (Down graph) p q lazy.insert_rows lazy.replace_rows lazy'.insert_rows lazy'.replace_rows lazy.lazy lazy'.lazy
 
--- a pass that is asked of equal graphs
+-- a pass on equal graphs
 after_same : (IsPass : GraphShape → GraphShape → Type 0) → ((graph a b : GraphShape) → AllWithin graph.nodes → IsPass graph a → IsPass graph b → a ≡ b)
     → (graph graph' a b : GraphShape) → AllWithin graph.nodes → graph ≡ graph' → IsPass graph a → IsPass graph' b → a ≡ b
 after_same IsPass one graph graph' a b within same p q = one graph a b within p (subst (λ g. IsPass g b) (sym same) q)
 
+-- of cleaning
 clean_same : (graph graph' a b : GraphShape) → AllWithin graph.nodes → graph ≡ graph' → IsClean graph a → IsClean graph' b → a ≡ b
 clean_same = after_same IsClean clean_is_one
 
@@ -48,6 +52,7 @@ pub record SameMotion (split split' : GraphShape) (table table' : List Expr) (pl
   pub placements : placement ≡ placement'
   pub moves : moved ≡ moved'
 
+-- the motion of equal graphs has equal parts
 pub motion_is_one : (exprs : List Node → List Expr) (Down : GraphShape → Expr → ℕ → Type 0) (graph graph' split split' : GraphShape) (table table' : List Expr) (placement placement' : Placement) (moved moved' : GraphShape)
     → graph ≡ graph' → IsMotion exprs Down graph split table placement moved → IsMotion exprs Down graph' split' table' placement' moved' → SameMotion split split' table table' placement placement' moved moved'
 motion_is_one exprs Down graph graph' split split' table table' placement placement' moved moved' same p q = record { splits = splits; tables = tables; placements = placements; moves = moves }
@@ -111,7 +116,8 @@ pub record OneTrail {T : Type 0} (units units' : List T) (targets targets' : Lis
   pub units_are : units ≡ units'
   pub targets_are : targets ≡ targets'
 
-pub linked_is_one : {T : Type 0} (graph_of : T → Stage → GraphShape) (Links : UnitShape → T → Type 0) → ((source : UnitShape) (a b : T) → AllWithinAt graph_of a → Links source a → Links source b → a ≡ b)
+-- so it is
+pub linked_is_one : {T : Type 0} (graph_of : T → Stage → GraphShape) (Links : UnitShape → T → Type 0) → HasOneLink graph_of Links
     → (sources : List UnitShape) (units units' : List T) (targets targets' : List UnitShape) → AllZip (λ source unit. AllWithinAt graph_of unit × Links source unit) sources units → AreLaid graph_of Result units targets → AllLinked graph_of Links sources units' targets'
     → OneTrail units units' targets targets'
 linked_is_one {T = T} graph_of Links one sources units units' targets targets' steps laid other = record { units_are = same; targets_are = same_targets }

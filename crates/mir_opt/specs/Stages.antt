@@ -1,7 +1,11 @@
--- The graphs of the stages of a unit, and that each of them keeps the unit.
+-- The graphs of the stages of a unit, and that each of them keeps the unit; and what a program keeps of another. Cited by
+-- contracts.
 use Rattle.std.specs.Prelude.{List}
 use Rattle.std.specs.List.{AllZip}
-use Rattle.mir_base.specs.Shapes.{UnitShape}
+use Rattle.mir_base.specs.Runs.{Cheaper, Same}
+use Rattle.mir_base.specs.Shapes.{ProgramShape, UnitShape}
+use Rattle.mir_sim.specs.Calls.{CallsNoMore}
+use Rattle.mir_sim.specs.Pairs.{AllUnitsSame}
 use Rattle.flow_graph.specs.Graphs.{AllWithin, GraphShape}
 use Rattle.flow_graph.specs.Keeps.{AsGraph, AsUnit, Keeps}
 use Rattle.flow_graph.specs.Layouts.{IsLayout}
@@ -28,3 +32,11 @@ AllKeep graph_of sources units = AllZip (λ source unit. (stage : Stage) → Kee
 -- these units are the layouts of the graphs of a stage
 abbrev pub AreLaid : {T : Type 0} → (T → Stage → GraphShape) → Stage → List T → List UnitShape → Type 0
 AreLaid graph_of stage units targets = AllZip (λ unit target. IsLayout (graph_of unit stage) target) units targets
+
+-- the second program is the same as the first, as a whole and unit by unit, evaluates no more operators, and calls no units
+-- but those that the first calls
+pub record KeepsProgram (first second : ProgramShape) : Type 0 where
+  pub same : Same first second
+  pub cheaper : Cheaper first second
+  pub units : AllUnitsSame first second
+  pub calls : CallsNoMore first second

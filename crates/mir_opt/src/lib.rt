@@ -4,11 +4,11 @@
 //! says when a trail is linked: each part is the exact result of its pass on the part before. `specs/Best.antt` says when
 //! its code motion is the best, and `specs/Stages.antt` that each of its graphs keeps the unit of the source.
 //!
-//! The theorem that this crate carries is the contract of `optimise`, and that of `motion` alike: the trail is linked and
-//! is the only linked trail of its source, source and target are the same program, unit by unit and as a whole, the
-//! target counts no more, and in each unit no admissible placement evaluates an expression less often on any full path
-//! than the one that was taken. What is said of the target holds of the program of each stage, which `stage_program`
-//! makes.
+//! The theorem that this crate carries is the contract of `optimise`, and that of `motion` alike: the trail is linked
+//! and is the only linked trail of its source, source and target are the same program, unit by unit and as a whole, the
+//! target evaluates no more operators, and in each unit no admissible placement evaluates an expression less often on
+//! any full path than the one that was taken. What is said of the target holds of the program of each stage, which
+//! `stage_program` makes.
 #![tactic(auto)]
 
 mod chain;
@@ -17,14 +17,10 @@ mod front;
 mod moving;
 mod stages;
 mod steps;
-#[cfg(test)]
-mod tests;
 mod trails;
 mod walking;
 
 pub use commands::{motion, optimise, stage_program};
+pub use mir_base::Memory;
 pub use stages::Stage;
 pub use trails::{MoveTrail, MoveUnit, Trail, UnitTrail};
-
-/// Want of memory: the allocator refused.
-pub type Memory = std::alloc::AllocError;

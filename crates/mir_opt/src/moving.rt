@@ -1,14 +1,10 @@
 // Code motion on one graph.
-ghost use Rattle.std.specs.Prelude.{◌≡◌, ℕ, length, slice_get, Some, IfOk};
-ghost use Rattle.mir_base.specs.declared.instructions.Expr.{Expr};
+ghost use Rattle.std.specs.Prelude.{length, IfOk};
 ghost use Rattle.flow_graph.specs.Edges.{IsSplit};
-ghost use Rattle.flow_graph.specs.Keeps.{AsGraph, Keeps};
-ghost use Rattle.motion_rewrite.specs.Flatten.{IsFlattened};
-ghost use Rattle.motion_rewrite.specs.Placements.{CanFlatten, IsOptimal, places_of};
+ghost use Rattle.motion_rewrite.specs.Placements.{AreOptimal, CanFlattenBy};
 ghost use Rattle.motion_rewrite.specs.Tables.{AreMovable};
-ghost use Rattle.mir_opt.specs.Best.{IsBest};
 ghost use Rattle.mir_opt.specs.Links.{IsLazyPlacement};
-ghost use Rattle.mir_opt.specs.Made.{MotionMade};
+ghost use Rattle.mir_opt.specs.Made.{CodeMade, MotionMade};
 
 use crate::Memory;
 use down_safe::DownRule;
@@ -38,7 +34,7 @@ pub(crate) fn move_code<R: DownRule>(
     rule: &R,
     graph: &Graph,
 ) -> Result<Moved, Memory>
-    ensures { IfOk result (λ made. MotionMade (R.is_down rule.now) graph.now made.split made.table made.placement made.moved) }
+    ensures { IfOk result (MotionMade (R.is_down rule.now) graph.now) }
 {
     let split = split(alloc, graph)?;
     let table = exprs(alloc, &split)?;
@@ -67,11 +63,7 @@ fn place_code<R: DownRule>(
 ) -> Result<Placed, Memory>
     requires split { IsSplit split.now.nodes }
     requires movable { AreMovable (length split.now.vars) table.now }
-    ensures placed { IfOk result (λ made. IsLazyPlacement (R.is_down rule.now) split.now table.now made.placement) }
-    ensures flattened { IfOk result (λ made. IsFlattened split.now table.now made.placement made.moved) }
-    ensures best { IfOk result (λ made. IsBest (R.is_down rule.now) split.now table.now made.placement made.moved) }
-    ensures is_split { IfOk result (λ made. IsSplit made.moved.nodes) }
-    ensures keeps { IfOk result (λ made. Keeps (AsGraph split.now) (AsGraph made.moved)) }
+    ensures { IfOk result (CodeMade (R.is_down rule.now) split.now table.now) }
 {
     let placement = place(alloc, rule, split, table)?;
     let moved = flatten(alloc, split, table, &placement)?;
@@ -86,9 +78,9 @@ fn place<R: DownRule>(
     table: &ExprTable,
 ) -> Result<Placement, Memory>
     requires { IsSplit split.now.nodes }
-    ensures placed { IfOk result (λ placement. IsLazyPlacement (R.is_down rule.now) split.now table.now placement) }
-    ensures optimal { IfOk result (λ placement. (i : ℕ) (e : Expr) → slice_get table.now i ≡ Some e → IsOptimal split.now e (R.is_down rule.now split.now e) (places_of placement i)) }
-    ensures flattens { IfOk result (λ placement. (i : ℕ) (e : Expr) → slice_get table.now i ≡ Some e → CanFlatten split.now e (places_of placement i)) }
+    ensures placed { IfOk result (IsLazyPlacement (R.is_down rule.now) split.now table.now) }
+    ensures optimal { IfOk result (AreOptimal split.now table.now (R.is_down rule.now split.now)) }
+    ensures flattens { IfOk result (CanFlattenBy split.now table.now) }
 {
     let edges = Edges::of(alloc, split)?;
     let placement = lazy(alloc, rule, split, &edges, table)?;

@@ -16,7 +16,7 @@ pub enum Stage {
     Split,
     /// Code is moved.
     Motion,
-    /// It has clean jumps once more.
+    /// Its jumps are cleaned again.
     Result,
 }
 
@@ -34,7 +34,7 @@ impl UnitTrail {
         }
     }
 
-    /// The edges of each of its graphs lead to nodes, which is what a graph keeps.
+    /// Has no effect; carries the theorem that the edges of each of its graphs lead to nodes, which is what a graph keeps.
     pub(crate) fn leads_to_nodes(&self)
         ensures { AllWithinAt graph_at self.now }
     {

@@ -3,9 +3,9 @@ ghost use Rattle.std.specs.Prelude.{◌≡◌, IfOk};
 ghost use Rattle.mir_base.specs.Shapes.{UnitShape};
 ghost use Rattle.flow_graph.specs.Graphs.{GraphShape};
 ghost use Rattle.flow_graph.specs.Lowered.{CanLower};
-ghost use Rattle.mir_opt.specs.Made.{UnitMade};
 ghost use Rattle.mir_opt.specs.declared.stages.Stage.{Stage};
-ghost use Rattle.mir_opt.specs.Stages.{AllWithinAt};
+ghost use Rattle.mir_opt.specs.Made.{UnitMade};
+ghost use Rattle.mir_opt.specs.Links.{HasOneLink};
 
 use crate::{Memory, Stage};
 use flow_graph::Graph;
@@ -30,5 +30,5 @@ pub(crate) trait UnitSteps: Drop {
     fn graph_of(&self, stage: Stage) -> &Graph
         ensures { result.now ≡ graph_at self.now stage };
 
-    ghost one: { (source : UnitShape) (a b : Self) → AllWithinAt graph_at a → linked source a → linked source b → a ≡ b };
+    ghost one: { HasOneLink graph_at linked };
 }

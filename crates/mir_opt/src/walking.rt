@@ -1,12 +1,9 @@
 // From the units of a program to its trail, for each command alike.
 ghost use Rattle.std.specs.Prelude.{◌≡◌, IfOk};
 ghost use Rattle.std.specs.List.{AllZip};
-ghost use Rattle.mir_base.specs.Runs.{Cheaper, Same};
 ghost use Rattle.mir_base.specs.Shapes.{IsProgram};
-ghost use Rattle.mir_sim.specs.Calls.{CallsNoMore};
-ghost use Rattle.mir_sim.specs.Pairs.{AllUnitsSame};
-ghost use Rattle.mir_opt.specs.Made.{IsKept, IsLaidOut, UnitMade};
-ghost use Rattle.mir_opt.specs.Stages.{AllKeep, AreLaid};
+ghost use Rattle.mir_opt.specs.Made.{AllLaidOut, AllMade, IsKept, WalkMade};
+ghost use Rattle.mir_opt.specs.Stages.{AllKeep, AreLaid, KeepsProgram};
 
 use crate::steps::UnitSteps;
 use crate::{Memory, Stage};
@@ -25,13 +22,7 @@ pub(crate) struct Walked<T> {
 
 /// Makes the steps of each unit, and the program of the layouts of their graphs at the last stage.
 pub(crate) fn walk<T: UnitSteps>(alloc: Global, program: &Program) -> Result<Walked<T>, Memory>
-    ensures source { IfOk result (λ walked. walked.source ≡ program.now) }
-    ensures made { IfOk result (λ walked. AllZip (UnitMade T.graph_at T.linked T.best) program.now.units walked.units) }
-    ensures laid { IfOk result (λ walked. AreLaid T.graph_at Stage.Result walked.units walked.target.units) }
-    ensures same { IfOk result (λ walked. Same program.now walked.target) }
-    ensures cheaper { IfOk result (λ walked. Cheaper program.now walked.target) }
-    ensures units { IfOk result (λ walked. AllUnitsSame program.now walked.target) }
-    ensures calls { IfOk result (λ walked. CallsNoMore program.now walked.target) }
+    ensures { IfOk result (WalkMade T.graph_at T.linked T.best program.now) }
 {
     let source = program.clone()?;
     let units = all_steps(alloc, program)?;
@@ -45,7 +36,7 @@ pub(crate) fn walk<T: UnitSteps>(alloc: Global, program: &Program) -> Result<Wal
 
 /// The steps of each unit, by its number.
 fn all_steps<T: UnitSteps>(alloc: Global, program: &Program) -> Result<Items<T>, Memory>
-    ensures { IfOk result (λ units. AllZip (UnitMade T.graph_at T.linked T.best) program.now.units units) }
+    ensures { IfOk result (AllMade T.graph_at T.linked T.best program.now.units) }
 {
     let mut units = Vec::new(alloc);
     for number in 0..program.units.items().len() {
@@ -54,8 +45,8 @@ fn all_steps<T: UnitSteps>(alloc: Global, program: &Program) -> Result<Items<T>,
     Ok(Items::of(units))
 }
 
-/// The program whose units are the layouts of the graphs at a stage. It is the same as the source, unit by unit, counts no
-/// more, and calls no units but those that the source calls. It fails only with `Memory`.
+/// The program whose units are the layouts of the graphs at a stage. It is the same as the source, unit by unit,
+/// evaluates no more operators, and calls no units but those that the source calls. It fails only with `Memory`.
 pub(crate) fn program_at<T: UnitSteps>(
     alloc: Global,
     source: &Program,
@@ -64,20 +55,17 @@ pub(crate) fn program_at<T: UnitSteps>(
 ) -> Result<Program, Memory>
     requires { AllKeep T.graph_at source.now.units units.now }
     ensures laid { IfOk result (λ program. AreLaid T.graph_at stage units.now program.units) }
-    ensures same { IfOk result (λ program. Same source.now program) }
-    ensures cheaper { IfOk result (λ program. Cheaper source.now program) }
-    ensures units { IfOk result (λ program. AllUnitsSame source.now program) }
-    ensures calls { IfOk result (λ program. CallsNoMore source.now program) }
+    ensures keeps { IfOk result (KeepsProgram source.now) }
 {
     let targets = layouts(alloc, units, stage)?;
-    let program = joined(source, targets);
+    let program = program_of_units(source, targets);
     lift(source, &program);
     Ok(program)
 }
 
 /// The layouts of the graphs at a stage.
 fn layouts<T: UnitSteps>(alloc: Global, units: &[T], stage: Stage) -> Result<Vec<MirUnit>, Memory>
-    ensures { IfOk result (λ targets. AllZip (λ unit target. IsLaidOut (T.graph_at unit stage) target) units.now targets.items) }
+    ensures { IfOk result (λ targets. AllLaidOut T.graph_at stage units.now targets.items) }
 {
     let mut targets = Vec::new(alloc);
     for unit in units {
@@ -86,8 +74,8 @@ fn layouts<T: UnitSteps>(alloc: Global, units: &[T], stage: Stage) -> Result<Vec
     Ok(targets)
 }
 
-/// The program of units that keep those of a program.
-fn joined(source: &Program, targets: Vec<MirUnit>) -> Program
+/// The program of these units, which keep those of a program.
+fn program_of_units(source: &Program, targets: Vec<MirUnit>) -> Program
     requires { AllZip IsKept source.now.units targets.items }
     ensures { result.units ≡ targets.items }
 {
@@ -97,7 +85,7 @@ fn joined(source: &Program, targets: Vec<MirUnit>) -> Program
     }
 }
 
-/// The units of a program fit together, which is its invariant.
+/// Has no effect; carries the theorem that the units of a program fit together, which is its invariant.
 fn fits_together(program: &Program)
     ensures { IsProgram program.now.units }
 {

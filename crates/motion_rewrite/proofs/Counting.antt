@@ -1,5 +1,6 @@
--- The expressions on the path over a path.
-use Rattle.std.proofs.Common.{◌≡◌, ℕ, ◌+◌, Bool, true, false, not, ◌&&◌, eqb, List, [], ◌∷◌, length, count_by, slice_get, Option, Some, None, option_map, Contains, inl, inr, refl, sym, ap, ◌∙◌, arith}
+-- How often each expression is evaluated on the path of the rewritten graph over a path: one of the table as often as the
+-- placement counts, and any other as often as before.
+use Rattle.std.proofs.Common.{◌≡◌, ℕ, Bool, true, false, not, ◌&&◌, eqb, List, [], ◌∷◌, length, count_by, slice_get, Option, Some, None, option_map, Contains, inl, inr, refl, sym, ap, ◌∙◌, arith}
 use Rattle.std.proofs.lemmas.Option.{slice_get_within, get_or_from_slice_get}
 use Rattle.std.proofs.lemmas.Bool.{cases_Bool, eqb-true, eqb-false, false≢true}
 use Rattle.std.proofs.Math.Bool.{and-true}
@@ -8,38 +9,45 @@ use Rattle.mir_base.specs.declared.instructions.Rhs.{Rhs}
 use Rattle.mir_base.specs.declared.instructions.Rhs.TheVariants.{Plain}
 use Rattle.mir_base.specs.declared.instructions.Expr.{Expr}
 use Rattle.mir_base.specs.Shapes.{AllBelow, AllDiffer}
+use Rattle.mir_base.specs.ExpressionVars.{rhs_of}
+use Rattle.mir_base.specs.SameExpressions.{expr_is, expr_itself, same_expr}
 use Rattle.flow_graph.specs.declared.nodes.Node.{Node}
-use Rattle.flow_graph.specs.Graphs.{GraphShape}
 use Rattle.flow_graph.specs.declared.nodes.Node.TheVariants.{Start, Skip, Assign, Print, Call, Test, Return}
+use Rattle.flow_graph.specs.Graphs.{GraphShape}
 use Rattle.flow_graph.specs.InsertionPaths.{over_weight}
 use Rattle.flow_graph.specs.Over.{weigh, weigh_all, weight_at, new_weight_at, over_path}
-use Rattle.flow_graph.specs.Insertions.{Kept, Replaced, changed, rewritten_nodes}
+use Rattle.flow_graph.specs.Insertions.{Replaced, changed, rewritten_nodes}
 use Rattle.flow_graph.specs.Sums.{one_if, sum_on, count_sums, on_same}
+use Rattle.flow_graph.specs.Numbering.{is_in}
 use Rattle.path_laws.specs.Paths.{has_bit}
 use Rattle.motion_rewrite.specs.declared.placement.Placement.{Placement}
-use Rattle.motion_rewrite.specs.Expressions.{rhs_of, same_expr, is_expr, rhs_at, uses, is_among}
-use Rattle.motion_rewrite.specs.Flatten.{inserted, insertions_of, reading, by_placement}
-use Rattle.motion_rewrite.specs.Placements.{count, places_of}
-use Rattle.motion_rewrite.proofs.Insertions.{among_inserted, among_head, head_or_none, once_inserted}
-use Rattle.motion_rewrite.proofs.Matching.{expr_is, expr_itself, of_rhs, used_once}
-use Rattle.motion_rewrite.proofs.Paying.{only_number, count_sum}
+use Rattle.motion_rewrite.specs.Expressions.{is_expr, rhs_at, uses}
+use Rattle.motion_rewrite.specs.Flatten.{inserted, insertions_of, reading}
+use Rattle.motion_rewrite.specs.PlacementLaws.{count_sum}
+use Rattle.motion_rewrite.specs.Placements.{count, evaluations_at, places_of}
+use Rattle.motion_rewrite.proofs.Insertions.{among_inserted, head_or_none, once_inserted}
+use Rattle.motion_rewrite.proofs.Matching.{of_rhs, used_once}
+use Rattle.motion_rewrite.proofs.Evaluations.{kept_weight, only_number}
 use Rattle.motion_rewrite.proofs.Rewriting.{one_more}
 use Rattle.motion_rewrite.proofs.RowNumbers.{AllKnown}
-use Rattle.motion_rewrite.proofs.Served.{IsServed}
+use Rattle.motion_rewrite.proofs.Rewritable.{IsRewritable, first_bit, known, replaced_use, rewriting_by, temps_of}
 
 -- the expression, where there is one, is e
 abbrev is_at : Expr → Option Expr → Bool
 is_at e None = false
 is_at e (Some other) = same_expr e other
 
+-- so it is e
 at_is : (e : Expr) (o : Option Expr) → is_at e o ≡ true → o ≡ Some e
 at_is e None is = absurd (false≢true is)
 at_is e (Some other) is = ap Some (sym (expr_is e other is))
 
+-- a sum of zeros
 sum_zero : (numbers : List ℕ) → sum_on (λ j. 0) numbers ≡ 0
 sum_zero [] = refl
 sum_zero (j ∷ numbers) = let ih = sum_zero numbers in omega (arith, ih)
 
+-- an expression of the table stands at its number alone
 one_number : (table : List Expr) → AllDiffer table → (i : ℕ) (e : Expr) → slice_get table i ≡ Some e → (j : ℕ) → is_at e (slice_get table j) ≡ eqb j i
 one_number table differ i e at_i j = elim (cases_Bool (eqb j i)) [
   | inl is ↦ ap (λ k. is_at e (slice_get table k)) (eqb-true j i is) ∙ ap (is_at e) at_i ∙ expr_itself e ∙ sym is
@@ -49,6 +57,7 @@ one_number table differ i e at_i j = elim (cases_Bool (eqb j i)) [
   ]
 ]
 
+-- one that is not in the table stands at none
 no_number : (table : List Expr) (e : Expr) → (Contains table e → ⊥) → (j : ℕ) → is_at e (slice_get table j) ≡ false
 no_number table e out j = elim (cases_Bool (is_at e (slice_get table j))) [
   | inl is ↦ let at_j = at_is e (slice_get table j) is in absurd (out (j, slice_get_within table j e at_j, get_or_from_slice_get table j e e at_j))
@@ -61,6 +70,7 @@ no_number table e out j = elim (cases_Bool (is_at e (slice_get table j))) [
 abbrev being : Expr → ℕ → Rhs → ℕ
 being e x rhs = one_if (is_expr e (Some rhs))
 
+-- a node weighs one where it uses e
 use_weight : (e : Expr) (o : Option Node) → one_if (is_expr e (rhs_at o)) ≡ weigh (being e) o
 use_weight e None = refl
 use_weight e (Some (Start next)) = refl
@@ -71,6 +81,7 @@ use_weight e (Some (Call into unit operands next)) = refl
 use_weight e (Some (Test test taken other)) = refl
 use_weight e (Some (Return a)) = refl
 
+-- and what is put before a node, as many as assign e
 puts_weight : (temp : ℕ → ℕ) (table : List Expr) (e : Expr) (numbers : List ℕ) → AllKnown table numbers → weigh_all (being e) (insertions_of temp table numbers) ≡ sum_on (λ j. one_if (is_at e (slice_get table j))) numbers
 puts_weight temp table e [] known = refl
 puts_weight temp table e (i ∷ numbers) known =
@@ -79,17 +90,7 @@ puts_weight temp table e (i ∷ numbers) known =
     let all = ap (weigh_all (being e)) (one_more temp table i d numbers known.0.1) in
     omega (arith, all, first, puts_weight temp table e numbers known.1)
 
--- a node that reads from no temporary keeps its right side, and one that reads from one has a plain right side
-kept_weight : (e : Expr) (o : Option Node) → weigh (being e) (option_map (changed Kept) o) ≡ weigh (being e) o
-kept_weight e None = refl
-kept_weight e (Some (Start next)) = refl
-kept_weight e (Some (Skip next)) = refl
-kept_weight e (Some (Assign x rhs next)) = refl
-kept_weight e (Some (Print a next)) = refl
-kept_weight e (Some (Call into unit operands next)) = refl
-kept_weight e (Some (Test test taken other)) = refl
-kept_weight e (Some (Return a)) = refl
-
+-- a node that reads a temporary has a plain right side
 read_weight : (e : Expr) (x : ℕ) (o : Option Node) → weigh (being e) (option_map (changed (Replaced (Plain (Var x)))) o) ≡ 0
 read_weight e x None = refl
 read_weight e x (Some (Start next)) = refl
@@ -100,33 +101,36 @@ read_weight e x (Some (Call into unit operands next)) = refl
 read_weight e x (Some (Test test taken other)) = refl
 read_weight e x (Some (Return a)) = refl
 
+-- nothing is left where the second follows from the first
 and_not : (b c : Bool) → (b ≡ true → c ≡ true) → (b && not c) ≡ false
 and_not true c so = ap not (so refl)
 and_not false c so = refl
 
-module _ (graph : GraphShape) (table : List Expr) (temp : ℕ → ℕ) (p : Placement) (differ : AllDiffer table) (served : IsServed graph table p) (known : (n : ℕ) → AllKnown table (inserted p.insert n)) where
+module _ {graph : GraphShape} {table : List Expr} {p : Placement} (r : IsRewritable graph table p) (differ : AllDiffer table) where
+  -- the temporaries
+  abbrev temp : ℕ → ℕ
+  temp = temps_of graph p
+
   -- the weight of what becomes of a node
   abbrev made : Expr → ℕ → ℕ
   made e n = weigh (being e) (option_map (changed (reading temp (inserted p.replace n))) (slice_get graph.nodes n))
 
+  -- a node that reads no temporary stays, and one that reads one uses no expression
   unread : (e : Expr) (n : ℕ) → inserted p.replace n ≡ [] → made e n ≡ one_if (uses graph e n)
-  unread e n none = ap (λ l. weigh (being e) (option_map (changed (reading temp l)) (slice_get graph.nodes n))) none ∙ kept_weight e (slice_get graph.nodes n) ∙ sym (use_weight e (slice_get graph.nodes n))
+  unread e n none = ap (λ l. weigh (being e) (option_map (changed (reading temp l)) (slice_get graph.nodes n))) none ∙ kept_weight (being e) (slice_get graph.nodes n) ∙ sym (use_weight e (slice_get graph.nodes n))
 
   read : (e : Expr) (n i : ℕ) (rest : List ℕ) → inserted p.replace n ≡ i ∷ rest → made e n ≡ 0
   read e n i rest first = ap (λ l. weigh (being e) (option_map (changed (reading temp l)) (slice_get graph.nodes n))) first ∙ read_weight e (temp i) (slice_get graph.nodes n)
-
-  first_bit : (n i : ℕ) (rest : List ℕ) → inserted p.replace n ≡ i ∷ rest → has_bit p.replace i n ≡ true
-  first_bit n i rest first = sym (among_inserted p.replace n i) ∙ ap (is_among i) first ∙ among_head i rest
 
   -- an expression of the table is used where it was, and the use is not replaced
   own_use : (i : ℕ) (e : Expr) → slice_get table i ≡ Some e → (n : ℕ) → made e n ≡ one_if (uses graph e n && not (has_bit p.replace i n))
   own_use i e at_i n = elim (head_or_none (inserted p.replace n)) [
     | inl none ↦
-        let unset : has_bit p.replace i n ≡ false = sym (among_inserted p.replace n i) ∙ ap (is_among i) none in
+        let unset : has_bit p.replace i n ≡ false = sym (among_inserted p.replace n i) ∙ ap (is_in i) none in
         unread e n none ∙ ap one_if (sym (and-true (uses graph e n)) ∙ ap (λ b. uses graph e n && not b) (sym unset))
     | inr first ↦
-        let set = first_bit n first.0 first.1 first.2 in
-        let u = served.uses_it n first.0 set in
+        let set = first_bit r n first.0 first.1 first.2 in
+        let u = replaced_use r n first.0 set in
         read e n first.0 first.1 first.2
         ∙ sym (ap one_if (and_not (uses graph e n) (has_bit p.replace i n) (λ used. ap (λ k. has_bit p.replace k n) (only_number table differ i first.0 e at_i (u.1 ∙ ap Some (used_once graph u.0 e n u.2 used))) ∙ set)))
   ]
@@ -136,7 +140,7 @@ module _ (graph : GraphShape) (table : List Expr) (temp : ℕ → ℕ) (p : Plac
   other_use e out n = elim (head_or_none (inserted p.replace n)) [
     | inl none ↦ unread e n none
     | inr first ↦
-        let u = served.uses_it n first.0 (first_bit n first.0 first.1 first.2) in
+        let u = replaced_use r n first.0 (first_bit r n first.0 first.1 first.2) in
         let none : uses graph e n ≡ false = elim (cases_Bool (uses graph e n)) [
           | inl used ↦
               let at_i = u.1 ∙ ap Some (used_once graph u.0 e n u.2 used) in
@@ -148,29 +152,33 @@ module _ (graph : GraphShape) (table : List Expr) (temp : ℕ → ℕ) (p : Plac
 
   -- ---- on the whole path
 
+  -- the path over a path, in the rewritten graph
   abbrev over : List ℕ → List ℕ
-  over path = over_path (λ n. insertions_of temp table (inserted p.insert n)) (length graph.nodes) path
+  over path = over_path (rewriting_by graph table p).inserts (length graph.nodes) path
 
   abbrev result : GraphShape
-  result = record graph { nodes = rewritten_nodes (by_placement temp table p) graph.nodes }
+  result = record graph { nodes = rewritten_nodes (rewriting_by graph table p) graph.nodes }
 
-  over_counts : (e : Expr) (own : ℕ → ℕ) → ((n : ℕ) → new_weight_at (being e) (by_placement temp table p) graph.nodes n ≡ own n) → (path : List ℕ) → AllBelow (length graph.nodes) path → count_by (uses result e) (over path) ≡ sum_on own path
+  -- where the nodes weigh so, the uses on the path over a path sum so
+  over_counts : (e : Expr) (own : ℕ → ℕ) → ((n : ℕ) → new_weight_at (being e) (rewriting_by graph table p) graph.nodes n ≡ own n) → (path : List ℕ) → AllBelow (length graph.nodes) path → count_by (uses result e) (over path) ≡ sum_on own path
   over_counts e own each path within =
       count_sums (uses result e) (over path)
       ∙ on_same (λ m. one_if (uses result e m)) (weight_at (being e) result.nodes) (over path) (λ m. use_weight e (slice_get result.nodes m))
-      ∙ over_weight (by_placement temp table p) graph.nodes (being e) path within
-      ∙ on_same (new_weight_at (being e) (by_placement temp table p) graph.nodes) own path each
+      ∙ over_weight (rewriting_by graph table p) graph.nodes (being e) path within
+      ∙ on_same (new_weight_at (being e) (rewriting_by graph table p) graph.nodes) own path each
 
-  pub counted : (i : ℕ) (e : Expr) → slice_get table i ≡ Some e → (path : List ℕ) → AllBelow (length graph.nodes) path → count_by (uses (record graph { nodes = rewritten_nodes (by_placement temp table p) graph.nodes }) e) (over_path (λ n. insertions_of temp table (inserted p.insert n)) (length graph.nodes) path) ≡ count graph e (places_of p i) path
+  -- an expression of the table
+  pub counted : (i : ℕ) (e : Expr) → slice_get table i ≡ Some e → (path : List ℕ) → AllBelow (length graph.nodes) path → count_by (uses (record graph { nodes = rewritten_nodes (rewriting_by graph table p) graph.nodes }) e) (over_path (rewriting_by graph table p).inserts (length graph.nodes) path) ≡ count graph e (places_of p i) path
   counted i e at_i path within =
-      over_counts e (λ n. one_if (has_bit p.insert i n) + one_if (uses graph e n && not (has_bit p.replace i n))) (λ n. (let news = puts_weight temp table e (inserted p.insert n) (known n) ∙ on_same (λ j. one_if (is_at e (slice_get table j))) (λ j. one_if (eqb j i)) (inserted p.insert n) (λ j. ap one_if (one_number table differ i e at_i j)) ∙ once_inserted p.insert n i in
+      over_counts e (evaluations_at graph e (places_of p i)) (λ n. (let news = puts_weight temp table e (inserted p.insert n) (known r n) ∙ on_same (λ j. one_if (is_at e (slice_get table j))) (λ j. one_if (eqb j i)) (inserted p.insert n) (λ j. ap one_if (one_number table differ i e at_i j)) ∙ once_inserted p.insert n i in
       let olds = own_use i e at_i n in
       omega (arith, news, olds))) path within
       ∙ sym (count_sum graph e (places_of p i) path)
 
-  pub others : (e : Expr) → (Contains table e → ⊥) → (path : List ℕ) → AllBelow (length graph.nodes) path → count_by (uses (record graph { nodes = rewritten_nodes (by_placement temp table p) graph.nodes }) e) (over_path (λ n. insertions_of temp table (inserted p.insert n)) (length graph.nodes) path) ≡ count_by (uses graph e) path
+  -- any other expression
+  pub others : (e : Expr) → (Contains table e → ⊥) → (path : List ℕ) → AllBelow (length graph.nodes) path → count_by (uses (record graph { nodes = rewritten_nodes (rewriting_by graph table p) graph.nodes }) e) (over_path (rewriting_by graph table p).inserts (length graph.nodes) path) ≡ count_by (uses graph e) path
   others e out path within =
-      over_counts e (λ n. one_if (uses graph e n)) (λ n. (let news = puts_weight temp table e (inserted p.insert n) (known n) ∙ on_same (λ j. one_if (is_at e (slice_get table j))) (λ j. 0) (inserted p.insert n) (λ j. ap one_if (no_number table e out j)) ∙ sum_zero (inserted p.insert n) in
+      over_counts e (λ n. one_if (uses graph e n)) (λ n. (let news = puts_weight temp table e (inserted p.insert n) (known r n) ∙ on_same (λ j. one_if (is_at e (slice_get table j))) (λ j. 0) (inserted p.insert n) (λ j. ap one_if (no_number table e out j)) ∙ sum_zero (inserted p.insert n) in
       let olds = other_use e out n in
       omega (arith, news, olds))) path within
       ∙ sym (count_sums (uses graph e) path)

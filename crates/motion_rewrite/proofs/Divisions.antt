@@ -8,6 +8,7 @@ use Rattle.mir_base.specs.declared.instructions.Rhs.TheVariants.{Binary}
 use Rattle.mir_base.specs.declared.instructions.Expr.{Expr}
 use Rattle.mir_base.specs.declared.operators.Op.{Op}
 use Rattle.mir_base.specs.Expressions.{divides, is_movable}
+use Rattle.mir_base.specs.ExpressionVars.{rhs_of}
 use Rattle.flow_graph.specs.declared.nodes.Node.TheVariants.{Assign}
 use Rattle.flow_graph.specs.Dividing.{DividesStay}
 use Rattle.flow_graph.specs.DividingLaws.{stay_in_place}
@@ -17,41 +18,34 @@ use Rattle.flow_graph.specs.Insertions.{Change, Kept, changed, entry, rewritten_
 use Rattle.flow_graph.specs.Kept.{redirected}
 use Rattle.path_laws.specs.Paths.{has_bit}
 use Rattle.motion_rewrite.specs.declared.placement.Placement.{Placement}
-use Rattle.motion_rewrite.specs.Expressions.{is_among, rhs_of}
-use Rattle.motion_rewrite.specs.Flatten.{IsFlattened, by_placement, inserted, reading}
-use Rattle.motion_rewrite.specs.Temporaries.{temporary}
-use Rattle.motion_rewrite.proofs.Insertions.{among_head, among_inserted, head_or_none}
+use Rattle.motion_rewrite.specs.Flatten.{IsFlattened, inserted, reading}
+use Rattle.motion_rewrite.proofs.Insertions.{head_or_none}
 use Rattle.motion_rewrite.proofs.Matching.{uses_assign}
-use Rattle.motion_rewrite.proofs.Rewritable.{IsRewritable}
-use Rattle.motion_rewrite.proofs.Served.{IsServed, placed_served}
+use Rattle.motion_rewrite.proofs.Rewritable.{IsRewritable, first_bit, replaced_use, rewriting_by, temps_of}
 
 module _ {graph : GraphShape} {table : List Expr} {p : Placement} (r : IsRewritable graph table p) where
-  temp : ℕ → ℕ
-  temp = temporary (length graph.vars) p.insert
-
-  served : IsServed graph table p
-  served = placed_served graph r.is_graph.can table p r.insert r.replace r.placed
-
   -- a dividing right side is no expression that moves
   not_moved : (rhs : Rhs) (e : Expr) → rhs ≡ rhs_of e → is_movable (rhs_of e) ≡ true → is_movable rhs ≡ false → {A : Type 0} → A
   not_moved rhs e same moves stays = absurd (true≢false (sym moves ∙ sym (ap is_movable same) ∙ stays))
 
-  unchanged : (n x : ℕ) (op : Op) (left right : Operand) (next : ℕ) → divides (Binary op left right) ≡ true → slice_get graph.nodes n ≡ Some (Assign x (Binary op left right) next) → reading (temporary (length graph.vars) p.insert) (inserted p.replace n) ≡ Kept
+  -- so no dividing assignment is replaced
+  unchanged : (n x : ℕ) (op : Op) (left right : Operand) (next : ℕ) → divides (Binary op left right) ≡ true → slice_get graph.nodes n ≡ Some (Assign x (Binary op left right) next) → reading (temps_of graph p) (inserted p.replace n) ≡ Kept
   unchanged n x op left right next may_trap is = elim (head_or_none (inserted p.replace n)) [
-    | inl none ↦ ap (reading (temporary (length graph.vars) p.insert)) none
+    | inl none ↦ ap (reading (temps_of graph p)) none
     | inr first ↦
-        let set : has_bit p.replace first.0 n ≡ true = sym (among_inserted p.replace n first.0) ∙ ap (is_among first.0) first.2 ∙ among_head first.0 first.1 in
-        let u = served.uses_it n first.0 set in
+        let set : has_bit p.replace first.0 n ≡ true = first_bit r n first.0 first.1 first.2 in
+        let u = replaced_use r n first.0 set in
         let found = uses_assign graph u.0 n u.2 in
         let node_is : Assign x (Binary op left right) next ≡ Assign found.0 (rhs_of u.0) found.1 = same_Some (Assign x (Binary op left right) next) (Assign found.0 (rhs_of u.0) found.1) (sym is ∙ found.2) in
         let same : Binary op left right ≡ rhs_of u.0 = cc in
         not_moved (Binary op left right) u.0 same (r.movable.movable first.0 u.0 u.1) (ap not may_trap)
   ]
 
+  -- and each stays
   pub flattened_stay : (result : GraphShape) → IsFlattened graph table p result → DividesStay graph.nodes result.nodes
   flattened_stay result flat = subst (DividesStay graph.nodes) (sym flat.nodes_are)
-      (stay_in_place graph.nodes (rewritten_nodes (by_placement (temporary (length graph.vars) p.insert) table p) graph.nodes) (λ n x op left right next may_trap is. (
+      (stay_in_place graph.nodes (rewritten_nodes (rewriting_by graph table p) graph.nodes) (λ n x op left right next may_trap is. (
         _,
-        old_get (by_placement (temporary (length graph.vars) p.insert) table p) graph.nodes n (Assign x (Binary op left right) next) is
-            ∙ ap (λ (change : Change). Some (redirected (entry (by_placement (temporary (length graph.vars) p.insert) table p).inserts (length graph.nodes)) (changed change (Assign x (Binary op left right) next)))) (unchanged n x op left right next may_trap is),
+        old_get (rewriting_by graph table p) graph.nodes n (Assign x (Binary op left right) next) is
+            ∙ ap (λ (change : Change). Some (redirected (entry (rewriting_by graph table p).inserts (length graph.nodes)) (changed change (Assign x (Binary op left right) next)))) (unchanged n x op left right next may_trap is),
       )))

@@ -1,4 +1,4 @@
--- The rewriting by an placement of movable expressions.
+-- What follows of the rewritten graph from the laws of rewritings: `flatten` ensures it.
 use Rattle.std.proofs.Common.{◌≡◌, ℕ, List, length, sym, ap, ◌∙◌, subst}
 use Rattle.mir_base.specs.declared.instructions.Expr.{Expr}
 use Rattle.mir_base.specs.Shapes.{AllDiffer}
@@ -17,45 +17,40 @@ use Rattle.flow_graph.specs.Insertions.{Rewriting, CanRewrite, rewritten_nodes}
 use Rattle.flow_graph.specs.Machines.{graph_machine, machine_of}
 use Rattle.flow_graph.specs.Paths.{IsFullPath}
 use Rattle.motion_rewrite.specs.declared.placement.Placement.{Placement}
-use Rattle.motion_rewrite.specs.Flatten.{inserted, by_placement, IsFlattened}
+use Rattle.motion_rewrite.specs.Flatten.{IsFlattened}
 use Rattle.motion_rewrite.specs.Over.{HasOver}
 use Rattle.motion_rewrite.specs.Placements.{IsNoDearer}
-use Rattle.motion_rewrite.specs.Temporaries.{temporary}
 use Rattle.motion_rewrite.proofs.Counting.{counted, others}
 use Rattle.motion_rewrite.proofs.Fitting.{placement_fits}
-use Rattle.motion_rewrite.proofs.Keeping.{Keeps, placement_preserves}
-use Rattle.motion_rewrite.proofs.Paying.{counts_no_more}
-use Rattle.motion_rewrite.proofs.Rewritable.{IsRewritable}
-use Rattle.motion_rewrite.proofs.RowNumbers.{AllKnown, row_known}
-use Rattle.motion_rewrite.proofs.Served.{IsServed, temporaries, placed_served}
+use Rattle.motion_rewrite.proofs.TemporaryValues.{TemporariesHold, placement_preserves}
+use Rattle.motion_rewrite.proofs.Evaluations.{counts_no_more}
+use Rattle.motion_rewrite.proofs.Rewritable.{IsRewritable, rewriting_by}
 
 -- the machines of the two graphs have the same received variables
 machine_is : (graph result : GraphShape) (nodes : List Node) → result.received ≡ graph.received → result.nodes ≡ nodes → graph_machine graph.received nodes ≡ machine_of result
 machine_is graph result nodes received is = ap (λ l. graph_machine l nodes) (sym received) ∙ ap (graph_machine result.received) (sym is)
 
 module _ {graph : GraphShape} {table : List Expr} {p : Placement} (r : IsRewritable graph table p) where
+  -- the rewriting, and the nodes that it makes
   abbrev way : Rewriting
-  way = by_placement (temporary (length graph.vars) p.insert) table p
+  way = rewriting_by graph table p
 
   abbrev nodes' : List Node
   nodes' = rewritten_nodes way graph.nodes
 
   module _ (result : GraphShape) (flat : IsFlattened graph table p result) where
+    -- it can be made
     abbrev fits : CanRewrite way flat.names graph
     fits = placement_fits r flat.names flat.are_names
 
-    abbrev known : (n : ℕ) → AllKnown table (inserted p.insert n)
-    known = row_known (length graph.nodes) table p.insert r.insert
-
-    abbrev served : IsServed graph table p
-    served = placed_served graph r.is_graph.can table p r.insert r.replace r.placed
-
+    -- the result is that of the rewriting
     nodes_are : result.nodes ≡ nodes'
     nodes_are = flat.nodes_are
 
     machines : graph_machine graph.received nodes' ≡ machine_of result
     machines = machine_is graph result nodes' flat.received_are nodes_are
 
+    -- a split graph stays split, and no call is new
     pub flattened_split : IsSplit graph.nodes → IsSplit result.nodes
     flattened_split split = subst IsSplit (sym nodes_are) (rewritten_split way graph.nodes (λ m slot s edge. (r.is_graph.can.succs m slot s edge).1) split)
 
@@ -64,17 +59,20 @@ module _ {graph : GraphShape} {table : List Expr} {p : Placement} (r : IsRewrita
 
     -- ---- what it does
 
+    -- the result does the same
     pub flattened_same : UnitSame (machine_of graph) (machine_of result)
     flattened_same = subst (UnitSame (machine_of graph)) machines
-        (rewritten_same way flat.names graph (Keeps graph table (temporary (length graph.vars) p.insert) p r.is_graph r.movable served (temporaries (length graph.vars) p) known) fits r.is_graph (placement_preserves graph table (temporary (length graph.vars) p.insert) p r.is_graph r.movable served (temporaries (length graph.vars) p) known))
+        (rewritten_same way flat.names graph (TemporariesHold r) fits r.is_graph (placement_preserves r))
 
+    -- and evaluates no more where the placement does not
     pub flattened_cheaper : AllDiffer table → IsNoDearer graph table p → UnitCheaper (machine_of graph) (machine_of result)
     flattened_cheaper differ no_dearer = subst (UnitCheaper (machine_of graph)) machines
-        (rewritten_cheaper way flat.names graph (Keeps graph table (temporary (length graph.vars) p.insert) p r.is_graph r.movable served (temporaries (length graph.vars) p) known) fits r.is_graph (placement_preserves graph table (temporary (length graph.vars) p.insert) p r.is_graph r.movable served (temporaries (length graph.vars) p) known)
-        (counts_no_more graph table (temporary (length graph.vars) p.insert) p differ served known no_dearer))
+        (rewritten_cheaper way flat.names graph (TemporariesHold r) fits r.is_graph (placement_preserves r)
+        (counts_no_more r differ no_dearer))
 
     -- ---- paths
 
+    -- one path lies over each full path, with the counts of the placement
     pub flattened_paths : AllDiffer table → (path : List ℕ) → IsFullPath graph.nodes path → HasOver graph result table p path
     flattened_paths differ path full =
         let within = path_within way graph.nodes path full.is_path in
@@ -82,15 +80,16 @@ module _ {graph : GraphShape} {table : List Expr} {p : Placement} (r : IsRewrita
           over = over_path way.inserts (length graph.nodes) path;
           is_over = rewritten_over way flat.names graph fits r.is_graph path full;
           alone = rewritten_alone way flat.names graph fits r.is_graph path;
-          counted = λ i e at_i. counted graph table (temporary (length graph.vars) p.insert) p differ served known i e at_i path within;
-          others = λ e out. others graph table (temporary (length graph.vars) p.insert) p differ served known e out path within;
+          counted = λ i e at_i. counted r differ i e at_i path within;
+          others = λ e out. others r differ e out path within;
         })
 
+    -- and a run along the one goes on along the other
     pub flattened_runs : RunsFollow graph result
     flattened_runs = record {
       follow = λ path other entry answers full is is_entry are runs.
           let lies : IsOver graph.nodes nodes' path other = subst (λ l. IsOver graph.nodes l path other) nodes_are is in
           subst (λ m. RunsAlong m entry answers other) machines
           (subst (RunsAlong (graph_machine graph.received nodes') entry answers) (sym (rewritten_alone way flat.names graph fits r.is_graph path other lies))
-          (rewritten_runs way flat.names graph (Keeps graph table (temporary (length graph.vars) p.insert) p r.is_graph r.movable served (temporaries (length graph.vars) p) known) fits r.is_graph (placement_preserves graph table (temporary (length graph.vars) p.insert) p r.is_graph r.movable served (temporaries (length graph.vars) p) known) path entry answers runs));
+          (rewritten_runs way flat.names graph (TemporariesHold r) fits r.is_graph (placement_preserves r) path entry answers runs));
     }

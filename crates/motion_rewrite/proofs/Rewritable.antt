@@ -1,58 +1,66 @@
--- The placements that are flattened: no insertion stands before Start, and each replaced use has an insertion.
-use Rattle.std.proofs.Common.{◌≡◌, ℕ, zero, suc, ◌+◌, ◌<◌, ◌≤◌, Bool, true, false, cond, ◌||◌, List, [], ◌∷◌, length, slice_get, Some, inl, inr, refl, sym, ap, ◌∙◌, subst, arith}
-use Rattle.std.proofs.lemmas.Bool.{cases_lt}
+-- What `flatten` requires of a graph, a table and a placement, and what follows at once: no insertion stands before Start, and
+-- each replaced node uses its expression, which is inserted somewhere.
+use Rattle.std.proofs.Common.{◌≡◌, ℕ, ◌+◌, ◌<◌, Bool, true, cond, List, [], ◌∷◌, length, slice_get, Some, inl, inr, refl, sym, ap, ◌∙◌, subst, arith}
 use Rattle.mir_base.specs.declared.instructions.Expr.{Expr}
 use Rattle.flow_graph.specs.declared.nodes.Node.{Node}
 use Rattle.flow_graph.specs.Graphs.{GraphShape, IsGraph}
 use Rattle.flow_graph.specs.PathLaws.{reached_trace}
+use Rattle.flow_graph.specs.Insertions.{Rewriting}
+use Rattle.flow_graph.specs.ListLaws.{some_at}
+use Rattle.flow_graph.specs.Numbering.{is_in}
 use Rattle.path_laws.specs.Paths.{AreRows, has_bit}
 use Rattle.motion_rewrite.specs.declared.placement.Placement.{Placement}
-use Rattle.motion_rewrite.specs.Expressions.{kills}
-use Rattle.motion_rewrite.specs.Flatten.{inserted}
-use Rattle.motion_rewrite.specs.Placements.{Serves, CanFlatten, places_of}
+use Rattle.motion_rewrite.specs.Expressions.{kills, uses}
+use Rattle.motion_rewrite.specs.Flatten.{by_placement, inserted}
+use Rattle.motion_rewrite.specs.Placements.{CanFlattenBy, ReachesAlong}
 use Rattle.motion_rewrite.specs.Tables.{AreMovable}
-use Rattle.motion_rewrite.specs.Temporaries.{has_insertion, temporaries_before, temporary}
-use Rattle.flow_graph.specs.InsertionNodes.{some_at}
-use Rattle.motion_rewrite.proofs.RowNumbers.{inserted_bit, set_within}
+use Rattle.motion_rewrite.specs.Temporaries.{temporaries_before, temporary}
+use Rattle.motion_rewrite.proofs.Insertions.{among_inserted, among_head}
+use Rattle.motion_rewrite.proofs.RowNumbers.{AllKnown, inserted_bit, row_known, set_within}
+use Rattle.motion_rewrite.proofs.TemporaryNumbers.{bit_inserted, temporaries_mono}
 
--- what `flatten` asks
+-- what `flatten` requires
 pub record IsRewritable (graph : GraphShape) (table : List Expr) (p : Placement) : Type 0 where
   pub is_graph : IsGraph graph.vars graph.received graph.nodes
   pub movable : AreMovable (length graph.vars) table
   pub insert : AreRows (length graph.nodes) (length table) p.insert
   pub replace : AreRows (length graph.nodes) (length table) p.replace
-  pub placed : (i : ℕ) (e : Expr) → slice_get table i ≡ Some e → CanFlatten graph e (places_of p i)
+  pub placed : CanFlattenBy graph table p
 
+-- so it is where the nodes are those of a graph
 pub rewritable : (graph : GraphShape) (table : List Expr) (p : Placement) (nodes : List Node) → nodes ≡ graph.nodes → IsGraph graph.vars graph.received nodes → AreMovable (length graph.vars) table → AreRows (length graph.nodes) (length table) p.insert → AreRows (length graph.nodes) (length table) p.replace
-    → ((i : ℕ) (e : Expr) → slice_get table i ≡ Some e → CanFlatten graph e (places_of p i)) → IsRewritable graph table p
+    → CanFlattenBy graph table p → IsRewritable graph table p
 rewritable graph table p nodes is is_graph movable insert replace placed = record { is_graph = subst (IsGraph graph.vars graph.received) is is_graph; movable = movable; insert = insert; replace = replace; placed = placed }
 
--- ---- temporaries
+-- the temporaries of a placement
+abbrev pub temps_of : GraphShape → Placement → ℕ → ℕ
+temps_of graph p = temporary (length graph.vars) p.insert
 
-either : (b : Bool) → b || true ≡ true
-either true = refl
-either false = refl
+-- the rewriting by it
+abbrev pub rewriting_by : GraphShape → List Expr → Placement → Rewriting
+rewriting_by graph table p = by_placement (temps_of graph p) table p
 
-bit_inserted : (rows : List (List Bool)) (n i : ℕ) → has_bit rows i n ≡ true → has_insertion rows i ≡ true
-bit_inserted [] n i set = cc
-bit_inserted (row ∷ rows) zero i set = ap (λ b. b || has_insertion rows i) set
-bit_inserted (row ∷ rows) (suc n) i set = ap (λ b. has_bit (row ∷ []) i 0 || b) (bit_inserted rows n i set) ∙ either (has_bit (row ∷ []) i 0)
-
-temporaries_mono : (rows : List (List Bool)) (i m : ℕ) → i < m → temporaries_before rows i + cond (has_insertion rows i) 1 0 ≤ temporaries_before rows m
-temporaries_mono rows i zero lt = absurd (omega (arith, lt))
-temporaries_mono rows i (suc m) lt = elim (cases_lt i m) [
-  | inl before ↦ omega (arith, temporaries_mono rows i m before)
-  | inr ge ↦
-      let same : i ≡ m = omega (arith, lt, ge) in
-      let e : temporaries_before rows i + cond (has_insertion rows i) 1 0 ≡ temporaries_before rows m + cond (has_insertion rows m) 1 0 = ap (λ k. temporaries_before rows k + cond (has_insertion rows k) 1 0) same in
-      omega (arith, e)
-]
-
-serves_some : (Good : ℕ → Type 0) (bad : ℕ → Bool) (before : List ℕ) → Serves Good bad before → (m : ℕ) × Good m
-serves_some Good bad [] s = absurd s
-serves_some Good bad (m ∷ before) s = elim s.1 [ inl good ↦ (m, good) | inr earlier ↦ serves_some Good bad before earlier ]
+-- what is available after some nodes is evaluated at one of them
+pub evaluated_at : (Evaluates : ℕ → Type 0) (kill : ℕ → Bool) (before : List ℕ) → ReachesAlong Evaluates kill before → (m : ℕ) × Evaluates m
+evaluated_at Evaluates kill [] s = absurd s
+evaluated_at Evaluates kill (m ∷ before) s = elim s.1 [ inl here ↦ (m, here) | inr earlier ↦ evaluated_at Evaluates kill before earlier ]
 
 module _ {graph : GraphShape} {table : List Expr} {p : Placement} (r : IsRewritable graph table p) where
+  -- the numbers that a row of insertions lists are those of expressions
+  pub known : (n : ℕ) → AllKnown table (inserted p.insert n)
+  known = row_known (length graph.nodes) table p.insert r.insert
+
+  -- a node whose bit is set uses the expression
+  pub replaced_use : (n i : ℕ) → has_bit p.replace i n ≡ true → (e : Expr) × (slice_get table i ≡ Some e) × (uses graph e n ≡ true)
+  replaced_use n i set =
+      let within = set_within (length graph.nodes) (length table) p.replace r.replace n i set in
+      let e = some_at table i within.1 in
+      (e.0, e.1, (r.placed i e.0 e.1).replaced_uses n within.0 set)
+
+  -- the first number that a row of uses lists has its bit set
+  pub first_bit : (n i : ℕ) (rest : List ℕ) → inserted p.replace n ≡ i ∷ rest → has_bit p.replace i n ≡ true
+  first_bit n i rest first = sym (among_inserted p.replace n i) ∙ ap (is_in i) first ∙ among_head i rest
+
   -- the temporary of an expression with an insertion is one of those that the graph gets
   pub temporary_within : (n i : ℕ) → has_bit p.insert i n ≡ true → temporary (length graph.vars) p.insert i < length graph.vars + temporaries_before p.insert (length table)
   temporary_within n i set =
@@ -66,11 +74,12 @@ module _ {graph : GraphShape} {table : List Expr} {p : Placement} (r : IsRewrita
       let w = set_within (length graph.nodes) (length table) p.replace r.replace n i set in
       let e = some_at table i w.1 in
       let trace = reached_trace graph.nodes n (r.is_graph.reached n w.0) in
-      elim ((r.placed i e.0 e.1).served n trace.0 set trace.1) [
+      elim ((r.placed i e.0 e.1).available n trace.0 set trace.1) [
         | inl here ↦ (n, here)
-        | inr earlier ↦ serves_some (λ m. has_bit p.insert i m ≡ true) (kills graph e.0) trace.0 earlier
+        | inr earlier ↦ evaluated_at (λ m. has_bit p.insert i m ≡ true) (kills graph e.0) trace.0 earlier
       ]
 
+  -- no bit is set in the row of Start
   start_clear : (i : ℕ) → has_bit p.insert i 0 ≡ true → ⊥
   start_clear i set =
       let w = set_within (length graph.nodes) (length table) p.insert r.insert 0 i set in

@@ -1,28 +1,25 @@
 -- What a placement puts before a node: one assignment for each number.
-use Rattle.std.proofs.Common.{◌≡◌, ℕ, suc, ◌<◌, List, [], ◌∷◌, ◌++◌, length, slice_get, Some, refl, ap, ◌∙◌}
+use Rattle.std.proofs.Common.{◌≡◌, ℕ, ◌<◌, List, [], ◌∷◌, ◌++◌, length, slice_get, Some, refl, ap, ◌∙◌}
 use Rattle.mir_base.specs.declared.instructions.Operand.TheVariants.{Var}
 use Rattle.mir_base.specs.declared.instructions.Rhs.TheVariants.{Plain}
 use Rattle.mir_base.specs.declared.instructions.Expr.{Expr}
 use Rattle.mir_base.specs.Shapes.{AllBelow}
+use Rattle.mir_base.specs.ExpressionVars.{rhs_of}
 use Rattle.flow_graph.specs.declared.nodes.Node.{Node}
 use Rattle.flow_graph.specs.EditingOrder.{rewritten_alike}
 use Rattle.flow_graph.specs.Graphs.{AllWithin}
 use Rattle.flow_graph.specs.Insertions.{Replaced}
 use Rattle.path_laws.specs.Paths.{AreRows}
 use Rattle.motion_rewrite.specs.declared.placement.Placement.{Placement}
-use Rattle.motion_rewrite.specs.Expressions.{rhs_of}
 use Rattle.motion_rewrite.specs.Flatten.{inserted, insertion_of, insertions_of, reading, by_placement, flattened}
-use Rattle.motion_rewrite.proofs.RowNumbers.{AllKnown, inserted_within}
+use Rattle.motion_rewrite.proofs.RowNumbers.{inserted_within}
 
 module _ (temp : ℕ → ℕ) (table : List Expr) where
+  -- a number that the table knows makes one assignment
   pub one_more : (i : ℕ) (e : Expr) (numbers : List ℕ) → slice_get table i ≡ Some e → insertions_of temp table (i ∷ numbers) ≡ record { var = temp i; rhs = rhs_of e } ∷ insertions_of temp table numbers
   one_more i e numbers at_i = ap (λ o. insertion_of (temp i) o ++ insertions_of temp table numbers) at_i
 
-  pub as_many : (numbers : List ℕ) → AllKnown table numbers → length (insertions_of temp table numbers) ≡ length numbers
-  as_many [] known = refl
-  as_many (i ∷ numbers) known = ap length (one_more i known.0.0 numbers known.0.1) ∙ ap suc (as_many numbers known.1)
-
--- temporaries that agree where they are asked
+-- temporaries that agree on the expressions of the table
 module _ (f g : ℕ → ℕ) (table : List Expr) (same : (i : ℕ) → i < length table → f i ≡ g i) where
   pub insertions_alike : (numbers : List ℕ) → AllBelow (length table) numbers → insertions_of f table numbers ≡ insertions_of g table numbers
   insertions_alike [] below = refl

@@ -1,14 +1,15 @@
--- The graph that a placement makes: new assignments to temporaries before nodes, and uses that read them.
-use Rattle.std.specs.Prelude.{◌≡◌, ℕ, zero, suc, ◌+◌, Bool, cond, List, [], ◌∷◌, ◌++◌, length, slice_get, Option, Some, None}
+-- The graph that a placement makes: new assignments to temporaries before nodes, and uses that read them. Cited by
+-- contracts.
+use Rattle.std.specs.Prelude.{◌≡◌, ℕ, zero, suc, ◌+◌, Bool, if◌then◌else◌, List, [], ◌∷◌, ◌++◌, length, slice_get, Option, Some, None}
 use Rattle.mir_base.specs.declared.instructions.Operand.TheVariants.{Var}
 use Rattle.mir_base.specs.declared.instructions.Rhs.TheVariants.{Plain}
 use Rattle.mir_base.specs.declared.instructions.Expr.{Expr}
+use Rattle.mir_base.specs.ExpressionVars.{rhs_of}
+use Rattle.bit_rows.specs.Bits.{row_of}
 use Rattle.flow_graph.specs.declared.nodes.Node.{Node}
 use Rattle.flow_graph.specs.Graphs.{GraphShape}
 use Rattle.flow_graph.specs.Insertions.{Insertion, Change, Kept, Replaced, Rewriting, rewritten_nodes}
-use Rattle.bit_rows.specs.Bits.{row_of}
 use Rattle.motion_rewrite.specs.declared.placement.Placement.{Placement}
-use Rattle.motion_rewrite.specs.Expressions.{rhs_of}
 use Rattle.motion_rewrite.specs.Temporaries.{temporary, temporaries_before, AreTemporaryNames}
 
 -- ---- the insertions of a node
@@ -16,7 +17,7 @@ use Rattle.motion_rewrite.specs.Temporaries.{temporary, temporaries_before, AreT
 -- the places of the bits that are set, in order, counted from k
 abbrev pub set_from : ℕ → List Bool → List ℕ
 set_from k [] = []
-set_from k (bit ∷ bits) = cond bit (k ∷ set_from (suc k) bits) (set_from (suc k) bits)
+set_from k (bit ∷ bits) = if bit then k ∷ set_from (suc k) bits else set_from (suc k) bits
 
 -- the numbers of the expressions that are inserted before node n, in order of the table
 abbrev pub inserted : List (List Bool) → ℕ → List ℕ
@@ -50,6 +51,7 @@ reading temp (i ∷ numbers) = Replaced (Plain (Var (temp i)))
 abbrev pub by_placement : (ℕ → ℕ) → List Expr → Placement → Rewriting
 by_placement temp table p = record { inserts = λ n. insertions_of temp table (inserted p.insert n); changes = λ n. reading temp (inserted p.replace n) }
 
+-- the nodes of the graph that is rewritten by a placement
 abbrev pub flattened : (ℕ → ℕ) → List Expr → Placement → List Node → List Node
 flattened temp table p nodes = rewritten_nodes (by_placement temp table p) nodes
 

@@ -1,10 +1,11 @@
 pub mod Expressions
 pub mod ExpressionLaws
+pub mod Tables
 pub mod Placements
 pub mod PlacementLaws
-pub mod Tables
 pub mod Rows
 pub mod Temporaries
 pub mod Flatten
+pub mod Edits
 pub mod Over
 pub mod FlattenLaws

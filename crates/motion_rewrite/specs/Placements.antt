@@ -1,25 +1,32 @@
 -- Placements of one expression: where it is available and anticipatable, which nodes are safe, which placements are
--- admissible, how often a placement evaluates on a path, and when it is optimal.
+-- admissible, how often a placement evaluates on a path, and when it is optimal; and the same of each expression of a table.
+-- Cited by contracts.
 use Rattle.std.specs.Prelude.{◌≡◌, ◌≢◌, ◌⊎◌, ◌<◌, ◌≤◌, ◌+◌, ◌&&◌, ℕ, Bool, true, false, not, count_by, List, [], ◌∷◌, length, slice_get, Some}
 use Rattle.mir_base.specs.declared.instructions.Expr.{Expr}
 use Rattle.flow_graph.specs.declared.nodes.Node.TheVariants.{Skip}
 use Rattle.flow_graph.specs.Graphs.{GraphShape, succs_at}
 use Rattle.flow_graph.specs.Paths.{HasEdge, IsFullPath, Trace}
+use Rattle.flow_graph.specs.Sums.{one_if}
 use Rattle.path_laws.specs.Paths.{BornAfter, has_bit}
 use Rattle.motion_rewrite.specs.declared.placement.Placement.{Placement}
 use Rattle.motion_rewrite.specs.Expressions.{uses, kills}
+use Rattle.motion_rewrite.specs.Tables.{ForEachExpr}
 
 -- of the nodes before a node, the nearest first, one is good, and neither it nor any after it is bad
-abbrev pub Serves : (ℕ → Type 0) → (ℕ → Bool) → List ℕ → Type 0
-Serves Good bad [] = ⊥
-Serves Good bad (m ∷ before) = (bad m ≡ false) × (Good m ⊎ Serves Good bad before)
+abbrev pub ReachesAlong : (ℕ → Type 0) → (ℕ → Bool) → List ℕ → Type 0
+ReachesAlong Good bad [] = ⊥
+ReachesAlong Good bad (m ∷ before) = (bad m ≡ false) × (Good m ⊎ ReachesAlong Good bad before)
+
+-- e is available after these nodes: one of them evaluates it, and neither it nor any after it kills e
+abbrev pub IsAvailableAfter : GraphShape → Expr → (ℕ → Type 0) → List ℕ → Type 0
+IsAvailableAfter graph e Evaluates before = ReachesAlong Evaluates (kills graph e) before
 
 -- ---- safety
 
 -- available, or up-safe: every path from Start to n has, before n, a node that uses e such that neither it nor a later
 -- one before n kills e
 abbrev pub IsAvailable : GraphShape → Expr → ℕ → Type 0
-IsAvailable graph e n = (before : List ℕ) → Trace graph.nodes n before → Serves (λ m. uses graph e m ≡ true) (kills graph e) before
+IsAvailable graph e n = (before : List ℕ) → Trace graph.nodes n before → IsAvailableAfter graph e (λ m. uses graph e m ≡ true) before
 
 -- anticipatable, or down-safe: every path from n that ends at its first killing node, or at a Return with no killing node
 -- before it, has a use of e on it, the last node included
@@ -52,19 +59,23 @@ pub record Places : Type 0 where
 abbrev pub places_of : Placement → ℕ → Places
 places_of p i = record { inserts = has_bit p.insert i; replaces = has_bit p.replace i }
 
--- each replaced node uses e, each insertion stands at a safe node, and every path from Start to a replaced node has an
--- insertion, at that node or before it, from which on no node before the replaced one kills e
+-- every path from Start to a replaced node has an insertion, at that node or before it, from which on no node before the
+-- replaced one kills e
+abbrev pub ReplacedAreAvailable : GraphShape → Expr → Places → Type 0
+ReplacedAreAvailable graph e p = (n : ℕ) (before : List ℕ) → p.replaces n ≡ true → Trace graph.nodes n before → (p.inserts n ≡ true) ⊎ IsAvailableAfter graph e (λ m. p.inserts m ≡ true) before
+
+-- each replaced node uses e, which is available there from the insertions, and each insertion stands at a safe node
 pub record IsAdmissible (graph : GraphShape) (e : Expr) (Down : ℕ → Type 0) (p : Places) : Type 0 where
   pub replaced_uses : (n : ℕ) → n < length graph.nodes → p.replaces n ≡ true → uses graph e n ≡ true
   pub safe : (n : ℕ) → n < length graph.nodes → p.inserts n ≡ true → IsSafe graph e Down n
-  pub served : (n : ℕ) (before : List ℕ) → p.replaces n ≡ true → Trace graph.nodes n before → (p.inserts n ≡ true) ⊎ Serves (λ m. p.inserts m ≡ true) (kills graph e) before
+  pub available : ReplacedAreAvailable graph e p
 
--- what the rewriting by a placement needs: each replaced node uses e, nothing is evaluated before Start, and every path from
--- Start to a replaced node has an insertion, at that node or before it, from which on no node before the replaced one kills e
+-- what the rewriting by a placement needs: each replaced node uses e, which is available there from the insertions, and
+-- nothing is inserted before Start
 pub record CanFlatten (graph : GraphShape) (e : Expr) (p : Places) : Type 0 where
   pub replaced_uses : (n : ℕ) → n < length graph.nodes → p.replaces n ≡ true → uses graph e n ≡ true
   pub at_start : p.inserts 0 ≡ false
-  pub served : (n : ℕ) (before : List ℕ) → p.replaces n ≡ true → Trace graph.nodes n before → (p.inserts n ≡ true) ⊎ Serves (λ m. p.inserts m ≡ true) (kills graph e) before
+  pub available : ReplacedAreAvailable graph e p
 
 -- nothing is inserted, and nothing replaced
 abbrev pub nowhere : Places
@@ -74,10 +85,28 @@ nowhere = record { inserts = λ n. false; replaces = λ n. false }
 abbrev pub count : GraphShape → Expr → Places → List ℕ → ℕ
 count graph e p path = count_by p.inserts path + count_by (λ n. uses graph e n && not (p.replaces n)) path
 
+-- how often e is evaluated at one node
+abbrev pub evaluations_at : GraphShape → Expr → Places → ℕ → ℕ
+evaluations_at graph e p n = one_if (p.inserts n) + one_if (uses graph e n && not (p.replaces n))
+
 -- admissible, and on no full path is e evaluated more often than by any other admissible placement
 pub record IsOptimal (graph : GraphShape) (e : Expr) (Down : ℕ → Type 0) (p : Places) : Type 0 where
   pub admissible : IsAdmissible graph e Down p
   pub least : (other : Places) → IsAdmissible graph e Down other → (path : List ℕ) → IsFullPath graph.nodes path → count graph e p path ≤ count graph e other path
+
+-- ---- placements of a table
+
+-- the placement is admissible for each expression, by the rule that says where it is down
+abbrev pub AreAdmissible : GraphShape → List Expr → (Expr → ℕ → Type 0) → Placement → Type 0
+AreAdmissible graph table Down p = ForEachExpr table (λ i e. IsAdmissible graph e (Down e) (places_of p i))
+
+-- it is optimal for each expression
+abbrev pub AreOptimal : GraphShape → List Expr → (Expr → ℕ → Type 0) → Placement → Type 0
+AreOptimal graph table Down p = ForEachExpr table (λ i e. IsOptimal graph e (Down e) (places_of p i))
+
+-- the graph can be rewritten by it, expression by expression
+abbrev pub CanFlattenBy : GraphShape → List Expr → Placement → Type 0
+CanFlattenBy graph table p = ForEachExpr table (λ i e. CanFlatten graph e (places_of p i))
 
 -- the placement evaluates no expression of the table more often than the nodes as they are
 pub record IsNoDearer (graph : GraphShape) (table : List Expr) (p : Placement) : Type 0 where

@@ -1,17 +1,21 @@
--- Tables of expressions.
+-- Tables of expressions: the movable expressions of a graph, and what is said of each expression of a table. Cited by
+-- contracts.
 use Rattle.std.specs.Prelude.{◌≡◌, ℕ, true, not, filter, List, [], ◌∷◌, ◌++◌, slice_get, Option, Some, None}
 use Rattle.mir_base.specs.declared.instructions.Rhs.{Rhs}
 use Rattle.mir_base.specs.declared.instructions.Expr.{Expr}
 use Rattle.mir_base.specs.Expressions.{expr_of, is_movable}
 use Rattle.mir_base.specs.Shapes.{AllBelow}
+use Rattle.mir_base.specs.ExpressionVars.{expr_vars, rhs_of}
+use Rattle.mir_base.specs.SameExpressions.{same_expr}
 use Rattle.flow_graph.specs.declared.nodes.Node.{Node}
 use Rattle.flow_graph.specs.Graphs.{node_rhs}
-use Rattle.motion_rewrite.specs.Expressions.{expr_vars, rhs_of, same_expr}
 
+-- the list of the expression, empty where there is none
 abbrev pub listed : Option Expr → List Expr
 listed None = []
 listed (Some e) = e ∷ []
 
+-- the movable expression that a right side is
 abbrev pub expr_in : Option Rhs → Option Expr
 expr_in None = None
 expr_in (Some rhs) = expr_of rhs
@@ -38,3 +42,7 @@ movable_exprs nodes = firsts (evaluated nodes)
 pub record AreMovable (vars : ℕ) (table : List Expr) : Type 0 where
   pub movable : (i : ℕ) (e : Expr) → slice_get table i ≡ Some e → is_movable (rhs_of e) ≡ true
   pub below : (i : ℕ) (e : Expr) → slice_get table i ≡ Some e → AllBelow vars (expr_vars e)
+
+-- a statement of each expression of the table and its number
+abbrev pub ForEachExpr : List Expr → (ℕ → Expr → Type 0) → Type 0
+ForEachExpr table Holds = (i : ℕ) (e : Expr) → slice_get table i ≡ Some e → Holds i e

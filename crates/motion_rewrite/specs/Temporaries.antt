@@ -1,5 +1,5 @@
--- The temporaries of a placement: which expressions have one, its number and its name.
-use Rattle.std.specs.Prelude.{◌≡◌, ℕ, zero, suc, ◌+◌, ◌<◌, ◌≤◌, Bool, false, cond, ◌||◌, List, [], ◌∷◌, ◌++◌, length, slice_get, Some, take, Contains, codes, decimal}
+-- The temporaries of a placement: which expressions have one, its number and its name. Cited by contracts.
+use Rattle.std.specs.Prelude.{◌≡◌, ℕ, zero, suc, ◌+◌, ◌<◌, ◌≤◌, Bool, false, if◌then◌else◌, ◌||◌, List, [], ◌∷◌, ◌++◌, length, slice_get, slice_index_or, Some, take, ◌↔◌, Contains, codes, decimal}
 use Rattle.path_laws.specs.Paths.{has_bit}
 
 -- ---- numbers
@@ -12,14 +12,26 @@ has_insertion (row ∷ rows) i = has_bit (row ∷ []) i 0 || has_insertion rows 
 -- how many expressions before number i have an insertion
 abbrev pub temporaries_before : List (List Bool) → ℕ → ℕ
 temporaries_before rows zero = 0
-temporaries_before rows (suc i) = temporaries_before rows i + cond (has_insertion rows i) 1 0
+temporaries_before rows (suc i) = temporaries_before rows i + (if has_insertion rows i then 1 else 0)
 
 -- the temporary of expression i, where the graph has so many variables: each expression with an insertion has the next
 -- number, in the order of the table
 abbrev pub temporary : ℕ → List (List Bool) → ℕ → ℕ
 temporary vars rows i = vars + temporaries_before rows i
 
+-- the numbers are those of the temporaries of so many expressions
+abbrev pub AreTemporaries : ℕ → ℕ → List (List Bool) → List ℕ → Type 0
+AreTemporaries vars exprs rows numbers = (i : ℕ) → i < exprs → slice_get numbers i ≡ Some (temporary vars rows i)
+
+-- the row has the bits of the expressions that have an insertion
+abbrev pub IsInsertionRow : List (List Bool) → List Bool → Type 0
+IsInsertionRow rows row = (i : ℕ) → slice_index_or row i false ≡ has_insertion rows i
+
 -- ---- names
+
+-- two lists have the same names
+abbrev pub HaveSameNames : List (List ℕ) → List (List ℕ) → Type 0
+HaveSameNames names taken = (name : List ℕ) → Contains taken name ↔ Contains names name
 
 -- `h` and the number
 abbrev pub temporary_name : ℕ → List ℕ

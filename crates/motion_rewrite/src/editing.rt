@@ -1,11 +1,11 @@
-// The edits that a placement asks for: uses that read temporaries, and evaluations before nodes.
-ghost use Rattle.std.specs.Prelude.{◌≡◌, ◌⊎◌, [], ◌+◌, ◌<◌, ◌≤◌, ℕ, length, slice_get, slice_index_or, IfOk, IsTrue};
-ghost use Rattle.bit_rows.specs.Bits.{row_of};
-ghost use Rattle.flow_graph.specs.Editing.{graph_change_each, graph_changed, graph_put_all, graph_put_each, is_assignment};
-ghost use Rattle.flow_graph.specs.Insertions.{ChangeBelow, InsertionsBelow, Kept};
-ghost use Rattle.motion_rewrite.specs.Expressions.{rhs_of};
-ghost use Rattle.motion_rewrite.specs.Flatten.{inserted, inserted_below, insertions_of, reading, set_from};
+// The edits by which a graph is rewritten: uses that read temporaries, and evaluations before nodes.
+ghost use Rattle.std.specs.Prelude.{◌≡◌, [], ◌+◌, ◌<◌, ◌≤◌, length, IfOk};
+ghost use Rattle.mir_base.specs.ExpressionVars.{rhs_of};
+ghost use Rattle.flow_graph.specs.Editing.{graph_changed, graph_put_all};
+ghost use Rattle.flow_graph.specs.Insertions.{ChangeBelow, InsertionsBelow};
 ghost use Rattle.path_laws.specs.Paths.{AreRows};
+ghost use Rattle.motion_rewrite.specs.Edits.{CanChange, CanChangeEach, ChangesBelow, PutsBelow, change_by, graph_evaluating, graph_read, puts_by};
+ghost use Rattle.motion_rewrite.specs.Flatten.{inserted, inserted_below, set_from};
 
 use crate::{ExprTable, Memory};
 use bit_rows::{RowView, Rows};
@@ -13,7 +13,7 @@ use flow_graph::Editor;
 use mir_base::{Expr, Operand, Rhs};
 use std::alloc::AllocError;
 
-/// How many insertions there are. Its only refusal is want of memory, where there are more than any memory holds.
+/// How many insertions there are. It fails only with `Memory`, where there are more than any memory holds.
 pub(crate) fn insertions_in(insert: &Rows) -> Result<usize, Memory>
     ensures { IfOk result (λ room. room ≡ inserted_below insert.now (length insert.now)) }
 {
@@ -47,9 +47,9 @@ fn set_in(row: &RowView<'_>) -> usize
 /// Lets each use whose bit is set read the temporary of its expression.
 pub(crate) fn read_temporaries(editor: &mut Editor, temps: &[usize], replace: &Rows)
     requires rows { AreRows (length editor.old.graph.nodes) (length temps.now) replace.now }
-    requires uses { (n : ℕ) → n < length replace.now → (reading (λ i. slice_index_or temps.now i 0) (inserted replace.now n) ≡ Kept) ⊎ IsTrue (is_assignment (slice_get editor.old.graph.nodes n)) }
-    requires vars { (n : ℕ) → n < length replace.now → ChangeBelow (length editor.old.graph.vars) (reading (λ i. slice_index_or temps.now i 0) (inserted replace.now n)) }
-    ensures graph { editor.new.graph ≡ graph_change_each (λ n. reading (λ i. slice_index_or temps.now i 0) (inserted replace.now n)) (length replace.now) editor.old.graph }
+    requires uses { CanChangeEach editor.old.graph temps.now replace.now }
+    requires vars { ChangesBelow (length editor.old.graph.vars) temps.now replace.now }
+    ensures graph { editor.new.graph ≡ graph_read temps.now replace.now editor.old.graph }
     ensures spare { editor.new.spare ≡ editor.old.spare }
 {
     for node in 0..replace.len() {
@@ -60,9 +60,10 @@ pub(crate) fn read_temporaries(editor: &mut Editor, temps: &[usize], replace: &R
 /// Lets one use read the temporary of its expression, where a bit of the row is set.
 fn read_temporary(editor: &mut Editor, node: usize, temps: &[usize], row: &RowView<'_>)
     requires width { length row.now ≡ length temps.now }
-    requires uses { (reading (λ i. slice_index_or temps.now i 0) (set_from 0 row.now) ≡ Kept) ⊎ IsTrue (is_assignment (slice_get editor.old.graph.nodes node)) }
-    requires vars { ChangeBelow (length editor.old.graph.vars) (reading (λ i. slice_index_or temps.now i 0) (set_from 0 row.now)) }
-    ensures graph { editor.new.graph ≡ graph_changed node (reading (λ i. slice_index_or temps.now i 0) (set_from 0 row.now)) editor.old.graph }
+    requires uses { CanChange editor.old.graph node (change_by temps.now row.now) }
+    requires vars { ChangeBelow (length editor.old.graph.vars) (change_by temps.now row.now) }
+    ensures graph { editor.new.graph ≡
+        graph_changed node (change_by temps.now row.now) editor.old.graph }
     ensures spare { editor.new.spare ≡ editor.old.spare }
 {
     match row.next_true(0) {
@@ -81,9 +82,9 @@ pub(crate) fn put_evaluations(
     requires rows { AreRows (length editor.old.graph.nodes) (length table.now) insert.now }
     requires temps { length temps.now ≡ length table.now }
     requires start { inserted insert.now 0 ≡ [] }
-    requires vars { (n : ℕ) → n < length insert.now → InsertionsBelow (length editor.old.graph.vars) (insertions_of (λ i. slice_index_or temps.now i 0) table.now (inserted insert.now n)) }
+    requires vars { PutsBelow (length editor.old.graph.vars) temps.now table.now insert.now }
     requires room { editor.old.spare ≡ inserted_below insert.now (length insert.now) }
-    ensures { editor.new.graph ≡ graph_put_each (λ n. insertions_of (λ i. slice_index_or temps.now i 0) table.now (inserted insert.now n)) (length insert.now) editor.old.graph }
+    ensures { editor.new.graph ≡ graph_evaluating temps.now table.now insert.now editor.old.graph }
 {
     for node in 0..insert.len() {
         put_before(editor, node, table, temps, &insert.row(node));
@@ -102,9 +103,11 @@ fn put_before(
     requires temps { length temps.now ≡ length table.now }
     requires node { node < length editor.old.graph.nodes }
     requires some { 0 < length (set_from 0 row.now) → 1 ≤ node }
-    requires vars { InsertionsBelow (length editor.old.graph.vars) (insertions_of (λ i. slice_index_or temps.now i 0) table.now (set_from 0 row.now)) }
+    requires vars { InsertionsBelow (length editor.old.graph.vars)
+        (puts_by temps.now table.now row.now) }
     requires room { length (set_from 0 row.now) ≤ editor.old.spare }
-    ensures graph { editor.new.graph ≡ graph_put_all node (insertions_of (λ i. slice_index_or temps.now i 0) table.now (set_from 0 row.now)) editor.old.graph }
+    ensures graph { editor.new.graph ≡
+        graph_put_all node (puts_by temps.now table.now row.now) editor.old.graph }
     ensures spare { editor.new.spare + length (set_from 0 row.now) ≡ editor.old.spare }
 {
     let mut from = 0;

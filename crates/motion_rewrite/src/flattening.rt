@@ -1,20 +1,14 @@
 // The rewriting of a graph by a placement.
-ghost use Rattle.std.specs.Prelude.{◌≡◌, ℕ, List, length, slice_get, IfOk, OnOk, Some};
+ghost use Rattle.std.specs.Prelude.{length, IfOk, OnOk};
 ghost use Rattle.mir_base.specs.Shapes.{AllDiffer};
-ghost use Rattle.mir_base.specs.UnitRuns.{UnitCheaper, UnitSame};
-ghost use Rattle.mir_base.specs.declared.instructions.Expr.{Expr};
 ghost use Rattle.flow_graph.specs.Along.{RunsFollow};
-ghost use Rattle.flow_graph.specs.Calls.{NodesCall};
-ghost use Rattle.flow_graph.specs.Dividing.{DividesStay};
 ghost use Rattle.flow_graph.specs.Edges.{IsSplit};
 ghost use Rattle.flow_graph.specs.Graphs.{IsGraph};
-ghost use Rattle.flow_graph.specs.Keeps.{AsGraph, Keeps};
-ghost use Rattle.flow_graph.specs.Machines.{machine_of};
-ghost use Rattle.flow_graph.specs.Paths.{IsFullPath};
-ghost use Rattle.path_laws.specs.Paths.{AreRows};
+ghost use Rattle.flow_graph.specs.Passes.{GraphCalls, GraphCheaper, GraphDivides, GraphKeeps, GraphSame};
+ghost use Rattle.path_laws.specs.Paths.{HaveShape};
 ghost use Rattle.motion_rewrite.specs.Flatten.{IsFlattened};
-ghost use Rattle.motion_rewrite.specs.Over.{HasOver};
-ghost use Rattle.motion_rewrite.specs.Placements.{CanFlatten, IsNoDearer, places_of};
+ghost use Rattle.motion_rewrite.specs.Over.{HasOverEach};
+ghost use Rattle.motion_rewrite.specs.Placements.{CanFlattenBy, IsNoDearer};
 ghost use Rattle.motion_rewrite.specs.Tables.{AreMovable};
 
 use crate::editing::{insertions_in, put_evaluations, read_temporaries};
@@ -32,9 +26,9 @@ use std::alloc::Global;
 /// plain assignment of the temporary. Old nodes keep their numbers.
 ///
 /// The expressions are movable and over the graph's variables; the placement has one row for each node and one bit for each
-/// expression, and for each no insertion stands before Start, and each replaced node uses the expression and is served by
-/// an insertion on every path to it. So it is with every placement that is admissible by some down rule. It fails only with
-/// `Memory`. The rewriting is that of Knoop, Ruething and Steffen, *Optimal Code Motion: Theory and Practice*, TOPLAS 1994,
+/// expression, and for each no insertion stands before Start, and each replaced node uses the expression, which an insertion
+/// makes available there on every path to it. So it is with every placement that is admissible by some down rule. It fails
+/// only with `Memory`. The rewriting is that of Knoop, Ruething and Steffen, *Optimal Code Motion: Theory and Practice*, TOPLAS 1994,
 /// for nodes of one instruction.
 pub fn flatten(
     alloc: Global,
@@ -43,36 +37,39 @@ pub fn flatten(
     placement: &Placement,
 ) -> Result<Graph, Memory>
     requires movable { AreMovable (length graph.now.vars) table.now }
-    requires insert { AreRows (length graph.now.nodes) (length table.now) placement.now.insert }
-    requires replace { AreRows (length graph.now.nodes) (length table.now) placement.now.replace }
-    requires placed { (i : ℕ) (e : Expr) → slice_get table.now i ≡ Some e → CanFlatten graph.now e (places_of placement.now i) }
-    ensures flattened { IfOk result (λ flat. IsFlattened graph.now table.now placement.now flat) }
-    ensures same { IfOk result (λ flat. UnitSame (machine_of graph.now) (machine_of flat)) }
+    requires insert { HaveShape graph.now (length table.now) placement.now.insert }
+    requires replace { HaveShape graph.now (length table.now) placement.now.replace }
+    requires placed { CanFlattenBy graph.now table.now placement.now }
+    ensures flattened { IfOk result (IsFlattened graph.now table.now placement.now) }
+    ensures same { IfOk result (GraphSame graph.now) }
 
-    // where the placement evaluates no expression more often than the graph, the result counts no more
-    ensures cheaper { IfOk result (λ flat. IsNoDearer graph.now table.now placement.now → UnitCheaper (machine_of graph.now) (machine_of flat)) }
-    ensures keeps { IfOk result (λ flat. IsNoDearer graph.now table.now placement.now → Keeps (AsGraph graph.now) (AsGraph flat)) }
+    // where the placement evaluates no expression more often than the graph, the result evaluates no more operators
+    ensures cheaper { IfOk result (λ flat. IsNoDearer graph.now table.now placement.now →
+        GraphCheaper graph.now flat) }
+    ensures keeps { IfOk result (λ flat. IsNoDearer graph.now table.now placement.now →
+        GraphKeeps graph.now flat) }
 
     // one path of the result lies over each full path, with the counts of the placement
-    ensures paths { IfOk result (λ flat. (path : List ℕ) → IsFullPath graph.now.nodes path → HasOver graph.now flat table.now placement.now path) }
+    ensures paths { IfOk result (HasOverEach graph.now table.now placement.now) }
 
-    // where a run of the graph goes along a full path to its return, that of the result goes along the path over it
-    ensures runs { IfOk result (λ flat. RunsFollow graph.now flat) }
+    // where a run of the graph goes along a full path to its return, that of the result goes along the corresponding
+    // path of it
+    ensures runs { IfOk result (RunsFollow graph.now) }
 
     // a split graph stays split
     ensures split { IfOk result (λ flat. IsSplit graph.now.nodes → IsSplit flat.nodes) }
 
     // each dividing assignment stays
-    ensures divides { IfOk result (λ flat. DividesStay graph.now.nodes flat.nodes) }
+    ensures divides { IfOk result (GraphDivides graph.now) }
 
     // the result makes no calls but those of the graph
-    ensures calls { IfOk result (λ flat. (called count : ℕ) → NodesCall flat.nodes called count → NodesCall graph.now.nodes called count) }
+    ensures calls { IfOk result (GraphCalls graph.now) }
 {
     let flat = rewritten(alloc, graph, table, placement)?;
     Ok(flat)
 }
 
-/// The graph rewritten by a placement.
+/// The graph rewritten by a placement, of which `flatten` says what follows.
 fn rewritten(
     alloc: Global,
     graph: &Graph,
@@ -80,12 +77,12 @@ fn rewritten(
     placement: &Placement,
 ) -> Result<Graph, Memory>
     requires movable { AreMovable (length graph.now.vars) table.now }
-    requires insert { AreRows (length graph.now.nodes) (length table.now) placement.now.insert }
-    requires replace { AreRows (length graph.now.nodes) (length table.now) placement.now.replace }
-    requires placed { (i : ℕ) (e : Expr) → slice_get table.now i ≡ Some e → CanFlatten graph.now e (places_of placement.now i) }
+    requires insert { HaveShape graph.now (length table.now) placement.now.insert }
+    requires replace { HaveShape graph.now (length table.now) placement.now.replace }
+    requires placed { CanFlattenBy graph.now table.now placement.now }
     ensures graph { OnOk result (IsGraph graph.now.vars graph.now.received graph.now.nodes) }
     ensures differ { OnOk result (AllDiffer table.now) }
-    ensures flattened { IfOk result (λ flat. IsFlattened graph.now table.now placement.now flat) }
+    ensures flattened { IfOk result (IsFlattened graph.now table.now placement.now) }
 {
     let insert = &placement.insert;
     let temporaries = number_temporaries(alloc, graph.vars().len(), table.len(), insert)?;

@@ -6,8 +6,8 @@
 //! optimal.
 //!
 //! The theorem that this crate carries is the contract of `flatten`: for every admissible placement of movable
-//! expressions, by whatever down rule and whoever made it, the result does the same as the graph, and on the path over each full path each
-//! expression is evaluated as often as the placement counts.
+//! expressions, by whatever down rule and whoever made it, the result does the same as the graph, and on the
+//! corresponding path of each full path each expression is evaluated as often as the placement counts.
 #![tactic(auto)]
 
 mod editing;
@@ -17,13 +17,9 @@ mod placement;
 mod rows;
 mod table;
 mod temporaries;
-#[cfg(test)]
-mod tests;
 
 pub use flattening::flatten;
+pub use mir_base::Memory;
 pub use placement::Placement;
 pub use rows::{kill_rows, use_rows};
 pub use table::{ExprTable, exprs};
-
-/// Want of memory: the allocator refused.
-pub type Memory = std::alloc::AllocError;

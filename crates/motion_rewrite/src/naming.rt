@@ -1,6 +1,6 @@
 // The names of the temporaries.
-ghost use Rattle.std.specs.Prelude.{◌≡◌, ℕ, ◌↔◌, Contains, List, IsTrue, IfOk};
-ghost use Rattle.motion_rewrite.specs.Temporaries.{AreTemporaryNames, temporary_name};
+ghost use Rattle.std.specs.Prelude.{◌≡◌, ◌↔◌, Contains, IsTrue, IfOk};
+ghost use Rattle.motion_rewrite.specs.Temporaries.{AreTemporaryNames, HaveSameNames, temporary_name};
 
 use crate::Memory;
 use indexmap::IndexSet;
@@ -24,9 +24,9 @@ impl<'a> Model for TakenNames<'a> {
 }
 
 impl<'a> TakenNames<'a> {
-    /// These names. Its only refusal is want of memory.
+    /// These names. It fails only with `Memory`.
     fn of(alloc: Global, names: &'a [Name]) -> Result<TakenNames<'a>, Memory>
-        ensures { IfOk result (λ taken. (name : List ℕ) → Contains taken name ↔ Contains names.now name) }
+        ensures { IfOk result (HaveSameNames names.now) }
     {
         let mut taken = IndexSet::new(alloc);
         for name in names {
@@ -35,7 +35,7 @@ impl<'a> TakenNames<'a> {
         Ok(TakenNames { names: taken })
     }
 
-    /// Whether the name is taken. It takes no memory.
+    /// Whether the name is taken. It does not allocate.
     fn has(&self, name: &Name) -> bool
         ensures { IsTrue result ↔ Contains self.now name.now }
     {
@@ -43,9 +43,9 @@ impl<'a> TakenNames<'a> {
     }
 }
 
-/// The names of so many temporaries of a graph whose variables have these names: for each the least number from 1 on that
-/// makes a name which no variable and no earlier temporary has. Since the numbers ascend, one walk over them finds all.
-/// Its only refusal is want of memory.
+/// The names of so many temporaries of a graph whose variables have these names: for each the least number from 1 on
+/// that makes a name which no variable and no earlier temporary has. Since the numbers ascend, one walk over them finds
+/// all. It fails only with `Memory`.
 pub(crate) fn temporary_names(
     alloc: Global,
     vars: &[Name],

@@ -1,13 +1,12 @@
 // Which nodes use and kill which expressions.
-ghost use Rattle.std.specs.Prelude.{◌≡◌, ◌≢◌, ℕ, ◌<◌, ◌↔◌, true, false, length, replicate, slice_get, IfOk, IfSome, Some};
+ghost use Rattle.std.specs.Prelude.{◌≡◌, ℕ, ◌<◌, [], ◌∷◌, ◌++◌, true, length, replicate, IfOk, IfSome, OnOk, Some};
+ghost use Rattle.mir_base.specs.ExpressionVars.{expr_vars};
 ghost use Rattle.mir_base.specs.Shapes.{AllBelow, operand_vars};
-ghost use Rattle.mir_base.specs.declared.instructions.Expr.{Expr};
-ghost use Rattle.bit_rows.specs.Bits.{row_of};
-ghost use Rattle.flow_graph.specs.declared.nodes.Node.{Node};
+ghost use Rattle.bit_rows.specs.Bits.{AreEquallyLong, row_of};
 ghost use Rattle.flow_graph.specs.Graphs.{node_rhs, node_vars};
-ghost use Rattle.path_laws.specs.Paths.{AreRows, has_bit};
-ghost use Rattle.motion_rewrite.specs.Expressions.{expr_vars, is_among, is_expr, kills, uses};
-ghost use Rattle.motion_rewrite.specs.Rows.{IsMarked, kill_row, written_expr};
+ghost use Rattle.path_laws.specs.Paths.{AreRows, HaveShape};
+ghost use Rattle.motion_rewrite.specs.Expressions.{kills, uses};
+ghost use Rattle.motion_rewrite.specs.Rows.{AreKillRows, AreNodesBelow, AreOperandBits, FindsUse, HaveBits, IsMarked, kill_row, written_expr};
 
 use crate::{ExprTable, Memory};
 use bit_rows::Rows;
@@ -17,11 +16,11 @@ use std::alloc::Global;
 
 // ---- uses
 
-/// At which nodes each expression of the table is used: one row for each node, one bit for each expression. Its only
-/// refusal is want of memory.
+/// At which nodes each expression of the table is used: one row for each node, one bit for each expression. It fails
+/// only with `Memory`.
 pub fn use_rows(alloc: Global, graph: &Graph, table: &ExprTable) -> Result<Rows, Memory>
-    ensures shape { IfOk result (λ rows. AreRows (length graph.now.nodes) (length table.now) rows) }
-    ensures uses { IfOk result (λ rows. (n i : ℕ) (e : Expr) → n < length graph.now.nodes → slice_get table.now i ≡ Some e → has_bit rows i n ≡ uses graph.now e n) }
+    ensures shape { IfOk result (λ rows. HaveShape graph.now (length table.now) rows) }
+    ensures uses { IfOk result (HaveBits graph.now table.now (uses graph.now)) }
 {
     let nodes = graph.nodes();
     let mut rows = Rows::new(alloc, nodes.len(), table.len())?;
@@ -36,7 +35,7 @@ pub fn use_rows(alloc: Global, graph: &Graph, table: &ExprTable) -> Result<Rows,
 /// The number of the expression that a node uses, where the table has it.
 fn used(node: &Node, table: &ExprTable) -> Option<usize>
     ensures within { IfSome result (λ number. number < length table.now) }
-    ensures uses { (i : ℕ) (e : Expr) → slice_get table.now i ≡ Some e → (is_expr e (node_rhs node.now) ≡ true) ↔ (result ≡ Some i) }
+    ensures uses { FindsUse table.now node.now result }
 {
     let expr = written_expr(node)?;
     table.find(&expr)
@@ -55,11 +54,11 @@ fn written_expr(node: &Node) -> Option<Expr>
 
 // ---- kills
 
-/// At which nodes each expression of the table is killed: one row for each node, one bit for each expression. Its only
-/// refusal is want of memory.
+/// At which nodes each expression of the table is killed: one row for each node, one bit for each expression. It fails
+/// only with `Memory`.
 pub fn kill_rows(alloc: Global, graph: &Graph, table: &ExprTable) -> Result<Rows, Memory>
-    ensures shape { IfOk result (λ rows. AreRows (length graph.now.nodes) (length table.now) rows) }
-    ensures kills { IfOk result (λ rows. (n i : ℕ) (e : Expr) → n < length graph.now.nodes → slice_get table.now i ≡ Some e → has_bit rows i n ≡ kills graph.now e n) }
+    ensures shape { IfOk result (λ rows. HaveShape graph.now (length table.now) rows) }
+    ensures kills { IfOk result (HaveBits graph.now table.now (kills graph.now)) }
 {
     let operands = operand_rows(alloc, graph.vars().len(), table)?;
     let rows = kills_by_operands(alloc, graph.nodes(), &operands, table.len())?;
@@ -74,40 +73,48 @@ fn kills_by_operands(
     bits: usize,
 ) -> Result<Rows, Memory>
     requires operands { AreRows (length operands.now) bits operands.now }
-    requires below { (n : ℕ) (node : Node) → slice_get nodes.now n ≡ Some node → AllBelow (length operands.now) (node_vars node) }
+    requires below { AreNodesBelow (length operands.now) nodes.now }
     ensures shape { IfOk result (λ rows. AreRows (length nodes.now) bits rows) }
-    ensures kills { IfOk result (λ rows. (n : ℕ) → n < length nodes.now → row_of rows n ≡ kill_row operands.now bits (slice_get nodes.now n)) }
+    ensures kills { IfOk result (AreKillRows operands.now bits nodes.now) }
 {
-    let mut rows = Rows::new(alloc, nodes.len(), bits)?;
-    for n in 0..nodes.len() {
-        put_kills(&mut rows, n, &nodes[n], operands);
+    let mut rows = Rows::with_room(alloc, nodes.len(), bits)?;
+    for node in nodes {
+        push_kills(&mut rows, node, operands, bits)?;
     }
     Ok(rows)
 }
 
-/// The row of what a node kills, in place of a row that was all false: all at Start, and else the expressions that have
-/// the assigned variable as an operand.
-fn put_kills(rows: &mut Rows, row: usize, node: &Node, operands: &Rows)
-    requires row { row < length rows.old }
-    requires clear { row_of rows.old row ≡ replicate (length (row_of rows.old row)) false }
-    requires operands { AreRows (length operands.now) (length (row_of rows.old row)) operands.now }
+/// Puts the row of what a node kills at the end: all bits at Start, and else the expressions that have the assigned
+/// variable as an operand. It fails only with `Memory`.
+fn push_kills(rows: &mut Rows, node: &Node, operands: &Rows, bits: usize) -> Result<(), Memory>
+    requires long { AreEquallyLong bits rows.old }
+    requires operands { AreRows (length operands.now) bits operands.now }
     requires below { AllBelow (length operands.now) (node_vars node.now) }
-    ensures len { length rows.new ≡ length rows.old }
-    ensures put { row_of rows.new row ≡ kill_row operands.now (length (row_of rows.old row)) (Some node.now) }
-    ensures others { (m : ℕ) → m ≢ row → row_of rows.new m ≡ row_of rows.old m }
+    ensures { OnOk result (rows.new ≡ rows.old ++ kill_row operands.now bits (Some node.now) ∷ []) }
 {
     match node {
-        Node::Start(_) => rows.flip(row),
-        Node::Assign(x, _, _) => rows.copy_from(row, &operands.row(*x)),
-        Node::Call(Some(x), _, _, _) => rows.copy_from(row, &operands.row(*x)),
-        _ => {}
+        Node::Start(_) => push_true(rows, bits),
+        Node::Assign(x, _, _) => rows.push(&operands.row(*x)),
+        Node::Call(Some(x), _, _, _) => rows.push(&operands.row(*x)),
+        _ => rows.push_false(bits),
     }
+}
+
+/// Puts a row of so many bits, all true, at the end. It fails only with `Memory`.
+fn push_true(rows: &mut Rows, bits: usize) -> Result<(), Memory>
+    requires { AreEquallyLong bits rows.old }
+    ensures { OnOk result (rows.new ≡ rows.old ++ replicate bits true ∷ []) }
+{
+    let last = rows.len();
+    rows.push_false(bits)?;
+    rows.flip(last);
+    Ok(())
 }
 
 /// For each variable below this number, which expressions of the table have it as an operand.
 fn operand_rows(alloc: Global, vars: usize, table: &ExprTable) -> Result<Rows, Memory>
     ensures shape { IfOk result (λ rows. AreRows vars (length table.now) rows) }
-    ensures operands { IfOk result (λ rows. (x i : ℕ) (e : Expr) → x < vars → slice_get table.now i ≡ Some e → has_bit rows i x ≡ is_among x (expr_vars e)) }
+    ensures operands { IfOk result (AreOperandBits vars table.now) }
 {
     let mut rows = Rows::new(alloc, vars, table.len())?;
     for number in 0..table.len() {

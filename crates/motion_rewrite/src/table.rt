@@ -1,7 +1,7 @@
 // Tables of distinct expressions.
 ghost use Rattle.std.specs.Prelude.{◌≡◌, ◌<◌, Contains, length, slice_get, IfNone, IfOk, IfSome, Some};
-ghost use Rattle.mir_base.specs.Shapes.{AllDiffer};
 ghost use Rattle.mir_base.specs.declared.instructions.Expr.{Expr};
+ghost use Rattle.mir_base.specs.Shapes.{AllDiffer};
 ghost use Rattle.motion_rewrite.specs.Tables.{AreMovable, expr_at, movable_exprs};
 
 use crate::Memory;
@@ -30,7 +30,7 @@ impl Model for ExprTable {
 }
 
 impl ExprTable {
-    /// The table of these expressions, which are distinct, in their order. Its only refusal is want of memory.
+    /// The table of these expressions, which are distinct, in their order. It fails only with `Memory`.
     pub fn make(alloc: Global, items: Vec<Expr>) -> Result<ExprTable, Memory>
         requires { AllDiffer items.items }
         ensures { IfOk result (λ table. table ≡ items.items) }
@@ -42,7 +42,7 @@ impl ExprTable {
         Ok(ExprTable { exprs })
     }
 
-    /// How many expressions there are. It takes no memory.
+    /// How many expressions there are. It does not allocate.
     pub fn len(&self) -> usize
         ensures len { result ≡ length self.now }
         ensures differ { AllDiffer self.now }
@@ -50,7 +50,7 @@ impl ExprTable {
         self.exprs.len()
     }
 
-    /// The expression of a number, counted from 0 and below `len`. It takes no memory.
+    /// The expression of a number, counted from 0 and below `len`. It does not allocate.
     pub fn get(&self, number: usize) -> &Expr
         requires { number < length self.now }
         ensures { slice_get self.now number ≡ Some result.now }
@@ -58,7 +58,7 @@ impl ExprTable {
         &self.exprs.as_slice()[number]
     }
 
-    /// The number of an expression, and `None` exactly where the table does not have it. It takes no memory.
+    /// The number of an expression, and `None` exactly where the table does not have it. It does not allocate.
     pub fn find(&self, expr: &Expr) -> Option<usize>
         ensures found { IfSome result (λ number. slice_get self.now number ≡ Some expr.now) }
         ensures absent { IfNone result (Contains self.now expr.now → ⊥) }
@@ -68,8 +68,8 @@ impl ExprTable {
     }
 }
 
-/// The movable expressions that the nodes of a graph evaluate, in order of the first node that evaluates each. Its only
-/// refusal is want of memory.
+/// The movable expressions that the nodes of a graph evaluate, in order of the first node that evaluates each. It fails
+/// only with `Memory`.
 pub fn exprs(alloc: Global, graph: &Graph) -> Result<ExprTable, Memory>
     ensures exprs { IfOk result (λ table. table ≡ movable_exprs graph.now.nodes) }
     ensures movable { IfOk result (λ table. AreMovable (length graph.now.vars) table) }

@@ -1,8 +1,8 @@
 // Which expressions have a temporary, and the numbers of the temporaries.
-ghost use Rattle.std.specs.Prelude.{◌≡◌, ℕ, ◌+◌, ◌<◌, false, length, slice_get, slice_index_or, IfOk, Some};
+ghost use Rattle.std.specs.Prelude.{◌≡◌, ◌+◌, length, IfOk};
 ghost use Rattle.bit_rows.specs.Bits.{row_of};
 ghost use Rattle.path_laws.specs.Paths.{AreRows};
-ghost use Rattle.motion_rewrite.specs.Temporaries.{has_insertion, temporaries_before, temporary};
+ghost use Rattle.motion_rewrite.specs.Temporaries.{AreTemporaries, IsInsertionRow, temporaries_before};
 
 use crate::Memory;
 use bit_rows::{Row, Rows};
@@ -17,8 +17,8 @@ pub(crate) struct Numbered {
     pub(crate) count: usize,
 }
 
-/// The temporaries where the graph has so many variables, and the table so many expressions. Its only refusal is want of
-/// memory.
+/// The temporaries where the graph has so many variables, and the table so many expressions. It fails only with
+/// `Memory`.
 pub(crate) fn number_temporaries(
     alloc: Global,
     vars: usize,
@@ -27,7 +27,8 @@ pub(crate) fn number_temporaries(
 ) -> Result<Numbered, Memory>
     requires { AreRows (length insert.now) exprs insert.now }
     ensures long { IfOk result (λ made. length made.numbers.items ≡ exprs) }
-    ensures numbers { IfOk result (λ made. (i : ℕ) → i < exprs → slice_get made.numbers.items i ≡ Some (temporary vars insert.now i)) }
+    ensures numbers { IfOk result (λ made.
+        AreTemporaries vars exprs insert.now made.numbers.items) }
     ensures count { IfOk result (λ made. made.count ≡ temporaries_before insert.now exprs) }
 {
     let inserted = inserted_somewhere(alloc, exprs, insert)?;
@@ -53,7 +54,7 @@ fn number_after(vars: usize, count: usize) -> Result<usize, Memory>
 fn inserted_somewhere(alloc: Global, exprs: usize, insert: &Rows) -> Result<Row, Memory>
     requires { AreRows (length insert.now) exprs insert.now }
     ensures long { IfOk result (λ row. length row ≡ exprs) }
-    ensures inserted { IfOk result (λ row. (i : ℕ) → slice_index_or row i false ≡ has_insertion insert.now i) }
+    ensures inserted { IfOk result (IsInsertionRow insert.now) }
 {
     let mut inserted = Row::new(alloc, exprs)?;
     for node in 0..insert.len() {

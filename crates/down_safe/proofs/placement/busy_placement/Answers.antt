@@ -4,15 +4,15 @@ use Rattle.flow_graph.specs.Graphs.{IsGraph}
 use Rattle.path_laws.specs.Paths.{has_bit}
 use Rattle.motion_rewrite.specs.Placements.{IsAvailable, places_of}
 use Rattle.down_safe.specs.Busy.{IsBusy}
-use Rattle.down_safe.proofs.Admit.{busy_admissible, told}
+use Rattle.down_safe.proofs.Admit.{busy_admissible, either_decided}
 use Rattle.down_safe.proofs.placement.busy_placement.Goals as goal
 use Rattle.down_safe.proofs.placement.busy_placement.Goals.{In_ok-busy}
 
 busy_is : (g : _) (c : In_ok-busy g) (i : ℕ) (e : Expr) → slice_get c.args.table.now i ≡ Some e
     → IsBusy c.args.graph.now e (g.R.DownRule.is_down c.args.rule.now c.args.graph.now e) (places_of record { insert = c.in_ok-busy.busy.early; replace = c.in_ok-busy.busy.uses } i)
 busy_is g c i e there = record {
-  inserts_at = λ n h. c.in_ok-busy.ensures.early n i e h there;
-  replaces_at = λ n h. c.in_ok-busy.ensures.uses n i e h there;
+  inserts_at = λ n h. c.in_ok-busy.ensures.early.bits n i e h there;
+  replaces_at = λ n h. c.in_ok-busy.ensures.uses.bits n i e h there;
 }
 
 pub returns-clause-busy : goal.returns-clause-busy
@@ -26,4 +26,10 @@ returns-clause-admissible g c = λ i e there.
     let Down : ℕ → Type 0 = g.R.DownRule.is_down c.args.rule.now c.args.graph.now e in
     let laws = g.met.R.DownRule.laws c.args.rule.now c.args.graph.now is_graph c.requires.split e in
     busy_admissible c.args.graph.now is_graph e Down laws (places_of record { insert = busy.early; replace = c.in_ok-busy.busy.uses } i) (busy_is g (goal.at.returns-clause-admissible g c).In_ok-busy i e there)
-    (λ m h. told (has_bit busy.up i m) (has_bit busy.down i m) (IsAvailable c.args.graph.now e m) (Down m) (c.in_ok-busy.ensures.up m i e h there) (c.in_ok-busy.ensures.down m i e h there))
+    (λ m h. either_decided (has_bit busy.up i m) (has_bit busy.down i m) (IsAvailable c.args.graph.now e m) (Down m) (c.in_ok-busy.ensures.up.bits m i e h there) (c.in_ok-busy.ensures.down.bits m i e h there))
+
+pub returns-clause-insert : goal.returns-clause-insert
+returns-clause-insert g c = c.in_ok-busy.ensures.early.shape
+
+pub returns-clause-replace : goal.returns-clause-replace
+returns-clause-replace g c = c.in_ok-busy.ensures.uses.shape

@@ -6,14 +6,14 @@ use Rattle.latest_place.proofs.nodes.latest_rows.Goals as goal
 
 pub returns-clause-bits : goal.returns-clause-bits
 returns-clause-bits c = λ n b h l.
-    let nodes = c.args.graph.now.nodes in
+    let nodes = c.args.uses.now.graph.now.nodes in
     let delayed = has_bit c.args.delayed.now b in
-    let uses = has_bit c.args.uses.now b in
+    let uses = has_bit c.args.uses.now.rows.now b in
     let graph = c.in_ok-rows.ensures.graph in
     let copy : c.in_ok-undelayed.undelayed ≡ c.args.delayed.now = c.in_ok-undelayed.ensures in
-    let turned : (s : ℕ) → HasEdge c.args.graph.now.nodes n s → has_bit c.flip_rows.new.self b s ≡ not (has_bit c.args.delayed.now b s) = λ s edge.
+    let turned : (s : ℕ) → HasEdge c.args.uses.now.graph.now.nodes n s → has_bit c.flip_rows.new.self b s ≡ not (has_bit c.args.delayed.now b s) = λ s edge.
     let below = (graph.can.succs n edge.0 s edge.1).1 in
-    c.flip_rows.ensures.bits s b (omega arith) (rw (copy, c.requires.delayed.len) below) (rw (copy, c.requires.delayed.each s below) l) ∙ ap (λ (rows : List (List Bool)). not (has_bit rows b s)) copy in
+    c.flip_rows.ensures.bits s b (omega arith) (rw (copy, c.requires.rows_are.len) below) (rw (copy, c.requires.rows_are.each s below) l) ∙ ap (λ (rows : List (List Bool)). not (has_bit rows b s)) copy in
     let joins = c.in_ok-rows.ensures.joins n b h in
     let both = both_say (has_bit c.or_rows.new.self b n) (delayed n) in
     let either = either_says (has_bit c.in_ok-rows.rows b n) (uses n) in

@@ -6,13 +6,13 @@ use Rattle.latest_place.proofs.nodes.needed_rows.Goals as goal
 
 pub returns-clause-bits : goal.returns-clause-bits
 returns-clause-bits c = λ n b h l.
-    let nodes = c.args.graph.now.nodes in
+    let nodes = c.args.uses.now.graph.now.nodes in
     let latest = has_bit c.args.latest.now b in
-    let born : has_bit c.minus_rows.new.self b ≡ (λ (m : ℕ). has_bit c.args.uses.now b m && not (has_bit c.args.latest.now b m)) =
+    let born : has_bit c.minus_rows.new.self b ≡ (λ (m : ℕ). has_bit c.args.uses.now.rows.now b m && not (has_bit c.args.latest.now b m)) =
     fun_ext (λ m. c.minus_rows.ensures.bits m b ∙ ap (λ (rows : List (List Bool)). has_bit rows b m && not (has_bit c.args.latest.now b m)) c.in_ok-born.ensures) in
-    let copy : width c.minus_rows.new.self ≡ width c.args.uses.now = copy_width c.in_ok-born.born c.args.uses.now c.minus_rows.new.self c.in_ok-born.ensures c.minus_rows.ensures.alike n (rw c.requires.uses.len h) in
-    let some : 0 < length c.args.graph.now.nodes = omega arith in
-    let wide : width c.minus_rows.new.self ≡ width c.args.latest.now = copy ∙ c.requires.uses.each 0 some in
+    let copy : width c.minus_rows.new.self ≡ width c.args.uses.now.rows.now = copy_width c.in_ok-born.born c.args.uses.now.rows.now c.minus_rows.new.self c.in_ok-born.ensures c.minus_rows.ensures.alike n (rw c.requires.uses_are.len h) in
+    let some : 0 < length c.args.uses.now.graph.now.nodes = omega arith in
+    let wide : width c.minus_rows.new.self ≡ width c.args.latest.now = copy ∙ c.requires.uses_are.each 0 some in
     let joins = c.in_ok-needed.ensures.joins n b h in
     let graph = c.in_ok-needed.ensures.graph in (
       λ on.

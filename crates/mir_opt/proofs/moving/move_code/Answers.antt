@@ -1,5 +1,3 @@
-use Rattle.flow_graph.specs.Keeps.{AsGraph}
-use Rattle.flow_graph.specs.KeepsLaws.{keeps_trans}
 use Rattle.mir_opt.proofs.moving.move_code.Goals as goal
 
 pub returns : goal.returns
@@ -13,5 +11,5 @@ returns g c = record {
   best = c.in_ok-code.ensures.best;
   is_split = c.in_ok-code.ensures.is_split;
   split_keeps = c.in_ok-split.ensures.keeps;
-  moved_keeps = keeps_trans (AsGraph c.args.graph.now) (AsGraph c.in_ok-split.split) (AsGraph c.in_ok-code.code.moved) c.in_ok-split.ensures.keeps c.in_ok-code.ensures.keeps;
+  moved_keeps = c.in_ok-code.ensures.keeps;
 }

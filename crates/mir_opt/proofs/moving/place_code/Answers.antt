@@ -13,17 +13,11 @@ flatten-requires-clause-replace g c = c.in_ok-placement.ensures.placed.replace_r
 pub flatten-requires-clause-placed : goal.flatten-requires-clause-placed
 flatten-requires-clause-placed g c = c.in_ok-placement.ensures.flattens
 
-pub returns-clause-placed : goal.returns-clause-placed
-returns-clause-placed g c = c.in_ok-placement.ensures.placed
-
-pub returns-clause-flattened : goal.returns-clause-flattened
-returns-clause-flattened g c = c.in_ok-moved.ensures.flattened
-
-pub returns-clause-best : goal.returns-clause-best
-returns-clause-best g c = record { optimal = c.in_ok-placement.ensures.optimal; evaluates = c.in_ok-moved.ensures.paths; follows = c.in_ok-moved.ensures.runs }
-
-pub returns-clause-is_split : goal.returns-clause-is_split
-returns-clause-is_split g c = c.in_ok-moved.ensures.split c.requires.split
-
-pub returns-clause-keeps : goal.returns-clause-keeps
-returns-clause-keeps g c = c.in_ok-moved.ensures.keeps (optimal_is_no_dearer c.args.split.now c.args.table.now (g.R.DownRule.is_down c.args.rule.now c.args.split.now) c.in_ok-placement.placement c.in_ok-placement.ensures.optimal)
+pub returns : goal.returns
+returns g c = record {
+  placed = c.in_ok-placement.ensures.placed;
+  flattened = c.in_ok-moved.ensures.flattened;
+  best = record { optimal = c.in_ok-placement.ensures.optimal; evaluates = c.in_ok-moved.ensures.paths; follows = c.in_ok-moved.ensures.runs };
+  is_split = c.in_ok-moved.ensures.split c.requires.split;
+  keeps = c.in_ok-moved.ensures.keeps (optimal_is_no_dearer c.args.split.now c.args.table.now (g.R.DownRule.is_down c.args.rule.now c.args.split.now) c.in_ok-placement.placement c.in_ok-placement.ensures.optimal);
+}

@@ -1,6 +1,6 @@
+use Rattle.mir_opt.specs.Made.{UnitMade}
 use Rattle.mir_opt.proofs.Fits.{fits_lower}
 use Rattle.mir_opt.proofs.Zips.{next_zip}
-use Rattle.mir_opt.specs.Made.{UnitMade}
 use Rattle.mir_opt.proofs.walking.all_steps.Goals as goal
 
 pub make-requires : goal.make-requires

@@ -5,12 +5,12 @@ use Rattle.flow_graph.specs.Graphs.{GraphShape}
 use Rattle.flow_graph.specs.Insertions.{InsertionsBelow}
 use Rattle.motion_rewrite.specs.Flatten.{insertions_of, set_from}
 use Rattle.motion_rewrite.proofs.Rewriting.{one_more}
-use Rattle.motion_rewrite.proofs.SetBits.{bits-step, bits-end}
+use Rattle.motion_rewrite.proofs.SetBits.{bits_step, bits_end}
 use Rattle.motion_rewrite.proofs.editing.put_before.Goals as goal
 use Rattle.motion_rewrite.proofs.editing.put_before.Goals.{In-Some, After-rhs_of}
 
 rest_is : (c : In-Some) → set_from c.loop-from.from (drop c.loop-from.from c.args.row.now) ≡ c.in-Some.number ∷ set_from (c.in-Some.number + 1) (drop (c.in-Some.number + 1) c.args.row.now)
-rest_is c = let found = c.in-Some.ensures.found in bits-step c.loop-from.from c.in-Some.number c.args.row.now found.0 found.1 c.in-Some.ensures.first found.2
+rest_is c = let found = c.in-Some.ensures.found in bits_step c.loop-from.from c.in-Some.number c.args.row.now found.0 found.1 c.in-Some.ensures.first found.2
 
 puts_are : (c : After-rhs_of) → insertions_of (λ i. get_or c.args.temps.now i 0) c.args.table.now (set_from c.loop-from.from (drop c.loop-from.from c.args.row.now)) ≡ record { var = get_or c.args.temps.now c.in-Some.number 0; rhs = c.rhs_of.result } ∷ insertions_of (λ i. get_or c.args.temps.now i 0) c.args.table.now (set_from (c.in-Some.number + 1) (drop (c.in-Some.number + 1) c.args.row.now))
 puts_are c =
@@ -60,10 +60,10 @@ loop-from-preserved c =
 
 pub returns-in-None-clause-graph : goal.returns-in-None-clause-graph
 returns-in-None-clause-graph c =
-    let none = bits-end c.loop-from.from c.args.row.now c.loop-from.invariant.within c.in-None.ensures.none in
+    let none = bits_end c.loop-from.from c.args.row.now c.loop-from.invariant.within c.in-None.ensures.none in
     sym (ap (λ l. graph_put_all c.args.node (insertions_of (λ i. get_or c.args.temps.now i 0) c.args.table.now l) c.loop-from.editor.graph) none) ∙ c.loop-from.invariant.all
 
 pub returns-in-None-clause-spare : goal.returns-in-None-clause-spare
 returns-in-None-clause-spare c =
-    let none = ap length (bits-end c.loop-from.from c.args.row.now c.loop-from.invariant.within c.in-None.ensures.none) in
+    let none = ap length (bits_end c.loop-from.from c.args.row.now c.loop-from.invariant.within c.in-None.ensures.none) in
     omega (arith, none, c.loop-from.invariant.spare)

@@ -6,29 +6,29 @@ use Rattle.motion_rewrite.proofs.Rewritable.{IsRewritable, rewritable}
 use Rattle.motion_rewrite.proofs.flattening.flatten.Goals as goal
 use Rattle.motion_rewrite.proofs.flattening.flatten.Goals.{In_ok-flat}
 
-asked : (c : In_ok-flat) → IsRewritable c.args.graph.now c.args.table.now c.args.placement.now
-asked c = rewritable c.args.graph.now c.args.table.now c.args.placement.now c.args.graph.now.nodes refl c.in_ok-flat.ensures.graph c.requires.movable c.requires.insert c.requires.replace c.requires.placed
+rewritable_here : (c : In_ok-flat) → IsRewritable c.args.graph.now c.args.table.now c.args.placement.now
+rewritable_here c = rewritable c.args.graph.now c.args.table.now c.args.placement.now c.args.graph.now.nodes refl c.in_ok-flat.ensures.graph c.requires.movable c.requires.insert c.requires.replace c.requires.placed
 
 pub returns-clause-same : goal.returns-clause-same
-returns-clause-same c = flattened_same (asked (goal.at.returns-clause-same c).In_ok-flat) c.in_ok-flat.flat c.in_ok-flat.ensures.flattened
+returns-clause-same c = flattened_same (rewritable_here (goal.at.returns-clause-same c).In_ok-flat) c.in_ok-flat.flat c.in_ok-flat.ensures.flattened
 
 pub returns-clause-cheaper : goal.returns-clause-cheaper
-returns-clause-cheaper c = flattened_cheaper (asked (goal.at.returns-clause-cheaper c).In_ok-flat) c.in_ok-flat.flat c.in_ok-flat.ensures.flattened c.in_ok-flat.ensures.differ
+returns-clause-cheaper c = flattened_cheaper (rewritable_here (goal.at.returns-clause-cheaper c).In_ok-flat) c.in_ok-flat.flat c.in_ok-flat.ensures.flattened c.in_ok-flat.ensures.differ
 
 pub returns-clause-paths : goal.returns-clause-paths
-returns-clause-paths c = flattened_paths (asked (goal.at.returns-clause-paths c).In_ok-flat) c.in_ok-flat.flat c.in_ok-flat.ensures.flattened c.in_ok-flat.ensures.differ
+returns-clause-paths c = flattened_paths (rewritable_here (goal.at.returns-clause-paths c).In_ok-flat) c.in_ok-flat.flat c.in_ok-flat.ensures.flattened c.in_ok-flat.ensures.differ
 
 pub returns-clause-runs : goal.returns-clause-runs
-returns-clause-runs c = flattened_runs (asked (goal.at.returns-clause-runs c).In_ok-flat) c.in_ok-flat.flat c.in_ok-flat.ensures.flattened
+returns-clause-runs c = flattened_runs (rewritable_here (goal.at.returns-clause-runs c).In_ok-flat) c.in_ok-flat.flat c.in_ok-flat.ensures.flattened
 
 pub returns-clause-split : goal.returns-clause-split
-returns-clause-split c = flattened_split (asked (goal.at.returns-clause-split c).In_ok-flat) c.in_ok-flat.flat c.in_ok-flat.ensures.flattened
+returns-clause-split c = flattened_split (rewritable_here (goal.at.returns-clause-split c).In_ok-flat) c.in_ok-flat.flat c.in_ok-flat.ensures.flattened
 
 pub returns-clause-divides : goal.returns-clause-divides
-returns-clause-divides c = flattened_stay (asked (goal.at.returns-clause-divides c).In_ok-flat) c.in_ok-flat.flat c.in_ok-flat.ensures.flattened
+returns-clause-divides c = flattened_stay (rewritable_here (goal.at.returns-clause-divides c).In_ok-flat) c.in_ok-flat.flat c.in_ok-flat.ensures.flattened
 
 pub returns-clause-calls : goal.returns-clause-calls
-returns-clause-calls c = flattened_calls (asked (goal.at.returns-clause-calls c).In_ok-flat) c.in_ok-flat.flat c.in_ok-flat.ensures.flattened
+returns-clause-calls c = flattened_calls (rewritable_here (goal.at.returns-clause-calls c).In_ok-flat) c.in_ok-flat.flat c.in_ok-flat.ensures.flattened
 
 pub returns-clause-keeps : goal.returns-clause-keeps
 returns-clause-keeps c = λ no_dearer. record {

@@ -10,18 +10,16 @@ use Rattle.path_laws.specs.Paths.{AreRows}
 use Rattle.motion_rewrite.specs.Flatten.{by_placement, inserted, insertions_of, reading}
 use Rattle.motion_rewrite.specs.Temporaries.{AreTemporaryNames, temporaries_before, temporary}
 use Rattle.motion_rewrite.proofs.Fitting.{placement_fits}
-use Rattle.motion_rewrite.proofs.Insertions.{among_inserted, among_head, head_or_none}
-use Rattle.motion_rewrite.specs.Expressions.{is_among}
+use Rattle.motion_rewrite.proofs.Insertions.{head_or_none}
 use Rattle.motion_rewrite.proofs.Matching.{uses_assign}
-use Rattle.motion_rewrite.proofs.Rewritable.{IsRewritable, rewritable, start_free}
+use Rattle.motion_rewrite.proofs.Rewritable.{IsRewritable, first_bit, replaced_use, rewritable, rewriting_by, start_free}
 use Rattle.motion_rewrite.proofs.Rewriting.{insertions_alike, reading_alike, flattened_alike}
 use Rattle.motion_rewrite.proofs.RowNumbers.{inserted_within}
-use Rattle.motion_rewrite.proofs.Served.{placed_served}
 use Rattle.motion_rewrite.proofs.flattening.rewritten.Goals as goal
 use Rattle.motion_rewrite.proofs.flattening.rewritten.Goals.{In_ok-room, In_ok-editor, After-read_temporaries}
 
-asked : (c : In_ok-room) → IsRewritable c.args.graph.now c.args.table.now c.args.placement.now
-asked c = rewritable _ _ _ _ c.nodes-nodes.ensures.value c.nodes-nodes.ensures.graph c.requires.movable c.requires.insert c.requires.replace c.requires.placed
+rewritable_here : (c : In_ok-room) → IsRewritable c.args.graph.now c.args.table.now c.args.placement.now
+rewritable_here c = rewritable _ _ _ _ c.nodes-nodes.ensures.value c.nodes-nodes.ensures.graph c.requires.movable c.requires.insert c.requires.replace c.requires.placed
 
 -- the list of the temporaries gives their numbers
 numbered : (c : In_ok-room) → (i : ℕ) → i < length c.args.table.now → get_or c.as_slice-temps.result.now i 0 ≡ temporary (length c.args.graph.now.vars) c.args.placement.now.insert i
@@ -36,8 +34,8 @@ names_are c =
     subst (λ k. AreTemporaryNames c.args.graph.now.vars k c.in_ok-names.names.items) count
     (subst (λ (vars : List (List ℕ)). AreTemporaryNames vars c.in_ok-temporaries.temporaries.count c.in_ok-names.names.items) c.vars-2.ensures c.in_ok-names.ensures)
 
-fits : (c : In_ok-room) → CanRewrite (by_placement (temporary (length c.args.graph.now.vars) c.args.placement.now.insert) c.args.table.now c.args.placement.now) c.in_ok-names.names.items c.args.graph.now
-fits c = placement_fits (asked c) c.in_ok-names.names.items (names_are c)
+fits : (c : In_ok-room) → CanRewrite (rewriting_by c.args.graph.now c.args.table.now c.args.placement.now) c.in_ok-names.names.items c.args.graph.now
+fits c = placement_fits (rewritable_here c) c.in_ok-names.names.items (names_are c)
 
 pub open-requires : goal.open-requires
 open-requires c = (fits (goal.at.open-requires c).In_ok-room).names
@@ -47,13 +45,12 @@ open-requires c = (fits (goal.at.open-requires c).In_ok-room).names
 pub read_temporaries-requires-clause-uses : goal.read_temporaries-requires-clause-uses
 read_temporaries-requires-clause-uses c = λ n lt.
     let p = c.args.placement.now in
-    let r = asked (goal.at.read_temporaries-requires-clause-uses c).In_ok-room in
-    let served = placed_served c.args.graph.now r.is_graph.can c.args.table.now p r.insert r.replace r.placed in
+    let r = rewritable_here (goal.at.read_temporaries-requires-clause-uses c).In_ok-room in
     elim (head_or_none (inserted p.replace n)) [
       | inl none ↦ inl (ap (reading (λ i. get_or c.as_slice-temps.result.now i 0)) none)
       | inr first ↦
-          let set = sym (among_inserted p.replace n first.0) ∙ ap (is_among first.0) first.2 ∙ among_head first.0 first.1 in
-          let u = served.uses_it n first.0 set in
+          let set = first_bit r n first.0 first.1 first.2 in
+          let u = replaced_use r n first.0 set in
           let found = uses_assign c.args.graph.now u.0 n u.2 in
           inr (ap (λ (g : GraphShape). is_assignment (slice_get g.nodes n)) c.in_ok-editor.ensures.graph ∙ ap is_assignment found.2)
     ]
@@ -81,7 +78,7 @@ put_evaluations-requires-clause-rows c =
     subst (λ k. AreRows k (length c.args.table.now) p.insert) (sym long) c.requires.insert
 
 pub put_evaluations-requires-clause-start : goal.put_evaluations-requires-clause-start
-put_evaluations-requires-clause-start c = start_free (asked (goal.at.put_evaluations-requires-clause-start c).In_ok-room)
+put_evaluations-requires-clause-start c = start_free (rewritable_here (goal.at.put_evaluations-requires-clause-start c).In_ok-room)
 
 pub put_evaluations-requires-clause-vars : goal.put_evaluations-requires-clause-vars
 put_evaluations-requires-clause-vars c = λ n lt.
@@ -102,7 +99,7 @@ returns-clause-flattened c =
     let temp : ℕ → ℕ = λ i. get_or c.as_slice-temps.result.now i 0 in
     let puts = λ (n : ℕ). insertions_of temp c.args.table.now (inserted p.insert n) in
     let changes = λ (n : ℕ). reading temp (inserted p.replace n) in
-    let within : AllWithin graph.nodes = λ m slot s edge. ((asked known).is_graph.can.succs m slot s edge).1 in
+    let within : AllWithin graph.nodes = λ m slot s edge. ((rewritable_here known).is_graph.can.succs m slot s edge).1 in
     let put = c.in_ok-flat.ensures ∙ c.put_evaluations.ensures in
     let read = c.read_temporaries.ensures.graph in
     let opened = c.in_ok-editor.ensures.graph in

@@ -1,22 +1,22 @@
 use Rattle.std.proofs.Common.{◌≡◌, ◌∙◌, ◌<◌, ◌+◌, ℕ, List, Bool, Option, None, Some, IfSome, subst, ap, sym, length, replicate, false}
 use Rattle.std.proofs.lemmas.Option.{slice_get-get_or}
-use Rattle.motion_rewrite.proofs.RowBits.{AreUses, uses-none, uses-more, with_bit}
+use Rattle.motion_rewrite.proofs.RowBits.{AreUses, uses_none, uses_more, row_with_bit}
 use Rattle.motion_rewrite.proofs.rows.use_rows.Goals as goal
 use Rattle.motion_rewrite.proofs.rows.use_rows.Goals.{After-used, in-Some, in_default}
 
 pub loop-n-init : goal.loop-n-init
 loop-n-init c =
-    uses-none c.args.table.now c.nodes-nodes.result.now c.in_ok-rows.rows
+    uses_none c.args.table.now c.nodes-nodes.result.now c.in_ok-rows.rows
     (c.in_ok-rows.ensures ∙ ap (λ (bits : ℕ). replicate (length c.nodes-nodes.result.now) (replicate bits false)) c.len.ensures.len)
 
 below : (bound : ℕ) (found : Option ℕ) → IfSome found (λ k. k < bound) → (k : ℕ) → found ≡ Some k → k < bound
 below bound found h k is = subst (λ o. IfSome o (λ k. k < bound)) is h
 
-more : (c : After-used) (found : Option ℕ) (new : List (List Bool)) → c.used.result ≡ found → new ≡ with_bit c.loop-n.rows c.loop-n.n found → AreUses c.args.table.now c.nodes-nodes.result.now (c.loop-n.n + 1) new
+more : (c : After-used) (found : Option ℕ) (new : List (List Bool)) → c.used.result ≡ found → new ≡ row_with_bit c.loop-n.rows c.loop-n.n found → AreUses c.args.table.now c.nodes-nodes.result.now (c.loop-n.n + 1) new
 more c found new is put =
     let at = slice_get-get_or c.nodes-nodes.result.now c.loop-n.n c.index-nodes-n.result c.loop-n-test.true ∙ ap Some (sym c.index-nodes-n.is) in
-    uses-more c.args.table.now c.nodes-nodes.result.now c.loop-n.n c.index-nodes-n.result c.used.result c.loop-n.rows new at
-    (below (length c.args.table.now) c.used.result c.used.ensures.within) c.used.ensures.uses (put ∙ ap (λ o. with_bit c.loop-n.rows c.loop-n.n o) (sym is)) c.loop-n.invariant
+    uses_more c.args.table.now c.nodes-nodes.result.now c.loop-n.n c.index-nodes-n.result c.used.result c.loop-n.rows new at
+    (below (length c.args.table.now) c.used.result c.used.ensures.within) c.used.ensures.uses (put ∙ ap (λ o. row_with_bit c.loop-n.rows c.loop-n.n o) (sym is)) c.loop-n.invariant
 
 pub loop-n-preserved : goal.loop-n-preserved
 loop-n-preserved c =

@@ -4,12 +4,12 @@ use Rattle.std.proofs.lemmas.Option.{slice_get-get_or}
 use Rattle.mir_base.specs.declared.instructions.Expr.{Expr}
 use Rattle.motion_rewrite.specs.Tables.{movable_exprs}
 use Rattle.motion_rewrite.proofs.Equal.{equal}
-use Rattle.motion_rewrite.proofs.Inserts.{IsTableOf, put_in, table-more, table-none}
+use Rattle.motion_rewrite.proofs.Inserts.{IsTableOf, put_in, table_more, table_none}
 use Rattle.motion_rewrite.proofs.table.exprs.Goals as goal
 use Rattle.motion_rewrite.proofs.table.exprs.Goals.{After-expr_at, in-Some+in_ok-insert, in_default}
 
 pub loop-node-init : goal.loop-node-init
-loop-node-init c = table-none (length c.args.graph.now.vars) c.new-exprs.result.keys c.new-exprs.ensures.empty
+loop-node-init c = table_none (length c.args.graph.now.vars) c.new-exprs.result.keys c.new-exprs.ensures.empty
 
 more : (c : After-expr_at) (found : Option Expr) (new : List Expr) → c.expr_at.result ≡ found → new ≡ put_in c.loop-node.exprs.keys found → IsTableOf (length c.args.graph.now.vars) (take (c.loop-node.node-index + 1) c.nodes-node-items.result.now) new
 more c found new is put =
@@ -17,7 +17,7 @@ more c found new is put =
     let i = c.loop-node.node-index in
     let at = slice_get-get_or nodes i c.node-item.result c.loop-node-test.true ∙ ap Some (sym c.node-item.is) in
     let below = c.nodes-node-items.ensures.graph.can.below i c.node-item.result at in
-    table-more (length c.args.graph.now.vars) nodes i c.node-item.result found c.loop-node.exprs.keys new c.loop-node-test.true c.node-item.is below (sym is ∙ c.expr_at.ensures) put c.loop-node.invariant
+    table_more (length c.args.graph.now.vars) nodes i c.node-item.result found c.loop-node.exprs.keys new c.loop-node-test.true c.node-item.is below (sym is ∙ c.expr_at.ensures) put c.loop-node.invariant
 
 pub loop-node-preserved : goal.loop-node-preserved
 loop-node-preserved c =

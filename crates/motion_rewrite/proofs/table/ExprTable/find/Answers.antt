@@ -2,15 +2,15 @@ use Rattle.std.proofs.Common.{◌≡◌, ℕ, true≢false, Contains, List, slic
 use Rattle.std.specs.List.{list_any}
 use Rattle.mir_base.specs.declared.instructions.Expr.{Expr}
 use Rattle.motion_rewrite.proofs.Equal.{equal}
-use Rattle.motion_rewrite.proofs.Inserts.{position-found, contained-any}
+use Rattle.motion_rewrite.proofs.Inserts.{position_found, contained_any}
 use Rattle.motion_rewrite.proofs.table.ExprTable.find.Goals as goal
 
 found : (r : Option ℕ) (keys now : List Expr) (k : Expr) → r ≡ position (equal k) keys → keys ≡ now → IfSome r (λ number. slice_get now number ≡ Some k)
 found None keys now k is same = tt
-found (Some i) keys now k is same = subst (λ l. slice_get l i ≡ Some k) same (position-found keys k i (sym is))
+found (Some i) keys now k is same = subst (λ l. slice_get l i ≡ Some k) same (position_found keys k i (sym is))
 
 absent : (r : Option ℕ) (keys now : List Expr) (k : Expr) → is_some r ≡ list_any (equal k) keys → keys ≡ now → IfNone r (Contains now k → ⊥)
-absent None keys now k is same = λ there. true≢false (sym (contained-any keys k (subst (λ l. Contains l k) (sym same) there)) ∙ sym is)
+absent None keys now k is same = λ there. true≢false (sym (contained_any keys k (subst (λ l. Contains l k) (sym same) there)) ∙ sym is)
 absent (Some i) keys now k is same = tt
 
 pub returns-clause-found : goal.returns-clause-found

@@ -1,8 +1,9 @@
+-- The rows are made of a copy by one operation on all rows after another.
 use Rattle.std.proofs.Common.{◌≡◌, ◌<◌, ◌||◌, not, Bool, List, length, ap, arith, ◌∙◌}
+use Rattle.std.proofs.Math.Bool.{or_comm}
 use Rattle.bit_rows.specs.Bits.{row_of}
 use Rattle.path_laws.specs.Paths.{has_bit, width}
-use Rattle.down_safe.proofs.Made.{bar_made}
-use Rattle.down_safe.proofs.bits.bar_rows.Goals as goal
+use Rattle.down_safe.proofs.bits.blocking_rows.Goals as goal
 
 pub returns-clause-bits : goal.returns-clause-bits
 returns-clause-bits c = λ n b h l.
@@ -12,4 +13,4 @@ returns-clause-bits c = λ n b h l.
     let up_row : length (row_of c.in_ok-rows.rows n) ≡ width c.args.kills.now = rw copy (c.requires.up.each n h) in
     let up_or_down = c.or_rows.ensures.bits n b ∙ ap (λ (rows : List (List Bool)). has_bit rows b n || has_bit c.args.down.now b n) copy in
     let neither = c.flip_rows.ensures.bits n b (omega arith) (rw c.or_rows.ensures.alike.len in_up) (rw (c.or_rows.ensures.alike.each n in_up, up_row) l) ∙ ap not up_or_down in
-    c.or_rows-2.ensures.bits n b ∙ ap (λ x. x || has_bit c.args.kills.now b n) neither ∙ bar_made (has_bit c.args.kills.now b n) (has_bit c.args.up.now b n) (has_bit c.args.down.now b n)
+    c.or_rows-2.ensures.bits n b ∙ ap (λ x. x || has_bit c.args.kills.now b n) neither ∙ or_comm (not (has_bit c.args.up.now b n || has_bit c.args.down.now b n)) (has_bit c.args.kills.now b n)

@@ -1,0 +1,57 @@
+-- The values of the variables after the assignments that are put before a node: each temporary that is assigned has the
+-- value of its expression, and every other variable keeps its own.
+use Rattle.std.proofs.Common.{◌≡◌, ℕ, ◌≤◌, true, not, ◌&&◌, eqb, List, [], ◌∷◌, slice_get, Some, inl, inr, refl, sym, ap, ◌∙◌, arith}
+use Rattle.std.proofs.lemmas.Bool.{cases_Bool, or_cases, eqb-true, true≢false, false≢true}
+use Rattle.std.proofs.lemmas.Option.{same_Some}
+use Rattle.mir_base.specs.declared.instructions.Expr.{Expr}
+use Rattle.mir_base.specs.EqualValues.{EqualOn, equal_below}
+use Rattle.mir_base.specs.Expressions.{is_movable}
+use Rattle.mir_base.specs.ExpressionLaws.{never_traps_where_movable}
+use Rattle.mir_base.specs.ExpressionVars.{expr_vars, rhs_of}
+use Rattle.mir_base.specs.Frames.{Values, with_value}
+use Rattle.mir_base.specs.Shapes.{AllBelow}
+use Rattle.flow_graph.specs.InsertionRuns.{values_after, none_traps}
+use Rattle.flow_graph.specs.Numbering.{is_in}
+use Rattle.motion_rewrite.specs.Flatten.{insertions_of}
+use Rattle.motion_rewrite.proofs.Insertions.{among_head, among_tail}
+use Rattle.motion_rewrite.proofs.Rewriting.{one_more}
+use Rattle.motion_rewrite.proofs.RowNumbers.{AllKnown}
+use Rattle.motion_rewrite.proofs.Values.{value, value_equal, with_other, with_same}
+
+module _ (temp : ℕ → ℕ) (table : List Expr) where
+  -- what is none of these temporaries keeps its value
+  pub after_keeps : (numbers : List ℕ) → AllKnown table numbers → (v : Values) (x : ℕ) → ((j : ℕ) → is_in j numbers ≡ true → temp j ≡ x → ⊥) → values_after (insertions_of temp table numbers) v x ≡ v x
+  after_keeps [] known v x differ = refl
+  after_keeps (i ∷ numbers) known v x differ =
+      let e = known.0.0 in
+      ap (λ l. values_after l v x) (one_more temp table i e numbers known.0.1)
+      ∙ after_keeps numbers known.1 (with_value (temp i) (value v e) v) x (λ j among. differ j (among_tail j i numbers among))
+      ∙ with_other (temp i) x (value v e) v (λ same. differ i (among_head i numbers) (sym same))
+
+  -- each of these temporaries has the value of its expression
+  pub after_sets : (m : ℕ) → ((j : ℕ) → m ≤ temp j) → (i : ℕ) (e : Expr) → slice_get table i ≡ Some e → AllBelow m (expr_vars e) → (numbers : List ℕ) → AllKnown table numbers → (v : Values) → is_in i numbers ≡ true → ((j : ℕ) → is_in j numbers ≡ true → temp j ≡ temp i → j ≡ i) → values_after (insertions_of temp table numbers) v (temp i) ≡ value v e
+  after_sets m fresh i e at_i below [] known v among differ = absurd (false≢true among)
+  after_sets m fresh i e at_i below (k ∷ numbers) known v among differ =
+      let d = known.0.0 in
+      let w = with_value (temp k) (value v d) v in
+      ap (λ l. values_after l v (temp i)) (one_more temp table k d numbers known.0.1) ∙ elim (cases_Bool (is_in i numbers)) [
+        | inl later ↦
+            let equal : EqualOn (expr_vars e) w v = equal_below m (expr_vars e) w v below (λ x lt. with_other (temp k) x (value v d) v (λ same. omega (arith, fresh k, lt, same))) in
+            after_sets m fresh i e at_i below numbers known.1 w later (λ j is. differ j (among_tail j k numbers is)) ∙ value_equal e w v equal
+        | inr last ↦
+            let this : k ≡ i = elim (or_cases (eqb k i) (is_in i numbers) among) [ inl is ↦ eqb-true k i is | inr later ↦ absurd (true≢false (sym later ∙ last)) ] in
+            let same : d ≡ e = same_Some d e (sym known.0.1 ∙ ap (slice_get table) this ∙ at_i) in
+            after_keeps numbers known.1 w (temp i) (λ j is alike. true≢false (sym (ap (λ q. is_in q numbers) (sym (differ j (among_tail j k numbers is) alike)) ∙ is) ∙ last))
+            ∙ ap (λ q. with_value (temp q) (value v d) v (temp i)) this
+            ∙ with_same (temp i) (value v d) v
+            ∙ ap (value v) same
+      ]
+
+  -- none of them traps, since the expressions are movable
+  pub insertions_never_trap : ((i : ℕ) (e : Expr) → slice_get table i ≡ Some e → is_movable (rhs_of e) ≡ true) → (numbers : List ℕ) → AllKnown table numbers → (v : Values) → none_traps (insertions_of temp table numbers) v ≡ true
+  insertions_never_trap movable [] known v = refl
+  insertions_never_trap movable (i ∷ numbers) known v =
+      let e = known.0.0 in
+      ap (λ l. none_traps l v) (one_more temp table i e numbers known.0.1)
+      ∙ ap (λ b. not b && none_traps (insertions_of temp table numbers) (with_value (temp i) (value v e) v)) (never_traps_where_movable v (rhs_of e) (movable i e known.0.1))
+      ∙ insertions_never_trap movable numbers known.1 (with_value (temp i) (value v e) v)
