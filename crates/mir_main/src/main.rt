@@ -1,10 +1,11 @@
 //! The program `mir`: it hands the words of its command line and the standard streams to `mir_top::top`, and ends with
-//! the status that this answers. Where it cannot get the words it writes nothing, and ends with status 8 for want of
-//! memory and with status 1 otherwise.
+//! the status that this answers. Where it cannot get the words it writes nothing, and ends with status 8 if memory ran
+//! out and with status 1 otherwise.
 #![tactic(auto)]
 
-ghost use Rattle.std.specs.Prelude.{◌≡◌, ◌≢◌, ◌≤◌, map, string_bytes, None};
-ghost use Rattle.mir_top.specs.Commands.{command_of};
+ghost use Rattle.std.specs.Prelude.{◌≡◌, ◌≢◌, ◌≤◌, None};
+ghost use Rattle.mir_top.specs.Commands.{command_of, word_bytes};
+ghost use Rattle.mir_top.specs.Promises.{IsStatusOfCall};
 
 use mir_outside::{StdSink, StdSource};
 use mir_top::top;
@@ -12,6 +13,7 @@ use std::io::ErrorKind;
 use std::process::ExitCode;
 use std::{env, io};
 
+/// Ends with the status of the call with the words of the command line.
 fn main(rt: HostRuntime) -> ExitCode {
     match words(&rt) {
         Ok(words) => ExitCode::from(status(&rt, &words)),
@@ -28,7 +30,7 @@ fn words(rt: &HostRuntime) -> io::Result<Vec<String>> {
     Ok(words)
 }
 
-/// The status where the words cannot be got: 8 for want of memory, and otherwise 1.
+/// The status where the words cannot be got: 8 if memory ran out, and otherwise 1.
 fn status_without_words(kind: ErrorKind) -> u8
     ensures memory { kind ≡ ErrorKind.OutOfMemory → result ≡ 8 }
     ensures other { kind ≢ ErrorKind.OutOfMemory → result ≡ 1 }
@@ -39,9 +41,11 @@ fn status_without_words(kind: ErrorKind) -> u8
     }
 }
 
-/// The status of the top call over the standard streams. With wrong words it is 1.
+/// The status of `top` over the standard streams: it is that of a call of which all promises of `top` hold. With words
+/// of no command it is 1.
 fn status(rt: &HostRuntime, words: &[String]) -> u8
-    ensures usage { command_of (map string_bytes words.now) ≡ None → result ≡ 1 }
+    ensures call { IsStatusOfCall (word_bytes words.now) result }
+    ensures usage { command_of (word_bytes words.now) ≡ None → result ≡ 1 }
     ensures most { result ≤ 8 }
 {
     let mut source = StdSource::new(rt.stdin());

@@ -1,119 +1,90 @@
--- A call ends in one of five ways: its output is written, or cut short, a read failed, memory was wanting, or it is refused.
+-- A call ends in one of five ways: its output is written, or cut short, a read failed, memory ran out, or it is
+-- refused.
 use Rattle.std.proofs.Common.{◌≡◌, ◌<◌, ◌⊎◌, inl, inr, ℕ, List, [], length, Some, IsSome, refl, sym, subst, arith}
+use Rattle.mir_base.specs.Limits.{most_bytes}
 use Rattle.mir_base.specs.Shapes.{ProgramShape}
 use Rattle.mir_interp.specs.declared.report.RunFault.{RunFault}
-use Rattle.mir_lex.specs.declared.faults.LexFault.{LexFault}
-use Rattle.mir_lex.specs.declared.faults.LexFault.TheVariants.{BadByte, BadNumber, LongName, Memory as NoMemoryForTokens}
 use Rattle.mir_outside.specs.declared.transfer.ReadFault.TheVariants.{Failed as SourceFailed, TooLong, Memory as NoMemoryForText}
-use Rattle.mir_parse.specs.declared.faults.ParseFault.{ParseFault}
-use Rattle.mir_parse.specs.declared.faults.ParseFault.TheVariants.{Unexpected, Ended, Memory as NoMemoryForRaw}
-use Rattle.mir_parse.specs.declared.faults.TextFault.{TextFault}
-use Rattle.mir_parse.specs.declared.faults.TextFault.TheVariants.{Lex, Parse}
 use Rattle.mir_parse.specs.Spells.{IsTextRefusal, IsTextMemory}
-use Rattle.mir_valid.specs.declared.faults.ValidFault.{ValidFault}
-use Rattle.mir_valid.specs.declared.faults.ValidFault.TheVariants.{NoUnit, TooManyUnits, SameUnit, TooManyInsts, LateReceive, SameReceive, TooManyReceives, SameLabel, NoLabel, NoSuchUnit, WrongCount, Memory as NoMemoryForProgram}
-use Rattle.mir_valid.specs.Refusals.{IsMemory}
+use Rattle.mir_valid.specs.Refusals.{IsValidMemory}
 use Rattle.mir_top.specs.declared.cause.Cause.{Cause}
 use Rattle.mir_top.specs.declared.cause.Cause.TheVariants.{Usage, Reading, Text, Program, Making}
 use Rattle.mir_top.specs.declared.command.Command.{Command}
 use Rattle.mir_top.specs.declared.ending.Ending.{Ending}
 use Rattle.mir_top.specs.declared.ending.Ending.TheVariants.{Done, CutShort, Prevented}
 use Rattle.mir_top.specs.declared.outcome.Outcome.{Outcome}
-use Rattle.mir_top.specs.Calls.{Call, answer_of, refusal_with, answer_at_end, complaint_at_end, Answers, HasEnded, IsDone, IsCutShort, Prevents, Told, WorkedOn}
+use Rattle.mir_top.specs.Calls.{Call, answer_of, refusal_with, answer_at_end, complaint_at_end, Answers, HasEnded, IsDone, IsCutShort, Prevents, WritesLine, WorkedOn}
 use Rattle.mir_top.specs.Commands.{command_of, inputs_in, Asks, Reads}
-use Rattle.mir_top.specs.Complaints.{Complaint, complaint_of, of_bytes, of_tokens, of_text, of_program, usage, too_long, wrong_inputs, deep, read_fault, write_fault, out_of_memory}
+use Rattle.mir_top.specs.Complaints.{Complaint, complaint_of, of_text, of_program, usage, too_long, wrong_inputs, deep, read_fault, write_fault, out_of_memory}
 use Rattle.mir_top.specs.Due.{Refuses, no_command, no_text, wrong_number, too_deep, long, unreadable, invalid}
-use Rattle.mir_top.specs.Outputs.{Stops, too_few_or_many, too_deep as stops_deep, no_memory}
+use Rattle.mir_top.specs.Outputs.{CannotMake, too_few_or_many, too_deep as stops_deep, no_memory}
 use Rattle.mir_top.specs.Promises.{HasSeen}
-use Rattle.mir_top.specs.Streams.{Untouched, Failed, TookAll, Tried}
+use Rattle.mir_top.specs.Streams.{Untouched, HasFailed, TookAll, Tried}
 use Rattle.mir_top.specs.Texts.{IsInvalid}
 use Rattle.mir_top.proofs.Judgements.{no_command_of}
+use Rattle.mir_top.proofs.Statuses.{text_complaint, program_complaint}
 
-pub data Ends (call : Call) : Type 0 where
-  ends_done : (outcome : Outcome) → call.answer ≡ answer_of outcome → IsDone call.words call.source call.out outcome → Untouched call.err → Ends call
-  ends_cut : call.answer ≡ refusal_with 7 → IsCutShort call.words call.source call.out → Tried call.err write_fault.line → Ends call
-  ends_failed : call.answer ≡ refusal_with 6 → Reads call.words → Failed call.source → Untouched call.out → Tried call.err read_fault.line → Ends call
-  ends_starved : call.answer ≡ refusal_with 8 → Asks call.words → Untouched call.out → Tried call.err out_of_memory.line → Ends call
-  ends_refused : (text : List ℕ) (complaint : Complaint) → call.answer ≡ refusal_with complaint.status → (Reads call.words → HasSeen call.source text) → Refuses call.words text complaint → Untouched call.out → Tried call.err complaint.line → Ends call
+-- how a call ended, with its answer and what happened to its streams
+pub data EndingCase (call : Call) : Type 0 where
+  ends_done : (outcome : Outcome) → call.answer ≡ answer_of outcome → IsDone call.words call.source call.out outcome → Untouched call.err → EndingCase call
+  ends_cut : call.answer ≡ refusal_with 7 → IsCutShort call.words call.source call.out → Tried call.err write_fault.line → EndingCase call
+  ends_failed : call.answer ≡ refusal_with 6 → Reads call.words → HasFailed call.source → Untouched call.out → Tried call.err read_fault.line → EndingCase call
+  ends_out_of_memory : call.answer ≡ refusal_with 8 → Asks call.words → Untouched call.out → Tried call.err out_of_memory.line → EndingCase call
+  ends_refused : (text : List ℕ) (complaint : Complaint) → call.answer ≡ refusal_with complaint.status → (Reads call.words → HasSeen call.source text) → Refuses call.words text complaint → Untouched call.out → Tried call.err complaint.line → EndingCase call
 
+-- the words of a command ask for something
 pub asks : (words : List (List ℕ)) (command : Command) → command_of words ≡ Some command → Asks words
 asks words command is = subst IsSome (sym is) refl
 
--- want of memory has one complaint
-
-bytes_memory : (fault : LexFault) → IsTextMemory (Lex fault) → of_bytes fault ≡ out_of_memory
-bytes_memory (BadByte line) is = absurd is
-bytes_memory (BadNumber line) is = absurd is
-bytes_memory (LongName line) is = absurd is
-bytes_memory (NoMemoryForTokens refusal) is = refl
-
-tokens_memory : (fault : ParseFault) → IsTextMemory (Parse fault) → of_tokens fault ≡ out_of_memory
-tokens_memory (Unexpected line) is = absurd is
-tokens_memory Ended is = absurd is
-tokens_memory (NoMemoryForRaw refusal) is = refl
-
-text_memory : (fault : TextFault) → IsTextMemory fault → of_text fault ≡ out_of_memory
-text_memory (Lex fault) is = bytes_memory fault is
-text_memory (Parse fault) is = tokens_memory fault is
-
-program_memory : (fault : ValidFault) → IsMemory fault → of_program fault ≡ out_of_memory
-program_memory NoUnit is = absurd is
-program_memory TooManyUnits is = absurd is
-program_memory (SameUnit line) is = absurd is
-program_memory (TooManyInsts line) is = absurd is
-program_memory (LateReceive line) is = absurd is
-program_memory (SameReceive line) is = absurd is
-program_memory (TooManyReceives line) is = absurd is
-program_memory (SameLabel line) is = absurd is
-program_memory (NoLabel line) is = absurd is
-program_memory (NoSuchUnit line) is = absurd is
-program_memory (WrongCount line) is = absurd is
-program_memory (NoMemoryForProgram refusal) is = refl
-
 module _ (call : Call) where
-  -- how it ends by a complaint, and what is told of it
+  -- a call that made no output ends by this complaint
   record EndsSo (complaint : Complaint) : Type 0 where
     answered : call.answer ≡ refusal_with complaint.status
     silent : Untouched call.out
     told : Tried call.err complaint.line
 
-  hungry : (complaint : Complaint) → EndsSo complaint → complaint ≡ out_of_memory → Asks call.words → Ends call
-  hungry complaint so is asked = let now = subst EndsSo is so in ends_starved now.answered asked now.silent now.told
+  -- by the complaint that memory ran out
+  ran_out : (complaint : Complaint) → EndsSo complaint → complaint ≡ out_of_memory → Asks call.words → EndingCase call
+  ran_out complaint so is asked = let now = subst EndsSo is so in ends_out_of_memory now.answered asked now.silent now.told
 
+  -- what was read to its end was seen
   seen_all : (text : List ℕ) → (Reads call.words → TookAll call.source text) → Reads call.words → HasSeen call.source text
   seen_all text read reads = let all = read reads in record { taken = all.0; enough = inl all.1 }
 
-  making : (text : List ℕ) (command : Command) (program : ProgramShape) (fault : RunFault) → WorkedOn call.words call.source text command program → Stops (inputs_in call.words) program command fault → EndsSo (complaint_of (Making fault)) → Ends call
+  -- where the command made nothing of its program
+  making : (text : List ℕ) (command : Command) (program : ProgramShape) (fault : RunFault) → WorkedOn call.words call.source text command program → CannotMake (inputs_in call.words) program command fault → EndsSo (complaint_of (Making fault)) → EndingCase call
   making text _ program _ worked (too_few_or_many steps wrong) so =
       ends_refused text (wrong_inputs _) so.answered (seen_all text worked.read) (wrong_number steps program worked.asked worked.subject wrong) so.silent so.told
   making text _ program _ worked (stops_deep steps right above) so =
       ends_refused text deep so.answered (seen_all text worked.read) (too_deep steps program worked.asked worked.subject right above) so.silent so.told
-  making text _ program _ worked (no_memory command refusal) so = ends_starved so.answered (asks call.words command worked.asked) so.silent so.told
+  making text _ program _ worked (no_memory command refusal) so = ends_out_of_memory so.answered (asks call.words command worked.asked) so.silent so.told
 
-  prevented : (cause : Cause) → Prevents call.words call.source cause → EndsSo (complaint_of cause) → Ends call
+  -- where there is no output
+  prevented : (cause : Cause) → Prevents call.words call.source cause → EndsSo (complaint_of cause) → EndingCase call
   prevented Usage why so = ends_refused [] usage so.answered (λ reads. absurd (no_command_of reads.0 (command_of call.words) why.0 reads.1)) (no_command why.0) so.silent so.told
   prevented (Reading SourceFailed) why so = ends_failed so.answered why.0 why.1 so.silent so.told
   prevented (Reading TooLong) why so =
       let text = why.1.0 in let is = why.1.2 in
-      let over : 1048576 < length text = omega (arith, is) in
+      let over : most_bytes < length text = omega (arith, is) in
       ends_refused text too_long so.answered (λ reads. record { taken = why.1.1; enough = inr over }) (no_text too_long why.0 (long over)) so.silent so.told
-  prevented (Reading (NoMemoryForText refusal)) why so = ends_starved so.answered (asks call.words why.0.0 why.0.1) so.silent so.told
+  prevented (Reading (NoMemoryForText refusal)) why so = ends_out_of_memory so.answered (asks call.words why.0.0 why.0.1) so.silent so.told
   prevented (Text fault) why so = by why.1.refused
     where
-      by : IsTextMemory fault ⊎ IsTextRefusal why.1.text fault → Ends call
-      by (inl memory) = hungry (of_text fault) so (text_memory fault memory) (asks call.words why.0.0 why.0.1)
+      by : IsTextMemory fault ⊎ IsTextRefusal why.1.text fault → EndingCase call
+      by (inl memory) = ran_out (of_text fault) so ((text_complaint why.1.text fault).0 memory) (asks call.words why.0.0 why.0.1)
       by (inr refusal) = ends_refused why.1.text (of_text fault) so.answered (seen_all why.1.text (λ reads. why.1.read)) (no_text (of_text fault) why.0 (unreadable fault why.1.short refusal)) so.silent so.told
   prevented (Program fault) why so = by why.1.refused
     where
-      by : IsMemory fault ⊎ IsInvalid why.1.text fault → Ends call
-      by (inl memory) = hungry (of_program fault) so (program_memory fault memory) (asks call.words why.0.0 why.0.1)
+      by : IsValidMemory fault ⊎ IsInvalid why.1.text fault → EndingCase call
+      by (inl memory) = ran_out (of_program fault) so ((program_complaint fault).0 memory) (asks call.words why.0.0 why.0.1)
       by (inr refusal) = ends_refused why.1.text (of_program fault) so.answered (seen_all why.1.text (λ reads. why.1.read)) (no_text (of_program fault) why.0 (invalid fault why.1.short refusal)) so.silent so.told
   prevented (Making fault) why so = making why.text why.command why.program fault why.worked why.stopped so
 
-  pub ends : Answers call → Ends call
-  ends whole = go whole.ending whole.ended whole.answered whole.told
+  -- each call ends in one of the five ways
+  pub ends : Answers call → EndingCase call
+  ends whole = go whole.ending whole.ended whole.answered whole.written
     where
-      go : (ending : Ending) → HasEnded call.words call.source call.out ending → call.answer ≡ answer_at_end ending → Told (complaint_at_end ending) call.err → Ends call
+      go : (ending : Ending) → HasEnded call.words call.source call.out ending → call.answer ≡ answer_at_end ending → WritesLine (complaint_at_end ending) call.err → EndingCase call
       go (Done outcome) is answered told = ends_done outcome answered is told
       go CutShort is answered told = ends_cut answered is told
       go (Prevented cause) is answered told = prevented cause is.0 (record { answered = answered; silent = is.1; told = told })

@@ -2,13 +2,13 @@
 use Rattle.std.proofs.Common.{◌≡◌, ◌≢◌, ◌<◌, ◌≤◌, ℕ, ℤ, List, length, Option, None, Some, IsTrue, refl, sym, ◌∙◌, ap, subst, arith}
 use Rattle.mir_base.specs.Shapes.{ProgramShape}
 use Rattle.mir_base.specs.Runs.{run, inputs_of}
-use Rattle.mir_interp.specs.Reports.{most_frames}
+use Rattle.mir_base.specs.Limits.{most_frames}
 use Rattle.mir_base.specs.Text.{canonical_text}
 use Rattle.mir_opt.specs.declared.trails.Trail.{Trail}
 use Rattle.mir_opt.specs.declared.trails.MoveTrail.{MoveTrail}
 use Rattle.mir_parse.specs.declared.raw.Raw.{Raw}
 use Rattle.mir_valid.specs.Refusals.{refusal}
-use Rattle.mir_valid.specs.Stands.{Stands}
+use Rattle.mir_valid.specs.Stands.{StandsFor}
 use Rattle.mir_valid.specs.Texts.{IsTextOf}
 use Rattle.mir_top.specs.declared.command.Command.{Command}
 use Rattle.mir_top.specs.declared.command.Command.TheVariants.{Optimise, Move, Run}
@@ -16,28 +16,35 @@ use Rattle.mir_top.specs.declared.outcome.Outcome.{Outcome}
 use Rattle.mir_top.specs.Calls.{answer_of}
 use Rattle.mir_top.specs.Commands.{command_of, inputs_in, reads_text, Reads}
 use Rattle.mir_top.specs.Complaints.{Complaint, wrong_inputs, deep, of_text, of_program}
-use Rattle.mir_top.specs.Due.{IsWithin, WorksOn, IsRefused, long, unreadable, invalid, Refuses, no_command, no_text, wrong_number, too_deep, Completes, of_optimise, of_move, of_run, status_of_finish}
+use Rattle.mir_top.specs.Due.{IsShortTextOf, WorksOn, IsRefused, long, unreadable, invalid, Refuses, no_command, no_text, wrong_number, too_deep, Completes, of_optimise, of_move, of_run, status_of_finish}
 use Rattle.mir_top.specs.Outputs.{Runs, reported, report_text, IsOnlyOutput, Makes, optimised, moved, ran}
+use Rattle.mir_top.specs.Promises.{HasRead}
+use Rattle.mir_top.specs.Streams.{Stream, TookAll}
 use Rattle.mir_top.specs.Texts.{OneReading}
+use Rattle.mir_top.proofs.Statuses.{is_of_run}
 
 -- ---- commands
 
+-- no command is not some command
 pub no_command_of : (command : Command) (asked : Option Command) → asked ≡ None → asked ≡ Some command → ⊥
 no_command_of command asked none some = absurd (let e = sym none ∙ some in cc)
 
+-- two commands of the same words are one
 pub same_command : (one other : Command) (asked : Option Command) → asked ≡ Some one → asked ≡ Some other → one ≡ other
 same_command one other asked first second = let e = sym first ∙ second in cc
 
+-- and two runs of the same words have one number of steps
 pub same_steps : (one other : ℕ) (asked : Option Command) → asked ≡ Some (Run one) → asked ≡ Some (Run other) → one ≡ other
 same_steps one other asked first second = let e = sym first ∙ second in cc
 
 -- a command that reads the text works on the program of the text
-pub within_of : (command : Command) (text : List ℕ) (program : ProgramShape) → IsTrue (reads_text command) → WorksOn command text program → IsWithin text program
+pub within_of : (command : Command) (text : List ℕ) (program : ProgramShape) → IsTrue (reads_text command) → WorksOn command text program → IsShortTextOf text program
 within_of Optimise text program reads on = on
 within_of Move text program reads on = on
 within_of (Run steps) text program reads on = on
 
-pub works_on : (command : Command) (text : List ℕ) (program : ProgramShape) → IsTrue (reads_text command) → IsWithin text program → WorksOn command text program
+-- and a command works on the program of the text
+pub works_on : (command : Command) (text : List ℕ) (program : ProgramShape) → IsTrue (reads_text command) → IsShortTextOf text program → WorksOn command text program
 works_on Optimise text program reads within = within
 works_on Move text program reads within = within
 works_on (Run steps) text program reads within = within
@@ -46,14 +53,24 @@ works_on (Run steps) text program reads within = within
 reads_of : (words : List (List ℕ)) (command : Command) → command_of words ≡ Some command → Reads words → IsTrue (reads_text command)
 reads_of words command asked reads = subst (λ (c : Command). IsTrue (reads_text c)) (same_command reads.0 command (command_of words) reads.1 asked) reads.2
 
+-- where a command read the text, the program that it worked on was read
+pub has_read : (words : List (List ℕ)) (source : Stream) (command : Command) (program other : ProgramShape) (text : List ℕ) → IsTrue (reads_text command) → command_of words ≡ Some command → (Reads words → TookAll source text) → WorksOn command text program → other ≡ program → HasRead source other
+has_read words source command program other text reads asked read on same = record {
+  text = text;
+  read = read (command, asked, reads);
+  within = subst (IsShortTextOf text) (sym same) (within_of command text program reads on);
+}
+
 -- ---- texts
 
+-- a text is that of one program
 pub program_same : OneReading → (text : List ℕ) (one other : ProgramShape) → IsTextOf text one → IsTextOf text other → one ≡ other
 program_same laws text one other is also =
     let same = laws.raw_one text also.raw is.raw also.spelled is.spelled in
-    laws.program_one is.raw is.valid one other is.stands (subst (λ (raw : Raw). Stands raw other) same also.stands)
+    laws.program_one is.raw is.valid one other is.stands (subst (λ (raw : Raw). StandsFor raw other) same also.stands)
 
-not_refused : OneReading → (text : List ℕ) (program : ProgramShape) (complaint : Complaint) → IsWithin text program → IsRefused text complaint → ⊥
+-- the text of a program is not refused
+not_refused : OneReading → (text : List ℕ) (program : ProgramShape) (complaint : Complaint) → IsShortTextOf text program → IsRefused text complaint → ⊥
 not_refused laws text program _ within (long above) = let h = within.short in omega (arith, above, h)
 not_refused laws text program _ within (unreadable fault short refused) = laws.fault_none text fault refused within.parsed.raw within.parsed.spelled
 not_refused laws text program _ within (invalid fault short refused) =
@@ -61,6 +78,7 @@ not_refused laws text program _ within (invalid fault short refused) =
     let same = laws.raw_one text refused.raw parsed.raw refused.spelled parsed.spelled in
     laws.valid_none parsed.raw fault (subst (λ (raw : Raw). refusal raw ≡ Some fault) same refused.refused) parsed.valid
 
+-- a text is refused for one cause
 refused_same : OneReading → (text : List ℕ) (one other : Complaint) → IsRefused text one → IsRefused text other → one ≡ other
 refused_same laws text _ _ (long above) (long again) = refl
 refused_same laws text _ _ (long above) (unreadable fault short refused) = absurd (omega (arith, above, short))
@@ -84,7 +102,7 @@ Refused words text steps program complaint =
     × (length (inputs_in words) ≡ inputs_of program → (most_frames < (run program (inputs_in words) steps).depth) × (complaint ≡ deep))
 
 -- the refusal of a run of the program of the text is that of its inputs or its frames
-refused_run : OneReading → (words : List (List ℕ)) (text : List ℕ) (steps : ℕ) (program : ProgramShape) (complaint : Complaint) → command_of words ≡ Some (Run steps) → IsWithin text program → Refuses words text complaint → Refused words text steps program complaint
+refused_run : OneReading → (words : List (List ℕ)) (text : List ℕ) (steps : ℕ) (program : ProgramShape) (complaint : Complaint) → command_of words ≡ Some (Run steps) → IsShortTextOf text program → Refuses words text complaint → Refused words text steps program complaint
 refused_run laws words text steps program _ asked within (no_command none) = absurd (no_command_of (Run steps) (command_of words) none asked)
 refused_run laws words text steps program _ asked within (no_text complaint reads refused) = absurd (not_refused laws text program complaint within refused)
 refused_run laws words text steps program _ asked within (wrong_number n other also on wrong) =
@@ -110,15 +128,22 @@ refuses_same laws words text _ other (wrong_number n program asked on wrong) als
 refuses_same laws words text _ other (too_deep n program asked on right above) also = sym ((refused_run laws words text n program other asked on also).1 right).1
 
 -- what a run makes
-runs_of : (inputs : List ℤ) (program : ProgramShape) (command : Command) (outcome : Outcome) (output : List ℕ) (steps : ℕ) → Makes inputs program command outcome output → command ≡ Run steps
-    → Runs program inputs steps × ((answer_of outcome).status ≡ status_of_finish (reported program inputs steps).finish)
+pub runs_of : (inputs : List ℤ) (program : ProgramShape) (command : Command) (outcome : Outcome) (output : List ℕ) (steps : ℕ) → Makes inputs program command outcome output → command ≡ Run steps
+    → Runs program inputs steps × ((answer_of outcome).status ≡ status_of_finish (reported program inputs steps).finish) × (output ≡ report_text (reported program inputs steps))
 runs_of inputs program _ _ _ steps (optimised trail source optimises) is = absurd (cc)
 runs_of inputs program _ _ _ steps (moved trail source moves) is = absurd (cc)
 runs_of inputs program _ _ _ steps (ran n runs report reports) is =
     let same : n ≡ steps = cc in (
       subst (Runs program inputs) same runs,
       ap (λ r. status_of_finish r.finish) reports ∙ ap (λ (k : ℕ). status_of_finish (reported program inputs k).finish) same,
+      ap report_text reports ∙ ap (λ (k : ℕ). report_text (reported program inputs k)) same,
     )
+
+-- an outcome with status 3 or 4 is that of a run
+pub run_of_status : (inputs : List ℤ) (program : ProgramShape) (command : Command) (outcome : Outcome) (output : List ℕ) → Makes inputs program command outcome output → is_of_run (answer_of outcome).status → (n : ℕ) × (command ≡ Run n)
+run_of_status inputs program _ _ _ (optimised trail source optimises) is = absurd is
+run_of_status inputs program _ _ _ (moved trail source moves) is = absurd is
+run_of_status inputs program _ _ _ (ran n runs report reports) is = (n, refl)
 
 -- where something is made, nothing is refused
 pub makes_no_refusal : OneReading → (words : List (List ℕ)) (text : List ℕ) (command : Command) (program : ProgramShape) (outcome : Outcome) (output : List ℕ) (complaint : Complaint) → command_of words ≡ Some command → WorksOn command text program
@@ -139,7 +164,7 @@ makes_no_refusal laws words text command program outcome output _ asked on makes
     omega (arith, shallow, above)
 
 -- a command that is no run is refused for its text alone
-other_refusal : OneReading → (words : List (List ℕ)) (text : List ℕ) (command : Command) (program : ProgramShape) (complaint : Complaint) → command_of words ≡ Some command → IsWithin text program → ((n : ℕ) → command ≡ Run n → ⊥) → Refuses words text complaint → ⊥
+other_refusal : OneReading → (words : List (List ℕ)) (text : List ℕ) (command : Command) (program : ProgramShape) (complaint : Complaint) → command_of words ≡ Some command → IsShortTextOf text program → ((n : ℕ) → command ≡ Run n → ⊥) → Refuses words text complaint → ⊥
 other_refusal laws words text command program _ asked within no_run (no_command none) = no_command_of command (command_of words) none asked
 other_refusal laws words text command program _ asked within no_run (no_text complaint reads refused) = not_refused laws text program complaint within refused
 other_refusal laws words text command program _ asked within no_run (wrong_number n other also on wrong) = no_run n (same_command command (Run n) (command_of words) asked also)
@@ -153,12 +178,13 @@ completes_no_refusal laws words text _ complaint (of_run n program asked on runs
     let refused = refused_run laws words text n program complaint asked on refuses in
     let over = (refused.1 runs.enough).0 in let shallow = runs.shallow in omega (arith, over, shallow)
 
--- and what is made has its status
+-- what is made by a command that is no run has status 0
 status_of_text : (inputs : List ℤ) (program : ProgramShape) (command : Command) (outcome : Outcome) (output : List ℕ) → Makes inputs program command outcome output → ((n : ℕ) → command ≡ Run n → ⊥) → (answer_of outcome).status ≡ 0
 status_of_text inputs program _ _ _ (optimised trail source optimises) no_run = refl
 status_of_text inputs program _ _ _ (moved trail source moves) no_run = refl
 status_of_text inputs program _ _ _ (ran n runs report reports) no_run = absurd (no_run n refl)
 
+-- what is made where an output is due has the status that is due
 pub completes_status : OneReading → (words : List (List ℕ)) (text : List ℕ) (status : ℕ) (command : Command) (program : ProgramShape) (outcome : Outcome) (output : List ℕ) → Completes words text status → command_of words ≡ Some command → WorksOn command text program
     → Makes (inputs_in words) program command outcome output → (answer_of outcome).status ≡ status
 completes_status laws words text _ command program outcome output (of_optimise other also within) asked on makes =

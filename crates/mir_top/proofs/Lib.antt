@@ -1,5 +1,6 @@
-mod Pieces
 mod MadeLaws
+mod Statuses
 mod Judgements
 mod Endings
+mod Trails
 mod Promised

@@ -1,56 +1,37 @@
 -- What making answers, as the commands have it.
-use Rattle.std.proofs.Common.{◌≡◌, ℕ, ℤ, List, All, Ok, Err, sym, ◌∙◌, subst}
+use Rattle.std.proofs.Common.{◌≡◌, ℕ, ℤ, List, All, Err, sym, ◌∙◌, subst}
 use Rattle.mir_base.specs.Shapes.{ProgramShape}
-use Rattle.mir_base.specs.Runs.{Same, Cheaper}
-use Rattle.mir_interp.specs.Reports.{IsAnswer}
-use Rattle.mir_interp.specs.declared.report.Report.{Report}
+use Rattle.mir_interp.specs.Reports.{IsRunAnswer}
 use Rattle.mir_interp.specs.declared.report.RunFault.{RunFault}
 use Rattle.mir_interp.specs.declared.report.RunFault.TheVariants.{WrongInputs, Deep, Memory}
 use Rattle.mir_opt.specs.Best.{MovesBest}
-use Rattle.mir_opt.specs.Links.{IsLinked, IsMoveLinked}
-use Rattle.mir_opt.specs.declared.trails.Trail.{Trail}
-use Rattle.mir_opt.specs.declared.trails.MoveTrail.{MoveTrail}
-use Rattle.mir_base.specs.Text.{canonical_text}
-use Rattle.mir_sim.specs.Pairs.{AllUnitsSame}
-use Rattle.mir_top.specs.declared.command.Command.TheVariants.{Optimise, Move, Run}
-use Rattle.mir_top.specs.declared.outcome.Outcome.TheVariants.{Optimised, Moved, Ran}
-use Rattle.mir_top.specs.Outputs.{Makes, optimised, moved, ran, Stops, too_few_or_many, too_deep, no_memory, Optimises, MovesCode, report_text}
+use Rattle.mir_opt.specs.Stages.{KeepsProgram}
+use Rattle.mir_opt.specs.declared.trails.UnitTrail.{UnitTrail}
+use Rattle.mir_top.specs.declared.command.Command.{Command}
+use Rattle.mir_top.specs.declared.command.Command.TheVariants.{Run}
+use Rattle.mir_top.specs.declared.outcome.Outcome.{Outcome}
+use Rattle.mir_top.specs.Outputs.{Improves, Makes, CannotMake, too_few_or_many, too_deep, no_memory}
 
-pub run_stops : (program : ProgramShape) (inputs : List ℤ) (steps : ℕ) (fault : RunFault) → IsAnswer program inputs steps (Err fault) → Stops inputs program (Run steps) fault
+-- why a run ends without a report is why the command makes nothing
+pub run_stops : (program : ProgramShape) (inputs : List ℤ) (steps : ℕ) (fault : RunFault) → IsRunAnswer program inputs steps (Err fault) → CannotMake inputs program (Run steps) fault
 run_stops program inputs steps (WrongInputs wanted) is =
-    subst (λ (n : ℕ). Stops inputs program (Run steps) (WrongInputs n)) (sym is.0) (too_few_or_many steps (λ right. is.1 (right ∙ sym is.0)))
+    subst (λ (n : ℕ). CannotMake inputs program (Run steps) (WrongInputs n)) (sym is.0) (too_few_or_many steps (λ right. is.1 (right ∙ sym is.0)))
 run_stops program inputs steps Deep is = too_deep steps is.0 is.1
 run_stops program inputs steps (Memory refusal) is = no_memory (Run steps) refusal
 
-pub run_makes : (program : ProgramShape) (inputs : List ℤ) (steps : ℕ) (report : Report) (output : List ℕ) → IsAnswer program inputs steps (Ok report) → output ≡ report_text report → Makes inputs program (Run steps) (Ran report.finish) output
-run_makes program inputs steps report output is text =
-    subst (Makes inputs program (Run steps) (Ran report.finish)) (sym text) (ran steps (record { enough = is.0; shallow = is.1 }) report is.2)
-
-pub optimise_makes : (program : ProgramShape) (inputs : List ℤ) (trail : Trail) (output : List ℕ) → trail.source ≡ program → Optimises trail → output ≡ canonical_text trail.target → Makes inputs program Optimise (Optimised trail) output
-optimise_makes program inputs trail output source is text = subst (Makes inputs program Optimise (Optimised trail)) (sym text) (optimised trail source is)
-
-pub move_makes : (program : ProgramShape) (inputs : List ℤ) (trail : MoveTrail) (output : List ℕ) → trail.source ≡ program → MovesCode trail → output ≡ canonical_text trail.target → Makes inputs program Move (Moved trail) output
-move_makes program inputs trail output source is text = subst (Makes inputs program Move (Moved trail)) (sym text) (moved trail source is)
+-- what a command makes, where the command and the output are known by equations
+pub makes_with : (inputs : List ℤ) (program : ProgramShape) (asked command : Command) (outcome : Outcome) (output text : List ℕ) → asked ≡ command → output ≡ text → Makes inputs program command outcome text → Makes inputs program asked outcome output
+makes_with inputs program asked command outcome output text is same makes =
+    subst (λ (c : Command). Makes inputs program c outcome output) (sym is) (subst (Makes inputs program command outcome) (sym same) makes)
 
 -- what the passes promise of a trail is what is asked of it
-pub optimises_from : (program : ProgramShape) (trail : Trail) → trail.source ≡ program → IsLinked trail → ((other : Trail) → other.source ≡ program → IsLinked other → trail ≡ other)
-    → Same program trail.target → AllUnitsSame program trail.target → Cheaper program trail.target → All MovesBest trail.units → Optimises trail
-optimises_from program trail source linked only same units cheaper best = record {
-  linked = linked;
-  only = λ other is. only other (is ∙ source);
-  same = subst (λ (p : ProgramShape). Same p trail.target) (sym source) same;
-  units = subst (λ (p : ProgramShape). AllUnitsSame p trail.target) (sym source) units;
-  cheaper = subst (λ (p : ProgramShape). Cheaper p trail.target) (sym source) cheaper;
-  best = best;
-}
-
-pub moves_from : (program : ProgramShape) (trail : MoveTrail) → trail.source ≡ program → IsMoveLinked trail → ((other : MoveTrail) → other.source ≡ program → IsMoveLinked other → trail ≡ other)
-    → Same program trail.target → AllUnitsSame program trail.target → Cheaper program trail.target → All MovesBest trail.units → MovesCode trail
-moves_from program trail source linked only same units cheaper best = record {
-  linked = linked;
-  only = λ other is. only other (is ∙ source);
-  same = subst (λ (p : ProgramShape). Same p trail.target) (sym source) same;
-  units = subst (λ (p : ProgramShape). AllUnitsSame p trail.target) (sym source) units;
-  cheaper = subst (λ (p : ProgramShape). Cheaper p trail.target) (sym source) cheaper;
-  best = best;
-}
+pub improves_from : (Linked : Type 0) (Only : ProgramShape → Type 0) (parts : List UnitTrail) (program source target : ProgramShape) → source ≡ program → Linked → Only program → KeepsProgram program target → All MovesBest parts → Improves Linked (Only source) parts source target
+improves_from Linked Only parts program source target is linked only keeps best =
+    subst (λ (p : ProgramShape). Improves Linked (Only p) parts p target) (sym is) (record {
+      linked = linked;
+      only = only;
+      same = keeps.same;
+      units = keeps.units;
+      cheaper = keeps.cheaper;
+      best = best;
+    })

@@ -1,5 +1,6 @@
--- What a call did: an outcome that was written, or a cause and what happened then.
+-- What a call did: an outcome that was written, or a cause and what happened then. Cited by contracts.
 use Rattle.std.specs.Prelude.{ℕ, suc, ◌≡◌, ◌⊎◌, ◌≤◌, List, length, Option, None, Some}
+use Rattle.mir_base.specs.Limits.{most_bytes}
 use Rattle.mir_base.specs.Shapes.{ProgramShape}
 use Rattle.mir_interp.specs.declared.report.RunFault.{RunFault}
 use Rattle.mir_outside.specs.declared.transfer.ReadFault.{ReadFault}
@@ -7,7 +8,7 @@ use Rattle.mir_outside.specs.declared.transfer.ReadFault.TheVariants.{Failed as 
 use Rattle.mir_parse.specs.declared.faults.TextFault.{TextFault}
 use Rattle.mir_parse.specs.Spells.{IsTextRefusal, IsTextMemory}
 use Rattle.mir_valid.specs.declared.faults.ValidFault.{ValidFault}
-use Rattle.mir_valid.specs.Refusals.{IsMemory}
+use Rattle.mir_valid.specs.Refusals.{IsValidMemory}
 use Rattle.mir_top.specs.declared.answer.Answer.{Answer}
 use Rattle.mir_top.specs.declared.cause.Cause.{Cause}
 use Rattle.mir_top.specs.declared.cause.Cause.TheVariants.{Usage, Reading, Text, Program, Making}
@@ -19,9 +20,9 @@ use Rattle.mir_top.specs.declared.outcome.Outcome.TheVariants.{Optimised, Moved,
 use Rattle.mir_top.specs.Commands.{command_of, inputs_in, Reads}
 use Rattle.mir_top.specs.Complaints.{Complaint, complaint_of, write_fault}
 use Rattle.mir_top.specs.Due.{WorksOn, status_of_finish}
-use Rattle.mir_top.specs.Outputs.{Makes, Stops}
-use Rattle.mir_top.specs.Streams.{Stream, Untouched, Failed, Took, TookAll, Gave, GavePart, Tried}
-use Rattle.mir_top.specs.Texts.{text_limit, IsInvalid}
+use Rattle.mir_top.specs.Outputs.{Makes, CannotMake}
+use Rattle.mir_top.specs.Streams.{Stream, Untouched, HasFailed, Took, TookAll, Gave, GavePart, Tried}
+use Rattle.mir_top.specs.Texts.{IsInvalid}
 
 -- the words of a call, what it did to its source and its outputs, and what it answered
 pub record Call : Type 0 where
@@ -39,8 +40,7 @@ answer_of (Optimised trail) = record { status = 0; trail = Some trail; moved = N
 answer_of (Moved trail) = record { status = 0; trail = None; moved = Some trail }
 answer_of (Ran finish) = record { status = status_of_finish finish; trail = None; moved = None }
 
--- the command that the words are works on this program; where it reads the text, this is what was
--- read, to the end
+-- the command that the words are works on this program; where it reads the text, this is what was read, to the end
 pub record WorkedOn
     (words : List (List ℕ)) (source : Stream)
     (text : List ℕ) (command : Command) (program : ProgramShape) : Type 0 where
@@ -48,8 +48,8 @@ pub record WorkedOn
   pub read : Reads words → TookAll source text
   pub subject : WorksOn command text program
 
--- the output of the command was made
-pub record IsMade
+-- the command that the words are made this of the program that it works on, with this output
+pub record MakesOutput
     (words : List (List ℕ)) (source : Stream)
     (outcome : Outcome) (output : List ℕ) : Type 0 where
   pub text : List ℕ
@@ -61,37 +61,37 @@ pub record IsMade
 -- the output was made and written, whole and nothing else
 pub record IsDone (words : List (List ℕ)) (source out : Stream) (outcome : Outcome) : Type 0 where
   pub output : List ℕ
-  pub made : IsMade words source outcome output
+  pub made : MakesOutput words source outcome output
   pub written : Gave out output
 
--- the output was made and failed, and a proper prefix of it was written
+-- the output was made and a write of it failed, so that a proper prefix of it was written
 pub record IsCutShort (words : List (List ℕ)) (source out : Stream) : Type 0 where
   pub outcome : Outcome
   pub output : List ℕ
-  pub made : IsMade words source outcome output
+  pub made : MakesOutput words source outcome output
   pub written : GavePart out output
 
 -- ---- causes why no output is made, by their stage
 
 -- why the text was not read
 abbrev pub NotRead : Stream → ReadFault → Type 0
-NotRead source SourceFailed = Failed source
-NotRead source TooLong = (text : List ℕ) × Took source text × (length text ≡ suc text_limit)
+NotRead source SourceFailed = HasFailed source
+NotRead source TooLong = (text : List ℕ) × Took source text × (length text ≡ suc most_bytes)
 NotRead source (NoMemoryForText refusal) = Unit {0}
 
 -- the text was read, and spells no raw program
 pub record SpellsNone (source : Stream) (fault : TextFault) : Type 0 where
   pub text : List ℕ
   pub read : TookAll source text
-  pub short : length text ≤ text_limit
+  pub short : length text ≤ most_bytes
   pub refused : IsTextMemory fault ⊎ IsTextRefusal text fault
 
 -- the text was read, and spells a raw program that is not valid
 pub record StandsForNone (source : Stream) (fault : ValidFault) : Type 0 where
   pub text : List ℕ
   pub read : TookAll source text
-  pub short : length text ≤ text_limit
-  pub refused : IsMemory fault ⊎ IsInvalid text fault
+  pub short : length text ≤ most_bytes
+  pub refused : IsValidMemory fault ⊎ IsInvalid text fault
 
 -- nothing is made of the program
 pub record MakesNone (words : List (List ℕ)) (source : Stream) (fault : RunFault) : Type 0 where
@@ -99,8 +99,9 @@ pub record MakesNone (words : List (List ℕ)) (source : Stream) (fault : RunFau
   pub command : Command
   pub program : ProgramShape
   pub worked : WorkedOn words source text command program
-  pub stopped : Stops (inputs_in words) program command fault
+  pub stopped : CannotMake (inputs_in words) program command fault
 
+-- why no output is made, and what was read then
 abbrev pub Prevents : List (List ℕ) → Stream → Cause → Type 0
 Prevents words source Usage = (command_of words ≡ None) × Untouched source
 Prevents words source (Reading fault) = Reads words × NotRead source fault
@@ -116,7 +117,7 @@ HasEnded words source out (Done outcome) = IsDone words source out outcome
 HasEnded words source out CutShort = IsCutShort words source out
 HasEnded words source out (Prevented cause) = Prevents words source cause × Untouched out
 
--- the complaint of an ending, but for one with an outcome
+-- the complaint of an ending without an outcome
 abbrev pub complaint_at_end : Ending → Option Complaint
 complaint_at_end (Done outcome) = None
 complaint_at_end CutShort = Some write_fault
@@ -126,19 +127,20 @@ complaint_at_end (Prevented cause) = Some (complaint_of cause)
 abbrev pub refusal_with : ℕ → Answer
 refusal_with status = record { status = status; trail = None; moved = None }
 
+-- the answer of an ending
 abbrev pub answer_at_end : Ending → Answer
 answer_at_end (Done outcome) = answer_of outcome
 answer_at_end CutShort = refusal_with write_fault.status
 answer_at_end (Prevented cause) = refusal_with (complaint_of cause).status
 
--- the line of the complaint was told, or nothing where there is none
-abbrev pub Told : Option Complaint → Stream → Type 0
-Told None err = Untouched err
-Told (Some complaint) err = Tried err complaint.line
+-- the line of the complaint was written, whole unless the error output failed, or nothing where there is no complaint
+abbrev pub WritesLine : Option Complaint → Stream → Type 0
+WritesLine None err = Untouched err
+WritesLine (Some complaint) err = Tried err complaint.line
 
 -- the whole of a call
 pub record Answers (call : Call) : Type 0 where
   pub ending : Ending
   pub ended : HasEnded call.words call.source call.out ending
   pub answered : call.answer ≡ answer_at_end ending
-  pub told : Told (complaint_at_end ending) call.err
+  pub written : WritesLine (complaint_at_end ending) call.err

@@ -1,40 +1,45 @@
--- What each command asks of its words.
-use Rattle.std.specs.Prelude.{ℕ, ◌≡◌, ℤ, pos, Bool, true, List, [], ◌∷◌, map, codes, Option, None, Some, nat_eq, nat_le, if◌then◌else◌, IsTrue, IsSome, is_some, unwrap_or}
+-- What each command asks of its words. Cited by contracts.
+use Rattle.std.specs.Prelude.{ℕ, ◌≡◌, ℤ, pos, Bool, true, List, [], ◌∷◌, map, codes, String, string_bytes, Option, None, Some, nat_eq, nat_le, if◌then◌else◌, IsTrue, IsSome, is_some, unwrap_or}
+use Rattle.std.specs.declared.alloc.Global.{Global}
 use Rattle.std.specs.List.{list_all}
 use Rattle.std.specs.Option.{option_map}
 use Rattle.std.specs.Cmp.Lexicographic.{pointwise}
+use Rattle.mir_base.specs.Limits.{most_steps}
 use Rattle.mir_lex.specs.Numbers.{signed_number, unsigned_number}
 use Rattle.mir_top.specs.declared.command.Command.{Command}
 use Rattle.mir_top.specs.declared.command.Command.TheVariants.{Optimise, Move, Run}
 
+-- the bytes of each word of the command line
+abbrev pub word_bytes : List (String Global) → List (List ℕ)
+word_bytes words = map string_bytes words
+
+-- a word is this text
 abbrev pub is_word : List ℕ → List ℕ → Bool
 is_word word text = pointwise nat_eq word text
 
--- the most steps of a run
-abbrev pub most_steps : ℕ
-most_steps = 1000000
-
+-- the number, where it is at most so much
 abbrev pub at_most : ℕ → Option ℕ → Option ℕ
 at_most most None = None
 at_most most (Some number) = if nat_le number most then Some number else None
 
--- one or more decimal digits, of at most the most steps
-abbrev pub steps_of : List ℕ → Option ℕ
-steps_of word = at_most most_steps (unsigned_number word)
+-- the number of steps that a word gives: one or more decimal digits, of at most 1,000,000
+abbrev pub step_count : List ℕ → Option ℕ
+step_count word = at_most most_steps (unsigned_number word)
 
--- a command whose word stands alone
+-- the command, where no word follows its own
 abbrev pub alone_of : Command → List (List ℕ) → Option Command
 alone_of command [] = Some command
 alone_of command (argument ∷ arguments) = None
 
-abbrev pub is_number : List ℕ → Bool
-is_number word = is_some (signed_number word)
+-- a word is an input of a run: an optional `-` and digits, of a signed 64-bit number
+abbrev pub is_input : List ℕ → Bool
+is_input word = is_some (signed_number word)
 
--- `run STEPS [N ..]`, each N an optional `-` and digits of a signed 64-bit number
+-- `run STEPS [N ..]`, by the words after `run`
 abbrev pub run_of : List (List ℕ) → Option Command
 run_of [] = None
 run_of (steps ∷ inputs) =
-    if list_all is_number inputs then option_map (λ count. Run count) (steps_of steps) else None
+    if list_all is_input inputs then option_map (λ count. Run count) (step_count steps) else None
 
 -- the command that these words are
 abbrev pub command_of : List (List ℕ) → Option Command
@@ -58,12 +63,14 @@ reads_text (Run steps) = true
 abbrev pub Reads : List (List ℕ) → Type 0
 Reads words = (command : Command) × (command_of words ≡ Some command) × IsTrue (reads_text command)
 
-abbrev pub number_or_zero : List ℕ → ℤ
-number_or_zero word = unwrap_or (signed_number word) (pos 0)
+-- the number of an input, and 0 for another word
+abbrev pub input_value : List ℕ → ℤ
+input_value word = unwrap_or (signed_number word) (pos 0)
 
+-- the inputs, by the words after `run`
 abbrev pub inputs_after_steps : List (List ℕ) → List ℤ
 inputs_after_steps [] = []
-inputs_after_steps (steps ∷ inputs) = map number_or_zero inputs
+inputs_after_steps (steps ∷ inputs) = map input_value inputs
 
 -- the inputs that the words of a run give
 abbrev pub inputs_in : List (List ℕ) → List ℤ

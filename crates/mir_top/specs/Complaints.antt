@@ -1,4 +1,4 @@
--- The status of each cause, and its line on the error output.
+-- The status of each cause, and its line on the error output. Cited by contracts.
 use Rattle.std.specs.Prelude.{ℕ, ◌≡◌, List, [], ◌++◌, codes, decimal, Option, None, Some}
 use Rattle.mir_interp.specs.declared.report.RunFault.{RunFault}
 use Rattle.mir_interp.specs.declared.report.RunFault.TheVariants.{WrongInputs, Deep, Memory as NoMemoryForRun}
@@ -13,6 +13,7 @@ use Rattle.mir_parse.specs.declared.faults.TextFault.TheVariants.{Lex, Parse}
 use Rattle.mir_valid.specs.declared.faults.ValidFault.{ValidFault}
 use Rattle.mir_valid.specs.declared.faults.ValidFault.TheVariants.{NoUnit, TooManyUnits, SameUnit, TooManyInsts, LateReceive, SameReceive, TooManyReceives, SameLabel, NoLabel, NoSuchUnit, WrongCount, Memory as NoMemoryForProgram}
 use Rattle.mir_top.specs.declared.cause.Cause.{Cause}
+use Rattle.mir_top.specs.declared.complaint.ComplaintParts.{ComplaintParts}
 use Rattle.mir_top.specs.declared.cause.Cause.TheVariants.{Usage, Reading, Text, Program, Making}
 
 -- a status and a line, with its line feed
@@ -20,70 +21,88 @@ pub record Complaint : Type 0 where
   pub status : ℕ
   pub line : List ℕ
 
+-- the decimal digits of a number, and nothing where there is none
 abbrev pub number_text : Option ℕ → List ℕ
 number_text None = []
 number_text (Some number) = decimal number
 
--- the complaint, with its line in three pieces
-pub record Says
-    (status : ℕ) (before : List ℕ) (number : Option ℕ) (after : List ℕ)
-    (complaint : Complaint) : Type 0 where
-  pub status_is : status ≡ complaint.status
-  pub line_is : before ++ number_text number ++ after ≡ complaint.line
+-- the line that the parts make: two texts, and the number between them where there is one
+abbrev pub complaint_line : ComplaintParts → List ℕ
+complaint_line parts = parts.before.now ++ number_text parts.number ++ parts.after.now
 
+-- the parts are those of this complaint
+pub record ArePartsOf (complaint : Complaint) (parts : ComplaintParts) : Type 0 where
+  pub status_is : parts.status ≡ complaint.status
+  pub line_is : complaint_line parts ≡ complaint.line
+
+-- ---- the complaints
+
+-- the words are those of no command
 abbrev pub usage : Complaint
 usage = record { status = 1; line = codes "usage: mir optimise | move | run STEPS [N ..]\n" }
 
+-- a run has more or fewer inputs than the program receives
 abbrev pub wrong_inputs : ℕ → Complaint
 wrong_inputs wanted = record {
   status = 1;
   line = codes "wrong inputs: " ++ decimal wanted ++ codes " wanted\n";
 }
 
+-- the text has more bytes than a text may have
 abbrev pub too_long : Complaint
 too_long = record { status = 2; line = codes "text longer than 1048576 bytes\n" }
 
+-- a run has more frames than a run may have
 abbrev pub deep : Complaint
 deep = record { status = 5; line = codes "deep: more than 10000 frames\n" }
 
+-- a read of the source failed
 abbrev pub read_fault : Complaint
 read_fault = record { status = 6; line = codes "read fault\n" }
 
+-- a write of the output failed
 abbrev pub write_fault : Complaint
 write_fault = record { status = 7; line = codes "write fault\n" }
 
+-- the call ran out of memory
 abbrev pub out_of_memory : Complaint
 out_of_memory = record { status = 8; line = codes "out of memory\n" }
 
--- what is wrong with a text, or at a line of it
+-- what is wrong with a text
 abbrev pub refused : List ℕ → Complaint
 refused what = record { status = 2; line = what }
 
+-- what is wrong with a text at this line of it
 abbrev pub refused_at : ℕ → List ℕ → Complaint
 refused_at line what = refused (codes "line " ++ decimal line ++ what)
 
 -- ---- by the stage at which a call ends
 
+-- the complaint of a text that was not read
 abbrev pub of_reading : ReadFault → Complaint
 of_reading Failed = read_fault
 of_reading TooLong = too_long
 of_reading (NoMemoryForText refusal) = out_of_memory
 
+-- the complaint of bytes that are no tokens
 abbrev pub of_bytes : LexFault → Complaint
 of_bytes (BadByte line) = refused_at line (codes ": bad byte\n")
 of_bytes (BadNumber line) = refused_at line (codes ": bad number\n")
 of_bytes (LongName line) = refused_at line (codes ": long name\n")
 of_bytes (NoMemoryForTokens refusal) = out_of_memory
 
+-- the complaint of tokens that are no raw program
 abbrev pub of_tokens : ParseFault → Complaint
 of_tokens (Unexpected line) = refused_at line (codes ": unexpected\n")
 of_tokens Ended = refused (codes "text ends inside a unit\n")
 of_tokens (NoMemoryForRaw refusal) = out_of_memory
 
+-- the complaint of a text that spells no raw program
 abbrev pub of_text : TextFault → Complaint
 of_text (Lex fault) = of_bytes fault
 of_text (Parse fault) = of_tokens fault
 
+-- the complaint of a raw program that is not valid
 abbrev pub of_program : ValidFault → Complaint
 of_program NoUnit = refused (codes "no unit\n")
 of_program TooManyUnits = refused (codes "too many units\n")
@@ -98,11 +117,13 @@ of_program (NoSuchUnit line) = refused_at line (codes ": no such unit\n")
 of_program (WrongCount line) = refused_at line (codes ": wrong number of arguments\n")
 of_program (NoMemoryForProgram refusal) = out_of_memory
 
+-- the complaint of a command that makes nothing of its program
 abbrev pub of_run : RunFault → Complaint
 of_run (WrongInputs wanted) = wrong_inputs wanted
 of_run Deep = deep
 of_run (NoMemoryForRun refusal) = out_of_memory
 
+-- the complaint of a cause
 abbrev pub complaint_of : Cause → Complaint
 complaint_of Usage = usage
 complaint_of (Reading fault) = of_reading fault

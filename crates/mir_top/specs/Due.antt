@@ -1,8 +1,9 @@
--- What is due for the words and a text: a refusal with its status and line, or an output with its status.
+-- What is due for the words and a text: a refusal with its status and line, or an output with its status. Cited by
+-- contracts.
 use Rattle.std.specs.Prelude.{ℕ, ◌≡◌, ◌≢◌, ◌<◌, ◌≤◌, List, length, Some, None}
+use Rattle.mir_base.specs.Limits.{most_bytes, most_frames}
 use Rattle.mir_base.specs.Shapes.{ProgramShape}
 use Rattle.mir_base.specs.Runs.{run, inputs_of}
-use Rattle.mir_interp.specs.Reports.{most_frames}
 use Rattle.mir_interp.specs.declared.report.Finish.{Finish}
 use Rattle.mir_interp.specs.declared.report.Finish.TheVariants.{Running, Ended, Trapped}
 use Rattle.mir_parse.specs.declared.faults.TextFault.{TextFault}
@@ -14,25 +15,25 @@ use Rattle.mir_top.specs.declared.command.Command.TheVariants.{Optimise, Move, R
 use Rattle.mir_top.specs.Commands.{command_of, inputs_in, Reads}
 use Rattle.mir_top.specs.Complaints.{Complaint, usage, wrong_inputs, too_long, deep, of_text, of_program}
 use Rattle.mir_top.specs.Outputs.{Runs, reported}
-use Rattle.mir_top.specs.Texts.{text_limit, IsInvalid}
+use Rattle.mir_top.specs.Texts.{IsInvalid}
 
 -- the text is that of this program, and within the limit
-pub record IsWithin (text : List ℕ) (program : ProgramShape) : Type 0 where
-  pub short : length text ≤ text_limit
+pub record IsShortTextOf (text : List ℕ) (program : ProgramShape) : Type 0 where
+  pub short : length text ≤ most_bytes
   pub parsed : IsTextOf text program
 
--- the program that a command works on, for the commands that read the text that of the text
+-- the program that a command works on: for each command that reads the text, the program of the text
 abbrev pub WorksOn : Command → List ℕ → ProgramShape → Type 0
-WorksOn Optimise text program = IsWithin text program
-WorksOn Move text program = IsWithin text program
-WorksOn (Run steps) text program = IsWithin text program
+WorksOn Optimise text program = IsShortTextOf text program
+WorksOn Move text program = IsShortTextOf text program
+WorksOn (Run steps) text program = IsShortTextOf text program
 
 -- why a text is of no program: it is too long, it spells no raw program, or one that is not valid
 pub data IsRefused (text : List ℕ) : Complaint → Type 0 where
-  long : text_limit < length text → IsRefused text too_long
-  unreadable : (fault : TextFault) → length text ≤ text_limit → IsTextRefusal text fault
+  long : most_bytes < length text → IsRefused text too_long
+  unreadable : (fault : TextFault) → length text ≤ most_bytes → IsTextRefusal text fault
       → IsRefused text (of_text fault)
-  invalid : (fault : ValidFault) → length text ≤ text_limit → IsInvalid text fault
+  invalid : (fault : ValidFault) → length text ≤ most_bytes → IsInvalid text fault
       → IsRefused text (of_program fault)
 
 -- no output is due, but a complaint
@@ -48,6 +49,7 @@ pub data Refuses (words : List (List ℕ)) (text : List ℕ) : Complaint → Typ
       → most_frames < (run program (inputs_in words) steps).depth
       → Refuses words text deep
 
+-- the status of a run that stands like this
 abbrev pub status_of_finish : Finish → ℕ
 status_of_finish (Ended result) = 0
 status_of_finish (Trapped kind) = 3

@@ -1,8 +1,9 @@
--- What each command makes of the program that it works on.
+-- What each command makes of the program that it works on. Cited by contracts.
 use Rattle.std.specs.Prelude.{ℕ, ℤ, ◌≡◌, ◌≢◌, ◌<◌, ◌≤◌, List, All, length, ◌++◌, codes, decimal, flat_map}
 use Rattle.std.specs.declared.alloc.AllocError.{AllocError}
 use Rattle.std.specs.Fmt.{signed_decimal}
 use Rattle.mir_base.specs.declared.operators.Trap.TheVariants.{ZeroDivisor}
+use Rattle.mir_base.specs.Limits.{most_frames}
 use Rattle.mir_base.specs.Shapes.{ProgramShape}
 use Rattle.mir_base.specs.Runs.{Same, Cheaper, run, inputs_of}
 use Rattle.mir_base.specs.Text.{canonical_text}
@@ -11,15 +12,16 @@ use Rattle.mir_interp.specs.declared.report.Finish.TheVariants.{Running, Ended, 
 use Rattle.mir_interp.specs.declared.report.Report.{Report}
 use Rattle.mir_interp.specs.declared.report.RunFault.{RunFault}
 use Rattle.mir_interp.specs.declared.report.RunFault.TheVariants.{WrongInputs, Deep, Memory}
-use Rattle.mir_interp.specs.Reports.{report_of, most_frames}
+use Rattle.mir_interp.specs.Reports.{report_of}
 use Rattle.mir_opt.specs.declared.trails.Trail.{Trail}
 use Rattle.mir_opt.specs.declared.trails.MoveTrail.{MoveTrail}
 use Rattle.mir_opt.specs.declared.trails.UnitTrail.{UnitTrail}
-use Rattle.mir_opt.specs.Links.{IsLinked, IsMoveLinked}
+use Rattle.mir_opt.specs.Links.{IsLinked, IsMoveLinked, IsOnlyMoveTrail, IsOnlyTrail}
 use Rattle.mir_opt.specs.Best.{MovesBest}
 use Rattle.mir_sim.specs.Pairs.{AllUnitsSame}
 use Rattle.mir_top.specs.declared.command.Command.{Command}
 use Rattle.mir_top.specs.declared.command.Command.TheVariants.{Optimise, Move, Run}
+use Rattle.mir_top.specs.declared.making.Made.{Made}
 use Rattle.mir_top.specs.declared.outcome.Outcome.{Outcome}
 use Rattle.mir_top.specs.declared.outcome.Outcome.TheVariants.{Optimised, Moved, Ran}
 
@@ -37,29 +39,24 @@ pub record Improves
   pub cheaper : Cheaper source target
   pub best : All MovesBest parts
 
--- no other trail of its source is linked
-abbrev pub IsOnlyTrail : Trail → Type 0
-IsOnlyTrail trail = (other : Trail) → other.source ≡ trail.source → IsLinked other → trail ≡ other
-
-abbrev pub IsOnlyMove : MoveTrail → Type 0
-IsOnlyMove trail = (other : MoveTrail)
-    → other.source ≡ trail.source → IsMoveLinked other → trail ≡ other
-
--- so it is of the trail of all passes
+-- the trail of all passes has an improved target
 abbrev pub Optimises : Trail → Type 0
 Optimises trail =
-    Improves (IsLinked trail) (IsOnlyTrail trail) trail.units trail.source trail.target
+    Improves (IsLinked trail) (IsOnlyTrail trail.source trail) trail.units trail.source trail.target
 
--- and of that of code motion alone
+-- and so has the trail of code motion alone
 abbrev pub MovesCode : MoveTrail → Type 0
 MovesCode trail =
-    Improves (IsMoveLinked trail) (IsOnlyMove trail) trail.units trail.source trail.target
+    Improves (IsMoveLinked trail) (IsOnlyMoveTrail trail.source trail) trail.units
+    trail.source trail.target
 
 -- ---- reports
 
+-- a number on a line of its own
 abbrev pub number_line : ℤ → List ℕ
 number_line number = signed_decimal number ++ codes "\n"
 
+-- the line that says how a run stands
 abbrev pub finish_text : Finish → List ℕ
 finish_text Running = codes "running\n"
 finish_text (Ended result) = codes "result " ++ number_line result
@@ -93,15 +90,20 @@ pub data Makes (inputs : List ℤ) (program : ProgramShape)
       → (report : Report) → report ≡ reported program inputs steps
       → Makes inputs program (Run steps) (Ran report.finish) (report_text report)
 
--- the command, with these inputs, makes nothing of the program, for this cause
-pub data Stops (inputs : List ℤ) (program : ProgramShape) : Command → RunFault → Type 0 where
+-- the same of the outcome and the output together
+abbrev pub IsMadeBy : List ℤ → ProgramShape → Command → Made → Type 0
+IsMadeBy inputs program command made =
+    Makes inputs program command made.outcome made.output.items
+
+-- the command, with these inputs, cannot make anything of the program, for this cause
+pub data CannotMake (inputs : List ℤ) (program : ProgramShape) : Command → RunFault → Type 0 where
   too_few_or_many : (steps : ℕ) → length inputs ≢ inputs_of program
-      → Stops inputs program (Run steps) (WrongInputs (inputs_of program))
+      → CannotMake inputs program (Run steps) (WrongInputs (inputs_of program))
   too_deep : (steps : ℕ) → length inputs ≡ inputs_of program
       → most_frames < (run program inputs steps).depth
-      → Stops inputs program (Run steps) Deep
+      → CannotMake inputs program (Run steps) Deep
   no_memory : (command : Command) (refusal : AllocError)
-      → Stops inputs program command (Memory refusal)
+      → CannotMake inputs program command (Memory refusal)
 
 -- the command, with these inputs, has no other output for the program
 abbrev pub IsOnlyOutput : List ℤ → ProgramShape → Command → List ℕ → Type 0

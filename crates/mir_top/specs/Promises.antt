@@ -1,6 +1,7 @@
--- What `top` promises of every call.
+-- What `top` promises of every call. Cited by contracts.
 use Rattle.std.specs.Prelude.{ℕ, ◌≡◌, ◌+◌, ◌<◌, ◌≤◌, ◌↔◌, ◌⊎◌, List, [], ◌∷◌, length, Some, None, IsSome, IfSome, Contains}
 use Rattle.std.specs.Io.KnownBytes.{IsAtEnd}
+use Rattle.mir_base.specs.Limits.{most_bytes}
 use Rattle.mir_base.specs.Shapes.{ProgramShape}
 use Rattle.mir_base.specs.Text.{canonical_text}
 use Rattle.mir_opt.specs.declared.trails.Trail.{Trail}
@@ -9,13 +10,12 @@ use Rattle.mir_outside.specs.Transfer.{TakesAtMost}
 use Rattle.mir_top.specs.declared.command.Command.{Command}
 use Rattle.mir_top.specs.declared.command.Command.TheVariants.{Optimise, Move, Run}
 use Rattle.mir_top.specs.declared.outcome.Outcome.{Outcome}
-use Rattle.mir_top.specs.Calls.{Call, answer_of, IsMade, IsDone, IsCutShort}
+use Rattle.mir_top.specs.Calls.{Call, answer_of, MakesOutput, IsDone, IsCutShort}
 use Rattle.mir_top.specs.Commands.{command_of, inputs_in, Asks, Reads}
 use Rattle.mir_top.specs.Complaints.{Complaint, read_fault, write_fault, out_of_memory}
-use Rattle.mir_top.specs.Due.{IsWithin, Refuses, Completes, status_of_finish}
+use Rattle.mir_top.specs.Due.{IsShortTextOf, Refuses, Completes, status_of_finish}
 use Rattle.mir_top.specs.Outputs.{Optimises, MovesCode, Runs, reported, report_text, IsOnlyOutput}
-use Rattle.mir_top.specs.Streams.{Stream, Untouched, Failed, Took, TookAll, Gave, Tried}
-use Rattle.mir_top.specs.Texts.{text_limit}
+use Rattle.mir_top.specs.Streams.{Stream, Untouched, HasFailed, Took, TookAll, Gave, Tried}
 
 -- ---- what was read
 
@@ -23,22 +23,22 @@ use Rattle.mir_top.specs.Texts.{text_limit}
 pub record HasRead (source : Stream) (program : ProgramShape) : Type 0 where
   pub text : List ℕ
   pub read : TookAll source text
-  pub within : IsWithin text program
+  pub within : IsShortTextOf text program
 
 -- these bytes were taken: the whole text, or more than a text may have
 pub record HasSeen (source : Stream) (text : List ℕ) : Type 0 where
   pub taken : Took source text
-  pub enough : IsAtEnd source.new ⊎ (text_limit < length text)
+  pub enough : IsAtEnd source.new ⊎ (most_bytes < length text)
 
--- the source tells this text, where the words ask for one
-abbrev pub Tells : Call → List ℕ → Type 0
-Tells call text = Reads call.words → call.source.old ≡ Some text
+-- where the words ask for a text, the source has this one, and its bytes can be observed
+abbrev pub HasText : Call → List ℕ → Type 0
+HasText call text = Reads call.words → call.source.old ≡ Some text
 
 -- ---- what was written
 
 -- what was made is the one output that the words ask of the program that was read
 abbrev pub IsOnlyMade : (call : Call) (outcome : Outcome) (output : List ℕ)
-    → IsMade call.words call.source outcome output → Type 0
+    → MakesOutput call.words call.source outcome output → Type 0
 IsOnlyMade call outcome output made =
     IsOnlyOutput (inputs_in call.words) made.program made.command output
 
@@ -49,7 +49,7 @@ pub record HasMade (call : Call) : Type 0 where
   pub only : IsOnlyMade call outcome done.output done.made
   pub answer : call.answer ≡ answer_of outcome
 
--- the one output that the words ask was made and failed, and a proper prefix of it was written
+-- the one output that the words ask was made and a write of it failed, so that a proper prefix of it was written
 pub record HasCutShort (call : Call) : Type 0 where
   pub cut : IsCutShort call.words call.source call.out
   pub only : IsOnlyMade call cut.outcome cut.output cut.made
@@ -61,10 +61,11 @@ pub record HasImproved
   pub improves : Improved
   pub written : Gave call.out (canonical_text target)
 
--- of which a trail tells, that of all passes or that of code motion alone
+-- this with source and target of the trail of all passes
 abbrev pub HasOptimised : Call → Trail → Type 0
 HasOptimised call trail = HasImproved call (Optimises trail) trail.source trail.target
 
+-- and with those of the trail of code motion alone
 abbrev pub HasMoved : Call → MoveTrail → Type 0
 HasMoved call trail = HasImproved call (MovesCode trail) trail.source trail.target
 
@@ -79,29 +80,31 @@ pub record HasRun (call : Call) (steps : ℕ) : Type 0 where
 
 -- ---- what was refused
 
--- the line of the complaint was told, whole unless the error output failed
-abbrev pub Told : Call → Complaint → Type 0
-Told call complaint = Tried call.err complaint.line
+-- the line of the complaint was written, whole unless the error output failed
+abbrev pub LineIsWritten : Call → Complaint → Type 0
+LineIsWritten call complaint = Tried call.err complaint.line
 
--- what was read is refused with this status, and its line was told
+-- what was read is refused with this status, and the line of the refusal was written
 pub record HasRefused (call : Call) : Type 0 where
   pub text : List ℕ
   pub complaint : Complaint
   pub read : Reads call.words → HasSeen call.source text
   pub refuses : Refuses call.words text complaint
   pub status : call.answer.status ≡ complaint.status
-  pub told : Told call complaint
+  pub written : LineIsWritten call complaint
 
 -- the call ends by this complaint, unless a read fails or memory runs out
 pub record EndsBy (call : Call) (complaint : Complaint) : Type 0 where
   pub status : Contains (complaint.status ∷ 6 ∷ 8 ∷ []) call.answer.status
-  pub told : call.answer.status ≡ complaint.status → Told call complaint
+  pub written : call.answer.status ≡ complaint.status → LineIsWritten call complaint
 
 -- ---- the promises
 
+-- the call answered this status
 abbrev pub StatusIs : Call → ℕ → Type 0
 StatusIs call status = call.answer.status ≡ status
 
+-- the call answered one of these statuses
 abbrev pub StatusIn : Call → List ℕ → Type 0
 StatusIn call statuses = Contains statuses call.answer.status
 
@@ -109,12 +112,12 @@ StatusIn call statuses = Contains statuses call.answer.status
 abbrev pub Asked : Call → Command → Type 0
 Asked call command = command_of call.words ≡ Some command
 
+-- all that holds of a call, whatever its words, source and sinks
 pub record Promises (call : Call) : Type 0 where
   -- At most one byte more than a text may have is read, and nothing where no text is asked for.
-  pub most : TakesAtMost call.source.old call.source.new (text_limit + 1)
+  pub most : TakesAtMost call.source.old call.source.new (most_bytes + 1)
   pub unread : ¬ Reads call.words → Untouched call.source
-  -- With the statuses 0, 3 and 4 the one output that the words ask was made, and written, whole and
-  -- nothing else.
+  -- With the statuses 0, 3 and 4 the one output that the words ask was made, and written, whole and nothing else.
   pub made : StatusIn call (0 ∷ 3 ∷ 4 ∷ []) → HasMade call
   -- A trail comes exactly with status 0 under `optimise`, a move trail so under `move`.
   pub trail : IsSome call.answer.trail ↔ (StatusIs call 0 × Asked call Optimise)
@@ -125,23 +128,26 @@ pub record Promises (call : Call) : Type 0 where
   pub reports : (steps : ℕ) → Asked call (Run steps) → StatusIn call (0 ∷ 3 ∷ 4 ∷ [])
       → HasRun call steps
   pub of_run : StatusIn call (3 ∷ 4 ∷ []) → (steps : ℕ) × Asked call (Run steps)
-  -- Status 1, 2 and 5 come only where the words, the text, the inputs or the run are refused,
-  -- with the line of this refusal. Where a refusal is due it comes, but for a failed read and want
-  -- of memory; wrong words need neither a read nor memory.
+  -- Status 1, 2 and 5 come only where the words, the text, the inputs or the run are refused, with the line of this
+  -- refusal. Where a refusal is due it comes, unless reading fails or memory runs out; wrong words need neither a read
+  -- nor memory.
   pub refused : StatusIn call (1 ∷ 2 ∷ 5 ∷ []) → HasRefused call
-  pub refuses : (text : List ℕ) (complaint : Complaint) → Tells call text
+  pub refuses : (text : List ℕ) (complaint : Complaint) → HasText call text
       → Refuses call.words text complaint → EndsBy call complaint
   pub usage : command_of call.words ≡ None → StatusIs call 1
-  -- Status 6 and 7 come only where a device failed: the count of its faults rose, or stands at its
-  -- last value. With 7 a proper prefix of the one output that the words ask was written. Status 8
-  -- comes under a command alone.
-  pub read_fault : StatusIs call 6 → Reads call.words × Failed call.source × Told call read_fault
-  pub write_fault : StatusIs call 7 → HasCutShort call × Told call write_fault
-  pub memory : StatusIs call 8 → Asks call.words × Told call out_of_memory
+  -- Status 6 and 7 come only where a device failed: the count of its faults rose, or is saturated. With 7 a proper
+  -- prefix of the one output that the words ask was written. Status 8 comes under a command alone.
+  pub read_fault : StatusIs call 6 → Reads call.words × HasFailed call.source × LineIsWritten call read_fault
+  pub write_fault : StatusIs call 7 → HasCutShort call × LineIsWritten call write_fault
+  pub memory : StatusIs call 8 → Asks call.words × LineIsWritten call out_of_memory
   -- Nothing is written to `out` with 1, 2, 5, 6 and 8, and nothing to `err` with 0, 3 and 4.
   pub silent : StatusIn call (1 ∷ 2 ∷ 5 ∷ 6 ∷ 8 ∷ []) → Untouched call.out
   pub quiet : StatusIn call (0 ∷ 3 ∷ 4 ∷ []) → Untouched call.err
   pub statuses : call.answer.status ≤ 8
-  -- Where an output is due, it comes with its status, but for a failed device and want of memory.
-  pub complete : (text : List ℕ) (status : ℕ) → Tells call text
+  -- Where an output is due, it comes with its status, unless a device fails or memory runs out.
+  pub complete : (text : List ℕ) (status : ℕ) → HasText call text
       → Completes call.words text status → StatusIn call (status ∷ 6 ∷ 7 ∷ 8 ∷ [])
+
+-- a call with these words, of which all this holds, answered this status
+abbrev pub IsStatusOfCall : List (List ℕ) → ℕ → Type 0
+IsStatusOfCall words status = (call : Call) × (call.words ≡ words) × Promises call × StatusIs call status

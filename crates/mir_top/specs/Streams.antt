@@ -1,27 +1,26 @@
--- What a call did to a source or a sink.
+-- What a call did to a source or a sink. Cited by contracts.
 use Rattle.std.specs.Prelude.{ℕ, ◌≡◌, ◌⊎◌, List, Option}
 use Rattle.std.specs.Io.KnownBytes.{Appends, Consumes, IsAtEnd}
 use Rattle.mir_outside.specs.Causes.{Rose}
 use Rattle.mir_outside.specs.Transfer.{AppendsPart}
 
--- the bytes that are left or written, where they are told, and the count of faults: before the call
--- and after it
+-- the bytes that are left or written, where they can be observed, and the count of faults: before the call and after it
 pub record Stream : Type 0 where
   pub old : Option (List ℕ)
   pub new : Option (List ℕ)
   pub before : ℕ
   pub after : ℕ
 
--- a stream as the members of its trait tell it
-abbrev pub seen : {T : Type 0} → (T → Option (List ℕ)) → (T → ℕ) → T → T → Stream
-seen bytes faults old new = record {
+-- the stream of a source or a sink, by the members of its trait that give its bytes and its faults
+abbrev pub stream_of : {T : Type 0} → (T → Option (List ℕ)) → (T → ℕ) → T → T → Stream
+stream_of bytes faults old new = record {
   old = bytes old;
   new = bytes new;
   before = faults old;
   after = faults new;
 }
 
--- a stream that never fails, whose count of faults is always 0
+-- a stream in which no fault occurs, so that its count of faults is always 0
 abbrev pub calm : Option (List ℕ) → Option (List ℕ) → Stream
 calm old new = record { old = old; new = new; before = 0; after = 0 }
 
@@ -29,9 +28,9 @@ calm old new = record { old = old; new = new; before = 0; after = 0 }
 abbrev pub Untouched : Stream → Type 0
 Untouched stream = (stream.new ≡ stream.old) × (stream.after ≡ stream.before)
 
--- the count of faults rose in this call, or stands at its last value
-abbrev pub Failed : Stream → Type 0
-Failed stream = Rose stream.before stream.after
+-- the count of faults rose in this call, or is saturated
+abbrev pub HasFailed : Stream → Type 0
+HasFailed stream = Rose stream.before stream.after
 
 -- these bytes were taken from a source
 abbrev pub Took : Stream → List ℕ → Type 0
@@ -47,7 +46,7 @@ Gave stream bytes = Appends stream.old stream.new bytes
 
 -- a sink failed, and a proper prefix of these bytes was appended to it
 abbrev pub GavePart : Stream → List ℕ → Type 0
-GavePart stream bytes = Failed stream × AppendsPart stream.old stream.new bytes
+GavePart stream bytes = HasFailed stream × AppendsPart stream.old stream.new bytes
 
 -- these bytes were appended to a sink, or a proper prefix of them where it failed
 abbrev pub Tried : Stream → List ℕ → Type 0

@@ -1,16 +1,12 @@
--- Texts, and why they are refused.
+-- Texts, and why they are refused. Cited by contracts.
 use Rattle.std.specs.Prelude.{ℕ, ◌≡◌, List, Some}
 use Rattle.mir_parse.specs.declared.raw.Raw.{Raw}
 use Rattle.mir_base.specs.Shapes.{ProgramShape}
 use Rattle.mir_parse.specs.declared.faults.TextFault.{TextFault}
 use Rattle.mir_parse.specs.Spells.{Spells, IsTextRefusal}
 use Rattle.mir_valid.specs.declared.faults.ValidFault.{ValidFault}
-use Rattle.mir_valid.specs.Refusals.{IsValid, IsMemory, refusal}
-use Rattle.mir_valid.specs.Stands.{Stands}
-
--- the most bytes that a text has
-abbrev pub text_limit : ℕ
-text_limit = 1048576
+use Rattle.mir_valid.specs.Refusals.{IsValid, IsValidMemory, refusal}
+use Rattle.mir_valid.specs.Stands.{StandsFor}
 
 -- the text spells a raw program that is not valid, for this cause
 pub record IsInvalid (text : List ℕ) (fault : ValidFault) : Type 0 where
@@ -29,6 +25,6 @@ pub record OneReading : Type 0 where
       → IsTextRefusal text fault → (raw : Raw) → Spells text raw → ⊥
   pub valid_none : (raw : Raw) (fault : ValidFault) → refusal raw ≡ Some fault → IsValid raw → ⊥
   pub no_memory_none : (raw : Raw) (fault : ValidFault)
-      → refusal raw ≡ Some fault → IsMemory fault → ⊥
+      → refusal raw ≡ Some fault → IsValidMemory fault → ⊥
   pub program_one : (raw : Raw) → IsValid raw → (one other : ProgramShape)
-      → Stands raw one → Stands raw other → one ≡ other
+      → StandsFor raw one → StandsFor raw other → one ≡ other

@@ -1,11 +1,11 @@
 // The top call.
-ghost use Rattle.std.specs.Prelude.{◌≡◌, ◌+◌, map, string_bytes};
+ghost use Rattle.std.specs.Prelude.{◌≡◌, ◌+◌};
+ghost use Rattle.mir_base.specs.Limits.{most_bytes};
 ghost use Rattle.mir_outside.specs.Transfer.{TakesAtMost};
-ghost use Rattle.mir_top.specs.Calls.{answer_at_end, complaint_at_end, refusal_with, HasEnded, Told};
+ghost use Rattle.mir_top.specs.Calls.{answer_at_end, complaint_at_end, refusal_with, HasEnded, WritesLine};
 ghost use Rattle.mir_top.specs.Promises.{Promises};
-ghost use Rattle.mir_top.specs.Commands.{Reads};
-ghost use Rattle.mir_top.specs.Streams.{seen, Untouched};
-ghost use Rattle.mir_top.specs.Texts.{text_limit};
+ghost use Rattle.mir_top.specs.Commands.{word_bytes, Reads};
+ghost use Rattle.mir_top.specs.Streams.{stream_of, Untouched};
 
 use crate::complaint::{complain, complain_of_write};
 use crate::work::prepare;
@@ -13,14 +13,14 @@ use crate::{Answer, Ending, text_has_one_reading};
 use mir_outside::{Sink, Source, write_all};
 use std::alloc::Global;
 
-/// Does what the words ask: `optimise` writes the canonical text of the target of the program that is read, `move` that of
-/// the target of code motion alone, and `run STEPS [N ..]` the report of its run. The text comes from the source, the
-/// output goes to `out`, and where this fails one line goes to `err`.
+/// Does what the words ask: `optimise` writes the canonical text of the target of the program that is read, `move` that
+/// of the target of code motion alone, and `run STEPS [N ..]` the report of its run. The text comes from the source,
+/// the output goes to `out`, and where this fails one line goes to `err`.
 ///
 /// The words are judged before anything is read, the text before anything is made of its program, and all of the output
 /// is made before anything is written. What is read and made does not see `out` and `err`, and what writes is given the
-/// bytes and the sink alone: so a fault of `err` changes neither the status nor the output, and once writing has begun no
-/// memory is taken.
+/// bytes and the sink alone: so a fault of `err` changes neither the status nor the output, and once writing has begun
+/// no memory is taken.
 ///
 /// `specs/Promises.antt` says what is promised of a call, `specs/Due.antt` what is due for which words and text, and
 /// `specs/Complaints.antt` has the statuses and lines.
@@ -32,14 +32,14 @@ pub fn top<S: Source, K: Sink, E: Sink>(
     err: &mut E,
 ) -> Answer
     ensures { Promises (record {
-      words = map string_bytes words.now;
-      source = seen S.left S.faults source.old source.new;
-      out = seen K.written K.faults out.old out.new;
-      err = seen E.written E.faults err.old err.new;
+      words = word_bytes words.now;
+      source = stream_of S.left S.faults source.old source.new;
+      out = stream_of K.written K.faults out.old out.new;
+      err = stream_of E.written E.faults err.old err.new;
       answer = result;
     }) }
 {
-    // This has no effect: it carries that a text is that of one program or is refused for one cause.
+    // Has no effect; carries the theorem that a text is that of one program or is refused for one cause.
     text_has_one_reading();
     let ending = attempt(alloc, words, source, out);
     conclude(ending, err)
@@ -52,10 +52,12 @@ fn attempt<S: Source, K: Sink>(
     source: &mut S,
     out: &mut K,
 ) -> Ending
-    ensures most { TakesAtMost (S.left source.old) (S.left source.new) (text_limit + 1) }
-    ensures unread { ¬ Reads (map string_bytes words.now) → Untouched (seen S.left S.faults source.old source.new) }
-    ensures ended { HasEnded (map string_bytes words.now) (seen S.left S.faults source.old source.new)
-        (seen K.written K.faults out.old out.new) result }
+    ensures most { TakesAtMost (S.left source.old) (S.left source.new) (most_bytes + 1) }
+    ensures unread { ¬ Reads (word_bytes words.now) →
+        Untouched (stream_of S.left S.faults source.old source.new) }
+    ensures ended { HasEnded (word_bytes words.now)
+        (stream_of S.left S.faults source.old source.new)
+        (stream_of K.written K.faults out.old out.new) result }
 {
     match prepare(alloc, words, source) {
         Ok(made) => match write_all(out, &made.output) {
@@ -66,11 +68,12 @@ fn attempt<S: Source, K: Sink>(
     }
 }
 
-/// Answers how the call ended, and tells a complaint on the error output, which takes no memory. The answer is the same
-/// whatever the error output does.
+/// The answer of a call that ended like this. A complaint is written to the error output, which does not allocate; the
+/// answer is the same whatever the error output does.
 fn conclude<E: Sink>(ending: Ending, err: &mut E) -> Answer
     ensures answer { result ≡ answer_at_end ending }
-    ensures told { Told (complaint_at_end ending) (seen E.written E.faults err.old err.new) }
+    ensures told { WritesLine (complaint_at_end ending)
+        (stream_of E.written E.faults err.old err.new) }
 {
     match ending {
         Ending::Done(outcome) => outcome.answer(),
@@ -79,6 +82,7 @@ fn conclude<E: Sink>(ending: Ending, err: &mut E) -> Answer
     }
 }
 
+/// The answer without a trail, with this status.
 fn refusal(status: u8) -> Answer
     ensures { result ≡ refusal_with status }
 {

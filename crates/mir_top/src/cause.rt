@@ -4,7 +4,8 @@ use mir_outside::ReadFault;
 use mir_parse::TextFault;
 use mir_valid::ValidFault;
 
-/// Why a call made no output, by the stage at which it ended. Each stage has its own refusals, want of memory among them.
+/// Why a call made no output, by the stage at which it ended. Each stage has its own refusals, of which one is that
+/// memory ran out.
 #[derive(Debug, Drop)]
 pub enum Cause {
     /// The words are not those of a command.

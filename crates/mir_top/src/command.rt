@@ -1,14 +1,12 @@
 // The commands, by their words.
-ghost use Rattle.std.specs.Prelude.{◌≡◌, map, string_bytes, IfOk};
+ghost use Rattle.std.specs.Prelude.{◌≡◌, map, IfOk};
 ghost use Rattle.std.specs.List.{list_all};
-ghost use Rattle.mir_top.specs.Commands.{command_of, alone_of, run_of, at_most, most_steps, steps_of, is_number, is_word, number_or_zero, inputs_in};
+ghost use Rattle.mir_base.specs.Limits.{most_steps};
+ghost use Rattle.mir_top.specs.Commands.{command_of, alone_of, run_of, at_most, step_count, is_input, is_word, input_value, inputs_in, word_bytes};
 
-use mir_base::Memory;
+use mir_base::{MOST_STEPS, Memory};
 use mir_lex::{number, unsigned};
 use std::alloc::Global;
-
-/// The most steps of a run.
-const MOST_STEPS: u64 = 1_000_000;
 
 /// What the words ask for.
 #[derive(Clone, Copy, Debug, PartialEq, Eq)]
@@ -22,9 +20,9 @@ pub enum Command {
 }
 
 impl Command {
-    /// The command that these words are, and `None` exactly where they are none. It takes no memory.
+    /// The command that these words are, and `None` exactly where they are none. It does not allocate.
     pub fn of(words: &[String]) -> Option<Command>
-        ensures { result ≡ command_of (map string_bytes words.now) }
+        ensures { result ≡ command_of (word_bytes words.now) }
     {
         match words {
             [] => None,
@@ -43,9 +41,9 @@ impl Command {
     }
 }
 
-/// The inputs that the words of a run give.
+/// The inputs that the words of a run give. It fails only with `Memory`.
 pub fn inputs(alloc: Global, words: &[String]) -> Result<Vec<i64>, Memory>
-    ensures { IfOk result (λ inputs. inputs.items ≡ inputs_in (map string_bytes words.now)) }
+    ensures { IfOk result (λ inputs. inputs.items ≡ inputs_in (word_bytes words.now)) }
 {
     match words {
         [] => Ok(Vec::new(alloc)),
@@ -54,8 +52,9 @@ pub fn inputs(alloc: Global, words: &[String]) -> Result<Vec<i64>, Memory>
     }
 }
 
+/// The numbers of these words, with 0 for a word that is no input.
 fn numbers(alloc: Global, words: &[String]) -> Result<Vec<i64>, Memory>
-    ensures { IfOk result (λ numbers. numbers.items ≡ map number_or_zero (map string_bytes words.now)) }
+    ensures { IfOk result (λ numbers. numbers.items ≡ map input_value (word_bytes words.now)) }
 {
     let mut numbers = Vec::new(alloc);
     for word in words {
@@ -66,7 +65,7 @@ fn numbers(alloc: Global, words: &[String]) -> Result<Vec<i64>, Memory>
 
 /// The command, where no word follows its own.
 fn alone(command: Command, arguments: &[String]) -> Option<Command>
-    ensures { result ≡ alone_of command (map string_bytes arguments.now) }
+    ensures { result ≡ alone_of command (word_bytes arguments.now) }
 {
     match arguments {
         [] => Some(command),
@@ -74,14 +73,15 @@ fn alone(command: Command, arguments: &[String]) -> Option<Command>
     }
 }
 
+/// The run that the words after `run` ask for.
 fn run(arguments: &[String]) -> Option<Command>
-    ensures { result ≡ run_of (map string_bytes arguments.now) }
+    ensures { result ≡ run_of (word_bytes arguments.now) }
 {
     match arguments {
         [] => None,
         [steps, inputs @ ..] => {
             if are_numbers(inputs) {
-                steps_of(steps.as_bytes()).map(Command::Run)
+                step_count(steps.as_bytes()).map(Command::Run)
             } else {
                 None
             }
@@ -89,13 +89,14 @@ fn run(arguments: &[String]) -> Option<Command>
     }
 }
 
-fn steps_of(word: &[u8]) -> Option<u64>
-    ensures { result ≡ steps_of word.now }
+/// The number of steps that a word gives.
+fn step_count(word: &[u8]) -> Option<u64>
+    ensures { result ≡ step_count word.now }
 {
     within(unsigned(word))
 }
 
-/// The number, where it is at most the most steps.
+/// The number, where it is at most `MOST_STEPS`.
 fn within(number: Option<u64>) -> Option<u64>
     ensures { result ≡ at_most most_steps number }
 {
@@ -111,8 +112,9 @@ fn within(number: Option<u64>) -> Option<u64>
     }
 }
 
+/// Whether each of the words is an input of a run.
 fn are_numbers(words: &[String]) -> bool
-    ensures { result ≡ list_all is_number (map string_bytes words.now) }
+    ensures { result ≡ list_all is_input (word_bytes words.now) }
 {
     for word in words {
         if number(word.as_bytes()).is_none() {
@@ -122,6 +124,7 @@ fn are_numbers(words: &[String]) -> bool
     true
 }
 
+/// Whether the word is this text.
 fn is_word(word: &[u8], text: &[u8]) -> bool
     ensures { result ≡ is_word word.now text.now }
 {

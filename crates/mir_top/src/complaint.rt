@@ -1,10 +1,10 @@
-// The status of each cause, and its line on the error output. Telling it takes no memory.
+// The status of each cause, and its line on the error output. Writing it does not allocate.
 ghost use Rattle.std.specs.Prelude.{◌≡◌, ◌++◌, OnOk, OnErr, Some, decimal};
 ghost use Rattle.std.specs.Io.KnownBytes.{Appends};
 ghost use Rattle.mir_outside.specs.Causes.{HasCause};
 ghost use Rattle.mir_outside.specs.Transfer.{AppendsPart};
-ghost use Rattle.mir_top.specs.Streams.{seen, Tried};
-ghost use Rattle.mir_top.specs.Complaints.{number_text, complaint_of, of_bytes, of_program, of_reading, of_run, of_text, of_tokens, refused_at, write_fault, Says};
+ghost use Rattle.mir_top.specs.Streams.{stream_of, Tried};
+ghost use Rattle.mir_top.specs.Complaints.{complaint_of, complaint_line, number_text, of_bytes, of_program, of_reading, of_run, of_text, of_tokens, out_of_memory, refused_at, write_fault, ArePartsOf};
 
 use crate::Cause;
 use itoa::Buffer;
@@ -14,38 +14,39 @@ use mir_outside::{Failed, ReadFault, Sink, write_all};
 use mir_parse::{ParseFault, TextFault};
 use mir_valid::ValidFault;
 
-/// A status and a line: two texts, and a number between them where there is one.
+/// The parts of a complaint: its status, and a line of two texts, with a number between them where there is one.
 #[derive(Clone, Copy)]
-struct Complaint {
+struct ComplaintParts {
     status: u8,
     before: &'static [u8],
     number: Option<usize>,
     after: &'static [u8],
 }
 
-/// Tells the complaint of the cause, and answers its status. It takes no memory.
+/// Writes the line of the complaint of this cause, and returns its status. It does not allocate.
 pub fn complain<E: Sink>(cause: &Cause, err: &mut E) -> u8
     ensures status { result ≡ (complaint_of cause.now).status }
-    ensures told { Tried (seen E.written E.faults err.old err.new) (complaint_of cause.now).line }
+    ensures told { Tried (stream_of E.written E.faults err.old err.new)
+        (complaint_of cause.now).line }
 {
     let complaint = of_cause(cause);
-    tell(complaint, err);
+    write_line(complaint, err);
     complaint.status
 }
 
-/// Tells that a write failed, and answers the status. It takes no memory.
+/// Writes the line that says that a write failed, and returns the status. It does not allocate.
 pub fn complain_of_write<E: Sink>(err: &mut E) -> u8
     ensures status { result ≡ write_fault.status }
-    ensures told { Tried (seen E.written E.faults err.old err.new) write_fault.line }
+    ensures told { Tried (stream_of E.written E.faults err.old err.new) write_fault.line }
 {
     let complaint = plain(7, b"write fault\n");
-    tell(complaint, err);
+    write_line(complaint, err);
     complaint.status
 }
 
-/// Tells the line of the complaint.
-fn tell<E: Sink>(complaint: Complaint, err: &mut E)
-    ensures { Tried (seen E.written E.faults err.old err.new) (complaint.before.now ++ number_text complaint.number ++ complaint.after.now) }
+/// Writes the line of the complaint, or a proper prefix of it where the sink fails.
+fn write_line<E: Sink>(complaint: ComplaintParts, err: &mut E)
+    ensures { Tried (stream_of E.written E.faults err.old err.new) (complaint_line complaint) }
 {
     let mut buffer = Buffer::new();
     let number = digits(&mut buffer, complaint.number);
@@ -69,8 +70,10 @@ fn write_three<K: Sink>(
     second: &[u8],
     third: &[u8],
 ) -> Result<(), Failed>
-    ensures whole { OnOk result (Appends (K.written sink.old) (K.written sink.new) (first.now ++ second.now ++ third.now)) }
-    ensures part { OnErr result (AppendsPart (K.written sink.old) (K.written sink.new) (first.now ++ second.now ++ third.now)) }
+    ensures whole { OnOk result (Appends (K.written sink.old) (K.written sink.new)
+        (first.now ++ second.now ++ third.now)) }
+    ensures part { OnErr result (AppendsPart (K.written sink.old) (K.written sink.new)
+        (first.now ++ second.now ++ third.now)) }
     ensures cause { HasCause (K.faults sink.old) (K.faults sink.new) result }
 {
     write_all(sink, first)?;
@@ -79,11 +82,11 @@ fn write_three<K: Sink>(
 }
 
 /// A complaint without a number.
-fn plain(status: u8, text: &'static [u8]) -> Complaint
+fn plain(status: u8, text: &'static [u8]) -> ComplaintParts
     ensures status { result.status ≡ status }
-    ensures line { result.before.now ++ number_text result.number ++ result.after.now ≡ text.now }
+    ensures line { complaint_line result ≡ text.now }
 {
-    Complaint {
+    ComplaintParts {
         status,
         before: text,
         number: None,
@@ -91,11 +94,18 @@ fn plain(status: u8, text: &'static [u8]) -> Complaint
     }
 }
 
-/// What is wrong with a text at a line of it.
-fn at(line: usize, what: &'static [u8]) -> Complaint
-    ensures { Says result.status result.before.now result.number result.after.now (refused_at line what.now) }
+/// The complaint that memory ran out.
+fn out_of_memory() -> ComplaintParts
+    ensures { ArePartsOf out_of_memory result }
 {
-    Complaint {
+    plain(8, b"out of memory\n")
+}
+
+/// What is wrong with a text at a line of it.
+fn at(line: usize, what: &'static [u8]) -> ComplaintParts
+    ensures { ArePartsOf (refused_at line what.now) result }
+{
+    ComplaintParts {
         status: 2,
         before: b"line ",
         number: Some(line),
@@ -103,8 +113,9 @@ fn at(line: usize, what: &'static [u8]) -> Complaint
     }
 }
 
-fn of_cause(cause: &Cause) -> Complaint
-    ensures { Says result.status result.before.now result.number result.after.now (complaint_of cause.now) }
+/// The complaint of a call that made no output.
+fn of_cause(cause: &Cause) -> ComplaintParts
+    ensures { ArePartsOf (complaint_of cause.now) result }
 {
     match cause {
         Cause::Usage => plain(1, b"usage: mir optimise | move | run STEPS [N ..]\n"),
@@ -115,18 +126,20 @@ fn of_cause(cause: &Cause) -> Complaint
     }
 }
 
-fn of_reading(fault: &ReadFault) -> Complaint
-    ensures { Says result.status result.before.now result.number result.after.now (of_reading fault.now) }
+/// The complaint of a text that was not read.
+fn of_reading(fault: &ReadFault) -> ComplaintParts
+    ensures { ArePartsOf (of_reading fault.now) result }
 {
     match fault {
         ReadFault::Failed => plain(6, b"read fault\n"),
         ReadFault::TooLong => plain(2, b"text longer than 1048576 bytes\n"),
-        ReadFault::Memory(_) => plain(8, b"out of memory\n"),
+        ReadFault::Memory(_) => out_of_memory(),
     }
 }
 
-fn of_text(fault: &TextFault) -> Complaint
-    ensures { Says result.status result.before.now result.number result.after.now (of_text fault.now) }
+/// The complaint of a text that spells no raw program.
+fn of_text(fault: &TextFault) -> ComplaintParts
+    ensures { ArePartsOf (of_text fault.now) result }
 {
     match fault {
         TextFault::Lex(fault) => of_bytes(fault),
@@ -134,29 +147,32 @@ fn of_text(fault: &TextFault) -> Complaint
     }
 }
 
-fn of_bytes(fault: &LexFault) -> Complaint
-    ensures { Says result.status result.before.now result.number result.after.now (of_bytes fault.now) }
+/// The complaint of bytes that are no tokens.
+fn of_bytes(fault: &LexFault) -> ComplaintParts
+    ensures { ArePartsOf (of_bytes fault.now) result }
 {
     match fault {
         LexFault::BadByte(line) => at(*line, b": bad byte\n"),
         LexFault::BadNumber(line) => at(*line, b": bad number\n"),
         LexFault::LongName(line) => at(*line, b": long name\n"),
-        LexFault::Memory(_) => plain(8, b"out of memory\n"),
+        LexFault::Memory(_) => out_of_memory(),
     }
 }
 
-fn of_tokens(fault: &ParseFault) -> Complaint
-    ensures { Says result.status result.before.now result.number result.after.now (of_tokens fault.now) }
+/// The complaint of tokens that are no raw program.
+fn of_tokens(fault: &ParseFault) -> ComplaintParts
+    ensures { ArePartsOf (of_tokens fault.now) result }
 {
     match fault {
         ParseFault::Unexpected(line) => at(*line, b": unexpected\n"),
         ParseFault::Ended => plain(2, b"text ends inside a unit\n"),
-        ParseFault::Memory(_) => plain(8, b"out of memory\n"),
+        ParseFault::Memory(_) => out_of_memory(),
     }
 }
 
-fn of_program(fault: &ValidFault) -> Complaint
-    ensures { Says result.status result.before.now result.number result.after.now (of_program fault.now) }
+/// The complaint of a raw program that is not valid.
+fn of_program(fault: &ValidFault) -> ComplaintParts
+    ensures { ArePartsOf (of_program fault.now) result }
 {
     match fault {
         ValidFault::NoUnit => plain(2, b"no unit\n"),
@@ -170,21 +186,22 @@ fn of_program(fault: &ValidFault) -> Complaint
         ValidFault::NoLabel(line) => at(*line, b": no such label\n"),
         ValidFault::NoSuchUnit(line) => at(*line, b": no such unit\n"),
         ValidFault::WrongCount(line) => at(*line, b": wrong number of arguments\n"),
-        ValidFault::Memory(_) => plain(8, b"out of memory\n"),
+        ValidFault::Memory(_) => out_of_memory(),
     }
 }
 
-fn of_run(fault: &RunFault) -> Complaint
-    ensures { Says result.status result.before.now result.number result.after.now (of_run fault.now) }
+/// The complaint of a command that makes nothing of its program.
+fn of_run(fault: &RunFault) -> ComplaintParts
+    ensures { ArePartsOf (of_run fault.now) result }
 {
     match fault {
-        RunFault::WrongInputs { wanted } => Complaint {
+        RunFault::WrongInputs { wanted } => ComplaintParts {
             status: 1,
             before: b"wrong inputs: ",
             number: Some(*wanted),
             after: b" wanted\n",
         },
         RunFault::Deep => plain(5, b"deep: more than 10000 frames\n"),
-        RunFault::Memory(_) => plain(8, b"out of memory\n"),
+        RunFault::Memory(_) => out_of_memory(),
     }
 }

@@ -1,7 +1,7 @@
 // How a call ended.
 use crate::{Cause, Outcome};
 
-/// How a call ended, but for what it tells of it.
+/// How a call ended, before anything is written to the error output.
 #[derive(Drop)]
 pub enum Ending {
     /// The output was made and written.

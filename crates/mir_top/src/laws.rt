@@ -7,7 +7,7 @@ ghost use Rattle.mir_top.specs.Texts.{OneReading};
 use mir_parse::{raw_is_unique, refusal_is_unique};
 use mir_valid::{program_is_unique, refused_is_not_valid};
 
-/// A law: a text is that of one program at most, or it is refused for one fault. It takes no memory.
+/// Has no effect; carries the theorem that a text is that of at most one program, or is refused for one fault.
 pub fn text_has_one_reading()
     ensures { OneReading }
 {
@@ -17,8 +17,8 @@ pub fn text_has_one_reading()
     program_is_unique();
 }
 
-/// A law: for words and a text one refusal is due at most, with its status and line, or an output with one status, and never
-/// both. It takes no memory.
+/// Has no effect; carries the theorem that for words and a text at most one refusal is due, with its status and line,
+/// or an output with one status, and never both.
 pub fn one_thing_is_due()
     ensures refusal { (words : List (List ℕ)) (text : List ℕ) (one other : Complaint)
         → Refuses words text one → Refuses words text other → one ≡ other }

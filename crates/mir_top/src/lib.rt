@@ -26,6 +26,8 @@ mod outcome;
 mod refusals;
 mod report_text;
 #[cfg(test)]
+mod run_examples;
+#[cfg(test)]
 mod tests;
 mod work;
 

@@ -1,8 +1,8 @@
 // From a program to the output.
-ghost use Rattle.std.specs.Prelude.{◌≡◌, map, string_bytes, IfOk, IfErr};
+ghost use Rattle.std.specs.Prelude.{◌≡◌, IfOk, IfErr};
 ghost use Rattle.mir_base.specs.Text.{canonical_text};
-ghost use Rattle.mir_top.specs.Commands.{inputs_in};
-ghost use Rattle.mir_top.specs.Outputs.{Makes, MovesCode, Optimises, Stops};
+ghost use Rattle.mir_top.specs.Commands.{inputs_in, word_bytes};
+ghost use Rattle.mir_top.specs.Outputs.{CannotMake, IsMadeBy, MovesCode, Optimises};
 
 use crate::command::inputs;
 use crate::report_text::text_of_report;
@@ -29,8 +29,9 @@ pub fn make(
     words: &[String],
     program: &Program,
 ) -> Result<Made, RunFault>
-    ensures made { IfOk result (λ made. Makes (inputs_in (map string_bytes words.now)) program.now command made.outcome made.output.items) }
-    ensures stopped { IfErr result (Stops (inputs_in (map string_bytes words.now)) program.now command) }
+    ensures made { IfOk result (IsMadeBy (inputs_in (word_bytes words.now)) program.now command) }
+    ensures stopped { IfErr result
+        (CannotMake (inputs_in (word_bytes words.now)) program.now command) }
 {
     match command {
         Command::Optimise => match optimised(alloc, program) {
@@ -78,8 +79,8 @@ fn moved(alloc: Global, program: &Program) -> Result<(MoveTrail, Vec<u8>), Memor
 
 /// The report of the run of so many steps with these inputs.
 fn ran(alloc: Global, program: &Program, inputs: &[i64], steps: u64) -> Result<Made, RunFault>
-    ensures made { IfOk result (λ made. Makes inputs.now program.now (Command.Run steps) made.outcome made.output.items) }
-    ensures stopped { IfErr result (Stops inputs.now program.now (Command.Run steps)) }
+    ensures made { IfOk result (IsMadeBy inputs.now program.now (Command.Run steps)) }
+    ensures stopped { IfErr result (CannotMake inputs.now program.now (Command.Run steps)) }
 {
     let report = match run(alloc, program, inputs, steps) {
         Ok(report) => report,

@@ -1,10 +1,9 @@
-// The worked examples of code motion, byte for byte, in the form of the other examples, and one whose text is too long for
-// the table.
+// The worked examples of code motion, byte for byte, in the form of the other examples, and one whose text is too long
+// for the table.
 use std::alloc::{AllocError, Global};
 
 pub const MOTION_EXAMPLES: &str = "\
 # an expression that one side of a diamond evaluates
-move
 main: begin
 receive a(val)
 receive b(val)
@@ -17,6 +16,7 @@ L2: y <- a + b
 print y
 return y
 end
+$ move
 @ 0
 main: begin
 receive a(val)
@@ -33,7 +33,6 @@ print x
 goto L1
 end
 # a loop whose test stands first keeps its expression
-move
 main: begin
 receive a(val)
 receive b(val)
@@ -45,20 +44,9 @@ i <- i + 1
 goto L1
 L2: return i
 end
-@ 0
-main: begin
-receive a(val)
-receive b(val)
-receive n(val)
-L1: if i >= n goto L2
-x <- a + b
-print x
-i <- i + 1
-goto L1
-L2: return i
-end
-# a loop whose test stands last
-move
+$ move
+@ same
+# a loop whose test stands last, and the run of what is moved
 main: begin
 receive a(val)
 receive b(val)
@@ -67,6 +55,7 @@ i <- i + 1
 if i < x goto L1
 return i
 end
+$ move
 @ 0
 main: begin
 receive a(val)
@@ -77,50 +66,24 @@ i <- i + 1
 if i < x goto L1
 return i
 end
-# the run of this loop
-run 100 2 1
-main: begin
-receive a(val)
-receive b(val)
-L1: x <- a + b
-i <- i + 1
-if i < x goto L1
-return i
-end
-@ 0
-result 3
-evals 6
-# the run of this loop, moved
-run 100 2 1
-main: begin
-receive a(val)
-receive b(val)
-h1 <- a + b
-L1: x <- h1
-i <- i + 1
-if i < x goto L1
-return i
-end
+$ | run 100 2 1
 @ 0
 result 3
 evals 4
-# a loop without exit
-move
-main: begin
-receive a(val)
-L1: x <- a + 1
-a <- x
-goto L1
-end
+$ run 100 2 1
 @ 0
+result 3
+evals 6
+# a loop without exit
 main: begin
 receive a(val)
 L1: x <- a + 1
 a <- x
 goto L1
 end
+$ move
+@ same
 # a name in use
-move
 main: begin
 receive a(val)
 receive b(val)
@@ -129,6 +92,7 @@ i <- i + 1
 if i < h1 goto L1
 return i
 end
+$ move
 @ 0
 main: begin
 receive a(val)
@@ -140,7 +104,6 @@ if i < h1 goto L1
 return i
 end
 # three expressions before one loop, in the order of their first uses, where two names are taken
-move
 main: begin
 receive h1(val)
 receive h3(val)
@@ -151,6 +114,7 @@ i <- i + 1
 if i < x goto L1
 return i
 end
+$ move
 @ 0
 main: begin
 receive h1(val)
@@ -165,31 +129,16 @@ i <- i + 1
 if i < x goto L1
 return i
 end
-# no expression at all
-move
-main: begin
-end
-@ 0
-main: begin
-return 0
-end
 # an expression that is evaluated once
-move
 main: begin
 receive a(val)
 receive b(val)
 x <- a * b
 return x
 end
-@ 0
-main: begin
-receive a(val)
-receive b(val)
-x <- a * b
-return x
-end
+$ move
+@ same
 # a loop that is entered at two places
-move
 main: begin
 receive a(val)
 receive b(val)
@@ -199,6 +148,7 @@ L2: y <- a + b
 if y < 9 goto L1
 return x
 end
+$ move
 @ 0
 main: begin
 receive a(val)

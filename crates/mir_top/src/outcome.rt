@@ -43,6 +43,7 @@ impl Outcome {
     }
 }
 
+/// The status of a run that stands like this.
 fn status_of_finish(finish: Finish) -> u8
     ensures { result ≡ status_of_finish finish }
 {

@@ -1,5 +1,6 @@
 // The text of a report.
-ghost use Rattle.std.specs.Prelude.{◌≡◌, ◌++◌, flat_map, IfOk, OnOk};
+ghost use Rattle.std.specs.Prelude.{◌≡◌, flat_map, IfOk};
+ghost use Rattle.mir_base.specs.Appending.{AppendsOnOk};
 ghost use Rattle.mir_top.specs.Outputs.{finish_text, number_line, report_text};
 
 use itoa::Buffer;
@@ -21,8 +22,9 @@ pub fn text_of_report(alloc: Global, report: &Report) -> Result<Vec<u8>, Memory>
     Ok(text)
 }
 
+/// Appends each number, on a line of its own.
 fn put_numbers(text: &mut Vec<u8>, numbers: &[i64]) -> Result<(), Memory>
-    ensures { OnOk result (text.new.items ≡ text.old.items ++ flat_map number_line numbers.now) }
+    ensures { AppendsOnOk result text.old text.new (flat_map number_line numbers.now) }
 {
     for number in numbers {
         put_number(text, *number)?;
@@ -30,17 +32,18 @@ fn put_numbers(text: &mut Vec<u8>, numbers: &[i64]) -> Result<(), Memory>
     Ok(())
 }
 
-/// A number on a line of its own.
+/// Appends a number, on a line of its own.
 fn put_number(text: &mut Vec<u8>, number: i64) -> Result<(), Memory>
-    ensures { OnOk result (text.new.items ≡ text.old.items ++ number_line number) }
+    ensures { AppendsOnOk result text.old text.new (number_line number) }
 {
     let mut buffer = Buffer::new();
     text.extend_from_slice(buffer.format(number).as_bytes())?;
     text.extend_from_slice(b"\n")
 }
 
+/// Appends the line that says how the run stands.
 fn put_finish(text: &mut Vec<u8>, finish: Finish) -> Result<(), Memory>
-    ensures { OnOk result (text.new.items ≡ text.old.items ++ finish_text finish) }
+    ensures { AppendsOnOk result text.old text.new (finish_text finish) }
 {
     match finish {
         Finish::Running => text.extend_from_slice(b"running\n"),

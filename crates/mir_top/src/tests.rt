@@ -1,7 +1,8 @@
 // Worked examples, byte for byte, and calls whose source, output or memory fails.
 use crate::examples::EXAMPLES;
 use crate::motion_examples::{MOTION_EXAMPLES, diamonds, moved_diamonds};
-use crate::refusals::REFUSALS;
+use crate::refusals::{OTHER_WORDS, REFUSALS};
+use crate::run_examples::RUN_EXAMPLES;
 use crate::{calm_top, top};
 use mir_outside::{CalmSink, CalmSource, MemSink, MemSource};
 use std::alloc::{AllocError, Global};
@@ -24,7 +25,8 @@ struct Devices {
     failing_line: u64,
 }
 
-const CALM: Devices = Devices {
+/// Devices in which no fault occurs.
+const NO_FAULT: Devices = Devices {
     read_piece: 4096,
     failing_read: 0,
     write_piece: 4096,
@@ -62,12 +64,14 @@ fn sink(alloc: Global, piece: usize, failing: u64, room: usize) -> Result<MemSin
     MemSink::new(alloc, piece.max(1), fails, room)
 }
 
+/// A source that has the text and fails at one call.
 fn source(alloc: Global, text: &[u8], on: Devices) -> Result<MemSource, AllocError> {
     let fails = [on.failing_read].to_vec(alloc)?;
     let text = text.to_vec(alloc)?;
     Ok(MemSource::new(text, on.read_piece.max(1), fails))
 }
 
+/// What a call with these words and this text leaves.
 fn call(alloc: Global, words: &str, text: &[u8], on: Devices) -> Result<Seen, AllocError> {
     let words = owned(alloc, words)?;
     let mut source = source(alloc, text, on)?;
@@ -76,6 +80,7 @@ fn call(alloc: Global, words: &str, text: &[u8], on: Devices) -> Result<Seen, Al
     Ok(left_by(alloc, &words, &mut source, out, err))
 }
 
+/// What a call over these devices leaves.
 fn left_by(
     alloc: Global,
     words: &[String],
@@ -91,8 +96,11 @@ fn left_by(
     }
 }
 
-/// The first example that a call does not answer as the table says: its words, its text, and after `@` its status and what
-/// is written, on the output with the statuses 0, 3 and 4, and else on the error output.
+/// The first example in which a call does not do what it says.
+///
+/// An example is a name, a text, and calls with this text: after `$` the words, after `@` the status and then what is
+/// written, on the output with the statuses 0, 3 and 4 and else on the error output. `@ same` is status 0 with the text
+/// as the output, and after `$ |` the text is what the call before wrote.
 fn first_wrong<'a>(alloc: Global, examples: &'a str) -> Result<Option<&'a str>, Fail> {
     for example in examples.split("# ").skip(1) {
         if !is_right(alloc, example)? {
@@ -102,14 +110,40 @@ fn first_wrong<'a>(alloc: Global, examples: &'a str) -> Result<Option<&'a str>, 
     Ok(None)
 }
 
+/// Whether each call of an example does what the example says.
 fn is_right(alloc: Global, example: &str) -> Result<bool, Fail> {
-    let (_, rest) = example.split_once('\n').ok_or("no name")?;
-    let (words, rest) = rest.split_once('\n').ok_or("no words")?;
-    let (text, rest) = rest.split_once("@ ").ok_or("no status")?;
-    let (status, written) = rest.split_once('\n').ok_or("nothing written")?;
-    let status = status.parse::<u8>().ok().ok_or("no number")?;
-    let written = written.as_bytes();
-    let seen = call(alloc, words, text.as_bytes(), CALM)?;
+    let (_, example) = example.split_once('\n').ok_or("no name")?;
+    let (text, calls) = example.split_once("$ ").ok_or("no call")?;
+    let mut before = text;
+    for case in calls.split("$ ") {
+        let (words, rest) = case.split_once("\n@ ").ok_or("no status")?;
+        let (status, written) = rest.split_once('\n').ok_or("nothing written")?;
+        let (words, text) = match words.strip_prefix("| ") {
+            Some(words) => (words, before),
+            None => (words, text),
+        };
+        let (status, written) = if status == "same" {
+            (0, text)
+        } else {
+            (status.parse::<u8>().ok().ok_or("no number")?, written)
+        };
+        if !leaves(alloc, words, text.as_bytes(), status, written.as_bytes())? {
+            return Ok(false);
+        }
+        before = written;
+    }
+    Ok(true)
+}
+
+/// Whether a call leaves this status, and these bytes where this status has them: on the output or on the error output.
+fn leaves(
+    alloc: Global,
+    words: &str,
+    text: &[u8],
+    status: u8,
+    written: &[u8],
+) -> Result<bool, AllocError> {
+    let seen = call(alloc, words, text, NO_FAULT)?;
     if matches!(status, 0 | 3 | 4) {
         Ok(seen.left(status, written, b""))
     } else {
@@ -117,18 +151,28 @@ fn is_right(alloc: Global, example: &str) -> Result<bool, Fail> {
     }
 }
 
+/// Programs and texts, each with the calls that show what becomes of them.
 #[test]
 fn worked_examples(rt: HostRuntime) -> Result<(), Fail> {
-    for examples in [EXAMPLES, MOTION_EXAMPLES, REFUSALS] {
+    for examples in [EXAMPLES, RUN_EXAMPLES, MOTION_EXAMPLES, REFUSALS] {
         assert_eq!(rt; first_wrong(rt.alloc(), examples)?, None);
+    }
+    Ok(())
+}
+
+/// Words of no command: status 1, whatever the text.
+#[test]
+fn other_words(rt: HostRuntime) -> Result<(), Fail> {
+    let usage = b"usage: mir optimise | move | run STEPS [N ..]\n";
+    for words in OTHER_WORDS.split('\n') {
+        assert!(rt; leaves(rt.alloc(), words, b"", 1, usage)?, "with {words}");
     }
     Ok(())
 }
 
 /// Whether the text is refused with this line.
 fn is_refused(alloc: Global, text: &[u8], line: &[u8]) -> Result<bool, AllocError> {
-    let seen = call(alloc, "optimise", text, CALM)?;
-    Ok(seen.left(2, b"", line))
+    leaves(alloc, "optimise", text, 2, line)
 }
 
 /// A text that has the same piece so many times, between a start and an end.
@@ -152,13 +196,13 @@ fn prints(alloc: Global, count: usize, end: &[u8]) -> Result<Vec<u8>, AllocError
     repeated(alloc, b"main: begin\n", b"print 1\n", count, end)
 }
 
+/// As many instructions as a unit may have, one more, and one unit more than a program may have.
 #[test]
 fn limits(rt: HostRuntime) -> Result<(), Fail> {
     let alloc = rt.alloc();
     let longest = prints(alloc, 4096, b"end\n")?;
-    let seen = call(alloc, "optimise", &longest, CALM)?;
     let output = prints(alloc, 4096, b"return 0\nend\n")?;
-    assert!(rt; seen.left(0, &output, b""));
+    assert!(rt; leaves(alloc, "optimise", &longest, 0, &output)?);
     let longer = prints(alloc, 4097, b"end\n")?;
     assert!(rt; is_refused(alloc, &longer, b"line 4098: too many instructions\n")?);
     let units = repeated(alloc, b"", b"u: begin\nend\n", 257, b"")?;
@@ -166,6 +210,7 @@ fn limits(rt: HostRuntime) -> Result<(), Fail> {
     Ok(())
 }
 
+/// Texts of as many bytes as a text may have, and one more.
 #[test]
 fn texts_of_one_byte(rt: HostRuntime) -> Result<(), Fail> {
     let texts: [(u8, usize, &[u8]); 4] = [
@@ -181,15 +226,16 @@ fn texts_of_one_byte(rt: HostRuntime) -> Result<(), Fail> {
     Ok(())
 }
 
+/// A program with a thousand tests in a row.
 #[test]
 fn a_thousand_diamonds(rt: HostRuntime) -> Result<(), Fail> {
     let text = diamonds(rt.alloc())?;
     let output = moved_diamonds(rt.alloc())?;
-    let seen = call(rt.alloc(), "move", &text, CALM)?;
-    assert!(rt; seen.left(0, &output, b""));
+    assert!(rt; leaves(rt.alloc(), "move", &text, 0, &output)?);
     Ok(())
 }
 
+/// Faults of the source, the output and the error output.
 #[test]
 fn devices_that_fail(rt: HostRuntime) -> Result<(), Fail> {
     // The failing read, write and line, and what is left. A fault of the error output changes neither the status nor
@@ -234,12 +280,13 @@ fn memory_that_is_refused(rt: HostRuntime) {
         ("run 9 0", b"1\nresult 0\nevals 0\n"),
     ];
     for (words, output) in outputs {
-        if let Ok(seen) = call(rt.alloc(), words, text, CALM) {
+        if let Ok(seen) = call(rt.alloc(), words, text, NO_FAULT) {
             assert!(rt; seen.left(0, output, b"") || seen.left(8, b"", b"out of memory\n"));
         }
     }
 }
 
+/// The call over devices in which no fault occurs.
 #[test]
 fn calm_devices(rt: HostRuntime) -> Result<(), Fail> {
     let words = owned(rt.alloc(), "optimise")?;

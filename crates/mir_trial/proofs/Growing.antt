@@ -9,17 +9,21 @@ pub record SoFar (count : ℕ) (first : List Inst) (start left : ℕ) (items : L
   pub insts : first ++ (groups count (length first) start).insts ≡ items ++ (groups left (length items) state).insts
   pub ends : (groups count (length first) start).state ≡ (groups left (length items) state).state
 
+-- at first there is what stood before
 pub begins : (count : ℕ) (first : List Inst) (start : ℕ) → SoFar count first start (count - 0) first start
 begins count first start = subst (λ (n : ℕ). SoFar count first start n first start) (omega arith) (record { insts = refl; ends = refl })
 
+-- one group, and the others; or none
 pub groups_suc : (count at z : ℕ) → groups (suc count) at z ≡ (let one = group at z in let others = groups count (at + length one.insts) one.state in record { insts = one.insts ++ others.insts; state = others.state })
 unfolding groups
 groups_suc count at z = refl
 
+-- no groups are no instructions, and the state stays
 pub groups_zero : (at z : ℕ) → groups zero at z ≡ record { insts = []; state = z }
 unfolding groups
 groups_zero at z = refl
 
+-- one more turn of the loop appends one group, so the invariant holds with one turn fewer left
 grow : (count : ℕ) (first : List Inst) (start left : ℕ) (items : List Inst) (state : ℕ) → SoFar count first start (suc left) items state
     → SoFar count first start left (items ++ (group (length items) state).insts) (group (length items) state).state
 grow count first start left items state so =
@@ -32,6 +36,7 @@ grow count first start left items state so =
       ends = so.ends ∙ ap (λ (g : Group). g.state) more ∙ ap (λ (n : ℕ). (groups left n one.state).state) long;
     }
 
+-- one group more at the end
 pub grows : (count : ℕ) (first : List Inst) (start turn : ℕ) (items : List Inst) (state : ℕ) (new : List Inst) (next : ℕ) → turn < count → SoFar count first start (count - turn) items state
     → new ≡ items ++ (group (length items) state).insts → next ≡ (group (length items) state).state → SoFar count first start (count - (turn + 1)) new next
 grows count first start turn items state new next below so is also =
@@ -40,11 +45,13 @@ grows count first start turn items state new next below so is also =
     subst (λ (l : List Inst). SoFar count first start (count - (turn + 1)) l next) (sym is)
     (subst (λ (z : ℕ). SoFar count first start (count - (turn + 1)) (items ++ (group (length items) state).insts) z) (sym also) grown)
 
+-- at the end there are all groups, and the draws have their state
 pub ends_insts : (count : ℕ) (first : List Inst) (start turn : ℕ) (items : List Inst) (state : ℕ) → turn ≡ count → SoFar count first start (count - turn) items state → items ≡ first ++ (groups count (length first) start).insts
 ends_insts count first start turn items state is so =
     let none : count - turn ≡ 0 = omega arith in
     sym (so.insts ∙ ap (λ (n : ℕ). items ++ (groups n (length items) state).insts) none ∙ ap (λ (g : Group). items ++ g.insts) (groups_zero (length items) state) ∙ append-nil items)
 
+-- when all turns are done the state is that of all groups
 pub ends_state : (count : ℕ) (first : List Inst) (start turn : ℕ) (items : List Inst) (state : ℕ) → turn ≡ count → SoFar count first start (count - turn) items state → state ≡ (groups count (length first) start).state
 ends_state count first start turn items state is so =
     let none : count - turn ≡ 0 = omega arith in

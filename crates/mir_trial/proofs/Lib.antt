@@ -1,4 +1,4 @@
 mod Growing
-mod Spelled
+pub mod Spelled
 mod Valid
 mod Listed

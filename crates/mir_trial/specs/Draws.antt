@@ -1,4 +1,4 @@
--- The numbers that are drawn.
+-- The numbers that are drawn. Cited by contracts.
 use Rattle.std.specs.Prelude.{ℕ, ◌+◌, ◌*◌, ◌/◌, ◌%◌, ◌^◌}
 
 -- the state after one more draw

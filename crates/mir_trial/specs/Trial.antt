@@ -1,4 +1,5 @@
 -- The trial program of a number: each unit has sixty groups of instructions, which are drawn, and calls the next unit.
+-- Cited by contracts.
 use Rattle.std.specs.Prelude.{ℕ, zero, suc, pos, ◌+◌, ◌==◌, Bool, List, [], ◌∷◌, ◌++◌, length, codes, decimal, if◌then◌else◌, Some}
 use Rattle.mir_base.specs.declared.instructions.Inst.{Inst}
 use Rattle.mir_base.specs.declared.instructions.Inst.TheVariants.{Receive, Assign, If, Call, Print, Return}
@@ -28,6 +29,7 @@ variable state = drawn 6 state + 2
 abbrev pub parameter : ℕ → Operand
 parameter state = Var (drawn 2 state)
 
+-- the operator of a number below 8
 abbrev pub operator_of : ℕ → Op
 operator_of n =
     if n == 0 then Add else
@@ -107,9 +109,11 @@ call_of j last = if last then [] else (Call (Some 2) (suc j) (Var 3 ∷ Var 4 �
 abbrev pub body_of : ℕ → Bool → ℕ → List Inst
 body_of j last z = (Receive 0 ∷ Receive 1 ∷ []) ++ (groups 60 2 z).insts ++ call_of j last ++ (Print (Var 2) ∷ Return (Var 5) ∷ [])
 
+-- `u` and the unit's number
 abbrev pub name_of : ℕ → List ℕ
 name_of j = codes "u" ++ decimal j
 
+-- unit number j, whose draws begin at this state
 abbrev pub unit_of : ℕ → Bool → ℕ → UnitShape
 unit_of j last z = tidied_unit (name_of j) variables (body_of j last z)
 

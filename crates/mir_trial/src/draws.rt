@@ -22,6 +22,7 @@ impl Draws {
     }
 }
 
+/// The state after one more draw.
 fn next(state: u64) -> u64
     ensures { result ≡ next state }
 {
@@ -30,6 +31,7 @@ fn next(state: u64) -> u64
         .wrapping_add(1_442_695_040_888_963_407)
 }
 
+/// The number below `k` that is drawn where the draw makes this state.
 fn drawn(state: u64, k: u64) -> u64
     requires { 0 < k }
     ensures value { result ≡ drawn k state }

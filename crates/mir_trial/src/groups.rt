@@ -9,6 +9,70 @@ use mir_base::{Inst, Memory, Op, Operand, RelOp, Rhs, Test};
 /// The number of `c`, which counts the turns of a loop.
 const COUNTER: usize = 8;
 
+/// Adds so many groups at the end of the body.
+pub fn push_groups(body: &mut Vec<Inst>, draws: &mut Draws, count: usize) -> Result<(), Memory>
+    ensures insts { OnOk result (body.new.items
+        ≡ body.old.items ++ (groups count (length body.old.items) draws.old.state).insts) }
+    ensures state { OnOk result (draws.new.state
+        ≡ (groups count (length body.old.items) draws.old.state).state) }
+{
+    for turn in 0..count {
+        push_group(body, draws)?;
+    }
+    Ok(())
+}
+
+/// Adds a group at the end of the body.
+fn push_group(body: &mut Vec<Inst>, draws: &mut Draws) -> Result<(), Memory>
+    ensures insts { OnOk result (body.new.items
+        ≡ body.old.items ++ (group (length body.old.items) draws.old.state).insts) }
+    ensures state { OnOk result (draws.new.state
+        ≡ (group (length body.old.items) draws.old.state).state) }
+{
+    let kind = draws.draw(4);
+    push_group_of(body, draws, kind)
+}
+
+/// Adds the group of this kind at the end of the body.
+fn push_group_of(body: &mut Vec<Inst>, draws: &mut Draws, kind: u64) -> Result<(), Memory>
+    ensures insts { OnOk result (body.new.items
+        ≡ body.old.items ++ (group_of kind (length body.old.items) draws.old.state).insts) }
+    ensures state { OnOk result (draws.new.state
+        ≡ (group_of kind (length body.old.items) draws.old.state).state) }
+{
+    if kind == 0 {
+        push_plain(body, draws)
+    } else if kind == 1 {
+        push_branch(body, draws)
+    } else if kind == 2 {
+        push_loop(body, draws)
+    } else {
+        push_print(body, draws)
+    }
+}
+
+/// Adds an operation at the end of the body.
+fn push_plain(body: &mut Vec<Inst>, draws: &mut Draws) -> Result<(), Memory>
+    ensures insts { OnOk result (body.new.items
+        ≡ body.old.items ++ (plain_group draws.old.state).insts) }
+    ensures state { OnOk result (draws.new.state ≡ (plain_group draws.old.state).state) }
+{
+    body.push(operation(draws))?;
+    Ok(())
+}
+
+/// `V <- P o Q`.
+fn operation(draws: &mut Draws) -> Inst
+    ensures value { result ≡ operation draws.old.state }
+    ensures state { draws.new.state ≡ next (next (next (next draws.old.state))) }
+{
+    let variable = variable(draws);
+    let left = parameter(draws);
+    let operator = operator(draws.draw(8));
+    let right = parameter(draws);
+    Inst::Assign(variable, Rhs::Binary(operator, left, right))
+}
+
 /// A variable from `v0` to `v5`.
 fn variable(draws: &mut Draws) -> usize
     ensures value { result ≡ variable (next draws.old.state) }
@@ -25,6 +89,7 @@ fn parameter(draws: &mut Draws) -> Operand
     Operand::Var(draws.draw(2) as usize)
 }
 
+/// The operator of a number below 8.
 fn operator(number: u64) -> Op
     ensures { result ≡ operator_of number }
 {
@@ -47,71 +112,12 @@ fn operator(number: u64) -> Op
     }
 }
 
-/// `V <- P o Q`.
-fn operation(draws: &mut Draws) -> Inst
-    ensures value { result ≡ operation draws.old.state }
-    ensures state { draws.new.state ≡ next (next (next (next draws.old.state))) }
-{
-    let variable = variable(draws);
-    let left = parameter(draws);
-    let operator = operator(draws.draw(8));
-    let right = parameter(draws);
-    Inst::Assign(variable, Rhs::Binary(operator, left, right))
-}
-
-/// `a + b`.
-fn sum() -> Rhs
-    ensures { result ≡ sum }
-{
-    Rhs::Binary(Op::Add, Operand::Var(0), Operand::Var(1))
-}
-
-/// Adds so many groups at the end of the body.
-pub fn push_groups(body: &mut Vec<Inst>, draws: &mut Draws, count: usize) -> Result<(), Memory>
-    ensures insts { OnOk result (body.new.items ≡ body.old.items ++ (groups count (length body.old.items) draws.old.state).insts) }
-    ensures state { OnOk result (draws.new.state ≡ (groups count (length body.old.items) draws.old.state).state) }
-{
-    for turn in 0..count {
-        push_group(body, draws)?;
-    }
-    Ok(())
-}
-
-/// Adds a group at the end of the body.
-fn push_group(body: &mut Vec<Inst>, draws: &mut Draws) -> Result<(), Memory>
-    ensures insts { OnOk result (body.new.items ≡ body.old.items ++ (group (length body.old.items) draws.old.state).insts) }
-    ensures state { OnOk result (draws.new.state ≡ (group (length body.old.items) draws.old.state).state) }
-{
-    let kind = draws.draw(4);
-    push_group_of(body, draws, kind)
-}
-
-fn push_group_of(body: &mut Vec<Inst>, draws: &mut Draws, kind: u64) -> Result<(), Memory>
-    ensures insts { OnOk result (body.new.items ≡ body.old.items ++ (group_of kind (length body.old.items) draws.old.state).insts) }
-    ensures state { OnOk result (draws.new.state ≡ (group_of kind (length body.old.items) draws.old.state).state) }
-{
-    if kind == 0 {
-        push_plain(body, draws)
-    } else if kind == 1 {
-        push_branch(body, draws)
-    } else if kind == 2 {
-        push_loop(body, draws)
-    } else {
-        push_print(body, draws)
-    }
-}
-
-fn push_plain(body: &mut Vec<Inst>, draws: &mut Draws) -> Result<(), Memory>
-    ensures insts { OnOk result (body.new.items ≡ body.old.items ++ (plain_group draws.old.state).insts) }
-    ensures state { OnOk result (draws.new.state ≡ (plain_group draws.old.state).state) }
-{
-    body.push(operation(draws))?;
-    Ok(())
-}
-
+/// Adds a test that skips one of two sums.
 fn push_branch(body: &mut Vec<Inst>, draws: &mut Draws) -> Result<(), Memory>
-    ensures insts { OnOk result (body.new.items ≡ body.old.items ++ (branch_group (length body.old.items) draws.old.state).insts) }
-    ensures state { OnOk result (draws.new.state ≡ (branch_group (length body.old.items) draws.old.state).state) }
+    ensures insts { OnOk result (body.new.items
+        ≡ body.old.items ++ (branch_group (length body.old.items) draws.old.state).insts) }
+    ensures state { OnOk result (draws.new.state
+        ≡ (branch_group (length body.old.items) draws.old.state).state) }
 {
     let place = body.len() + 2;
     let asked = parameter(draws);
@@ -123,9 +129,19 @@ fn push_branch(body: &mut Vec<Inst>, draws: &mut Draws) -> Result<(), Memory>
     Ok(())
 }
 
+/// `a + b`.
+fn sum() -> Rhs
+    ensures { result ≡ sum }
+{
+    Rhs::Binary(Op::Add, Operand::Var(0), Operand::Var(1))
+}
+
+/// Adds a loop of four turns over one operation.
 fn push_loop(body: &mut Vec<Inst>, draws: &mut Draws) -> Result<(), Memory>
-    ensures insts { OnOk result (body.new.items ≡ body.old.items ++ (loop_group (length body.old.items) draws.old.state).insts) }
-    ensures state { OnOk result (draws.new.state ≡ (loop_group (length body.old.items) draws.old.state).state) }
+    ensures insts { OnOk result (body.new.items
+        ≡ body.old.items ++ (loop_group (length body.old.items) draws.old.state).insts) }
+    ensures state { OnOk result (draws.new.state
+        ≡ (loop_group (length body.old.items) draws.old.state).state) }
 {
     let place = body.len() + 1;
     let turns = Operand::Var(COUNTER);
@@ -137,8 +153,10 @@ fn push_loop(body: &mut Vec<Inst>, draws: &mut Draws) -> Result<(), Memory>
     Ok(())
 }
 
+/// Adds the print of a variable.
 fn push_print(body: &mut Vec<Inst>, draws: &mut Draws) -> Result<(), Memory>
-    ensures insts { OnOk result (body.new.items ≡ body.old.items ++ (print_group draws.old.state).insts) }
+    ensures insts { OnOk result (body.new.items
+        ≡ body.old.items ++ (print_group draws.old.state).insts) }
     ensures state { OnOk result (draws.new.state ≡ (print_group draws.old.state).state) }
 {
     body.push(Inst::Print(Operand::Var(variable(draws))))?;

@@ -9,8 +9,6 @@
 
 mod draws;
 mod groups;
-#[cfg(test)]
-mod tests;
 mod units;
 
 pub use units::trial_program;

@@ -1,5 +1,6 @@
 // Units, and the program.
 ghost use Rattle.std.specs.Prelude.{◌≡◌, ◌+◌, ◌<◌, ◌≤◌, ◌^◌, ℕ, length, slice_get, Some, IfOk, OnOk};
+ghost use Rattle.mir_base.specs.Limits.{most_units};
 ghost use Rattle.mir_base.specs.Names.{IsName};
 ghost use Rattle.mir_base.specs.Runs.{inputs_of};
 ghost use Rattle.mir_base.specs.Shapes.{UnitShape};
@@ -16,59 +17,27 @@ use std::alloc::Global;
 /// The number of groups of a unit.
 const GROUPS: usize = 60;
 
-/// The body of unit number `number`, before its variables are numbered in the order of their first occurrence.
-fn body(alloc: Global, draws: &mut Draws, number: usize, last: bool) -> Result<Vec<Inst>, Memory>
-    requires { number + 1 < 2 ^ 64 }
-    ensures body { IfOk result (λ body. body.items ≡ body_of number last draws.old.state) }
-    ensures state { OnOk result (draws.new.state ≡ (groups 60 2 draws.old.state).state) }
+/// The program of a number with so many units. It is valid, each of its units has at most 245 instructions, and calls
+/// the next one alone. It fails only with `Memory`.
+pub fn trial_program(alloc: Global, number: u64, count: usize) -> Result<Program, Memory>
+    requires some { 0 < count }
+    requires few { count ≤ most_units }
+    ensures program { IfOk result (λ program. program ≡ trial_program number count) }
+    ensures higher { IfOk result CallsHigher }
+    ensures units { IfOk result (λ program. length program.units ≡ count) }
+    ensures inputs { IfOk result (λ program. inputs_of program ≡ 2) }
+    ensures short { IfOk result (λ program. (u : ℕ) (unit : UnitShape)
+        → slice_get program.units u ≡ Some unit → length unit.body ≤ 245) }
 {
-    let mut body = Vec::new(alloc);
-    body.push(Inst::Receive(0))?;
-    body.push(Inst::Receive(1))?;
-    push_groups(&mut body, draws, GROUPS)?;
-    if !last {
-        let args = Args::of(alloc, &[Operand::Var(3), Operand::Var(4)])?;
-        body.push(Inst::Call(Some(2), number + 1, args))?;
+    let vars = variables(alloc)?;
+    let mut draws = Draws { state: number };
+    let mut units = Vec::new(alloc);
+    for j in 0..count {
+        units.push(unit(alloc, &mut draws, &vars, j, j + 1 == count)?)?;
     }
-    body.push(Inst::Print(Operand::Var(2)))?;
-    body.push(Inst::Return(Operand::Var(5)))?;
-    Ok(body)
-}
-
-/// The name of these bytes.
-fn named(alloc: Global, bytes: &[u8]) -> Result<Name, Memory>
-    requires { IsName bytes.now }
-    ensures { IfOk result (λ name. name ≡ bytes.now) }
-{
-    let bytes = bytes.to_vec(alloc)?;
-    Ok(Name::new(bytes).unwrap())
-}
-
-/// The names of the variables.
-fn variables(alloc: Global) -> Result<Vec<Name>, Memory>
-    ensures { IfOk result (λ names. names.items ≡ variables) }
-{
-    let mut names = Vec::new(alloc);
-    names.push(named(alloc, b"a")?)?;
-    names.push(named(alloc, b"b")?)?;
-    names.push(named(alloc, b"v0")?)?;
-    names.push(named(alloc, b"v1")?)?;
-    names.push(named(alloc, b"v2")?)?;
-    names.push(named(alloc, b"v3")?)?;
-    names.push(named(alloc, b"v4")?)?;
-    names.push(named(alloc, b"v5")?)?;
-    names.push(named(alloc, b"c")?)?;
-    Ok(names)
-}
-
-/// The name of unit number `number`.
-fn unit_name(alloc: Global, number: usize) -> Result<Name, Memory>
-    ensures { IfOk result (λ name. name ≡ name_of number) }
-{
-    let mut buffer = Buffer::new();
-    let mut bytes = Vec::from_slice(alloc, b"u")?;
-    bytes.extend_from_slice(buffer.format(number).as_bytes())?;
-    Ok(Name::new(bytes).unwrap())
+    Ok(Program {
+        units: Items::of(units),
+    })
 }
 
 /// Unit number `number`.
@@ -90,24 +59,58 @@ fn unit(
     Ok(unit)
 }
 
-/// The program of a number with so many units. It is valid, each of its units has at most 245 instructions, and calls the
-/// next one alone. Its only refusal is want of memory.
-pub fn trial_program(alloc: Global, number: u64, count: usize) -> Result<Program, Memory>
-    requires some { 0 < count }
-    requires few { count ≤ 256 }
-    ensures program { IfOk result (λ program. program ≡ trial_program number count) }
-    ensures higher { IfOk result CallsHigher }
-    ensures units { IfOk result (λ program. length program.units ≡ count) }
-    ensures inputs { IfOk result (λ program. inputs_of program ≡ 2) }
-    ensures short { IfOk result (λ program. (u : ℕ) (unit : UnitShape) → slice_get program.units u ≡ Some unit → length unit.body ≤ 245) }
+/// The names of the variables.
+#[tactic(auto, using(crate::proofs::Spelled::not_reserved))]
+fn variables(alloc: Global) -> Result<Vec<Name>, Memory>
+    ensures { IfOk result (λ names. names.items ≡ variables) }
 {
-    let vars = variables(alloc)?;
-    let mut draws = Draws { state: number };
-    let mut units = Vec::new(alloc);
-    for j in 0..count {
-        units.push(unit(alloc, &mut draws, &vars, j, j + 1 == count)?)?;
+    let mut names = Vec::new(alloc);
+    names.push(named(alloc, b"a")?)?;
+    names.push(named(alloc, b"b")?)?;
+    names.push(named(alloc, b"v0")?)?;
+    names.push(named(alloc, b"v1")?)?;
+    names.push(named(alloc, b"v2")?)?;
+    names.push(named(alloc, b"v3")?)?;
+    names.push(named(alloc, b"v4")?)?;
+    names.push(named(alloc, b"v5")?)?;
+    names.push(named(alloc, b"c")?)?;
+    Ok(names)
+}
+
+/// The name of these bytes.
+fn named(alloc: Global, bytes: &[u8]) -> Result<Name, Memory>
+    requires { IsName bytes.now }
+    ensures { IfOk result (λ name. name ≡ bytes.now) }
+{
+    let bytes = bytes.to_vec(alloc)?;
+    Ok(Name::new(bytes).unwrap())
+}
+
+/// The body of unit number `number`, before its variables are numbered in the order of their first occurrence.
+fn body(alloc: Global, draws: &mut Draws, number: usize, last: bool) -> Result<Vec<Inst>, Memory>
+    requires { number + 1 < 2 ^ 64 }
+    ensures body { IfOk result (λ body. body.items ≡ body_of number last draws.old.state) }
+    ensures state { OnOk result (draws.new.state ≡ (groups 60 2 draws.old.state).state) }
+{
+    let mut body = Vec::new(alloc);
+    body.push(Inst::Receive(0))?;
+    body.push(Inst::Receive(1))?;
+    push_groups(&mut body, draws, GROUPS)?;
+    if !last {
+        let args = Args::of(alloc, &[Operand::Var(3), Operand::Var(4)])?;
+        body.push(Inst::Call(Some(2), number + 1, args))?;
     }
-    Ok(Program {
-        units: Items::of(units),
-    })
+    body.push(Inst::Print(Operand::Var(2)))?;
+    body.push(Inst::Return(Operand::Var(5)))?;
+    Ok(body)
+}
+
+/// The name of unit number `number`.
+fn unit_name(alloc: Global, number: usize) -> Result<Name, Memory>
+    ensures { IfOk result (λ name. name ≡ name_of number) }
+{
+    let mut buffer = Buffer::new();
+    let mut bytes = Vec::from_slice(alloc, b"u")?;
+    bytes.extend_from_slice(buffer.format(number).as_bytes())?;
+    Ok(Name::new(bytes).unwrap())
 }

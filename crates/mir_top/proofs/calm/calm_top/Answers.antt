@@ -2,7 +2,7 @@ use Rattle.std.proofs.Common.{inl, inr, arith}
 use Rattle.mir_outside.specs.Causes.{Rose}
 use Rattle.mir_top.proofs.calm.calm_top.Goals as goal
 
--- a count that is always 0 neither rises nor stands at its last value
+-- a count that is always 0 neither rises nor is saturated
 no_fault : Rose 0 0 → ⊥
 no_fault (inl above) = omega arith
 no_fault (inr last) = omega arith

@@ -1,7 +1,12 @@
-use Rattle.std.proofs.Common.{◌++◌}
+use Rattle.std.proofs.Common.{◌++◌, Result, Ok, Err, OnErr, refl}
 use Rattle.std.proofs.lemmas.Result.{on_err_weaker}
-use Rattle.mir_top.proofs.Pieces.{appends_on, appends_then_part, part_of_first, on_err}
+use Rattle.mir_outside.specs.SinkLaws.{appends_on, appends_then_part, part_of_first}
 use Rattle.mir_top.proofs.complaint.write_three.Goals as goal
+
+-- what holds in any case holds of an error
+on_err : {T E : Type 0} (result : Result T E) (P : Type 0) → P → OnErr result P
+on_err (Ok value) P p = tt
+on_err (Err error) P p = p
 
 pub returns-in_err-write_all-2-clause-part : goal.returns-in_err-write_all-2-clause-part
 returns-in_err-write_all-2-clause-part g c =
@@ -20,5 +25,5 @@ returns-clause-part g c =
     let new = g.K.Sink.written c.write_all-3.new.sink in
     on_err_weaker c.write_all-3.result
     (appends_then_part old two new (c.args.first.now ++ c.args.second.now) c.args.third.now
-    (appends_on old one two c.args.first.now c.args.second.now c.in_ok-write_all.ensures.whole c.in_ok-write_all-2.ensures.whole))
+    (appends_on old one two c.args.first.now c.args.second.now _ c.in_ok-write_all.ensures.whole c.in_ok-write_all-2.ensures.whole refl))
     c.write_all-3.ensures.part

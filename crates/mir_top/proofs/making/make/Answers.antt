@@ -1,27 +1,25 @@
-use Rattle.std.proofs.Common.{map, string_bytes, sym, subst, ℤ, List}
-use Rattle.mir_top.specs.declared.command.Command.{Command}
+use Rattle.mir_base.specs.Text.{canonical_text}
+use Rattle.mir_top.specs.declared.command.Command.TheVariants.{Optimise, Move}
 use Rattle.mir_top.specs.declared.outcome.Outcome.TheVariants.{Optimised, Moved}
-use Rattle.mir_top.specs.Commands.{inputs_in}
-use Rattle.mir_top.specs.Outputs.{Makes, no_memory}
-use Rattle.mir_top.proofs.MadeLaws.{optimise_makes, move_makes}
+use Rattle.mir_top.specs.Commands.{inputs_in, word_bytes}
+use Rattle.mir_top.specs.Outputs.{optimised, moved, no_memory}
+use Rattle.mir_top.proofs.MadeLaws.{makes_with}
 use Rattle.mir_top.proofs.making.make.Goals as goal
 
 pub returns-in-Ok-clause-made : goal.returns-in-Ok-clause-made
 returns-in-Ok-clause-made c =
-    let inputs : List ℤ = inputs_in (map string_bytes c.args.words.now) in
+    let trail = c.in-Ok.trail in
     let is = c.in-Ok.ensures in
-    subst (λ (command : Command). Makes inputs c.args.program.now command (Optimised c.in-Ok.trail) c.in-Ok.output.items) (sym c.in-Optimise.is)
-    (optimise_makes c.args.program.now inputs c.in-Ok.trail c.in-Ok.output.items is.source is.optimises is.output)
+    makes_with (inputs_in (word_bytes c.args.words.now)) c.args.program.now c.args.command Optimise (Optimised trail) c.in-Ok.output.items (canonical_text trail.target) c.in-Optimise.is is.output (optimised trail is.source is.optimises)
 
 pub returns-in-Err-clause-stopped : goal.returns-in-Err-clause-stopped
 returns-in-Err-clause-stopped c = no_memory c.args.command c.in-Err.refusal
 
 pub returns-in-Ok-moved-clause-made : goal.returns-in-Ok-moved-clause-made
 returns-in-Ok-moved-clause-made c =
-    let inputs : List ℤ = inputs_in (map string_bytes c.args.words.now) in
+    let trail = c.in-Ok-moved.trail in
     let is = c.in-Ok-moved.ensures in
-    subst (λ (command : Command). Makes inputs c.args.program.now command (Moved c.in-Ok-moved.trail) c.in-Ok-moved.output.items) (sym c.in-Move.is)
-    (move_makes c.args.program.now inputs c.in-Ok-moved.trail c.in-Ok-moved.output.items is.source is.moves is.output)
+    makes_with (inputs_in (word_bytes c.args.words.now)) c.args.program.now c.args.command Move (Moved trail) c.in-Ok-moved.output.items (canonical_text trail.target) c.in-Move.is is.output (moved trail is.source is.moves)
 
 pub returns-in-Err-moved-clause-stopped : goal.returns-in-Err-moved-clause-stopped
 returns-in-Err-moved-clause-stopped c = no_memory c.args.command c.in-Err-moved.refusal

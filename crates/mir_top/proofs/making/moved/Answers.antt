@@ -1,7 +1,10 @@
-use Rattle.mir_top.proofs.MadeLaws.{moves_from}
+use Rattle.mir_base.specs.Shapes.{ProgramShape}
+use Rattle.mir_opt.specs.Links.{IsMoveLinked, IsOnlyMoveTrail}
+use Rattle.mir_top.proofs.MadeLaws.{improves_from}
 use Rattle.mir_top.proofs.making.moved.Goals as goal
 
 pub returns-clause-moves : goal.returns-clause-moves
 returns-clause-moves c =
+    let trail = c.in_ok-trail.trail in
     let is = c.in_ok-trail.ensures in
-    moves_from c.args.program.now c.in_ok-trail.trail is.source is.linked is.only is.same is.units is.cheaper is.best
+    improves_from (IsMoveLinked trail) (λ (p : ProgramShape). IsOnlyMoveTrail p trail) trail.units c.args.program.now trail.source trail.target is.source is.linked is.only is.keeps is.best
