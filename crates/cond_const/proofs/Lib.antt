@@ -1,0 +1,10 @@
+pub mod Sound
+pub mod Folds
+pub mod Joins
+pub mod JoinCases
+pub mod Nodewise
+pub mod Shapes
+pub mod Whole
+pub mod Rewrites
+pub mod Targets
+pub mod Steps

@@ -1,0 +1,75 @@
+-- The steps of the loops over the nodes of a block, and of the calls on constants.
+use Rattle.std.proofs.Common.{◌≡◌, ℕ, ℤ, suc, ◌<◌, Bool, true, false, if◌then◌else◌, List, [], ◌∷◌, length, take, slice_get, slice_index_or, Some, Ok, Err, sym, ap, ◌∙◌, subst, arith, FitsSigned, w64, to_z, of_z, to_z-of_z}
+use Rattle.std.proofs.lemmas.Int.{int_wrap_fits}
+use Rattle.std.proofs.lemmas.Option.{slice_get-get_or, get_or_from_slice_get}
+use Rattle.mir_base.specs.declared.operators.Op.{Op}
+use Rattle.mir_base.specs.declared.operators.Trap.TheVariants.{ZeroDivisor}
+use Rattle.mir_base.specs.declared.instructions.Operand.TheVariants.{Var, Const}
+use Rattle.mir_base.specs.declared.instructions.Rhs.{Rhs}
+use Rattle.mir_base.specs.declared.instructions.Rhs.TheVariants.{Plain, Binary}
+use Rattle.mir_base.specs.Numbers.{evaluation, wrapped, traps, value_of_op}
+use Rattle.mir_base.specs.NumberLaws.{value_fits}
+use Rattle.flow_graph.specs.declared.nodes.Node.{Node}
+use Rattle.flow_graph.specs.Blocks.{IsChain}
+use Rattle.flow_graph.specs.BlockLaws.{chain_within}
+use Rattle.flow_graph.specs.BoundLaws.{edge_within}
+use Rattle.flow_graph.specs.ListLaws.{some_at, take_next}
+use Rattle.cond_const.specs.declared.identities.Identity.{Identity}
+use Rattle.cond_const.specs.Identities.{identity_left, identity_right}
+use Rattle.cond_const.specs.States.{NodeState}
+use Rattle.cond_const.specs.Folding.{along, by_identity, folded_binary}
+use Rattle.cond_const.specs.Blockwise.{along_at, through_nodes}
+use Rattle.cond_const.proofs.Nodewise.{through_more}
+
+-- ---- chains
+
+-- a chain has a node
+pub chain_some : (nodes : List Node) (list : List ℕ) → IsChain nodes list → 0 < length list
+chain_some nodes [] is = absurd is
+chain_some nodes (n ∷ list) is = omega arith
+
+-- and its nodes are nodes of the graph
+pub chain_at : (nodes : List Node) (list : List ℕ) (k : ℕ) → IsChain nodes list → k < length list → slice_index_or list k 0 < length nodes
+chain_at nodes list k is lt =
+    let n = some_at list k lt in
+    let low = chain_within nodes list k n.0 (λ m s edge. edge_within nodes m s edge) is n.1 in
+    subst (λ m. m < length nodes) (sym (get_or_from_slice_get list k n.0 0 n.1)) low
+
+-- a step through one node more
+pub passed_on : (received : List ℕ) (nodes : List Node) (list : List ℕ) (i j : ℕ) (node : Node) (s t u : NodeState) → i < length list → j ≡ suc i → slice_get nodes (slice_index_or list i 0) ≡ Some node
+    → t ≡ through_nodes received nodes (take i list) s → u ≡ along received node 0 t → u ≡ through_nodes received nodes (take j list) s
+passed_on received nodes list i j node s t u lt next here so_far step =
+    let at : slice_get list i ≡ Some (slice_index_or list i 0) = slice_get-get_or list i 0 lt in
+    let more : through_nodes received nodes (take j list) s ≡ along_at received (slice_get nodes (slice_index_or list i 0)) 0 (through_nodes received nodes (take i list) s) =
+    ap (λ k. through_nodes received nodes (take k list) s) next ∙ ap (λ l. through_nodes received nodes l s) (take_next list i (slice_index_or list i 0) at) ∙ through_more received nodes (take i list) (slice_index_or list i 0) s in
+    step ∙ ap (along received node 0) so_far ∙ sym (more ∙ ap (λ o. along_at received o 0 (through_nodes received nodes (take i list) s)) here)
+
+-- ---- constants
+
+-- the number that a call is handed is the constant
+wraps_back : (c : ℤ) → FitsSigned w64 c → to_z w64 (of_z w64 c) ≡ wrapped c
+wraps_back c fits = to_z-of_z fits ∙ sym (int_wrap_fits w64 c fits)
+
+-- the value of an operator on two constants
+pub constants_are : (op : Op) (c d v : ℤ) → FitsSigned w64 c → FitsSigned w64 d → Ok v ≡ evaluation op (to_z w64 (of_z w64 c)) (to_z w64 (of_z w64 d)) → Plain (Const (to_z w64 (of_z w64 v))) ≡ folded_binary op (Const c) (Const d)
+constants_are op c d v fits_c fits_d e = by_trap (traps op (wrapped d)) (e ∙ ap (λ z. evaluation op z (to_z w64 (of_z w64 d))) (wraps_back c fits_c) ∙ ap (evaluation op (wrapped c)) (wraps_back d fits_d))
+  where
+    by_trap : (t : Bool) → Ok v ≡ (if t then Err ZeroDivisor else Ok (value_of_op op (wrapped c) (wrapped d))) → Plain (Const (to_z w64 (of_z w64 v))) ≡ (if t then Binary op (Const c) (Const d) else Plain (Const (value_of_op op (wrapped c) (wrapped d))))
+    by_trap true h = cc
+    by_trap false h =
+        let is : v ≡ value_of_op op (wrapped c) (wrapped d) = cc in
+        let fits : FitsSigned w64 (value_of_op op (wrapped c) (wrapped d)) =
+        value_fits op (wrapped c) (wrapped d) (subst (FitsSigned w64) (sym (int_wrap_fits w64 c fits_c)) fits_c) (subst (FitsSigned w64) (sym (int_wrap_fits w64 d fits_d)) fits_d) in
+        ap (λ z. Plain (Const (to_z w64 (of_z w64 z)))) is ∙ ap (λ z. Plain (Const z)) (to_z-of_z fits)
+
+-- an identity of a constant and a variable
+pub left_is : (op : Op) (c : ℤ) (y : ℕ) (identity : Identity) (r : Rhs) → FitsSigned w64 c → identity ≡ identity_left op (to_z w64 (of_z w64 c)) → r ≡ by_identity identity (Var y) (Binary op (Const (to_z w64 (of_z w64 c))) (Var y)) → r ≡ folded_binary op (Const c) (Var y)
+left_is op c y identity r fits is made =
+    made ∙ ap (λ i. by_identity i (Var y) (Binary op (Const (to_z w64 (of_z w64 c))) (Var y))) is
+    ∙ ap (λ z. by_identity (identity_left op z) (Var y) (Binary op (Const (to_z w64 (of_z w64 c))) (Var y))) (wraps_back c fits) ∙ ap (λ z. by_identity (identity_left op (wrapped c)) (Var y) (Binary op (Const z) (Var y))) (to_z-of_z fits)
+
+-- and of a variable and a constant
+pub right_is : (op : Op) (x : ℕ) (d : ℤ) (identity : Identity) (r : Rhs) → FitsSigned w64 d → identity ≡ identity_right op (to_z w64 (of_z w64 d)) → r ≡ by_identity identity (Var x) (Binary op (Var x) (Const (to_z w64 (of_z w64 d)))) → r ≡ folded_binary op (Var x) (Const d)
+right_is op x d identity r fits is made =
+    made ∙ ap (λ i. by_identity i (Var x) (Binary op (Var x) (Const (to_z w64 (of_z w64 d))))) is
+    ∙ ap (λ z. by_identity (identity_right op z) (Var x) (Binary op (Var x) (Const (to_z w64 (of_z w64 d))))) (wraps_back d fits) ∙ ap (λ z. by_identity (identity_right op (wrapped d)) (Var x) (Binary op (Var x) (Const z))) (to_z-of_z fits)

@@ -1,0 +1,250 @@
+-- The folded graph as a whole: exactly the nodes whose state is reached are kept, it is the only one, and divisions stay.
+use Rattle.std.proofs.Common.{◌≡◌, ◌↔◌, ℕ, suc, ◌<◌, Bool, true, false, if◌then◌else◌, nat_eq, List, [], ◌∷◌, length, slice_get, slice_index_or, replicate, pos, Option, Some, None, option_map, refl, sym, ap, ◌∙◌, subst, arith, ◌+◌, add-zero, zero-add, ℤ}
+use Rattle.std.proofs.lemmas.Bool.{and_parts}
+use Rattle.std.proofs.lemmas.Option.{slice_get_within, slice_get-get_or, get_or_from_slice_get, slice_get-map}
+use Rattle.mir_base.specs.declared.operators.Op.{Op}
+use Rattle.mir_base.specs.declared.operators.Op.TheVariants.{Add, Sub, Mul, Div, Mod, Min, Max, Eq, Ne, Lt, Le, Gt, Ge, Shl, Shr, Shra, And, Or, Xor}
+use Rattle.mir_base.specs.declared.instructions.Operand.{Operand}
+use Rattle.mir_base.specs.declared.instructions.Operand.TheVariants.{Var, Const}
+use Rattle.mir_base.specs.declared.instructions.Rhs.TheVariants.{Plain, Binary}
+use Rattle.mir_base.specs.Numbers.{is_dividing, wrapped, traps, value_of_op}
+use Rattle.mir_base.specs.Expressions.{may_be_zero}
+use Rattle.flow_graph.specs.declared.nodes.Node.{Node}
+use Rattle.flow_graph.specs.declared.nodes.Node.TheVariants.{Assign}
+use Rattle.flow_graph.specs.Dividing.{DividesAt}
+use Rattle.flow_graph.specs.Graphs.{AllWithin, GraphShape, IsEdge, Reached as IsReachedNode, at_start, along as goes_along, node_succs, succs_of}
+use Rattle.flow_graph.specs.Kept.{AreKept, IsMade, marked, marked_below, redirected}
+use Rattle.flow_graph.specs.KeptLaws.{at_rank, rank_below}
+use Rattle.flow_graph.specs.ListLaws.{cons_same}
+use Rattle.flow_graph.specs.OneLaws.{made_is_one}
+use Rattle.cond_const.specs.declared.known.Known.{Known}
+use Rattle.cond_const.specs.declared.known.Known.TheVariants.{Fixed}
+use Rattle.cond_const.specs.Identities.{identity_right}
+use Rattle.cond_const.specs.States.{NodeState, Unreached, Reached, BelowState, is_reached, size_of}
+use Rattle.cond_const.specs.Folding.{known_after, along, by_identity, folded_at, folded_binary, folded_from, folded_node, folded_nodes, folded_rhs, passes, resolved}
+use Rattle.cond_const.specs.Folded.{AreStates, HasLeastStates, IsFolded, KeepsDivisions}
+use Rattle.cond_const.specs.RelationLaws.{int_eq_is}
+use Rattle.cond_const.specs.StateLaws.{below_antisym}
+use Rattle.cond_const.specs.PassingLaws.{unreached_below}
+use Rattle.cond_const.proofs.Folds.{folded_get}
+use Rattle.cond_const.proofs.Shapes.{length_folded, node_back, node_on}
+
+-- a state that is reached
+known_of_reached : (s : NodeState) → is_reached s ≡ true → (ks : List Known) × (s ≡ Reached ks)
+known_of_reached (Unreached n) h = cc
+known_of_reached (Reached ks) h = (ks, refl)
+
+-- what is above it is reached
+above_reached : (ks : List Known) (t : NodeState) → BelowState (Reached ks) t → is_reached t ≡ true
+above_reached ks (Unreached n) p = absurd p
+above_reached ks (Reached ls) p = refl
+
+-- ---- what is reached
+
+module _ (received : List ℕ) (nodes : List Node) (size : ℕ) (states : ℕ → NodeState) (are : AreStates received nodes size states) where
+  abbrev after : List Node
+  after = folded_nodes states nodes
+
+  folded_here : (n : ℕ) (ks : List Known) → states n ≡ Reached ks → slice_get after n ≡ option_map (folded_node ks) (slice_get nodes n)
+  folded_here n ks known = folded_get states nodes n ∙ ap (λ s. option_map (folded_at s) (slice_get nodes n)) known
+
+  -- along an edge that passes a state a node is reached
+  passed : (n slot s : ℕ) (ks : List Known) (node : Node) → states n ≡ Reached ks → slice_get nodes n ≡ Some node → slice_get (node_succs node) slot ≡ Some s → passes node slot ks ≡ true → is_reached (states s) ≡ true
+  passed n slot s ks node known here leads passing =
+      let edge : IsEdge nodes n slot s = ap (λ o. slice_get (succs_of o) slot) here ∙ leads in
+      let above : BelowState (along received node slot (states n)) (states s) = are.edges n slot s node here edge in
+      let above' : BelowState (along received node slot (Reached ks)) (states s) = subst (λ t. BelowState (along received node slot t) (states s)) known above in
+      let above'' : BelowState (Reached (known_after received node ks)) (states s) = subst (λ b. BelowState (if b then Reached (known_after received node ks) else Unreached (length ks)) (states s)) passing above' in
+      above_reached (known_after received node ks) (states s) above''
+
+  leads_on : (n slot s : ℕ) (ks : List Known) (o : Option Node) → states n ≡ Reached ks → slice_get nodes n ≡ o → slice_get (succs_of (option_map (folded_node ks) o)) slot ≡ Some s → is_reached (states s) ≡ true
+  leads_on n slot s ks None known here leads = cc
+  leads_on n slot s ks (Some node) known here leads = let back = node_back ks node slot s leads in passed n back.0 s ks node known here back.1 back.2
+
+  -- a node that is kept has a state that is reached
+  pub kept_reached : (n : ℕ) → IsReachedNode after n → is_reached (states n) ≡ true
+  kept_reached n at_start = above_reached (replicate size (Fixed (pos 0))) (states 0) are.start
+  kept_reached n (goes_along m slot s before edge) =
+      let k = known_of_reached (states m) (kept_reached m before) in
+      leads_on m slot s k.0 (slice_get nodes m) k.1 refl (ap (λ o. slice_get (succs_of o) slot) (sym (folded_here m k.0 k.1)) ∙ edge)
+
+  -- ---- the states are least: where the others are not kept, they could be unreached
+  module _ (least : (others : ℕ → NodeState) → AreStates received nodes size others → (n : ℕ) → n < length nodes → BelowState (states n) (others n)) (within : AllWithin nodes) (kept : List Node) (are_kept : AreKept after kept) where
+    abbrev bits : ℕ → Bool
+    bits n = slice_index_or are_kept.marks n false
+
+    marks_long : length are_kept.marks ≡ length nodes
+    marks_long = are_kept.are_marks.long ∙ length_folded states nodes
+
+    bits_kept : (n : ℕ) → n < length nodes → bits n ≡ true → IsReachedNode after n
+    bits_kept n lt on =
+        (are_kept.are_marks.exact n (subst (λ k. n < k) (sym (length_folded states nodes)) lt)).0 (slice_get-get_or are_kept.marks n false (omega (arith, lt, marks_long)) ∙ ap Some on)
+
+    kept_bits : (n : ℕ) → n < length nodes → IsReachedNode after n → bits n ≡ true
+    kept_bits n lt reached =
+        get_or_from_slice_get are_kept.marks n true false ((are_kept.are_marks.exact n (subst (λ k. n < k) (sym (length_folded states nodes)) lt)).1 reached)
+
+    abbrev others : ℕ → NodeState
+    others n = if bits n then states n else Unreached size
+
+    some_node : 0 < length nodes → bits 0 ≡ true
+    some_node lt = kept_bits 0 lt at_start
+
+    others_size : (n : ℕ) → n < length nodes → size_of (others n) ≡ size
+    others_size n lt = cases (bits n)
+      where
+        cases : (b : Bool) → size_of (if b then states n else Unreached size) ≡ size
+        cases true = are.sizes n lt
+        cases false = refl
+
+    -- an edge from a kept node to one that is not kept passes nothing
+    stopped : (n slot s : ℕ) (node : Node) (state : NodeState) → states n ≡ state → slice_get nodes n ≡ Some node → IsEdge nodes n slot s → bits n ≡ true → bits s ≡ false → BelowState (along received node slot state) (Unreached size)
+    stopped n slot s node (Unreached k) known here edge on off = sym (ap size_of known) ∙ are.sizes n (slice_get_within nodes n node here)
+    stopped n slot s node (Reached ks) known here edge on off = cases (passes node slot ks) refl
+      where
+        lt : n < length nodes
+        lt = slice_get_within nodes n node here
+
+        cases : (b : Bool) → passes node slot ks ≡ b → BelowState (if b then Reached (known_after received node ks) else Unreached (length ks)) (Unreached size)
+        cases true passing =
+            let more = node_on ks node slot s (ap (λ o. slice_get (succs_of o) slot) (sym here) ∙ edge) passing in
+            let there : slice_get after n ≡ Some (folded_node ks node) = folded_here n ks known ∙ ap (option_map (folded_node ks)) here in
+            let edge' : IsEdge after n more.0 s = ap (λ o. slice_get (succs_of o) more.0) there ∙ more.1 in
+            let on' : bits s ≡ true = kept_bits s (within n slot s edge) (goes_along n more.0 s (bits_kept n lt on) edge') in
+            absurd (cc)
+        cases false passing = sym (ap size_of known) ∙ are.sizes n lt
+
+    others_along : (n slot s : ℕ) (node : Node) → slice_get nodes n ≡ Some node → IsEdge nodes n slot s → (b b' : Bool) → bits n ≡ b → bits s ≡ b' → BelowState (along received node slot (if b then states n else Unreached size)) (if b' then states s else Unreached size)
+    others_along n slot s node here edge true true on on' = are.edges n slot s node here edge
+    others_along n slot s node here edge true false on off = stopped n slot s node (states n) refl here edge on off
+    others_along n slot s node here edge false true off on = unreached_below size (states s) (sym (are.sizes s (within n slot s edge)))
+    others_along n slot s node here edge false false off off' = refl
+
+    others_are : 0 < length nodes → AreStates received nodes size others
+    others_are lt = record {
+      sizes = others_size;
+      start = subst (λ b. BelowState (Reached (replicate size (Fixed (pos 0)))) (if b then states 0 else Unreached size)) (sym (some_node lt)) are.start;
+      edges = λ n slot s node here edge. others_along n slot s node here edge (bits n) (bits s) refl refl;
+    }
+
+    in_bits : (n : ℕ) (b : Bool) → bits n ≡ b → is_reached (states n) ≡ true → BelowState (states n) (if b then states n else Unreached size) → bits n ≡ true
+    in_bits n true is on p = is
+    in_bits n false is on p = let k = known_of_reached (states n) on in absurd (subst (λ s. BelowState s (Unreached size)) k.1 p)
+
+    -- so a node whose state is reached is kept
+    pub reached_kept : (n : ℕ) → n < length nodes → is_reached (states n) ≡ true → IsReachedNode after n
+    reached_kept n lt on = bits_kept n lt (in_bits n (bits n) refl on (least others (others_are (omega (arith, lt))) n lt))
+
+-- exactly those nodes are kept whose state is reached
+pub exactly_kept : (graph made : GraphShape) (states : ℕ → NodeState) → AllWithin graph.nodes → HasLeastStates graph states → IsMade graph.name graph.vars graph.received (folded_nodes states graph.nodes) made
+    → (n : ℕ) → n < length graph.nodes → IsReachedNode (folded_nodes states graph.nodes) n ↔ (is_reached (states n) ≡ true)
+exactly_kept graph made states within least is_made n lt = (
+  kept_reached graph.received graph.nodes (length graph.vars) states least.are n,
+  reached_kept graph.received graph.nodes (length graph.vars) states least.are least.least within made.nodes is_made.nodes_are n lt,
+)
+
+-- ---- there is one folded graph
+
+-- the least states are determined at the nodes
+states_are_one : (graph : GraphShape) (states others : ℕ → NodeState) → HasLeastStates graph states → HasLeastStates graph others → (n : ℕ) → n < length graph.nodes → states n ≡ others n
+states_are_one graph states others p q n lt = below_antisym (states n) (others n) (p.least others q.are n lt) (q.least states p.are n lt)
+
+-- so is what the nodes become
+folded_are_one : (k : ℕ) (states others : ℕ → NodeState) (nodes : List Node) → ((n : ℕ) → n < length nodes → states (k + n) ≡ others (k + n)) → folded_from k states nodes ≡ folded_from k others nodes
+folded_are_one k states others [] same = refl
+folded_are_one k states others (node ∷ nodes) same =
+    let here : states k ≡ others k = subst (λ j. states j ≡ others j) (add-zero k) (same 0 (omega arith)) in
+    let rest = folded_are_one (suc k) states others nodes (λ n lt. subst (λ j. states j ≡ others j) (let e : k + suc n ≡ suc k + n = omega arith in e) (same (suc n) (omega (arith, lt)))) in
+    cons_same (ap (λ s. folded_at s node) here) rest
+
+-- and the graph that is made
+pub folded_is_one : (graph a b : GraphShape) → IsFolded graph a → IsFolded graph b → a ≡ b
+folded_is_one graph a b p q =
+    let same : folded_nodes p.states graph.nodes ≡ folded_nodes q.states graph.nodes =
+    folded_are_one 0 p.states q.states graph.nodes (λ n lt. subst (λ j. p.states j ≡ q.states j) (sym (zero-add n)) (states_are_one graph p.states q.states p.least q.least n lt)) in
+    made_is_one graph.name graph.vars graph.received (folded_nodes q.states graph.nodes) a b (subst (λ l. IsMade graph.name graph.vars graph.received l a) same p.made) q.made
+
+-- ---- divisions
+
+-- a division whose divisor may be 0 stays
+chosen_stays : (op : Op) (x y : ℕ) (b : Bool) → (if b then Binary op (Var x) (Var y) else Binary op (Var x) (Var y)) ≡ Binary op (Var x) (Var y)
+chosen_stays op x y true = refl
+chosen_stays op x y false = refl
+
+-- of two constants, the second 0
+constants_stay : (op : Op) (a b : ℤ) (t : Bool) → t ≡ true → (if t then Binary op (Const a) (Const b) else Plain (Const (value_of_op op (wrapped a) (wrapped b)))) ≡ Binary op (Const a) (Const b)
+constants_stay op a b true e = refl
+constants_stay op a b false e = absurd (cc)
+
+-- a constant that may be 0 is 0
+zero_is : (c : ℤ) → may_be_zero (Const c) ≡ true → wrapped c ≡ pos 0
+zero_is c e = int_eq_is (wrapped c) (pos 0) e
+
+-- whatever the operands are
+division_stays : (op : Op) (a b : Operand) → is_dividing op ≡ true → may_be_zero b ≡ true → folded_binary op a b ≡ Binary op a b
+division_stays Div (Const a) (Const b) divides low = constants_stay Div a b (traps Div (wrapped b)) low
+division_stays Div (Var x) (Const b) divides low = ap (λ c. by_identity (identity_right Div c) (Var x) (Binary Div (Var x) (Const b))) (zero_is b low)
+division_stays Div (Const a) (Var y) divides low = refl
+division_stays Div (Var x) (Var y) divides low = chosen_stays Div x y (nat_eq x y)
+division_stays Mod (Const a) (Const b) divides low = constants_stay Mod a b (traps Mod (wrapped b)) low
+division_stays Mod (Var x) (Const b) divides low = ap (λ c. by_identity (identity_right Mod c) (Var x) (Binary Mod (Var x) (Const b))) (zero_is b low)
+division_stays Mod (Const a) (Var y) divides low = refl
+division_stays Mod (Var x) (Var y) divides low = chosen_stays Mod x y (nat_eq x y)
+division_stays Add a b divides low = cc
+division_stays Sub a b divides low = cc
+division_stays Mul a b divides low = cc
+division_stays Min a b divides low = cc
+division_stays Max a b divides low = cc
+division_stays Eq a b divides low = cc
+division_stays Ne a b divides low = cc
+division_stays Lt a b divides low = cc
+division_stays Le a b divides low = cc
+division_stays Gt a b divides low = cc
+division_stays Ge a b divides low = cc
+division_stays Shl a b divides low = cc
+division_stays Shr a b divides low = cc
+division_stays Shra a b divides low = cc
+division_stays And a b divides low = cc
+division_stays Or a b divides low = cc
+division_stays Xor a b divides low = cc
+
+module _ (graph made : GraphShape) (is : IsFolded graph made) where
+  abbrev marks : List Bool
+  marks = is.made.nodes_are.marks
+
+  after_long : length (folded_nodes is.states graph.nodes) ≡ length graph.nodes
+  after_long = length_folded is.states graph.nodes
+
+  -- a node whose state is reached is marked, and stands at the number of those marked below it
+  is_marked : (n : ℕ) → n < length graph.nodes → is_reached (is.states n) ≡ true → slice_get marks n ≡ Some true
+  is_marked n lt on = (is.made.nodes_are.are_marks.exact n (subst (λ k. n < k) (sym after_long) lt)).1 ((is.kept n lt).1 on)
+
+  stands : (n : ℕ) (node : Node) → slice_get graph.nodes n ≡ Some node → is_reached (is.states n) ≡ true → slice_get made.nodes (marked_below marks n) ≡ Some (redirected (marked_below marks) (folded_at (is.states n) node))
+  stands n node here on =
+      ap (λ l. slice_get l (marked_below marks n)) is.made.nodes_are.are ∙ slice_get-map (redirected (marked_below marks)) (marked marks (folded_nodes is.states graph.nodes)) (marked_below marks n)
+      ∙ ap (option_map (redirected (marked_below marks))) (at_rank marks (folded_nodes is.states graph.nodes) n (is_marked n (slice_get_within graph.nodes n node here) on) is.made.nodes_are.are_marks.long
+      ∙ folded_get is.states graph.nodes n ∙ ap (option_map (folded_at (is.states n))) here)
+
+  assigned : (n x : ℕ) (op : Op) (known : List Known) (d : DividesAt graph.nodes n x op) → is.states n ≡ Reached known → slice_get made.nodes (marked_below marks n) ≡ Some (Assign x (folded_rhs known (Binary op d.left d.right)) (marked_below marks d.next))
+  assigned n x op known d reached = stands n (Assign x (Binary op d.left d.right) d.next) d.is (ap is_reached reached) ∙ ap (λ s. Some (redirected (marked_below marks) (folded_at s (Assign x (Binary op d.left d.right) d.next)))) reached
+
+  pub keeps_divisions : KeepsDivisions graph made
+  keeps_divisions = record {
+    states = is.states;
+    least = is.least;
+    place = marked_below marks;
+    variable = λ n x op d on.
+        let k = known_of_reached (is.states n) on in
+        record { rhs = folded_rhs k.0 (Binary op d.left d.right); next = marked_below marks d.next; is = assigned n x op k.0 d k.1 };
+    operator = λ n x op known d reached low.
+        let parts = and_parts (is_dividing op) (may_be_zero d.right) d.may_trap in
+        let stays = division_stays op (resolved known d.left) (resolved known d.right) parts.0 low in
+        record {
+          left = resolved known d.left;
+          right = resolved known d.right;
+          next = marked_below marks d.next;
+          is = assigned n x op known d reached ∙ ap (λ r. Some (Assign x r (marked_below marks d.next))) stays;
+          may_trap = rw (parts.0, low) refl;
+        };
+    in_order = λ n m x y op other d d' on lt. rank_below marks n m (is_marked n (slice_get_within graph.nodes n _ d.is) on) lt;
+  }

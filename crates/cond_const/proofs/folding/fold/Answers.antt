@@ -1,0 +1,67 @@
+use Rattle.std.proofs.Common.{ap, append-nil, ◌++◌, ◌∙◌, sym, subst}
+use Rattle.flow_graph.specs.Calls.{NodesCall}
+use Rattle.flow_graph.specs.Graphs.{CanMake}
+use Rattle.flow_graph.specs.Kept.{IsMade}
+use Rattle.flow_graph.specs.KeepsLaws.{made_keeps}
+use Rattle.flow_graph.specs.Keeps.{AsGraph, Keeps}
+use Rattle.flow_graph.specs.Machines.{graph_machine, machine_of}
+use Rattle.mir_base.specs.UnitRuns.{UnitCheaper, UnitSame}
+use Rattle.cond_const.specs.Folded.{IsFolded}
+use Rattle.cond_const.proofs.Folds.{folded_same, folded_cheaper}
+use Rattle.cond_const.proofs.Shapes.{can_make, folded_calls}
+use Rattle.cond_const.proofs.Whole.{exactly_kept, folded_is_one, keeps_divisions}
+use Rattle.cond_const.proofs.folding.fold.Goals as goal
+use Rattle.cond_const.proofs.folding.fold.Goals.{In_ok-folded}
+
+pub with_nodes-requires : goal.with_nodes-requires
+with_nodes-requires c =
+    let graph = c.args.graph.now in
+    let are = c.in_ok-nodes.ensures.are in
+    let can = subst (CanMake graph.vars graph.received) (sym are.are) (can_make are.states graph.nodes graph.vars graph.received c.folded.ensures.graph.can) in
+    subst (λ l. CanMake (graph.vars ++ l) graph.received c.in_ok-nodes.nodes.items) (sym c.new-extra.ensures.items) (subst (λ vars. CanMake vars graph.received c.in_ok-nodes.nodes.items) (sym (append-nil graph.vars)) can)
+
+-- the answer is the exact graph
+exact : (c : In_ok-folded) → IsFolded c.args.graph.now c.in_ok-folded.folded
+exact c =
+    let graph = c.args.graph.now in
+    let are = c.in_ok-nodes.ensures.are in
+    let made = subst (λ vars. IsMade graph.name vars graph.received c.in_ok-nodes.nodes.items c.in_ok-folded.folded) (ap (λ l. graph.vars ++ l) c.new-extra.ensures.items ∙ append-nil graph.vars) c.in_ok-folded.ensures.made in
+    let made' = subst (λ l. IsMade graph.name graph.vars graph.received l c.in_ok-folded.folded) are.are made in
+    record {
+      states = are.states;
+      least = are.least;
+      made = made';
+      kept = exactly_kept graph c.in_ok-folded.folded are.states (λ m slot s edge. (c.folded.ensures.graph.can.succs m slot s edge).1) are.least made';
+    }
+
+-- it keeps the graph
+kept : (c : In_ok-folded) → Keeps (AsGraph c.args.graph.now) (AsGraph c.in_ok-folded.folded)
+kept c =
+    let graph = c.args.graph.now in
+    let are = c.in_ok-nodes.ensures.are in
+    let same = subst (λ l. UnitSame (machine_of graph) (graph_machine graph.received l)) (sym are.are) (folded_same graph.received graph.nodes _ are.states are.least.are) in
+    let cheaper = subst (λ l. UnitCheaper (machine_of graph) (graph_machine graph.received l)) (sym are.are) (folded_cheaper graph.received graph.nodes _ are.states are.least.are) in
+    made_keeps graph c.in_ok-folded.folded c.in_ok-nodes.nodes.items c.in_ok-folded.ensures.made.name_is same cheaper
+    (λ called count calls. folded_calls are.states graph.nodes called count (subst (λ l. NodesCall l called count) are.are calls))
+    c.in_ok-folded.ensures.same c.in_ok-folded.ensures.cheaper c.in_ok-folded.ensures.calls
+
+pub returns-clause-folded : goal.returns-clause-folded
+returns-clause-folded c = exact c
+
+pub returns-clause-only : goal.returns-clause-only
+returns-clause-only c = λ other is. folded_is_one c.args.graph.now other c.in_ok-folded.folded is (exact c)
+
+pub returns-clause-same : goal.returns-clause-same
+returns-clause-same c = let k = kept c in k.same
+
+pub returns-clause-cheaper : goal.returns-clause-cheaper
+returns-clause-cheaper c = let k = kept c in k.cheaper
+
+pub returns-clause-keeps : goal.returns-clause-keeps
+returns-clause-keeps c = kept c
+
+pub returns-clause-divides : goal.returns-clause-divides
+returns-clause-divides c = keeps_divisions c.args.graph.now c.in_ok-folded.folded (exact c)
+
+pub returns-clause-calls : goal.returns-clause-calls
+returns-clause-calls c = let k = kept c in k.calls

@@ -1,0 +1,198 @@
+-- Each identity holds for all signed 64-bit numbers. For proofs only.
+use Rattle.std.proofs.Common.{◌≡◌, ℕ, zero, suc, ◌-◌, ◌/◌, ◌^◌, ◌<◌, Bool, true, false, if◌then◌else◌, nat_eq, eqb-true, not, mod-eq_of_lt, div-one, ℤ, pos, negsuc, ◌+ℤ◌, ◌-ℤ◌, ◌*ℤ◌, refl, sym, ap, ◌∙◌, subst, arith, FitsSigned, w64, to_z, of_z, pow_pos, to_z-of_z, int_lt, int_rem, int_div, unsigned_abs, bit_and, bit_or}
+use Rattle.std.specs.Ordering.{int_eq}
+use Rattle.std.specs.Int.Bits.{and_zero_r, and_zero_l, or_zero_r, or_zero_l, xor_zero_r, xor_zero_l, and_self, or_self, xor_self, or_lt}
+use Rattle.std.proofs.lemmas.Nat.{and_mask, and_comm, or_comm, le_or_l}
+use Rattle.std.specs.Int.{int_wrap, int_div_euclid}
+use Rattle.std.proofs.lemmas.Int.{int_wrap_fits, ints, quot-rem, rem_below}
+use Rattle.std.proofs.Math.Facts.{Fits-of_z}
+use Rattle.std.proofs.Math.Nat.{zero-div}
+use Rattle.mir_base.specs.declared.operators.Op.{Op}
+use Rattle.mir_base.specs.declared.operators.Op.TheVariants.{Add, Sub, Mul, Div, Mod, Min, Max, Eq, Ne, Lt, Le, Gt, Ge, Shl, Shr, Shra, And, Or, Xor}
+use Rattle.mir_base.specs.Numbers.{wrapped, unsigned, traps, truth, value_of_op, distance}
+use Rattle.mir_base.specs.NumberLaws.{zero_fits}
+use Rattle.mir_base.proofs.Words.{shr_is, and_is, or_is, xor_is}
+use Rattle.cond_const.specs.declared.identities.Identity.{Identity}
+use Rattle.cond_const.specs.declared.identities.Identity.TheVariants.{Absent, Itself, Always}
+use Rattle.cond_const.specs.Identities.{where_equal, identity_same, identity_left, identity_right, IsIdentity}
+use Rattle.cond_const.specs.RelationLaws.{int_eq_is, int_eq_same, int_lt_same, int_le_same}
+
+-- a rule that holds at d, and only there
+at_number : (c d : ℤ) (rule other : Identity) (P : Identity → ℤ → Type 0) → P rule d → P other c → P (where_equal c d rule other) c
+at_number c d rule other P here there = cases (int_eq c d) refl
+  where
+    cases : (b : Bool) → int_eq c d ≡ b → P (if b then rule else other) c
+    cases true is = subst (P rule) (sym (int_eq_is c d is)) here
+    cases false is = there
+
+-- division by 1 and -1 leaves no remainder
+none_left : (z : ℤ) → unsigned_abs z < 1 → z ≡ pos 0
+none_left (pos zero) h = refl
+none_left (pos (suc n)) h = absurd (omega (arith, h))
+none_left (negsuc n) h = absurd (omega (arith, h))
+
+-- a remainder by 1 is 0
+rem_one : (a : ℤ) → int_rem a (pos 1) ≡ pos 0
+rem_one a = none_left (int_rem a (pos 1)) (rem_below a (pos 1) (omega arith))
+
+-- and by -1
+rem_minus_one : (a : ℤ) → int_rem a (negsuc 0) ≡ pos 0
+rem_minus_one a = none_left (int_rem a (negsuc 0)) (rem_below a (negsuc 0) (omega arith))
+
+-- a quotient by 1 is the number
+div_one : (a : ℤ) → int_div a (pos 1) ≡ a
+div_one a =
+    let split : int_div a (pos 1) *ℤ pos 1 +ℤ int_rem a (pos 1) ≡ a = quot-rem a (pos 1) in
+    let none : int_rem a (pos 1) ≡ pos 0 = rem_one a in
+    omega (arith, ints)
+
+-- both ways are one
+either : {A : Type 0} (b : Bool) (x : A) → (if b then x else x) ≡ x
+either true x = refl
+either false x = refl
+
+-- what a signed 64-bit number is equal to wraps to it
+wraps_to : (z a : ℤ) → z ≡ a → FitsSigned w64 a → int_wrap w64 z ≡ a
+wraps_to z a is fits = ap (int_wrap w64) is ∙ int_wrap_fits w64 a fits
+
+-- the bits of a number, read back
+back : (a : ℤ) (n : ℕ) → FitsSigned w64 a → n ≡ of_z w64 a → to_z w64 n ≡ a
+back a n fits is = ap (to_z w64) is ∙ to_z-of_z fits
+
+-- the bits are a number of 64 bits
+below_two_to_64 : (a : ℤ) → FitsSigned w64 a → of_z w64 a < 2 ^ 64
+below_two_to_64 a fits = (Fits-of_z fits).fits
+
+-- all bits set
+ones_fit : FitsSigned w64 (negsuc 0)
+ones_fit = record { sfits = pow_pos 63 }
+
+-- with all bits set, `and` gives the number
+and_ones : (a : ℤ) → FitsSigned w64 a → bit_and (of_z w64 a) (of_z w64 (negsuc 0)) ≡ of_z w64 a
+and_ones a fits = and_mask (of_z w64 a) 64 ∙ mod-eq_of_lt (below_two_to_64 a fits)
+
+-- a conjunction with -1 is the number
+ones_and : (a : ℤ) → FitsSigned w64 a → bit_and (of_z w64 (negsuc 0)) (of_z w64 a) ≡ of_z w64 a
+ones_and a fits = and_comm (of_z w64 (negsuc 0)) (of_z w64 a) ∙ and_ones a fits
+
+-- and `or` all bits
+ones_or : (a : ℤ) → FitsSigned w64 a → bit_or (of_z w64 (negsuc 0)) (of_z w64 a) ≡ 2 ^ 64 - 1
+ones_or a fits =
+    let ones : of_z w64 (negsuc 0) < 2 ^ 64 = omega arith in
+    omega (arith, le_or_l (of_z w64 (negsuc 0)) (of_z w64 a), or_lt 64 (of_z w64 (negsuc 0)) (of_z w64 a) ones (below_two_to_64 a fits))
+
+-- a disjunction with -1 is -1
+or_ones : (a : ℤ) → FitsSigned w64 a → bit_or (of_z w64 a) (of_z w64 (negsuc 0)) ≡ 2 ^ 64 - 1
+or_ones a fits = or_comm (of_z w64 a) (of_z w64 (negsuc 0)) ∙ ones_or a fits
+
+-- ---- shifts by nothing, and of 0
+
+-- a shift by 0 is the number, to the left
+shl_none : (a : ℤ) → FitsSigned w64 a → wrapped (a *ℤ pos (2 ^ 0)) ≡ a
+shl_none a fits = wraps_to (a *ℤ pos 1) a (omega (arith, ints)) fits
+
+-- to the right
+shr_none : (a : ℤ) → FitsSigned w64 a → wrapped (pos (unsigned a / 2 ^ 0)) ≡ a
+shr_none a fits = sym (shr_is a 0 fits) ∙ back a (of_z w64 a / 2 ^ 0) fits (div-one (of_z w64 a))
+
+-- and to the right with the sign
+shra_none : (a : ℤ) → int_div_euclid a (pos (2 ^ 0)) ≡ a
+shra_none (pos n) = ap pos (div-one n)
+shra_none (negsuc n) = ap negsuc (div-one n)
+
+-- a shift of 0 is 0, to the left
+shl_zero : (k : ℕ) → wrapped (pos 0 *ℤ pos (2 ^ k)) ≡ pos 0
+shl_zero k = wraps_to (pos 0 *ℤ pos (2 ^ k)) (pos 0) (omega (arith, ints)) zero_fits
+
+-- to the right
+shr_zero : (k : ℕ) → wrapped (pos (unsigned (pos 0) / 2 ^ k)) ≡ pos 0
+shr_zero k = ap (λ n. wrapped (pos n)) (zero-div (2 ^ k)) ∙ int_wrap_fits w64 (pos 0) zero_fits
+
+-- and to the right with the sign
+shra_zero : (k : ℕ) → int_div_euclid (pos 0) (pos (2 ^ k)) ≡ pos 0
+shra_zero k = ap pos (zero-div (2 ^ k))
+
+-- the table of a variable with itself, operator by operator
+pub same_keeps : (op : Op) (a : ℤ) → FitsSigned w64 a → IsIdentity (identity_same op) a op a a
+same_keeps Add a fits = tt
+same_keeps Sub a fits = (refl, wraps_to (a -ℤ a) (pos 0) (omega (arith, ints)) zero_fits)
+same_keeps Mul a fits = tt
+same_keeps Div a fits = tt
+same_keeps Mod a fits = tt
+same_keeps Min a fits = (refl, either (int_lt a a) a)
+same_keeps Max a fits = (refl, either (int_lt a a) a)
+same_keeps Eq a fits = (refl, ap truth (int_eq_same a))
+same_keeps Ne a fits = (refl, ap (λ b. truth (not b)) (int_eq_same a))
+same_keeps Lt a fits = (refl, ap truth (int_lt_same a))
+same_keeps Le a fits = (refl, ap truth (int_le_same a))
+same_keeps Gt a fits = (refl, ap truth (int_lt_same a))
+same_keeps Ge a fits = (refl, ap truth (int_le_same a))
+same_keeps Shl a fits = tt
+same_keeps Shr a fits = tt
+same_keeps Shra a fits = tt
+same_keeps And a fits = (refl, sym (and_is a a fits fits) ∙ back a _ fits (and_self (of_z w64 a)))
+same_keeps Or a fits = (refl, sym (or_is a a fits fits) ∙ back a _ fits (or_self (of_z w64 a)))
+same_keeps Xor a fits = (refl, sym (xor_is a a fits fits) ∙ ap (to_z w64) (xor_self (of_z w64 a)))
+
+-- a shift by a multiple of 64
+no_distance : (op : Op) (a c : ℤ) → traps op c ≡ false → ((k : ℕ) → k ≡ distance c → k ≡ 0 → value_of_op op a c ≡ a) → (b : Bool) → nat_eq (distance c) 0 ≡ b → IsIdentity (if b then Itself else Absent) a op a c
+no_distance op a c calm is true e = (calm, is (distance c) refl (eqb-true (distance c) 0 e))
+no_distance op a c calm is false e = tt
+
+-- the table of a variable and a constant
+pub right_keeps : (op : Op) (a c : ℤ) → FitsSigned w64 a → FitsSigned w64 c → IsIdentity (identity_right op c) a op a c
+right_keeps Add a c fits fits' = at_number c (pos 0) Itself Absent (λ r d. IsIdentity r a Add a d) (refl, wraps_to (a +ℤ pos 0) a (omega (arith, ints)) fits) tt
+right_keeps Sub a c fits fits' = at_number c (pos 0) Itself Absent (λ r d. IsIdentity r a Sub a d) (refl, wraps_to (a -ℤ pos 0) a (omega (arith, ints)) fits) tt
+right_keeps Mul a c fits fits' =
+    at_number c (pos 0) (Always (pos 0)) (where_equal c (pos 1) Itself Absent) (λ r d. IsIdentity r a Mul a d) (refl, wraps_to (a *ℤ pos 0) (pos 0) (omega (arith, ints)) zero_fits)
+    (at_number c (pos 1) Itself Absent (λ r d. IsIdentity r a Mul a d) (refl, wraps_to (a *ℤ pos 1) a (omega (arith, ints)) fits) tt)
+right_keeps Div a c fits fits' = at_number c (pos 1) Itself Absent (λ r d. IsIdentity r a Div a d) (refl, ap wrapped (div_one a) ∙ int_wrap_fits w64 a fits) tt
+right_keeps Mod a c fits fits' =
+    at_number c (pos 1) (Always (pos 0)) (where_equal c (negsuc 0) (Always (pos 0)) Absent) (λ r d. IsIdentity r a Mod a d) (refl, rem_one a)
+    (at_number c (negsuc 0) (Always (pos 0)) Absent (λ r d. IsIdentity r a Mod a d) (refl, rem_minus_one a) tt)
+right_keeps Min a c fits fits' = tt
+right_keeps Max a c fits fits' = tt
+right_keeps Eq a c fits fits' = tt
+right_keeps Ne a c fits fits' = tt
+right_keeps Lt a c fits fits' = tt
+right_keeps Le a c fits fits' = tt
+right_keeps Gt a c fits fits' = tt
+right_keeps Ge a c fits fits' = tt
+right_keeps Shl a c fits fits' = no_distance Shl a c refl (λ k is none. ap (λ j. wrapped (a *ℤ pos (2 ^ j))) (sym is ∙ none) ∙ shl_none a fits) (nat_eq (distance c) 0) refl
+right_keeps Shr a c fits fits' = no_distance Shr a c refl (λ k is none. ap (λ j. wrapped (pos (unsigned a / 2 ^ j))) (sym is ∙ none) ∙ shr_none a fits) (nat_eq (distance c) 0) refl
+right_keeps Shra a c fits fits' = no_distance Shra a c refl (λ k is none. ap (λ j. int_div_euclid a (pos (2 ^ j))) (sym is ∙ none) ∙ shra_none a) (nat_eq (distance c) 0) refl
+right_keeps And a c fits fits' =
+    at_number c (pos 0) (Always (pos 0)) (where_equal c (negsuc 0) Itself Absent) (λ r d. IsIdentity r a And a d) (refl, sym (and_is a (pos 0) fits zero_fits) ∙ ap (to_z w64) (and_zero_r (of_z w64 a)))
+    (at_number c (negsuc 0) Itself Absent (λ r d. IsIdentity r a And a d) (refl, sym (and_is a (negsuc 0) fits ones_fit) ∙ back a _ fits (and_ones a fits)) tt)
+right_keeps Or a c fits fits' =
+    at_number c (pos 0) Itself (where_equal c (negsuc 0) (Always (negsuc 0)) Absent) (λ r d. IsIdentity r a Or a d) (refl, sym (or_is a (pos 0) fits zero_fits) ∙ back a _ fits (or_zero_r (of_z w64 a)))
+    (at_number c (negsuc 0) (Always (negsuc 0)) Absent (λ r d. IsIdentity r a Or a d) (refl, sym (or_is a (negsuc 0) fits ones_fit) ∙ ap (to_z w64) (or_ones a fits)) tt)
+right_keeps Xor a c fits fits' = at_number c (pos 0) Itself Absent (λ r d. IsIdentity r a Xor a d) (refl, sym (xor_is a (pos 0) fits zero_fits) ∙ back a _ fits (xor_zero_r (of_z w64 a))) tt
+
+-- the table of a constant and a variable
+pub left_keeps : (op : Op) (a c : ℤ) → FitsSigned w64 a → FitsSigned w64 c → IsIdentity (identity_left op c) a op c a
+left_keeps Add a c fits fits' = at_number c (pos 0) Itself Absent (λ r d. IsIdentity r a Add d a) (refl, wraps_to (pos 0 +ℤ a) a (omega (arith, ints)) fits) tt
+left_keeps Sub a c fits fits' = tt
+left_keeps Mul a c fits fits' =
+    at_number c (pos 0) (Always (pos 0)) (where_equal c (pos 1) Itself Absent) (λ r d. IsIdentity r a Mul d a) (refl, wraps_to (pos 0 *ℤ a) (pos 0) (omega (arith, ints)) zero_fits)
+    (at_number c (pos 1) Itself Absent (λ r d. IsIdentity r a Mul d a) (refl, wraps_to (pos 1 *ℤ a) a (omega (arith, ints)) fits) tt)
+left_keeps Div a c fits fits' = tt
+left_keeps Mod a c fits fits' = tt
+left_keeps Min a c fits fits' = tt
+left_keeps Max a c fits fits' = tt
+left_keeps Eq a c fits fits' = tt
+left_keeps Ne a c fits fits' = tt
+left_keeps Lt a c fits fits' = tt
+left_keeps Le a c fits fits' = tt
+left_keeps Gt a c fits fits' = tt
+left_keeps Ge a c fits fits' = tt
+left_keeps Shl a c fits fits' = at_number c (pos 0) (Always (pos 0)) Absent (λ r d. IsIdentity r a Shl d a) (refl, shl_zero (distance a)) tt
+left_keeps Shr a c fits fits' = at_number c (pos 0) (Always (pos 0)) Absent (λ r d. IsIdentity r a Shr d a) (refl, shr_zero (distance a)) tt
+left_keeps Shra a c fits fits' = at_number c (pos 0) (Always (pos 0)) Absent (λ r d. IsIdentity r a Shra d a) (refl, shra_zero (distance a)) tt
+left_keeps And a c fits fits' =
+    at_number c (pos 0) (Always (pos 0)) (where_equal c (negsuc 0) Itself Absent) (λ r d. IsIdentity r a And d a) (refl, sym (and_is (pos 0) a zero_fits fits) ∙ ap (to_z w64) (and_zero_l (of_z w64 a)))
+    (at_number c (negsuc 0) Itself Absent (λ r d. IsIdentity r a And d a) (refl, sym (and_is (negsuc 0) a ones_fit fits) ∙ back a _ fits (ones_and a fits)) tt)
+left_keeps Or a c fits fits' =
+    at_number c (pos 0) Itself (where_equal c (negsuc 0) (Always (negsuc 0)) Absent) (λ r d. IsIdentity r a Or d a) (refl, sym (or_is (pos 0) a zero_fits fits) ∙ back a _ fits (or_zero_l (of_z w64 a)))
+    (at_number c (negsuc 0) (Always (negsuc 0)) Absent (λ r d. IsIdentity r a Or d a) (refl, sym (or_is (negsuc 0) a ones_fit fits) ∙ ap (to_z w64) (ones_or a fits)) tt)
+left_keeps Xor a c fits fits' = at_number c (pos 0) Itself Absent (λ r d. IsIdentity r a Xor d a) (refl, sym (xor_is (pos 0) a zero_fits fits) ∙ back a _ fits (xor_zero_l (of_z w64 a))) tt

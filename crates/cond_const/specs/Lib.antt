@@ -1,0 +1,11 @@
+pub mod Identities
+pub mod States
+pub mod Folding
+pub mod Folded
+pub mod Blockwise
+pub mod Rewriting
+pub mod IdentityLaws
+pub mod RelationLaws
+pub mod StateLaws
+pub mod PassingLaws
+pub mod FlowLaws

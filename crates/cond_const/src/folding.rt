@@ -1,0 +1,64 @@
+// The graph with what is known in the place of what is computed.
+ghost use Rattle.std.specs.Prelude.{◌≡◌, IfOk};
+ghost use Rattle.flow_graph.specs.Blocks.{AreBlocksOf};
+ghost use Rattle.flow_graph.specs.Graphs.{IsGraph};
+ghost use Rattle.flow_graph.specs.Passes.{GraphCalls, GraphCheaper, GraphKeeps, GraphSame};
+ghost use Rattle.cond_const.specs.Folded.{AreFolded, IsFolded, IsOnlyFolded, KeepsDivisions};
+
+use crate::rewriting::rewrite;
+use crate::solving::least;
+use flow_graph::{Blocks, Edges, Graph, Node};
+use mir_base::Memory;
+use std::alloc::Global;
+
+/// The folded graph. Each node has a state: no run comes to it, or each variable has there one constant value or is
+/// varying. After Start the received variables are varying and the others 0; an assignment gives its variable the constant
+/// that its right side becomes, if it becomes one, and a call makes its variable varying; a test that is decided passes
+/// its state along the edge that it takes alone; where edges meet, equal constants stay. The least such states are meant.
+///
+/// By them each variable operand with a constant value becomes the constant, a right side whose value is then known
+/// becomes that value, or, by an identity, its operand; a decided test becomes a Skip to the successor that it takes; and
+/// the nodes that are not reached are dropped. A division by the constant 0 stays, with its operands replaced.
+///
+/// The graph does the same and evaluates no more operators. It fails only with `Memory`.
+pub fn fold(alloc: Global, graph: &Graph) -> Result<Graph, Memory>
+    ensures folded { IfOk result (IsFolded graph.now) }
+
+    // there is no other such graph
+    ensures only { IfOk result (IsOnlyFolded graph.now) }
+    ensures same { IfOk result (GraphSame graph.now) }
+    ensures cheaper { IfOk result (GraphCheaper graph.now) }
+    ensures keeps { IfOk result (GraphKeeps graph.now) }
+
+    // each division that is reached keeps its variable, and unless its divisor is known and not 0 its operator
+    ensures divides { IfOk result (KeepsDivisions graph.now) }
+
+    // it makes no calls but those of the graph
+    ensures calls { IfOk result (GraphCalls graph.now) }
+{
+    let nodes = folded(alloc, graph)?;
+    let extra = Vec::new(alloc);
+    let folded = graph.with_nodes(alloc, extra, nodes)?;
+    Ok(folded)
+}
+
+/// What the nodes of the graph become by its least states.
+fn folded(alloc: Global, graph: &Graph) -> Result<Vec<Node>, Memory>
+    ensures are { IfOk result (λ folded. AreFolded graph.now folded.items) }
+    ensures graph { IsGraph graph.now.vars graph.now.received graph.now.nodes }
+{
+    let _nodes = graph.nodes();
+    let blocks = blocks(alloc, graph)?;
+    let states = least(alloc, graph, &blocks)?;
+    let folded = rewrite(alloc, graph, &blocks, &states)?;
+    Ok(folded)
+}
+
+/// The blocks of the graph.
+fn blocks(alloc: Global, graph: &Graph) -> Result<Blocks, Memory>
+    ensures { IfOk result (AreBlocksOf graph.now.nodes) }
+{
+    let edges = Edges::of(alloc, graph)?;
+    let blocks = Blocks::of(alloc, graph, &edges)?;
+    Ok(blocks)
+}

@@ -1,0 +1,233 @@
+// What is known of variables, and what operands, right sides and tests become by it.
+ghost use Rattle.std.specs.Prelude.{◌≡◌, ◌↔◌, false};
+ghost use Rattle.mir_base.specs.declared.instructions.Operand.TheVariants.{Const, Var};
+ghost use Rattle.cond_const.specs.Folding.{by_identity, decided_relation, decided_test, folded_binary, folded_rhs, known_at, known_rhs, relates_itself, resolved, resolved_test};
+ghost use Rattle.cond_const.specs.States.{joined_known};
+
+use crate::identities::{Identity, identity_left, identity_right, identity_same};
+use mir_base::{Op, Operand, RelOp, Rhs, Test, eval, eval1, relates};
+
+/// What is known of a variable before a node.
+#[derive(Clone, Copy, Debug, PartialEq, Eq)]
+pub(crate) enum Known {
+    /// It has this value.
+    Fixed(i64),
+    /// It may have different values.
+    Varying,
+}
+
+/// What is known of a right side: the constant that it becomes, if it becomes one.
+pub(crate) fn known_rhs(known: &[Known], rhs: Rhs) -> Known
+    ensures { result ≡ known_rhs known.now rhs }
+{
+    match folded_rhs(known, rhs) {
+        Rhs::Plain(Operand::Const(c)) => Known::Fixed(c),
+        Rhs::Plain(Operand::Var(_)) => Known::Varying,
+        Rhs::Unary(_, _) => Known::Varying,
+        Rhs::Binary(_, _, _) => Known::Varying,
+    }
+}
+
+/// What a right side becomes: the analysis and the rewriting both ask here.
+pub(crate) fn folded_rhs(known: &[Known], rhs: Rhs) -> Rhs
+    ensures { result ≡ folded_rhs known.now rhs }
+{
+    match rhs {
+        Rhs::Plain(a) => Rhs::Plain(resolved(known, a)),
+        Rhs::Unary(op, a) => match resolved(known, a) {
+            Operand::Var(x) => Rhs::Unary(op, Operand::Var(x)),
+            Operand::Const(c) => Rhs::Plain(Operand::Const(eval1(op, c))),
+        },
+        Rhs::Binary(op, a, b) => folded_binary(op, resolved(known, a), resolved(known, b)),
+    }
+}
+
+/// What an operator on two operands becomes whose variables are varying.
+fn folded_binary(op: Op, a: Operand, b: Operand) -> Rhs
+    ensures { result ≡ folded_binary op a b }
+{
+    match a {
+        Operand::Const(c) => match b {
+            Operand::Const(d) => folded_constants(op, c, d),
+            Operand::Var(y) => folded_left(op, c, y),
+        },
+        Operand::Var(x) => match b {
+            Operand::Const(d) => folded_right(op, x, d),
+            Operand::Var(y) => folded_variables(op, x, y),
+        },
+    }
+}
+
+/// What an operator on two constants becomes: its value, unless it traps.
+fn folded_constants(op: Op, c: i64, d: i64) -> Rhs
+    ensures { result ≡ folded_binary op (Const c) (Const d) }
+{
+    match eval(op, c, d) {
+        Err(_) => Rhs::Binary(op, Operand::Const(c), Operand::Const(d)),
+        Ok(v) => Rhs::Plain(Operand::Const(v)),
+    }
+}
+
+/// What an operator on a constant and a variable becomes.
+fn folded_left(op: Op, c: i64, y: usize) -> Rhs
+    ensures { result ≡ folded_binary op (Const c) (Var y) }
+{
+    let identity = identity_left(op, c);
+    let variable = Operand::Var(y);
+    by_identity(
+        identity,
+        variable,
+        Rhs::Binary(op, Operand::Const(c), variable),
+    )
+}
+
+/// What an operator on a variable and a constant becomes.
+fn folded_right(op: Op, x: usize, d: i64) -> Rhs
+    ensures { result ≡ folded_binary op (Var x) (Const d) }
+{
+    let identity = identity_right(op, d);
+    let variable = Operand::Var(x);
+    by_identity(
+        identity,
+        variable,
+        Rhs::Binary(op, variable, Operand::Const(d)),
+    )
+}
+
+/// What an operator on two variables becomes.
+fn folded_variables(op: Op, x: usize, y: usize) -> Rhs
+    ensures { result ≡ folded_binary op (Var x) (Var y) }
+{
+    let whole = Rhs::Binary(op, Operand::Var(x), Operand::Var(y));
+    if x == y {
+        by_identity(identity_same(op), Operand::Var(x), whole)
+    } else {
+        whole
+    }
+}
+
+/// What a right side becomes by an identity of its operator and its variable.
+fn by_identity(identity: Identity, variable: Operand, rhs: Rhs) -> Rhs
+    ensures { result ≡ by_identity identity variable rhs }
+{
+    match identity {
+        Identity::Absent => rhs,
+        Identity::Itself => Rhs::Plain(variable),
+        Identity::Always(c) => Rhs::Plain(Operand::Const(c)),
+    }
+}
+
+/// The operand, or the constant that its variable is known to have.
+pub(crate) fn resolved(known: &[Known], a: Operand) -> Operand
+    ensures { result ≡ resolved known.now a }
+{
+    match a {
+        Operand::Const(c) => Operand::Const(c),
+        Operand::Var(x) => match known_at(known, x) {
+            Known::Fixed(c) => Operand::Const(c),
+            Known::Varying => Operand::Var(x),
+        },
+    }
+}
+
+/// What is known of a variable.
+fn known_at(known: &[Known], x: usize) -> Known
+    ensures { result ≡ known_at known.now x }
+{
+    match known.get(x) {
+        None => Known::Varying,
+        Some(k) => *k,
+    }
+}
+
+/// The test with its operands resolved.
+pub(crate) fn resolved_test(known: &[Known], test: Test) -> Test
+    ensures { result ≡ resolved_test known.now test }
+{
+    match test {
+        Test::Rel(op, a, b) => Test::Rel(op, resolved(known, a), resolved(known, b)),
+        Test::Holds(a) => Test::Holds(resolved(known, a)),
+        Test::Fails(a) => Test::Fails(resolved(known, a)),
+    }
+}
+
+/// Whether a test holds, where that is decided.
+pub(crate) fn decided_test(known: &[Known], test: Test) -> Option<bool>
+    ensures { result ≡ decided_test known.now test }
+{
+    match test {
+        Test::Rel(op, a, b) => decided_relation(op, resolved(known, a), resolved(known, b)),
+        Test::Holds(a) => match resolved(known, a) {
+            Operand::Var(_) => None,
+            Operand::Const(c) => Some(c != 0),
+        },
+        Test::Fails(a) => match resolved(known, a) {
+            Operand::Var(_) => None,
+            Operand::Const(c) => Some(c == 0),
+        },
+    }
+}
+
+/// Whether a relation holds between operands whose variables are varying, where that is decided.
+fn decided_relation(op: RelOp, a: Operand, b: Operand) -> Option<bool>
+    ensures { result ≡ decided_relation op a b }
+{
+    match a {
+        Operand::Const(c) => match b {
+            Operand::Const(d) => Some(relates(op, c, d)),
+            Operand::Var(_) => None,
+        },
+        Operand::Var(x) => match b {
+            Operand::Const(_) => None,
+            Operand::Var(y) => {
+                if x == y {
+                    Some(relates_itself(op))
+                } else {
+                    None
+                }
+            }
+        },
+    }
+}
+
+/// Whether the relation holds between a number and itself.
+fn relates_itself(op: RelOp) -> bool
+    ensures { result ≡ relates_itself op }
+{
+    relates(op, 0, 0)
+}
+
+/// What is known of a variable where two paths meet.
+pub(crate) fn joined(a: Known, b: Known) -> Known
+    ensures { result ≡ joined_known a b }
+{
+    match a {
+        Known::Varying => Known::Varying,
+        Known::Fixed(x) => match b {
+            Known::Varying => Known::Varying,
+            Known::Fixed(y) => {
+                if x == y {
+                    Known::Fixed(x)
+                } else {
+                    Known::Varying
+                }
+            }
+        },
+    }
+}
+
+/// Whether different things are known.
+pub(crate) fn differ(a: Known, b: Known) -> bool
+    ensures { (result ≡ false) ↔ (a ≡ b) }
+{
+    match a {
+        Known::Varying => match b {
+            Known::Varying => false,
+            Known::Fixed(_) => true,
+        },
+        Known::Fixed(x) => match b {
+            Known::Varying => true,
+            Known::Fixed(y) => x != y,
+        },
+    }
+}

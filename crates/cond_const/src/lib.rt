@@ -1,0 +1,19 @@
+//! Conditional constants and identities. In goes a graph; out comes the graph with what is known in the place of what is
+//! computed: variables with constant values are replaced by the constants, right sides by their values or by an operand
+//! that has their value, decided tests by the way that they take, and nodes that no run reaches are dropped.
+//!
+//! The theorem that this crate carries is the contract of `fold`: the answer is the exact graph, made from the least
+//! states of the nodes, it does the same as the graph that goes in, and it evaluates no more operators.
+#![tactic(auto)]
+
+mod flow;
+mod folding;
+mod identities;
+mod known;
+mod rewriting;
+mod solving;
+mod states;
+mod transfer;
+
+pub use folding::fold;
+pub use identities::identities_hold;

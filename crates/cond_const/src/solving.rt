@@ -1,0 +1,107 @@
+// The least states of the blocks.
+ghost use Rattle.std.specs.Prelude.{◌≡◌, ◌+◌, ◌*◌, ◌<◌, length, pos, replicate, IfOk};
+ghost use Rattle.flow_graph.specs.Blocks.{AreBlocksOf};
+ghost use Rattle.cond_const.specs.declared.known.Known.TheVariants.{Fixed};
+ghost use Rattle.cond_const.specs.Blockwise.{AreLeastOver, AreTargets, IsTargetOf};
+
+use crate::flow::{StateFlow, last};
+use crate::known::Known;
+use crate::states::BlockState;
+use fix_solve::{Steps, Work, solve};
+use flow_graph::{Blocks, Graph};
+use mir_base::Memory;
+use std::alloc::Global;
+use std::marker::{Brand, PhantomData};
+use std::sync::ledger::{Blank, Ledger};
+
+/// The least states of the blocks of a graph.
+pub(crate) fn least(
+    alloc: Global,
+    graph: &Graph,
+    blocks: &Blocks,
+) -> Result<Work<BlockState>, Memory>
+    requires { AreBlocksOf graph.now.nodes blocks.now }
+    ensures { IfOk result (AreLeastOver graph.now blocks.now) }
+{
+    let targets = targets(alloc, graph, blocks)?;
+    let zeros = zeros(alloc, graph.vars().len())?;
+    let work = least_from::<Brand>(
+        alloc,
+        graph,
+        blocks,
+        targets.as_slice(),
+        zeros.as_slice(),
+        Blank::new(1),
+    )?;
+    Ok(work)
+}
+
+/// The constant 0 for so many variables.
+fn zeros(alloc: Global, count: usize) -> Result<Vec<Known>, Memory>
+    ensures { IfOk result (λ zeros. zeros.items ≡ replicate count (Fixed (pos 0))) }
+{
+    Ok(vec![in alloc; Known::Fixed(0); count]?)
+}
+
+/// The least states, with the counter that this blank ledger gives.
+fn least_from<L: Ledger>(
+    alloc: Global,
+    graph: &Graph,
+    blocks: &Blocks,
+    targets: &[usize],
+    zeros: &[Known],
+    blank: Blank,
+) -> Result<Work<BlockState>, Memory>
+    requires name { blank.name ≡ L.name }
+    requires parts { blank.parts ≡ L.parts }
+    requires some { 0 < blank.parts }
+    requires blocks { AreBlocksOf graph.now.nodes blocks.now }
+    requires targets { AreTargets graph.now.nodes blocks.now.lists targets.now }
+    requires zeros { zeros.now ≡ replicate (length graph.now.vars) (Fixed (pos 0)) }
+    ensures { IfOk result (AreLeastOver graph.now blocks.now) }
+{
+    let _nodes = graph.nodes();
+    let flow = StateFlow {
+        graph,
+        blocks,
+        entry: blocks.block_of(0),
+        targets,
+        zeros,
+        ledger: PhantomData,
+    };
+    let mut steps = Steps::<L>::new(blank);
+    let mut work = Work::new(alloc, &flow)?;
+    solve(&mut work, &flow, &mut steps);
+    Ok(work)
+}
+
+/// The block to which each edge of a block leads.
+fn targets(alloc: Global, graph: &Graph, blocks: &Blocks) -> Result<Vec<usize>, Memory>
+    requires { AreBlocksOf graph.now.nodes blocks.now }
+    ensures { IfOk result (λ targets. AreTargets graph.now.nodes blocks.now.lists targets.items) }
+{
+    let mut targets = Vec::new(alloc);
+    for block in 0..blocks.len() {
+        let last = last(blocks.nodes(block));
+        let taken = target(graph, blocks, last, 0, block);
+        let other = target(graph, blocks, last, 1, block);
+        targets.push(taken)?;
+        targets.push(other)?;
+    }
+    Ok(targets)
+}
+
+/// The block to which the edge at this slot of a node leads, and `otherwise` where there is no such edge.
+fn target(graph: &Graph, blocks: &Blocks, node: usize, slot: usize, otherwise: usize) -> usize
+    requires blocks { AreBlocksOf graph.now.nodes blocks.now }
+    requires there { node < length graph.now.nodes }
+    requires otherwise { otherwise < length blocks.now.lists }
+    ensures { IsTargetOf graph.now.nodes blocks.now.lists node slot result }
+{
+    let _nodes = graph.nodes();
+    let succs = graph.succs(node);
+    match succs.as_slice().get(slot) {
+        None => otherwise,
+        Some(s) => blocks.block_of(*s),
+    }
+}
