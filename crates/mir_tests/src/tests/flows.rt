@@ -1,0 +1,310 @@
+// Flows that count their own pushes: on a chain of joins, and on the graph of a loop.
+ghost use Rattle.std.specs.Prelude.{◌≡◌, ◌<◌, ◌-◌, ◌+◌, false, nat_eq, if◌then◌else◌, IfOk, length};
+ghost use Rattle.fix_solve.specs.Net.{Net};
+ghost use Rattle.mir_tests.specs.Ladder.{Under, ladder, ladder_laws, level, level_laws, level_size};
+ghost use Rattle.mir_tests.specs.Squares.{EachImplies, size_of_three, squares, squares_laws, three_laws, trues_of};
+
+use fix_solve::{Flow, Lattice, Memory, Steps, Work, solve};
+use std::alloc::Global;
+use std::cell::Cell;
+use std::marker::{Brand, Model, PhantomData};
+use std::sync::ledger::{Blank, Ledger};
+use std::test::Fail;
+
+/// A level. Contracts see it as a number.
+#[derive(Drop)]
+struct Level {
+    level: u64,
+}
+
+impl Model for Level {
+    ghost use Rattle.std.specs.Prelude.{ℕ};
+
+    ghost Value = { ℕ };
+
+    ghost view = { λ level. level.level };
+}
+
+impl Lattice for Level {
+    ghost below = { Under };
+
+    ghost size = { level_size };
+
+    ghost rank = { level };
+
+    fn join_from(&mut self, other: &Self) -> bool {
+        let rises = self.level < other.level;
+        if rises {
+            self.level = other.level;
+        }
+        rises
+    }
+
+    ghost laws = { level_laws };
+}
+
+/// Levels that run along a chain of joins, from the first on: each join begins with a lower one than that before it.
+#[derive(Drop)]
+struct Ladder<L: Ledger> {
+    joins: usize,
+    pushes: Cell<u64>,
+    ledger: PhantomData<L>,
+}
+
+impl<L: Ledger> Flow for Ladder<L> {
+    type Value = Level;
+
+    type Ledger = L;
+
+    ghost valid = { λ l. l.joins < 256 };
+
+    ghost net = { λ l. ladder l.joins };
+
+    fn nodes(&self) -> usize {
+        2 * self.joins + 1
+    }
+
+    fn edges(&self) -> usize {
+        2 * self.joins
+    }
+
+    fn edge(&self, number: usize) -> (usize, usize) {
+        if number < self.joins {
+            (number, self.joins + 1 + number)
+        } else {
+            (number + 1, number - self.joins + 1)
+        }
+    }
+
+    fn out(&self, node: usize) -> (usize, usize) {
+        let start = if self.joins < node { node - 1 } else { node };
+        let stop = if node < self.joins { node + 1 } else { node };
+        (start, stop)
+    }
+
+    fn height(&self) -> u64 {
+        255
+    }
+
+    fn first(&self, _alloc: Global, node: usize) -> Result<Level, Memory> {
+        let level = self.joins.saturating_sub(node) as u64;
+        Ok(Level { level })
+    }
+
+    fn push(
+        &self,
+        _number: usize,
+        _target: usize,
+        from: &Level,
+        into: &mut Level,
+        steps: &mut Steps<L>,
+    ) -> bool {
+        count(&self.pushes, steps);
+        into.join_from(from)
+    }
+
+    fn push_self(&self, _number: usize, _value: &mut Level, steps: &mut Steps<L>) -> bool {
+        count(&self.pushes, steps);
+        false
+    }
+
+    ghost laws = { λ l v. ladder_laws l.joins v };
+}
+
+/// Three truth values.
+#[derive(Drop)]
+struct Marks {
+    first: bool,
+    second: bool,
+    third: bool,
+}
+
+impl Model for Marks {
+    ghost use Rattle.mir_tests.specs.Squares.{Three};
+
+    ghost Value = { Three };
+
+    ghost view = { λ marks. (marks.first, marks.second, marks.third) };
+}
+
+impl Lattice for Marks {
+    ghost below = { EachImplies };
+
+    ghost size = { size_of_three };
+
+    ghost rank = { trues_of };
+
+    fn join_from(&mut self, other: &Self) -> bool {
+        let rises = (!self.first & other.first)
+            | (!self.second & other.second)
+            | (!self.third & other.third);
+        self.first = self.first | other.first;
+        self.second = self.second | other.second;
+        self.third = self.third | other.third;
+        rises
+    }
+
+    ghost laws = { three_laws };
+}
+
+/// Three truth values that run along the edges of the graph of a loop, each from one node on, and the third not on from
+/// the node that gives it up. With one edge more: the last node leads to itself.
+#[derive(Drop)]
+struct Squares<L: Ledger> {
+    pushes: Cell<u64>,
+    ledger: PhantomData<L>,
+}
+
+impl<L: Ledger> Flow for Squares<L> {
+    type Value = Marks;
+
+    type Ledger = L;
+
+    ghost valid = { λ s. Unit {0} };
+
+    ghost net = { λ s. squares };
+
+    fn nodes(&self) -> usize {
+        14
+    }
+
+    fn edges(&self) -> usize {
+        15
+    }
+
+    fn edge(&self, number: usize) -> (usize, usize) {
+        let source = number - number.saturating_sub(3).min(1);
+        let target = if number == 4 {
+            10
+        } else if number == 10 {
+            3
+        } else {
+            (source + 1).min(13)
+        };
+        (source, target)
+    }
+
+    fn out(&self, node: usize) -> (usize, usize) {
+        let start = node + node.saturating_sub(3).min(1);
+        let stop = node + 1 + node.saturating_sub(2).min(1);
+        (start, stop)
+    }
+
+    fn height(&self) -> u64 {
+        3
+    }
+
+    fn first(&self, _alloc: Global, node: usize) -> Result<Marks, Memory> {
+        Ok(Marks {
+            first: node == 5,
+            second: node == 6,
+            third: node == 8,
+        })
+    }
+
+    fn push(
+        &self,
+        number: usize,
+        _target: usize,
+        from: &Marks,
+        into: &mut Marks,
+        steps: &mut Steps<L>,
+    ) -> bool {
+        let from = along(number, from);
+        count(&self.pushes, steps);
+        into.join_from(&from)
+    }
+
+    fn push_self(&self, number: usize, value: &mut Marks, steps: &mut Steps<L>) -> bool {
+        let from = along(number, value);
+        count(&self.pushes, steps);
+        value.join_from(&from)
+    }
+
+    ghost laws = { λ s v. squares_laws };
+}
+
+/// The values after an edge: the third is given up on the way to the node that begins it.
+fn along(number: usize, from: &Marks) -> Marks
+    ensures { result ≡ squares.transfer number from.now }
+{
+    Marks {
+        first: from.first,
+        second: from.second,
+        third: if number == 8 { false } else { from.third },
+    }
+}
+
+/// Counts one push, on the ledger and for the test.
+fn count<L: Ledger>(pushes: &Cell<u64>, steps: &mut Steps<L>)
+    ensures { steps.new ≡ steps.old + 1 }
+{
+    steps.tick();
+    pushes.set(pushes.get().wrapping_add(1));
+}
+
+/// The values of a flow once it is solved.
+fn solved<F: Flow>(alloc: Global, flow: &F, blank: Blank) -> Result<Work<F::Value>, Memory>
+    requires valid { F.valid flow.now }
+    requires name { blank.name ≡ F.Ledger.name }
+    requires parts { blank.parts ≡ F.Ledger.parts }
+    requires some { 0 < blank.parts }
+    ensures { IfOk result (λ work. length work ≡ (F.net flow.now).nodes) }
+{
+    let mut work = Work::new(alloc, flow)?;
+    let mut steps = Steps::<F::Ledger>::new(blank);
+    solve(&mut work, flow, &mut steps);
+    Ok(work)
+}
+
+/// How many pushes solve the chain of joins.
+fn climbed<L: Ledger>(alloc: Global, joins: usize, blank: Blank) -> Result<u64, Memory>
+    requires few { joins < 256 }
+    requires name { blank.name ≡ L.name }
+    requires parts { blank.parts ≡ L.parts }
+    requires some { 0 < blank.parts }
+{
+    let flow = Ladder {
+        joins,
+        pushes: Cell::new(0),
+        ledger: PhantomData::<L>,
+    };
+    let _work = solved(alloc, &flow, blank)?;
+    Ok(flow.pushes.get())
+}
+
+/// Each edge is pushed along once, although half of the edges lead down.
+#[test]
+fn a_chain_of_joins_is_pushed_once(rt: HostRuntime) -> Result<(), Fail> {
+    assert_eq!(rt; climbed::<Brand>(rt.alloc(), 200, Blank::new(1))?, 400);
+    Ok(())
+}
+
+/// How many pushes solve the loop, and at how many nodes all three values are then true.
+fn looped<L: Ledger>(alloc: Global, blank: Blank) -> Result<(u64, usize), Memory>
+    requires name { blank.name ≡ L.name }
+    requires parts { blank.parts ≡ L.parts }
+    requires some { 0 < blank.parts }
+{
+    let flow = Squares {
+        pushes: Cell::new(0),
+        ledger: PhantomData::<L>,
+    };
+    let work = solved(alloc, &flow, blank)?;
+    let all = (0..14)
+        .filter(|node| {
+            let marks = work.value(*node);
+            marks.first & marks.second & marks.third
+        })
+        .count();
+    Ok((flow.pushes.get(), all))
+}
+
+/// The bound is 15 edges for each of 3 ranks and one more.
+#[test]
+fn a_loop_of_three_bits_keeps_the_bound(rt: HostRuntime) -> Result<(), Fail> {
+    let (pushes, all) = looped::<Brand>(rt.alloc(), Blank::new(1))?;
+    assert!(rt; pushes <= 15 * (3 + 1));
+    assert_eq!(rt; all, 11);
+    Ok(())
+}

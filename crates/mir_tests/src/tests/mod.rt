@@ -1,0 +1,19 @@
+// One file for each layer.
+mod blocks;
+mod editing;
+mod flows;
+mod folding;
+mod language;
+mod lists;
+mod outside;
+mod paths;
+mod placing;
+mod programs;
+mod raws;
+mod rows;
+mod runs;
+mod shapes;
+mod support;
+mod texts;
+mod tokens;
+mod trial;
