@@ -11,6 +11,9 @@ use Rattle.std.proofs.lemmas.Nat.Bits.{bit_at_or, bit_at_and, bit_at_not, bit_at
 use Rattle.std.specs.Int.{bit_at, bit_not}
 use Rattle.std.specs.List.{range_with_len}
 use Rattle.bit_rows.specs.Bits.{zip_with, or_bits, minus_bits, not_bits}
+use Rattle.bit_rows.specs.declared.joining.Joining.{Joining}
+use Rattle.bit_rows.specs.declared.joining.Joining.TheVariants.{Or, And, Minus}
+use Rattle.bit_rows.specs.Joinings.{bit_join, word_join}
 use Rattle.bit_rows.specs.Words.{bit_of, bits_of, minus_word, used_bits, with_bit, FitsWords}
 use Rattle.bit_rows.specs.BitLaws.{length_zip_with, get_or_zip_with}
 
@@ -109,6 +112,12 @@ minus_bitwise = record {
   small = λ a b h l. and_lt a (bit_not w64 b) h;
   at = λ a b i h l. and_at a (bit_not w64 b) i ∙ ap (λ c. eqb (bit_at a i) 1 && c) (not_at b i h l);
 }
+
+-- so the joinings are
+pub joining_bitwise : (how : Joining) → IsBitwise (word_join how) (bit_join how)
+joining_bitwise Or = or_bitwise
+joining_bitwise And = and_bitwise
+joining_bitwise Minus = minus_bitwise
 
 -- words stay small
 small_words : (xs zs : List ℕ) → length zs ≡ length xs → ((k : ℕ) → k < length xs → get_or zs k 0 < 2 ^ 64) → (k : ℕ) → get_or zs k 0 < 2 ^ 64

@@ -1,3 +1,4 @@
 pub mod Bits
 pub mod BitLaws
 pub mod Words
+pub mod Joinings

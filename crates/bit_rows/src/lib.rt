@@ -5,6 +5,7 @@
 //! operation takes one pass over the words; only the calls that make rows or put one more at the end allocate.
 #![tactic(auto)]
 
+mod joining;
 mod packed;
 mod row;
 mod rows;

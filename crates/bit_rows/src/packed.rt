@@ -1,8 +1,10 @@
 // Rows one after the other in one list of words, so many to a row. Each clause says what becomes of the words of a row.
-ghost use Rattle.std.specs.Prelude.{◌≡◌, ◌+◌, ◌*◌, ◌<◌, ◌≤◌, length, bit_and, bit_or};
-ghost use Rattle.bit_rows.specs.Words.{AreFlipped, EachWordOfRow, Rewritten, minus_word, words_at, words_with_bit};
+ghost use Rattle.std.specs.Prelude.{◌≡◌, ◌+◌, ◌*◌, ◌<◌, ◌≤◌, length};
+ghost use Rattle.bit_rows.specs.Joinings.{word_join};
+ghost use Rattle.bit_rows.specs.Words.{AreFlipped, EachWordOfRow, Rewritten, words_at, words_with_bit};
 
-use crate::words::{and_words, flip_words, minus_words, or_words, set_word_bit};
+use crate::joining::Joining;
+use crate::words::{flip_words, join_words, set_word_bit};
 
 /// The words of a row.
 pub fn row_words(words: &[u64], stride: usize, row: usize) -> &[u64]
@@ -13,40 +15,16 @@ pub fn row_words(words: &[u64], stride: usize, row: usize) -> &[u64]
     &words[at..at + stride]
 }
 
-/// The words of a row become their disjunction with others.
+/// The words of a row become what a joining makes of them and of others.
 #[tactic(auto, using(crate::proofs::Splices::rewrites, crate::proofs::Splices::rewritten_here))]
-pub fn or_row(into: &mut [u64], stride: usize, row: usize, from: &[u64])
+pub fn join_row(how: Joining, into: &mut [u64], stride: usize, row: usize, from: &[u64])
     requires within { stride * row + stride ≤ length into.old }
     requires from { length from.now ≡ stride }
     ensures others { Rewritten stride row into.old into.new }
-    ensures or { EachWordOfRow bit_or stride row into.old from.now into.new }
+    ensures each { EachWordOfRow (word_join how) stride row into.old from.now into.new }
 {
     let at = stride * row;
-    let _changed = or_words(&mut into[at..at + stride], from);
-}
-
-/// The words of a row become their conjunction with others.
-#[tactic(auto, using(crate::proofs::Splices::rewrites, crate::proofs::Splices::rewritten_here))]
-pub fn and_row(into: &mut [u64], stride: usize, row: usize, from: &[u64])
-    requires within { stride * row + stride ≤ length into.old }
-    requires from { length from.now ≡ stride }
-    ensures others { Rewritten stride row into.old into.new }
-    ensures and { EachWordOfRow bit_and stride row into.old from.now into.new }
-{
-    let at = stride * row;
-    and_words(&mut into[at..at + stride], from);
-}
-
-/// The words of a row lose the bits of others.
-#[tactic(auto, using(crate::proofs::Splices::rewrites, crate::proofs::Splices::rewritten_here))]
-pub fn minus_row(into: &mut [u64], stride: usize, row: usize, from: &[u64])
-    requires within { stride * row + stride ≤ length into.old }
-    requires from { length from.now ≡ stride }
-    ensures others { Rewritten stride row into.old into.new }
-    ensures minus { EachWordOfRow minus_word stride row into.old from.now into.new }
-{
-    let at = stride * row;
-    minus_words(&mut into[at..at + stride], from);
+    join_words(how, &mut into[at..at + stride], from);
 }
 
 /// The bits of a row below a number become their opposites, and those past it are not set.

@@ -1,9 +1,11 @@
 // Rows of truth values, all equally long.
 ghost use Rattle.std.specs.Prelude.{◌≡◌, ℕ, ◌<◌, ◌≤◌, ◌&&◌, ◌||◌, not, ◌↔◌, IsTrue, false, IfOk, OnOk, OnErr, List, [], ◌∷◌, ◌++◌, length, slice_index_or, slice_set, replicate};
-ghost use Rattle.bit_rows.specs.Bits.{AreAlike, AreEquallyLong, EachBit, EachBitFlipped, EachRow, or_bits, and_bits, minus_bits, not_bits, row_of, with_row_by};
+ghost use Rattle.bit_rows.specs.Bits.{AreAlike, AreEquallyLong, EachBit, EachBitFlipped, EachRow, or_bits, and_bits, minus_bits, not_bits, row_of, with_row_by, zip_with};
+ghost use Rattle.bit_rows.specs.Joinings.{bit_join};
 
-use crate::packed::{and_row, copy_row, flip_row, minus_row, or_row, row_words, set_row_bit};
-use crate::words::{and_words, minus_words, or_words};
+use crate::joining::Joining;
+use crate::packed::{copy_row, flip_row, join_row, row_words, set_row_bit};
+use crate::words::join_words;
 use crate::{Memory, RowView};
 use std::alloc::{AllocError, Global};
 use std::marker::Model;
@@ -160,7 +162,7 @@ impl Rows {
         requires equally_long { length (row_of self.old row) ≡ length from.now }
         ensures { self.new ≡ slice_set self.old row (or_bits (row_of self.old row) from.now) }
     {
-        or_row(&mut self.words, self.stride, row, from.words);
+        self.join_from(row, from, Joining::Or);
     }
 
     /// The row keeps what is not in another. It does not allocate.
@@ -169,7 +171,7 @@ impl Rows {
         requires equally_long { length (row_of self.old row) ≡ length from.now }
         ensures { self.new ≡ slice_set self.old row (minus_bits (row_of self.old row) from.now) }
     {
-        minus_row(&mut self.words, self.stride, row, from.words);
+        self.join_from(row, from, Joining::Minus);
     }
 
     /// The row becomes its conjunction with another. It does not allocate.
@@ -178,7 +180,7 @@ impl Rows {
         requires equally_long { length (row_of self.old row) ≡ length from.now }
         ensures { self.new ≡ slice_set self.old row (and_bits (row_of self.old row) from.now) }
     {
-        and_row(&mut self.words, self.stride, row, from.words);
+        self.join_from(row, from, Joining::And);
     }
 
     /// The row becomes its disjunction with a row of the other. It does not allocate.
@@ -248,7 +250,7 @@ impl Rows {
         ensures rows { EachRow or_bits self.old other.now self.new }
         ensures bits { EachBit (λ x y. x || y) self.old other.now self.new }
     {
-        let _changed = or_words(&mut self.words, &other.words);
+        self.join_rows(other, Joining::Or);
     }
 
     /// Each row becomes its conjunction with that of the other. It does not allocate.
@@ -258,7 +260,7 @@ impl Rows {
         ensures rows { EachRow and_bits self.old other.now self.new }
         ensures bits { EachBit (λ x y. x && y) self.old other.now self.new }
     {
-        and_words(&mut self.words, &other.words);
+        self.join_rows(other, Joining::And);
     }
 
     /// Each row keeps what is not in that of the other. It does not allocate.
@@ -268,7 +270,7 @@ impl Rows {
         ensures rows { EachRow minus_bits self.old other.now self.new }
         ensures bits { EachBit (λ x y. x && not y) self.old other.now self.new }
     {
-        minus_words(&mut self.words, &other.words);
+        self.join_rows(other, Joining::Minus);
     }
 
     /// Each bit of the rows from this number on becomes its opposite. It does not allocate.
@@ -281,5 +283,25 @@ impl Rows {
         for row in from..self.len() {
             self.flip(row);
         }
+    }
+
+    /// The row becomes what a joining makes of it and of another.
+    fn join_from(&mut self, row: usize, from: &RowView<'_>, how: Joining)
+        requires row { row < length self.old }
+        requires equally_long { length (row_of self.old row) ≡ length from.now }
+        ensures { self.new
+            ≡ slice_set self.old row (zip_with (bit_join how) (row_of self.old row) from.now) }
+    {
+        join_row(how, &mut self.words, self.stride, row, from.words);
+    }
+
+    /// Each row becomes what a joining makes of it and of that of the other.
+    fn join_rows(&mut self, other: &Rows, how: Joining)
+        requires { AreAlike self.old other.now }
+        ensures alike { AreAlike self.old self.new }
+        ensures rows { EachRow (zip_with (bit_join how)) self.old other.now self.new }
+        ensures bits { EachBit (bit_join how) self.old other.now self.new }
+    {
+        join_words(how, &mut self.words, &other.words);
     }
 }

@@ -2,7 +2,10 @@
 ghost use Rattle.std.specs.Prelude.{◌≡◌, ℕ, ◌+◌, ◌*◌, ◌^◌, ◌<◌, ◌≤◌, ◌↔◌, false, IfNone, IfSome, length, slice_index, bit_and, bit_or};
 ghost use Rattle.std.specs.Int.{bit_at};
 ghost use Rattle.bit_rows.specs.Bits.{IsTrueFrom, NoneTrue};
+ghost use Rattle.bit_rows.specs.Joinings.{word_join};
 ghost use Rattle.bit_rows.specs.Words.{AreFlipped, EachWord, bit_of, minus_word, used_bits, words_with_bit};
+
+use crate::joining::Joining;
 
 /// Each word becomes its disjunction with the other's. It answers whether one changed.
 pub fn or_words(into: &mut [u64], from: &[u64]) -> bool
@@ -39,7 +42,7 @@ pub fn or_minus_words(into: &mut [u64], from: &[u64], less: &[u64]) -> bool
 }
 
 /// Each word becomes its conjunction with the other's.
-pub fn and_words(into: &mut [u64], from: &[u64])
+fn and_words(into: &mut [u64], from: &[u64])
     requires { length into.old ≡ length from.now }
     ensures len { length into.new ≡ length into.old }
     ensures and { EachWord bit_and (length into.old) into.old from.now into.new }
@@ -50,13 +53,28 @@ pub fn and_words(into: &mut [u64], from: &[u64])
 }
 
 /// Each word loses the bits of the other's.
-pub fn minus_words(into: &mut [u64], from: &[u64])
+fn minus_words(into: &mut [u64], from: &[u64])
     requires { length into.old ≡ length from.now }
     ensures len { length into.new ≡ length into.old }
     ensures minus { EachWord minus_word (length into.old) into.old from.now into.new }
 {
     for i in 0..into.len() {
         into[i] = into[i] & !from[i];
+    }
+}
+
+/// Each word becomes what a joining makes of it and the other's.
+pub fn join_words(how: Joining, into: &mut [u64], from: &[u64])
+    requires { length into.old ≡ length from.now }
+    ensures len { length into.new ≡ length into.old }
+    ensures each { EachWord (word_join how) (length into.old) into.old from.now into.new }
+{
+    match how {
+        Joining::Or => {
+            let _changed = or_words(into, from);
+        }
+        Joining::And => and_words(into, from),
+        Joining::Minus => minus_words(into, from),
     }
 }
 

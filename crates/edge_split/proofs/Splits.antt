@@ -326,5 +326,5 @@ module _ (graph : GraphShape) (is_graph : IsGraph graph.vars graph.received grap
 -- ---- while the nodes are made
 
 -- once no old node is left, these are the nodes of the split graph
-pub all_made : (nodes old made both : List Node) → both ≡ old ++ made → old ++ [] ≡ rerouted (is_join nodes) (length nodes) nodes → made ++ [] ≡ map Skip (filter (is_join nodes) (targets nodes)) → both ≡ split_nodes nodes
-all_made nodes old made both is olds skips = is ∙ ap (λ l. l ++ made) (sym (append-nil old) ∙ olds) ∙ ap (λ l. rerouted (is_join nodes) (length nodes) nodes ++ l) (sym (append-nil made) ∙ skips) ∙ sym (split_is nodes)
+pub all_split : (nodes old made both : List Node) → both ≡ old ++ made → old ++ [] ≡ rerouted (is_join nodes) (length nodes) nodes → made ++ [] ≡ map Skip (filter (is_join nodes) (targets nodes)) → both ≡ split_nodes nodes
+all_split nodes old made both is olds skips = is ∙ ap (λ l. l ++ made) (sym (append-nil old) ∙ olds) ∙ ap (λ l. rerouted (is_join nodes) (length nodes) nodes ++ l) (sym (append-nil made) ∙ skips) ∙ sym (split_is nodes)

@@ -1,8 +1,9 @@
--- The values stay between the first ones and every solution, and a push settles its edge.
+-- The values stay above the first ones and arise, and a push settles its edge.
 use Rattle.std.proofs.Common.{◌≡◌, ◌≢◌, ℕ, ◌+◌, ◌<◌, ◌≤◌, Bool, true, false, sym, inl, inr, arith, ◌∙◌}
 use Rattle.std.proofs.lemmas.Bool.{cases_eq}
 use Rattle.fix_solve.specs.Order.{OrderLaws, IsLeastUpper}
-use Rattle.fix_solve.specs.Net.{Net, NetLaws, IsLeastSolution}
+use Rattle.fix_solve.specs.Arising.{arising_below}
+use Rattle.fix_solve.specs.Net.{Net, NetLaws, IsLeastSolution, Arises, at_first, by_edge}
 use Rattle.fix_solve.specs.Settling.{Settling, AllDone}
 
 module _ {V : Type 0} (below : V → V → Type 0) (size : V → ℕ) (rank : V → ℕ) (order : OrderLaws below size rank) (net : Net V) (laws : NetLaws below size rank net) where
@@ -28,16 +29,12 @@ module _ {V : Type 0} (below : V → V → Type 0) (size : V → ℕ) (rank : V 
   push_settles node at v v' fl fl' in_range of_node joined others kept s =
       let grows : (n : ℕ) → below (v n) (v' n) = push_grows at v v' (net.transfer at (v node)) joined others in
       let node_in : node < net.nodes = rw of_node at (laws.sources at in_range) in
-      let node_size : size (v node) ≡ net.size = size_above node (v node) node_in (s.above_first node node_in) in
       record {
         above_first = λ n h. order.transitive (net.first n) (v n) (v' n) (s.above_first n h) (grows n);
-        below_every = λ others' solves n h.
-            elim (cases_eq n (net.target at)) as (λ _. below (v' n) (others' n)) [
-              | inl e ↦ rw e (joined.least (others' (net.target at))
-                  (s.below_every others' solves (net.target at) (laws.targets at in_range))
-                  (order.transitive _ _ _ (laws.monotone at (v node) (others' node) in_range node_size (s.below_every others' solves node node_in))
-                  (rw of_node at (solves.above_edges at in_range))))
-              | inr d ↦ rw (others n d) (s.below_every others' solves n h)
+        arises = λ n h.
+            elim (cases_eq n (net.target at)) as (λ _. Arises below net n (v' n)) [
+              | inl e ↦ rw e (by_edge at (v node) (v (net.target at)) (v' (net.target at)) in_range (rw of_node (s.arises node node_in)) (s.arises (net.target at) (laws.targets at in_range)) joined)
+              | inr d ↦ rw (others n d) (s.arises n h)
             ];
         settled = λ e h idle done.
             let k : (fl (net.source e) ≡ false) × (v' (net.source e) ≡ v (net.source e)) = kept (net.source e) idle in
@@ -52,7 +49,7 @@ module _ {V : Type 0} (below : V → V → Type 0) (size : V → ℕ) (rank : V 
       → Settling below net v fl AllDone → Settling below net v fl' (λ e. net.source e ≡ node → e < net.start node)
   visit_begins node v fl fl' others s = record {
     above_first = s.above_first;
-    below_every = s.below_every;
+    arises = s.arises;
     settled = λ e h idle done.
         let d : net.source e ≢ node = λ same. let early : e < net.start node = done same in let late : net.start node ≤ e = rw same at (laws.from_start e h) in omega arith in
         s.settled e h (sym (others (net.source e) d) ∙ idle) tt;
@@ -63,7 +60,7 @@ module _ {V : Type 0} (below : V → V → Type 0) (size : V → ℕ) (rank : V 
       → Settling below net v fl (λ e. net.source e ≡ node → e < at) → Settling below net v fl AllDone
   visit_ends node at v fl late s = record {
     above_first = s.above_first;
-    below_every = s.below_every;
+    arises = s.arises;
     settled = λ e h idle _. s.settled e h idle (λ same. let early : e < net.stop node = rw same at (laws.to_stop e h) in omega arith);
   }
 
@@ -72,7 +69,7 @@ module _ {V : Type 0} (below : V → V → Type 0) (size : V → ℕ) (rank : V 
       → Settling below net v fl AllDone
   start_settles v fl firsts waiting = record {
     above_first = λ n h. rw (firsts n h) (order.reflexive (net.first n));
-    below_every = λ others solves n h. rw (firsts n h) (solves.above_first n h);
+    arises = λ n h. rw (firsts n h) (at_first n);
     settled = λ e h idle _. let on : fl (net.source e) ≡ true = waiting (net.source e) (laws.sources e h) in let bad : true ≡ false = sym on ∙ idle in absurd (cc);
   }
 
@@ -81,5 +78,6 @@ module _ {V : Type 0} (below : V → V → Type 0) (size : V → ℕ) (rank : V 
       → Settling below net v fl AllDone → IsLeastSolution below net v
   end_settles v fl idle s = record {
     solves = record { above_first = s.above_first; above_edges = λ e h. s.settled e h (idle (net.source e) (laws.sources e h)) tt };
-    least = s.below_every;
+    least = λ others solves n h. (arising_below below net size rank order laws others solves n (v n) (s.arises n h) h).1;
+    arises = s.arises;
   }

@@ -1,4 +1,6 @@
 pub mod Order
+pub mod Pointwise
 pub mod Net
+pub mod Arising
 pub mod Walks
 pub mod Settling

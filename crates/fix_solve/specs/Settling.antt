@@ -3,7 +3,7 @@ use Rattle.std.specs.Prelude.{◌≡◌, ℕ, suc, zero, ◌+◌, ◌-◌, ◌*�
 use Rattle.node_list.specs.Lists.{Lists}
 use Rattle.fix_solve.specs.Order.{IsLeastUpper}
 use Rattle.fix_solve.specs.Walks.{AreNodes}
-use Rattle.fix_solve.specs.Net.{Net, Solves, value_at}
+use Rattle.fix_solve.specs.Net.{Net, Arises, value_at}
 
 -- the nodes that wait for a visit stand in one list
 abbrev pub IsOneList : Lists → Type 0
@@ -15,11 +15,11 @@ pub record CanWait {V : Type 0} (waiting : Lists) (values : List V) (order : Lis
   pub nodes : waiting.nodes ≡ length values
   pub in_range : AreNodes (length values) order
 
--- the values lie between the first ones and every solution, and above the transfer along each edge that is done and
--- whose source does not wait
+-- the values lie above the first ones and arise, and they lie above the transfer along each edge that is done and whose source
+-- does not wait
 pub record Settling {V : Type 0} (below : V → V → Type 0) (net : Net V) (values : ℕ → V) (waits : ℕ → Bool) (done : ℕ → Type 0) : Type 0 where
   pub above_first : (n : ℕ) → n < net.nodes → below (net.first n) (values n)
-  pub below_every : (others : ℕ → V) → Solves below net others → (n : ℕ) → n < net.nodes → below (values n) (others n)
+  pub arises : (n : ℕ) → n < net.nodes → Arises below net n (values n)
   pub settled : (e : ℕ) → e < net.edges → waits (net.source e) ≡ false → done e → below (net.transfer e (values (net.source e))) (values (net.target e))
 
 -- a value for each node, and settling

@@ -8,7 +8,7 @@ use Rattle.flow_graph.specs.ListLaws.{get_left_some, get_last, get_push}
 use Rattle.flow_graph.specs.BoundLaws.{edge_within}
 use Rattle.flow_graph.specs.declared.nodes.Node.{Node}
 use Rattle.flow_graph.specs.Graphs.{IsGraph, Reached}
-use Rattle.flow_graph.specs.PathLaws.{reached_trace}
+use Rattle.flow_graph.specs.PathLaws.{end_stands, reached_trace}
 use Rattle.flow_graph.specs.Paths.{Begins, Ends, HasEdge, Trace, from_start, goes_on}
 use Rattle.flow_graph.specs.Blocks.{AreBlocksOf, AreStored, AreMade, AreParts, AreStarts, IsBlock, IsBlocks, IsChain, IsFirst, IsBlockSoFar, IsGlued, IsLast, IsPlaced, StandsIn, parts_at, is_first, unplaced}
 use Rattle.flow_graph.specs.BlockLaws.{begins_more, chain_first, chain_more, chain_on, ends_more, first_is, glued_edge, not_first, only_from, only_to}
@@ -58,11 +58,11 @@ length_cut end order (s ∷ []) are = refl
 length_cut end order (s ∷ e ∷ starts) are = ap suc (length_cut end order (e ∷ starts) are.1)
 
 -- the part of an index stands between its begin and the next
-pub cut_at : (end b : ℕ) (order starts : List ℕ) → AreStarts end starts → suc b < length starts → slice_get (parts_at order starts) b ≡ Some (slice_range order (get_or starts b 0) (get_or starts (suc b) 0))
-cut_at end b order [] are h = absurd are
-cut_at end b order (s ∷ []) are h = absurd (omega (arith, h))
-cut_at end zero order (s ∷ e ∷ starts) are h = refl
-cut_at end (suc b) order (s ∷ e ∷ starts) are h = cut_at end b order (e ∷ starts) are.1 (omega (arith, h))
+pub part_is : (end b : ℕ) (order starts : List ℕ) → AreStarts end starts → suc b < length starts → slice_get (parts_at order starts) b ≡ Some (slice_range order (get_or starts b 0) (get_or starts (suc b) 0))
+part_is end b order [] are h = absurd are
+part_is end b order (s ∷ []) are h = absurd (omega (arith, h))
+part_is end zero order (s ∷ e ∷ starts) are h = refl
+part_is end (suc b) order (s ∷ e ∷ starts) are h = part_is end b order (e ∷ starts) are.1 (omega (arith, h))
 
 -- each begin is at most the next, and all are at most the end
 pub part_bounds : (end b : ℕ) (starts : List ℕ) → AreStarts end starts → suc b < length starts → (get_or starts b 0 ≤ get_or starts (suc b) 0) × (get_or starts (suc b) 0 ≤ end)
@@ -143,11 +143,6 @@ module _ (nodes : List Node) (head block : ℕ) (order block_of : List ℕ) (few
     pub next_unplaced : get_or after n (length nodes) ≡ length nodes
     next_unplaced = elim (cases_eq (get_or after n none) none) as (λ _. get_or after n none ≡ none) [ inl e ↦ e | inr placed ↦ absurd ((followed.closed node n glued placed).1 refl) ]
 
-    last_at : (chain : List ℕ) (m : ℕ) → Ends m chain → (i : ℕ) × (slice_get chain i ≡ Some m)
-    last_at [] m e = absurd e
-    last_at (k ∷ []) m e = (0, ap Some e)
-    last_at (j ∷ k ∷ chain) m e = let r = last_at (k ∷ chain) m e in (suc r.0, r.1)
-
     pub follow_more : (longer' after' : List ℕ) → n < length nodes → longer' ≡ longer ++ n ∷ [] → after' ≡ set after n block → IsBlockSoFar nodes head n block order longer' block_of after'
     follow_more longer' after' there longer_is after_is =
         let h : n < length after = omega (arith, there, followed.long) in
@@ -174,7 +169,7 @@ module _ (nodes : List Node) (head block : ℕ) (order block_of : List ℕ) (few
           closed = λ m k g placed. elim (gets_placed none after n block k h other placed) as (λ _. IsPlaced none (set after n block) m × (m ≢ n)) [
             | inl e ↦
                 let from : m ≡ node = only_from nodes node n m glued.enters (glued_edge nodes m n (subst (IsGlued nodes m) e g)) in
-                let last = last_at followed.chain node followed.ends in
+                let last : (i : ℕ) × (slice_get followed.chain i ≡ Some node) = (length followed.chain - 1, end_stands followed.chain node followed.ends) in
                 let node_placed : IsPlaced none after node = λ is. other (sym (followed.put last.0 node last.1) ∙ is) in
                 let m_placed : IsPlaced none after m = subst (IsPlaced none after) (sym from) node_placed in
                 (keeps_placed none after n block m h other m_placed, λ same. m_placed (ap (λ j. get_or after j none) same ∙ next_unplaced))
@@ -384,7 +379,7 @@ ends_at end b order starts are h =
     let e : suc b ≡ b + 1 = omega arith in
     let h' : suc b < length starts = omega (arith, h) in
     let bounds = part_bounds end b starts are h' in
-    subst (λ k. (get_or starts b 0 ≤ get_or starts k 0) × (get_or starts k 0 ≤ end) × (slice_get (parts_at order starts) b ≡ Some (slice_range order (get_or starts b 0) (get_or starts k 0)))) e (bounds.0, bounds.1, cut_at end b order starts are h')
+    subst (λ k. (get_or starts b 0 ≤ get_or starts k 0) × (get_or starts k 0 ≤ end) × (slice_get (parts_at order starts) b ≡ Some (slice_range order (get_or starts b 0) (get_or starts k 0)))) e (bounds.0, bounds.1, part_is end b order starts are h')
 
 -- the nodes that are glued are nodes of the graph
 pub glued_within : (vars : List (List ℕ)) (received : List ℕ) (nodes : List Node) (m n : ℕ) → IsGraph vars received nodes → IsGlued nodes m n → n < length nodes

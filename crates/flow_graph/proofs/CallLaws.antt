@@ -83,7 +83,7 @@ renamed_operands_long : (to : ℕ → ℕ) (operands : List Operand) → length 
 renamed_operands_long to [] = refl
 renamed_operands_long to (a ∷ operands) = ap suc (renamed_operands_long to operands)
 
--- a renamed instruction calls the same function with as many arguments
+-- a renamed instruction calls the same unit with as many arguments
 renamed_call : (to : ℕ → ℕ) (inst : Inst) → inst_call (renamed to inst) ≡ inst_call inst
 renamed_call to (insts.Receive x) = refl
 renamed_call to (insts.Assign x rhs) = refl

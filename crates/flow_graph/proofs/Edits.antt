@@ -340,8 +340,8 @@ none_times zero n = refl
 none_times (suc count) n = let rest = none_times count n in omega (arith, rest)
 
 -- and list no number
-pub none_listed : (count n : ℕ) → is_listed (replicate count []) n ≡ nat_lt n 0
-none_listed count n = ap (ltb 0) (none_times count n) ∙ sym (le-ltb n 0 (omega arith))
+pub none_in_empty : (count n : ℕ) → is_listed (replicate count []) n ≡ nat_lt n 0
+none_in_empty count n = ap (ltb 0) (none_times count n) ∙ sym (le-ltb n 0 (omega arith))
 
 -- where each list has its own number alone, every edge leads where it led
 pub edited_open : (nodes : List Node) (l : List (List ℕ)) → AllWithin nodes → length l ≡ length nodes → ((s : ℕ) → s < length nodes → list_at l s ≡ s ∷ []) → edited_from l 0 nodes ≡ nodes

@@ -18,7 +18,7 @@ use Rattle.flow_graph.specs.Machines.{graph_code, graph_machine, node_transition
 use Rattle.flow_graph.specs.Plans.{IsPlan, after_node, is_placed, next_item}
 use Rattle.flow_graph.specs.Layouts.{emitted, emitted_by, item_size, place_in, plain_body, size}
 use Rattle.flow_graph.specs.RedirectLaws.{resumed_at, resumed_place, assigns_alike}
-use Rattle.flow_graph.proofs.Plans.{next_of, Next, last, then_, placed_at, at_placed, place_at, taken_placed, bottom, inst_at, is_placed_drop, one_older, no_receive, all_received}
+use Rattle.flow_graph.proofs.Plans.{next_of, Next, last, then_, placed_at, at_placed, place_at, taken_placed, bottom, item_inst_at, is_placed_drop, one_older, no_receive, all_received}
 
 -- ---- an index at which something is left of a list
 
@@ -98,7 +98,7 @@ module _ (received : List ℕ) (nodes : List Node) (first : ℕ) (plan : List It
       let same : item ≡ Jump s = cc in
       let before : is_placed s plan ≡ true = is_placed_drop nodes first z s plan (subst (λ l. is_placed s l ≡ true) (sym here) is) in
       let there = placed_at nodes first s plan before in
-      let inst = inst_at nodes first received place plan j (Jump s) (Placed n ∷ older) (insts.Goto (place s)) (e ∙ ap (λ i. i ∷ Placed n ∷ older) same) refl in
+      let inst = item_inst_at nodes first received place plan j (Jump s) (Placed n ∷ older) (insts.Goto (place s)) (e ∙ ap (λ i. i ∷ Placed n ∷ older) same) refl in
       let to = place_at nodes first r there.0 s plan there.1 is_plan there.2 in
       jumps there.0 there.1 there.2 (ap (slice_get body) at_ ∙ inst ∙ ap (λ p. Some (insts.Goto p)) to)
   arrives_by z n s older q false is here next at_ (then_ j item e next') =
@@ -121,7 +121,7 @@ module _ (received : List ℕ) (nodes : List Node) (first : ℕ) (plan : List It
 
   -- the instruction of a placed node, and the place after it
   inst_here : (z n : ℕ) (older : List Item) (o : Option Node) (inst : Inst) → drop z plan ≡ Placed n ∷ older → slice_get nodes n ≡ o → emitted_by place o ≡ inst ∷ [] → slice_get body (size nodes r older) ≡ Some inst
-  inst_here z n older o inst here e is = inst_at nodes first received place plan z (Placed n) older inst here (ap (emitted_by place) e ∙ is)
+  inst_here z n older o inst here e is = item_inst_at nodes first received place plan z (Placed n) older inst here (ap (emitted_by place) e ∙ is)
 
   after_here : (z n s : ℕ) (older : List Item) (o : Option Node) → drop z plan ≡ Placed n ∷ older → slice_get nodes n ≡ o → length (emitted_by (λ m. m) o) ≡ 1 → following o ≡ Some s → Arrived z s (size nodes r older + 1)
   after_here z n s older o here e one follows =

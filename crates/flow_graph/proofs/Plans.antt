@@ -229,8 +229,8 @@ module _ (nodes : List Node) (first : ℕ) where
       (r.0 ++ item_insts nodes place item, ap (λ l. l ++ item_insts nodes place item) r.1 ∙ append_assoc (emitted nodes place (drop k older)) r.0 (item_insts nodes place item))
 
   -- the instruction that an item emits stands at the size of the items before it
-  pub inst_at : (received : List ℕ) (place : ℕ → ℕ) (plan : List Item) (k : ℕ) (item : Item) (older : List Item) (inst : Inst) → drop k plan ≡ item ∷ older → item_insts nodes place item ≡ inst ∷ [] → slice_get (map insts.Receive received ++ emitted nodes place plan) (size nodes (length received) older) ≡ Some inst
-  inst_at received place plan k item older inst e is =
+  pub item_inst_at : (received : List ℕ) (place : ℕ → ℕ) (plan : List Item) (k : ℕ) (item : Item) (older : List Item) (inst : Inst) → drop k plan ≡ item ∷ older → item_insts nodes place item ≡ inst ∷ [] → slice_get (map insts.Receive received ++ emitted nodes place plan) (size nodes (length received) older) ≡ Some inst
+  item_inst_at received place plan k item older inst e is =
       let r = emitted_drop place k plan in
       let before = map insts.Receive received ++ emitted nodes place older in
       let whole : emitted nodes place plan ≡ emitted nodes place older ++ (inst ∷ r.0) =

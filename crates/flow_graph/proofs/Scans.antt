@@ -204,9 +204,9 @@ next_is nodes first items item result here e =
     e ∙ ap (λ l. after_node nodes l (follower_of nodes item)) r ∙ sym (next_after nodes first item (reverse (take (length items - 1) items))) ∙ ap (next_item nodes first) (sym r)
 
 -- the first item is the first node
-pub next_first : (nodes : List Node) (first : ℕ) (items : List Item) → length items ≡ 0 → Some (Placed first) ≡ next_item nodes first (reverse items)
-next_first nodes first [] e = refl
-next_first nodes first (x ∷ items) e = absurd (omega (arith, e))
+pub first_is_next : (nodes : List Node) (first : ℕ) (items : List Item) → length items ≡ 0 → Some (Placed first) ≡ next_item nodes first (reverse items)
+first_is_next nodes first [] e = refl
+first_is_next nodes first (x ∷ items) e = absurd (omega (arith, e))
 
 -- ---- the whole plan
 

@@ -5,7 +5,7 @@ use Rattle.std.proofs.lemmas.List.{length-replicate, length-set}
 use Rattle.std.proofs.lemmas.Option.{slice_get_within}
 use Rattle.flow_graph.specs.ListLaws.{set_here, set_elsewhere}
 use Rattle.flow_graph.specs.declared.nodes.Node.{Node}
-use Rattle.flow_graph.specs.declared.nodes.Node.TheVariants.{Start, Skip, Assign, Print, Call, Test, Return}
+use Rattle.flow_graph.specs.BoundLaws.{slot_low}
 use Rattle.flow_graph.specs.Graphs.{IsEdge, Reached, at_start, along, node_succs, succs_of, succs_at, AllWithin, IsBelow}
 use Rattle.flow_graph.specs.Kept.{MarkReached}
 use Rattle.flow_graph.specs.Numbering.{is_in}
@@ -110,15 +110,12 @@ module _ (nodes : List Node) (within : AllWithin nodes) where
 
   -- a node has no third successor
   two_slots : (node : Node) (slot s : ℕ) → slice_get (node_succs node) slot ≡ Some s → (slot ≡ 0) ⊎ (slot ≡ 1)
-  two_slots node zero s e = inl refl
-  two_slots node (suc zero) s e = inr refl
-  two_slots (Start next) (suc (suc slot)) s e = cc
-  two_slots (Skip next) (suc (suc slot)) s e = cc
-  two_slots (Assign x rhs next) (suc (suc slot)) s e = cc
-  two_slots (Print a next) (suc (suc slot)) s e = cc
-  two_slots (Call into unit operands next) (suc (suc slot)) s e = cc
-  two_slots (Test test taken other) (suc (suc slot)) s e = cc
-  two_slots (Return a) (suc (suc slot)) s e = cc
+  two_slots node slot s e = by slot (slot_low node slot s e)
+    where
+      by : (slot : ℕ) → slot < 2 → (slot ≡ 0) ⊎ (slot ≡ 1)
+      by zero low = inl refl
+      by (suc zero) low = inr refl
+      by (suc (suc slot)) low = absurd (omega (arith, low))
 
   succ_within : (o : Option ℕ) (n slot : ℕ) → slice_get (succs_at nodes n) slot ≡ o → IsBelow (length nodes) o
   succ_within None n slot e = tt
@@ -174,8 +171,8 @@ module _ (nodes : List Node) (within : AllWithin nodes) where
       subst (λ m. Walking nodes m stack'' None) (sym m2) (subst (λ s. Walking nodes (marks_after (marks_after marks (slice_get (node_succs node) 0)) (slice_get (node_succs node) 1)) s None) (sym s2) v)
 
   -- with nothing on the stack the walk is over
-  pub walked : (marks : List Bool) → 0 < length nodes → Walking nodes marks [] None → MarkReached nodes marks
-  walked marks some w = record { long = w.long; exact = λ n lt. (w.sound n, λ r. marked n r) }
+  pub walk_marks : (marks : List Bool) → 0 < length nodes → Walking nodes marks [] None → MarkReached nodes marks
+  walk_marks marks some w = record { long = w.long; exact = λ n lt. (w.sound n, λ r. marked n r) }
     where
       next : (m slot s : ℕ) → slice_get marks m ≡ Some true → IsEdge nodes m slot s → slice_get marks s ≡ Some true
       next m slot s e edge = elim (w.closed m e) [ inl q ↦ cc | inr (inl q) ↦ cc | inr (inr q) ↦ q slot s edge ]

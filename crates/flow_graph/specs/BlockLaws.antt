@@ -9,8 +9,9 @@ use Rattle.flow_graph.specs.declared.nodes.Node.{Node}
 use Rattle.flow_graph.specs.Edges.{preds_of}
 use Rattle.flow_graph.specs.EdgeLaws.{pred_has, pred_is}
 use Rattle.flow_graph.specs.Graphs.{succs_at}
+use Rattle.flow_graph.specs.PathLaws.{first_begins}
 use Rattle.flow_graph.specs.Paths.{Begins, Ends, HasEdge}
-use Rattle.flow_graph.specs.Blocks.{IsBlocks, IsChain, IsFirst, IsGlued, IsLast, StandsIn, first_from, is_first, next_from, next_of, only}
+use Rattle.flow_graph.specs.Blocks.{IsBlock, IsBlocks, IsChain, IsFirst, IsGlued, IsLast, StandsIn, first_from, is_first, next_from, next_of, only}
 
 -- ---- the only item of a list
 
@@ -39,6 +40,11 @@ only_succ xs slot n s is e = at slot (sym (ap (λ l. slice_get l slot) is) ∙ e
     at : (slot : ℕ) → slice_get (n ∷ []) slot ≡ Some s → s ≡ n
     at zero h = cc
     at (suc slot) h = cc
+
+-- and it stands at slot 0
+pub only_slot : (n slot s : ℕ) → slice_get (n ∷ []) slot ≡ Some s → slot ≡ 0
+only_slot n zero s e = refl
+only_slot n (suc slot) s e = cc
 
 -- the node to which the only edge of m leads
 pub only_to : (nodes : List Node) (m n s : ℕ) → succs_at nodes m ≡ n ∷ [] → HasEdge nodes m s → s ≡ n
@@ -161,10 +167,21 @@ chain_within nodes (k ∷ l ∷ chain) (suc i) n within is e = chain_within node
 
 -- ---- each node stands in one block
 
--- a chain has a first node
+-- a chain has a node
+pub chain_some : (nodes : List Node) (chain : List ℕ) → IsChain nodes chain → 0 < length chain
+chain_some nodes [] is = absurd is
+chain_some nodes (n ∷ chain) is = omega arith
+
+-- so it has a first one
 pub begin_of : (nodes : List Node) (chain : List ℕ) → IsChain nodes chain → (h : ℕ) × Begins h chain × (slice_get chain 0 ≡ Some h)
 begin_of nodes [] is = absurd is
 begin_of nodes (k ∷ chain) is = (k, refl, refl)
+
+-- and a last one
+pub chain_ends : (nodes : List Node) (chain : List ℕ) → IsChain nodes chain → (m : ℕ) × Ends m chain
+chain_ends nodes [] is = absurd is
+chain_ends nodes (k ∷ []) is = (k, refl)
+chain_ends nodes (j ∷ k ∷ chain) is = chain_ends nodes (k ∷ chain) is.1
 
 -- two chains that cannot be made longer at the beginning, and share a node, begin alike
 same_begin : (nodes : List Node) (xs ys : List ℕ) (i j h g n : ℕ) → IsChain nodes xs → IsChain nodes ys → Begins h xs → Begins g ys → IsFirst nodes h → IsFirst nodes g → slice_get xs i ≡ Some n → slice_get ys j ≡ Some n → h ≡ g
@@ -200,6 +217,18 @@ one_block nodes lists b c n are s t =
         | inr le ↦ omega (arith, ge, le)
       ]
     ]
+
+-- and at one place of it: for no node is glued to the first, and one to each other
+pub one_place : (nodes : List Node) (list : List ℕ) (i j n : ℕ) → IsBlock nodes list → slice_get list i ≡ Some n → slice_get list j ≡ Some n → i ≡ j
+one_place nodes list zero zero n block e e' = refl
+one_place nodes list zero (suc j) n block e e' = let before = chain_inner nodes list j n block.chain e' in absurd (block.first n (first_begins list n e) before.0 before.2)
+one_place nodes list (suc i) zero n block e e' = let before = chain_inner nodes list i n block.chain e in absurd (block.first n (first_begins list n e') before.0 before.2)
+one_place nodes list (suc i) (suc j) n block e e' =
+    let before = chain_inner nodes list i n block.chain e in
+    let before' = chain_inner nodes list j n block.chain e' in
+    let both : before.0 ∷ [] ≡ before'.0 ∷ [] = sym before.2.enters ∙ before'.2.enters in
+    let same : before'.0 ≡ before.0 = cc in
+    ap suc (one_place nodes list i j before.0 block before.1 (before'.1 ∙ ap Some same))
 
 -- ---- a graph has one list of blocks
 

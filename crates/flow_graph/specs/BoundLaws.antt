@@ -1,4 +1,4 @@
--- Laws of bounds: an edge leaves a node of the list, and the successors of a node are below a bound where each edge leads
+-- Laws of bounds: an edge leaves a node of the list, at slot 0 or 1, and the successors of a node are below a bound where each edge leads
 -- below it. For proofs only; the crates above cite them too.
 use Rattle.std.proofs.Common.{◌≡◌, ℕ, zero, suc, ◌<◌, List, [], ◌∷◌, length, slice_get, Some, refl, ap, ◌∙◌, arith}
 use Rattle.mir_base.specs.Shapes.{AllBelow}
@@ -18,6 +18,18 @@ slot_within (node ∷ nodes) (suc m) slot s e = omega (arith, slot_within nodes 
 -- by node
 pub edge_within : (nodes : List Node) (m s : ℕ) → HasEdge nodes m s → m < length nodes
 edge_within nodes m s edge = slot_within nodes m edge.0 s edge.1
+
+-- a node has at most two successors
+pub slot_low : (node : Node) (slot s : ℕ) → slice_get (node_succs node) slot ≡ Some s → slot < 2
+slot_low node zero s e = omega arith
+slot_low node (suc zero) s e = omega arith
+slot_low (Start next) (suc (suc slot)) s e = cc
+slot_low (Skip next) (suc (suc slot)) s e = cc
+slot_low (Assign x rhs next) (suc (suc slot)) s e = cc
+slot_low (Print a next) (suc (suc slot)) s e = cc
+slot_low (Call into unit operands next) (suc (suc slot)) s e = cc
+slot_low (Test test taken other) (suc (suc slot)) s e = cc
+slot_low (Return a) (suc (suc slot)) s e = cc
 
 -- ---- successors below a bound: by the cases of a node, and as a list
 

@@ -122,6 +122,11 @@ node_rhs (Call into unit operands next) = None
 node_rhs (Test test taken other) = None
 node_rhs (Return a) = None
 
+-- the right side of the node, where there is a node and it is an assignment
+abbrev pub rhs_at : Option Node → Option Rhs
+rhs_at None = None
+rhs_at (Some node) = node_rhs node
+
 -- ---- what is true of each graph
 
 -- a graph can be made of these: node 0 is the only Start, no edge leads to it, successors and variables are in range,

@@ -15,6 +15,7 @@ pub mod PredLaws
 pub mod Lowered
 pub mod Calls
 pub mod NodeLaws
+pub mod VarLaws
 pub mod CallLaws
 pub mod Plans
 pub mod Numbering

@@ -1,10 +1,27 @@
--- Laws of paths: the traces of a node are the paths from Start to it, and the nodes that have one are those that are
+-- Laws of paths: where a list begins and ends; the traces of a node are the paths from Start to it, and the nodes that have one are those that are
 -- reached. For proofs only, of path_laws and the crates above it.
-use Rattle.std.proofs.Common.{◌≡◌, ℕ, ◌<◌, List, [], ◌∷◌, ◌++◌, length, reverse, sym, ap, ◌∙◌, subst, append_assoc}
+use Rattle.std.proofs.Common.{◌≡◌, ℕ, suc, ◌-◌, ◌<◌, List, [], ◌∷◌, ◌++◌, length, slice_get, reverse, Some, sym, ap, ◌∙◌, subst, arith, append_assoc}
 use Rattle.std.proofs.lemmas.List.{reverse-append}
 use Rattle.flow_graph.specs.declared.nodes.Node.{Node}
 use Rattle.flow_graph.specs.Graphs.{AllWithin, Reached, at_start, along}
 use Rattle.flow_graph.specs.Paths.{Begins, Ends, HasEdge, IsPath, Trace, from_start, goes_on}
+
+-- ---- the first and the last of a list
+
+-- a list begins with the item at place 0
+pub first_begins : (list : List ℕ) (n : ℕ) → slice_get list 0 ≡ Some n → Begins n list
+first_begins [] n e = cc
+first_begins (k ∷ list) n e = let same : k ≡ n = cc in same
+
+-- and ends with the one at the last place
+pub end_stands : (list : List ℕ) (m : ℕ) → Ends m list → slice_get list (length list - 1) ≡ Some m
+end_stands [] m e = absurd e
+end_stands (k ∷ []) m e = ap Some e
+end_stands (j ∷ k ∷ list) m e =
+    let at : length (j ∷ k ∷ list) - 1 ≡ suc (length (k ∷ list) - 1) = omega arith in
+    subst (λ i. slice_get (j ∷ k ∷ list) i ≡ Some m) (sym at) (end_stands (k ∷ list) m e)
+
+-- ---- traces and paths
 
 module _ (nodes : List Node) (some : 0 < length nodes) (within : AllWithin nodes) where
   -- one more edge at the end of a path

@@ -25,7 +25,7 @@ impl Names {
     pub(crate) fn copied(alloc: Global, names: &[Name]) -> Result<Names, Memory>
         ensures { IfOk result (λ copied. copied ≡ names.now) }
     {
-        let all = joined(alloc, names, Vec::new(alloc))?;
+        let all = all_names(alloc, names, Vec::new(alloc))?;
         Names::of(alloc, all)
     }
 
@@ -44,7 +44,7 @@ impl Names {
         if extra.is_empty() {
             self.share()
         } else {
-            let all = joined(alloc, self.items(), extra)?;
+            let all = all_names(alloc, self.items(), extra)?;
             Names::of(alloc, all)
         }
     }
@@ -66,7 +66,7 @@ impl Names {
 }
 
 /// Copies of the names, and the others after them.
-fn joined(alloc: Global, names: &[Name], extra: Vec<Name>) -> Result<Vec<Name>, Memory>
+fn all_names(alloc: Global, names: &[Name], extra: Vec<Name>) -> Result<Vec<Name>, Memory>
     ensures { IfOk result (λ all. all.items ≡ names.now ++ extra.items) }
 {
     let mut all = Vec::with_capacity(alloc, names.len())?;

@@ -1,3 +1,2 @@
 pub mod Tidy
-pub mod Words
 pub mod Reserved

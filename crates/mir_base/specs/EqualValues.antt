@@ -1,15 +1,18 @@
--- What is read has the same value on two sides where the variables that are read have. `EqualOn` is cited by contracts,
--- the rest is for proofs only.
-use Rattle.std.proofs.Common.{◌≡◌, ℕ, ◌<◌, not, List, [], ◌∷◌, ◌++◌, map, flat_map, pos, refl, ap, ◌∙◌}
+-- What is read has the same value on two sides where the variables that are read have, and what an assignment changes.
+-- `EqualOn` is cited by contracts, the rest is for proofs only.
+use Rattle.std.proofs.Common.{◌≡◌, ℕ, ℤ, ◌<◌, not, if◌then◌else◌, List, [], ◌∷◌, ◌++◌, map, flat_map, pos, refl, sym, ap, subst, ◌∙◌}
 use Rattle.std.specs.Ordering.{int_eq}
+use Rattle.std.proofs.lemmas.Bool.{eq-eqb, ne_eqb}
 use Rattle.mir_base.specs.declared.instructions.Operand.{Operand}
 use Rattle.mir_base.specs.declared.instructions.Operand.TheVariants.{Var, Const}
 use Rattle.mir_base.specs.declared.instructions.Rhs.{Rhs}
 use Rattle.mir_base.specs.declared.instructions.Rhs.TheVariants.{Plain, Unary, Binary}
 use Rattle.mir_base.specs.declared.instructions.Test.{Test}
+use Rattle.mir_base.specs.declared.instructions.Expr.{Expr}
 use Rattle.mir_base.specs.declared.instructions.Test.TheVariants.{Rel, Holds, Fails}
 use Rattle.mir_base.specs.Numbers.{relation_holds, value_of_op, value_of_un_op, traps}
-use Rattle.mir_base.specs.Frames.{Values}
+use Rattle.mir_base.specs.ExpressionVars.{expr_vars, rhs_of, rhs_of_vars}
+use Rattle.mir_base.specs.Frames.{Values, with_value}
 use Rattle.mir_base.specs.Units.{operand_value, test_holds}
 use Rattle.mir_base.specs.Shapes.{AllBelow, operand_vars, rhs_vars, test_vars}
 use Rattle.mir_base.specs.Expressions.{rhs_traps, rhs_value}
@@ -64,3 +67,21 @@ module _ (v w : Values) where
       ∙ ap (relation_holds op (operand_value w a)) (operand_equal b (equal_right (operand_vars a) (operand_vars b) v w equal))
   test_equal (Holds a) equal = ap (λ u. not (int_eq u (pos 0))) (operand_equal a equal)
   test_equal (Fails a) equal = ap (λ u. int_eq u (pos 0)) (operand_equal a equal)
+
+-- ---- expressions, and a variable that gets a value
+
+-- the value of an expression
+abbrev pub value : Values → Expr → ℤ
+value values e = rhs_value values (rhs_of e)
+
+-- an expression has the same value where its variables have
+pub value_equal : (e : Expr) (v w : Values) → EqualOn (expr_vars e) v w → value v e ≡ value w e
+value_equal e v w equal = rhs_equal v w (rhs_of e) (subst (λ l. EqualOn l v w) (sym (rhs_of_vars e)) equal)
+
+-- an assignment leaves the other variables
+pub with_other : (x y : ℕ) (c : ℤ) (values : Values) → (y ≡ x → ⊥) → with_value x c values y ≡ values y
+with_other x y c values ne = ap (λ b. if b then c else values y) (ne_eqb y x ne)
+
+-- and gives its own the value
+pub with_same : (x : ℕ) (c : ℤ) (values : Values) → with_value x c values x ≡ c
+with_same x c values = ap (λ b. if b then c else values x) (eq-eqb x x refl)

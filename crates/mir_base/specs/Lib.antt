@@ -14,6 +14,7 @@ pub mod UnitRuns
 pub mod Simulations
 pub mod Locksteps
 pub mod NumberLaws
+pub mod WordLaws
 pub mod ExpressionLaws
 pub mod FrameLaws
 pub mod SilentLaws

@@ -10,10 +10,10 @@ use Rattle.mir_base.specs.declared.instructions.Rhs.TheVariants.{Plain}
 use Rattle.mir_base.specs.declared.instructions.Expr.{Expr}
 use Rattle.mir_base.specs.Shapes.{AllBelow, AllDiffer}
 use Rattle.mir_base.specs.ExpressionVars.{rhs_of}
-use Rattle.mir_base.specs.SameExpressions.{expr_is, expr_itself, same_expr}
+use Rattle.mir_base.specs.SameExpressions.{expr_is, expr_itself, is_expr, of_rhs, same_expr}
 use Rattle.flow_graph.specs.declared.nodes.Node.{Node}
 use Rattle.flow_graph.specs.declared.nodes.Node.TheVariants.{Start, Skip, Assign, Print, Call, Test, Return}
-use Rattle.flow_graph.specs.Graphs.{GraphShape}
+use Rattle.flow_graph.specs.Graphs.{GraphShape, rhs_at}
 use Rattle.flow_graph.specs.InsertionPaths.{over_weight}
 use Rattle.flow_graph.specs.Over.{weigh, weigh_all, weight_at, new_weight_at, over_path}
 use Rattle.flow_graph.specs.Insertions.{Replaced, changed, rewritten_nodes}
@@ -21,12 +21,12 @@ use Rattle.flow_graph.specs.Sums.{one_if, sum_on, count_sums, on_same}
 use Rattle.flow_graph.specs.Numbering.{is_in}
 use Rattle.path_laws.specs.Paths.{has_bit}
 use Rattle.motion_rewrite.specs.declared.placement.Placement.{Placement}
-use Rattle.motion_rewrite.specs.Expressions.{is_expr, rhs_at, uses}
+use Rattle.motion_rewrite.specs.Expressions.{uses}
 use Rattle.motion_rewrite.specs.Flatten.{inserted, insertions_of, reading}
 use Rattle.motion_rewrite.specs.PlacementLaws.{count_sum}
 use Rattle.motion_rewrite.specs.Placements.{count, evaluations_at, places_of}
 use Rattle.motion_rewrite.proofs.Insertions.{among_inserted, head_or_none, once_inserted}
-use Rattle.motion_rewrite.proofs.Matching.{of_rhs, used_once}
+use Rattle.motion_rewrite.proofs.Matching.{used_once}
 use Rattle.motion_rewrite.proofs.Evaluations.{kept_weight, only_number}
 use Rattle.motion_rewrite.proofs.Rewriting.{one_more}
 use Rattle.motion_rewrite.proofs.RowNumbers.{AllKnown}

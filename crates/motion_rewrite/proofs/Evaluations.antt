@@ -10,7 +10,7 @@ use Rattle.mir_base.specs.Shapes.{AllDiffer}
 use Rattle.mir_base.specs.ExpressionVars.{rhs_of}
 use Rattle.bit_rows.specs.Bits.{row_of}
 use Rattle.flow_graph.specs.declared.nodes.Node.{Node}
-use Rattle.flow_graph.specs.declared.nodes.Node.TheVariants.{Start, Skip, Assign, Print, Call, Test, Return}
+use Rattle.flow_graph.specs.declared.nodes.Node.TheVariants.{Assign}
 use Rattle.flow_graph.specs.Graphs.{GraphShape}
 use Rattle.flow_graph.specs.ListLaws.{some_at}
 use Rattle.flow_graph.specs.NodeLaws.{changed_kept, option_map_itself}
@@ -29,7 +29,7 @@ use Rattle.motion_rewrite.proofs.Insertions.{lists_none, lists_some}
 use Rattle.motion_rewrite.proofs.Rewriting.{one_more}
 use Rattle.motion_rewrite.proofs.RowNumbers.{AllKnown, row_short}
 use Rattle.motion_rewrite.proofs.Sums.{sum_below, sum_plus, sum_same, sum_least, sum_none, on_below}
-use Rattle.motion_rewrite.proofs.Values.{movable_counts}
+use Rattle.mir_base.specs.ExpressionLaws.{expr_counts}
 use Rattle.motion_rewrite.proofs.Rewritable.{IsRewritable, known, replaced_use, rewriting_by, temps_of}
 
 -- the first number below k with a bit, if there is one
@@ -70,7 +70,7 @@ puts_count : (temp : ℕ → ℕ) (table : List Expr) (numbers : List ℕ) → A
 puts_count temp table [] known = refl
 puts_count temp table (i ∷ numbers) known =
     let all = ap (weigh_all counts) (one_more temp table i known.0.0 numbers known.0.1) in
-    omega (arith, all, movable_counts known.0.0, puts_count temp table numbers known.1)
+    omega (arith, all, expr_counts known.0.0, puts_count temp table numbers known.1)
 
 -- one expression at one node: `r` that it is replaced, `u` used, `i` inserted
 one_expression : (i u r : Bool) → (r ≡ true → u ≡ true) → (one_if i + one_if (u && not r)) + one_if r ≡ one_if i + one_if u
@@ -124,7 +124,7 @@ module _ {graph : GraphShape} {table : List Expr} {p : Placement} (r : IsRewrita
         let one = one_alone size (λ i. has_bit p.replace i n) found_bit.0 found_bit.1 found_bit.2 (λ j. replaced_alone n found_bit.0 j found_bit.2) in
         let first = lists_some p.replace n found_bit.0 found_bit.2 in
         let free : own n ≡ 0 = ap (λ o. weigh counts (option_map (changed (reading temp (inserted p.replace n))) o)) found.2 ∙ ap (λ l. weigh counts (Some (changed (reading temp l) (Assign found.0 (rhs_of u.0) found.1)))) first.2 in
-        let full : weight_at counts graph.nodes n ≡ 1 = ap (weigh counts) found.2 ∙ movable_counts u.0 in
+        let full : weight_at counts graph.nodes n ≡ 1 = ap (weigh counts) found.2 ∙ expr_counts u.0 in
         omega (arith, one, free, full)
     | inr none ↦
         let all : (i : ℕ) → has_bit p.replace i n ≡ false = λ i. elim (cases_Bool (has_bit p.replace i n)) [

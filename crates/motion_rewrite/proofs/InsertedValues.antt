@@ -4,7 +4,7 @@ use Rattle.std.proofs.Common.{◌≡◌, ℕ, ◌≤◌, true, not, ◌&&◌, eq
 use Rattle.std.proofs.lemmas.Bool.{cases_Bool, or_cases, eqb-true, true≢false, false≢true}
 use Rattle.std.proofs.lemmas.Option.{same_Some}
 use Rattle.mir_base.specs.declared.instructions.Expr.{Expr}
-use Rattle.mir_base.specs.EqualValues.{EqualOn, equal_below}
+use Rattle.mir_base.specs.EqualValues.{EqualOn, equal_below, value, value_equal, with_other, with_same}
 use Rattle.mir_base.specs.Expressions.{is_movable}
 use Rattle.mir_base.specs.ExpressionLaws.{never_traps_where_movable}
 use Rattle.mir_base.specs.ExpressionVars.{expr_vars, rhs_of}
@@ -16,16 +16,15 @@ use Rattle.motion_rewrite.specs.Flatten.{insertions_of}
 use Rattle.motion_rewrite.proofs.Insertions.{among_head, among_tail}
 use Rattle.motion_rewrite.proofs.Rewriting.{one_more}
 use Rattle.motion_rewrite.proofs.RowNumbers.{AllKnown}
-use Rattle.motion_rewrite.proofs.Values.{value, value_equal, with_other, with_same}
 
 module _ (temp : ℕ → ℕ) (table : List Expr) where
   -- what is none of these temporaries keeps its value
-  pub after_keeps : (numbers : List ℕ) → AllKnown table numbers → (v : Values) (x : ℕ) → ((j : ℕ) → is_in j numbers ≡ true → temp j ≡ x → ⊥) → values_after (insertions_of temp table numbers) v x ≡ v x
-  after_keeps [] known v x differ = refl
-  after_keeps (i ∷ numbers) known v x differ =
+  pub others_keep : (numbers : List ℕ) → AllKnown table numbers → (v : Values) (x : ℕ) → ((j : ℕ) → is_in j numbers ≡ true → temp j ≡ x → ⊥) → values_after (insertions_of temp table numbers) v x ≡ v x
+  others_keep [] known v x differ = refl
+  others_keep (i ∷ numbers) known v x differ =
       let e = known.0.0 in
       ap (λ l. values_after l v x) (one_more temp table i e numbers known.0.1)
-      ∙ after_keeps numbers known.1 (with_value (temp i) (value v e) v) x (λ j among. differ j (among_tail j i numbers among))
+      ∙ others_keep numbers known.1 (with_value (temp i) (value v e) v) x (λ j among. differ j (among_tail j i numbers among))
       ∙ with_other (temp i) x (value v e) v (λ same. differ i (among_head i numbers) (sym same))
 
   -- each of these temporaries has the value of its expression
@@ -41,7 +40,7 @@ module _ (temp : ℕ → ℕ) (table : List Expr) where
         | inr last ↦
             let this : k ≡ i = elim (or_cases (eqb k i) (is_in i numbers) among) [ inl is ↦ eqb-true k i is | inr later ↦ absurd (true≢false (sym later ∙ last)) ] in
             let same : d ≡ e = same_Some d e (sym known.0.1 ∙ ap (slice_get table) this ∙ at_i) in
-            after_keeps numbers known.1 w (temp i) (λ j is alike. true≢false (sym (ap (λ q. is_in q numbers) (sym (differ j (among_tail j k numbers is) alike)) ∙ is) ∙ last))
+            others_keep numbers known.1 w (temp i) (λ j is alike. true≢false (sym (ap (λ q. is_in q numbers) (sym (differ j (among_tail j k numbers is) alike)) ∙ is) ∙ last))
             ∙ ap (λ q. with_value (temp q) (value v d) v (temp i)) this
             ∙ with_same (temp i) (value v d) v
             ∙ ap (value v) same

@@ -1,5 +1,5 @@
 -- Expressions that are looked up in a list of different ones, or put into it where they are new.
-use Rattle.std.proofs.Common.{◌≡◌, ◌⊎◌, inl, inr, ℕ, suc, ◌<◌, Bool, true, false, not, ◌||◌, cond, List, [], ◌∷◌, ◌++◌, length, filter, take, get_or, slice_get, append-nil, position, Contains, Option, None, Some, refl, sym, ap, ◌∙◌, subst, true≢false, ◌+◌, append_assoc, arith, if◌then◌else◌}
+use Rattle.std.proofs.Common.{◌≡◌, ◌⊎◌, inl, inr, ℕ, suc, ◌<◌, Bool, true, false, not, ◌||◌, cond, List, [], ◌∷◌, ◌++◌, length, filter, take, get_or, slice_get, append-nil, position, Contains, Option, None, Some, refl, sym, ap, ◌∙◌, subst, true≢false, ◌+◌, append_assoc, arith}
 use Rattle.std.specs.List.{list_any}
 use Rattle.std.proofs.lemmas.List.{take_more}
 use Rattle.std.proofs.lemmas.List.Folds.{list_any_at}
@@ -8,13 +8,11 @@ use Rattle.std.proofs.lemmas.List.Elements.{filter-append}
 use Rattle.std.proofs.lemmas.Option.{slice_get_within, slice_get-get_or, get_or_from_slice_get}
 use Rattle.indexmap.specs.IndexSet.{insert_key}
 use Rattle.mir_base.specs.declared.instructions.Expr.{Expr}
-use Rattle.mir_base.specs.declared.instructions.Expr.TheVariants.{Un, Bin}
-use Rattle.mir_base.specs.declared.instructions.Rhs.{Rhs}
-use Rattle.mir_base.specs.declared.instructions.Rhs.TheVariants.{Plain, Unary, Binary}
-use Rattle.mir_base.specs.Shapes.{AllBelow, AllDiffer, operand_vars, rhs_vars}
+use Rattle.mir_base.specs.Shapes.{AllBelow, AllDiffer}
+use Rattle.mir_base.specs.ExpressionLaws.{expr_of_vars}
 use Rattle.mir_base.specs.ExpressionVars.{expr_vars, rhs_of}
 use Rattle.mir_base.specs.SameExpressions.{expr_is, expr_itself, same_expr}
-use Rattle.mir_base.specs.Expressions.{divides, expr_of, is_movable}
+use Rattle.mir_base.specs.Expressions.{is_movable}
 use Rattle.flow_graph.specs.declared.nodes.Node.{Node}
 use Rattle.flow_graph.specs.declared.nodes.Node.TheVariants.{Start, Skip, Assign, Print, Call, Test, Return}
 use Rattle.flow_graph.specs.Graphs.{node_vars}
@@ -179,21 +177,11 @@ movable_more nodes i node found i_in is f =
 
 -- ---- movable expressions
 
--- the expression of a movable right side
-expr_vars_rhs : (rhs : Rhs) (e : Expr) → expr_of rhs ≡ Some e → (is_movable (rhs_of e) ≡ true) × (expr_vars e ≡ rhs_vars rhs)
-expr_vars_rhs (Plain a) e h = cc
-expr_vars_rhs (Unary op a) e h = let same : Un op a ≡ e = cc in rw (← same) (refl, refl)
-expr_vars_rhs (Binary op a b) e h = by (divides (Binary op a b)) refl h
-  where
-    by : (d : Bool) → divides (Binary op a b) ≡ d → (if d then None else Some (Bin op a b)) ≡ Some e → (is_movable (rhs_of e) ≡ true) × (expr_vars e ≡ operand_vars a ++ operand_vars b)
-    by true is h' = cc
-    by false is h' = let same : Bin op a b ≡ e = cc in rw (← same) (ap not is, refl)
-
 -- an expression that a node evaluates is movable, and its variables are those of the node
 pub node_movable : (vars : ℕ) (node : Node) (e : Expr) → AllBelow vars (node_vars node) → expr_at node ≡ Some e → (is_movable (rhs_of e) ≡ true) × AllBelow vars (expr_vars e)
 node_movable vars (Start next) e below h = cc
 node_movable vars (Skip next) e below h = cc
-node_movable vars (Assign x rhs next) e below h = let parts = expr_vars_rhs rhs e h in (parts.0, subst (AllBelow vars) (sym parts.1) below.1)
+node_movable vars (Assign x rhs next) e below h = let parts = expr_of_vars rhs e h in (parts.0, subst (AllBelow vars) (sym parts.1) below.1)
 node_movable vars (Print a next) e below h = cc
 node_movable vars (Call into unit operands next) e below h = cc
 node_movable vars (Test test taken other) e below h = cc

@@ -13,7 +13,6 @@ pub mod Rewriting
 pub mod Fitting
 pub mod Matching
 pub mod Sums
-pub mod Values
 pub mod NodeVars
 pub mod InsertedValues
 pub mod TemporaryValues

@@ -1,27 +1,13 @@
 -- Which node uses an expression: one that assigns it; and a node uses one expression at most.
-use Rattle.std.proofs.Common.{◌≡◌, ℕ, true, slice_get, Option, Some, None, refl, sym, ap, ◌∙◌}
+use Rattle.std.proofs.Common.{◌≡◌, ℕ, true, slice_get, Option, Some, None, sym, ap, ◌∙◌}
 use Rattle.std.proofs.lemmas.Bool.{false≢true}
-use Rattle.mir_base.specs.declared.instructions.Rhs.{Rhs}
-use Rattle.mir_base.specs.declared.instructions.Rhs.TheVariants.{Plain, Unary, Binary}
 use Rattle.mir_base.specs.declared.instructions.Expr.{Expr}
-use Rattle.mir_base.specs.declared.instructions.Expr.TheVariants.{Un, Bin}
 use Rattle.mir_base.specs.ExpressionVars.{rhs_of}
-use Rattle.mir_base.specs.SameExpressions.{expr_is, expr_itself, same_expr}
+use Rattle.mir_base.specs.SameExpressions.{expr_is, expr_itself, is_expr, of_rhs, rhs_is}
 use Rattle.flow_graph.specs.declared.nodes.Node.{Node}
 use Rattle.flow_graph.specs.declared.nodes.Node.TheVariants.{Start, Skip, Assign, Print, Call, Test, Return}
-use Rattle.flow_graph.specs.Graphs.{GraphShape}
-use Rattle.motion_rewrite.specs.Expressions.{is_expr, rhs_at, uses}
-
--- the test of the right side of an expression is that of the expression
-pub of_rhs : (e e' : Expr) → is_expr e (Some (rhs_of e')) ≡ same_expr e e'
-of_rhs e (Un op a) = refl
-of_rhs e (Bin op a b) = refl
-
--- a right side that is this expression
-rhs_is : (e : Expr) (rhs : Rhs) → is_expr e (Some rhs) ≡ true → rhs ≡ rhs_of e
-rhs_is e (Plain a) is = absurd (false≢true is)
-rhs_is e (Unary op a) is = ap rhs_of (sym (expr_is e (Un op a) is))
-rhs_is e (Binary op a b) is = ap rhs_of (sym (expr_is e (Bin op a b) is))
+use Rattle.flow_graph.specs.Graphs.{GraphShape, rhs_at}
+use Rattle.motion_rewrite.specs.Expressions.{uses}
 
 -- a node uses e exactly where it assigns e
 pub assign_uses : (graph : GraphShape) (e : Expr) (n x next : ℕ) → slice_get graph.nodes n ≡ Some (Assign x (rhs_of e) next) → uses graph e n ≡ true

@@ -5,21 +5,20 @@ use Rattle.std.proofs.lemmas.Bool.{cases_eq}
 use Rattle.std.proofs.lemmas.List.{get_or-replicate, length-replicate, length-set, map-append, take_more}
 use Rattle.std.proofs.lemmas.Option.{slice_get_within, get_or_from_slice_get}
 use Rattle.mir_base.specs.declared.instructions.Rhs.{Rhs}
-use Rattle.mir_base.specs.declared.instructions.Rhs.TheVariants.{Plain, Unary, Binary}
 use Rattle.mir_base.specs.declared.instructions.Expr.{Expr}
-use Rattle.mir_base.specs.declared.instructions.Expr.TheVariants.{Un, Bin}
 use Rattle.mir_base.specs.Shapes.{AllBelow, AllDiffer}
-use Rattle.mir_base.specs.ExpressionVars.{expr_vars}
-use Rattle.mir_base.specs.SameExpressions.{expr_is, expr_itself, same_expr}
+use Rattle.mir_base.specs.ExpressionVars.{expr_vars, written_expr}
+use Rattle.mir_base.specs.SameExpressions.{is_expr, is_written}
 use Rattle.bit_rows.specs.Bits.{AreEquallyLong, not_bits, row_of}
 use Rattle.flow_graph.specs.declared.nodes.Node.{Node}
 use Rattle.flow_graph.specs.declared.nodes.Node.TheVariants.{Start, Skip, Assign, Print, Call, Test, Return}
-use Rattle.flow_graph.specs.Graphs.{GraphShape, node_vars}
+use Rattle.flow_graph.specs.Graphs.{GraphShape, node_vars, rhs_at}
 use Rattle.flow_graph.specs.Numbering.{is_in}
+use Rattle.flow_graph.specs.NumberingLaws.{in_any}
+use Rattle.flow_graph.specs.VarLaws.{assigns_none}
 use Rattle.path_laws.specs.Paths.{AreRows, has_bit}
-use Rattle.motion_rewrite.specs.Expressions.{is_expr, node_kills, node_uses, rhs_at}
-use Rattle.motion_rewrite.specs.ExpressionLaws.{assigns_none, in_any}
-use Rattle.motion_rewrite.specs.Rows.{AreKillRows, kill_row, written_expr}
+use Rattle.motion_rewrite.specs.Expressions.{node_kills, node_uses}
+use Rattle.motion_rewrite.specs.Rows.{AreKillRows, kill_row}
 
 -- ---- rows
 
@@ -35,17 +34,6 @@ false_bit (suc n) zero = refl
 false_bit (suc n) (suc k) = false_bit n k
 
 -- ---- uses
-
--- equal options have equal items
-some_one : (d e : Expr) → Some d ≡ Some e → d ≡ e
-some_one d e h = cc
-
--- the test of a right side, as an equation of what is written there
-pub is_written : (e : Expr) (rhs : Option Rhs) → (is_expr e rhs ≡ true) ↔ (written_expr rhs ≡ Some e)
-is_written e None = (λ h. cc, λ h. cc)
-is_written e (Some (Plain a)) = (λ h. cc, λ h. cc)
-is_written e (Some (Unary op a)) = (λ h. ap Some (sym (expr_is e (Un op a) h)), λ h. ap (same_expr e) (some_one (Un op a) e h) ∙ expr_itself e)
-is_written e (Some (Binary op a b)) = (λ h. ap Some (sym (expr_is e (Bin op a b) h)), λ h. ap (same_expr e) (some_one (Bin op a b) e h) ∙ expr_itself e)
 
 -- the number that was found is that of the expression that is used
 pub used_number : (table : List Expr) (rhs : Option Rhs) (written : Option Expr) (found : Option ℕ) → written ≡ written_expr rhs → AllDiffer table

@@ -8,7 +8,7 @@ use Rattle.mir_base.specs.declared.instructions.Operand.TheVariants.{Var}
 use Rattle.mir_base.specs.declared.instructions.Rhs.{Rhs}
 use Rattle.mir_base.specs.declared.instructions.Rhs.TheVariants.{Plain}
 use Rattle.mir_base.specs.declared.instructions.Expr.{Expr}
-use Rattle.mir_base.specs.EqualValues.{EqualOn, equal_below}
+use Rattle.mir_base.specs.EqualValues.{EqualOn, equal_below, value, value_equal}
 use Rattle.mir_base.specs.Expressions.{rhs_traps, rhs_value}
 use Rattle.mir_base.specs.ExpressionLaws.{never_traps_where_movable}
 use Rattle.mir_base.specs.ExpressionVars.{expr_vars, rhs_of}
@@ -25,13 +25,13 @@ use Rattle.motion_rewrite.specs.declared.placement.Placement.{Placement}
 use Rattle.motion_rewrite.specs.Expressions.{kills, node_kills}
 use Rattle.motion_rewrite.specs.Flatten.{inserted, insertions_of, reading}
 use Rattle.motion_rewrite.specs.Placements.{IsAvailableAfter}
-use Rattle.motion_rewrite.proofs.InsertedValues.{after_keeps, after_sets, insertions_never_trap}
+use Rattle.motion_rewrite.proofs.InsertedValues.{others_keep, after_sets, insertions_never_trap}
 use Rattle.motion_rewrite.proofs.Insertions.{among_inserted, head_or_none}
 use Rattle.motion_rewrite.proofs.Matching.{uses_assign}
-use Rattle.motion_rewrite.proofs.NodeVars.{NoneAssigned, kills_none, new_unassigned, reads_below}
+use Rattle.flow_graph.specs.VarLaws.{NoneAssigned, new_unassigned, reads_below}
+use Rattle.motion_rewrite.proofs.NodeVars.{kills_none}
 use Rattle.motion_rewrite.proofs.Rewritable.{IsRewritable, evaluated_at, first_bit, known, replaced_use, rewriting_by, temps_of}
 use Rattle.motion_rewrite.proofs.TemporaryNumbers.{AreTemps, temporaries}
-use Rattle.motion_rewrite.proofs.Values.{value, value_equal}
 
 module _ {graph : GraphShape} {table : List Expr} {p : Placement} (r : IsRewritable graph table p) where
   -- how many variables the graph has, the temporaries, that they are new and differ, and what is put before each node
@@ -66,7 +66,7 @@ module _ {graph : GraphShape} {table : List Expr} {p : Placement} (r : IsRewrita
 
     -- the graph's variables still agree
     agree_after : (x : ℕ) → x < vars → w' x ≡ v x
-    agree_after x lt = after_keeps temp table (inserted p.insert n) (known r n) w x (λ j among same. omega (arith, temps.fresh j, same, lt)) ∙ keeps.agree x lt
+    agree_after x lt = others_keep temp table (inserted p.insert n) (known r n) w x (λ j among same. omega (arith, temps.fresh j, same, lt)) ∙ keeps.agree x lt
 
     -- a temporary that is assigned here, or was and is still available, has the value of its expression
     held_after : (i : ℕ) (e : Expr) → slice_get table i ≡ Some e → (has_bit p.insert i n ≡ true) ⊎ IsAvailableAfter graph e (λ m. has_bit p.insert i m ≡ true) before → w' (temp i) ≡ value v e
@@ -81,7 +81,7 @@ module _ {graph : GraphShape} {table : List Expr} {p : Placement} (r : IsRewrita
             | inl set ↦ sets set
             | inr none ↦
                 let made = evaluated_at (λ m. has_bit p.insert i m ≡ true) (kills graph e) before after in
-                after_keeps temp table (inserted p.insert n) (known r n) w (temp i) (λ j among same. true≢false (sym (ap (λ q. has_bit p.insert q n) (sym (temps.differ j i n made.0 (bit_of n j among) made.1 same)) ∙ bit_of n j among) ∙ none))
+                others_keep temp table (inserted p.insert n) (known r n) w (temp i) (λ j among same. true≢false (sym (ap (λ q. has_bit p.insert q n) (sym (temps.differ j i n made.0 (bit_of n j among) made.1 same)) ∙ bit_of n j among) ∙ none))
                 ∙ keeps.held i e at_i after
           ]
         ]

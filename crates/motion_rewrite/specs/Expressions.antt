@@ -2,28 +2,13 @@
 -- assigns a variable that the expression reads, or is Start. A node that does both uses before it kills. Cited by contracts.
 use Rattle.std.specs.Prelude.{ℕ, Bool, false, ◌||◌, slice_get, Option, Some, None}
 use Rattle.std.specs.List.{list_any}
-use Rattle.mir_base.specs.declared.instructions.Rhs.{Rhs}
-use Rattle.mir_base.specs.declared.instructions.Rhs.TheVariants.{Plain, Unary, Binary}
 use Rattle.mir_base.specs.declared.instructions.Expr.{Expr}
-use Rattle.mir_base.specs.declared.instructions.Expr.TheVariants.{Un, Bin}
 use Rattle.mir_base.specs.ExpressionVars.{expr_vars}
-use Rattle.mir_base.specs.SameExpressions.{same_expr}
+use Rattle.mir_base.specs.SameExpressions.{is_expr}
 use Rattle.flow_graph.specs.declared.nodes.Node.{Node}
-use Rattle.flow_graph.specs.Graphs.{GraphShape, assigns, is_start, node_rhs}
+use Rattle.flow_graph.specs.Graphs.{GraphShape, assigns, is_start, rhs_at}
 
 -- ---- uses
-
--- the right side is this expression
-abbrev pub is_expr : Expr → Option Rhs → Bool
-is_expr e None = false
-is_expr e (Some (Plain a)) = false
-is_expr e (Some (Unary op a)) = same_expr e (Un op a)
-is_expr e (Some (Binary op a b)) = same_expr e (Bin op a b)
-
--- the right side of the node, where there is a node and it is an assignment
-abbrev pub rhs_at : Option Node → Option Rhs
-rhs_at None = None
-rhs_at (Some node) = node_rhs node
 
 -- the node, where there is one, has e as its right side
 abbrev pub node_uses : Expr → Option Node → Bool

@@ -1,10 +1,8 @@
 -- What rows of bits say of nodes and expressions, and the rows of what nodes use and kill. Cited by contracts.
 use Rattle.std.specs.Prelude.{◌≡◌, ℕ, ◌<◌, Bool, true, false, nat_eq, ◌&&◌, ◌||◌, ◌↔◌, List, length, replicate, slice_get, Option, Some, None}
-use Rattle.mir_base.specs.declared.instructions.Rhs.{Rhs}
-use Rattle.mir_base.specs.declared.instructions.Rhs.TheVariants.{Plain, Unary, Binary}
 use Rattle.mir_base.specs.declared.instructions.Expr.{Expr}
-use Rattle.mir_base.specs.declared.instructions.Expr.TheVariants.{Un, Bin}
 use Rattle.mir_base.specs.ExpressionVars.{expr_vars}
+use Rattle.mir_base.specs.SameExpressions.{is_expr}
 use Rattle.mir_base.specs.Shapes.{AllBelow}
 use Rattle.bit_rows.specs.Bits.{row_of}
 use Rattle.flow_graph.specs.declared.nodes.Node.{Node}
@@ -12,7 +10,6 @@ use Rattle.flow_graph.specs.declared.nodes.Node.TheVariants.{Start, Skip, Assign
 use Rattle.flow_graph.specs.Graphs.{GraphShape, node_rhs, node_vars}
 use Rattle.flow_graph.specs.Numbering.{is_in}
 use Rattle.path_laws.specs.Paths.{HaveShape, has_bit}
-use Rattle.motion_rewrite.specs.Expressions.{is_expr}
 use Rattle.motion_rewrite.specs.Tables.{ForEachExpr}
 
 -- ---- rows of a table of expressions
@@ -36,13 +33,6 @@ pub record AreRowsWhere (graph : GraphShape) (table : List Expr) (Holds : Expr �
   pub bits : TellExprs graph table rows Holds
 
 -- ---- uses
-
--- the right side as an expression, movable or not
-abbrev pub written_expr : Option Rhs → Option Expr
-written_expr None = None
-written_expr (Some (Plain a)) = None
-written_expr (Some (Unary op a)) = Some (Un op a)
-written_expr (Some (Binary op a b)) = Some (Bin op a b)
 
 -- the number is that of the expression that the node uses; there is none where the table does not have it
 abbrev pub FindsUse : List Expr → Node → Option ℕ → Type 0

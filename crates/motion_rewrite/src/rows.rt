@@ -1,12 +1,12 @@
 // Which nodes use and kill which expressions.
 ghost use Rattle.std.specs.Prelude.{◌≡◌, ℕ, ◌<◌, [], ◌∷◌, ◌++◌, true, length, replicate, IfOk, IfSome, OnOk, Some};
-ghost use Rattle.mir_base.specs.ExpressionVars.{expr_vars};
+ghost use Rattle.mir_base.specs.ExpressionVars.{expr_vars, written_expr};
 ghost use Rattle.mir_base.specs.Shapes.{AllBelow, operand_vars};
 ghost use Rattle.bit_rows.specs.Bits.{AreEquallyLong, row_of};
 ghost use Rattle.flow_graph.specs.Graphs.{node_rhs, node_vars};
 ghost use Rattle.path_laws.specs.Paths.{AreRows, HaveShape};
 ghost use Rattle.motion_rewrite.specs.Expressions.{kills, uses};
-ghost use Rattle.motion_rewrite.specs.Rows.{AreKillRows, AreNodesBelow, AreOperandBits, FindsUse, HaveBits, IsMarked, kill_row, written_expr};
+ghost use Rattle.motion_rewrite.specs.Rows.{AreKillRows, AreNodesBelow, AreOperandBits, FindsUse, HaveBits, IsMarked, kill_row};
 
 use crate::{ExprTable, Memory};
 use bit_rows::Rows;

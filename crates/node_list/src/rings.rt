@@ -2,17 +2,6 @@
 ghost use Rattle.std.specs.Prelude.{◌≡◌, ◌<◌, ◌≤◌, length, slice_index, slice_set, MatchOption};
 ghost use Rattle.node_list.specs.Rings.{with_two};
 
-/// Links one number to the next.
-fn tie(next: &mut [usize], prev: &mut [usize], before: usize, after: usize)
-    requires before_in { before < length next.old }
-    requires after_in { after < length prev.old }
-    ensures next { next.new ≡ slice_set next.old before after }
-    ensures prev { prev.new ≡ slice_set prev.old after before }
-{
-    next[before] = after;
-    prev[after] = before;
-}
-
 /// Links a number in before another.
 pub fn tie_before(next: &mut [usize], prev: &mut [usize], place: usize, new: usize)
     requires lens { length next.old ≡ length prev.old }
@@ -52,4 +41,15 @@ pub fn node_at(next: &[usize], place: usize, nodes: usize) -> Option<usize>
 {
     let node = next[place];
     if node < nodes { Some(node) } else { None }
+}
+
+/// Links one number to the next.
+fn tie(next: &mut [usize], prev: &mut [usize], before: usize, after: usize)
+    requires before_in { before < length next.old }
+    requires after_in { after < length prev.old }
+    ensures next { next.new ≡ slice_set next.old before after }
+    ensures prev { prev.new ≡ slice_set prev.old after before }
+{
+    next[before] = after;
+    prev[after] = before;
 }

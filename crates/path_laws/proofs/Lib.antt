@@ -1,11 +1,9 @@
-pub mod BitNets
 pub mod Chains
 pub mod Runs
 pub mod Leaving
 pub mod RowsPassed
 pub mod Coming
 pub mod Complements
-pub mod Induction
 pub mod Joining
 pub mod RowBits
 pub mod Ways

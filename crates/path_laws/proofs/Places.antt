@@ -111,11 +111,6 @@ place_is against nodes lists block i n list are listed at =
 pub long_is : (against : Bool) (lists : List (List ℕ)) (block : ℕ) (list : List ℕ) → slice_get lists block ≡ Some list → length (flow_order against (list_at lists block)) ≡ length list
 long_is against lists block list listed = let same : list_at lists block ≡ list = get_or_from_slice_get lists block list [] listed in length_flow_order against (list_at lists block) ∙ ap length same
 
--- a chain has a node
-pub chain_some : (nodes : List Node) (list : List ℕ) → IsChain nodes list → 0 < length list
-chain_some nodes [] is = absurd is
-chain_some nodes (n ∷ list) is = omega arith
-
 -- ---- the blocks of a problem
 
 -- the node at this place of a block, in the order of the flow

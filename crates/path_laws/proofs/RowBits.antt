@@ -1,12 +1,13 @@
--- Each bit of the least rows is the least solution of its own flow, and so true exactly where a way leads to a seed.
-use Rattle.std.proofs.Common.{◌≡◌, ◌≢◌, ℕ, zero, suc, ◌+◌, ◌<◌, ◌↔◌, Bool, true, false, not, List, [], ◌∷◌, length, get_or, set, slice_get, refl, sym, ap, inl, inr, arith, ◌∙◌, Some, option_map, get_or-set_same, get_or-set_other}
-use Rattle.std.proofs.Math.Bool.{and_comm}
-use Rattle.std.proofs.lemmas.Bool.{cases_eq, and_parts, not-true}
-use Rattle.std.proofs.lemmas.List.{length-set, get_or_default}
+-- Each bit of the least rows is true exactly where it has come from a seed.
+use Rattle.std.proofs.Common.{◌≡◌, ℕ, zero, suc, ◌+◌, ◌<◌, ◌↔◌, ◌⊎◌, Bool, true, false, not, List, [], ◌∷◌, length, get_or, slice_get, refl, sym, ap, inl, inr, arith, ◌∙◌, Some, option_map}
+use Rattle.std.proofs.lemmas.Bool.{and_from, and_parts, not-true, or_cases}
+use Rattle.std.proofs.lemmas.List.{get_or_default}
 use Rattle.std.proofs.lemmas.Option.{slice_get_within, slice_get-get_or, slice_get-map, get_or_from_slice_get}
-use Rattle.fix_solve.specs.Net.{Solves, IsLeastSolution, value_at}
-use Rattle.bit_rows.specs.BitLaws.{length_minus, minus_bit}
-use Rattle.bit_rows.specs.Bits.{minus_bits, row_of}
+use Rattle.fix_solve.specs.Arising.{arising_hold}
+use Rattle.fix_solve.specs.Net.{IsLeastSolution, value_at}
+use Rattle.fix_solve.specs.Order.{IsLeastUpper}
+use Rattle.bit_rows.specs.BitLaws.{minus_bit, or_bit}
+use Rattle.bit_rows.specs.Bits.{minus_bits, or_bits, row_of}
 use Rattle.flow_graph.specs.declared.edges.Edge.{Edge}
 use Rattle.flow_graph.specs.declared.nodes.Node.{Node}
 use Rattle.flow_graph.specs.EdgeLaws.{by_target_from, by_target_has, edge_is, edge_number}
@@ -17,10 +18,8 @@ use Rattle.flow_graph.specs.FlowEdges.{StepAlong, edge_at, flow_edges, reversed_
 use Rattle.path_laws.specs.Nets.{IsBitFlow, bit_flow}
 use Rattle.flow_graph.specs.FlowEdgeLaws.{reversed_from}
 use Rattle.path_laws.specs.Order.{BelowBits}
-use Rattle.path_laws.specs.OrderLaws.{below_length}
+use Rattle.path_laws.specs.OrderLaws.{below_length, or_joins}
 use Rattle.path_laws.specs.Paths.{has_bit}
-use Rattle.path_laws.proofs.BitNets.{BitNet, BitLaws, BitSolves, BitLeast}
-use Rattle.path_laws.proofs.Induction.{least_holds}
 
 -- the order of rows, place by place
 pub below_bit : (xs ys : List Bool) (k : ℕ) → BelowBits xs ys → get_or xs k false ≡ true → get_or ys k false ≡ true
@@ -62,104 +61,63 @@ step_edge false nodes within m n step =
     let is = get_or_from_slice_get (edges_from 0 nodes) k edge (record { source = 0; target = 0 }) there in
     (k, slice_get_within (edges_from 0 nodes) k edge there, ap (λ (x : Edge). x.source) is, ap (λ (x : Edge). x.target) is)
 
-module _ (nodes : ℕ) (edges : List Edge) (out : ℕ → ℕ) (bits : ℕ) (first block : List (List Bool)) (valid : IsBitFlow nodes edges out bits first block) (v : ℕ → List Bool) (least : IsLeastSolution BelowBits (bit_flow nodes edges out bits first block) v) (b : ℕ) (b_in : b < bits) where
+-- what is left of a row was in it, and is not in the other
+minus_true : (xs ys : List Bool) (k : ℕ) → get_or (minus_bits xs ys) k false ≡ true → (get_or xs k false ≡ true) × (not (get_or ys k false) ≡ true)
+minus_true [] ys k h = absurd (cc)
+minus_true (x ∷ xs) [] k h = absurd (cc)
+minus_true (x ∷ xs) (y ∷ ys) zero h = and_parts x (not y) h
+minus_true (x ∷ xs) (y ∷ ys) (suc k) h = minus_true xs ys k h
+
+-- a true bit of a least upper bound is one of either part
+joined_bit : (xs ys zs : List Bool) (k : ℕ) → IsLeastUpper BelowBits xs ys zs → get_or zs k false ≡ true → (get_or xs k false ≡ true) ⊎ (get_or ys k false ≡ true)
+joined_bit xs ys zs k joined t =
+    let same : length xs ≡ length ys = below_length xs zs joined.left ∙ sym (below_length ys zs joined.right) in
+    let upper = or_joins xs ys same in
+    let on = below_bit zs (or_bits xs ys) k (joined.least (or_bits xs ys) upper.left upper.right) t in
+    or_cases (get_or xs k false) (get_or ys k false) (sym (or_bit xs ys k same) ∙ on)
+
+module _ (nodes : ℕ) (edges : List Edge) (out : ℕ → ℕ) (bits : ℕ) (first block : List (List Bool)) (valid : IsBitFlow nodes edges out bits first block) (v : ℕ → List Bool) (least : IsLeastSolution BelowBits (bit_flow nodes edges out bits first block) v) (b : ℕ) where
   abbrev src : ℕ → ℕ
   src e = (edge_at edges e).source
 
   abbrev tgt : ℕ → ℕ
   tgt e = (edge_at edges e).target
 
-  abbrev bit_net : BitNet
-  bit_net = record {
-    nodes = nodes;
-    edges = length edges;
-    source = src;
-    target = tgt;
-    seed = has_bit first b;
-    passes = λ e. not (has_bit block b (tgt e));
-  }
+  -- the bit has come to a node from a seed
+  abbrev Led : ℕ → Type 0
+  Led n = Leads (StepAlong edges) (has_bit first b) (has_bit block b) n
+
+  -- what is true at a node has come from a seed: so it is of the first rows, and it goes over the edges
+  pub leads_from_true : (n : ℕ) → n < nodes → get_or (v n) b false ≡ true → Led n
+  leads_from_true n h =
+      arising_hold BelowBits (bit_flow nodes edges out bits first block) (λ m x. get_or x b false ≡ true → Led m) (λ m seed. at_seed m seed)
+      (λ e from old new within before here joined now. elim (joined_bit old (minus_bits from (row_of block (tgt e))) new b joined now) as (λ _. Led (tgt e)) [
+        | inl was ↦ here was
+        | inr passed ↦
+            let parts = minus_true from (row_of block (tgt e)) b passed in
+            one_more (tgt e) (src e) (e, within, refl, refl) (not-true (has_bit block b (tgt e)) parts.1) (before parts.0)
+      ])
+      n (v n) (least.arises n h)
 
   ends_in : (e : ℕ) → e < length edges → (src e < nodes) × (tgt e < nodes)
   ends_in e h = valid.are.ends e (edge_at edges e) (slice_get-get_or edges e _ h)
 
-  bit_net_laws : BitLaws bit_net
-  bit_net_laws = record { sources = λ e h. (ends_in e h).0; targets = λ e h. (ends_in e h).1 }
-
   v_length : (n : ℕ) → n < nodes → length (v n) ≡ bits
   v_length n h = sym (below_length (row_of first n) (v n) (least.solves.above_first n h)) ∙ valid.first_rows.each n h
 
-  block_length : (n : ℕ) → n < nodes → length (row_of block n) ≡ bits
-  block_length n h = valid.block_rows.each n h
+  -- a bit that is true at the source of an edge is true at its target, where that one does not block it
+  goes_over : (e : ℕ) → e < length edges → has_bit block b (tgt e) ≡ false → get_or (v (src e)) b false ≡ true → get_or (v (tgt e)) b false ≡ true
+  goes_over e h free t =
+      below_bit (minus_bits (v (src e)) (row_of block (tgt e))) (v (tgt e)) b (least.solves.above_edges e h)
+      (minus_bit (v (src e)) (row_of block (tgt e)) b (v_length (src e) (ends_in e h).0 ∙ sym (valid.block_rows.each (tgt e) (ends_in e h).1))
+      ∙ and_from (get_or (v (src e)) b false) (not (get_or (row_of block (tgt e)) b false)) t (ap not free))
 
-  bit_solves : BitSolves bit_net (λ n. get_or (v n) b false)
-  bit_solves = record {
-    above_seed = λ n h t. below_bit (row_of first n) (v n) b (least.solves.above_first n h) t;
-    above_edges = λ e h t.
-        below_bit (minus_bits (v (src e)) (row_of block (tgt e))) (v (tgt e)) b (least.solves.above_edges e h)
-        (minus_bit (v (src e)) (row_of block (tgt e)) b (v_length (src e) (ends_in e h).0 ∙ sym (block_length (tgt e) (ends_in e h).1))
-        ∙ and_comm (get_or (v (src e)) b false) (not (get_or (row_of block (tgt e)) b false)) ∙ t);
-  }
-
-  -- one bit taken from another solution
-  mixed : (ℕ → Bool) → ℕ → List Bool
-  mixed u n = set (v n) b (u n)
-
-  mixed_same : (u : ℕ → Bool) (n : ℕ) → n < nodes → get_or (mixed u n) b false ≡ u n
-  unfolding mixed
-  mixed_same u n h = get_or-set_same (v n) b (u n) false (rw (v_length n h) b_in)
-
-  mixed_other : (u : ℕ → Bool) (n k : ℕ) → k ≢ b → get_or (mixed u n) k false ≡ get_or (v n) k false
-  unfolding mixed
-  mixed_other u n k d = get_or-set_other (v n) b k (u n) false d
-
-  mixed_length : (u : ℕ → Bool) (n : ℕ) → length (mixed u n) ≡ length (v n)
-  unfolding mixed
-  mixed_length u n = length-set (v n) b (u n)
-
-  mixed_solves : (u : ℕ → Bool) → BitSolves bit_net u → Solves BelowBits (bit_flow nodes edges out bits first block) (mixed u)
-  mixed_solves u s = record {
-    above_first = λ n h. below_from_bits (row_of first n) (mixed u n) (valid.first_rows.each n h ∙ sym (v_length n h) ∙ sym (mixed_length u n))
-        (λ k t. elim (cases_eq k b) as (λ _. get_or (mixed u n) k false ≡ true) [
-          | inl e ↦ rw e (mixed_same u n h ∙ s.above_seed n h (rw e at t))
-          | inr d ↦ mixed_other u n k d ∙ below_bit (row_of first n) (v n) k (least.solves.above_first n h) t
-        ]);
-    above_edges = λ e h.
-        let m = src e in
-        let n = tgt e in
-        let m_in : src e < nodes = (ends_in e h).0 in
-        let n_in : tgt e < nodes = (ends_in e h).1 in
-        let same : length (mixed u (src e)) ≡ length (row_of block (tgt e)) = mixed_length u m ∙ v_length m m_in ∙ sym (block_length n n_in) in
-        let same_v : length (v (src e)) ≡ length (row_of block (tgt e)) = v_length m m_in ∙ sym (block_length n n_in) in
-        below_from_bits (minus_bits (mixed u m) (row_of block n)) (mixed u n)
-        (length_minus (mixed u m) (row_of block n) same ∙ mixed_length u m ∙ v_length m m_in ∙ sym (v_length n n_in) ∙ sym (mixed_length u n))
-        (λ k t. let parts = and_parts (get_or (mixed u m) k false) (not (get_or (row_of block n) k false)) (sym (minus_bit (mixed u m) (row_of block n) k same) ∙ t) in
-        elim (cases_eq k b) as (λ _. get_or (mixed u n) k false ≡ true) [
-          | inl e' ↦ rw e' (mixed_same u n n_in ∙ s.above_edges e h (rw (rw e' at parts.1, sym (mixed_same u m m_in) ∙ rw e' at parts.0) refl))
-          | inr d ↦ mixed_other u n k d ∙ below_bit (minus_bits (v m) (row_of block n)) (v n) k (least.solves.above_edges e h)
-              (minus_bit (v m) (row_of block n) k same_v ∙ rw (sym (mixed_other u m k d) ∙ parts.0, parts.1) refl)
-        ]);
-  }
-
-  bit_least : BitLeast bit_net (λ n. get_or (v n) b false)
-  bit_least = record {
-    solves = bit_solves;
-    least = λ u s n h t. sym (mixed_same u n h) ∙ below_bit (v n) (mixed u n) b (least.least (mixed u) (mixed_solves u s) n h) t;
-  }
-
-  -- what is true at a node has come from a seed
-  pub leads_from_true : (n : ℕ) → n < nodes → get_or (v n) b false ≡ true → Leads (StepAlong edges) (has_bit first b) (has_bit block b) n
-  leads_from_true n h t =
-      least_holds bit_net bit_net_laws (λ m. get_or (v m) b false) bit_least (Leads (StepAlong edges) (has_bit first b) (has_bit block b))
-      (λ m seed. at_seed m seed)
-      (λ e within free before. one_more (tgt e) (src e) (e, within, refl, refl) (not-true (has_bit block b (tgt e)) free) before)
-      n h t
-
-  pub true_from_leads : (n : ℕ) → n < nodes → Leads (StepAlong edges) (has_bit first b) (has_bit block b) n → get_or (v n) b false ≡ true
-  true_from_leads n h (at_seed k seed) = bit_solves.above_seed n h seed
+  pub true_from_leads : (n : ℕ) → n < nodes → Led n → get_or (v n) b false ≡ true
+  true_from_leads n h (at_seed k seed) = below_bit (row_of first n) (v n) b (least.solves.above_first n h) seed
   true_from_leads n h (one_more m k step free rest) =
       let e = step in
       let before : get_or (v (src e.0)) b false ≡ true = rw e.2 (true_from_leads k (rw (← e.2) (ends_in e.0 e.1).0) rest) in
-      rw (← e.3) (bit_solves.above_edges e.0 e.1 (rw (e.3, free, before) refl))
+      rw (← e.3) (goes_over e.0 e.1 (rw e.3 free) before)
 
 -- the same of a list of rows
 pub rows_lead : (nodes : ℕ) (edges : List Edge) (out : ℕ → ℕ) (bits : ℕ) (first block rows : List (List Bool)) → IsBitFlow nodes edges out bits first block → length rows ≡ nodes
@@ -168,4 +126,4 @@ pub rows_lead : (nodes : ℕ) (edges : List Edge) (out : ℕ → ℕ) (bits : �
 rows_lead nodes edges out bits first block rows valid len least n b h b_in =
     let v = value_at (bit_flow nodes edges out bits first block) rows in
     rw (get_or_default rows n [] (row_of first n) (rw len h))
-    (leads_from_true nodes edges out bits first block valid v least b b_in n h, true_from_leads nodes edges out bits first block valid v least b b_in n h)
+    (leads_from_true nodes edges out bits first block valid v least b n h, true_from_leads nodes edges out bits first block valid v least b n h)

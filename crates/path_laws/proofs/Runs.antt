@@ -1,5 +1,5 @@
 -- The blocks of a graph are runs of the flow, and the edges between them are the steps between runs.
-use Rattle.std.proofs.Common.{◌≡◌, ℕ, zero, suc, ◌<◌, inl, inr, Bool, true, false, List, [], ◌∷◌, ◌++◌, length, reverse, slice_get, Some, refl, sym, ap, subst, arith, ◌∙◌, length-append}
+use Rattle.std.proofs.Common.{◌≡◌, ℕ, zero, suc, ◌-◌, ◌<◌, inl, inr, Bool, true, false, List, [], ◌∷◌, ◌++◌, length, reverse, slice_get, Some, refl, sym, ap, subst, arith, ◌∙◌, length-append}
 use Rattle.flow_graph.specs.ListLaws.{get_left_some, get_last}
 use Rattle.std.proofs.lemmas.List.{reverse-append}
 use Rattle.std.proofs.lemmas.Option.{slice_get_within, slice_get-get_or, get_or_from_slice_get}
@@ -8,6 +8,7 @@ use Rattle.flow_graph.specs.declared.nodes.Node.{Node}
 use Rattle.flow_graph.specs.BlockLaws.{chain_inner, chain_on, edge_within, glued_edge, one_block, only_from, only_to}
 use Rattle.flow_graph.specs.Blocks.{IsBlock, IsBlocks, IsChain, IsGlued, StandsIn}
 use Rattle.flow_graph.specs.Graphs.{AllWithin}
+use Rattle.flow_graph.specs.PathLaws.{end_stands}
 use Rattle.flow_graph.specs.Paths.{Begins, Ends}
 use Rattle.path_laws.specs.Between.{AreBetween, IsAhead}
 use Rattle.node_list.specs.Lists.{list_at}
@@ -34,9 +35,7 @@ reversed_last (k ∷ list) m b =
 
 -- the last node has the last place
 last_of : (list : List ℕ) (m : ℕ) → Ends m list → (i : ℕ) × (slice_get list i ≡ Some m) × (suc i ≡ length list)
-last_of [] m e = absurd e
-last_of (k ∷ []) m e = (0, ap Some e, omega arith)
-last_of (j ∷ k ∷ list) m e = let r = last_of (k ∷ list) m e in (suc r.0, r.1, omega (arith, r.2))
+last_of list m e = let at = end_stands list m e in (length list - 1, at, omega (arith, slice_get_within list (length list - 1) m at))
 
 -- ---- a block is a run
 

@@ -1,62 +1,45 @@
 -- The laws of rows ordered by implication. Cited by the ghost members of `Bits`.
-use Rattle.std.specs.Prelude.{◌≡◌, ◌≢◌, ◌+◌, ◌<◌, ◌≤◌, Bool, true, false, not, ◌||◌, ◌&&◌, if◌then◌else◌, List, [], ◌∷◌, length, refl}
-use Rattle.flow_graph.specs.ListLaws.{cons_same}
+use Rattle.std.specs.Prelude.{◌≡◌, ◌≢◌, ◌<◌, ◌≤◌, Bool, true, false, not, ◌||◌, ◌&&◌, List, [], ◌∷◌, length, refl}
 use Rattle.std.proofs.lemmas.Bool.{or_left, or_right}
-use Rattle.std.proofs.Common.{suc, sym, ap, ◌∙◌, ◌⊎◌, inl, inr, arith, if◌then◌else◌}
+use Rattle.std.proofs.Common.{suc, sym, ◌∙◌, ◌⊎◌, inl, inr, arith}
 use Rattle.fix_solve.specs.Order.{OrderLaws, IsLeastUpper}
 use Rattle.bit_rows.specs.BitLaws.{length_minus}
 use Rattle.bit_rows.specs.Bits.{or_bits, minus_bits}
-use Rattle.path_laws.specs.Order.{BelowBits, trues}
+use Rattle.fix_solve.specs.Pointwise.{pointwise_antisym, pointwise_length, pointwise_refl, pointwise_rises, pointwise_trans}
+use Rattle.path_laws.specs.Order.{BelowBits, BelowBit, bit_rank, trues}
 
 -- the order is reflexive
 pub below_refl : (xs : List Bool) → BelowBits xs xs
-below_refl [] = tt
-below_refl (x ∷ xs) = (λ h. h, below_refl xs)
+below_refl = pointwise_refl BelowBit (λ x h. h)
 
 -- and transitive
 pub below_trans : (xs ys zs : List Bool) → BelowBits xs ys → BelowBits ys zs → BelowBits xs zs
-below_trans [] [] [] p q = tt
-below_trans [] [] (z ∷ zs) p q = absurd q
-below_trans [] (y ∷ ys) zs p q = absurd p
-below_trans (x ∷ xs) [] zs p q = absurd p
-below_trans (x ∷ xs) (y ∷ ys) [] p q = absurd q
-below_trans (x ∷ xs) (y ∷ ys) (z ∷ zs) p q = (λ h. q.0 (p.0 h), below_trans xs ys zs p.1 q.1)
+below_trans = pointwise_trans BelowBit (λ x y z p q h. q (p h))
 
 -- bits that imply each other are equal
-same_bits : (x y : Bool) → (x ≡ true → y ≡ true) → (y ≡ true → x ≡ true) → x ≡ y
+same_bits : (x y : Bool) → BelowBit x y → BelowBit y x → x ≡ y
 same_bits true y p q = sym (p refl)
 same_bits false true p q = q refl
 same_bits false false p q = refl
 
--- and antisymmetric
+-- so the order is antisymmetric
 pub below_antisym : (xs ys : List Bool) → BelowBits xs ys → BelowBits ys xs → xs ≡ ys
-below_antisym [] [] p q = refl
-below_antisym [] (y ∷ ys) p q = absurd p
-below_antisym (x ∷ xs) [] p q = absurd p
-below_antisym (x ∷ xs) (y ∷ ys) p q = cons_same (same_bits x y p.0 q.0) (below_antisym xs ys p.1 q.1)
+below_antisym = pointwise_antisym BelowBit same_bits
 
 -- only rows of one length are in order
 pub below_length : (xs ys : List Bool) → BelowBits xs ys → length xs ≡ length ys
-below_length [] [] p = refl
-below_length [] (y ∷ ys) p = absurd p
-below_length (x ∷ xs) [] p = absurd p
-below_length (x ∷ xs) (y ∷ ys) p = ap suc (below_length xs ys p.1)
+below_length = pointwise_length BelowBit
+
+-- a bit that implies another and differs from it is false, and the other is true
+bit_rises : (x y : Bool) → BelowBit x y → (x ≡ y) ⊎ (bit_rank x < bit_rank y)
+bit_rises true true h = inl refl
+bit_rises true false h = let bad : false ≡ true = h refl in absurd (cc)
+bit_rises false true h = inr (omega arith)
+bit_rises false false h = inl refl
 
 -- the number of true places rises, and the rows are the same or it rises strictly
 trues_rise : (xs ys : List Bool) → BelowBits xs ys → (xs ≡ ys) ⊎ (trues xs < trues ys)
-trues_rise [] [] p = inl refl
-trues_rise [] (y ∷ ys) p = absurd p
-trues_rise (x ∷ xs) [] p = absurd p
-trues_rise (x ∷ xs) (y ∷ ys) p = step x y p.0 (trues_rise xs ys p.1)
-  where
-    step : (x y : Bool) → (x ≡ true → y ≡ true) → (xs ≡ ys) ⊎ (trues xs < trues ys) → (x ∷ xs ≡ y ∷ ys) ⊎ ((if x then 1 else 0) + trues xs < (if y then 1 else 0) + trues ys)
-    step true true h (inl e) = inl (cons_same refl e)
-    step true true h (inr l) = inr (omega arith)
-    step true false h r = let bad : false ≡ true = h refl in absurd (cc)
-    step false true h (inl e) = inr (rw e (omega arith))
-    step false true h (inr l) = inr (omega arith)
-    step false false h (inl e) = inl (cons_same refl e)
-    step false false h (inr l) = inr (omega arith)
+trues_rise = pointwise_rises BelowBit bit_rank bit_rises
 
 -- a row that lies below another and differs from it has fewer true bits
 trues_rise_strictly : (xs ys : List Bool) → BelowBits xs ys → xs ≢ ys → trues xs < trues ys

@@ -8,7 +8,7 @@ ghost use Rattle.path_laws.specs.Problem.{AreLed, AreSolved, HasBetween, HasGrap
 use crate::between::{BlockEdges, between};
 use crate::bits::{BitFlow, Bits, least};
 use crate::filling::filled;
-use crate::joins::joined;
+use crate::joins::come_along;
 use crate::problems::Problem;
 use crate::summaries::summaries;
 use bit_rows::Rows;
@@ -62,7 +62,7 @@ fn coming<L: Ledger>(
     )?;
     let work = led(alloc, problem, &between, steps)?;
     let count = problem.blocks.len();
-    let rows = joined(alloc, &between.edges, count, problem.bits, &work)?;
+    let rows = come_along(alloc, &between.edges, count, problem.bits, &work)?;
     Ok(rows)
 }
 

@@ -16,7 +16,7 @@ use mir_base::Memory;
 use std::alloc::Global;
 
 /// At which nodes of a flow some edge of this list brings each bit.
-pub(crate) fn joined(
+pub(crate) fn come_along(
     alloc: Global,
     edges: &[Edge],
     nodes: usize,

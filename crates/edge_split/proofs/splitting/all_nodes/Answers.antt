@@ -9,7 +9,7 @@ use Rattle.flow_graph.specs.Edges.{preds_of}
 use Rattle.edge_split.specs.Split.{has_more, is_join, joins_among, split_nodes, rerouted, through_skips, with_succs}
 use Rattle.edge_split.proofs.Targets.{more_of_two, same_joins, same_through, targets}
 use Rattle.edge_split.proofs.Through.{one_rerouted, one_made}
-use Rattle.edge_split.proofs.Splits.{all_made}
+use Rattle.edge_split.proofs.Splits.{all_split}
 use Rattle.edge_split.proofs.splitting.all_nodes.Goals as goal
 
 pub reroute-requires-clause-within : goal.reroute-requires-clause-within
@@ -47,7 +47,7 @@ returns-clause-are c =
     let old = c.nodes-old.result.now in
     let skips = c.loop-node.skips in
     let none : drop c.loop-node.node-index old ≡ [] = drop_all c.loop-node.node-index old c.loop-node-test.false in
-    all_made old c.loop-node.nodes.items skips.made.items c.append.new.self.items c.in_ok-append.ensures.items
+    all_split old c.loop-node.nodes.items skips.made.items c.append.new.self.items c.in_ok-append.ensures.items
     (ap (λ l. c.loop-node.nodes.items ++ rerouted (is_join old) (skips.first + length skips.made.items) l) (sym none) ∙ c.loop-node.invariant.nodes)
     (ap (λ l. skips.made.items ++ map Skip (joins_among (is_join old) (targets l))) (sym none) ∙ c.loop-node.invariant.made)
     ∙ ap split_nodes c.nodes-old.ensures.value

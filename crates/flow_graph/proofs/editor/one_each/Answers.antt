@@ -1,7 +1,7 @@
 use Rattle.std.proofs.Common.{length, ap, ◌∙◌, arith}
 use Rattle.std.proofs.lemmas.List.{length-replicate}
 use Rattle.node_list.specs.Lists.{Lists, is_listed, list_at}
-use Rattle.flow_graph.proofs.Edits.{empty_list, none_listed}
+use Rattle.flow_graph.proofs.Edits.{empty_list, none_in_empty}
 use Rattle.flow_graph.proofs.editor.one_each.Goals as goal
 
 pub loop-list-init : goal.loop-list-init
@@ -12,5 +12,5 @@ loop-list-init c =
       count = ap (λ (l : Lists). length l.lists) is ∙ length-replicate c.args.lists _;
       each = λ s lt. absurd (omega (arith, lt));
       rest = λ s le. ap (λ (l : Lists). list_at l.lists s) is ∙ empty_list c.args.lists s;
-      listed = λ n. ap (λ (l : Lists). is_listed l.lists n) is ∙ none_listed c.args.lists n;
+      listed = λ n. ap (λ (l : Lists). is_listed l.lists n) is ∙ none_in_empty c.args.lists n;
     }

@@ -2,7 +2,7 @@ use Rattle.std.proofs.Common.{◌≡◌, ◌∙◌, ◌++◌, ◌∷◌, [], ap,
 use Rattle.std.proofs.lemmas.Grind.{common_steps}
 use Rattle.std.proofs.lemmas.Option.{slice_get_within}
 use Rattle.flow_graph.specs.Walks.{Walking}
-use Rattle.flow_graph.proofs.Walks.{walk_begins, walked, popped}
+use Rattle.flow_graph.proofs.Walks.{walk_begins, walk_marks, popped}
 use Rattle.flow_graph.proofs.reach.reach.Goals as goal
 
 pub loop-node-init : goal.loop-node-init
@@ -28,4 +28,4 @@ visit-requires-clause-marked c =
 pub returns : goal.returns
 returns c =
     let none : c.loop-node.stack.items ≡ [] = grind (arith, common_steps) in
-    walked c.args.nodes.now c.requires.within c.loop-node.marks.items c.requires.some (subst (λ s. Walking c.args.nodes.now c.loop-node.marks.items s None) none c.loop-node.invariant)
+    walk_marks c.args.nodes.now c.requires.within c.loop-node.marks.items c.requires.some (subst (λ s. Walking c.args.nodes.now c.loop-node.marks.items s None) none c.loop-node.invariant)

@@ -4,7 +4,7 @@ use Rattle.std.specs.Int.{int_wrapping_div, int_shl}
 use Rattle.std.proofs.Math.Nat.{mod-eq_of_lt}
 use Rattle.std.proofs.lemmas.Int.{wrapping_add_is, wrapping_sub_is}
 use Rattle.mir_base.specs.Numbers.{distance, unsigned}
-use Rattle.mir_base.proofs.Words.{handed, div_is, shl_is, shr_is, and_is, or_is, xor_is}
+use Rattle.mir_base.specs.WordLaws.{handed, div_is, shl_is, shr_is, and_is, or_is, xor_is}
 use Rattle.mir_base.proofs.evaluation.eval.Goals as goal
 
 pub returns-in-Add : goal.returns-in-Add

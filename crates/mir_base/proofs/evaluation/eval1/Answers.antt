@@ -1,7 +1,7 @@
 use Rattle.std.proofs.Common.{◌∙◌, ap, w64, neg_ℤ, to_z-of_z}
 use Rattle.std.specs.Int.{int_wrapping_neg}
 use Rattle.std.proofs.lemmas.Int.{wrapping_neg_is}
-use Rattle.mir_base.proofs.Words.{handed}
+use Rattle.mir_base.specs.WordLaws.{handed}
 use Rattle.mir_base.proofs.evaluation.eval1.Goals as goal
 
 pub returns-in-Neg : goal.returns-in-Neg

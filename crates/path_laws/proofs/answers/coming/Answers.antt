@@ -8,8 +8,8 @@ use Rattle.path_laws.proofs.Handed.{pushes_few}
 use Rattle.path_laws.proofs.Leaving.{between_ends}
 use Rattle.path_laws.proofs.answers.coming.Goals as goal
 
-pub joined-requires-clause-ends : goal.joined-requires-clause-ends
-joined-requires-clause-ends g c =
+pub come_along-requires-clause-ends : goal.come_along-requires-clause-ends
+come_along-requires-clause-ends g c =
     let p = c.args.problem.now in
     between_ends p.against p.graph.now.nodes p.blocks.now.lists c.in_ok-between.between.edges.items c.deref.result.now c.in_ok-between.between.firsts.items c.len-count.result c.in_ok-between.ensures c.deref.ensures.value c.len-count.ensures
 

@@ -1,6 +1,7 @@
 use Rattle.std.proofs.Common.{◌≡◌, ℕ, [], ◌∷◌, ◌++◌, length, ap, arith, ◌∙◌}
 use Rattle.path_laws.proofs.Leaving.{between_more}
-use Rattle.path_laws.proofs.Places.{chain_some, flow_within}
+use Rattle.flow_graph.specs.BlockLaws.{chain_some}
+use Rattle.path_laws.proofs.Places.{flow_within}
 use Rattle.path_laws.proofs.Runs.{ahead_last}
 use Rattle.path_laws.proofs.between.between.Goals as goal
 

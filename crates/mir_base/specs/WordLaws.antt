@@ -1,4 +1,4 @@
--- What machine words compute is the number over the whole numbers, wrapped.
+-- What machine words compute is the number over the whole numbers, wrapped. For proofs only; cond_const cites it too.
 use Rattle.std.proofs.Common.{◌≡◌, ℕ, zero, suc, ◌/◌, ◌%◌, ◌^◌, ◌<◌, ℤ, pos, negsuc, neg_ℤ, ◌*ℤ◌, int_div, bit_and, bit_or, bit_xor, sym, ap, ◌∙◌, arith, FitsSigned, w64, to_z, of_z, to_z-of_z, div-le_self}
 use Rattle.std.specs.Int.{int_wrap, int_shl, int_wrapping_div, int_bit_and, int_bit_or, int_bit_xor}
 use Rattle.std.specs.Int.Signed.{mag}

@@ -3,7 +3,7 @@ use Rattle.std.proofs.lemmas.List.{get_or_default}
 use Rattle.bit_rows.specs.Bits.{or_bits, row_of}
 use Rattle.flow_graph.specs.FlowEdges.{edge_at}
 use Rattle.path_laws.proofs.Joining.{complete_more, shape_more, sound_more}
-use Rattle.path_laws.proofs.joins.joined.Goals as goal
+use Rattle.path_laws.proofs.joins.come_along.Goals as goal
 
 pub loop-edge-preserved : goal.loop-edge-preserved
 loop-edge-preserved c =

@@ -1,7 +1,7 @@
 use Rattle.std.proofs.Common.{◌≡◌, ℕ, ◌<◌, true}
 use Rattle.flow_graph.specs.FlowEdges.{edge_at}
 use Rattle.path_laws.specs.Paths.{AreRows, has_bit}
-use Rattle.path_laws.proofs.joins.joined.Given as goal
+use Rattle.path_laws.proofs.joins.come_along.Given as goal
 
 abbrev pub invariant-loop-edge : goal.invariant-loop-edge
 invariant-loop-edge l = record {

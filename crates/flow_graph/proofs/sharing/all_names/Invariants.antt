@@ -1,5 +1,5 @@
 use Rattle.std.proofs.Common.{◌≡◌, ◌++◌, take}
-use Rattle.flow_graph.proofs.sharing.joined.Given as goal
+use Rattle.flow_graph.proofs.sharing.all_names.Given as goal
 
 abbrev pub invariant-loop-name : goal.invariant-loop-name
 invariant-loop-name l = l.all.items ≡ take l.name-index l.names

@@ -1,0 +1,45 @@
+-- Laws of the variables that a node reads and assigns: they are among its own. For proofs only; the crates above cite them.
+use Rattle.std.proofs.Common.{◌≡◌, ℕ, ◌≤◌, false, List, [], ◌∷◌, flat_map, Some, None, refl, arith}
+use Rattle.std.specs.List.{list_any}
+use Rattle.std.proofs.lemmas.Bool.{or_parts, ne_eqb}
+use Rattle.mir_base.specs.BelowLaws.{all_below_right}
+use Rattle.mir_base.specs.Shapes.{AllBelow, into_vars, operand_vars}
+use Rattle.flow_graph.specs.declared.nodes.Node.{Node}
+use Rattle.flow_graph.specs.declared.nodes.Node.TheVariants.{Start, Skip, Assign, Print, Call, Test, Return}
+use Rattle.flow_graph.specs.Graphs.{GraphShape, assigns, node_reads, node_vars}
+
+-- the variables that a node reads are among its variables
+pub reads_below : (graph : GraphShape) (m : ℕ) (node : Node) → AllBelow m (node_vars node) → AllBelow m (node_reads graph node)
+reads_below graph m (Start next) below = below
+reads_below graph m (Skip next) below = below
+reads_below graph m (Assign x rhs next) below = below.1
+reads_below graph m (Print a next) below = below
+reads_below graph m (Call into unit operands next) below = all_below_right m (into_vars into) (flat_map operand_vars operands) below
+reads_below graph m (Test test taken other) below = below
+reads_below graph m (Return a) below = below
+
+-- a variable that is none of the graph's is not assigned by a node
+pub new_unassigned : (graph : GraphShape) (m x : ℕ) (node : Node) → AllBelow m (node_vars node) → m ≤ x → assigns graph x node ≡ false
+new_unassigned graph m x (Start next) below le = refl
+new_unassigned graph m x (Skip next) below le = refl
+new_unassigned graph m x (Assign y rhs next) below le = ne_eqb x y (λ e. omega (arith, e, below.0, le))
+new_unassigned graph m x (Print a next) below le = refl
+new_unassigned graph m x (Call None unit operands next) below le = refl
+new_unassigned graph m x (Call (Some y) unit operands next) below le = ne_eqb x y (λ e. omega (arith, e, below.0, le))
+new_unassigned graph m x (Test test taken other) below le = refl
+new_unassigned graph m x (Return a) below le = refl
+
+-- none of these is assigned by what assigns nothing
+pub assigns_none : (xs : List ℕ) → list_any (λ x. false) xs ≡ false
+assigns_none [] = refl
+assigns_none (x ∷ xs) = assigns_none xs
+
+-- a node assigns none of these variables
+abbrev pub NoneAssigned : GraphShape → Node → List ℕ → Type 0
+NoneAssigned graph node [] = Unit {0}
+NoneAssigned graph node (x ∷ xs) = (assigns graph x node ≡ false) × NoneAssigned graph node xs
+
+-- so it is where a test of each says so
+pub none_assigned : (graph : GraphShape) (node : Node) (xs : List ℕ) → list_any (λ x. assigns graph x node) xs ≡ false → NoneAssigned graph node xs
+none_assigned graph node [] free = tt
+none_assigned graph node (x ∷ xs) free = let parts = or_parts (assigns graph x node) (list_any (λ y. assigns graph y node) xs) free in (parts.0, none_assigned graph node xs parts.1)
