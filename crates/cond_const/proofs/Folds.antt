@@ -18,8 +18,8 @@ use Rattle.flow_graph.specs.Machines.{received_from, node_transition, graph_code
 use Rattle.flow_graph.specs.RedirectLaws.{resumed_place}
 use Rattle.cond_const.specs.declared.known.Known.{Known}
 use Rattle.cond_const.specs.declared.known.Known.TheVariants.{Fixed, Varying}
-use Rattle.cond_const.specs.States.{NodeState, Unreached, Reached, BelowState}
-use Rattle.cond_const.specs.Folding.{resolved_test, folded_rhs, known_rhs, decided_test, after_call, known_after, slot_of, passes_by, passes, along, folded_test, folded_node, folded_at, folded_from, folded_nodes}
+use Rattle.cond_const.specs.States.{NodeState, Unreached, Knows, BelowState}
+use Rattle.cond_const.specs.Folding.{resolved_test, folded_rhs, known_rhs, decided_test, after_call, known_after, slot_of, passes_by, passes, passed_along, folded_test, folded_node, folded_at, folded_from, folded_nodes}
 use Rattle.cond_const.specs.Folded.{AreStates}
 use Rattle.cond_const.proofs.Sound.{AllFit, Agrees, HoldsAt, holds_up, rhs_fits, rhs_folds, known_value, resolved_holds, test_decided, agrees_set, agrees_zeros, agrees_start, fits_set, fits_start, zeros_fit, resolved_value, resolved_values}
 
@@ -55,13 +55,13 @@ module _ (received : List ℕ) (nodes : List Node) (size : ℕ) (states : ℕ �
   after = folded_nodes states nodes
 
   -- what is known holds after a move along an edge that passes it
-  after_edge : (n slot s : ℕ) (ks : List Known) (node : Node) (values : Values) → states n ≡ Reached ks → slice_get nodes n ≡ Some node → slice_get (node_succs node) slot ≡ Some s → passes node slot ks ≡ true → Agrees (known_after received node ks) values → HoldsAt (states s) values
+  after_edge : (n slot s : ℕ) (ks : List Known) (node : Node) (values : Values) → states n ≡ Knows ks → slice_get nodes n ≡ Some node → slice_get (node_succs node) slot ≡ Some s → passes node slot ks ≡ true → Agrees (known_after received node ks) values → HoldsAt (states s) values
   after_edge n slot s ks node values known here leads passing agrees =
       let edge : IsEdge nodes n slot s = ap (λ o. slice_get (succs_of o) slot) here ∙ leads in
-      let above : BelowState (along received node slot (states n)) (states s) = are.edges n slot s node here edge in
-      let above' : BelowState (along received node slot (Reached ks)) (states s) = subst (λ t. BelowState (along received node slot t) (states s)) known above in
-      let above'' : BelowState (Reached (known_after received node ks)) (states s) = subst (λ b. BelowState (if b then Reached (known_after received node ks) else Unreached (length ks)) (states s)) passing above' in
-      holds_up (Reached (known_after received node ks)) (states s) values above'' agrees
+      let above : BelowState (passed_along received node slot (states n)) (states s) = are.edges n slot s node here edge in
+      let above' : BelowState (passed_along received node slot (Knows ks)) (states s) = subst (λ t. BelowState (passed_along received node slot t) (states s)) known above in
+      let above'' : BelowState (Knows (known_after received node ks)) (states s) = subst (λ b. BelowState (if b then Knows (known_after received node ks) else Unreached (length ks)) (states s)) passing above' in
+      holds_up (Knows (known_after received node ks)) (states s) values above'' agrees
 
   -- the edge that a test takes passes its state
   takes : (b : Bool) (o : Option Bool) → ((d : Bool) → o ≡ Some d → b ≡ d) → passes_by (slot_of b) o ≡ true
@@ -69,7 +69,7 @@ module _ (received : List ℕ) (nodes : List Node) (size : ℕ) (states : ℕ �
   takes false None says = refl
   takes b (Some d) says = subst (λ e. nat_eq (slot_of b) (slot_of e) ≡ true) (says d refl) (slot_itself b)
 
-  module _ (f : Frame) (ks : List Known) (known : states f.place ≡ Reached ks) (agrees : Agrees ks f.values) (fits : AllFit f.values) (numbers : AreNumbers f.arguments) where
+  module _ (f : Frame) (ks : List Known) (known : states f.place ≡ Knows ks) (agrees : Agrees ks f.values) (fits : AllFit f.values) (numbers : AreNumbers f.arguments) where
     together : (g : Frame) → HoldsAt (states g.place) g.values → AllFit g.values → AreNumbers g.arguments → Together states g g
     together g h l k = record { same = refl; holds = h; fits = l; numbers = k }
 
@@ -142,7 +142,7 @@ module _ (received : List ℕ) (nodes : List Node) (size : ℕ) (states : ℕ �
 
   stepping : (f : Frame) (s : NodeState) → states f.place ≡ s → HoldsAt s f.values → AllFit f.values → AreNumbers f.arguments → Alike (Together states) (node_transition received (slice_get nodes f.place) f) (node_transition received (option_map (folded_at s) (slice_get nodes f.place)) f)
   stepping f (Unreached n) known holds fits numbers = absurd holds
-  stepping f (Reached ks) known holds fits numbers = at_place f ks known holds fits numbers (slice_get nodes f.place) refl
+  stepping f (Knows ks) known holds fits numbers = at_place f ks known holds fits numbers (slice_get nodes f.place) refl
 
   steps : (f g : Frame) → Together states f g → Alike (Together states) (graph_code received nodes f) (graph_code received after g)
   steps f g r =
@@ -155,7 +155,7 @@ module _ (received : List ℕ) (nodes : List Node) (size : ℕ) (states : ℕ �
     receives = refl;
     starts = λ entry is. record {
       same = refl;
-      holds = holds_up (Reached (replicate size (Fixed (pos 0)))) (states 0) all_zero are.start (agrees_zeros size);
+      holds = holds_up (Knows (replicate size (Fixed (pos 0)))) (states 0) all_zero are.start (agrees_zeros size);
       fits = zeros_fit;
       numbers = is.numbers;
     };

@@ -5,16 +5,16 @@ use Rattle.std.proofs.lemmas.Bool.{cases_lt}
 use Rattle.std.proofs.lemmas.Option.{slice_get_within, get_or_from_slice_get, same_Some}
 use Rattle.fix_solve.specs.Net.{Net, Solves, IsLeastSolution}
 use Rattle.flow_graph.specs.declared.nodes.Node.{Node}
-use Rattle.flow_graph.specs.declared.nodes.Node.TheVariants.{Start, Skip, Assign, Print, Call, Test, Return}
-use Rattle.flow_graph.specs.Blocks.{IsBlock, IsBlocks, IsChain, IsGlued, StandsIn}
-use Rattle.flow_graph.specs.BlockLaws.{begin_of, chain_inner, chain_on, chain_within, glued_edge, one_block, only_from, only_to}
-use Rattle.flow_graph.specs.BoundLaws.{edge_within, slot_within}
+use Rattle.flow_graph.specs.Blocks.{IsBlocks, IsChain, IsGlued, StandsIn}
+use Rattle.flow_graph.specs.BlockLaws.{begin_of, chain_ends, chain_inner, chain_on, chain_within, glued_edge, one_block, one_place, only_from, only_slot, only_to}
+use Rattle.flow_graph.specs.BoundLaws.{edge_within, slot_low, slot_within}
 use Rattle.flow_graph.specs.Graphs.{AllWithin, IsEdge, node_succs, succs_of}
 use Rattle.flow_graph.specs.ListLaws.{some_at, take_next}
+use Rattle.flow_graph.specs.PathLaws.{end_stands, first_begins}
 use Rattle.flow_graph.specs.Paths.{Begins, Ends}
 use Rattle.flow_graph.specs.Tables.{number_at}
 use Rattle.cond_const.specs.States.{NodeState, Unreached, BelowState, size_of}
-use Rattle.cond_const.specs.Folding.{along, entry_state}
+use Rattle.cond_const.specs.Folding.{passed_along, entry_state}
 use Rattle.cond_const.specs.Folded.{AreStates, AreLeastStates}
 use Rattle.cond_const.specs.Blockwise.{along_at, through_nodes, last_of, out_of, block_at, state_net, IsStateNet}
 use Rattle.cond_const.specs.StateLaws.{below_refl, below_trans, below_size}
@@ -28,42 +28,6 @@ pub through_more : (received : List ℕ) (nodes : List Node) (list : List ℕ) (
 through_more received nodes [] n s = refl
 through_more received nodes (m ∷ list) n s = through_more received nodes list n (along_at received (slice_get nodes m) 0 s)
 
--- the last of a list
-ends_at : (list : List ℕ) (m : ℕ) → Ends m list → slice_get list (length list - 1) ≡ Some m
-ends_at [] m e = absurd e
-ends_at (k ∷ []) m e = ap Some e
-ends_at (j ∷ k ∷ list) m e =
-    let at : length (j ∷ k ∷ list) - 1 ≡ suc (length (k ∷ list) - 1) = omega arith in
-    subst (λ i. slice_get (j ∷ k ∷ list) i ≡ Some m) (sym at) (ends_at (k ∷ list) m e)
-
--- a chain has a last node
-ends_with : (nodes : List Node) (list : List ℕ) → IsChain nodes list → (m : ℕ) × Ends m list
-ends_with nodes [] is = absurd is
-ends_with nodes (k ∷ []) is = (k, refl)
-ends_with nodes (j ∷ k ∷ list) is = ends_with nodes (k ∷ list) is.1
-
--- and a first one
-begins_at : (list : List ℕ) (n : ℕ) → slice_get list 0 ≡ Some n → Begins n list
-begins_at [] n e = cc
-begins_at (k ∷ list) n e = let same : k ≡ n = cc in same
-
--- the only item of a list
-only_slot : (n slot s : ℕ) → slice_get (n ∷ []) slot ≡ Some s → slot ≡ 0
-only_slot n zero s e = refl
-only_slot n (suc slot) s e = cc
-
--- a node has at most two successors
-slot_low : (node : Node) (slot s : ℕ) → slice_get (node_succs node) slot ≡ Some s → slot < 2
-slot_low node zero s e = omega arith
-slot_low node (suc zero) s e = omega arith
-slot_low (Start next) (suc (suc slot)) s e = cc
-slot_low (Skip next) (suc (suc slot)) s e = cc
-slot_low (Assign x rhs next) (suc (suc slot)) s e = cc
-slot_low (Print a next) (suc (suc slot)) s e = cc
-slot_low (Call into unit operands next) (suc (suc slot)) s e = cc
-slot_low (Test test taken other) (suc (suc slot)) s e = cc
-slot_low (Return a) (suc (suc slot)) s e = cc
-
 -- the block of an edge, and its slot
 half : (b slot : ℕ) → slot < 2 → (2 * b + slot) / 2 ≡ b
 half b slot low = omega arith
@@ -71,23 +35,6 @@ half b slot low = omega arith
 -- the slot of an edge is the remainder of its number by 2
 odd : (b slot : ℕ) → slot < 2 → (2 * b + slot) % 2 ≡ slot
 odd b slot low = omega arith
-
--- ---- a node stands at one place of its block
-
--- for no node is glued to the first, and one to each other
-pub one_place : (nodes : List Node) (list : List ℕ) (i j n : ℕ) → IsBlock nodes list → slice_get list i ≡ Some n → slice_get list j ≡ Some n → i ≡ j
-one_place nodes list i j n block e e' = go i j n e e'
-  where
-    go : (i j n : ℕ) → slice_get list i ≡ Some n → slice_get list j ≡ Some n → i ≡ j
-    go zero zero n e e' = refl
-    go zero (suc j) n e e' = let before = chain_inner nodes list j n block.chain e' in absurd (block.first n (begins_at list n e) before.0 before.2)
-    go (suc i) zero n e e' = let before = chain_inner nodes list i n block.chain e in absurd (block.first n (begins_at list n e') before.0 before.2)
-    go (suc i) (suc j) n e e' =
-        let before = chain_inner nodes list i n block.chain e in
-        let before' = chain_inner nodes list j n block.chain e' in
-        let both : before.0 ∷ [] ≡ before'.0 ∷ [] = sym before.2.enters ∙ before'.2.enters in
-        let same : before'.0 ≡ before.0 = cc in
-        ap suc (go i j before.0 before.1 (before'.1 ∙ ap Some same))
 
 -- ---- the states of the nodes
 
@@ -163,7 +110,7 @@ module _ (size : ℕ) (received : List ℕ) (nodes : List Node) (lists : List (L
     | inl ends ↦ ends
     | inr next ↦
         let same : s ≡ next.0 = only_to nodes n next.0 s next.2.leaves (slot, edge) in
-        let begins : Begins s t.list = begins_at t.list s (subst (λ p. slice_get t.list p ≡ Some s) first t.is) in
+        let begins : Begins s t.list = first_begins t.list s (subst (λ p. slice_get t.list p ≡ Some s) first t.is) in
         absurd ((is.blocks.blocks c t.list t.listed).first s begins n (subst (IsGlued nodes n) (sym same) next.2))
   ]
 
@@ -201,7 +148,7 @@ module _ (size : ℕ) (received : List ℕ) (nodes : List Node) (lists : List (L
     value_size b lt = sym (below_size (net.first b) (v b) (solves.above_first b lt)) ∙ (net_laws size received nodes lists entry targets is).first_size b lt
 
     -- what leaves the last node of a block is below what is at its target
-    out_below : (n slot s b c : ℕ) (node : Node) (u : StandsIn lists b n) (t : StandsIn lists c s) → Ends n u.list → t.place ≡ 0 → slice_get nodes n ≡ Some node → IsEdge nodes n slot s → BelowState (along received node slot (states n)) (states s)
+    out_below : (n slot s b c : ℕ) (node : Node) (u : StandsIn lists b n) (t : StandsIn lists c s) → Ends n u.list → t.place ≡ 0 → slice_get nodes n ≡ Some node → IsEdge nodes n slot s → BelowState (passed_along received node slot (states n)) (states s)
     out_below n slot s b c node u t ends first here edge =
         let low : slot < 2 = slot_low node slot s (ap (λ o. slice_get (succs_of o) slot) (sym here) ∙ edge) in
         let few : 2 * b + slot < length targets = edge_low b slot (listed_within b n u) low in
@@ -209,10 +156,10 @@ module _ (size : ℕ) (received : List ℕ) (nodes : List Node) (lists : List (L
         let source_is : (2 * b + slot) / 2 ≡ b = half b slot low in
         let slot_is : (2 * b + slot) % 2 ≡ slot = odd b slot low in
         let list_is : block_at lists ((2 * b + slot) / 2) ≡ u.list = ap (block_at lists) source_is ∙ get_or_from_slice_get lists b u.list [] u.listed in
-        let at : slice_get u.list (length u.list - 1) ≡ Some n = ends_at u.list n ends in
+        let at : slice_get u.list (length u.list - 1) ≡ Some n = end_stands u.list n ends in
         let last_is : last_of u.list ≡ n = get_or_from_slice_get u.list (length u.list - 1) n 0 at in
         let place_is : length u.list - 1 ≡ u.place = one_place nodes u.list (length u.list - 1) u.place n (is.blocks.blocks b u.list u.listed) at u.is in
-        let out_is : out_of received nodes u.list slot (v b) ≡ along received node slot (states n) =
+        let out_is : out_of received nodes u.list slot (v b) ≡ passed_along received node slot (states n) =
         ap (λ k. along_at received (slice_get nodes k) slot (through_nodes received nodes (take (length u.list - 1) u.list) (v b))) last_is
         ∙ ap (λ p. along_at received (slice_get nodes n) slot (through_nodes received nodes (take p u.list) (v b))) place_is
         ∙ ap (along_at received (slice_get nodes n) slot) (sym (state_at received nodes lists is.blocks v b n u)) ∙ ap (λ o. along_at received o slot (states n)) here in
@@ -225,9 +172,9 @@ module _ (size : ℕ) (received : List ℕ) (nodes : List Node) (lists : List (L
         let above3 = subst (λ k. BelowState (out_of received nodes u.list slot (v k)) (v (number_at targets (2 * b + slot)))) source_is above2 in
         let above4 = subst (λ k. BelowState (out_of received nodes u.list slot (v b)) (v k)) target_is above3 in
         let above5 = subst (λ x. BelowState x (v c)) out_is above4 in
-        subst (BelowState (along received node slot (states n))) (sym (state_first received nodes lists is.blocks v c s t first)) above5
+        subst (BelowState (passed_along received node slot (states n))) (sym (state_first received nodes lists is.blocks v c s t first)) above5
 
-    edge_below : (n slot s : ℕ) (node : Node) → slice_get nodes n ≡ Some node → IsEdge nodes n slot s → (c : ℕ) (t : StandsIn lists c s) (p : ℕ) → t.place ≡ p → BelowState (along received node slot (states n)) (states s)
+    edge_below : (n slot s : ℕ) (node : Node) → slice_get nodes n ≡ Some node → IsEdge nodes n slot s → (c : ℕ) (t : StandsIn lists c s) (p : ℕ) → t.place ≡ p → BelowState (passed_along received node slot (states n)) (states s)
     edge_below n slot s node here edge c t zero first =
         let u = edge_source n slot s edge in
         out_below n slot s u.0 c node u.1 t (leaves_last n slot s c t first edge u.0 u.1) first here edge
@@ -236,9 +183,9 @@ module _ (size : ℕ) (received : List ℕ) (nodes : List Node) (lists : List (L
         let from : n ≡ before.0 = only_from nodes before.0 s n before.2.enters (slot, edge) in
         let glued : IsGlued nodes n s = subst (λ m. IsGlued nodes m s) (sym from) before.2 in
         let zero_is : slot ≡ 0 = only_slot s slot s (ap (λ l. slice_get l slot) (sym glued.leaves) ∙ edge) in
-        let same : states s ≡ along received node slot (states n) =
-        state_glued received nodes lists is.blocks v n s glued ∙ ap (λ o. along_at received o 0 (states n)) here ∙ ap (λ k. along received node k (states n)) (sym zero_is) in
-        subst (BelowState (along received node slot (states n))) (sym same) (below_refl (along received node slot (states n)))
+        let same : states s ≡ passed_along received node slot (states n) =
+        state_glued received nodes lists is.blocks v n s glued ∙ ap (λ o. along_at received o 0 (states n)) here ∙ ap (λ k. passed_along received node k (states n)) (sym zero_is) in
+        subst (BelowState (passed_along received node slot (states n))) (sym same) (below_refl (passed_along received node slot (states n)))
 
     states_size : (n : ℕ) → n < length nodes → (t : Standing n) → size_of (states n) ≡ size
     states_size n lt t = ap size_of (state_at received nodes lists is.blocks v t.0 n t.1) ∙ through_size received nodes (take t.1.place t.1.list) (v t.0) ∙ value_size t.0 (listed_within t.0 n t.1)
@@ -275,7 +222,7 @@ module _ (size : ℕ) (received : List ℕ) (nodes : List Node) (lists : List (L
         let node = some_at nodes before.0 (slot_within nodes before.0 0 n edge) in
         let so_far = through_below list h chain begins i before.0 before.1 in
         let passed = at_mono received (slice_get nodes before.0) 0 _ _ so_far in
-        let on : BelowState (along received node.0 0 (others before.0)) (others n) = are.edges before.0 0 n node.0 node.1 edge in
+        let on : BelowState (passed_along received node.0 0 (others before.0)) (others n) = are.edges before.0 0 n node.0 node.1 edge in
         let on' : BelowState (along_at received (slice_get nodes before.0) 0 (others before.0)) (others n) = subst (λ o. BelowState (along_at received o 0 (others before.0)) (others n)) (sym node.1) on in
         let both = below_trans _ _ _ passed on' in
         let is_more : through_nodes received nodes (take (suc i) list) (others h) ≡ along_at received (slice_get nodes before.0) 0 (through_nodes received nodes (take i list) (others h)) =
@@ -292,13 +239,13 @@ module _ (size : ℕ) (received : List ℕ) (nodes : List Node) (lists : List (L
 
     -- and what leaves the last node is below what is at the target
     leaving_below : (b n slot target : ℕ) (node : Node) (u : StandsIn lists b n) → Ends n u.list → slice_get nodes n ≡ Some node → target < length lists → ((s : ℕ) → IsEdge nodes n slot s → StandsIn lists target s)
-        → BelowState (along received node slot (others n)) (others (head target))
+        → BelowState (passed_along received node slot (others n)) (others (head target))
     leaving_below b n slot target node u ends here low leads = by_slot (slice_get (node_succs node) slot) refl
       where
         sized : size_of (others n) ≡ size
         sized = are.sizes n (slice_get_within nodes n node here)
 
-        by_slot : (o : Option ℕ) → slice_get (node_succs node) slot ≡ o → BelowState (along received node slot (others n)) (others (head target))
+        by_slot : (o : Option ℕ) → slice_get (node_succs node) slot ≡ o → BelowState (passed_along received node slot (others n)) (others (head target))
         by_slot None e =
             subst (λ x. BelowState x (others (head target))) (sym (along_no_edge received node slot (others n) e))
             (unreached_below (size_of (others n)) (others (head target)) (sized ∙ sym (are.sizes (head target) (stands_within received nodes lists is.blocks others target (head target) (head_stands target low)))))
@@ -306,7 +253,7 @@ module _ (size : ℕ) (received : List ℕ) (nodes : List Node) (lists : List (L
             let edge : IsEdge nodes n slot s = ap (λ o. slice_get (succs_of o) slot) here ∙ e in
             let t = leads s edge in
             let first = enters_first n slot s target b t u ends edge in
-            subst (λ k. BelowState (along received node slot (others n)) (others k)) (sym (head_is target s t first)) (are.edges n slot s node here edge)
+            subst (λ k. BelowState (passed_along received node slot (others n)) (others k)) (sym (head_is target s t first)) (are.edges n slot s node here edge)
 
     abbrev heads : ℕ → NodeState
     heads b = others (head b)
@@ -322,8 +269,8 @@ module _ (size : ℕ) (received : List ℕ) (nodes : List Node) (lists : List (L
         let block = is.blocks.blocks (e / 2) list.0 list.1 in
         let list_is : block_at lists (e / 2) ≡ list.0 = get_or_from_slice_get lists (e / 2) list.0 [] list.1 in
         let h = begin_of nodes list.0 block.chain in
-        let m = ends_with nodes list.0 block.chain in
-        let at : slice_get list.0 (length list.0 - 1) ≡ Some m.0 = ends_at list.0 m.0 m.1 in
+        let m = chain_ends nodes list.0 block.chain in
+        let at : slice_get list.0 (length list.0 - 1) ≡ Some m.0 = end_stands list.0 m.0 m.1 in
         let last_is : last_of list.0 ≡ m.0 = get_or_from_slice_get list.0 (length list.0 - 1) m.0 0 at in
         let u : StandsIn lists (e / 2) m.0 = record { list = list.0; listed = list.1; place = length list.0 - 1; is = at } in
         let first : StandsIn lists (e / 2) h.0 = record { list = list.0; listed = list.1; place = 0; is = h.2 } in

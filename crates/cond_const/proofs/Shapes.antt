@@ -21,7 +21,7 @@ use Rattle.cond_const.specs.declared.known.Known.TheVariants.{Fixed, Varying}
 use Rattle.cond_const.specs.declared.identities.Identity.{Identity}
 use Rattle.cond_const.specs.declared.identities.Identity.TheVariants.{Absent, Itself, Always}
 use Rattle.cond_const.specs.Identities.{identity_same, identity_left, identity_right}
-use Rattle.cond_const.specs.States.{NodeState, Unreached, Reached}
+use Rattle.cond_const.specs.States.{NodeState, Unreached, Knows}
 use Rattle.cond_const.specs.Folding.{known_at, resolved_as, resolved, resolved_rhs, resolved_test, by_identity, folded_binary, folded, folded_rhs, decided_test, slot_of, passes_by, passes, folded_test, folded_node, folded_at, folded_from, folded_nodes}
 use Rattle.cond_const.proofs.Folds.{folded_get, slot_itself, slot_leads}
 
@@ -66,7 +66,7 @@ node_back ks (Return a) slot s e = cc
 -- the same of a node that is not reached
 at_back : (state : NodeState) (node : Node) (slot s : ℕ) → slice_get (node_succs (folded_at state node)) slot ≡ Some s → (slot' : ℕ) × (slice_get (node_succs node) slot' ≡ Some s)
 at_back (Unreached n) node slot s e = (slot, e)
-at_back (Reached ks) node slot s e = let back = node_back ks node slot s e in (back.0, back.1)
+at_back (Knows ks) node slot s e = let back = node_back ks node slot s e in (back.0, back.1)
 
 -- the edges of a Test that pass the state
 test_on : (test test' : tests.Test) (taken other : ℕ) (o : Option Bool) (slot s : ℕ) → slice_get (taken ∷ other ∷ []) slot ≡ Some s → passes_by slot o ≡ true → (slot' : ℕ) × (slice_get (node_succs (folded_test test' taken other o)) slot' ≡ Some s)
@@ -159,7 +159,7 @@ module _ (k : ℕ) where
 
   at_below : (state : NodeState) (node : Node) → AllBelow k (node_vars node) → AllBelow k (node_vars (folded_at state node))
   at_below (Unreached n) node low = low
-  at_below (Reached ks) node low = node_below ks node low
+  at_below (Knows ks) node low = node_below ks node low
 
 -- ---- Start and calls
 
@@ -171,18 +171,18 @@ test_start test taken other s (Some b) e = cc
 -- of any node
 node_start : (state : NodeState) (node : Node) (s : ℕ) → folded_at state node ≡ Start s → (t : ℕ) × (node ≡ Start t)
 node_start (Unreached n) node s e = (s, e)
-node_start (Reached ks) (Start next) s e = (next, refl)
-node_start (Reached ks) (Skip next) s e = cc
-node_start (Reached ks) (Assign x rhs next) s e = cc
-node_start (Reached ks) (Print a next) s e = cc
-node_start (Reached ks) (Call into unit operands next) s e = cc
-node_start (Reached ks) (Test test taken other) s e = absurd (test_start (resolved_test ks test) taken other s (decided_test ks test) e)
-node_start (Reached ks) (Return a) s e = cc
+node_start (Knows ks) (Start next) s e = (next, refl)
+node_start (Knows ks) (Skip next) s e = cc
+node_start (Knows ks) (Assign x rhs next) s e = cc
+node_start (Knows ks) (Print a next) s e = cc
+node_start (Knows ks) (Call into unit operands next) s e = cc
+node_start (Knows ks) (Test test taken other) s e = absurd (test_start (resolved_test ks test) taken other s (decided_test ks test) e)
+node_start (Knows ks) (Return a) s e = cc
 
 -- and it stays
 start_stays : (state : NodeState) (s : ℕ) → folded_at state (Start s) ≡ Start s
 start_stays (Unreached n) s = refl
-start_stays (Reached ks) s = refl
+start_stays (Knows ks) s = refl
 
 -- a Test makes no call
 test_call : (test : tests.Test) (taken other : ℕ) (o : Option Bool) → node_call (folded_test test taken other o) ≡ None
@@ -192,13 +192,13 @@ test_call test taken other (Some b) = refl
 -- each other node makes the call that it made
 at_call : (state : NodeState) (node : Node) → node_call (folded_at state node) ≡ node_call node
 at_call (Unreached n) node = refl
-at_call (Reached ks) (Start next) = refl
-at_call (Reached ks) (Skip next) = refl
-at_call (Reached ks) (Assign x rhs next) = refl
-at_call (Reached ks) (Print a next) = refl
-at_call (Reached ks) (Call into unit operands next) = ap (λ n. Some (unit, n)) (length-map operands (resolved ks))
-at_call (Reached ks) (Test test taken other) = test_call (resolved_test ks test) taken other (decided_test ks test)
-at_call (Reached ks) (Return a) = refl
+at_call (Knows ks) (Start next) = refl
+at_call (Knows ks) (Skip next) = refl
+at_call (Knows ks) (Assign x rhs next) = refl
+at_call (Knows ks) (Print a next) = refl
+at_call (Knows ks) (Call into unit operands next) = ap (λ n. Some (unit, n)) (length-map operands (resolved ks))
+at_call (Knows ks) (Test test taken other) = test_call (resolved_test ks test) taken other (decided_test ks test)
+at_call (Knows ks) (Return a) = refl
 
 -- ---- the nodes
 
@@ -218,8 +218,8 @@ module _ (states : ℕ → NodeState) (nodes : List Node) where
           let back = at_back (states m) node slot s leads in
           (back.0, ap (λ o. slice_get (succs_of o) back.0) here ∙ back.1)
 
-  pub can_make : (vars : List (List ℕ)) (received : List ℕ) → CanMake vars received nodes → CanMake vars received (folded_nodes states nodes)
-  can_make vars received can = record {
+  pub folded_can_make : (vars : List (List ℕ)) (received : List ℕ) → CanMake vars received nodes → CanMake vars received (folded_nodes states nodes)
+  folded_can_make vars received can = record {
     start = (can.start.0, folded_get states nodes 0 ∙ ap (option_map (folded_at (states 0))) can.start.1 ∙ ap Some (start_stays (states 0) can.start.0));
     only = λ n s e. let from = folded_from_node n (Start s) e in let was = node_start (states n) from.0 s from.2 in can.only n was.0 (from.1 ∙ ap Some was.1);
     succs = λ m slot s edge. let back = edge_back m slot s edge in let low = can.succs m back.0 s back.1 in (low.0, subst (λ n. s < n) (sym (length_folded states nodes)) low.1);

@@ -25,7 +25,7 @@ use Rattle.cond_const.specs.declared.known.Known.TheVariants.{Fixed, Varying}
 use Rattle.cond_const.specs.declared.identities.Identity.{Identity}
 use Rattle.cond_const.specs.declared.identities.Identity.TheVariants.{Absent, Itself, Always}
 use Rattle.cond_const.specs.Identities.{identity_same, identity_left, identity_right, IsIdentity}
-use Rattle.cond_const.specs.States.{NodeState, Unreached, Reached, BelowKnown, BelowEach, BelowState}
+use Rattle.cond_const.specs.States.{NodeState, Unreached, Knows, BelowKnown, BelowEach, BelowState}
 use Rattle.cond_const.specs.Folding.{known_at, resolved_as, resolved, resolved_rhs, resolved_test, by_identity, folded_binary, folded, folded_rhs, known_of, known_rhs, relates_itself, decided_relation, decided, decided_test, all_varying, start_known}
 use Rattle.cond_const.specs.IdentityLaws.{same_keeps, right_keeps, left_keeps}
 use Rattle.cond_const.specs.RelationLaws.{relation_same}
@@ -42,7 +42,7 @@ pub record Agrees (ks : List Known) (values : Values) : Type 0 where
 -- what is known holds; nothing does where no run comes
 abbrev pub HoldsAt : NodeState → Values → Type 0
 HoldsAt (Unreached n) values = ⊥
-HoldsAt (Reached ks) values = Agrees ks values
+HoldsAt (Knows ks) values = Agrees ks values
 
 -- what is less sure holds too
 agrees_up : (xs ys : List Known) (values : Values) → BelowEach xs ys → Agrees xs values → Agrees ys values
@@ -57,8 +57,8 @@ agrees_up xs ys values p a = record { is = λ x v e. a.is x v (lower (known_at x
 -- the same of states
 pub holds_up : (s t : NodeState) (values : Values) → BelowState s t → HoldsAt s values → HoldsAt t values
 holds_up (Unreached n) t values p h = absurd h
-holds_up (Reached xs) (Unreached m) values p h = absurd p
-holds_up (Reached xs) (Reached ys) values p h = agrees_up xs ys values p h
+holds_up (Knows xs) (Unreached m) values p h = absurd p
+holds_up (Knows xs) (Knows ys) values p h = agrees_up xs ys values p h
 
 -- ---- values
 

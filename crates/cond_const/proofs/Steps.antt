@@ -1,5 +1,5 @@
 -- The steps of the loops over the nodes of a block, and of the calls on constants.
-use Rattle.std.proofs.Common.{◌≡◌, ℕ, ℤ, suc, ◌<◌, Bool, true, false, if◌then◌else◌, List, [], ◌∷◌, length, take, slice_get, slice_index_or, Some, Ok, Err, sym, ap, ◌∙◌, subst, arith, FitsSigned, w64, to_z, of_z, to_z-of_z}
+use Rattle.std.proofs.Common.{◌≡◌, ℕ, ℤ, suc, ◌<◌, Bool, true, false, if◌then◌else◌, List, length, take, slice_get, slice_index_or, Some, Ok, Err, sym, ap, ◌∙◌, subst, FitsSigned, w64, to_z, of_z, to_z-of_z}
 use Rattle.std.proofs.lemmas.Int.{int_wrap_fits}
 use Rattle.std.proofs.lemmas.Option.{slice_get-get_or, get_or_from_slice_get}
 use Rattle.mir_base.specs.declared.operators.Op.{Op}
@@ -17,16 +17,11 @@ use Rattle.flow_graph.specs.ListLaws.{some_at, take_next}
 use Rattle.cond_const.specs.declared.identities.Identity.{Identity}
 use Rattle.cond_const.specs.Identities.{identity_left, identity_right}
 use Rattle.cond_const.specs.States.{NodeState}
-use Rattle.cond_const.specs.Folding.{along, by_identity, folded_binary}
+use Rattle.cond_const.specs.Folding.{passed_along, by_identity, folded_binary}
 use Rattle.cond_const.specs.Blockwise.{along_at, through_nodes}
 use Rattle.cond_const.proofs.Nodewise.{through_more}
 
 -- ---- chains
-
--- a chain has a node
-pub chain_some : (nodes : List Node) (list : List ℕ) → IsChain nodes list → 0 < length list
-chain_some nodes [] is = absurd is
-chain_some nodes (n ∷ list) is = omega arith
 
 -- and its nodes are nodes of the graph
 pub chain_at : (nodes : List Node) (list : List ℕ) (k : ℕ) → IsChain nodes list → k < length list → slice_index_or list k 0 < length nodes
@@ -37,12 +32,12 @@ chain_at nodes list k is lt =
 
 -- a step through one node more
 pub passed_on : (received : List ℕ) (nodes : List Node) (list : List ℕ) (i j : ℕ) (node : Node) (s t u : NodeState) → i < length list → j ≡ suc i → slice_get nodes (slice_index_or list i 0) ≡ Some node
-    → t ≡ through_nodes received nodes (take i list) s → u ≡ along received node 0 t → u ≡ through_nodes received nodes (take j list) s
+    → t ≡ through_nodes received nodes (take i list) s → u ≡ passed_along received node 0 t → u ≡ through_nodes received nodes (take j list) s
 passed_on received nodes list i j node s t u lt next here so_far step =
     let at : slice_get list i ≡ Some (slice_index_or list i 0) = slice_get-get_or list i 0 lt in
     let more : through_nodes received nodes (take j list) s ≡ along_at received (slice_get nodes (slice_index_or list i 0)) 0 (through_nodes received nodes (take i list) s) =
     ap (λ k. through_nodes received nodes (take k list) s) next ∙ ap (λ l. through_nodes received nodes l s) (take_next list i (slice_index_or list i 0) at) ∙ through_more received nodes (take i list) (slice_index_or list i 0) s in
-    step ∙ ap (along received node 0) so_far ∙ sym (more ∙ ap (λ o. along_at received o 0 (through_nodes received nodes (take i list) s)) here)
+    step ∙ ap (passed_along received node 0) so_far ∙ sym (more ∙ ap (λ o. along_at received o 0 (through_nodes received nodes (take i list) s)) here)
 
 -- ---- constants
 

@@ -1,5 +1,5 @@
--- The folded graph as a whole: exactly the nodes whose state is reached are kept, it is the only one, and divisions stay.
-use Rattle.std.proofs.Common.{◌≡◌, ◌↔◌, ℕ, suc, ◌<◌, Bool, true, false, if◌then◌else◌, nat_eq, List, [], ◌∷◌, length, slice_get, slice_index_or, replicate, pos, Option, Some, None, option_map, refl, sym, ap, ◌∙◌, subst, arith, ◌+◌, add-zero, zero-add, ℤ}
+-- The folded graph as a whole: exactly the nodes whose state is reached are kept, and divisions stay.
+use Rattle.std.proofs.Common.{◌≡◌, ◌↔◌, ℕ, ◌<◌, Bool, true, false, if◌then◌else◌, nat_eq, List, length, slice_get, slice_index_or, replicate, pos, Option, Some, None, option_map, refl, sym, ap, ◌∙◌, subst, arith, ℤ}
 use Rattle.std.proofs.lemmas.Bool.{and_parts}
 use Rattle.std.proofs.lemmas.Option.{slice_get_within, slice_get-get_or, get_or_from_slice_get, slice_get-map}
 use Rattle.mir_base.specs.declared.operators.Op.{Op}
@@ -15,29 +15,26 @@ use Rattle.flow_graph.specs.Dividing.{DividesAt}
 use Rattle.flow_graph.specs.Graphs.{AllWithin, GraphShape, IsEdge, Reached as IsReachedNode, at_start, along as goes_along, node_succs, succs_of}
 use Rattle.flow_graph.specs.Kept.{AreKept, IsMade, marked, marked_below, redirected}
 use Rattle.flow_graph.specs.KeptLaws.{at_rank, rank_below}
-use Rattle.flow_graph.specs.ListLaws.{cons_same}
-use Rattle.flow_graph.specs.OneLaws.{made_is_one}
 use Rattle.cond_const.specs.declared.known.Known.{Known}
 use Rattle.cond_const.specs.declared.known.Known.TheVariants.{Fixed}
 use Rattle.cond_const.specs.Identities.{identity_right}
-use Rattle.cond_const.specs.States.{NodeState, Unreached, Reached, BelowState, is_reached, size_of}
-use Rattle.cond_const.specs.Folding.{known_after, along, by_identity, folded_at, folded_binary, folded_from, folded_node, folded_nodes, folded_rhs, passes, resolved}
+use Rattle.cond_const.specs.States.{NodeState, Unreached, Knows, BelowState, is_reached, size_of}
+use Rattle.cond_const.specs.Folding.{known_after, passed_along, by_identity, folded_at, folded_binary, folded_node, folded_nodes, folded_rhs, passes, resolved}
 use Rattle.cond_const.specs.Folded.{AreStates, HasLeastStates, IsFolded, KeepsDivisions}
 use Rattle.cond_const.specs.RelationLaws.{int_eq_is}
-use Rattle.cond_const.specs.StateLaws.{below_antisym}
 use Rattle.cond_const.specs.PassingLaws.{unreached_below}
 use Rattle.cond_const.proofs.Folds.{folded_get}
 use Rattle.cond_const.proofs.Shapes.{length_folded, node_back, node_on}
 
 -- a state that is reached
-known_of_reached : (s : NodeState) → is_reached s ≡ true → (ks : List Known) × (s ≡ Reached ks)
+known_of_reached : (s : NodeState) → is_reached s ≡ true → (ks : List Known) × (s ≡ Knows ks)
 known_of_reached (Unreached n) h = cc
-known_of_reached (Reached ks) h = (ks, refl)
+known_of_reached (Knows ks) h = (ks, refl)
 
 -- what is above it is reached
-above_reached : (ks : List Known) (t : NodeState) → BelowState (Reached ks) t → is_reached t ≡ true
+above_reached : (ks : List Known) (t : NodeState) → BelowState (Knows ks) t → is_reached t ≡ true
 above_reached ks (Unreached n) p = absurd p
-above_reached ks (Reached ls) p = refl
+above_reached ks (Knows ls) p = refl
 
 -- ---- what is reached
 
@@ -45,19 +42,19 @@ module _ (received : List ℕ) (nodes : List Node) (size : ℕ) (states : ℕ �
   abbrev after : List Node
   after = folded_nodes states nodes
 
-  folded_here : (n : ℕ) (ks : List Known) → states n ≡ Reached ks → slice_get after n ≡ option_map (folded_node ks) (slice_get nodes n)
+  folded_here : (n : ℕ) (ks : List Known) → states n ≡ Knows ks → slice_get after n ≡ option_map (folded_node ks) (slice_get nodes n)
   folded_here n ks known = folded_get states nodes n ∙ ap (λ s. option_map (folded_at s) (slice_get nodes n)) known
 
   -- along an edge that passes a state a node is reached
-  passed : (n slot s : ℕ) (ks : List Known) (node : Node) → states n ≡ Reached ks → slice_get nodes n ≡ Some node → slice_get (node_succs node) slot ≡ Some s → passes node slot ks ≡ true → is_reached (states s) ≡ true
+  passed : (n slot s : ℕ) (ks : List Known) (node : Node) → states n ≡ Knows ks → slice_get nodes n ≡ Some node → slice_get (node_succs node) slot ≡ Some s → passes node slot ks ≡ true → is_reached (states s) ≡ true
   passed n slot s ks node known here leads passing =
       let edge : IsEdge nodes n slot s = ap (λ o. slice_get (succs_of o) slot) here ∙ leads in
-      let above : BelowState (along received node slot (states n)) (states s) = are.edges n slot s node here edge in
-      let above' : BelowState (along received node slot (Reached ks)) (states s) = subst (λ t. BelowState (along received node slot t) (states s)) known above in
-      let above'' : BelowState (Reached (known_after received node ks)) (states s) = subst (λ b. BelowState (if b then Reached (known_after received node ks) else Unreached (length ks)) (states s)) passing above' in
+      let above : BelowState (passed_along received node slot (states n)) (states s) = are.edges n slot s node here edge in
+      let above' : BelowState (passed_along received node slot (Knows ks)) (states s) = subst (λ t. BelowState (passed_along received node slot t) (states s)) known above in
+      let above'' : BelowState (Knows (known_after received node ks)) (states s) = subst (λ b. BelowState (if b then Knows (known_after received node ks) else Unreached (length ks)) (states s)) passing above' in
       above_reached (known_after received node ks) (states s) above''
 
-  leads_on : (n slot s : ℕ) (ks : List Known) (o : Option Node) → states n ≡ Reached ks → slice_get nodes n ≡ o → slice_get (succs_of (option_map (folded_node ks) o)) slot ≡ Some s → is_reached (states s) ≡ true
+  leads_on : (n slot s : ℕ) (ks : List Known) (o : Option Node) → states n ≡ Knows ks → slice_get nodes n ≡ o → slice_get (succs_of (option_map (folded_node ks) o)) slot ≡ Some s → is_reached (states s) ≡ true
   leads_on n slot s ks None known here leads = cc
   leads_on n slot s ks (Some node) known here leads = let back = node_back ks node slot s leads in passed n back.0 s ks node known here back.1 back.2
 
@@ -98,14 +95,14 @@ module _ (received : List ℕ) (nodes : List Node) (size : ℕ) (states : ℕ �
         cases false = refl
 
     -- an edge from a kept node to one that is not kept passes nothing
-    stopped : (n slot s : ℕ) (node : Node) (state : NodeState) → states n ≡ state → slice_get nodes n ≡ Some node → IsEdge nodes n slot s → bits n ≡ true → bits s ≡ false → BelowState (along received node slot state) (Unreached size)
+    stopped : (n slot s : ℕ) (node : Node) (state : NodeState) → states n ≡ state → slice_get nodes n ≡ Some node → IsEdge nodes n slot s → bits n ≡ true → bits s ≡ false → BelowState (passed_along received node slot state) (Unreached size)
     stopped n slot s node (Unreached k) known here edge on off = sym (ap size_of known) ∙ are.sizes n (slice_get_within nodes n node here)
-    stopped n slot s node (Reached ks) known here edge on off = cases (passes node slot ks) refl
+    stopped n slot s node (Knows ks) known here edge on off = cases (passes node slot ks) refl
       where
         lt : n < length nodes
         lt = slice_get_within nodes n node here
 
-        cases : (b : Bool) → passes node slot ks ≡ b → BelowState (if b then Reached (known_after received node ks) else Unreached (length ks)) (Unreached size)
+        cases : (b : Bool) → passes node slot ks ≡ b → BelowState (if b then Knows (known_after received node ks) else Unreached (length ks)) (Unreached size)
         cases true passing =
             let more = node_on ks node slot s (ap (λ o. slice_get (succs_of o) slot) (sym here) ∙ edge) passing in
             let there : slice_get after n ≡ Some (folded_node ks node) = folded_here n ks known ∙ ap (option_map (folded_node ks)) here in
@@ -114,7 +111,7 @@ module _ (received : List ℕ) (nodes : List Node) (size : ℕ) (states : ℕ �
             absurd (cc)
         cases false passing = sym (ap size_of known) ∙ are.sizes n lt
 
-    others_along : (n slot s : ℕ) (node : Node) → slice_get nodes n ≡ Some node → IsEdge nodes n slot s → (b b' : Bool) → bits n ≡ b → bits s ≡ b' → BelowState (along received node slot (if b then states n else Unreached size)) (if b' then states s else Unreached size)
+    others_along : (n slot s : ℕ) (node : Node) → slice_get nodes n ≡ Some node → IsEdge nodes n slot s → (b b' : Bool) → bits n ≡ b → bits s ≡ b' → BelowState (passed_along received node slot (if b then states n else Unreached size)) (if b' then states s else Unreached size)
     others_along n slot s node here edge true true on on' = are.edges n slot s node here edge
     others_along n slot s node here edge true false on off = stopped n slot s node (states n) refl here edge on off
     others_along n slot s node here edge false true off on = unreached_below size (states s) (sym (are.sizes s (within n slot s edge)))
@@ -123,7 +120,7 @@ module _ (received : List ℕ) (nodes : List Node) (size : ℕ) (states : ℕ �
     others_are : 0 < length nodes → AreStates received nodes size others
     others_are lt = record {
       sizes = others_size;
-      start = subst (λ b. BelowState (Reached (replicate size (Fixed (pos 0)))) (if b then states 0 else Unreached size)) (sym (some_node lt)) are.start;
+      start = subst (λ b. BelowState (Knows (replicate size (Fixed (pos 0)))) (if b then states 0 else Unreached size)) (sym (some_node lt)) are.start;
       edges = λ n slot s node here edge. others_along n slot s node here edge (bits n) (bits s) refl refl;
     }
 
@@ -142,27 +139,6 @@ exactly_kept graph made states within least is_made n lt = (
   kept_reached graph.received graph.nodes (length graph.vars) states least.are n,
   reached_kept graph.received graph.nodes (length graph.vars) states least.are least.least within made.nodes is_made.nodes_are n lt,
 )
-
--- ---- there is one folded graph
-
--- the least states are determined at the nodes
-states_are_one : (graph : GraphShape) (states others : ℕ → NodeState) → HasLeastStates graph states → HasLeastStates graph others → (n : ℕ) → n < length graph.nodes → states n ≡ others n
-states_are_one graph states others p q n lt = below_antisym (states n) (others n) (p.least others q.are n lt) (q.least states p.are n lt)
-
--- so is what the nodes become
-folded_are_one : (k : ℕ) (states others : ℕ → NodeState) (nodes : List Node) → ((n : ℕ) → n < length nodes → states (k + n) ≡ others (k + n)) → folded_from k states nodes ≡ folded_from k others nodes
-folded_are_one k states others [] same = refl
-folded_are_one k states others (node ∷ nodes) same =
-    let here : states k ≡ others k = subst (λ j. states j ≡ others j) (add-zero k) (same 0 (omega arith)) in
-    let rest = folded_are_one (suc k) states others nodes (λ n lt. subst (λ j. states j ≡ others j) (let e : k + suc n ≡ suc k + n = omega arith in e) (same (suc n) (omega (arith, lt)))) in
-    cons_same (ap (λ s. folded_at s node) here) rest
-
--- and the graph that is made
-pub folded_is_one : (graph a b : GraphShape) → IsFolded graph a → IsFolded graph b → a ≡ b
-folded_is_one graph a b p q =
-    let same : folded_nodes p.states graph.nodes ≡ folded_nodes q.states graph.nodes =
-    folded_are_one 0 p.states q.states graph.nodes (λ n lt. subst (λ j. p.states j ≡ q.states j) (sym (zero-add n)) (states_are_one graph p.states q.states p.least q.least n lt)) in
-    made_is_one graph.name graph.vars graph.received (folded_nodes q.states graph.nodes) a b (subst (λ l. IsMade graph.name graph.vars graph.received l a) same p.made) q.made
 
 -- ---- divisions
 
@@ -225,7 +201,7 @@ module _ (graph made : GraphShape) (is : IsFolded graph made) where
       ∙ ap (option_map (redirected (marked_below marks))) (at_rank marks (folded_nodes is.states graph.nodes) n (is_marked n (slice_get_within graph.nodes n node here) on) is.made.nodes_are.are_marks.long
       ∙ folded_get is.states graph.nodes n ∙ ap (option_map (folded_at (is.states n))) here)
 
-  assigned : (n x : ℕ) (op : Op) (known : List Known) (d : DividesAt graph.nodes n x op) → is.states n ≡ Reached known → slice_get made.nodes (marked_below marks n) ≡ Some (Assign x (folded_rhs known (Binary op d.left d.right)) (marked_below marks d.next))
+  assigned : (n x : ℕ) (op : Op) (known : List Known) (d : DividesAt graph.nodes n x op) → is.states n ≡ Knows known → slice_get made.nodes (marked_below marks n) ≡ Some (Assign x (folded_rhs known (Binary op d.left d.right)) (marked_below marks d.next))
   assigned n x op known d reached = stands n (Assign x (Binary op d.left d.right) d.next) d.is (ap is_reached reached) ∙ ap (λ s. Some (redirected (marked_below marks) (folded_at s (Assign x (Binary op d.left d.right) d.next)))) reached
 
   pub keeps_divisions : KeepsDivisions graph made

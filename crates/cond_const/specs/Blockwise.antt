@@ -9,14 +9,14 @@ use Rattle.flow_graph.specs.Tables.{number_at}
 use Rattle.cond_const.specs.declared.flow.StateFlow.{StateFlow}
 use Rattle.cond_const.specs.declared.known.Known.TheVariants.{Fixed}
 use Rattle.cond_const.specs.States.{NodeState, Unreached, BelowState}
-use Rattle.cond_const.specs.Folding.{along, entry_state}
+use Rattle.cond_const.specs.Folding.{passed_along, entry_state}
 
 -- ---- what passes through a block
 
 -- what passes along the edge at this slot of a node that may be absent
 abbrev pub along_at : List ℕ → Option Node → ℕ → NodeState → NodeState
 along_at received None slot s = s
-along_at received (Some node) slot s = along received node slot s
+along_at received (Some node) slot s = passed_along received node slot s
 
 -- what passes through these nodes, one after the other
 abbrev pub through_nodes : List ℕ → List Node → List ℕ → NodeState → NodeState

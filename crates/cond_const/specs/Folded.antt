@@ -9,15 +9,15 @@ use Rattle.flow_graph.specs.Dividing.{DividesAt}
 use Rattle.flow_graph.specs.Graphs.{GraphShape, IsEdge, Reached as IsReachedNode}
 use Rattle.flow_graph.specs.Kept.{IsMade}
 use Rattle.cond_const.specs.declared.known.Known.{Known}
-use Rattle.cond_const.specs.States.{NodeState, Reached, BelowState, is_reached, size_of}
-use Rattle.cond_const.specs.Folding.{along, entry_state, folded_nodes, resolved}
+use Rattle.cond_const.specs.States.{NodeState, Knows, BelowState, is_reached, size_of}
+use Rattle.cond_const.specs.Folding.{passed_along, entry_state, folded_nodes, resolved}
 
 -- a state for each node, about so many variables: that of Start is not below the entry's, and that of the target of each
 -- edge is not below what passes along it
 pub record AreStates (received : List ℕ) (nodes : List Node) (size : ℕ) (states : ℕ → NodeState) : Type 0 where
   pub sizes : (n : ℕ) → n < length nodes → size_of (states n) ≡ size
   pub start : BelowState (entry_state size) (states 0)
-  pub edges : (n slot s : ℕ) (node : Node) → slice_get nodes n ≡ Some node → IsEdge nodes n slot s → BelowState (along received node slot (states n)) (states s)
+  pub edges : (n slot s : ℕ) (node : Node) → slice_get nodes n ≡ Some node → IsEdge nodes n slot s → BelowState (passed_along received node slot (states n)) (states s)
 
 -- and the least such states: at each node the others know no more
 pub record AreLeastStates (received : List ℕ) (nodes : List Node) (size : ℕ) (states : ℕ → NodeState) : Type 0 where
@@ -59,5 +59,5 @@ pub record KeepsDivisions (graph folded : GraphShape) : Type 0 where
   pub least : HasLeastStates graph states
   pub place : ℕ → ℕ
   pub variable : (n x : ℕ) (op : Op) → DividesAt graph.nodes n x op → is_reached (states n) ≡ true → AssignsAt folded.nodes (place n) x
-  pub operator : (n x : ℕ) (op : Op) (known : List Known) (divides : DividesAt graph.nodes n x op) → states n ≡ Reached known → may_be_zero (resolved known divides.right) ≡ true → DividesAt folded.nodes (place n) x op
+  pub operator : (n x : ℕ) (op : Op) (known : List Known) (divides : DividesAt graph.nodes n x op) → states n ≡ Knows known → may_be_zero (resolved known divides.right) ≡ true → DividesAt folded.nodes (place n) x op
   pub in_order : (n m x y : ℕ) (op other : Op) → DividesAt graph.nodes n x op → DividesAt graph.nodes m y other → is_reached (states n) ≡ true → n < m → place n < place m

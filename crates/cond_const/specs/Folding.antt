@@ -17,7 +17,7 @@ use Rattle.cond_const.specs.declared.known.Known.TheVariants.{Fixed, Varying}
 use Rattle.cond_const.specs.declared.identities.Identity.{Identity}
 use Rattle.cond_const.specs.declared.identities.Identity.TheVariants.{Absent, Itself, Always}
 use Rattle.cond_const.specs.Identities.{identity_same, identity_left, identity_right}
-use Rattle.cond_const.specs.States.{NodeState, Unreached, Reached}
+use Rattle.cond_const.specs.States.{NodeState, Unreached, Knows}
 
 -- what is known of a variable
 abbrev pub known_at : List Known → ℕ → Known
@@ -151,13 +151,13 @@ passes (Test test taken other) slot known = passes_by slot (decided_test known t
 passes (Return a) slot known = false
 
 -- what passes along the edge at this slot of a node
-abbrev pub along : List ℕ → Node → ℕ → NodeState → NodeState
-along received node slot (Unreached size) = Unreached size
-along received node slot (Reached known) = if passes node slot known then Reached (known_after received node known) else Unreached (length known)
+abbrev pub passed_along : List ℕ → Node → ℕ → NodeState → NodeState
+passed_along received node slot (Unreached size) = Unreached size
+passed_along received node slot (Knows known) = if passes node slot known then Knows (known_after received node known) else Unreached (length known)
 
 -- before Start all variables are 0
 abbrev pub entry_state : ℕ → NodeState
-entry_state size = Reached (replicate size (Fixed (pos 0)))
+entry_state size = Knows (replicate size (Fixed (pos 0)))
 
 -- ---- what a node becomes
 
@@ -179,7 +179,7 @@ folded_node known (Return a) = Return (resolved known a)
 -- a node that is not reached stays as it is; it is dropped afterwards
 abbrev pub folded_at : NodeState → Node → Node
 folded_at (Unreached size) node = node
-folded_at (Reached known) node = folded_node known node
+folded_at (Knows known) node = folded_node known node
 
 -- the nodes from number n on
 abbrev pub folded_from : ℕ → (ℕ → NodeState) → List Node → List Node

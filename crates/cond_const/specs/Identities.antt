@@ -12,6 +12,10 @@ use Rattle.cond_const.specs.declared.identities.Identity.TheVariants.{Absent, It
 abbrev pub where_equal : ℤ → ℤ → Identity → Identity → Identity
 where_equal c number there elsewhere = if int_eq c number then there else elsewhere
 
+-- the first identity where no bit of the constant is set, and the second where all are
+abbrev pub where_clear_or_set : ℤ → Identity → Identity → Identity
+where_clear_or_set c clear set = where_equal c (pos 0) clear (where_equal c (negsuc 0) set Absent)
+
 -- a shift by this number leaves a number as it is
 abbrev pub shifts_nowhere : ℤ → Bool
 shifts_nowhere c = nat_eq (distance c) 0
@@ -42,8 +46,8 @@ identity_right Mod c = where_equal c (pos 1) (Always (pos 0)) (where_equal c (ne
 identity_right Shl c = if shifts_nowhere c then Itself else Absent
 identity_right Shr c = if shifts_nowhere c then Itself else Absent
 identity_right Shra c = if shifts_nowhere c then Itself else Absent
-identity_right And c = where_equal c (pos 0) (Always (pos 0)) (where_equal c (negsuc 0) Itself Absent)
-identity_right Or c = where_equal c (pos 0) Itself (where_equal c (negsuc 0) (Always (negsuc 0)) Absent)
+identity_right And c = where_clear_or_set c (Always (pos 0)) Itself
+identity_right Or c = where_clear_or_set c Itself (Always (negsuc 0))
 identity_right Xor c = where_equal c (pos 0) Itself Absent
 identity_right _ c = Absent
 
@@ -54,8 +58,8 @@ identity_left Mul c = where_equal c (pos 0) (Always (pos 0)) (where_equal c (pos
 identity_left Shl c = where_equal c (pos 0) (Always (pos 0)) Absent
 identity_left Shr c = where_equal c (pos 0) (Always (pos 0)) Absent
 identity_left Shra c = where_equal c (pos 0) (Always (pos 0)) Absent
-identity_left And c = where_equal c (pos 0) (Always (pos 0)) (where_equal c (negsuc 0) Itself Absent)
-identity_left Or c = where_equal c (pos 0) Itself (where_equal c (negsuc 0) (Always (negsuc 0)) Absent)
+identity_left And c = where_clear_or_set c (Always (pos 0)) Itself
+identity_left Or c = where_clear_or_set c Itself (Always (negsuc 0))
 identity_left Xor c = where_equal c (pos 0) Itself Absent
 identity_left _ c = Absent
 

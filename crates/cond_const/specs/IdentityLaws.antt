@@ -11,7 +11,7 @@ use Rattle.mir_base.specs.declared.operators.Op.{Op}
 use Rattle.mir_base.specs.declared.operators.Op.TheVariants.{Add, Sub, Mul, Div, Mod, Min, Max, Eq, Ne, Lt, Le, Gt, Ge, Shl, Shr, Shra, And, Or, Xor}
 use Rattle.mir_base.specs.Numbers.{wrapped, unsigned, traps, truth, value_of_op, distance}
 use Rattle.mir_base.specs.NumberLaws.{zero_fits}
-use Rattle.mir_base.proofs.Words.{shr_is, and_is, or_is, xor_is}
+use Rattle.mir_base.specs.WordLaws.{shr_is, and_is, or_is, xor_is}
 use Rattle.cond_const.specs.declared.identities.Identity.{Identity}
 use Rattle.cond_const.specs.declared.identities.Identity.TheVariants.{Absent, Itself, Always}
 use Rattle.cond_const.specs.Identities.{where_equal, identity_same, identity_left, identity_right, IsIdentity}

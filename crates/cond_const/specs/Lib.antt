@@ -9,3 +9,4 @@ pub mod RelationLaws
 pub mod StateLaws
 pub mod PassingLaws
 pub mod FlowLaws
+pub mod FoldLaws

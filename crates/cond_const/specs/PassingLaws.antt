@@ -21,8 +21,8 @@ use Rattle.cond_const.specs.declared.known.Known.TheVariants.{Fixed, Varying}
 use Rattle.cond_const.specs.declared.identities.Identity.{Identity}
 use Rattle.cond_const.specs.declared.identities.Identity.TheVariants.{Absent, Itself, Always}
 use Rattle.cond_const.specs.Identities.{identity_same, identity_left, identity_right, IsIdentity}
-use Rattle.cond_const.specs.States.{NodeState, Unreached, Reached, size_of, BelowKnown, BelowEach, BelowState}
-use Rattle.cond_const.specs.Folding.{known_at, resolved_as, resolved, by_identity, folded_binary, folded, known_of, known_rhs, relates_itself, decided_relation, decided, decided_test, all_varying, start_known, after_call, known_after, passes_by, passes, along}
+use Rattle.cond_const.specs.States.{NodeState, Unreached, Knows, size_of, BelowKnown, BelowEach, BelowState}
+use Rattle.cond_const.specs.Folding.{known_at, resolved_as, resolved, by_identity, folded_binary, folded, known_of, known_rhs, relates_itself, decided_relation, decided, decided_test, all_varying, start_known, after_call, known_after, passes_by, passes, passed_along}
 use Rattle.cond_const.specs.IdentityLaws.{same_keeps, right_keeps, left_keeps}
 use Rattle.cond_const.specs.RelationLaws.{relation_same}
 use Rattle.cond_const.specs.StateLaws.{below_size, each_length, each_refl, known_refl, known_top}
@@ -276,7 +276,7 @@ length-after received (Return a) ks = refl
 
 -- what passes, where it is known whether it does
 along_by : List ℕ → Node → List Known → Bool → NodeState
-along_by received node ks b = (if b then Reached (known_after received node ks) else Unreached (length ks))
+along_by received node ks b = (if b then Knows (known_after received node ks) else Unreached (length ks))
 
 -- it has the size of the state
 by_size : (received : List ℕ) (node : Node) (ks : List Known) (b : Bool) → size_of (along_by received node ks b) ≡ length ks
@@ -285,27 +285,27 @@ by_size received node ks true = length-after received node ks
 by_size received node ks false = refl
 
 -- the number of variables stays
-pub along_size : (received : List ℕ) (node : Node) (slot : ℕ) (s : NodeState) → size_of (along received node slot s) ≡ size_of s
+pub along_size : (received : List ℕ) (node : Node) (slot : ℕ) (s : NodeState) → size_of (passed_along received node slot s) ≡ size_of s
 unfolding along_by
 along_size received node slot (Unreached n) = refl
-along_size received node slot (Reached ks) = by_size received node ks (passes node slot ks)
+along_size received node slot (Knows ks) = by_size received node ks (passes node slot ks)
 
 -- a node that is not reached is below every state of its size
 pub unreached_below : (n : ℕ) (s : NodeState) → n ≡ size_of s → BelowState (Unreached n) s
 unreached_below n (Unreached m) e = e
-unreached_below n (Reached ks) e = e
+unreached_below n (Knows ks) e = e
 
 -- the surer the state, the surer what passes
-pub along_mono : (received : List ℕ) (node : Node) (slot : ℕ) (s t : NodeState) → BelowState s t → BelowState (along received node slot s) (along received node slot t)
+pub along_mono : (received : List ℕ) (node : Node) (slot : ℕ) (s t : NodeState) → BelowState s t → BelowState (passed_along received node slot s) (passed_along received node slot t)
 unfolding along_by
-along_mono received node slot (Unreached n) t p = unreached_below n (along received node slot t) (below_size (Unreached n) t p ∙ sym (along_size received node slot t))
-along_mono received node slot (Reached xs) (Unreached m) p = absurd p
-along_mono received node slot (Reached xs) (Reached ys) p = cases (passes node slot xs) refl
+along_mono received node slot (Unreached n) t p = unreached_below n (passed_along received node slot t) (below_size (Unreached n) t p ∙ sym (along_size received node slot t))
+along_mono received node slot (Knows xs) (Unreached m) p = absurd p
+along_mono received node slot (Knows xs) (Knows ys) p = cases (passes node slot xs) refl
   where
-    cases : (b : Bool) → passes node slot xs ≡ b → BelowState (along_by received node xs b) (along received node slot (Reached ys))
+    cases : (b : Bool) → passes node slot xs ≡ b → BelowState (along_by received node xs b) (passed_along received node slot (Knows ys))
     cases true is =
-        subst (λ b. BelowState (Reached (known_after received node xs)) (along_by received node ys b)) (sym (passes_mono node slot xs ys p is)) (after_mono received node xs ys p)
-    cases false is = unreached_below (length xs) (along received node slot (Reached ys)) (each_length xs ys p ∙ sym (along_size received node slot (Reached ys)))
+        subst (λ b. BelowState (Knows (known_after received node xs)) (along_by received node ys b)) (sym (passes_mono node slot xs ys p is)) (after_mono received node xs ys p)
+    cases false is = unreached_below (length xs) (passed_along received node slot (Knows ys)) (each_length xs ys p ∙ sym (along_size received node slot (Knows ys)))
 
 -- ---- nothing passes where there is no edge
 
@@ -335,7 +335,7 @@ no_edge_passes (Test test taken other) slot ks e = past_two slot taken other (de
 no_edge_passes (Return a) slot ks e = refl
 
 -- so the state past its last slot is "unreached"
-pub along_no_edge : (received : List ℕ) (node : Node) (slot : ℕ) (s : NodeState) → slice_get (node_succs node) slot ≡ None → along received node slot s ≡ Unreached (size_of s)
+pub along_no_edge : (received : List ℕ) (node : Node) (slot : ℕ) (s : NodeState) → slice_get (node_succs node) slot ≡ None → passed_along received node slot s ≡ Unreached (size_of s)
 unfolding along_by
 along_no_edge received node slot (Unreached n) e = refl
-along_no_edge received node slot (Reached ks) e = ap (along_by received node ks) (no_edge_passes node slot ks e)
+along_no_edge received node slot (Knows ks) e = ap (along_by received node ks) (no_edge_passes node slot ks e)

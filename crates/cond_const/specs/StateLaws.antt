@@ -1,12 +1,12 @@
 -- The states are a lattice. Cited by the ghost members of `BlockState`.
 use Rattle.std.proofs.Common.{◌≡◌, ◌≢◌, suc, ◌+◌, ◌<◌, ◌≤◌, ◌⊎◌, inl, inr, Bool, true, false, if◌then◌else◌, List, [], ◌∷◌, length, refl, sym, ap, ◌∙◌, arith}
 use Rattle.std.specs.Ordering.{int_eq}
-use Rattle.flow_graph.specs.ListLaws.{cons_same}
 use Rattle.cond_const.specs.RelationLaws.{int_eq_is, int_eq_same}
 use Rattle.fix_solve.specs.Order.{OrderLaws, IsLeastUpper}
+use Rattle.fix_solve.specs.Pointwise.{pointwise_antisym, pointwise_length, pointwise_refl, pointwise_rises, pointwise_trans}
 use Rattle.cond_const.specs.declared.known.Known.{Known}
 use Rattle.cond_const.specs.declared.known.Known.TheVariants.{Fixed, Varying}
-use Rattle.cond_const.specs.States.{NodeState, Unreached, Reached, size_of, BelowKnown, BelowEach, BelowState, is_varying, varyings, state_rank, joined_known, joined_each, joined}
+use Rattle.cond_const.specs.States.{NodeState, Unreached, Knows, size_of, BelowKnown, BelowEach, BelowState, is_varying, varyings, state_rank, joined_known, joined_each, joined}
 
 -- the order of what is known of one variable
 pub known_refl : (k : Known) → BelowKnown k k
@@ -30,85 +30,56 @@ known_antisym (Fixed a) Varying p q = absurd q
 known_antisym Varying (Fixed b) p q = absurd p
 known_antisym Varying Varying p q = refl
 
--- the order variable by variable
+-- a constant that is below another value and differs from it is below "varying"
+known_rises : (x y : Known) → BelowKnown x y → (x ≡ y) ⊎ (is_varying x < is_varying y)
+known_rises (Fixed a) (Fixed b) h = inl (ap Fixed h)
+known_rises (Fixed a) Varying h = inr (omega arith)
+known_rises Varying (Fixed b) h = absurd h
+known_rises Varying Varying h = inl refl
+
+-- the order variable by variable is reflexive
 pub each_refl : (xs : List Known) → BelowEach xs xs
-each_refl [] = tt
-each_refl (x ∷ xs) = (known_refl x, each_refl xs)
-
--- so is that of lists of them
-each_trans : (xs ys zs : List Known) → BelowEach xs ys → BelowEach ys zs → BelowEach xs zs
-each_trans [] [] [] p q = tt
-each_trans [] [] (z ∷ zs) p q = absurd q
-each_trans [] (y ∷ ys) zs p q = absurd p
-each_trans (x ∷ xs) [] zs p q = absurd p
-each_trans (x ∷ xs) (y ∷ ys) [] p q = absurd q
-each_trans (x ∷ xs) (y ∷ ys) (z ∷ zs) p q = (known_trans x y z p.0 q.0, each_trans xs ys zs p.1 q.1)
-
--- and it is antisymmetric
-each_antisym : (xs ys : List Known) → BelowEach xs ys → BelowEach ys xs → xs ≡ ys
-each_antisym [] [] p q = refl
-each_antisym [] (y ∷ ys) p q = absurd p
-each_antisym (x ∷ xs) [] p q = absurd p
-each_antisym (x ∷ xs) (y ∷ ys) p q = cons_same (known_antisym x y p.0 q.0) (each_antisym xs ys p.1 q.1)
+each_refl = pointwise_refl BelowKnown known_refl
 
 -- comparable lists are equally long
 pub each_length : (xs ys : List Known) → BelowEach xs ys → length xs ≡ length ys
-each_length [] [] p = refl
-each_length [] (y ∷ ys) p = absurd p
-each_length (x ∷ xs) [] p = absurd p
-each_length (x ∷ xs) (y ∷ ys) p = ap suc (each_length xs ys p.1)
-
--- equal, or the rank rises
-each_rises : (xs ys : List Known) → BelowEach xs ys → (xs ≡ ys) ⊎ (varyings xs < varyings ys)
-each_rises [] [] p = inl refl
-each_rises [] (y ∷ ys) p = absurd p
-each_rises (x ∷ xs) [] p = absurd p
-each_rises (x ∷ xs) (y ∷ ys) p = step x y p.0 (each_rises xs ys p.1)
-  where
-    step : (x y : Known) → BelowKnown x y → (xs ≡ ys) ⊎ (varyings xs < varyings ys) → (x ∷ xs ≡ y ∷ ys) ⊎ (is_varying x + varyings xs < is_varying y + varyings ys)
-    step (Fixed a) (Fixed b) h (inl e) = inl (cons_same (ap Fixed h) e)
-    step (Fixed a) (Fixed b) h (inr l) = inr (omega (arith, l))
-    step (Fixed a) Varying h (inl e) = inr (rw e (omega arith))
-    step (Fixed a) Varying h (inr l) = inr (omega (arith, l))
-    step Varying (Fixed b) h r = absurd h
-    step Varying Varying h (inl e) = inl (cons_same refl e)
-    step Varying Varying h (inr l) = inr (omega (arith, l))
+each_length = pointwise_length BelowKnown
 
 -- the order of states is reflexive
 pub below_refl : (s : NodeState) → BelowState s s
 below_refl (Unreached n) = refl
-below_refl (Reached xs) = each_refl xs
+below_refl (Knows xs) = each_refl xs
 
 -- and it is transitive
 pub below_trans : (s t u : NodeState) → BelowState s t → BelowState t u → BelowState s u
 below_trans (Unreached n) (Unreached m) (Unreached k) p q = p ∙ q
-below_trans (Unreached n) (Unreached m) (Reached zs) p q = p ∙ q
-below_trans (Unreached n) (Reached ys) (Unreached k) p q = absurd q
-below_trans (Unreached n) (Reached ys) (Reached zs) p q = p ∙ each_length ys zs q
-below_trans (Reached xs) (Unreached m) u p q = absurd p
-below_trans (Reached xs) (Reached ys) (Unreached k) p q = absurd q
-below_trans (Reached xs) (Reached ys) (Reached zs) p q = each_trans xs ys zs p q
+below_trans (Unreached n) (Unreached m) (Knows zs) p q = p ∙ q
+below_trans (Unreached n) (Knows ys) (Unreached k) p q = absurd q
+below_trans (Unreached n) (Knows ys) (Knows zs) p q = p ∙ each_length ys zs q
+below_trans (Knows xs) (Unreached m) u p q = absurd p
+below_trans (Knows xs) (Knows ys) (Unreached k) p q = absurd q
+below_trans (Knows xs) (Knows ys) (Knows zs) p q = pointwise_trans BelowKnown known_trans xs ys zs p q
 
 -- and antisymmetric
 pub below_antisym : (s t : NodeState) → BelowState s t → BelowState t s → s ≡ t
 below_antisym (Unreached n) (Unreached m) p q = ap Unreached p
-below_antisym (Unreached n) (Reached ys) p q = absurd q
-below_antisym (Reached xs) (Unreached m) p q = absurd p
-below_antisym (Reached xs) (Reached ys) p q = ap Reached (each_antisym xs ys p q)
+below_antisym (Unreached n) (Knows ys) p q = absurd q
+below_antisym (Knows xs) (Unreached m) p q = absurd p
+below_antisym (Knows xs) (Knows ys) p q = ap Knows (pointwise_antisym BelowKnown known_antisym xs ys p q)
 
 -- comparable states speak of equally many variables
 pub below_size : (s t : NodeState) → BelowState s t → size_of s ≡ size_of t
 below_size (Unreached n) (Unreached m) p = p
-below_size (Unreached n) (Reached ys) p = p
-below_size (Reached xs) (Unreached m) p = absurd p
-below_size (Reached xs) (Reached ys) p = each_length xs ys p
+below_size (Unreached n) (Knows ys) p = p
+below_size (Knows xs) (Unreached m) p = absurd p
+below_size (Knows xs) (Knows ys) p = each_length xs ys p
 
 -- a state that is below another and not equal to it has a lower rank
 rank_rises : (s t : NodeState) → BelowState s t → s ≢ t → state_rank s < state_rank t
 rank_rises (Unreached n) (Unreached m) p d = absurd (d (ap Unreached p))
-rank_rises (Unreached n) (Reached ys) p d = omega arith
-rank_rises (Reached xs) (Unreached m) p d = absurd p
-rank_rises (Reached xs) (Reached ys) p d = elim (each_rises xs ys p) as (λ _. suc (varyings xs) < suc (varyings ys)) [ inl e ↦ absurd (d (ap Reached e)) | inr l ↦ omega (arith, l) ]
+rank_rises (Unreached n) (Knows ys) p d = omega arith
+rank_rises (Knows xs) (Unreached m) p d = absurd p
+rank_rises (Knows xs) (Knows ys) p d = elim (pointwise_rises BelowKnown is_varying known_rises xs ys p) as (λ _. suc (varyings xs) < suc (varyings ys)) [ inl e ↦ absurd (d (ap Knows e)) | inr l ↦ omega (arith, l) ]
 
 -- so the states are ordered as a solver needs it
 pub state_laws : OrderLaws BelowState size_of state_rank
@@ -129,7 +100,7 @@ varyings_few (Varying ∷ ks) = omega (arith, varyings_few ks)
 -- and the rank is at most one more
 pub rank_bound : (s : NodeState) → state_rank s ≤ size_of s + 1
 rank_bound (Unreached n) = omega arith
-rank_bound (Reached ks) = omega (arith, varyings_few ks)
+rank_bound (Knows ks) = omega (arith, varyings_few ks)
 
 -- the join
 -- "varying" is above all
@@ -168,12 +139,12 @@ each_joins (x ∷ xs) (y ∷ ys) e =
 -- and so is that of states
 pub state_joins : (s t : NodeState) → size_of s ≡ size_of t → IsLeastUpper BelowState s t (joined s t)
 state_joins (Unreached n) (Unreached m) e = record { left = e; right = refl; least = λ w p q. q }
-state_joins (Unreached n) (Reached ys) e = record { left = e; right = each_refl ys; least = λ w p q. q }
-state_joins (Reached xs) (Unreached m) e = record { left = each_refl xs; right = sym e; least = λ w p q. p }
-state_joins (Reached xs) (Reached ys) e =
+state_joins (Unreached n) (Knows ys) e = record { left = e; right = each_refl ys; least = λ w p q. q }
+state_joins (Knows xs) (Unreached m) e = record { left = each_refl xs; right = sym e; least = λ w p q. p }
+state_joins (Knows xs) (Knows ys) e =
     let each = each_joins xs ys e in
     record { left = each.left; right = each.right; least = least each }
   where
-    least : IsLeastUpper BelowEach xs ys (joined_each xs ys) → (w : NodeState) → BelowState (Reached xs) w → BelowState (Reached ys) w → BelowState (Reached (joined_each xs ys)) w
+    least : IsLeastUpper BelowEach xs ys (joined_each xs ys) → (w : NodeState) → BelowState (Knows xs) w → BelowState (Knows ys) w → BelowState (Knows (joined_each xs ys)) w
     least each (Unreached m) p q = absurd p
-    least each (Reached ws) p q = each.least ws p q
+    least each (Knows ws) p q = each.least ws p q

@@ -2,7 +2,7 @@
 ghost use Rattle.std.specs.Prelude.{◌≡◌, ℤ, FitsSigned};
 ghost use Rattle.mir_base.specs.Numbers.{distance};
 ghost use Rattle.mir_base.specs.declared.operators.Op.{Op};
-ghost use Rattle.cond_const.specs.Identities.{IsIdentity, identity_left, identity_right, identity_same, shifts_nowhere, where_equal};
+ghost use Rattle.cond_const.specs.Identities.{IsIdentity, identity_left, identity_right, identity_same, shifts_nowhere, where_clear_or_set, where_equal};
 ghost use mir.Syntax.{w64};
 
 use mir_base::Op;
@@ -61,14 +61,8 @@ pub(crate) fn identity_right(op: Op, c: i64) -> Identity
                 Identity::Absent
             }
         }
-        Op::And => {
-            let ones = where_equal(c, -1, Identity::Itself, Identity::Absent);
-            where_equal(c, 0, Identity::Always(0), ones)
-        }
-        Op::Or => {
-            let ones = where_equal(c, -1, Identity::Always(-1), Identity::Absent);
-            where_equal(c, 0, Identity::Itself, ones)
-        }
+        Op::And => where_clear_or_set(c, Identity::Always(0), Identity::Itself),
+        Op::Or => where_clear_or_set(c, Identity::Itself, Identity::Always(-1)),
         Op::Min | Op::Max | Op::Eq | Op::Ne | Op::Lt | Op::Le | Op::Gt | Op::Ge => Identity::Absent,
     }
 }
@@ -84,14 +78,8 @@ pub(crate) fn identity_left(op: Op, c: i64) -> Identity
             where_equal(c, 0, Identity::Always(0), one)
         }
         Op::Shl | Op::Shr | Op::Shra => where_equal(c, 0, Identity::Always(0), Identity::Absent),
-        Op::And => {
-            let ones = where_equal(c, -1, Identity::Itself, Identity::Absent);
-            where_equal(c, 0, Identity::Always(0), ones)
-        }
-        Op::Or => {
-            let ones = where_equal(c, -1, Identity::Always(-1), Identity::Absent);
-            where_equal(c, 0, Identity::Itself, ones)
-        }
+        Op::And => where_clear_or_set(c, Identity::Always(0), Identity::Itself),
+        Op::Or => where_clear_or_set(c, Identity::Itself, Identity::Always(-1)),
         Op::Sub
         | Op::Div
         | Op::Mod
@@ -111,6 +99,14 @@ fn where_equal(c: i64, number: i64, there: Identity, elsewhere: Identity) -> Ide
     ensures { result ≡ where_equal c number there elsewhere }
 {
     if c == number { there } else { elsewhere }
+}
+
+/// One of two identities: the first where no bit of the constant is set, and the second where all are.
+fn where_clear_or_set(c: i64, clear: Identity, set: Identity) -> Identity
+    ensures { result ≡ where_clear_or_set c clear set }
+{
+    let set = where_equal(c, -1, set, Identity::Absent);
+    where_equal(c, 0, clear, set)
 }
 
 /// Whether a shift by this number leaves a number as it is: whether it is a multiple of 64.

@@ -198,7 +198,7 @@ fn relates_itself(op: RelOp) -> bool
 }
 
 /// What is known of a variable where two paths meet.
-pub(crate) fn joined(a: Known, b: Known) -> Known
+pub(crate) fn joined_known(a: Known, b: Known) -> Known
     ensures { result ≡ joined_known a b }
 {
     match a {

@@ -1,10 +1,10 @@
 // States of nodes, as they are kept where blocks begin.
 ghost use Rattle.std.specs.Prelude.{◌≡◌, ◌↔◌, ◌||◌, false, true, length};
 ghost use Rattle.fix_solve.specs.Order.{IsLeastUpper};
-ghost use Rattle.cond_const.specs.States.{BelowState, Reached, joined_each, is_reached, state_rank, size_of, state_where};
+ghost use Rattle.cond_const.specs.States.{BelowState, Knows, joined_each, is_reached, state_rank, size_of, state_where};
 ghost use Rattle.cond_const.specs.StateLaws.{state_laws};
 
-use crate::known::{Known, differ, joined};
+use crate::known::{Known, differ, joined_known};
 use fix_solve::Lattice;
 use std::marker::Model;
 
@@ -95,7 +95,7 @@ fn join_each(known: &mut [Known], other: &[Known]) -> bool
 {
     let mut changed = false;
     for i in 0..known.len() {
-        let k = joined(known[i], other[i]);
+        let k = joined_known(known[i], other[i]);
         changed = changed | differ(k, known[i]);
         known[i] = k;
     }

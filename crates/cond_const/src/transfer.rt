@@ -1,6 +1,6 @@
 // What passes along an edge of a node.
 ghost use Rattle.std.specs.Prelude.{◌≡◌, true, length, slice_set};
-ghost use Rattle.cond_const.specs.Folding.{known_after, along, passes, start_known};
+ghost use Rattle.cond_const.specs.Folding.{known_after, passed_along, passes, start_known};
 ghost use Rattle.cond_const.specs.States.{state_where};
 
 use crate::known::{Known, decided_test, known_rhs};
@@ -16,7 +16,7 @@ pub(crate) fn step(
     received: &[usize],
 ) -> bool
     ensures passes { state_where result known.new
-        ≡ along received.now node.now slot (state_where reached known.old) }
+        ≡ passed_along received.now node.now slot (state_where reached known.old) }
     ensures long { length known.new ≡ length known.old }
 {
     if reached {
@@ -29,7 +29,7 @@ pub(crate) fn step(
 /// The same of a node that is reached.
 fn pass(known: &mut [Known], node: &Node, slot: usize, received: &[usize]) -> bool
     ensures passes { state_where result known.new
-        ≡ along received.now node.now slot (state_where true known.old) }
+        ≡ passed_along received.now node.now slot (state_where true known.old) }
     ensures long { length known.new ≡ length known.old }
 {
     if passes(node, slot, known) {

@@ -1,5 +1,6 @@
 use Rattle.std.proofs.Common.{◌-◌, ◌<◌, length, sym, subst, arith}
-use Rattle.cond_const.proofs.Steps.{chain_at, chain_some}
+use Rattle.flow_graph.specs.BlockLaws.{chain_some}
+use Rattle.cond_const.proofs.Steps.{chain_at}
 use Rattle.cond_const.proofs.flow.leave.Goals as goal
 
 pub node-requires : goal.node-requires

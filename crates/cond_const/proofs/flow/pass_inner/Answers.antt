@@ -1,6 +1,6 @@
 use Rattle.std.proofs.Common.{◌≡◌, ◌+◌, ◌-◌, ◌≤◌, subst, arith, ◌∙◌}
 use Rattle.cond_const.specs.States.{state_where}
-use Rattle.cond_const.specs.Folding.{along}
+use Rattle.cond_const.specs.Folding.{passed_along}
 use Rattle.cond_const.proofs.Steps.{chain_at, passed_on}
 use Rattle.cond_const.proofs.flow.pass_inner.Goals as goal
 
@@ -13,6 +13,6 @@ loop-i-preserved c =
     record {
       passes = passed_on c.args.graph.now.received c.args.graph.now.nodes c.args.list.now (c.loop-i.i - 1) (c.loop-i.i + 1 - 1) c.node-node.result.now (state_where c.args.reached c.args.known.now) (state_where c.loop-i.reaches c.loop-i.known)
           (state_where c.step-reaches.result c.step-reaches.new.known) (omega (arith, c.loop-i-test.true)) (omega (arith, low)) c.node-node.ensures c.loop-i.invariant.passes
-          (subst (λ r. state_where c.step-reaches.result c.step-reaches.new.known ≡ along r c.node-node.result.now 0 (state_where c.loop-i.reaches c.loop-i.known)) c.received.ensures c.step-reaches.ensures.passes);
+          (subst (λ r. state_where c.step-reaches.result c.step-reaches.new.known ≡ passed_along r c.node-node.result.now 0 (state_where c.loop-i.reaches c.loop-i.known)) c.received.ensures c.step-reaches.ensures.passes);
       long = c.step-reaches.ensures.long ∙ c.loop-i.invariant.long;
     }

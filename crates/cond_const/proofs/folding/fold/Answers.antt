@@ -8,8 +8,9 @@ use Rattle.flow_graph.specs.Machines.{graph_machine, machine_of}
 use Rattle.mir_base.specs.UnitRuns.{UnitCheaper, UnitSame}
 use Rattle.cond_const.specs.Folded.{IsFolded}
 use Rattle.cond_const.proofs.Folds.{folded_same, folded_cheaper}
-use Rattle.cond_const.proofs.Shapes.{can_make, folded_calls}
-use Rattle.cond_const.proofs.Whole.{exactly_kept, folded_is_one, keeps_divisions}
+use Rattle.cond_const.proofs.Shapes.{folded_can_make, folded_calls}
+use Rattle.cond_const.specs.FoldLaws.{folded_is_one}
+use Rattle.cond_const.proofs.Whole.{exactly_kept, keeps_divisions}
 use Rattle.cond_const.proofs.folding.fold.Goals as goal
 use Rattle.cond_const.proofs.folding.fold.Goals.{In_ok-folded}
 
@@ -17,7 +18,7 @@ pub with_nodes-requires : goal.with_nodes-requires
 with_nodes-requires c =
     let graph = c.args.graph.now in
     let are = c.in_ok-nodes.ensures.are in
-    let can = subst (CanMake graph.vars graph.received) (sym are.are) (can_make are.states graph.nodes graph.vars graph.received c.folded.ensures.graph.can) in
+    let can = subst (CanMake graph.vars graph.received) (sym are.are) (folded_can_make are.states graph.nodes graph.vars graph.received c.folded.ensures.graph.can) in
     subst (λ l. CanMake (graph.vars ++ l) graph.received c.in_ok-nodes.nodes.items) (sym c.new-extra.ensures.items) (subst (λ vars. CanMake vars graph.received c.in_ok-nodes.nodes.items) (sym (append-nil graph.vars)) can)
 
 -- the answer is the exact graph

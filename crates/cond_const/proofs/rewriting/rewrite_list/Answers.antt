@@ -2,7 +2,7 @@ use Rattle.std.proofs.Common.{◌≡◌, ◌+◌, ◌<◌, length, subst, arith}
 use Rattle.std.proofs.lemmas.Option.{slice_get-get_or}
 use Rattle.cond_const.specs.States.{state_where}
 use Rattle.cond_const.specs.Rewriting.{FoldsBlock}
-use Rattle.cond_const.specs.Folding.{along}
+use Rattle.cond_const.specs.Folding.{passed_along}
 use Rattle.cond_const.proofs.Steps.{chain_at, passed_on}
 use Rattle.cond_const.proofs.Rewrites.{folds_more}
 use Rattle.cond_const.proofs.rewriting.rewrite_list.Goals as goal
@@ -24,7 +24,7 @@ loop-i-preserved c =
     record {
       passes = passed_on graph.received graph.nodes list c.loop-i.i (c.loop-i.i + 1) c.node-node.result.now (state_where c.args.reached c.args.known.now) (state_where c.loop-i.reaches c.loop-i.known)
           (state_where c.step-reaches.result c.step-reaches.new.known) lt (omega arith) c.node-node.ensures c.loop-i.invariant.passes
-          (subst (λ r. state_where c.step-reaches.result c.step-reaches.new.known ≡ along r c.node-node.result.now 0 (state_where c.loop-i.reaches c.loop-i.known)) c.received.ensures c.step-reaches.ensures.passes);
+          (subst (λ r. state_where c.step-reaches.result c.step-reaches.new.known ≡ passed_along r c.node-node.result.now 0 (state_where c.loop-i.reaches c.loop-i.known)) c.received.ensures c.step-reaches.ensures.passes);
       folds = folds_more graph.received graph.nodes list (state_where c.args.reached c.args.known.now) c.args.made.now.items c.loop-i.i _ c.node-node.result.now (state_where c.loop-i.reaches c.loop-i.known) c.loop-i.made.items c.put.new.made.items
           c.loop-i.invariant.folds (slice_get-get_or list c.loop-i.i 0 lt) c.node-node.ensures c.loop-i.invariant.passes (omega (arith, low, c.loop-i.invariant.folds.long, c.requires.long)) c.in_ok-put.ensures;
     }

@@ -1,7 +1,8 @@
 use Rattle.std.proofs.Common.{◌-◌, ◌<◌, ◌∙◌, ◌++◌, ◌∷◌, ℕ, [], List, length, sym, ap, subst, arith}
 use Rattle.std.proofs.lemmas.Option.{get_or_from_slice_get}
 use Rattle.cond_const.specs.Blockwise.{last_of}
-use Rattle.cond_const.proofs.Steps.{chain_at, chain_some}
+use Rattle.flow_graph.specs.BlockLaws.{chain_some}
+use Rattle.cond_const.proofs.Steps.{chain_at}
 use Rattle.cond_const.proofs.Targets.{targets_more}
 use Rattle.cond_const.proofs.solving.targets.Goals as goal
 

@@ -19,4 +19,4 @@ returns-clause-unchanged c = (
 )
 
 pub loop-i-preserved : goal.loop-i-preserved
-loop-i-preserved c = join_step c.args.known.now c.args.other.now c.loop-i.known c.loop-i.changed c.loop-i.i c.joined-k.result c.differ-changed.result _ c.loop-i.invariant c.loop-i-test.true c.requires c.joined-k.ensures c.differ-changed.ensures
+loop-i-preserved c = join_step c.args.known.now c.args.other.now c.loop-i.known c.loop-i.changed c.loop-i.i c.joined_known-k.result c.differ-changed.result _ c.loop-i.invariant c.loop-i-test.true c.requires c.joined_known-k.ensures c.differ-changed.ensures
