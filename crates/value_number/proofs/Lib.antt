@@ -1,0 +1,9 @@
+pub mod Values
+pub mod Lockstep
+pub mod Whole
+pub mod Inserts
+pub mod Stands
+pub mod Holders
+pub mod Walks
+pub mod Weights
+pub mod Pushes

@@ -1,0 +1,119 @@
+-- A number stands for one term, and a term has one number; numbers of operands, right sides and variables.
+use Rattle.std.proofs.Common.{◌≡◌, ℕ, List, slice_get, Option, Some, None, Result, Ok, Err, IfOk, OnOk, sym, ap, ◌∙◌, subst}
+use Rattle.std.proofs.lemmas.Option.{slice_get_within}
+use Rattle.mir_base.specs.declared.operators.Op.{Op}
+use Rattle.mir_base.specs.declared.operators.UnOp.{UnOp}
+use Rattle.mir_base.specs.declared.instructions.Operand.{Operand}
+use Rattle.mir_base.specs.declared.instructions.Rhs.TheVariants.{Unary, Binary}
+use Rattle.mir_base.specs.Shapes.{AllDiffer}
+use Rattle.value_number.specs.declared.terms.TermKey.{TermKey}
+use Rattle.value_number.specs.declared.terms.TermKey.TheVariants as keys
+use Rattle.value_number.specs.Terms.{Term, Terms, Initial, Opaque, Number, UnaryOf, BinaryOf, operand_term, rhs_term}
+use Rattle.value_number.specs.Table.{Stands, Stay, Represent, RepresentsAt, kept_number}
+
+-- one place has one entry
+one_key : {s t : TermKey} {o : Option TermKey} → o ≡ Some s → o ≡ Some t → s ≡ t
+one_key p q = cc
+
+-- a number stands for one term
+pub one_term : (table : List TermKey) (t u : Term) (n : ℕ) → Stands table n t → Stands table n u → t ≡ u
+one_term table (Initial v r) (Initial v' r') n p q = let e : keys.Initial v r ≡ keys.Initial v' r' = one_key p q in cc
+one_term table (Initial v r) (Opaque k) n p q = let e : keys.Initial v r ≡ keys.Opaque k = one_key p q in absurd (cc)
+one_term table (Initial v r) (Number c) n p q = let e : keys.Initial v r ≡ keys.Number c = one_key p q in absurd (cc)
+one_term table (Initial v r) (UnaryOf op u) n p q = let e : keys.Initial v r ≡ keys.Unary op q.0 = one_key p q.1 in absurd (cc)
+one_term table (Initial v r) (BinaryOf op u w) n p q = let e : keys.Initial v r ≡ keys.Binary op q.0 q.1 = one_key p q.2 in absurd (cc)
+one_term table (Opaque k) (Initial v r) n p q = let e : keys.Opaque k ≡ keys.Initial v r = one_key p q in absurd (cc)
+one_term table (Opaque k) (Opaque k') n p q = let e : keys.Opaque k ≡ keys.Opaque k' = one_key p q in cc
+one_term table (Opaque k) (Number c) n p q = let e : keys.Opaque k ≡ keys.Number c = one_key p q in absurd (cc)
+one_term table (Opaque k) (UnaryOf op u) n p q = let e : keys.Opaque k ≡ keys.Unary op q.0 = one_key p q.1 in absurd (cc)
+one_term table (Opaque k) (BinaryOf op u w) n p q = let e : keys.Opaque k ≡ keys.Binary op q.0 q.1 = one_key p q.2 in absurd (cc)
+one_term table (Number c) (Initial v r) n p q = let e : keys.Number c ≡ keys.Initial v r = one_key p q in absurd (cc)
+one_term table (Number c) (Opaque k) n p q = let e : keys.Number c ≡ keys.Opaque k = one_key p q in absurd (cc)
+one_term table (Number c) (Number c') n p q = let e : keys.Number c ≡ keys.Number c' = one_key p q in cc
+one_term table (Number c) (UnaryOf op u) n p q = let e : keys.Number c ≡ keys.Unary op q.0 = one_key p q.1 in absurd (cc)
+one_term table (Number c) (BinaryOf op u w) n p q = let e : keys.Number c ≡ keys.Binary op q.0 q.1 = one_key p q.2 in absurd (cc)
+one_term table (UnaryOf op t) (Initial v r) n p q = let e : keys.Unary op p.0 ≡ keys.Initial v r = one_key p.1 q in absurd (cc)
+one_term table (UnaryOf op t) (Opaque k) n p q = let e : keys.Unary op p.0 ≡ keys.Opaque k = one_key p.1 q in absurd (cc)
+one_term table (UnaryOf op t) (Number c) n p q = let e : keys.Unary op p.0 ≡ keys.Number c = one_key p.1 q in absurd (cc)
+one_term table (UnaryOf op t) (UnaryOf op' u) n p q =
+    let e : keys.Unary op p.0 ≡ keys.Unary op' q.0 = one_key p.1 q.1 in
+    let a : p.0 ≡ q.0 = cc in
+    let same : t ≡ u = one_term table t u q.0 (subst (λ k. Stands table k t) a p.2) q.2 in
+    cc
+one_term table (UnaryOf op t) (BinaryOf op' u w) n p q = let e : keys.Unary op p.0 ≡ keys.Binary op' q.0 q.1 = one_key p.1 q.2 in absurd (cc)
+one_term table (BinaryOf op t s) (Initial v r) n p q = let e : keys.Binary op p.0 p.1 ≡ keys.Initial v r = one_key p.2 q in absurd (cc)
+one_term table (BinaryOf op t s) (Opaque k) n p q = let e : keys.Binary op p.0 p.1 ≡ keys.Opaque k = one_key p.2 q in absurd (cc)
+one_term table (BinaryOf op t s) (Number c) n p q = let e : keys.Binary op p.0 p.1 ≡ keys.Number c = one_key p.2 q in absurd (cc)
+one_term table (BinaryOf op t s) (UnaryOf op' u) n p q = let e : keys.Binary op p.0 p.1 ≡ keys.Unary op' q.0 = one_key p.2 q.1 in absurd (cc)
+one_term table (BinaryOf op t s) (BinaryOf op' u w) n p q =
+    let e : keys.Binary op p.0 p.1 ≡ keys.Binary op' q.0 q.1 = one_key p.2 q.2 in
+    let a : p.0 ≡ q.0 = cc in
+    let b : p.1 ≡ q.1 = cc in
+    let left : t ≡ u = one_term table t u q.0 (subst (λ k. Stands table k t) a p.3) q.3 in
+    let right : s ≡ w = one_term table s w q.1 (subst (λ k. Stands table k s) b p.4) q.4 in
+    cc
+
+-- equal entries of a table of different ones stand at one place
+one_place : (table : List TermKey) → AllDiffer table → (i j : ℕ) (s : TermKey) → slice_get table i ≡ Some s → slice_get table j ≡ Some s → i ≡ j
+one_place table d i j s p q = d i j (slice_get_within table i s p) (slice_get_within table j s q) (p ∙ sym q)
+
+-- so a term has one number
+pub one_number : (table : List TermKey) → AllDiffer table → (t : Term) (n m : ℕ) → Stands table n t → Stands table m t → n ≡ m
+one_number table d (Initial v r) n m p q = one_place table d n m (keys.Initial v r) p q
+one_number table d (Opaque k) n m p q = one_place table d n m (keys.Opaque k) p q
+one_number table d (Number c) n m p q = one_place table d n m (keys.Number c) p q
+one_number table d (UnaryOf op t) n m p q =
+    let a : p.0 ≡ q.0 = one_number table d t p.0 q.0 p.2 q.2 in
+    one_place table d n m (keys.Unary op q.0) (subst (λ k. slice_get table n ≡ Some (keys.Unary op k)) a p.1) q.1
+one_number table d (BinaryOf op t s) n m p q =
+    let a : p.0 ≡ q.0 = one_number table d t p.0 q.0 p.3 q.3 in
+    let b : p.1 ≡ q.1 = one_number table d s p.1 q.1 p.4 q.4 in
+    let at_n : slice_get table n ≡ Some (keys.Binary op q.0 q.1) = p.2 ∙ ap (λ k. Some (keys.Binary op k p.1)) a ∙ ap (λ k. Some (keys.Binary op q.0 k)) b in
+    one_place table d n m (keys.Binary op q.0 q.1) at_n q.2
+
+-- ---- more entries
+
+-- more entries leave it so
+pub stands_on : (old new : List TermKey) → Stay old new → (t : Term) (n : ℕ) → Stands old n t → Stands new n t
+stands_on old new stay (Initial v r) n p = stay n (keys.Initial v r) p
+stands_on old new stay (Opaque k) n p = stay n (keys.Opaque k) p
+stands_on old new stay (Number c) n p = stay n (keys.Number c) p
+stands_on old new stay (UnaryOf op t) n p = (p.0, stay n (keys.Unary op p.0) p.1, stands_on old new stay t p.0 p.2)
+stands_on old new stay (BinaryOf op t u) n p = (p.0, p.1, stay n (keys.Binary op p.0 p.1) p.2, stands_on old new stay t p.0 p.3, stands_on old new stay u p.1 p.4)
+
+-- also of one variable
+pub represents_on : (old new : List TermKey) (root v : ℕ) (o : Option ℕ) (t : Term) → Stay old new → RepresentsAt old root v o t → RepresentsAt new root v o t
+represents_on old new root v None t stay r = r
+represents_on old new root v (Some n) t stay r = stands_on old new stay t n r
+
+-- and of all
+pub represent_on : (old new : List TermKey) (numbers : List (Option ℕ)) (root : ℕ) (terms : Terms) → Stay old new → Represent old numbers root terms → Represent new numbers root terms
+represent_on old new numbers root terms stay r = record { each = λ v lt. represents_on old new root v (kept_number numbers v) (terms v) stay (r.each v lt) }
+
+-- two additions
+pub stay_trans : (a b c : List TermKey) → Stay a b → Stay b c → Stay a c
+stay_trans a b c p q i key at = q i key (p i key at)
+
+-- ---- right sides
+
+-- an operator on the operand of a number
+pub unary_stands : {E : Type 0} (old mid new : List TermKey) (numbers : List (Option ℕ)) (root : ℕ) (op : UnOp) (a : Operand) (k : ℕ) (r : Result ℕ E) → OnOk r (Stay mid new)
+    → ((terms : Terms) → Represent old numbers root terms → Stands mid k (operand_term terms a)) → IfOk r (λ n. slice_get new n ≡ Some (keys.Unary op k))
+    → IfOk r (λ n. (terms : Terms) → Represent old numbers root terms → Stands new n (rhs_term terms (Unary op a)))
+unary_stands old mid new numbers root op a k (Ok n) stay first here = λ terms each. (k, here, stands_on mid new stay (operand_term terms a) k (first terms each))
+unary_stands old mid new numbers root op a k (Err e) stay first here = tt
+
+-- on the operands of two numbers
+pub binary_stands : {E : Type 0} (old mid mid' new : List TermKey) (numbers : List (Option ℕ)) (root : ℕ) (op : Op) (a b : Operand) (j k : ℕ) (r : Result ℕ E) → Stay old mid → Stay mid mid' → OnOk r (Stay mid' new)
+    → ((terms : Terms) → Represent old numbers root terms → Stands mid j (operand_term terms a)) → ((terms : Terms) → Represent mid numbers root terms → Stands mid' k (operand_term terms b))
+    → IfOk r (λ n. slice_get new n ≡ Some (keys.Binary op j k))
+    → IfOk r (λ n. (terms : Terms) → Represent old numbers root terms → Stands new n (rhs_term terms (Binary op a b)))
+binary_stands old mid mid' new numbers root op a b j k (Ok n) s s' s'' first second here =
+    λ terms each. (
+      j,
+      k,
+      here,
+      stands_on mid' new s'' (operand_term terms a) j (stands_on mid mid' s' (operand_term terms a) j (first terms each)),
+      stands_on mid' new s'' (operand_term terms b) k (second terms (represent_on old mid numbers root terms s each)),
+    )
+binary_stands old mid mid' new numbers root op a b j k (Err e) s s' s'' first second here = tt

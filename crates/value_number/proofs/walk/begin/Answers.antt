@@ -1,0 +1,13 @@
+use Rattle.std.proofs.Common.{◌∙◌, sym, subst}
+use Rattle.value_number.specs.Walks.{AreRoots, VisitRoots}
+use Rattle.value_number.proofs.Walks.{begins}
+use Rattle.value_number.proofs.walk.begin.Goals as goal
+
+pub returns : goal.returns
+returns c =
+    let graph = c.args.graph.now in
+    let walk = c.in_ok-walk.walk in
+    let e = c.in_ok-walk.ensures in
+    let are = subst (AreRoots graph.nodes) (sym e.listed) c.in_ok-listed.ensures in
+    let visits = subst (VisitRoots walk.listed.items) (sym e.steps) (subst (λ l. VisitRoots l c.in_ok-steps.steps.items) (c.as_slice.ensures.value ∙ sym e.listed) c.in_ok-steps.ensures) in
+    begins graph walk.table walk.numbers.items walk.holders.items walk.listed.items walk.steps.items e.numbers e.holders are visits

@@ -1,0 +1,146 @@
+-- What the walk over the graph keeps: numbers for the terms of the variables, and steps that are still to be taken. Cited
+-- by contracts of private functions.
+use Rattle.std.specs.Prelude.{◌≡◌, ◌⊎◌, ℕ, suc, ◌+◌, ◌*◌, ◌<◌, Bool, true, false, if◌then◌else◌, List, [], ◌∷◌, ◌++◌, length, slice_get, slice_index_or, slice_set, Option, Some, None}
+use Rattle.flow_graph.specs.declared.nodes.Node.{Node}
+use Rattle.flow_graph.specs.Graphs.{GraphShape, is_start}
+use Rattle.flow_graph.specs.Paths.{HasEdge}
+use Rattle.value_number.specs.declared.finding.Change.{Change}
+use Rattle.value_number.specs.declared.finding.Found.{Found}
+use Rattle.value_number.specs.declared.terms.TermKey.{TermKey}
+use Rattle.value_number.specs.declared.walk.Step.{Step}
+use Rattle.value_number.specs.declared.walk.Step.TheVariants.{Visit, Restore}
+use Rattle.value_number.specs.declared.walk.Walk.{Walk}
+use Rattle.value_number.specs.Terms.{Terms, movable_term, node_terms}
+use Rattle.value_number.specs.Roots.{FromRoot, is_root, terms_before}
+use Rattle.value_number.specs.Numbered.{IsHolder, IsHolderAt}
+use Rattle.value_number.specs.Table.{Represent, Stay}
+
+-- ---- roots
+
+-- which nodes are roots
+pub record AreRoots (nodes : List Node) (roots : List Bool) : Type 0 where
+  pub long : length roots ≡ length nodes
+  pub are : (n : ℕ) → n < length nodes → slice_get roots n ≡ Some (is_root nodes n)
+
+-- a visit of each root, each its own root
+pub record VisitRoots (roots : List Bool) (steps : List Step) : Type 0 where
+  pub has : (n : ℕ) → slice_get roots n ≡ Some true → (i : ℕ) × (slice_get steps i ≡ Some (Visit n n))
+  pub only : (i : ℕ) (step : Step) → slice_get steps i ≡ Some step → (n : ℕ) × (step ≡ Visit n n) × (slice_get roots n ≡ Some true)
+
+-- the steps with a visit of this node behind them, where it is a root
+abbrev pub with_root : List Step → ℕ → Bool → List Step
+with_root steps n root = if root then steps ++ Visit n n ∷ [] else steps
+
+-- ---- one node
+
+-- the numbers once a node has changed one, where it does
+abbrev pub changed_numbers : List (Option ℕ) → Option Change → List (Option ℕ)
+changed_numbers numbers None = numbers
+changed_numbers numbers (Some change) = slice_set numbers change.variable (Some change.number)
+
+-- and the steps that undo it
+abbrev pub undoing : List (Option ℕ) → Option Change → List Step
+undoing numbers None = []
+undoing numbers (Some change) = Restore change.variable (slice_index_or numbers change.variable None) ∷ []
+
+-- a change is that of a variable below `count`
+abbrev pub ChangeWithin : ℕ → Option Change → Type 0
+ChangeWithin count None = Unit {0}
+ChangeWithin count (Some change) = change.variable < count
+
+-- what was found at node n, where the numbers stood for the terms before it: the holder of its term, and numbers that
+-- stand for the terms after it. A Start changes none
+pub record Finds (old new : List TermKey) (numbers : List (Option ℕ)) (root n : ℕ) (node : Node) (found : Found) : Type 0 where
+  pub stay : Stay old new
+  pub within : ChangeWithin (length numbers) found.change
+  pub holder : (terms : Terms) → Represent old numbers root terms → IsHolder (length numbers) terms (movable_term terms node) found.holder
+  pub change : (terms : Terms) → Represent old numbers root terms → is_start node ≡ false → Represent new (changed_numbers numbers found.change) root (node_terms n node terms)
+  pub start : is_start node ≡ true → found.change ≡ None
+
+-- ---- steps
+
+-- the numbers once all of these steps are taken, the last first, as far as they restore them
+abbrev pub restored : List Step → List (Option ℕ) → List (Option ℕ)
+restored [] numbers = numbers
+restored (Visit n root ∷ steps) numbers = restored steps numbers
+restored (Restore v old ∷ steps) numbers = slice_set (restored steps numbers) v old
+
+-- these numbers stand for the terms before node n
+pub record IsReady (nodes : List Node) (table : List TermKey) (numbers : List (Option ℕ)) (n root : ℕ) : Type 0 where
+  pub within : n < length nodes
+  pub before : List ℕ
+  pub path : FromRoot nodes root n before
+  pub represent : Represent table numbers root (terms_before nodes root before)
+
+-- when a node is visited, the numbers stand for the terms before it
+abbrev pub AreReady : List Node → List TermKey → List (Option ℕ) → List Step → Type 0
+AreReady nodes table numbers [] = Unit {0}
+AreReady nodes table numbers (Visit n root ∷ steps) = IsReady nodes table (restored steps numbers) n root × AreReady nodes table numbers steps
+AreReady nodes table numbers (Restore v old ∷ steps) = (v < length numbers) × AreReady nodes table numbers steps
+
+-- a visit of node n is among the steps
+abbrev pub IsToVisit : ℕ → List Step → Type 0
+IsToVisit n steps = (i : ℕ) × (root : ℕ) × (slice_get steps i ≡ Some (Visit n root))
+
+-- the holder of node n, as the table has it
+abbrev pub holder_at : List (Option ℕ) → ℕ → Option ℕ
+holder_at holders n = slice_index_or holders n None
+
+-- node n has been visited: its holder is known, and its successors are listed
+pub record IsVisited (graph : GraphShape) (listed : List Bool) (holders : List (Option ℕ)) (n : ℕ) : Type 0 where
+  pub holder : (node : Node) → slice_get graph.nodes n ≡ Some node → IsHolderAt graph.nodes (length graph.vars) n node (holder_at holders n)
+  pub succs : (s : ℕ) → HasEdge graph.nodes n s → slice_get listed s ≡ Some true
+
+-- a listed node is to be visited, or is the one at hand, or has been visited
+pub record KeepsTerms (graph : GraphShape) (table : List TermKey) (numbers : List (Option ℕ)) (listed : List Bool) (steps : List Step) (holders : List (Option ℕ)) (at_hand : Option ℕ) : Type 0 where
+  pub numbers_long : length numbers ≡ length graph.vars
+  pub listed_long : length listed ≡ length graph.nodes
+  pub holders_long : length holders ≡ length graph.nodes
+  pub roots : (n : ℕ) → n < length graph.nodes → is_root graph.nodes n ≡ true → slice_get listed n ≡ Some true
+  pub ready : AreReady graph.nodes table numbers steps
+  pub all : (n : ℕ) → slice_get listed n ≡ Some true → IsToVisit n steps ⊎ (at_hand ≡ Some n) ⊎ IsVisited graph listed holders n
+
+-- the same of the walk in the code, with these steps
+abbrev pub GoesOver : GraphShape → Walk → List Step → Type 0
+GoesOver graph walk steps = KeepsTerms graph walk.table walk.numbers.items walk.listed.items steps walk.holders.items None
+
+-- ---- listing successors
+
+-- the marks of listed nodes, once these are listed
+abbrev pub listed_after : List ℕ → List Bool → List Bool
+listed_after [] listed = listed
+listed_after (s ∷ succs) listed = listed_after succs (slice_set listed s true)
+
+-- and the steps: a visit of each that was not listed, under this root
+abbrev pub steps_after : ℕ → List ℕ → List Bool → List Step → List Step
+steps_after root [] listed steps = steps
+steps_after root (s ∷ succs) listed steps = steps_after root succs (slice_set listed s true) (if slice_index_or listed s false then steps else steps ++ Visit s root ∷ [])
+
+-- ---- how much is left
+
+-- how many nodes are not listed
+abbrev pub unlisted : List Bool → ℕ
+unlisted [] = 0
+unlisted (true ∷ listed) = unlisted listed
+unlisted (false ∷ listed) = suc (unlisted listed)
+
+-- a visit weighs more than what it puts in its place beside nodes that it lists
+abbrev pub step_weight : Step → ℕ
+step_weight (Visit n root) = 2
+step_weight (Restore v old) = 1
+
+-- the weight of all steps
+abbrev pub steps_weight : List Step → ℕ
+steps_weight [] = 0
+steps_weight (step ∷ steps) = step_weight step + steps_weight steps
+
+-- what each step makes less
+abbrev pub weight_left : List Bool → List Step → ℕ
+weight_left listed steps = 3 * unlisted listed + steps_weight steps
+
+-- ---- all nodes
+
+-- the holder of each node
+pub record AreHolders (graph : GraphShape) (holders : List (Option ℕ)) : Type 0 where
+  pub long : length holders ≡ length graph.nodes
+  pub each : (n : ℕ) (node : Node) → slice_get graph.nodes n ≡ Some node → IsHolderAt graph.nodes (length graph.vars) n node (holder_at holders n)

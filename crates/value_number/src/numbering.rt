@@ -1,0 +1,82 @@
+// The graph in which a variable is read in the place of a right side whose value it has.
+ghost use Rattle.std.specs.Prelude.{◌≡◌, length, IfOk};
+ghost use Rattle.flow_graph.specs.Graphs.{IsGraph};
+ghost use Rattle.flow_graph.specs.Passes.{GraphCalls, GraphCheaper, GraphDivides, GraphKeeps, GraphSame};
+ghost use Rattle.value_number.specs.Numbered.{AreNumbered, BecomeNumbered, IsNumbered, IsOnlyNumbered, KeepsEdges, numbered_node};
+
+use crate::walk::holders;
+use flow_graph::{Graph, Node};
+use mir_base::{Memory, Operand, Rhs};
+use std::alloc::Global;
+
+/// The numbered graph. Before each node each variable has a term: a tree of operators, whose leaves are constants, the
+/// values that variables have before the last root (Start, or a node that more than one edge enters), and the values that
+/// divisions and calls give. An assignment gives its variable the term of its right side, and a division or a call a leaf
+/// of its own. Each movable right side whose term some variable has before the node becomes the least-numbered such
+/// variable. All of this is decided on the graph as it was.
+///
+/// Nodes, variables and successors keep their numbers; nothing but such right sides changes. The graph does the same and
+/// evaluates no more operators. It fails only with `Memory`.
+pub fn number(alloc: Global, graph: &Graph) -> Result<Graph, Memory>
+    ensures numbered { IfOk result (IsNumbered graph.now) }
+
+    // there is no other such graph
+    ensures only { IfOk result (IsOnlyNumbered graph.now) }
+    ensures same { IfOk result (GraphSame graph.now) }
+    ensures cheaper { IfOk result (GraphCheaper graph.now) }
+    ensures keeps { IfOk result (GraphKeeps graph.now) }
+
+    // each dividing assignment stays
+    ensures divides { IfOk result (GraphDivides graph.now) }
+
+    // it makes no calls but those of the graph
+    ensures calls { IfOk result (GraphCalls graph.now) }
+
+    // each node has the successors that it had, and a split graph stays split
+    ensures edges { IfOk result (KeepsEdges graph.now) }
+{
+    let nodes = numbered(alloc, graph)?;
+    let extra = Vec::new(alloc);
+    let numbered = graph.with_nodes(alloc, extra, nodes)?;
+    Ok(numbered)
+}
+
+/// What the nodes of the graph become.
+fn numbered(alloc: Global, graph: &Graph) -> Result<Vec<Node>, Memory>
+    ensures are { IfOk result (λ numbered.
+        AreNumbered (length graph.now.vars) graph.now.nodes numbered.items) }
+    ensures graph { IsGraph graph.now.vars graph.now.received graph.now.nodes }
+{
+    let nodes = graph.nodes();
+    let holders = holders(alloc, graph)?;
+    let numbered = numbered_nodes(alloc, nodes, holders.as_slice())?;
+    Ok(numbered)
+}
+
+/// The nodes, each with its holder in the place of its right side, where it has one.
+fn numbered_nodes(
+    alloc: Global,
+    nodes: &[Node],
+    holders: &[Option<usize>],
+) -> Result<Vec<Node>, Memory>
+    requires { length holders.now ≡ length nodes.now }
+    ensures { IfOk result (λ numbered. BecomeNumbered nodes.now holders.now numbered.items) }
+{
+    let mut numbered = Vec::with_capacity(alloc, nodes.len())?;
+    for n in 0..nodes.len() {
+        numbered.push(numbered_node(&nodes[n], holders[n])?)?;
+    }
+    Ok(numbered)
+}
+
+/// The node, which assigns the holder where there is one.
+fn numbered_node(node: &Node, holder: Option<usize>) -> Result<Node, Memory>
+    ensures { IfOk result (λ numbered. numbered ≡ numbered_node node.now holder) }
+{
+    match (node, holder) {
+        (Node::Assign(x, _, next), Some(v)) => {
+            Ok(Node::Assign(*x, Rhs::Plain(Operand::Var(v)), *next))
+        }
+        _ => Ok(node.clone()?),
+    }
+}

@@ -1,0 +1,237 @@
+// The walk over the graph, which finds at each node the variable that has the term of its right side.
+ghost use Rattle.std.specs.Prelude.{◌≡◌, ℕ, ◌<◌, ◌≤◌, ◌++◌, [], ◌∷◌, List, None, Some, IfOk, OnOk, length, replicate, slice_get, slice_set};
+ghost use Rattle.mir_base.specs.Shapes.{AllBelow};
+ghost use Rattle.flow_graph.specs.Edges.{edges_of};
+ghost use Rattle.flow_graph.specs.Graphs.{node_succs};
+ghost use Rattle.value_number.specs.declared.walk.Step.TheVariants.{Visit};
+ghost use Rattle.value_number.specs.Roots.{is_root};
+ghost use Rattle.value_number.specs.Walks.{AreHolders, AreRoots, ChangeWithin, VisitRoots, GoesOver, changed_numbers, listed_after, steps_after, undoing, weight_left, with_root};
+
+use crate::finding::{Change, find};
+use crate::terms::TermTable;
+use flow_graph::{Edges, Graph};
+use mir_base::Memory;
+use std::alloc::Global;
+
+/// What is still to be done. The last step is taken first.
+#[derive(Clone, Copy, Debug)]
+pub(crate) enum Step {
+    /// Visit this node, whose terms begin at this root.
+    Visit(usize, usize),
+    /// Give this variable the number that it had.
+    Restore(usize, Option<usize>),
+}
+
+/// A walk from each root to the nodes that are reached from it by edges that enter them alone.
+#[derive(Drop)]
+pub(crate) struct Walk {
+    /// The terms so far.
+    pub(crate) table: TermTable,
+    /// The number of each variable's term at the node at hand; none where it is the variable's leaf of the root.
+    pub(crate) numbers: Vec<Option<usize>>,
+    /// Which nodes have been visited, or are to be.
+    pub(crate) listed: Vec<bool>,
+    /// What is still to be done.
+    pub(crate) steps: Vec<Step>,
+    /// For each node the variable that has the term of its right side, where there is one.
+    pub(crate) holders: Vec<Option<usize>>,
+}
+
+/// For each node the first variable that has the term of its movable right side before it, where there is one. The time is
+/// linear in nodes and edges, but for a search through the variables at each movable right side whose term has come before.
+/// It fails only with `Memory`.
+pub(crate) fn holders(alloc: Global, graph: &Graph) -> Result<Vec<Option<usize>>, Memory>
+    ensures { IfOk result (λ holders. AreHolders graph.now holders.items) }
+{
+    let _nodes = graph.nodes();
+    let mut walk = begin(alloc, graph)?;
+    while let Some(step) = walk.steps.pop() {
+        walk.take(graph, step)?;
+    }
+    Ok(walk.holders)
+}
+
+/// The walk before its first step.
+fn begin(alloc: Global, graph: &Graph) -> Result<Walk, Memory>
+    ensures { IfOk result (λ walk. GoesOver graph.now walk walk.steps.items) }
+{
+    let listed = roots(alloc, graph)?;
+    let steps = visits(alloc, listed.as_slice())?;
+    let walk = unnumbered(alloc, graph, listed, steps)?;
+    Ok(walk)
+}
+
+/// The walk with these listed nodes and steps, in which no variable has a number.
+fn unnumbered(
+    alloc: Global,
+    graph: &Graph,
+    listed: Vec<bool>,
+    steps: Vec<Step>,
+) -> Result<Walk, Memory>
+    ensures numbers { IfOk result (λ walk.
+        walk.numbers.items ≡ replicate (length graph.now.vars) None) }
+    ensures holders { IfOk result (λ walk.
+        walk.holders.items ≡ replicate (length graph.now.nodes) None) }
+    ensures listed { IfOk result (λ walk. walk.listed.items ≡ listed.items) }
+    ensures steps { IfOk result (λ walk. walk.steps.items ≡ steps.items) }
+{
+    let numbers = vec![in alloc; None; graph.vars().len()]?;
+    let holders = vec![in alloc; None; graph.len()]?;
+    Ok(Walk {
+        table: TermTable::new(alloc),
+        numbers,
+        listed,
+        steps,
+        holders,
+    })
+}
+
+/// Which nodes are roots.
+fn roots(alloc: Global, graph: &Graph) -> Result<Vec<bool>, Memory>
+    ensures { IfOk result (λ roots. AreRoots graph.now.nodes roots.items) }
+{
+    let edges = Edges::of(alloc, graph)?;
+    let mut roots = Vec::with_capacity(alloc, graph.len())?;
+    for n in 0..graph.len() {
+        roots.push(is_root(graph, &edges, n))?;
+    }
+    Ok(roots)
+}
+
+/// Whether a node is a root.
+fn is_root(graph: &Graph, edges: &Edges, n: usize) -> bool
+    requires edges { edges.now ≡ edges_of graph.now.nodes }
+    requires there { n < length graph.now.nodes }
+    ensures { result ≡ is_root graph.now.nodes n }
+{
+    let _ = graph;
+    n == 0 || edges.preds(n).len() > 1
+}
+
+/// A visit of each root.
+fn visits(alloc: Global, roots: &[bool]) -> Result<Vec<Step>, Memory>
+    ensures { IfOk result (λ steps. VisitRoots roots.now steps.items) }
+{
+    let mut steps = Vec::new(alloc);
+    for n in 0..roots.len() {
+        visit_root(&mut steps, n, roots[n])?;
+    }
+    Ok(steps)
+}
+
+/// Puts a visit of a node on the list, where it is a root.
+fn visit_root(steps: &mut Vec<Step>, n: usize, is_root: bool) -> Result<(), Memory>
+    ensures { OnOk result (steps.new.items ≡ with_root steps.old.items n is_root) }
+{
+    if is_root {
+        steps.push(Step::Visit(n, n))?;
+    }
+    Ok(())
+}
+
+impl Walk {
+    /// Takes a step, which was the last.
+    fn take(&mut self, graph: &Graph, step: Step) -> Result<(), Memory>
+        requires walks { GoesOver graph.now self.old (self.old.steps.items ++ step ∷ []) }
+        ensures walks { OnOk result (GoesOver graph.now self.new self.new.steps.items) }
+        ensures lighter { OnOk result
+            (weight_left self.new.listed.items self.new.steps.items
+            < weight_left self.old.listed.items (self.old.steps.items ++ step ∷ [])) }
+    {
+        match step {
+            Step::Visit(node, root) => self.visit(graph, node, root),
+            Step::Restore(variable, number) => {
+                put(&mut self.numbers, variable, number);
+                Ok(())
+            }
+        }
+    }
+
+    /// Visits a node, whose terms begin at this root.
+    fn visit(&mut self, graph: &Graph, n: usize, root: usize) -> Result<(), Memory>
+        requires walks { GoesOver graph.now self.old (self.old.steps.items ++ Visit n root ∷ []) }
+        ensures walks { OnOk result (GoesOver graph.now self.new self.new.steps.items) }
+        ensures lighter { OnOk result
+            (weight_left self.new.listed.items self.new.steps.items
+            < weight_left self.old.listed.items (self.old.steps.items ++ Visit n root ∷ [])) }
+    {
+        let _nodes = graph.nodes();
+        let node = graph.node(n);
+        let found = find(&mut self.table, self.numbers.as_slice(), root, n, node)?;
+        put(&mut self.holders, n, found.holder);
+        change(&mut self.numbers, &mut self.steps, found.change)?;
+        list(
+            &mut self.listed,
+            &mut self.steps,
+            graph.succs(n).as_slice(),
+            root,
+        )?;
+        Ok(())
+    }
+}
+
+/// Puts a value into a list, at this index.
+fn put(list: &mut Vec<Option<usize>>, index: usize, value: Option<usize>)
+    requires { index < length list.old.items }
+    ensures { list.new.items ≡ slice_set list.old.items index value }
+{
+    list[index] = value;
+}
+
+/// Changes the number of a variable, where there is a change, and lists the step that undoes it.
+fn change(
+    numbers: &mut Vec<Option<usize>>,
+    steps: &mut Vec<Step>,
+    change: Option<Change>,
+) -> Result<(), Memory>
+    requires { ChangeWithin (length numbers.old.items) change }
+    ensures numbers { OnOk result (numbers.new.items ≡ changed_numbers numbers.old.items change) }
+    ensures steps { OnOk result
+        (steps.new.items ≡ steps.old.items ++ undoing numbers.old.items change) }
+{
+    match change {
+        None => Ok(()),
+        Some(change) => {
+            steps.push(Step::Restore(change.variable, numbers[change.variable]))?;
+            put(numbers, change.variable, Some(change.number));
+            Ok(())
+        }
+    }
+}
+
+/// Lists those of these successors that are not listed, to be visited under this root.
+fn list(
+    listed: &mut Vec<bool>,
+    steps: &mut Vec<Step>,
+    succs: &[usize],
+    root: usize,
+) -> Result<(), Memory>
+    requires { AllBelow (length listed.old.items) succs.now }
+    ensures listed { OnOk result (listed.new.items ≡ listed_after succs.now listed.old.items) }
+    ensures steps { OnOk result
+        (steps.new.items ≡ steps_after root succs.now listed.old.items steps.old.items) }
+{
+    for succ in succs {
+        list_one(listed, steps, *succ, root)?;
+    }
+    Ok(())
+}
+
+/// Lists a node, where it is not listed.
+fn list_one(
+    listed: &mut Vec<bool>,
+    steps: &mut Vec<Step>,
+    node: usize,
+    root: usize,
+) -> Result<(), Memory>
+    requires { node < length listed.old.items }
+    ensures listed { OnOk result (listed.new.items ≡ listed_after (node ∷ []) listed.old.items) }
+    ensures steps { OnOk result
+        (steps.new.items ≡ steps_after root (node ∷ []) listed.old.items steps.old.items) }
+{
+    if !listed[node] {
+        steps.push(Step::Visit(node, root))?;
+        listed[node] = true;
+    }
+    Ok(())
+}
