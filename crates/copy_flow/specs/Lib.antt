@@ -1,0 +1,5 @@
+pub mod Copies
+pub mod Copied
+pub mod CopiedLaws
+pub mod Tables
+pub mod Rows

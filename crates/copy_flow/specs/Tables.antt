@@ -1,0 +1,47 @@
+-- Tables of the distinct copies of a graph. Cited by contracts of private functions.
+use Rattle.std.specs.Prelude.{◌≡◌, ◌≢◌, ℕ, ◌<◌, nat_eq, if◌then◌else◌, Contains, List, slice_get, Option, Some, None}
+use Rattle.mir_base.specs.declared.instructions.Operand.TheVariants.{Var, Const}
+use Rattle.mir_base.specs.declared.instructions.Rhs.{Rhs}
+use Rattle.mir_base.specs.declared.instructions.Rhs.TheVariants.{Plain, Unary, Binary}
+use Rattle.flow_graph.specs.declared.nodes.Node.{Node}
+use Rattle.flow_graph.specs.declared.nodes.Node.TheVariants.{Start, Skip, Assign, Print, Call, Test, Return}
+use Rattle.copy_flow.specs.declared.table.VarCopy.{VarCopy}
+
+-- the copy of the one variable in the other, unless they are one
+abbrev pub copy_between : ℕ → ℕ → Option VarCopy
+copy_between target source = if nat_eq target source then None else Some (record { target = target; source = source })
+
+-- the copy that an assignment to x is
+abbrev pub copy_by_rhs : ℕ → Rhs → Option VarCopy
+copy_by_rhs x (Plain (Var y)) = copy_between x y
+copy_by_rhs x (Plain (Const c)) = None
+copy_by_rhs x (Unary op a) = None
+copy_by_rhs x (Binary op a b) = None
+
+-- the copy that a node is
+abbrev pub copy_of : Node → Option VarCopy
+copy_of (Start next) = None
+copy_of (Skip next) = None
+copy_of (Assign x rhs next) = copy_by_rhs x rhs
+copy_of (Print a next) = None
+copy_of (Call into unit operands next) = None
+copy_of (Test test taken other) = None
+copy_of (Return a) = None
+
+-- the same of a node that may be absent
+abbrev pub copy_in : Option Node → Option VarCopy
+copy_in None = None
+copy_in (Some node) = copy_of node
+
+-- each of these is a copy of another variable, in one of so many variables
+pub record AreCopies (vars : ℕ) (table : List VarCopy) : Type 0 where
+  pub apart : (i : ℕ) (c : VarCopy) → slice_get table i ≡ Some c → c.source ≢ c.target
+  pub below : (i : ℕ) (c : VarCopy) → slice_get table i ≡ Some c → c.target < vars
+
+-- each copy that a node is stands in the table
+abbrev pub HasCopies : List Node → List VarCopy → Type 0
+HasCopies nodes table = (n : ℕ) (c : VarCopy) → copy_in (slice_get nodes n) ≡ Some c → Contains table c
+
+-- the number is that of the copy that the node is; there is none where it is no copy
+abbrev pub FindsCopy : List VarCopy → Node → Option ℕ → Type 0
+FindsCopy table node number = (i : ℕ) (c : VarCopy) → slice_get table i ≡ Some c → (copy_of node ≡ Some c → number ≡ Some i) × (number ≡ Some i → copy_of node ≡ Some c)

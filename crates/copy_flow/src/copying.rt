@@ -1,0 +1,53 @@
+// The copied graph.
+ghost use Rattle.std.specs.Prelude.{◌≡◌, IfOk};
+ghost use Rattle.flow_graph.specs.Graphs.{IsGraph};
+ghost use Rattle.flow_graph.specs.Passes.{GraphCalls, GraphCheaper, GraphDivides, GraphKeeps, GraphSame};
+ghost use Rattle.copy_flow.specs.Copied.{AreCopied, HaveSameSuccs, IsCopied, IsOnlyCopied, StaysSplit};
+
+use crate::held::HeldCopies;
+use crate::rereading::reread_nodes;
+use flow_graph::{Graph, Node};
+use mir_base::Memory;
+use std::alloc::Global;
+
+/// The graph in which copies give way to what they copy. `v <- w` with w a variable other than v is a copy. Each operand v
+/// of a node becomes w exactly where on every path from Start to the node there is, before the node, a node `v <- w` after
+/// which, before the node, no node assigns v or w; there is at most one such w. All is decided on the graph as it was, in
+/// one step. Then each assignment of a variable to itself becomes a Skip with the same successor. No other node changes.
+///
+/// The graph does the same and evaluates no more operators. It fails only with `Memory`.
+pub fn copies(alloc: Global, graph: &Graph) -> Result<Graph, Memory>
+    ensures copied { IfOk result (IsCopied graph.now) }
+
+    // there is no other such graph
+    ensures only { IfOk result (IsOnlyCopied graph.now) }
+    ensures same { IfOk result (GraphSame graph.now) }
+    ensures cheaper { IfOk result (GraphCheaper graph.now) }
+    ensures keeps { IfOk result (GraphKeeps graph.now) }
+
+    // each dividing assignment stays, with its variable and its operator
+    ensures divides { IfOk result (GraphDivides graph.now) }
+
+    // it makes no calls but those of the graph
+    ensures calls { IfOk result (GraphCalls graph.now) }
+
+    // its edges are those of the graph, so it is split where the graph is
+    ensures succs { IfOk result (HaveSameSuccs graph.now) }
+    ensures split { IfOk result (StaysSplit graph.now) }
+{
+    let nodes = copied_nodes(alloc, graph)?;
+    let extra = Vec::new(alloc);
+    let copied = graph.with_nodes(alloc, extra, nodes)?;
+    Ok(copied)
+}
+
+/// The nodes of the copied graph.
+fn copied_nodes(alloc: Global, graph: &Graph) -> Result<Vec<Node>, Memory>
+    ensures are { IfOk result (λ nodes. AreCopied graph.now nodes.items) }
+    ensures graph { IsGraph graph.now.vars graph.now.received graph.now.nodes }
+{
+    let _nodes = graph.nodes();
+    let copies = HeldCopies::of(alloc, graph)?;
+    let nodes = reread_nodes(alloc, graph, &copies)?;
+    Ok(nodes)
+}

@@ -1,0 +1,160 @@
+// The nodes with what is read in the place of copies.
+ghost use Rattle.std.specs.Prelude.{◌≡◌, ◌<◌, length, map, IfNone, IfOk, IfSome};
+ghost use Rattle.copy_flow.specs.Copied.{assigned_unless_itself, reread, reread_node, reread_rhs, reread_test};
+ghost use Rattle.copy_flow.specs.Copies.{is_var};
+ghost use Rattle.copy_flow.specs.Rows.{AreReread, HaveNoneInBoth, IsAtNode, IsFirstInBoth, IsLookup, read_at};
+
+use crate::held::HeldCopies;
+use bit_rows::RowView;
+use flow_graph::{Graph, Node};
+use mir_base::{Args, Memory, Operand, Rhs, Test};
+use std::alloc::Global;
+
+/// The nodes of a graph, in which what a copy is of is read in its place, and a Skip stands where a variable would be
+/// assigned to itself.
+pub(crate) fn reread_nodes(
+    alloc: Global,
+    graph: &Graph,
+    copies: &HeldCopies,
+) -> Result<Vec<Node>, Memory>
+    requires { IsLookup (length graph.now.vars) (length graph.now.nodes) copies.now }
+    ensures { IfOk result (λ nodes. AreReread copies.now graph.now.nodes nodes.items) }
+{
+    let old = graph.nodes();
+    let mut nodes = Vec::with_capacity(alloc, old.len())?;
+    for n in 0..old.len() {
+        let at = HeldAt { copies, node: n };
+        let node = at.node(alloc, &old[n])?;
+        nodes.push(node)?;
+    }
+    Ok(nodes)
+}
+
+/// The copies of a graph, looked up at a node.
+#[derive(Clone, Copy)]
+struct HeldAt<'a> {
+    copies: &'a HeldCopies,
+    node: usize,
+}
+
+impl<'a> HeldAt<'a> {
+    /// What a node becomes.
+    fn node(&self, alloc: Global, node: &Node) -> Result<Node, Memory>
+        requires { IsAtNode self.now }
+        ensures { IfOk result (λ made. made ≡ reread_node (read_at self.now) node.now) }
+    {
+        match node {
+            Node::Start(next) => Ok(Node::Start(*next)),
+            Node::Skip(next) => Ok(Node::Skip(*next)),
+            Node::Assign(x, rhs, next) => Ok(assigned_unless_itself(*x, self.rhs(*rhs), *next)),
+            Node::Print(a, next) => Ok(Node::Print(self.operand(*a), *next)),
+            Node::Call(into, unit, args, next) => {
+                let operands = self.operands(alloc, args.items())?;
+                let args = Args::of(alloc, operands.as_slice())?;
+                Ok(Node::Call(*into, *unit, args, *next))
+            }
+            Node::Test(test, taken, other) => Ok(Node::Test(self.test(*test), *taken, *other)),
+            Node::Return(a) => Ok(Node::Return(self.operand(*a))),
+        }
+    }
+
+    /// What a right side becomes.
+    fn rhs(&self, rhs: Rhs) -> Rhs
+        requires { IsAtNode self.now }
+        ensures { result ≡ reread_rhs (read_at self.now) rhs }
+    {
+        match rhs {
+            Rhs::Plain(a) => Rhs::Plain(self.operand(a)),
+            Rhs::Unary(op, a) => Rhs::Unary(op, self.operand(a)),
+            Rhs::Binary(op, a, b) => Rhs::Binary(op, self.operand(a), self.operand(b)),
+        }
+    }
+
+    /// What a test becomes.
+    fn test(&self, test: Test) -> Test
+        requires { IsAtNode self.now }
+        ensures { result ≡ reread_test (read_at self.now) test }
+    {
+        match test {
+            Test::Rel(op, a, b) => Test::Rel(op, self.operand(a), self.operand(b)),
+            Test::Holds(a) => Test::Holds(self.operand(a)),
+            Test::Fails(a) => Test::Fails(self.operand(a)),
+        }
+    }
+
+    /// What the arguments of a call become.
+    fn operands(&self, alloc: Global, operands: &[Operand]) -> Result<Vec<Operand>, Memory>
+        requires { IsAtNode self.now }
+        ensures { IfOk result (λ all. all.items ≡ map (reread (read_at self.now)) operands.now) }
+    {
+        let mut all = Vec::with_capacity(alloc, operands.len())?;
+        for a in operands {
+            all.push(self.operand(*a))?;
+        }
+        Ok(all)
+    }
+
+    /// What an operand becomes.
+    fn operand(&self, a: Operand) -> Operand
+        requires { IsAtNode self.now }
+        ensures { result ≡ reread (read_at self.now) a }
+    {
+        match a {
+            Operand::Var(x) => Operand::Var(self.read(x)),
+            Operand::Const(c) => Operand::Const(c),
+        }
+    }
+
+    /// The variable that is read for this one.
+    fn read(&self, var: usize) -> usize
+        requires { IsAtNode self.now }
+        ensures { result ≡ read_at self.now var }
+    {
+        let copies = self.copies;
+        if var >= copies.targets.len() {
+            return var;
+        }
+        match first_in_both(&copies.targets.row(var), &copies.held.row(self.node)) {
+            Some(number) => copies.table.get(number).source,
+            None => var,
+        }
+    }
+}
+
+/// The first bit that both rows have, which are equally long. The bits of the first are tried in turn.
+fn first_in_both(row: &RowView<'_>, other: &RowView<'_>) -> Option<usize>
+    requires { length row.now ≡ length other.now }
+    ensures found { IfSome result (IsFirstInBoth row.now other.now) }
+    ensures none { IfNone result (HaveNoneInBoth row.now other.now) }
+{
+    let mut from = 0;
+    while from < row.len() {
+        let number = row.next_true(from)?;
+        if other.get(number) {
+            return Some(number);
+        }
+        from = number + 1;
+    }
+    None
+}
+
+/// The assignment, or a Skip where it assigns a variable to itself.
+fn assigned_unless_itself(x: usize, rhs: Rhs, next: usize) -> Node
+    ensures { result ≡ assigned_unless_itself x rhs next }
+{
+    if is_var(x, rhs) {
+        Node::Skip(next)
+    } else {
+        Node::Assign(x, rhs, next)
+    }
+}
+
+/// Whether a right side is this variable alone.
+fn is_var(x: usize, rhs: Rhs) -> bool
+    ensures { result ≡ is_var x rhs }
+{
+    match rhs {
+        Rhs::Plain(Operand::Var(y)) => x == y,
+        _ => false,
+    }
+}
