@@ -1,0 +1,96 @@
+-- A full path of a graph is one of the graph without its dead assignments, and no assignment stands more often on it.
+use Rattle.std.proofs.Common.{◌≡◌, ◌≤◌, ◌+◌, ℕ, Bool, true, false, List, [], ◌∷◌, length, count_by, slice_get, Option, Some, None, option_map, refl, sym, ap, ◌∙◌, arith}
+use Rattle.mir_base.specs.declared.instructions.Rhs.{Rhs}
+use Rattle.flow_graph.specs.declared.nodes.Node.{Node}
+use Rattle.flow_graph.specs.declared.nodes.Node.TheVariants.{Start, Skip, Assign, Print, Call, Test, Return}
+use Rattle.flow_graph.specs.Graphs.{GraphShape, IsGraph}
+use Rattle.flow_graph.specs.Insertions.{changed}
+use Rattle.flow_graph.specs.Paths.{IsFullPath, IsPath, is_return}
+use Rattle.flow_graph.specs.Sums.{count_sums, one_if, sum_on}
+use Rattle.sink_dead.specs.Accesses.{is_occurrence, occurs_at}
+use Rattle.sink_dead.specs.NoMore.{HasNoMore}
+use Rattle.sink_dead.specs.Pruned.{IsPruned, removed_if}
+use Rattle.sink_dead.specs.PrunedLaws.{pruned_get, pruned_succs}
+use Rattle.sink_dead.proofs.PrunedBy.{pruned_length}
+
+-- a node stays a Return, removed or not
+return_stays : (gone : Bool) (o : Option Node) → is_return (option_map (changed (removed_if gone)) o) ≡ is_return o
+return_stays gone None = refl
+return_stays gone (Some (Start next)) = refl
+return_stays gone (Some (Skip next)) = refl
+return_stays true (Some (Assign x rhs next)) = refl
+return_stays false (Some (Assign x rhs next)) = refl
+return_stays gone (Some (Print a next)) = refl
+return_stays gone (Some (Call into unit operands next)) = refl
+return_stays gone (Some (Test test taken other)) = refl
+return_stays gone (Some (Return a)) = refl
+
+-- and is an occurrence only where it was one
+occurs_less : (x : ℕ) (t : Rhs) (gone : Bool) (o : Option Node) → one_if (is_occurrence x t (option_map (changed (removed_if gone)) o)) ≤ one_if (is_occurrence x t o)
+occurs_less x t gone None = omega arith
+occurs_less x t gone (Some (Start next)) = omega arith
+occurs_less x t gone (Some (Skip next)) = omega arith
+occurs_less x t true (Some (Assign y rhs next)) = omega arith
+occurs_less x t false (Some (Assign y rhs next)) = omega arith
+occurs_less x t gone (Some (Print a next)) = omega arith
+occurs_less x t gone (Some (Call into unit operands next)) = omega arith
+occurs_less x t gone (Some (Test test taken other)) = omega arith
+occurs_less x t gone (Some (Return a)) = omega arith
+
+module _ (graph pruned : GraphShape) (is_graph : IsGraph graph.vars graph.received graph.nodes) (p : IsPruned graph pruned) where
+  node_is : (n : ℕ) → slice_get pruned.nodes n ≡ option_map (changed (removed_if (p.dead (0 + n)))) (slice_get graph.nodes n)
+  node_is n = ap (λ (g : GraphShape). slice_get g.nodes n) p.is ∙ pruned_get p.dead graph.nodes 0 n
+
+  as_many : length pruned.nodes ≡ length graph.nodes
+  as_many = ap (λ (g : GraphShape). length g.nodes) p.is ∙ pruned_length p.dead 0 graph.nodes
+
+  path_stays : (path : List ℕ) → IsPath graph.nodes path → IsPath pruned.nodes path
+  path_stays [] is = absurd is
+  path_stays (n ∷ []) is = omega (arith, is, as_many)
+  path_stays (m ∷ n ∷ path) is = ((is.0.0, ap (λ l. slice_get l is.0.0) (pruned_succs graph pruned is_graph p m) ∙ is.0.1), path_stays (n ∷ path) is.1)
+
+  -- and one of the pruned graph is one of the graph
+  path_stood : (path : List ℕ) → IsPath pruned.nodes path → IsPath graph.nodes path
+  path_stood [] is = absurd is
+  path_stood (n ∷ []) is = omega (arith, is, as_many)
+  path_stood (m ∷ n ∷ path) is = ((is.0.0, ap (λ l. slice_get l is.0.0) (sym (pruned_succs graph pruned is_graph p m)) ∙ is.0.1), path_stood (n ∷ path) is.1)
+
+  -- so the full paths of the two graphs are the same
+  full_stood : (path : List ℕ) → IsFullPath pruned.nodes path → IsFullPath graph.nodes path
+  full_stood path full = record {
+    is_path = path_stood path full.is_path;
+    begins = full.begins;
+    last = full.last;
+    ends = full.ends;
+    returns = sym (ap is_return (node_is full.last) ∙ return_stays (p.dead (0 + full.last)) (slice_get graph.nodes full.last)) ∙ full.returns;
+  }
+
+  full_stays : (path : List ℕ) → IsFullPath graph.nodes path → IsFullPath pruned.nodes path
+  full_stays path full = record {
+    is_path = path_stays path full.is_path;
+    begins = full.begins;
+    last = full.last;
+    ends = full.ends;
+    returns = ap is_return (node_is full.last) ∙ return_stays (p.dead (0 + full.last)) (slice_get graph.nodes full.last) ∙ full.returns;
+  }
+
+  fewer : (x : ℕ) (t : Rhs) (path : List ℕ) → sum_on (λ n. one_if (occurs_at x t pruned n)) path ≤ sum_on (λ n. one_if (occurs_at x t graph n)) path
+  fewer x t [] = omega arith
+  fewer x t (n ∷ path) =
+      let same = ap {B = ℕ} (λ o. one_if (is_occurrence x t o)) (node_is n) in
+      omega (arith, same, occurs_less x t (p.dead (0 + n)) (slice_get graph.nodes n), fewer x t path)
+
+  -- on each path no assignment stands more often
+  counts_less : (x : ℕ) (t : Rhs) (path : List ℕ) → count_by (occurs_at x t pruned) path ≤ count_by (occurs_at x t graph) path
+  counts_less x t path = omega (arith, count_sums (occurs_at x t pruned) path, count_sums (occurs_at x t graph) path, fewer x t path)
+
+  -- so it is on the path over each full path of a graph before
+  pub still_no_more : (before : GraphShape) → HasNoMore before graph → HasNoMore before pruned
+  still_no_more before no_more = λ path full.
+      let has = no_more path full in
+      record {
+        over = has.over;
+        is_over = record { full = full_stays has.over has.is_over.full; same = has.is_over.same };
+        alone = λ other is. has.alone other (record { full = full_stood other is.full; same = is.same });
+        no_more = λ x t calm. omega (arith, has.no_more x t calm, counts_less x t has.over);
+      }

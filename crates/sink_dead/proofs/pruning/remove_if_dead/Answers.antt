@@ -1,0 +1,11 @@
+use Rattle.std.proofs.Common.{List, ap, sym, ◌∙◌}
+use Rattle.flow_graph.specs.declared.nodes.Node.{Node}
+use Rattle.flow_graph.specs.Editing.{graph_changed}
+use Rattle.flow_graph.specs.EditingLaws.{change_none}
+use Rattle.sink_dead.specs.Pruned.{removed_if}
+use Rattle.sink_dead.proofs.pruning.remove_if_dead.Goals as goal
+
+pub returns-else-is_dead : goal.returns-else-is_dead
+returns-else-is_dead c =
+    ap (λ (l : List Node). record c.args.editor.now.graph { nodes = l }) (sym (change_none c.args.n c.args.editor.now.graph.nodes))
+    ∙ ap (λ b. graph_changed c.args.n (removed_if b) c.args.editor.now.graph) (sym c.if-is_dead.false ∙ c.is_dead.ensures)

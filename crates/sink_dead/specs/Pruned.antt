@@ -1,0 +1,34 @@
+-- The graph without dead assignments. Cited by contracts.
+use Rattle.std.specs.Prelude.{◌≡◌, ◌↔◌, ◌<◌, ℕ, suc, Bool, true, false, List, [], ◌∷◌, length, slice_get, Some}
+use Rattle.mir_base.specs.declared.instructions.Rhs.{Rhs}
+use Rattle.mir_base.specs.Expressions.{divides}
+use Rattle.flow_graph.specs.declared.nodes.Node.{Node}
+use Rattle.flow_graph.specs.declared.nodes.Node.TheVariants.{Assign}
+use Rattle.flow_graph.specs.Graphs.{GraphShape}
+use Rattle.flow_graph.specs.Insertions.{Change, Kept, Removed, changed}
+use Rattle.sink_dead.specs.Liveness.{IsLiveAfter}
+
+-- node n assigns a variable that is not live after it, and its right side does not divide: it is plain or movable
+pub record IsDeadAt (graph : GraphShape) (n : ℕ) : Type 0 where
+  pub var : ℕ
+  pub rhs : Rhs
+  pub next : ℕ
+  pub is : slice_get graph.nodes n ≡ Some (Assign var rhs next)
+  pub calm : divides rhs ≡ false
+  pub unread : ¬ (IsLiveAfter graph var n)
+
+-- what becomes of a node that is dead, or is not
+abbrev pub removed_if : Bool → Change
+removed_if true = Removed
+removed_if false = Kept
+
+-- the nodes from number n on, of which each dead one is a Skip with the same successor
+abbrev pub pruned_from : (ℕ → Bool) → ℕ → List Node → List Node
+pruned_from dead n [] = []
+pruned_from dead n (node ∷ nodes) = changed (removed_if (dead n)) node ∷ pruned_from dead (suc n) nodes
+
+-- the graph in which exactly the dead assignments became Skips with their successors; all else is as it was
+pub record IsPruned (graph pruned : GraphShape) : Type 0 where
+  pub dead : ℕ → Bool
+  pub dead_are : (n : ℕ) → n < length graph.nodes → (dead n ≡ true) ↔ IsDeadAt graph n
+  pub is : pruned ≡ record graph { nodes = pruned_from dead 0 graph.nodes }

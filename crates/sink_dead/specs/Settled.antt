@@ -1,0 +1,57 @@
+-- The patterns that cannot move, each noted for the node before which it is put back, and how they are put among others.
+-- Cited by contracts.
+use Rattle.std.specs.Prelude.{◌≡◌, ◌⊎◌, ◌<◌, ◌++◌, ℕ, Bool, false, if◌then◌else◌, nat_lt, Contains, List, [], ◌∷◌, length, slice_get, slice_index_or, slice_set, Option, Some, None}
+use Rattle.mir_base.specs.declared.instructions.Rhs.{Rhs}
+use Rattle.mir_base.specs.Expressions.{divides}
+use Rattle.flow_graph.specs.declared.nodes.Node.{Node}
+use Rattle.flow_graph.specs.declared.nodes.Node.TheVariants.{Assign}
+use Rattle.flow_graph.specs.Insertions.{Insertion}
+use Rattle.sink_dead.specs.declared.patterns.Pattern.{Pattern}
+use Rattle.sink_dead.specs.declared.inserting.Put.{Put}
+use Rattle.sink_dead.specs.Puts.{chosen_at, insertion_of_pattern, puts_at}
+use Rattle.sink_dead.specs.Tables.{pattern_of}
+
+-- node m assigns t to x and leads to n; t does not divide, and the table does not have the pattern
+pub record SettlesAt (nodes : List Node) (table : List Pattern) (m n x : ℕ) (t : Rhs) : Type 0 where
+  pub is : slice_get nodes m ≡ Some (Assign x t n)
+  pub calm : divides t ≡ false
+  pub absent : Contains table (record { var = x; rhs = t }) → ⊥
+
+-- of the nodes up to a number: what is noted for a node is a pattern that occurs just before it and is not in the table, and
+-- where there is one, one is noted
+pub record AreSettledTo (nodes : List Node) (table : List Pattern) (upto : ℕ) (settled : List (Option Pattern)) : Type 0 where
+  pub long : length settled ≡ length nodes
+  pub found : (n : ℕ) (p : Pattern) → slice_index_or settled n None ≡ Some p → (m : ℕ) × SettlesAt nodes table m n p.var p.rhs
+  pub noted : (m n x : ℕ) (t : Rhs) → m < upto → SettlesAt nodes table m n x t → (p : Pattern) × (slice_index_or settled n None ≡ Some p)
+
+-- the same of all nodes
+abbrev pub AreSettled : List Node → List Pattern → List (Option Pattern) → Type 0
+AreSettled nodes table settled = AreSettledTo nodes table (length nodes) settled
+
+-- the pattern of a node, where the table does not have it
+abbrev pub IsStill : List Pattern → Node → Option Pattern → Type 0
+IsStill table node None = (p : Pattern) → pattern_of node ≡ Some p → (Contains table p → ⊥) → ⊥
+IsStill table node (Some p) = (pattern_of node ≡ Some p) × (Contains table p → ⊥)
+
+-- what is noted once one node more is looked at: its pattern for its successor, where the table does not have it
+abbrev pub NotesNode : List Pattern → Node → List (Option Pattern) → List (Option Pattern) → Type 0
+NotesNode table node old new =
+    ((new ≡ old) × IsStill table node None)
+    ⊎ ((p : Pattern) × (n : ℕ) × (node ≡ Assign p.var p.rhs n) × (divides p.rhs ≡ false) × (Contains table p → ⊥) × (new ≡ slice_set old n (Some p)))
+
+-- ---- among others
+
+-- a pattern that waits, put among insertions in order of their variables
+abbrev pub merged : Option Pattern → List Insertion → List Insertion
+merged None puts = puts
+merged (Some p) [] = insertion_of_pattern p ∷ []
+merged (Some p) (put ∷ puts) = if nat_lt p.var put.var then insertion_of_pattern p ∷ put ∷ puts else put ∷ merged (Some p) puts
+
+-- the pattern that waits was pushed, where its variable comes before this one, and else still waits: with an insertion of this
+-- variable next, the list comes out the same
+abbrev pub PushesEarlier : ℕ → Option Pattern → ℕ → List Put → List Put → Option Pattern → Type 0
+PushesEarlier node waiting var old new left = (q : Insertion) (rest : List Insertion) → q.var ≡ var → new ++ puts_at node (q ∷ merged left rest) ≡ old ++ puts_at node (merged waiting (q ∷ rest))
+
+-- what is inserted before a node: what the rows say, and what is noted for it
+abbrev pub inserted_by : List Pattern → List (Option Pattern) → List (List Bool) → ℕ → List Insertion
+inserted_by table settled rows n = merged (slice_index_or settled n None) (chosen_at table rows n)

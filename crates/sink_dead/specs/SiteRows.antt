@@ -1,0 +1,76 @@
+-- Rows by nodes of a graph and patterns of a table: where each pattern occurs, is blocked, is delayed and is inserted. Cited by
+-- contracts.
+use Rattle.std.specs.Prelude.{◌≡◌, ◌↔◌, ◌<◌, ◌||◌, ◌&&◌, ℕ, Bool, true, false, nat_eq, List, [], ◌∷◌, length, flat_map, replicate, slice_get, Option, Some}
+use Rattle.mir_base.specs.declared.instructions.Rhs.{Rhs}
+use Rattle.mir_base.specs.Shapes.{AllBelow, into_vars, operand_vars, rhs_vars, test_vars}
+use Rattle.bit_rows.specs.Bits.{or_bits, row_of}
+use Rattle.flow_graph.specs.declared.nodes.Node.{Node}
+use Rattle.flow_graph.specs.declared.nodes.Node.TheVariants.{Start, Skip, Assign, Print, Call, Test, Return}
+use Rattle.flow_graph.specs.Graphs.{GraphShape, node_vars}
+use Rattle.flow_graph.specs.Numbering.{is_in}
+use Rattle.path_laws.specs.Paths.{HaveShape, has_bit}
+use Rattle.sink_dead.specs.declared.patterns.Pattern.{Pattern}
+use Rattle.sink_dead.specs.Delaying.{IsDelayedTo, IsInsertedAt}
+use Rattle.sink_dead.specs.Tables.{pattern_of}
+
+-- one row for each node and one bit for each pattern: whether the test holds of the pattern at the node
+pub record AreSiteRows (graph : GraphShape) (table : List Pattern) (holds : ℕ → Rhs → ℕ → Bool) (rows : List (List Bool)) : Type 0 where
+  pub shape : HaveShape graph (length table) rows
+  pub bits : (n k : ℕ) (p : Pattern) → n < length graph.nodes → slice_get table k ≡ Some p → has_bit rows k n ≡ holds p.var p.rhs n
+
+-- the same of a statement in place of a test
+pub record AreRowsTelling (graph : GraphShape) (table : List Pattern) (Holds : ℕ → Rhs → ℕ → Type 0) (rows : List (List Bool)) : Type 0 where
+  pub shape : HaveShape graph (length table) rows
+  pub bits : (n k : ℕ) (p : Pattern) → n < length graph.nodes → slice_get table k ≡ Some p → (has_bit rows k n ≡ true) ↔ Holds p.var p.rhs n
+
+-- the rows tell where each pattern is inserted; and some rows tell where it is delayed
+pub record AreInsertionRows (graph : GraphShape) (table : List Pattern) (rows : List (List Bool)) : Type 0 where
+  pub delayed : List (List Bool)
+  pub delayed_are : AreRowsTelling graph table (IsDelayedTo graph) delayed
+  pub inserted_are : AreRowsTelling graph table (IsInsertedAt graph) rows
+
+-- ---- occurrences
+
+-- the number is that of the pattern that occurs at the node, where the table has it
+abbrev pub FindsPattern : List Pattern → Node → Option ℕ → Type 0
+FindsPattern table node number = (k : ℕ) (p : Pattern) → slice_get table k ≡ Some p → (pattern_of node ≡ Some p) ↔ (number ≡ Some k)
+
+-- ---- blocked patterns, by variable
+
+-- the variables that a pattern names
+abbrev pub pattern_vars : Pattern → List ℕ
+pattern_vars p = p.var ∷ rhs_vars p.rhs
+
+-- of each variable below this number, the rows say which patterns have it among these variables of theirs
+abbrev pub AreBitsByVariable : ℕ → List Pattern → (Pattern → List ℕ) → List (List Bool) → Type 0
+AreBitsByVariable vars table of_pattern rows = (x k : ℕ) (p : Pattern) → x < vars → slice_get table k ≡ Some p → has_bit rows k x ≡ is_in x (of_pattern p)
+
+-- the bit of this number is set in the rows of these variables, and all else stays
+pub record SetsBitAt (number : ℕ) (vars : List ℕ) (old new : List (List Bool)) : Type 0 where
+  pub len : length new ≡ length old
+  pub each : (x : ℕ) → length (row_of new x) ≡ length (row_of old x)
+  pub bits : (x i : ℕ) → x < length old → has_bit new i x ≡ (has_bit old i x || (nat_eq number i && is_in x vars))
+
+-- the row with the rows of these variables joined to it
+abbrev pub joined_rows : List (List Bool) → List ℕ → List Bool → List Bool
+joined_rows rows [] row = row
+joined_rows rows (x ∷ xs) row = joined_rows rows xs (or_bits row (row_of rows x))
+
+-- where each variable has a row of the patterns that assign it, and one of those that name it: the row of the patterns that
+-- the node blocks
+abbrev pub blocked_row : List (List Bool) → List (List Bool) → ℕ → Node → List Bool
+blocked_row assigning naming bits (Start next) = replicate bits true
+blocked_row assigning naming bits (Skip next) = replicate bits false
+blocked_row assigning naming bits (Assign x rhs next) = joined_rows naming (x ∷ []) (joined_rows assigning (rhs_vars rhs) (replicate bits false))
+blocked_row assigning naming bits (Print a next) = joined_rows assigning (operand_vars a) (replicate bits false)
+blocked_row assigning naming bits (Call into unit operands next) = joined_rows naming (into_vars into) (joined_rows assigning (flat_map operand_vars operands) (replicate bits false))
+blocked_row assigning naming bits (Test test taken other) = joined_rows assigning (test_vars test) (replicate bits false)
+blocked_row assigning naming bits (Return a) = joined_rows assigning (operand_vars a) (replicate bits false)
+
+-- each row is that of what its node blocks
+abbrev pub AreBlockedRows : List (List Bool) → List (List Bool) → ℕ → List Node → List (List Bool) → Type 0
+AreBlockedRows assigning naming bits nodes rows = (n : ℕ) (node : Node) → slice_get nodes n ≡ Some node → row_of rows n ≡ blocked_row assigning naming bits node
+
+-- the variables of each node are below this number
+abbrev pub HaveVarsBelow : ℕ → List Node → Type 0
+HaveVarsBelow vars nodes = (n : ℕ) (node : Node) → slice_get nodes n ≡ Some node → AllBelow vars (node_vars node)

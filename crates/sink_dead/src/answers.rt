@@ -1,0 +1,18 @@
+// What a round and the rounds of a graph give.
+use flow_graph::Graph;
+
+/// One round of sinking and pruning.
+#[derive(Drop)]
+pub struct Round {
+    /// The graph that the round makes.
+    pub graph: Graph,
+    /// Whether its layout is another than that of the graph before it.
+    pub changed: bool,
+}
+
+/// The rounds of a graph.
+#[derive(Drop)]
+pub struct Sunk {
+    /// The graph of each round, in their order.
+    pub rounds: Vec<Graph>,
+}

@@ -1,0 +1,150 @@
+// Which variables are live before each node.
+ghost use Rattle.std.specs.Prelude.{◌≡◌, ◌<◌, ◌++◌, flat_map, length, IfOk};
+ghost use Rattle.mir_base.specs.Shapes.{AllBelow, operand_vars, rhs_vars, test_vars, into_vars};
+ghost use Rattle.bit_rows.specs.Bits.{row_of};
+ghost use Rattle.flow_graph.specs.Graphs.{node_reads, node_vars};
+ghost use Rattle.path_laws.specs.Paths.{HaveShape};
+ghost use Rattle.sink_dead.specs.LiveRows.{AreMarked, IsMarkedAt, TellLive, assigned_vars};
+
+use bit_rows::Rows;
+use flow_graph::{Edges, Graph, Node};
+use mir_base::{Memory, Operand, Rhs, Test};
+use path_laws::backward_some;
+use std::alloc::Global;
+
+/// Which variables are live before each node: one row for each node, one bit for each variable. It fails only with
+/// `Memory`.
+pub(crate) fn live_rows(alloc: Global, graph: &Graph) -> Result<Rows, Memory>
+    ensures shape { IfOk result (HaveShape graph.now (length graph.now.vars)) }
+    ensures live { IfOk result (TellLive graph.now) }
+{
+    let edges = Edges::of(alloc, graph)?;
+    let reads = read_rows(alloc, graph)?;
+    let assigns = assigned_rows(alloc, graph)?;
+    let live = backward_some(alloc, graph, &edges, &reads, &assigns)?;
+    Ok(live)
+}
+
+// ---- what nodes read
+
+/// Which variables each node reads.
+fn read_rows(alloc: Global, graph: &Graph) -> Result<Rows, Memory>
+    ensures shape { IfOk result (HaveShape graph.now (length graph.now.vars)) }
+    ensures reads { IfOk result (AreMarked (node_reads graph.now) graph.now.nodes) }
+{
+    let nodes = graph.nodes();
+    let mut rows = Rows::new(alloc, nodes.len(), graph.vars().len())?;
+    for n in 0..nodes.len() {
+        mark_read(graph, &mut rows, n, &nodes[n]);
+    }
+    Ok(rows)
+}
+
+/// Sets the bits of the variables that a node reads in its row.
+fn mark_read(graph: &Graph, rows: &mut Rows, n: usize, node: &Node)
+    requires row { n < length rows.old }
+    requires vars { AllBelow (length (row_of rows.old n)) (node_vars node.now) }
+    ensures { IsMarkedAt n (node_reads graph.now node.now) rows.old rows.new }
+{
+    match node {
+        Node::Start(_) => {}
+        Node::Skip(_) => {}
+        Node::Assign(_, rhs, _) => mark_rhs(rows, n, rhs),
+        Node::Print(a, _) => mark_operand(rows, n, *a),
+        Node::Call(_, _, args, _) => mark_operands(rows, n, args.items()),
+        Node::Test(test, _, _) => mark_test(rows, n, test),
+        Node::Return(a) => mark_operand(rows, n, *a),
+    }
+}
+
+/// Sets the bits of the variables of a right side.
+fn mark_rhs(rows: &mut Rows, n: usize, rhs: &Rhs)
+    requires row { n < length rows.old }
+    requires vars { AllBelow (length (row_of rows.old n)) (rhs_vars rhs.now) }
+    ensures { IsMarkedAt n (rhs_vars rhs.now) rows.old rows.new }
+{
+    match rhs {
+        Rhs::Plain(a) => mark_operand(rows, n, *a),
+        Rhs::Unary(_, a) => mark_operand(rows, n, *a),
+        Rhs::Binary(_, a, b) => mark_both(rows, n, *a, *b),
+    }
+}
+
+/// Sets the bits of the variables of a test.
+fn mark_test(rows: &mut Rows, n: usize, test: &Test)
+    requires row { n < length rows.old }
+    requires vars { AllBelow (length (row_of rows.old n)) (test_vars test.now) }
+    ensures { IsMarkedAt n (test_vars test.now) rows.old rows.new }
+{
+    match test {
+        Test::Rel(_, a, b) => mark_both(rows, n, *a, *b),
+        Test::Holds(a) => mark_operand(rows, n, *a),
+        Test::Fails(a) => mark_operand(rows, n, *a),
+    }
+}
+
+/// Sets the bits of the variables of two operands.
+fn mark_both(rows: &mut Rows, n: usize, a: Operand, b: Operand)
+    requires row { n < length rows.old }
+    requires vars { AllBelow (length (row_of rows.old n)) (operand_vars a ++ operand_vars b) }
+    ensures { IsMarkedAt n (operand_vars a ++ operand_vars b) rows.old rows.new }
+{
+    mark_operand(rows, n, a);
+    mark_operand(rows, n, b);
+}
+
+/// Sets the bits of the variables of operands.
+fn mark_operands(rows: &mut Rows, n: usize, operands: &[Operand])
+    requires row { n < length rows.old }
+    requires vars { AllBelow (length (row_of rows.old n)) (flat_map operand_vars operands.now) }
+    ensures { IsMarkedAt n (flat_map operand_vars operands.now) rows.old rows.new }
+{
+    for operand in operands {
+        mark_operand(rows, n, *operand);
+    }
+}
+
+/// Sets the bit of an operand, where it is a variable.
+fn mark_operand(rows: &mut Rows, n: usize, operand: Operand)
+    requires row { n < length rows.old }
+    requires vars { AllBelow (length (row_of rows.old n)) (operand_vars operand) }
+    ensures { IsMarkedAt n (operand_vars operand) rows.old rows.new }
+{
+    match operand {
+        Operand::Var(x) => rows.set(n, x, true),
+        Operand::Const(_) => {}
+    }
+}
+
+// ---- what nodes assign
+
+/// Which variable each node assigns.
+fn assigned_rows(alloc: Global, graph: &Graph) -> Result<Rows, Memory>
+    ensures shape { IfOk result (HaveShape graph.now (length graph.now.vars)) }
+    ensures assigned { IfOk result (AreMarked assigned_vars graph.now.nodes) }
+{
+    let nodes = graph.nodes();
+    let mut rows = Rows::new(alloc, nodes.len(), graph.vars().len())?;
+    for n in 0..nodes.len() {
+        mark_assigned(&mut rows, n, &nodes[n]);
+    }
+    Ok(rows)
+}
+
+/// Sets the bit of the variable that a node assigns in its row.
+fn mark_assigned(rows: &mut Rows, n: usize, node: &Node)
+    requires row { n < length rows.old }
+    requires vars { AllBelow (length (row_of rows.old n)) (node_vars node.now) }
+    ensures { IsMarkedAt n (assigned_vars node.now) rows.old rows.new }
+{
+    match node {
+        Node::Start(_) => {}
+        Node::Skip(_) => {}
+        Node::Assign(x, _, _) => rows.set(n, *x, true),
+        Node::Print(_, _) => {}
+        Node::Call(None, _, _, _) => {}
+        Node::Call(Some(x), _, _, _) => rows.set(n, *x, true),
+        Node::Test(_, _, _) => {}
+        Node::Return(_) => {}
+    }
+}

@@ -1,0 +1,260 @@
+// The patterns of assignments: a variable and a right side that does not divide.
+ghost use Rattle.std.specs.Prelude.{◌≡◌, ◌<◌, ◌||◌, Contains, IsPermutation, flat_map, length, nat_eq, slice_get, IfNone, IfOk, IfSome, OnOk, Some};
+ghost use Rattle.std.specs.List.Sorted.{IsNonDecreasingBy};
+ghost use Rattle.mir_base.specs.Shapes.{AllDiffer, operand_vars, rhs_vars, test_vars};
+ghost use Rattle.flow_graph.specs.Graphs.{GraphShape, SuccsBelow, is_start, node_reads};
+ghost use Rattle.std.specs.List.{list_any};
+ghost use Rattle.flow_graph.specs.Numbering.{is_in};
+ghost use Rattle.sink_dead.specs.Accesses.{blocks_pattern};
+ghost use Rattle.sink_dead.specs.Tables.{AreMoving, AreOrdered, calm_pattern, moving_of, passing, pattern_of, touches_pattern};
+
+use flow_graph::{Graph, Node};
+use indexmap::IndexSet;
+use mir_base::{Memory, Operand, Rhs, Test, divides};
+use std::alloc::Global;
+use std::marker::Model;
+
+/// A pattern of assignments. Its occurrences are the nodes that assign this right side, which does not divide, to this
+/// variable.
+#[derive(Clone, Copy, Debug, PartialEq, Eq, Hash)]
+pub(crate) struct Pattern {
+    pub(crate) var: usize,
+    pub(crate) rhs: Rhs,
+}
+
+/// Distinct patterns in order of their variables, numbered from 0. Contracts see them as the list of them.
+#[derive(Drop)]
+pub(crate) struct Patterns {
+    set: IndexSet<Pattern>,
+}
+
+impl Model for Patterns {
+    ghost use Rattle.std.specs.Prelude.{List};
+    ghost use Rattle.sink_dead.specs.declared.patterns.Pattern.{Pattern};
+    ghost use Rattle.sink_dead.specs.Tables.{AreOrdered};
+
+    ghost Value = { List Pattern };
+
+    ghost view = { λ patterns. patterns.set.keys };
+
+    ghost invariant = { λ patterns. AreOrdered patterns.set.keys };
+}
+
+impl Patterns {
+    /// How many patterns there are. It does not allocate.
+    pub(crate) fn len(&self) -> usize
+        ensures len { result ≡ length self.now }
+        ensures ordered { AreOrdered self.now }
+    {
+        self.set.len()
+    }
+
+    /// The pattern of a number, counted from 0 and below `len`. It does not allocate.
+    pub(crate) fn get(&self, number: usize) -> &Pattern
+        requires { number < length self.now }
+        ensures { slice_get self.now number ≡ Some result.now }
+    {
+        &self.set.as_slice()[number]
+    }
+
+    /// The number of a pattern, and `None` exactly where there is no such pattern. It does not allocate.
+    pub(crate) fn find(&self, pattern: &Pattern) -> Option<usize>
+        ensures found { IfSome result (λ number. slice_get self.now number ≡ Some pattern.now) }
+        ensures absent { IfNone result (Contains self.now pattern.now → ⊥) }
+        ensures differ { AllDiffer self.now }
+    {
+        self.set.get_index_of(pattern)
+    }
+}
+
+/// The patterns that can still move: those with an occurrence whose next node does not block them. It fails only with
+/// `Memory`.
+pub(crate) fn moving_patterns(alloc: Global, graph: &Graph) -> Result<Patterns, Memory>
+    ensures { IfOk result (AreMoving graph.now) }
+{
+    let mut set = IndexSet::new(alloc);
+    let nodes = graph.nodes();
+    for node in nodes {
+        if let Some(pattern) = moving_at(nodes, node) {
+            set.insert(pattern)?;
+        }
+    }
+    sort_by_variable(&mut set)?;
+    Ok(Patterns { set })
+}
+
+/// Sorts patterns by their variables. It fails only with `Memory`.
+fn sort_by_variable(set: &mut IndexSet<Pattern>) -> Result<(), Memory>
+    ensures sorted { OnOk result (IsNonDecreasingBy (λ p. p.var) set.new.keys) }
+    ensures same { OnOk result (IsPermutation set.old.keys set.new.keys) }
+    ensures differ { OnOk result (AllDiffer set.new.keys) }
+{
+    set.sort_by_key(|pattern| pattern.var)?;
+    Ok(())
+}
+
+/// The pattern that occurs at a node, where the next of these nodes does not block it.
+fn moving_at(nodes: &[Node], node: &Node) -> Option<Pattern>
+    requires { SuccsBelow (length nodes.now) node.now }
+    ensures { (graph : GraphShape) → nodes.now ≡ graph.nodes → result ≡ moving_of graph node.now }
+{
+    match node {
+        Node::Assign(x, rhs, next) => passing(&nodes[*next], *x, *rhs),
+        _ => None,
+    }
+}
+
+/// The pattern of an assignment, where its right side does not divide and the next node does not block it.
+fn passing(next: &Node, var: usize, rhs: Rhs) -> Option<Pattern>
+    ensures { (graph : GraphShape) →
+        result ≡ passing graph (Some next.now) (calm_pattern var rhs) }
+{
+    let pattern = calm_pattern(var, rhs)?;
+    if blocks(next, &pattern) {
+        None
+    } else {
+        Some(pattern)
+    }
+}
+
+/// The pattern that occurs at a node.
+pub(crate) fn pattern_at(node: &Node) -> Option<Pattern>
+    ensures { result ≡ pattern_of node.now }
+{
+    match node {
+        Node::Assign(x, rhs, _) => calm_pattern(*x, *rhs),
+        _ => None,
+    }
+}
+
+/// The pattern of an assignment, where its right side does not divide.
+fn calm_pattern(var: usize, rhs: Rhs) -> Option<Pattern>
+    ensures { result ≡ calm_pattern var rhs }
+{
+    if divides(&rhs) {
+        None
+    } else {
+        Some(Pattern { var, rhs })
+    }
+}
+
+/// Whether a node blocks a pattern: it is Start, reads the variable, or assigns it or a variable of the right side.
+fn blocks(node: &Node, pattern: &Pattern) -> bool
+    ensures { (graph : GraphShape) →
+        result ≡ blocks_pattern graph pattern.now.var pattern.now.rhs (Some node.now) }
+{
+    let starts = is_start(node);
+    let reads = node_reads(node, pattern.var);
+    let touches = node_touches(node, pattern);
+    let accesses = either(reads, touches);
+    let blocked = either(starts, accesses);
+    blocked
+}
+
+/// Whether one of the two is so.
+fn either(a: bool, b: bool) -> bool
+    ensures { result ≡ (a || b) }
+{
+    a || b
+}
+
+/// Whether a node is Start.
+fn is_start(node: &Node) -> bool
+    ensures { result ≡ is_start node.now }
+{
+    match node {
+        Node::Start(_) => true,
+        Node::Skip(_) => false,
+        Node::Assign(_, _, _) => false,
+        Node::Print(_, _) => false,
+        Node::Call(_, _, _, _) => false,
+        Node::Test(_, _, _) => false,
+        Node::Return(_) => false,
+    }
+}
+
+/// Whether a node reads x.
+fn node_reads(node: &Node, x: usize) -> bool
+    ensures { (graph : GraphShape) → result ≡ is_in x (node_reads graph node.now) }
+{
+    match node {
+        Node::Start(_) => false,
+        Node::Skip(_) => false,
+        Node::Assign(_, rhs, _) => rhs_reads(rhs, x),
+        Node::Print(a, _) => is_var(*a, x),
+        Node::Call(_, _, args, _) => one_is(args.items(), x),
+        Node::Test(test, _, _) => test_reads(test, x),
+        Node::Return(a) => is_var(*a, x),
+    }
+}
+
+/// Whether a node assigns a variable of the pattern.
+#[tactic(auto, using(flow_graph::specs::VarLaws::assigns_none))]
+fn node_touches(node: &Node, pattern: &Pattern) -> bool
+    ensures { (graph : GraphShape) → result ≡ touches_pattern graph node.now pattern.now }
+{
+    match node {
+        Node::Start(_) => false,
+        Node::Skip(_) => false,
+        Node::Assign(y, _, _) => touches(pattern, *y),
+        Node::Print(_, _) => false,
+        Node::Call(Some(y), _, _, _) => touches(pattern, *y),
+        Node::Call(None, _, _, _) => false,
+        Node::Test(_, _, _) => false,
+        Node::Return(_) => false,
+    }
+}
+
+/// Whether y is the variable of the pattern or one of its right side.
+fn touches(pattern: &Pattern, y: usize) -> bool
+    ensures { result ≡ (nat_eq pattern.now.var y ||
+        list_any (λ z. nat_eq z y) (rhs_vars pattern.now.rhs)) }
+{
+    let own = pattern.var == y;
+    let operand = rhs_reads(&pattern.rhs, y);
+    own || operand
+}
+
+/// Whether an operand is the variable x.
+fn is_var(operand: Operand, x: usize) -> bool
+    ensures { result ≡ is_in x (operand_vars operand) }
+{
+    match operand {
+        Operand::Var(y) => y == x,
+        Operand::Const(_) => false,
+    }
+}
+
+/// Whether one of the operands is the variable x.
+fn one_is(operands: &[Operand], x: usize) -> bool
+    ensures { result ≡ is_in x (flat_map operand_vars operands.now) }
+{
+    for operand in operands {
+        if is_var(*operand, x) {
+            return true;
+        }
+    }
+    false
+}
+
+/// Whether a right side reads x.
+fn rhs_reads(rhs: &Rhs, x: usize) -> bool
+    ensures { result ≡ is_in x (rhs_vars rhs.now) }
+{
+    match rhs {
+        Rhs::Plain(a) => is_var(*a, x),
+        Rhs::Unary(_, a) => is_var(*a, x),
+        Rhs::Binary(_, a, b) => is_var(*a, x) || is_var(*b, x),
+    }
+}
+
+/// Whether a test reads x.
+fn test_reads(test: &Test, x: usize) -> bool
+    ensures { result ≡ is_in x (test_vars test.now) }
+{
+    match test {
+        Test::Rel(_, a, b) => is_var(*a, x) || is_var(*b, x),
+        Test::Holds(a) => is_var(*a, x),
+        Test::Fails(a) => is_var(*a, x),
+    }
+}

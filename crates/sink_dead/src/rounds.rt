@@ -1,0 +1,90 @@
+// Rounds of sinking and pruning.
+ghost use Rattle.std.specs.Prelude.{IfOk};
+ghost use Rattle.flow_graph.specs.Edges.{IsSplit};
+ghost use Rattle.flow_graph.specs.Layouts.{IsLayout};
+ghost use Rattle.sink_dead.specs.RoundGraphs.{AreRounds, IsRound, SaysChanged};
+ghost use Rattle.sink_dead.specs.RoundsKept.{RoundKeeps, RoundsKeep};
+ghost use Rattle.sink_dead.specs.RoundsMade.{IsMadeRound};
+
+use crate::answers::{Round, Sunk};
+use crate::layouts::same_unit;
+use crate::pruning::pruned;
+use crate::sinking::sunk;
+use flow_graph::{Graph, layout};
+use mir_base::{Memory, Unit as MirUnit};
+use std::alloc::Global;
+use std::mem;
+
+/// The most rounds that `sink` makes.
+pub const MOST_ROUNDS: usize = 16;
+
+/// One round on a split graph: its assignments sink, and then the dead ones become Skips. `changed` is false exactly where
+/// the old and the new graph have one layout. It fails only with `Memory`.
+pub fn round(alloc: Global, graph: &Graph) -> Result<Round, Memory>
+    requires { IsSplit graph.now.nodes }
+    ensures exact { IfOk result (λ round. IsRound graph.now round.graph) }
+    ensures changed { IfOk result (λ round. SaysChanged graph.now round.graph round.changed) }
+    ensures keeps { IfOk result (λ round. RoundKeeps graph.now round.graph) }
+{
+    let unit = layout(alloc, graph)?;
+    let made = next_round(alloc, graph, &unit)?;
+    Ok(Round {
+        graph: made.graph,
+        changed: made.changed,
+    })
+}
+
+/// The rounds of a split graph: the first is a round of the graph, and each other one of the one before. There are one to
+/// `MOST_ROUNDS`. Only the last may have the layout of the graph before it, and it has unless there are `MOST_ROUNDS`. It
+/// fails only with `Memory`.
+pub fn sink(alloc: Global, graph: &Graph) -> Result<Sunk, Memory>
+    requires { IsSplit graph.now.nodes }
+    ensures rounds { IfOk result (λ sunk. AreRounds graph.now sunk.rounds.items) }
+    ensures keeps { IfOk result (λ sunk. RoundsKeep graph.now sunk.rounds.items) }
+{
+    let unit = layout(alloc, graph)?;
+    let mut last = next_round(alloc, graph, &unit)?;
+    let mut rounds = Vec::new(alloc);
+    'rounds: while last.changed && rounds.len() < MOST_ROUNDS - 1 {
+        let next = next_round(alloc, &last.graph, &last.unit)?;
+        rounds.push(mem::replace(&mut last, next).graph)?;
+    }
+    rounds.push(last.graph)?;
+    Ok(Sunk { rounds })
+}
+
+/// A round with its layout.
+#[derive(Drop)]
+struct MadeRound {
+    graph: Graph,
+    unit: MirUnit,
+    changed: bool,
+}
+
+/// One round on a graph, whose layout is `unit`.
+fn next_round(alloc: Global, graph: &Graph, unit: &MirUnit) -> Result<MadeRound, Memory>
+    requires split { IsSplit graph.now.nodes }
+    requires unit { IsLayout graph.now unit.now }
+    ensures { IfOk result (IsMadeRound graph.now) }
+{
+    let graph = sunk_and_pruned(alloc, graph)?;
+    let laid = layout(alloc, &graph)?;
+    let changed = !same_unit(unit, &laid);
+    Ok(MadeRound {
+        graph,
+        unit: laid,
+        changed,
+    })
+}
+
+/// The graph whose assignments have sunk, without the dead ones.
+fn sunk_and_pruned(alloc: Global, graph: &Graph) -> Result<Graph, Memory>
+    requires { IsSplit graph.now.nodes }
+    ensures exact { IfOk result (IsRound graph.now) }
+    ensures keeps { IfOk result (RoundKeeps graph.now) }
+{
+    let sunk = sunk(alloc, graph)?;
+    let pruned = pruned(alloc, sunk)?;
+    let _nodes = pruned.nodes();
+    Ok(pruned)
+}

@@ -1,0 +1,71 @@
+// The graph in which the assignments have sunk.
+ghost use Rattle.std.specs.Prelude.{◌≡◌, length, IfOk, OnOk};
+ghost use Rattle.flow_graph.specs.Edges.{IsSplit};
+ghost use Rattle.flow_graph.specs.Graphs.{IsGraph};
+ghost use Rattle.flow_graph.specs.Passes.{GraphCalls, GraphCheaper, GraphDivides, GraphKeeps, GraphSame};
+ghost use Rattle.sink_dead.specs.NoMore.{HasNoMore};
+ghost use Rattle.sink_dead.specs.Puts.{ArePutsOf};
+ghost use Rattle.sink_dead.specs.SunkGraphs.{IsSunk};
+
+use crate::delaying::insertion_rows;
+use crate::inserting::{Put, empty_occurrences, put_each, puts_of};
+use crate::patterns::moving_patterns;
+use crate::settling::settled;
+use flow_graph::{Editor, Graph};
+use mir_base::Memory;
+use std::alloc::Global;
+
+/// The graph in which the plain and movable assignments have sunk. Each occurrence of a pattern becomes a Skip, and before
+/// each node, in order of the nodes, stand the patterns that are inserted there, in order of their variables: those that
+/// are delayed at the node, and that it blocks or that are not delayed at some successor. The graph is split. It fails
+/// only with `Memory`.
+pub(crate) fn sunk(alloc: Global, graph: &Graph) -> Result<Graph, Memory>
+    requires { IsSplit graph.now.nodes }
+    ensures exact { IfOk result (IsSunk graph.now) }
+    ensures split { IfOk result (λ sunk. IsSplit sunk.nodes) }
+    ensures same { IfOk result (GraphSame graph.now) }
+    ensures cheaper { IfOk result (GraphCheaper graph.now) }
+    ensures keeps { IfOk result (GraphKeeps graph.now) }
+
+    // each dividing assignment stays
+    ensures divides { IfOk result (GraphDivides graph.now) }
+
+    // it makes no calls but those of the graph
+    ensures calls { IfOk result (GraphCalls graph.now) }
+
+    // on the path over each full path no plain or movable assignment stands more often
+    ensures no_more { IfOk result (HasNoMore graph.now) }
+{
+    let sunk = sunk_graph(alloc, graph)?;
+    Ok(sunk)
+}
+
+/// The graph in which the assignments have sunk, of which `sunk` says what follows.
+fn sunk_graph(alloc: Global, graph: &Graph) -> Result<Graph, Memory>
+    requires { IsSplit graph.now.nodes }
+    ensures graph { OnOk result (IsGraph graph.now.vars graph.now.received graph.now.nodes) }
+    ensures exact { IfOk result (IsSunk graph.now) }
+{
+    let puts = insertions(alloc, graph)?;
+    let extra = Vec::new(alloc);
+    let nodes = graph.nodes();
+    let mut editor = Editor::open(alloc, graph, extra, puts.len())?;
+    empty_occurrences(&mut editor, nodes);
+    put_each(&mut editor, puts.as_slice());
+    let sunk = editor.close()?;
+    Ok(sunk)
+}
+
+/// What is inserted before the nodes of a graph. Rows have a bit for each pattern that can still move; the others are put
+/// back where they stood.
+fn insertions(alloc: Global, graph: &Graph) -> Result<Vec<Put>, Memory>
+    requires { IsSplit graph.now.nodes }
+    ensures graph { OnOk result (IsGraph graph.now.vars graph.now.received graph.now.nodes) }
+    ensures puts { IfOk result (λ puts. ArePutsOf graph.now puts.items) }
+{
+    let table = moving_patterns(alloc, graph)?;
+    let settled = settled(alloc, graph.nodes(), &table)?;
+    let insert = insertion_rows(alloc, graph, &table)?;
+    let puts = puts_of(alloc, &table, settled.as_slice(), &insert)?;
+    Ok(puts)
+}

@@ -1,0 +1,260 @@
+// Where the patterns of a table occur, and where they are blocked: rows by nodes, with one bit for each pattern.
+ghost use Rattle.std.specs.Prelude.{◌≡◌, ℕ, ◌<◌, ◌∷◌, ◌++◌, [], Some, length, flat_map, replicate, slice_get, true, IfOk, OnOk, IfSome};
+ghost use Rattle.mir_base.specs.Shapes.{AllBelow, operand_vars, rhs_vars, test_vars};
+ghost use Rattle.bit_rows.specs.Bits.{AreEquallyLong, row_of};
+ghost use Rattle.flow_graph.specs.Graphs.{node_vars};
+ghost use Rattle.path_laws.specs.Paths.{AreRows};
+ghost use Rattle.sink_dead.specs.Accesses.{blocks_at, occurs_at};
+ghost use Rattle.sink_dead.specs.SiteRows.{AreBitsByVariable, AreBlockedRows, AreSiteRows, FindsPattern, HaveVarsBelow, SetsBitAt, blocked_row, joined_rows, pattern_vars};
+ghost use Rattle.sink_dead.specs.Tables.{AreCalmBelow};
+
+use crate::patterns::{Patterns, pattern_at};
+use bit_rows::{Row, Rows};
+use flow_graph::{Graph, Node};
+use mir_base::{Memory, Operand, Rhs, Test};
+use std::alloc::Global;
+
+// ---- occurrences
+
+/// At which nodes each pattern of the table occurs. It fails only with `Memory`.
+pub(crate) fn occurrence_rows(
+    alloc: Global,
+    graph: &Graph,
+    table: &Patterns,
+) -> Result<Rows, Memory>
+    requires { AreCalmBelow (length graph.now.vars) table.now }
+    ensures { IfOk result (AreSiteRows graph.now table.now (λ x t. occurs_at x t graph.now)) }
+{
+    let nodes = graph.nodes();
+    let mut rows = Rows::new(alloc, nodes.len(), table.len())?;
+    for n in 0..nodes.len() {
+        if let Some(number) = occurring(&nodes[n], table) {
+            rows.set(n, number, true);
+        }
+    }
+    Ok(rows)
+}
+
+/// The number of the pattern that occurs at a node, where the table has it.
+fn occurring(node: &Node, table: &Patterns) -> Option<usize>
+    ensures within { IfSome result (λ number. number < length table.now) }
+    ensures pattern { FindsPattern table.now node.now result }
+{
+    let pattern = pattern_at(node)?;
+    table.find(&pattern)
+}
+
+// ---- blocked patterns
+
+/// For each variable the patterns that it has to do with.
+#[derive(Drop)]
+struct ByVariable {
+    /// Those that assign the variable: a node that reads it blocks them.
+    assigning: Rows,
+    /// Those that assign or read it: a node that assigns it blocks them.
+    naming: Rows,
+}
+
+/// At which nodes each pattern of the table is blocked. It fails only with `Memory`.
+pub(crate) fn blocking_rows(alloc: Global, graph: &Graph, table: &Patterns) -> Result<Rows, Memory>
+    requires { AreCalmBelow (length graph.now.vars) table.now }
+    ensures { IfOk result (AreSiteRows graph.now table.now (λ x t. blocks_at x t graph.now)) }
+{
+    let by_variable = by_variable(alloc, graph.vars().len(), table)?;
+    let rows = blocked_rows(alloc, graph.nodes(), &by_variable, table.len())?;
+    Ok(rows)
+}
+
+/// For each variable below this number, the patterns that it has to do with.
+fn by_variable(alloc: Global, vars: usize, table: &Patterns) -> Result<ByVariable, Memory>
+    requires { AreCalmBelow vars table.now }
+    ensures assigning_shape { IfOk result (λ made. AreRows vars (length table.now) made.assigning) }
+    ensures naming_shape { IfOk result (λ made. AreRows vars (length table.now) made.naming) }
+    ensures assigning { IfOk result (λ made.
+        AreBitsByVariable vars table.now (λ p. p.var ∷ []) made.assigning) }
+    ensures naming { IfOk result (λ made.
+        AreBitsByVariable vars table.now pattern_vars made.naming) }
+{
+    let mut assigning = Rows::new(alloc, vars, table.len())?;
+    let mut naming = Rows::new(alloc, vars, table.len())?;
+    for number in 0..table.len() {
+        let pattern = table.get(number);
+        mark_var(&mut assigning, number, pattern.var);
+        mark_var(&mut naming, number, pattern.var);
+        mark_rhs(&mut naming, number, &pattern.rhs);
+    }
+    Ok(ByVariable { assigning, naming })
+}
+
+/// Sets the bit of this number in the row of the variable, where it has a row.
+fn mark_var(rows: &mut Rows, number: usize, x: usize)
+    requires { (x : ℕ) → x < length rows.old → number < length (row_of rows.old x) }
+    ensures { SetsBitAt number (x ∷ []) rows.old rows.new }
+{
+    if x < rows.len() {
+        rows.set(x, number, true);
+    }
+}
+
+/// Sets the bit of this number in the rows of the variables of a right side.
+fn mark_rhs(rows: &mut Rows, number: usize, rhs: &Rhs)
+    requires { (x : ℕ) → x < length rows.old → number < length (row_of rows.old x) }
+    ensures { SetsBitAt number (rhs_vars rhs.now) rows.old rows.new }
+{
+    match rhs {
+        Rhs::Plain(a) => mark_operand(rows, number, *a),
+        Rhs::Unary(_, a) => mark_operand(rows, number, *a),
+        Rhs::Binary(_, a, b) => {
+            mark_operand(rows, number, *a);
+            mark_operand(rows, number, *b);
+        }
+    }
+}
+
+/// Sets the bit of this number in the row of the operand, where it is a variable that has a row.
+fn mark_operand(rows: &mut Rows, number: usize, operand: Operand)
+    requires { (x : ℕ) → x < length rows.old → number < length (row_of rows.old x) }
+    ensures { SetsBitAt number (operand_vars operand) rows.old rows.new }
+{
+    match operand {
+        Operand::Var(x) => mark_var(rows, number, x),
+        Operand::Const(_) => {}
+    }
+}
+
+/// The rows of what each node blocks, of so many bits.
+fn blocked_rows(
+    alloc: Global,
+    nodes: &[Node],
+    by_variable: &ByVariable,
+    bits: usize,
+) -> Result<Rows, Memory>
+    requires assigning { AreRows (length by_variable.now.assigning) bits by_variable.now.assigning }
+    requires naming { AreRows (length by_variable.now.assigning) bits by_variable.now.naming }
+    requires below { HaveVarsBelow (length by_variable.now.assigning) nodes.now }
+    ensures shape { IfOk result (λ rows. AreRows (length nodes.now) bits rows) }
+    ensures blocked { IfOk result
+        (AreBlockedRows by_variable.now.assigning by_variable.now.naming bits nodes.now) }
+{
+    let mut rows = Rows::with_room(alloc, nodes.len(), bits)?;
+    for node in nodes {
+        push_blocked(alloc, &mut rows, node, by_variable, bits)?;
+    }
+    Ok(rows)
+}
+
+/// Puts the row of what a node blocks at the end: all bits at Start. It fails only with `Memory`.
+fn push_blocked(
+    alloc: Global,
+    rows: &mut Rows,
+    node: &Node,
+    by_variable: &ByVariable,
+    bits: usize,
+) -> Result<(), Memory>
+    requires long { AreEquallyLong bits rows.old }
+    requires assigning { AreRows (length by_variable.now.assigning) bits by_variable.now.assigning }
+    requires naming { AreRows (length by_variable.now.assigning) bits by_variable.now.naming }
+    requires below { AllBelow (length by_variable.now.assigning) (node_vars node.now) }
+    ensures { OnOk result (rows.new ≡ rows.old ++
+        blocked_row by_variable.now.assigning by_variable.now.naming bits node.now ∷ []) }
+{
+    let mut row = Row::new(alloc, bits)?;
+    match node {
+        Node::Start(_) => return push_true(rows, bits),
+        Node::Skip(_) => {}
+        Node::Assign(x, rhs, _) => {
+            join_rhs(&mut row, rhs, &by_variable.assigning);
+            join_var(&mut row, *x, &by_variable.naming);
+        }
+        Node::Print(a, _) => join_operand(&mut row, *a, &by_variable.assigning),
+        Node::Call(into, _, args, _) => {
+            join_operands(&mut row, args.items(), &by_variable.assigning);
+            if let Some(x) = into {
+                join_var(&mut row, *x, &by_variable.naming);
+            }
+        }
+        Node::Test(test, _, _) => join_test(&mut row, test, &by_variable.assigning),
+        Node::Return(a) => join_operand(&mut row, *a, &by_variable.assigning),
+    }
+    rows.push(&row.view())
+}
+
+/// Puts a row of so many bits, all true, at the end. It fails only with `Memory`.
+fn push_true(rows: &mut Rows, bits: usize) -> Result<(), Memory>
+    requires { AreEquallyLong bits rows.old }
+    ensures { OnOk result (rows.new ≡ rows.old ++ replicate bits true ∷ []) }
+{
+    let last = rows.len();
+    rows.push_false(bits)?;
+    rows.flip(last);
+    Ok(())
+}
+
+/// Joins the row of a variable to a row.
+fn join_var(row: &mut Row, x: usize, rows: &Rows)
+    requires shape { AreRows (length rows.now) (length row.old) rows.now }
+    requires x { x < length rows.now }
+    ensures row { row.new ≡ joined_rows rows.now (x ∷ []) row.old }
+    ensures len { length row.new ≡ length row.old }
+{
+    let _changed = row.or_from(&rows.row(x));
+}
+
+/// Joins the row of an operand to a row, where it is a variable.
+fn join_operand(row: &mut Row, operand: Operand, rows: &Rows)
+    requires shape { AreRows (length rows.now) (length row.old) rows.now }
+    requires below { AllBelow (length rows.now) (operand_vars operand) }
+    ensures row { row.new ≡ joined_rows rows.now (operand_vars operand) row.old }
+    ensures len { length row.new ≡ length row.old }
+{
+    match operand {
+        Operand::Var(x) => join_var(row, x, rows),
+        Operand::Const(_) => {}
+    }
+}
+
+/// Joins the rows of the operands to a row.
+fn join_operands(row: &mut Row, operands: &[Operand], rows: &Rows)
+    requires shape { AreRows (length rows.now) (length row.old) rows.now }
+    requires below { AllBelow (length rows.now) (flat_map operand_vars operands.now) }
+    ensures row { row.new ≡ joined_rows rows.now (flat_map operand_vars operands.now) row.old }
+    ensures len { length row.new ≡ length row.old }
+{
+    for operand in operands {
+        join_operand(row, *operand, rows);
+    }
+}
+
+/// Joins the rows of the variables of a right side to a row.
+fn join_rhs(row: &mut Row, rhs: &Rhs, rows: &Rows)
+    requires shape { AreRows (length rows.now) (length row.old) rows.now }
+    requires below { AllBelow (length rows.now) (rhs_vars rhs.now) }
+    ensures row { row.new ≡ joined_rows rows.now (rhs_vars rhs.now) row.old }
+    ensures len { length row.new ≡ length row.old }
+{
+    match rhs {
+        Rhs::Plain(a) => join_operand(row, *a, rows),
+        Rhs::Unary(_, a) => join_operand(row, *a, rows),
+        Rhs::Binary(_, a, b) => {
+            join_operand(row, *a, rows);
+            join_operand(row, *b, rows);
+        }
+    }
+}
+
+/// Joins the rows of the variables of a test to a row.
+fn join_test(row: &mut Row, test: &Test, rows: &Rows)
+    requires shape { AreRows (length rows.now) (length row.old) rows.now }
+    requires below { AllBelow (length rows.now) (test_vars test.now) }
+    ensures row { row.new ≡ joined_rows rows.now (test_vars test.now) row.old }
+    ensures len { length row.new ≡ length row.old }
+{
+    match test {
+        Test::Rel(_, a, b) => {
+            join_operand(row, *a, rows);
+            join_operand(row, *b, rows);
+        }
+        Test::Holds(a) => join_operand(row, *a, rows),
+        Test::Fails(a) => join_operand(row, *a, rows),
+    }
+}
