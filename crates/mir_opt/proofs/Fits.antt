@@ -1,39 +1,21 @@
--- A unit of a program can be lowered, and the units that the passes made fit together as a program.
+-- The units that the passes made fit together as a program.
 use Rattle.std.proofs.Common.{◌≡◌, ℕ, zero, suc, ◌<◌, List, [], ◌∷◌, length, slice_get, Option, Some, None, option_map, refl, sym, ap, ◌∙◌, subst, arith}
 use Rattle.std.specs.List.{AllZip}
 use Rattle.std.proofs.lemmas.Option.{slice_get_within}
 use Rattle.std.proofs.lemmas.Slice.Zip.{AllZip-long}
 use Rattle.mir_base.specs.declared.instructions.Inst.{Inst}
 use Rattle.mir_base.specs.declared.instructions.Inst.TheVariants.{Receive, Assign, Goto, If, Call, Print, Return}
-use Rattle.mir_base.specs.Shapes.{UnitShape, receives_in, body_at, body_or_empty, names_of, AllDiffer, InstFits, BodyFits, IsProgram, IsTarget}
+use Rattle.mir_base.specs.Shapes.{UnitShape, receives_in, body_at, body_or_empty, names_of, AllDiffer, InstFits, BodyFits, IsProgram}
 use Rattle.mir_base.specs.UnitRuns.{UnitSame, UnitCheaper, body_machine, unit_machine, machine_at}
 use Rattle.mir_sim.specs.Calls.{HasCall, CallsNoMore}
 use Rattle.mir_sim.specs.Pairs.{AllUnitsSame, AllUnitsCheaper}
 use Rattle.flow_graph.specs.Calls.{BodyCalls, inst_call}
 use Rattle.flow_graph.specs.ListLaws.{some_at}
-use Rattle.flow_graph.specs.Lowered.{CanLower, target_of}
+use Rattle.flow_graph.specs.Lowered.{target_of}
 use Rattle.mir_opt.specs.Made.{IsKept}
 use Rattle.mir_opt.proofs.Zips.{zip_at}
 
--- ---- a unit of a program can be lowered
-
--- its body can be lowered
-pub fits_lower : (units : List UnitShape) (body : List Inst) → BodyFits units body → CanLower body
-fits_lower units body fits = record {
-  first = λ place x at. fits.insts place (Receive x) at;
-  received = fits.received;
-  targets = λ place target is. jumps place (slice_get body place) target refl is;
-}
-  where
-    jumps : (place : ℕ) (inst : Option Inst) (target : ℕ) → slice_get body place ≡ inst → target_of inst ≡ Some target → IsTarget body target
-    jumps place None target at is = cc
-    jumps place (Some (Receive x)) target at is = cc
-    jumps place (Some (Assign x rhs)) target at is = cc
-    jumps place (Some (Goto to)) target at is = let same : to ≡ target = cc in subst (IsTarget body) same (fits.insts place (Goto to) at)
-    jumps place (Some (If test to)) target at is = let same : to ≡ target = cc in subst (IsTarget body) same (fits.insts place (If test to) at)
-    jumps place (Some (Call into unit operands)) target at is = cc
-    jumps place (Some (Print a)) target at is = cc
-    jumps place (Some (Return a)) target at is = cc
+-- ---- the calls of a body
 
 -- a call of a body that fits
 called_fits : (units : List UnitShape) (body : List Inst) (called count : ℕ) → BodyFits units body → BodyCalls body called count → (called < length units) × (count ≡ receives_in (body_at units called))

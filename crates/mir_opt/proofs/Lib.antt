@@ -2,3 +2,4 @@ mod Zips
 mod Fits
 mod Linking
 mod Walks
+mod Rounds

@@ -8,13 +8,12 @@ use Rattle.flow_graph.specs.Graphs.{GraphShape}
 use Rattle.flow_graph.specs.Keeps.{AsGraph, AsUnit, Keeps}
 use Rattle.flow_graph.specs.KeepsLaws.{keeps_trans}
 use Rattle.flow_graph.specs.Layouts.{IsLayout}
-use Rattle.mir_opt.specs.declared.stages.Stage.{Stage}
 use Rattle.mir_opt.specs.Made.{AllLaidOut, IsKept, IsLaidOut}
 use Rattle.mir_opt.specs.Stages.{AllKeep, AreLaid}
 use Rattle.mir_opt.proofs.Fits.{kept_calls, kept_cheaper, kept_same}
 use Rattle.mir_opt.proofs.Zips.{zip_map, zip_trans}
 
-module _ {T : Type 0} (graph_of : T → Stage → GraphShape) (stage : Stage) (units : List T) (targets : List UnitShape) (laid : AllLaidOut graph_of stage units targets) where
+module _ {T S : Type 0} (graph_of : T → S → GraphShape) (stage : S) (units : List T) (targets : List UnitShape) (laid : AllLaidOut graph_of stage units targets) where
   -- they are layouts
   pub are_laid : AreLaid graph_of stage units targets
   are_laid = zip_map (λ unit target. IsLaidOut (graph_of unit stage) target) (λ unit target. IsLayout (graph_of unit stage) target) (λ unit target laid. laid.layout) units targets laid
@@ -22,7 +21,7 @@ module _ {T : Type 0} (graph_of : T → Stage → GraphShape) (stage : Stage) (u
   -- a unit that is the layout of a graph that keeps the source keeps the source
   pub laid_kept : (sources : List UnitShape) → AllKeep graph_of sources units → AllZip IsKept sources targets
   laid_kept sources keep =
-      zip_trans (λ source unit. (stage : Stage) → Keeps (AsUnit source) (AsGraph (graph_of unit stage))) (λ unit target. IsLaidOut (graph_of unit stage) target) IsKept
+      zip_trans (λ source unit. (stage : S) → Keeps (AsUnit source) (AsGraph (graph_of unit stage))) (λ unit target. IsLaidOut (graph_of unit stage) target) IsKept
       (λ source unit target keeps laid. record { keeps = keeps_trans (AsUnit source) (AsGraph (graph_of unit stage)) (AsUnit target) (keeps stage) laid.keeps; lowers = laid.lowers })
       sources units targets keep laid
 

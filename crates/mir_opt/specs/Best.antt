@@ -7,6 +7,7 @@ use Rattle.flow_graph.specs.Graphs.{GraphShape}
 use Rattle.motion_rewrite.specs.declared.placement.Placement.{Placement}
 use Rattle.motion_rewrite.specs.Over.{HasOverEach}
 use Rattle.motion_rewrite.specs.Placements.{AreOptimal, IsAnticipatable}
+use Rattle.mir_opt.specs.declared.trails.MoveUnit.{MoveUnit}
 use Rattle.mir_opt.specs.declared.trails.UnitTrail.{UnitTrail}
 
 -- of each expression of the table the placement is admissible by the rule, and on every full path of the split graph it
@@ -18,6 +19,10 @@ pub record IsBest (Down : GraphShape → Expr → ℕ → Type 0) (split : Graph
   pub evaluates : HasOverEach split table placement moved
   pub follows : RunsFollow split moved
 
--- so it is in a unit, where expressions may stand where they are anticipatable
+-- so it is in a unit after all passes, where expressions may stand where they are anticipatable
 abbrev pub MovesBest : UnitTrail → Type 0
 MovesBest unit = IsBest IsAnticipatable unit.split unit.table unit.placement unit.moved
+
+-- and in one whose code is moved alone
+abbrev pub MotionIsBest : MoveUnit → Type 0
+MotionIsBest unit = IsBest IsAnticipatable unit.split unit.table unit.placement unit.moved

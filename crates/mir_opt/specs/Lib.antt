@@ -1,5 +1,7 @@
 pub mod Stages
 pub mod Links
 pub mod Best
+pub mod Divisions
 pub mod Made
 pub mod OneLaws
+pub mod LoweringLaws

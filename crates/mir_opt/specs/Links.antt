@@ -9,6 +9,10 @@ use Rattle.flow_graph.specs.Lowered.{IsLowered}
 use Rattle.path_laws.specs.Paths.{HaveShape}
 use Rattle.jump_clean.specs.Cleaned.{IsClean}
 use Rattle.edge_split.specs.Split.{IsEdgeSplit}
+use Rattle.cond_const.specs.Folded.{IsFolded}
+use Rattle.value_number.specs.Numbered.{IsNumbered}
+use Rattle.copy_flow.specs.Copied.{IsCopied}
+use Rattle.sink_dead.specs.RoundGraphs.{AreRounds}
 use Rattle.motion_rewrite.specs.declared.placement.Placement.{Placement}
 use Rattle.motion_rewrite.specs.Flatten.{IsFlattened}
 use Rattle.motion_rewrite.specs.Placements.{IsAnticipatable}
@@ -16,10 +20,11 @@ use Rattle.motion_rewrite.specs.Tables.{movable_exprs}
 use Rattle.latest_place.specs.Lazy.{AreLazy}
 use Rattle.mir_opt.specs.declared.trails.UnitTrail.{UnitTrail}
 use Rattle.mir_opt.specs.declared.trails.Trail.{Trail}
+use Rattle.mir_opt.specs.declared.trails.MoveUnit.{MoveUnit}
 use Rattle.mir_opt.specs.declared.trails.MoveTrail.{MoveTrail}
-use Rattle.mir_opt.specs.declared.stages.Stage.{Stage}
 use Rattle.mir_opt.specs.declared.stages.Stage.TheVariants.{Result}
-use Rattle.mir_opt.specs.Stages.{AllWithinAt, AreLaid, graph_at}
+use Rattle.mir_opt.specs.declared.stages.MoveStage.TheVariants as moves
+use Rattle.mir_opt.specs.Stages.{AreLaid, after_all, graph_at, move_graph_at}
 
 -- ---- code motion
 
@@ -43,36 +48,51 @@ IsSafeMotion graph split table placement moved = IsMotion movable_exprs IsAntici
 
 -- ---- one unit
 
--- what comes before code motion
-pub record IsBeforeMotion (source : UnitShape) (lowered cleaned : GraphShape) : Type 0 where
+-- how a unit becomes a graph with clean jumps
+pub record IsStart (source : UnitShape) (lowered cleaned : GraphShape) : Type 0 where
   pub lowers : IsLowered source lowered
   pub cleans : IsClean lowered cleaned
 
+-- what comes between this and code motion
+pub record IsBeforeMotion (cleaned folded numbered copied : GraphShape) : Type 0 where
+  pub folds : IsFolded cleaned folded
+  pub numbers : IsNumbered folded numbered
+  pub copies : IsCopied numbered copied
+
 -- what comes after it
-pub record IsBack (moved swept : GraphShape) : Type 0 where
-  pub sweeps : IsClean moved swept
+pub record IsBack (moved recopied : GraphShape) (sunk : List GraphShape) (swept : GraphShape) : Type 0 where
+  pub copies : IsCopied moved recopied
+  pub sinks : AreRounds recopied sunk
+  pub sweeps : IsClean (after_all recopied sunk) swept
 
 -- the steps of one unit of the source
 pub record LinksUnit (source : UnitShape) (unit : UnitTrail) : Type 0 where
-  pub front : IsBeforeMotion source unit.lowered unit.cleaned
+  pub start : IsStart source unit.lowered unit.cleaned
+  pub front : IsBeforeMotion unit.cleaned unit.folded unit.numbered unit.copied
+  pub motion : IsSafeMotion unit.copied unit.split unit.table unit.placement unit.moved
+  pub back : IsBack unit.moved unit.recopied unit.sunk unit.swept
+
+-- and those of code motion alone
+pub record LinksMove (source : UnitShape) (unit : MoveUnit) : Type 0 where
+  pub start : IsStart source unit.lowered unit.cleaned
   pub motion : IsSafeMotion unit.cleaned unit.split unit.table unit.placement unit.moved
-  pub back : IsBack unit.moved unit.swept
+  pub sweeps : IsClean unit.moved unit.swept
 
 -- ---- all units
 
 -- each unit of the source has its steps, and the unit of the target of its number is the layout of their last graph;
 -- there are no others
-pub record AllLinked {T : Type 0} (graph_of : T → Stage → GraphShape) (Links : UnitShape → T → Type 0) (sources : List UnitShape) (units : List T) (targets : List UnitShape) : Type 0 where
+pub record AllLinked {T S : Type 0} (graph_of : T → S → GraphShape) (last : S) (Links : UnitShape → T → Type 0) (sources : List UnitShape) (units : List T) (targets : List UnitShape) : Type 0 where
   pub steps : AllZip Links sources units
-  pub laid : AreLaid graph_of Result units targets
+  pub laid : AreLaid graph_of last units targets
 
 -- the trail of `optimise`
 abbrev pub IsLinked : Trail → Type 0
-IsLinked trail = AllLinked graph_at LinksUnit trail.source.units trail.units trail.target.units
+IsLinked trail = AllLinked graph_at Result LinksUnit trail.source.units trail.units trail.target.units
 
 -- the trail of `motion`
 abbrev pub IsMoveLinked : MoveTrail → Type 0
-IsMoveLinked trail = AllLinked graph_at LinksUnit trail.source.units trail.units trail.target.units
+IsMoveLinked trail = AllLinked move_graph_at moves.Result LinksMove trail.source.units trail.units trail.target.units
 
 -- no other trail of the program is linked
 abbrev pub IsOnlyTrail : ProgramShape → Trail → Type 0
@@ -82,6 +102,6 @@ IsOnlyTrail program trail = (other : Trail) → other.source ≡ program → IsL
 abbrev pub IsOnlyMoveTrail : ProgramShape → MoveTrail → Type 0
 IsOnlyMoveTrail program trail = (other : MoveTrail) → other.source ≡ program → IsMoveLinked other → trail ≡ other
 
--- a unit of the source has no two values of linked steps whose graphs lead to nodes
-abbrev pub HasOneLink : {T : Type 0} → (T → Stage → GraphShape) → (UnitShape → T → Type 0) → Type 0
-HasOneLink {T = T} graph_of Links = (source : UnitShape) (a b : T) → AllWithinAt graph_of a → Links source a → Links source b → a ≡ b
+-- a unit of the source has no two values of linked steps, where those of one lead to nodes
+abbrev pub HasOneLink : {T : Type 0} → (T → Type 0) → (UnitShape → T → Type 0) → Type 0
+HasOneLink {T = T} Within Links = (source : UnitShape) (a b : T) → Within a → Links source a → Links source b → a ≡ b

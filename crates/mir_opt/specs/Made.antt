@@ -5,37 +5,81 @@ use Rattle.std.specs.List.{AllZip}
 use Rattle.mir_base.specs.declared.instructions.Expr.{Expr}
 use Rattle.mir_base.specs.Shapes.{ProgramShape, UnitShape}
 use Rattle.flow_graph.specs.Edges.{IsSplit}
-use Rattle.flow_graph.specs.Graphs.{GraphShape}
+use Rattle.flow_graph.specs.Graphs.{AllWithin, GraphShape}
 use Rattle.flow_graph.specs.Keeps.{AsGraph, AsUnit, Keeps}
 use Rattle.flow_graph.specs.Layouts.{IsLayout}
 use Rattle.flow_graph.specs.Lowered.{CanLower}
+use Rattle.flow_graph.specs.Passes.{GraphDivides}
+use Rattle.cond_const.specs.Folded.{KeepsDivisions}
 use Rattle.motion_rewrite.specs.Flatten.{IsFlattened}
 use Rattle.motion_rewrite.specs.Tables.{movable_exprs}
+use Rattle.sink_dead.specs.RoundGraphs.{AreRounds}
+use Rattle.sink_dead.specs.RoundsKept.{RoundsKeep}
+use Rattle.mir_opt.specs.declared.back.Back.{Back}
+use Rattle.mir_opt.specs.declared.front.Front.{Front}
+use Rattle.mir_opt.specs.declared.front.Lowered.{Lowered}
+use Rattle.mir_opt.specs.declared.front.Valued.{Valued}
 use Rattle.mir_opt.specs.declared.moving.Moved.{Moved}
 use Rattle.mir_opt.specs.declared.moving.Placed.{Placed}
-use Rattle.mir_opt.specs.declared.stages.Stage.{Stage}
-use Rattle.mir_opt.specs.declared.stages.Stage.TheVariants.{Result}
+use Rattle.mir_opt.specs.declared.trails.UnitTrail.{UnitTrail}
 use Rattle.mir_opt.specs.declared.walking.Walked.{Walked}
-use Rattle.mir_opt.specs.Best.{IsBest}
-use Rattle.mir_opt.specs.Links.{IsBeforeMotion, IsLazyPlacement, IsMotion}
-use Rattle.mir_opt.specs.Stages.{AllWithinAt, AreLaid, KeepsProgram}
+use Rattle.mir_opt.specs.Best.{IsBest, MovesBest}
+use Rattle.mir_opt.specs.Divisions.{DivisionsStay}
+use Rattle.mir_opt.specs.Links.{IsBack, IsBeforeMotion, IsLazyPlacement, IsMotion, IsStart}
+use Rattle.mir_opt.specs.Stages.{AreLaid, KeepsProgram, after_all}
 
--- the steps are linked, their code motion is the best, and the graph of each stage keeps the unit and leads to nodes
-pub record UnitMade {T : Type 0} (graph_of : T → Stage → GraphShape) (Links : UnitShape → T → Type 0) (Best : T → Type 0) (source : UnitShape) (unit : T) : Type 0 where
+-- after all passes the code motion of a unit is the best, and divisions stay
+pub record UnitBest (unit : UnitTrail) : Type 0 where
+  pub moves : MovesBest unit
+  pub divisions : DivisionsStay unit
+
+-- the steps are linked, their code motion is the best, the graph of each stage keeps the unit, and those that are cleaned
+-- lead to nodes
+pub record UnitMade {T S : Type 0} (graph_of : T → S → GraphShape) (Links : UnitShape → T → Type 0) (Best Within : T → Type 0) (source : UnitShape) (unit : T) : Type 0 where
   pub linked : Links source unit
   pub best : Best unit
-  pub keeps : (stage : Stage) → Keeps (AsUnit source) (AsGraph (graph_of unit stage))
-  pub within : AllWithinAt graph_of unit
+  pub keeps : (stage : S) → Keeps (AsUnit source) (AsGraph (graph_of unit stage))
+  pub within : Within unit
 
 -- of each unit of a program
-abbrev pub AllMade : {T : Type 0} → (T → Stage → GraphShape) → (UnitShape → T → Type 0) → (T → Type 0) → List UnitShape → List T → Type 0
-AllMade graph_of Links Best sources units = AllZip (UnitMade graph_of Links Best) sources units
+abbrev pub AllMade : {T S : Type 0} → (T → S → GraphShape) → (UnitShape → T → Type 0) → (T → Type 0) → (T → Type 0) → List UnitShape → List T → Type 0
+AllMade graph_of Links Best Within sources units = AllZip (UnitMade graph_of Links Best Within) sources units
 
--- the steps before code motion: each graph keeps what comes before it
-pub record FrontMade (source : UnitShape) (lowered cleaned : GraphShape) : Type 0 where
-  pub front : IsBeforeMotion source lowered cleaned
-  pub lowered_keeps : Keeps (AsUnit source) (AsGraph lowered)
-  pub cleaned_keeps : Keeps (AsGraph lowered) (AsGraph cleaned)
+-- the first steps: each graph keeps what comes before it
+pub record LoweredMade (source : UnitShape) (made : Lowered) : Type 0 where
+  pub start : IsStart source made.lowered made.cleaned
+  pub within : AllWithin made.lowered.nodes
+  pub lowered_keeps : Keeps (AsUnit source) (AsGraph made.lowered)
+  pub cleaned_keeps : Keeps (AsGraph made.lowered) (AsGraph made.cleaned)
+  pub divides : GraphDivides made.lowered made.cleaned
+
+-- the passes on values, on a clean graph
+pub record ValuesMade (cleaned : GraphShape) (made : Valued) : Type 0 where
+  pub values : IsBeforeMotion cleaned made.folded made.numbered made.copied
+  pub folded_keeps : Keeps (AsGraph cleaned) (AsGraph made.folded)
+  pub numbered_keeps : Keeps (AsGraph made.folded) (AsGraph made.numbered)
+  pub copied_keeps : Keeps (AsGraph made.numbered) (AsGraph made.copied)
+  pub folded_divides : KeepsDivisions cleaned made.folded
+  pub copied_divides : GraphDivides made.folded made.copied
+
+-- the steps up to code motion
+pub record FrontMade (source : UnitShape) (made : Front) : Type 0 where
+  pub start : LoweredMade source made.start
+  pub values : ValuesMade made.start.cleaned made.values
+
+-- and those after it
+pub record BackMade (moved : GraphShape) (made : Back) : Type 0 where
+  pub back : IsBack moved made.recopied made.sunk made.swept
+  pub recopied_keeps : Keeps (AsGraph moved) (AsGraph made.recopied)
+  pub sunk_keep : RoundsKeep made.recopied made.sunk
+  pub within : AllWithin (after_all made.recopied made.sunk).nodes
+  pub swept_keeps : Keeps (AsGraph (after_all made.recopied made.sunk)) (AsGraph made.swept)
+  pub divides : GraphDivides moved made.swept
+
+-- the rounds of sinking on a graph
+pub record RoundsMade (graph : GraphShape) (made : List GraphShape) : Type 0 where
+  pub rounds : AreRounds graph made
+  pub keep : RoundsKeep graph made
 
 -- the rewriting of a split graph by the lazy placement of a table: the moved graph keeps it, and stays split
 pub record CodeMade (Down : GraphShape → Expr → ℕ → Type 0) (split : GraphShape) (table : List Expr) (made : Placed) : Type 0 where
@@ -44,6 +88,7 @@ pub record CodeMade (Down : GraphShape → Expr → ℕ → Type 0) (split : Gra
   pub best : IsBest Down split table made.placement made.moved
   pub is_split : IsSplit made.moved.nodes
   pub keeps : Keeps (AsGraph split) (AsGraph made.moved)
+  pub divides : GraphDivides split made.moved
 
 -- code motion by a down rule on a graph: each graph keeps the one before
 pub record MotionMade (Down : GraphShape → Expr → ℕ → Type 0) (graph : GraphShape) (made : Moved) : Type 0 where
@@ -52,6 +97,7 @@ pub record MotionMade (Down : GraphShape → Expr → ℕ → Type 0) (graph : G
   pub is_split : IsSplit made.moved.nodes
   pub split_keeps : Keeps (AsGraph graph) (AsGraph made.split)
   pub moved_keeps : Keeps (AsGraph made.split) (AsGraph made.moved)
+  pub divides : GraphDivides graph made.moved
 
 -- the unit is the layout of the graph, keeps it, and can be lowered again
 pub record IsLaidOut (graph : GraphShape) (unit : UnitShape) : Type 0 where
@@ -65,13 +111,13 @@ pub record IsKept (source target : UnitShape) : Type 0 where
   pub lowers : CanLower target.body
 
 -- the units are the layouts of the graphs at a stage, one by one
-abbrev pub AllLaidOut : {T : Type 0} → (T → Stage → GraphShape) → Stage → List T → List UnitShape → Type 0
+abbrev pub AllLaidOut : {T S : Type 0} → (T → S → GraphShape) → S → List T → List UnitShape → Type 0
 AllLaidOut graph_of stage units targets = AllZip (λ unit target. IsLaidOut (graph_of unit stage) target) units targets
 
 -- what the walk over the units of a program makes: the steps of each unit, and the program of the layouts of their last
 -- graphs, which keeps the program
-pub record WalkMade {T : Type 0} (graph_of : T → Stage → GraphShape) (Links : UnitShape → T → Type 0) (Best : T → Type 0) (program : ProgramShape) (walked : Walked T) : Type 0 where
+pub record WalkMade {T S : Type 0} (graph_of : T → S → GraphShape) (last : S) (Links : UnitShape → T → Type 0) (Best Within : T → Type 0) (program : ProgramShape) (walked : Walked T) : Type 0 where
   pub source : walked.source ≡ program
-  pub made : AllMade graph_of Links Best program.units walked.units
-  pub laid : AreLaid graph_of Result walked.units walked.target.units
+  pub made : AllMade graph_of Links Best Within program.units walked.units
+  pub laid : AreLaid graph_of last walked.units walked.target.units
   pub keeps : KeepsProgram program walked.target

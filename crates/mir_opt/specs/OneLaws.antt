@@ -12,17 +12,24 @@ use Rattle.flow_graph.specs.OneLaws.{layout_is_one, lowered_is_one, same_graphs}
 use Rattle.jump_clean.specs.Cleaned.{IsClean}
 use Rattle.jump_clean.specs.CleanLaws.{clean_is_one}
 use Rattle.edge_split.specs.Split.{IsEdgeSplit}
+use Rattle.cond_const.specs.Folded.{IsFolded}
+use Rattle.cond_const.specs.FoldLaws.{folded_is_one}
+use Rattle.value_number.specs.Numbered.{IsNumbered}
+use Rattle.value_number.specs.NumberedLaws.{numbered_is_one}
+use Rattle.copy_flow.specs.Copied.{IsCopied}
+use Rattle.copy_flow.specs.CopiedLaws.{copied_is_one}
+use Rattle.sink_dead.specs.RoundGraphs.{AreRounds}
+use Rattle.sink_dead.specs.RoundLaws.{sunk_rounds_are_one}
 use Rattle.motion_rewrite.specs.declared.placement.Placement.{Placement}
 use Rattle.motion_rewrite.specs.Flatten.{IsFlattened}
 use Rattle.motion_rewrite.specs.FlattenLaws.{flattened_is_one}
 use Rattle.motion_rewrite.specs.Placements.{IsAnticipatable}
 use Rattle.motion_rewrite.specs.Tables.{movable_exprs}
 use Rattle.latest_place.specs.LazyLaws.{lazy_is_one}
-use Rattle.mir_opt.specs.declared.stages.Stage.{Stage}
-use Rattle.mir_opt.specs.declared.stages.Stage.TheVariants.{Lower, Motion, Result}
+use Rattle.mir_opt.specs.declared.trails.MoveUnit.{MoveUnit}
 use Rattle.mir_opt.specs.declared.trails.UnitTrail.{UnitTrail}
-use Rattle.mir_opt.specs.Links.{AllLinked, HasOneLink, IsLazyPlacement, IsMotion, LinksUnit}
-use Rattle.mir_opt.specs.Stages.{AllWithinAt, AreLaid, graph_at}
+use Rattle.mir_opt.specs.Links.{AllLinked, HasOneLink, IsLazyPlacement, IsMotion, IsStart, LinksMove, LinksUnit}
+use Rattle.mir_opt.specs.Stages.{AreLaid, CleansWithin, MotionCleansWithin, after_all}
 
 -- ---- single passes
 
@@ -42,6 +49,23 @@ after_same IsPass one graph graph' a b within same p q = one graph a b within p 
 -- of cleaning
 clean_same : (graph graph' a b : GraphShape) → AllWithin graph.nodes → graph ≡ graph' → IsClean graph a → IsClean graph' b → a ≡ b
 clean_same = after_same IsClean clean_is_one
+
+-- of one that asks nothing of the nodes
+after_same_any : (IsPass : GraphShape → GraphShape → Type 0) → ((graph a b : GraphShape) → IsPass graph a → IsPass graph b → a ≡ b)
+    → (graph graph' a b : GraphShape) → graph ≡ graph' → IsPass graph a → IsPass graph' b → a ≡ b
+after_same_any IsPass one graph graph' a b same p q = one graph a b p (subst (λ g. IsPass g b) (sym same) q)
+
+-- of folding
+folded_same : (graph graph' a b : GraphShape) → graph ≡ graph' → IsFolded graph a → IsFolded graph' b → a ≡ b
+folded_same = after_same_any IsFolded folded_is_one
+
+-- of numbering
+numbered_same : (graph graph' a b : GraphShape) → graph ≡ graph' → IsNumbered graph a → IsNumbered graph' b → a ≡ b
+numbered_same = after_same_any IsNumbered numbered_is_one
+
+-- of replacing copies
+copied_same : (graph graph' a b : GraphShape) → graph ≡ graph' → IsCopied graph a → IsCopied graph' b → a ≡ b
+copied_same = after_same_any IsCopied copied_is_one
 
 -- ---- code motion
 
@@ -73,32 +97,71 @@ motion_is_one exprs Down graph graph' split split' table table' placement placem
 -- ---- one unit
 
 -- trails with equal parts are equal
-same_trails : (a b : UnitTrail) → a.lowered ≡ b.lowered → a.cleaned ≡ b.cleaned → a.split ≡ b.split → a.table ≡ b.table → a.placement ≡ b.placement → a.moved ≡ b.moved → a.swept ≡ b.swept → a ≡ b
-same_trails a b lowered cleaned split table placement moved swept =
-    ap (λ (x : GraphShape). record { lowered = x; cleaned = a.cleaned; split = a.split; table = a.table; placement = a.placement; moved = a.moved; swept = a.swept }) lowered
-    ∙ ap (λ (x : GraphShape). record { lowered = b.lowered; cleaned = x; split = a.split; table = a.table; placement = a.placement; moved = a.moved; swept = a.swept }) cleaned
-    ∙ ap (λ (x : GraphShape). record { lowered = b.lowered; cleaned = b.cleaned; split = x; table = a.table; placement = a.placement; moved = a.moved; swept = a.swept }) split
-    ∙ ap (λ (x : List Expr). record { lowered = b.lowered; cleaned = b.cleaned; split = b.split; table = x; placement = a.placement; moved = a.moved; swept = a.swept }) table
-    ∙ ap (λ (x : Placement). record { lowered = b.lowered; cleaned = b.cleaned; split = b.split; table = b.table; placement = x; moved = a.moved; swept = a.swept }) placement
-    ∙ ap (λ (x : GraphShape). record { lowered = b.lowered; cleaned = b.cleaned; split = b.split; table = b.table; placement = b.placement; moved = x; swept = a.swept }) moved
-    ∙ ap (λ (x : GraphShape). record { lowered = b.lowered; cleaned = b.cleaned; split = b.split; table = b.table; placement = b.placement; moved = b.moved; swept = x }) swept
+same_trails : (a b : UnitTrail) → a.lowered ≡ b.lowered → a.cleaned ≡ b.cleaned → a.folded ≡ b.folded → a.numbered ≡ b.numbered → a.copied ≡ b.copied → a.split ≡ b.split → a.table ≡ b.table → a.placement ≡ b.placement → a.moved ≡ b.moved → a.recopied ≡ b.recopied → a.sunk ≡ b.sunk → a.swept ≡ b.swept → a ≡ b
+same_trails a b lowered cleaned folded numbered copied split table placement moved recopied sunk swept =
+    let same : ◌≡◌ {A = UnitTrail} (record { lowered = a.lowered; cleaned = a.cleaned; folded = a.folded; numbered = a.numbered; copied = a.copied; split = a.split; table = a.table; placement = a.placement; moved = a.moved; recopied = a.recopied; sunk = a.sunk; swept = a.swept }) (record { lowered = b.lowered; cleaned = b.cleaned; folded = b.folded; numbered = b.numbered; copied = b.copied; split = b.split; table = b.table; placement = b.placement; moved = b.moved; recopied = b.recopied; sunk = b.sunk; swept = b.swept }) = cc in
+    same
+
+-- so are move trails
+same_moves : (a b : MoveUnit) → a.lowered ≡ b.lowered → a.cleaned ≡ b.cleaned → a.split ≡ b.split → a.table ≡ b.table → a.placement ≡ b.placement → a.moved ≡ b.moved → a.swept ≡ b.swept → a ≡ b
+same_moves a b lowered cleaned split table placement moved swept =
+    let same : ◌≡◌ {A = MoveUnit} (record { lowered = a.lowered; cleaned = a.cleaned; split = a.split; table = a.table; placement = a.placement; moved = a.moved; swept = a.swept }) (record { lowered = b.lowered; cleaned = b.cleaned; split = b.split; table = b.table; placement = b.placement; moved = b.moved; swept = b.swept }) = cc in
+    same
+
+-- the first steps of two trails
+pub record SameStart (lowered lowered' cleaned cleaned' : GraphShape) : Type 0 where
+  pub lowers : lowered ≡ lowered'
+  pub cleans : cleaned ≡ cleaned'
+
+-- a unit has one pair of them
+start_is_one : (source : UnitShape) (lowered lowered' cleaned cleaned' : GraphShape) → AllWithin lowered.nodes → IsStart source lowered cleaned → IsStart source lowered' cleaned' → SameStart lowered lowered' cleaned cleaned'
+start_is_one source lowered lowered' cleaned cleaned' within p q = record { lowers = same; cleans = clean_same lowered lowered' cleaned cleaned' within same p.cleans q.cleans }
+  where
+    same : lowered ≡ lowered'
+    same = lowered_is_one source lowered lowered' p.lowers q.lowers
 
 -- a unit has one trail
-module _ (source : UnitShape) (a b : UnitTrail) (within : AllWithinAt graph_at a) (p : LinksUnit source a) (q : LinksUnit source b) where
-  lowered : a.lowered ≡ b.lowered
-  lowered = lowered_is_one source a.lowered b.lowered p.front.lowers q.front.lowers
+module _ (source : UnitShape) (a b : UnitTrail) (within : CleansWithin a) (p : LinksUnit source a) (q : LinksUnit source b) where
+  start : SameStart a.lowered b.lowered a.cleaned b.cleaned
+  start = start_is_one source a.lowered b.lowered a.cleaned b.cleaned within.0 p.start q.start
 
-  cleaned : a.cleaned ≡ b.cleaned
-  cleaned = clean_same a.lowered b.lowered a.cleaned b.cleaned (within Lower) lowered p.front.cleans q.front.cleans
+  folded : a.folded ≡ b.folded
+  folded = folded_same a.cleaned b.cleaned a.folded b.folded start.cleans p.front.folds q.front.folds
+
+  numbered : a.numbered ≡ b.numbered
+  numbered = numbered_same a.folded b.folded a.numbered b.numbered folded p.front.numbers q.front.numbers
+
+  copied : a.copied ≡ b.copied
+  copied = copied_same a.numbered b.numbered a.copied b.copied numbered p.front.copies q.front.copies
 
   motion : SameMotion a.split b.split a.table b.table a.placement b.placement a.moved b.moved
-  motion = motion_is_one movable_exprs IsAnticipatable a.cleaned b.cleaned a.split b.split a.table b.table a.placement b.placement a.moved b.moved cleaned p.motion q.motion
+  motion = motion_is_one movable_exprs IsAnticipatable a.copied b.copied a.split b.split a.table b.table a.placement b.placement a.moved b.moved copied p.motion q.motion
+
+  recopied : a.recopied ≡ b.recopied
+  recopied = copied_same a.moved b.moved a.recopied b.recopied motion.moves p.back.copies q.back.copies
+
+  sunk : a.sunk ≡ b.sunk
+  sunk = sunk_rounds_are_one a.recopied a.sunk b.sunk p.back.sinks (subst (λ g. AreRounds g b.sunk) (sym recopied) q.back.sinks)
 
   swept : a.swept ≡ b.swept
-  swept = clean_same a.moved b.moved a.swept b.swept (within Motion) motion.moves p.back.sweeps q.back.sweeps
+  swept = clean_same (after_all a.recopied a.sunk) (after_all b.recopied b.sunk) a.swept b.swept within.1 (ap (λ g. after_all g a.sunk) recopied ∙ ap (after_all b.recopied) sunk) p.back.sweeps q.back.sweeps
 
   pub unit_is_one : a ≡ b
-  unit_is_one = same_trails a b lowered cleaned motion.splits motion.tables motion.placements motion.moves swept
+  unit_is_one = same_trails a b start.lowers start.cleans folded numbered copied motion.splits motion.tables motion.placements motion.moves recopied sunk swept
+
+-- and one move trail
+module _ (source : UnitShape) (a b : MoveUnit) (within : MotionCleansWithin a) (p : LinksMove source a) (q : LinksMove source b) where
+  move_start : SameStart a.lowered b.lowered a.cleaned b.cleaned
+  move_start = start_is_one source a.lowered b.lowered a.cleaned b.cleaned within.0 p.start q.start
+
+  move_motion : SameMotion a.split b.split a.table b.table a.placement b.placement a.moved b.moved
+  move_motion = motion_is_one movable_exprs IsAnticipatable a.cleaned b.cleaned a.split b.split a.table b.table a.placement b.placement a.moved b.moved move_start.cleans p.motion q.motion
+
+  move_swept : a.swept ≡ b.swept
+  move_swept = clean_same a.moved b.moved a.swept b.swept within.1 move_motion.moves p.sweeps q.sweeps
+
+  pub move_is_one : a ≡ b
+  move_is_one = same_moves a b move_start.lowers move_start.cleans move_motion.splits move_motion.tables move_motion.placements move_motion.moves move_swept
 
 -- ---- all units
 
@@ -117,14 +180,14 @@ pub record OneTrail {T : Type 0} (units units' : List T) (targets targets' : Lis
   pub targets_are : targets ≡ targets'
 
 -- so it is
-pub linked_is_one : {T : Type 0} (graph_of : T → Stage → GraphShape) (Links : UnitShape → T → Type 0) → HasOneLink graph_of Links
-    → (sources : List UnitShape) (units units' : List T) (targets targets' : List UnitShape) → AllZip (λ source unit. AllWithinAt graph_of unit × Links source unit) sources units → AreLaid graph_of Result units targets → AllLinked graph_of Links sources units' targets'
+pub linked_is_one : {T S : Type 0} (graph_of : T → S → GraphShape) (last : S) (Within : T → Type 0) (Links : UnitShape → T → Type 0) → HasOneLink Within Links
+    → (sources : List UnitShape) (units units' : List T) (targets targets' : List UnitShape) → AllZip (λ source unit. Within unit × Links source unit) sources units → AreLaid graph_of last units targets → AllLinked graph_of last Links sources units' targets'
     → OneTrail units units' targets targets'
-linked_is_one {T = T} graph_of Links one sources units units' targets targets' steps laid other = record { units_are = same; targets_are = same_targets }
+linked_is_one {T = T} graph_of last Within Links one sources units units' targets targets' steps laid other = record { units_are = same; targets_are = same_targets }
   where
     same : units ≡ units'
-    same = zip_is_one (λ source unit. AllWithinAt graph_of unit × Links source unit) Links (λ source a b p q. one source a b p.0 p.1 q) sources units units' steps other.steps
+    same = zip_is_one (λ source unit. Within unit × Links source unit) Links (λ source a b p q. one source a b p.0 p.1 q) sources units units' steps other.steps
 
     same_targets : targets ≡ targets'
-    same_targets = zip_is_one (λ unit target. IsLayout (graph_of unit Result) target) (λ unit target. IsLayout (graph_of unit Result) target) (λ unit target target' p q. layout_is_one (graph_of unit Result) target target' p q) units targets targets' laid
-        (subst (λ (l : List T). AreLaid graph_of Result l targets') (sym same) other.laid)
+    same_targets = zip_is_one (λ unit target. IsLayout (graph_of unit last) target) (λ unit target. IsLayout (graph_of unit last) target) (λ unit target target' p q. layout_is_one (graph_of unit last) target target' p q) units targets targets' laid
+        (subst (λ (l : List T). AreLaid graph_of last l targets') (sym same) other.laid)

@@ -1,45 +1,52 @@
-// The chain of the passes on one unit.
-ghost use Rattle.mir_opt.specs.Best.{MovesBest};
+// The chain of all passes on one unit.
 ghost use Rattle.mir_opt.specs.Links.{LinksUnit};
+ghost use Rattle.mir_opt.specs.Made.{UnitBest};
 ghost use Rattle.mir_opt.specs.OneLaws.{unit_is_one};
-ghost use Rattle.mir_opt.specs.Stages.{graph_at};
+ghost use Rattle.mir_opt.specs.Stages.{CleansWithin, graph_at};
 
-use crate::front::lower_clean;
+use crate::back::make_back;
+use crate::front::make_front;
 use crate::moving::move_code;
 use crate::steps::UnitSteps;
 use crate::{Memory, Stage, UnitTrail};
 use down_safe::EveryPath;
 use flow_graph::Graph;
-use jump_clean::clean;
 use mir_base::Unit as MirUnit;
 use std::alloc::Global;
 
 impl UnitSteps for UnitTrail {
+    type Stage = Stage;
+
     ghost graph_at = { graph_at };
 
     ghost linked = { LinksUnit };
 
-    ghost best = { MovesBest };
+    ghost best = { UnitBest };
+
+    ghost within = { CleansWithin };
 
     fn make(alloc: Global, source: &MirUnit) -> Result<UnitTrail, Memory> {
-        let front = lower_clean(alloc, source)?;
-        let code = move_code(alloc, &EveryPath, &front.cleaned)?;
-        let swept = clean(alloc, &code.moved)?;
-        let unit = UnitTrail {
-            lowered: front.lowered,
-            cleaned: front.cleaned,
+        let front = make_front(alloc, source)?;
+        let code = move_code(alloc, &EveryPath, &front.values.copied)?;
+        let back = make_back(alloc, &code.moved)?;
+        Ok(UnitTrail {
+            lowered: front.start.lowered,
+            cleaned: front.start.cleaned,
+            folded: front.values.folded,
+            numbered: front.values.numbered,
+            copied: front.values.copied,
             split: code.split,
             table: code.table,
             placement: code.placement,
             moved: code.moved,
-            swept,
-        };
-        unit.leads_to_nodes();
-        Ok(unit)
+            recopied: back.recopied,
+            sunk: back.sunk,
+            swept: back.swept,
+        })
     }
 
-    fn graph_of(&self, stage: Stage) -> &Graph {
-        self.graph(stage)
+    fn graph_of(&self, stage: &Stage) -> &Graph {
+        self.graph(*stage)
     }
 
     ghost one = { unit_is_one };

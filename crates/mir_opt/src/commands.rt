@@ -1,11 +1,12 @@
 // The calls of this crate: each is the walk over the units of a program, with the steps of its command.
 ghost use Rattle.std.specs.Prelude.{◌≡◌, All, IfOk};
-ghost use Rattle.mir_opt.specs.Best.{MovesBest};
+ghost use Rattle.mir_opt.specs.Best.{MotionIsBest, MovesBest};
+ghost use Rattle.mir_opt.specs.Divisions.{DivisionsStay};
 ghost use Rattle.mir_opt.specs.Links.{IsLinked, IsMoveLinked, IsOnlyMoveTrail, IsOnlyTrail};
-ghost use Rattle.mir_opt.specs.Stages.{AllKeep, AreLaid, KeepsProgram, graph_at};
+ghost use Rattle.mir_opt.specs.Stages.{AllKeep, AreLaid, KeepsProgram, graph_at, move_graph_at};
 
 use crate::walking::{program_at, walk};
-use crate::{Memory, MoveTrail, Stage, Trail};
+use crate::{Memory, MoveStage, MoveTrail, Stage, Trail};
 use mir_base::Program;
 use std::alloc::Global;
 
@@ -25,8 +26,12 @@ pub fn optimise(alloc: Global, program: &Program) -> Result<Trail, Memory>
 
     // In each unit no admissible placement evaluates an expression less often on any full path.
     ensures best { IfOk result (λ trail. All MovesBest trail.units) }
+
+    // In each unit each dividing assignment that is reached stays through all passes, with its variable and its operator,
+    // unless its divisor is known and not 0.
+    ensures divisions { IfOk result (λ trail. All DivisionsStay trail.units) }
 {
-    let walked = walk(alloc, program)?;
+    let walked = walk(alloc, program, &Stage::Result)?;
     Ok(Trail {
         source: walked.source,
         units: walked.units,
@@ -46,12 +51,12 @@ pub fn motion(alloc: Global, program: &Program) -> Result<MoveTrail, Memory>
     // The target is the same program, as a whole and unit by unit, evaluates no more operators, and calls no units but
     // those that the program calls. So it would be at each stage.
     ensures keeps { IfOk result (λ trail. KeepsProgram program.now trail.target) }
-    ensures stages { IfOk result (λ trail. AllKeep graph_at trail.source.units trail.units) }
+    ensures stages { IfOk result (λ trail. AllKeep move_graph_at trail.source.units trail.units) }
 
     // In each unit no admissible placement evaluates an expression less often on any full path.
-    ensures best { IfOk result (λ trail. All MovesBest trail.units) }
+    ensures best { IfOk result (λ trail. All MotionIsBest trail.units) }
 {
-    let walked = walk(alloc, program)?;
+    let walked = walk(alloc, program, &MoveStage::Result)?;
     Ok(MoveTrail {
         source: walked.source,
         units: walked.units,
@@ -67,6 +72,6 @@ pub fn stage_program(alloc: Global, trail: &Trail, stage: Stage) -> Result<Progr
     ensures laid { IfOk result (λ program. AreLaid graph_at stage trail.now.units program.units) }
     ensures keeps { IfOk result (λ program. KeepsProgram trail.now.source program) }
 {
-    let program = program_at(alloc, &trail.source, trail.units.items(), stage)?;
+    let program = program_at(alloc, &trail.source, trail.units.items(), &stage)?;
     Ok(program)
 }

@@ -1,13 +1,33 @@
 // What comes before code motion.
 ghost use Rattle.std.specs.Prelude.{IfOk};
 ghost use Rattle.flow_graph.specs.Lowered.{CanLower};
-ghost use Rattle.mir_opt.specs.Made.{FrontMade};
+ghost use Rattle.mir_opt.specs.Made.{FrontMade, LoweredMade, ValuesMade};
 
 use crate::Memory;
+use cond_const::fold;
+use copy_flow::copies;
 use flow_graph::{Graph, lower};
 use jump_clean::clean;
 use mir_base::Unit as MirUnit;
 use std::alloc::Global;
+use value_number::number;
+
+/// The graphs of a unit up to code motion.
+#[derive(Drop)]
+pub(crate) struct Front {
+    pub(crate) start: Lowered,
+    pub(crate) values: Valued,
+}
+
+/// Makes the graph of a unit, cleans it, and replaces what is known. It fails only with `Memory`.
+pub(crate) fn make_front(alloc: Global, source: &MirUnit) -> Result<Front, Memory>
+    requires { CanLower source.now.body }
+    ensures { IfOk result (FrontMade source.now) }
+{
+    let start = lower_clean(alloc, source)?;
+    let values = make_values(alloc, &start.cleaned)?;
+    Ok(Front { start, values })
+}
 
 /// The graph of a unit, and the same with clean jumps.
 #[derive(Drop)]
@@ -19,9 +39,32 @@ pub(crate) struct Lowered {
 /// Makes the graph of a unit and cleans it. It fails only with `Memory`.
 pub(crate) fn lower_clean(alloc: Global, source: &MirUnit) -> Result<Lowered, Memory>
     requires { CanLower source.now.body }
-    ensures { IfOk result (λ made. FrontMade source.now made.lowered made.cleaned) }
+    ensures { IfOk result (LoweredMade source.now) }
 {
     let lowered = lower(alloc, source)?;
     let cleaned = clean(alloc, &lowered)?;
+    let _nodes = lowered.nodes();
     Ok(Lowered { lowered, cleaned })
+}
+
+/// What the passes on values make of a clean graph, one after the other.
+#[derive(Drop)]
+pub(crate) struct Valued {
+    pub(crate) folded: Graph,
+    pub(crate) numbered: Graph,
+    pub(crate) copied: Graph,
+}
+
+/// Folds what is known, numbers values, and replaces copies. It fails only with `Memory`.
+fn make_values(alloc: Global, cleaned: &Graph) -> Result<Valued, Memory>
+    ensures { IfOk result (ValuesMade cleaned.now) }
+{
+    let folded = fold(alloc, cleaned)?;
+    let numbered = number(alloc, &folded)?;
+    let copied = copies(alloc, &numbered)?;
+    Ok(Valued {
+        folded,
+        numbered,
+        copied,
+    })
 }

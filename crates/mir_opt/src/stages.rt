@@ -1,13 +1,82 @@
 // The stages of the passes, and the graph of a unit at each.
-ghost use Rattle.std.specs.Prelude.{◌≡◌};
-ghost use Rattle.mir_opt.specs.Stages.{AllWithinAt, graph_at};
+ghost use Rattle.std.specs.Prelude.{◌≡◌, ◌++◌, IfOk, OnOk};
+ghost use Rattle.mir_opt.specs.Stages.{after_rounds, first_rounds, graph_at, most_rounds, move_graph_at, stages_in};
 
-use crate::UnitTrail;
+use crate::{Memory, MoveUnit, Trail, UnitTrail};
 use flow_graph::Graph;
+use std::alloc::Global;
 
-/// A stage of the passes, at which each unit has a graph.
+/// A stage of the passes of `optimise`, at which each unit has a graph.
 #[derive(Clone, Copy, Debug, PartialEq, Eq)]
 pub enum Stage {
+    /// The graph of the source's unit.
+    Lower,
+    /// It has clean jumps.
+    Clean,
+    /// What is known stands in the place of what is computed.
+    Fold,
+    /// A variable stands in the place of a right side whose value it has already.
+    Number,
+    /// The sources of copies stand in their place.
+    Copies,
+    /// It has a Skip on each edge into a join.
+    Split,
+    /// Code is moved.
+    Motion,
+    /// The sources of copies stand in their place again.
+    CopiesAfterMotion,
+    /// Assignments have sunk in so many rounds.
+    Round(usize),
+    /// Its jumps are cleaned again.
+    Result,
+}
+
+/// The stages of a trail, in their order; there are as many rounds as any unit had. It fails only with `Memory`.
+pub fn stages_of(alloc: Global, trail: &Trail) -> Result<Vec<Stage>, Memory>
+    ensures { IfOk result (λ stages. stages.items ≡ stages_in trail.now.units) }
+{
+    let mut stages = Vec::from_array(alloc, BEFORE_ROUNDS)?;
+    put_rounds(&mut stages, most_rounds(trail.units.items()))?;
+    stages.push(Stage::Result)?;
+    Ok(stages)
+}
+
+/// The stages before the rounds, in their order.
+const BEFORE_ROUNDS: [Stage; 8] = [
+    Stage::Lower,
+    Stage::Clean,
+    Stage::Fold,
+    Stage::Number,
+    Stage::Copies,
+    Stage::Split,
+    Stage::Motion,
+    Stage::CopiesAfterMotion,
+];
+
+/// Puts so many rounds at the end.
+fn put_rounds(stages: &mut Vec<Stage>, rounds: usize) -> Result<(), Memory>
+    ensures { OnOk result (stages.new.items ≡ stages.old.items ++ first_rounds rounds) }
+{
+    for number in 0..rounds {
+        stages.push(Stage::Round(number + 1))?;
+    }
+    Ok(())
+}
+
+/// The greatest number of rounds that any of these units had.
+fn most_rounds(units: &[UnitTrail]) -> usize
+    ensures { result ≡ most_rounds units.now }
+{
+    let mut most = 0;
+    for unit in units {
+        most = most.max(unit.sunk.items().len());
+    }
+    most
+}
+
+/// A stage of code motion alone, at which each unit has a graph.
+#[derive(Clone, Copy, Debug, PartialEq, Eq)]
+pub enum MoveStage {
     /// The graph of the source's unit.
     Lower,
     /// It has clean jumps.
@@ -21,27 +90,52 @@ pub enum Stage {
 }
 
 impl UnitTrail {
-    /// The graph at a stage. It does not allocate.
+    /// The graph at a stage. A unit with fewer rounds shows its last one. It does not allocate.
     pub fn graph(&self, stage: Stage) -> &Graph
         ensures { result.now ≡ graph_at self.now stage }
     {
         match stage {
             Stage::Lower => &self.lowered,
             Stage::Clean => &self.cleaned,
+            Stage::Fold => &self.folded,
+            Stage::Number => &self.numbered,
+            Stage::Copies => &self.copied,
             Stage::Split => &self.split,
             Stage::Motion => &self.moved,
+            Stage::CopiesAfterMotion => &self.recopied,
+            Stage::Round(count) => after_rounds(&self.recopied, self.sunk.items(), count),
             Stage::Result => &self.swept,
         }
     }
+}
 
-    /// Has no effect; carries the theorem that the edges of each of its graphs lead to nodes, which is what a graph keeps.
-    pub(crate) fn leads_to_nodes(&self)
-        ensures { AllWithinAt graph_at self.now }
+impl MoveUnit {
+    /// The graph at a stage. It does not allocate.
+    pub fn graph(&self, stage: MoveStage) -> &Graph
+        ensures { result.now ≡ move_graph_at self.now stage }
     {
-        let _ = self.lowered.nodes();
-        let _ = self.cleaned.nodes();
-        let _ = self.split.nodes();
-        let _ = self.moved.nodes();
-        let _ = self.swept.nodes();
+        match stage {
+            MoveStage::Lower => &self.lowered,
+            MoveStage::Clean => &self.cleaned,
+            MoveStage::Split => &self.split,
+            MoveStage::Motion => &self.moved,
+            MoveStage::Result => &self.swept,
+        }
     }
+}
+
+/// The graph after so many rounds; after the last one it stays. It does not allocate.
+pub(crate) fn after_rounds<'a>(graph: &'a Graph, rounds: &'a [Graph], count: usize) -> &'a Graph
+    ensures { result.now ≡ after_rounds graph.now rounds.now count }
+{
+    if count == 0 {
+        return graph;
+    }
+    if count < rounds.len() {
+        return &rounds[count - 1];
+    }
+    if rounds.is_empty() {
+        return graph;
+    }
+    &rounds[rounds.len() - 1]
 }

@@ -3,9 +3,49 @@ use flow_graph::Graph;
 use mir_base::{Items, Program};
 use motion_rewrite::{ExprTable, Placement};
 
-/// What the passes made of one unit, in their order.
+/// What the passes of `optimise` made of one unit, in their order.
 #[derive(Drop)]
 pub struct UnitTrail {
+    /// The graph of the source's unit.
+    pub lowered: Graph,
+    /// This graph with clean jumps.
+    pub cleaned: Graph,
+    /// The same with what is known in the place of what is computed.
+    pub folded: Graph,
+    /// The same with a variable in the place of a right side whose value it has already.
+    pub numbered: Graph,
+    /// The same with the sources of copies in their place.
+    pub copied: Graph,
+    /// The same with a Skip on each edge into a join.
+    pub split: Graph,
+    /// The movable expressions of `split`.
+    pub table: ExprTable,
+    /// The lazy placement of these in `split`.
+    pub placement: Placement,
+    /// `split` rewritten by the placement.
+    pub moved: Graph,
+    /// `moved` with the sources of copies in their place.
+    pub recopied: Graph,
+    /// What each round of sinking made of it, one to sixteen graphs.
+    pub sunk: Items<Graph>,
+    /// The last of these with clean jumps.
+    pub swept: Graph,
+}
+
+/// What the passes made of a program.
+#[derive(Drop)]
+pub struct Trail {
+    /// The program that was optimised.
+    pub source: Program,
+    /// What was made of each unit, by the number of the unit.
+    pub units: Items<UnitTrail>,
+    /// The program whose units are the layouts of the last graphs.
+    pub target: Program,
+}
+
+/// What code motion alone made of one unit, in its steps.
+#[derive(Drop)]
+pub struct MoveUnit {
     /// The graph of the source's unit.
     pub lowered: Graph,
     /// This graph with clean jumps.
@@ -21,21 +61,6 @@ pub struct UnitTrail {
     /// `moved` with clean jumps.
     pub swept: Graph,
 }
-
-/// What the passes made of a program.
-#[derive(Drop)]
-pub struct Trail {
-    /// The program that was optimised.
-    pub source: Program,
-    /// What was made of each unit, by the number of the unit.
-    pub units: Items<UnitTrail>,
-    /// The program whose units are the layouts of the last graphs.
-    pub target: Program,
-}
-
-/// What code motion alone made of one unit. No pass stands yet that `optimise` has beside code motion, so its steps are
-/// those of `optimise`.
-pub type MoveUnit = UnitTrail;
 
 /// What code motion alone made of a program.
 #[derive(Drop)]

@@ -5,8 +5,8 @@ ghost use Rattle.mir_base.specs.Shapes.{IsProgram};
 ghost use Rattle.mir_opt.specs.Made.{AllLaidOut, AllMade, IsKept, WalkMade};
 ghost use Rattle.mir_opt.specs.Stages.{AllKeep, AreLaid, KeepsProgram};
 
+use crate::Memory;
 use crate::steps::UnitSteps;
-use crate::{Memory, Stage};
 use flow_graph::layout;
 use mir_base::{Items, Program, Unit as MirUnit};
 use mir_sim::lift;
@@ -21,12 +21,16 @@ pub(crate) struct Walked<T> {
 }
 
 /// Makes the steps of each unit, and the program of the layouts of their graphs at the last stage.
-pub(crate) fn walk<T: UnitSteps>(alloc: Global, program: &Program) -> Result<Walked<T>, Memory>
-    ensures { IfOk result (WalkMade T.graph_at T.linked T.best program.now) }
+pub(crate) fn walk<T: UnitSteps>(
+    alloc: Global,
+    program: &Program,
+    last: &T::Stage,
+) -> Result<Walked<T>, Memory>
+    ensures { IfOk result (WalkMade T.graph_at last.now T.linked T.best T.within program.now) }
 {
     let source = program.clone()?;
     let units = all_steps(alloc, program)?;
-    let target = program_at(alloc, program, units.items(), Stage::Result)?;
+    let target = program_at(alloc, program, units.items(), last)?;
     Ok(Walked {
         source,
         units,
@@ -36,7 +40,7 @@ pub(crate) fn walk<T: UnitSteps>(alloc: Global, program: &Program) -> Result<Wal
 
 /// The steps of each unit, by its number.
 fn all_steps<T: UnitSteps>(alloc: Global, program: &Program) -> Result<Items<T>, Memory>
-    ensures { IfOk result (AllMade T.graph_at T.linked T.best program.now.units) }
+    ensures { IfOk result (AllMade T.graph_at T.linked T.best T.within program.now.units) }
 {
     let mut units = Vec::new(alloc);
     for number in 0..program.units.items().len() {
@@ -51,10 +55,10 @@ pub(crate) fn program_at<T: UnitSteps>(
     alloc: Global,
     source: &Program,
     units: &[T],
-    stage: Stage,
+    stage: &T::Stage,
 ) -> Result<Program, Memory>
     requires { AllKeep T.graph_at source.now.units units.now }
-    ensures laid { IfOk result (λ program. AreLaid T.graph_at stage units.now program.units) }
+    ensures laid { IfOk result (λ program. AreLaid T.graph_at stage.now units.now program.units) }
     ensures keeps { IfOk result (KeepsProgram source.now) }
 {
     let targets = layouts(alloc, units, stage)?;
@@ -64,8 +68,12 @@ pub(crate) fn program_at<T: UnitSteps>(
 }
 
 /// The layouts of the graphs at a stage.
-fn layouts<T: UnitSteps>(alloc: Global, units: &[T], stage: Stage) -> Result<Vec<MirUnit>, Memory>
-    ensures { IfOk result (λ targets. AllLaidOut T.graph_at stage units.now targets.items) }
+fn layouts<T: UnitSteps>(
+    alloc: Global,
+    units: &[T],
+    stage: &T::Stage,
+) -> Result<Vec<MirUnit>, Memory>
+    ensures { IfOk result (λ targets. AllLaidOut T.graph_at stage.now units.now targets.items) }
 {
     let mut targets = Vec::new(alloc);
     for unit in units {

@@ -13,4 +13,7 @@ pub returns-clause-stages : goal.returns-clause-stages
 returns-clause-stages c = walked_keeps c.in_ok-walked.ensures
 
 pub returns-clause-best : goal.returns-clause-best
-returns-clause-best c = walked_best c.in_ok-walked.ensures
+returns-clause-best c = λ n other lt. (walked_best c.in_ok-walked.ensures n other lt).moves
+
+pub returns-clause-divisions : goal.returns-clause-divisions
+returns-clause-divisions c = λ n other lt. (walked_best c.in_ok-walked.ensures n other lt).divisions

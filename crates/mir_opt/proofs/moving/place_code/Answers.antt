@@ -19,5 +19,6 @@ returns g c = record {
   flattened = c.in_ok-moved.ensures.flattened;
   best = record { optimal = c.in_ok-placement.ensures.optimal; evaluates = c.in_ok-moved.ensures.paths; follows = c.in_ok-moved.ensures.runs };
   is_split = c.in_ok-moved.ensures.split c.requires.split;
+  divides = c.in_ok-moved.ensures.divides;
   keeps = c.in_ok-moved.ensures.keeps (optimal_is_no_dearer c.args.split.now c.args.table.now (g.R.DownRule.is_down c.args.rule.now c.args.split.now) c.in_ok-placement.placement c.in_ok-placement.ensures.optimal);
 }

@@ -8,5 +8,5 @@ loop-unit-preserved g c =
     let unit = c.unit-item.result in
     let target = c.in_ok-layout.field-0 in
     let laid : IsLaidOut c.graph_of.result.now target = record { layout = c.in_ok-layout.ensures.layout; keeps = c.in_ok-layout.ensures.keeps; lowers = c.in_ok-layout.ensures.lowers } in
-    next_zip_at (λ unit target. IsLaidOut (g.T.UnitSteps.graph_at unit c.args.stage) target) c.args.units.now c.loop-unit.targets.items c.push.new.self.items c.loop-unit.unit-index unit target
+    next_zip_at (λ unit target. IsLaidOut (g.T.UnitSteps.graph_at unit c.args.stage.now) target) c.args.units.now c.loop-unit.targets.items c.push.new.self.items c.loop-unit.unit-index unit target
     c.loop-unit.invariant c.loop-unit-test.true c.unit-item.is (subst (λ graph. IsLaidOut graph target) c.graph_of.ensures laid) c.in_ok-push.ensures.items

@@ -1,7 +1,5 @@
 use Rattle.std.proofs.Common.{rules, sym, subst}
 use Rattle.flow_graph.specs.Keeps.{AsGraph, AsUnit, Keeps}
-use Rattle.mir_opt.specs.declared.stages.Stage.TheVariants.{Result}
-use Rattle.mir_opt.specs.declared.stages.Stage.{Stage}
 use Rattle.mir_opt.specs.Made.{UnitMade}
 use Rattle.mir_opt.specs.Stages.{AllKeep, AreLaid}
 use Rattle.mir_opt.proofs.Zips.{zip_map}
@@ -10,12 +8,12 @@ use Rattle.mir_opt.proofs.walking.walk.Goals as goal
 pub program_at-requires : goal.program_at-requires
 program_at-requires g c =
     subst (AllKeep g.T.UnitSteps.graph_at c.args.program.now.units) (sym c.items.ensures)
-    (zip_map (UnitMade g.T.UnitSteps.graph_at g.T.UnitSteps.linked g.T.UnitSteps.best) (λ source unit. (stage : Stage) → Keeps (AsUnit source) (AsGraph (g.T.UnitSteps.graph_at unit stage))) (λ source unit made. made.keeps) c.args.program.now.units c.in_ok-units.units c.in_ok-units.ensures)
+    (zip_map (UnitMade g.T.UnitSteps.graph_at g.T.UnitSteps.linked g.T.UnitSteps.best g.T.UnitSteps.within) (λ source unit. (stage : _) → Keeps (AsUnit source) (AsGraph (g.T.UnitSteps.graph_at unit stage))) (λ source unit made. made.keeps) c.args.program.now.units c.in_ok-units.units c.in_ok-units.ensures)
 
 pub returns : goal.returns
 returns g c = record {
   source = search rules;
   made = c.in_ok-units.ensures;
-  laid = subst (λ units. AreLaid g.T.UnitSteps.graph_at Result units c.in_ok-target.target.units) c.items.ensures c.in_ok-target.ensures.laid;
+  laid = subst (λ units. AreLaid g.T.UnitSteps.graph_at c.args.last.now units c.in_ok-target.target.units) c.items.ensures c.in_ok-target.ensures.laid;
   keeps = c.in_ok-target.ensures.keeps;
 }
