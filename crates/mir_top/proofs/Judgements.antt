@@ -11,13 +11,13 @@ use Rattle.mir_valid.specs.Refusals.{refusal}
 use Rattle.mir_valid.specs.Stands.{StandsFor}
 use Rattle.mir_valid.specs.Texts.{IsTextOf}
 use Rattle.mir_top.specs.declared.command.Command.{Command}
-use Rattle.mir_top.specs.declared.command.Command.TheVariants.{Optimise, Move, Run}
+use Rattle.mir_top.specs.declared.command.Command.TheVariants.{Optimise, Move, Run, Trial}
 use Rattle.mir_top.specs.declared.outcome.Outcome.{Outcome}
 use Rattle.mir_top.specs.Calls.{answer_of}
 use Rattle.mir_top.specs.Commands.{command_of, inputs_in, reads_text, Reads}
 use Rattle.mir_top.specs.Complaints.{Complaint, wrong_inputs, deep, of_text, of_program}
-use Rattle.mir_top.specs.Due.{IsShortTextOf, WorksOn, IsRefused, long, unreadable, invalid, Refuses, no_command, no_text, wrong_number, too_deep, Completes, of_optimise, of_move, of_run, status_of_finish}
-use Rattle.mir_top.specs.Outputs.{Runs, reported, report_text, IsOnlyOutput, Makes, optimised, moved, ran}
+use Rattle.mir_top.specs.Due.{IsShortTextOf, WorksOn, IsRefused, long, unreadable, invalid, Refuses, no_command, no_text, wrong_number, too_deep, Completes, of_optimise, of_move, of_run, of_trial, status_of_finish}
+use Rattle.mir_top.specs.Outputs.{Runs, reported, report_text, IsSummary, trail_summary, IsOnlyOutput, Makes, optimised, moved, ran, compared}
 use Rattle.mir_top.specs.Promises.{HasRead}
 use Rattle.mir_top.specs.Streams.{Stream, TookAll}
 use Rattle.mir_top.specs.Texts.{OneReading}
@@ -42,15 +42,17 @@ pub within_of : (command : Command) (text : List ℕ) (program : ProgramShape) �
 within_of Optimise text program reads on = on
 within_of Move text program reads on = on
 within_of (Run steps) text program reads on = on
+within_of (Trial number units) text program reads on = absurd (cc)
 
 -- and a command works on the program of the text
 pub works_on : (command : Command) (text : List ℕ) (program : ProgramShape) → IsTrue (reads_text command) → IsShortTextOf text program → WorksOn command text program
 works_on Optimise text program reads within = within
 works_on Move text program reads within = within
 works_on (Run steps) text program reads within = within
+works_on (Trial number units) text program reads within = absurd (cc)
 
 -- where the words are of this command, and read the text, so does the command
-reads_of : (words : List (List ℕ)) (command : Command) → command_of words ≡ Some command → Reads words → IsTrue (reads_text command)
+pub reads_of : (words : List (List ℕ)) (command : Command) → command_of words ≡ Some command → Reads words → IsTrue (reads_text command)
 reads_of words command asked reads = subst (λ (c : Command). IsTrue (reads_text c)) (same_command reads.0 command (command_of words) reads.1 asked) reads.2
 
 -- where a command read the text, the program that it worked on was read
@@ -132,6 +134,7 @@ pub runs_of : (inputs : List ℤ) (program : ProgramShape) (command : Command) (
     → Runs program inputs steps × ((answer_of outcome).status ≡ status_of_finish (reported program inputs steps).finish) × (output ≡ report_text (reported program inputs steps))
 runs_of inputs program _ _ _ steps (optimised trail source optimises) is = absurd (cc)
 runs_of inputs program _ _ _ steps (moved trail source moves) is = absurd (cc)
+runs_of inputs program _ _ _ steps (compared number units output is_summary) is = absurd (cc)
 runs_of inputs program _ _ _ steps (ran n runs report reports) is =
     let same : n ≡ steps = cc in (
       subst (Runs program inputs) same runs,
@@ -143,7 +146,26 @@ runs_of inputs program _ _ _ steps (ran n runs report reports) is =
 pub run_of_status : (inputs : List ℤ) (program : ProgramShape) (command : Command) (outcome : Outcome) (output : List ℕ) → Makes inputs program command outcome output → is_of_run (answer_of outcome).status → (n : ℕ) × (command ≡ Run n)
 run_of_status inputs program _ _ _ (optimised trail source optimises) is = absurd is
 run_of_status inputs program _ _ _ (moved trail source moves) is = absurd is
+run_of_status inputs program _ _ _ (compared number units output is_summary) is = absurd is
 run_of_status inputs program _ _ _ (ran n runs report reports) is = (n, refl)
+
+-- what a trial makes
+pub summary_of : (inputs : List ℤ) (program : ProgramShape) (command : Command) (outcome : Outcome) (output : List ℕ) (number units : ℕ) → Makes inputs program command outcome output → command ≡ Trial number units → IsSummary program output
+summary_of inputs program _ _ _ number units (optimised trail source optimises) is = absurd (cc)
+summary_of inputs program _ _ _ number units (moved trail source moves) is = absurd (cc)
+summary_of inputs program _ _ _ number units (ran n runs report reports) is = absurd (cc)
+summary_of inputs program _ _ _ number units (compared other count output summary) is = summary
+
+-- what a trial makes has status 0
+pub status_of_trial : (inputs : List ℤ) (program : ProgramShape) (command : Command) (outcome : Outcome) (output : List ℕ) (number units : ℕ) → Makes inputs program command outcome output → command ≡ Trial number units → (answer_of outcome).status ≡ 0
+status_of_trial inputs program _ _ _ number units (optimised trail source optimises) is = refl
+status_of_trial inputs program _ _ _ number units (moved trail source moves) is = refl
+status_of_trial inputs program _ _ _ number units (ran n runs report reports) is = absurd (cc)
+status_of_trial inputs program _ _ _ number units (compared other count output summary) is = refl
+
+-- the words of a trial are not those of a command that reads the text
+pub trial_reads : (words : List (List ℕ)) (number units : ℕ) → command_of words ≡ Some (Trial number units) → Reads words → ⊥
+trial_reads words number units asked reads = let e = reads_of words (Trial number units) asked reads in absurd (cc)
 
 -- where something is made, nothing is refused
 pub makes_no_refusal : OneReading → (words : List (List ℕ)) (text : List ℕ) (command : Command) (program : ProgramShape) (outcome : Outcome) (output : List ℕ) (complaint : Complaint) → command_of words ≡ Some command → WorksOn command text program
@@ -170,10 +192,18 @@ other_refusal laws words text command program _ asked within no_run (no_text com
 other_refusal laws words text command program _ asked within no_run (wrong_number n other also on wrong) = no_run n (same_command command (Run n) (command_of words) asked also)
 other_refusal laws words text command program _ asked within no_run (too_deep n other also on right above) = no_run n (same_command command (Run n) (command_of words) asked also)
 
+-- a command that reads no text is not refused
+pub unread_refusal : (words : List (List ℕ)) (text : List ℕ) (command : Command) (complaint : Complaint) → command_of words ≡ Some command → (IsTrue (reads_text command) → ⊥) → Refuses words text complaint → ⊥
+unread_refusal words text command _ asked unread (no_command none) = no_command_of command (command_of words) none asked
+unread_refusal words text command _ asked unread (no_text complaint reads refused) = unread (reads_of words command asked reads)
+unread_refusal words text command _ asked unread (wrong_number n other also on wrong) = unread (reads_of words command asked (Run n, also, refl))
+unread_refusal words text command _ asked unread (too_deep n other also on right above) = unread (reads_of words command asked (Run n, also, refl))
+
 -- where an output is due, no refusal is
 pub completes_no_refusal : OneReading → (words : List (List ℕ)) (text : List ℕ) (status : ℕ) (complaint : Complaint) → Completes words text status → Refuses words text complaint → ⊥
 completes_no_refusal laws words text _ complaint (of_optimise program asked on) refuses = other_refusal laws words text Optimise program complaint asked on (λ n is. absurd (cc)) refuses
 completes_no_refusal laws words text _ complaint (of_move program asked on) refuses = other_refusal laws words text Move program complaint asked on (λ n is. absurd (cc)) refuses
+completes_no_refusal laws words text _ complaint (of_trial number units asked) refuses = unread_refusal words text (Trial number units) complaint asked (λ reads. absurd (cc)) refuses
 completes_no_refusal laws words text _ complaint (of_run n program asked on runs) refuses =
     let refused = refused_run laws words text n program complaint asked on refuses in
     let over = (refused.1 runs.enough).0 in let shallow = runs.shallow in omega (arith, over, shallow)
@@ -182,6 +212,7 @@ completes_no_refusal laws words text _ complaint (of_run n program asked on runs
 status_of_text : (inputs : List ℤ) (program : ProgramShape) (command : Command) (outcome : Outcome) (output : List ℕ) → Makes inputs program command outcome output → ((n : ℕ) → command ≡ Run n → ⊥) → (answer_of outcome).status ≡ 0
 status_of_text inputs program _ _ _ (optimised trail source optimises) no_run = refl
 status_of_text inputs program _ _ _ (moved trail source moves) no_run = refl
+status_of_text inputs program _ _ _ (compared number units output is_summary) no_run = refl
 status_of_text inputs program _ _ _ (ran n runs report reports) no_run = absurd (no_run n refl)
 
 -- what is made where an output is due has the status that is due
@@ -191,24 +222,35 @@ completes_status laws words text _ command program outcome output (of_optimise o
     status_of_text (inputs_in words) program command outcome output makes (λ n is. let e = sym (same_command command Optimise (command_of words) asked also) ∙ is in absurd (cc))
 completes_status laws words text _ command program outcome output (of_move other also within) asked on makes =
     status_of_text (inputs_in words) program command outcome output makes (λ n is. let e = sym (same_command command Move (command_of words) asked also) ∙ is in absurd (cc))
+completes_status laws words text _ command program outcome output (of_trial number units also) asked on makes =
+    status_of_text (inputs_in words) program command outcome output makes (λ n is. let e = sym (same_command command (Trial number units) (command_of words) asked also) ∙ is in absurd (cc))
 completes_status laws words text _ command program outcome output (of_run n other also within runs) asked on makes =
     let is = same_command command (Run n) (command_of words) asked also in
     let same = program_same laws text program other (subst (λ (c : Command). WorksOn c text program) is on).parsed within.parsed in
     (runs_of (inputs_in words) program command outcome output n makes is).1 ∙ ap (λ (p : ProgramShape). status_of_finish (reported p (inputs_in words) n).finish) same
 
+-- under a command that is no run an output is due with status 0
+due_of_text : (words : List (List ℕ)) (text : List ℕ) (command : Command) (status : ℕ) → command_of words ≡ Some command → ((n : ℕ) → command ≡ Run n → ⊥) → Completes words text status → 0 ≡ status
+due_of_text words text command _ asked no_run (of_optimise program also on) = refl
+due_of_text words text command _ asked no_run (of_move program also on) = refl
+due_of_text words text command _ asked no_run (of_trial number units also) = refl
+due_of_text words text command _ asked no_run (of_run n program also on runs) = absurd (no_run n (same_command command (Run n) (command_of words) asked also))
+
+-- under a run of the program of the text it is due with the status of its end
+due_of_run : OneReading → (words : List (List ℕ)) (text : List ℕ) (steps : ℕ) (program : ProgramShape) (status : ℕ) → command_of words ≡ Some (Run steps) → IsShortTextOf text program → Completes words text status → status_of_finish (reported program (inputs_in words) steps).finish ≡ status
+due_of_run laws words text steps program _ asked within (of_optimise other also on) = absurd (let e = same_command (Run steps) Optimise (command_of words) asked also in cc)
+due_of_run laws words text steps program _ asked within (of_move other also on) = absurd (let e = same_command (Run steps) Move (command_of words) asked also in cc)
+due_of_run laws words text steps program _ asked within (of_trial number units also) = absurd (let e = same_command (Run steps) (Trial number units) (command_of words) asked also in cc)
+due_of_run laws words text steps program _ asked within (of_run n other also on runs) =
+    ap (λ (p : ProgramShape). status_of_finish (reported p (inputs_in words) steps).finish) (program_same laws text program other within.parsed on.parsed)
+    ∙ ap (λ (k : ℕ). status_of_finish (reported other (inputs_in words) k).finish) (same_steps steps n (command_of words) asked also)
+
 -- where an output is due, it is due with one status
 pub completes_same : OneReading → (words : List (List ℕ)) (text : List ℕ) (one other : ℕ) → Completes words text one → Completes words text other → one ≡ other
-completes_same laws words text _ _ (of_optimise program asked on) (of_optimise again also within) = refl
-completes_same laws words text _ _ (of_optimise program asked on) (of_move again also within) = refl
-completes_same laws words text _ _ (of_optimise program asked on) (of_run n again also within runs) = absurd (let e = same_command Optimise (Run n) (command_of words) asked also in cc)
-completes_same laws words text _ _ (of_move program asked on) (of_optimise again also within) = refl
-completes_same laws words text _ _ (of_move program asked on) (of_move again also within) = refl
-completes_same laws words text _ _ (of_move program asked on) (of_run n again also within runs) = absurd (let e = same_command Move (Run n) (command_of words) asked also in cc)
-completes_same laws words text _ _ (of_run n program asked on runs) (of_optimise again also within) = absurd (let e = same_command (Run n) Optimise (command_of words) asked also in cc)
-completes_same laws words text _ _ (of_run n program asked on runs) (of_move again also within) = absurd (let e = same_command (Run n) Move (command_of words) asked also in cc)
-completes_same laws words text _ _ (of_run n program asked on runs) (of_run m again also within runs') =
-    ap (λ (p : ProgramShape). status_of_finish (reported p (inputs_in words) n).finish) (program_same laws text program again on.parsed within.parsed)
-    ∙ ap (λ (k : ℕ). status_of_finish (reported again (inputs_in words) k).finish) (same_steps n m (command_of words) asked also)
+completes_same laws words text _ other (of_optimise program asked on) due = due_of_text words text Optimise other asked (λ n is. absurd (cc)) due
+completes_same laws words text _ other (of_move program asked on) due = due_of_text words text Move other asked (λ n is. absurd (cc)) due
+completes_same laws words text _ other (of_trial number units asked) due = due_of_text words text (Trial number units) other asked (λ n is. absurd (cc)) due
+completes_same laws words text _ other (of_run n program asked on runs) due = due_of_run laws words text n program other asked on due
 
 -- ---- outputs
 
@@ -218,4 +260,6 @@ only_output inputs program _ _ _ (optimised trail source optimises) _ _ (optimis
     ap (λ (t : Trail). canonical_text t.target) (optimises.only other (also ∙ sym source) improves.linked)
 only_output inputs program _ _ _ (moved trail source moves) _ _ (moved other also improves) =
     ap (λ (t : MoveTrail). canonical_text t.target) (moves.only other (also ∙ sym source) improves.linked)
+only_output inputs program _ _ _ (compared number units output is) _ _ (compared _ _ other also) =
+    is.output_is ∙ ap trail_summary (is.optimises.only also.trail (also.source ∙ sym is.source) also.optimises.linked) ∙ sym also.output_is
 only_output inputs program _ _ _ (ran steps runs report reports) _ _ (ran _ again report' reports') = ap report_text (reports ∙ sym reports')

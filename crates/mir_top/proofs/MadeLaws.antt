@@ -1,12 +1,10 @@
 -- What making answers, as the commands have it.
-use Rattle.std.proofs.Common.{◌≡◌, ℕ, ℤ, List, All, Err, sym, ◌∙◌, subst}
+use Rattle.std.proofs.Common.{◌≡◌, ℕ, ℤ, List, Err, sym, ◌∙◌, subst}
 use Rattle.mir_base.specs.Shapes.{ProgramShape}
 use Rattle.mir_interp.specs.Reports.{IsRunAnswer}
 use Rattle.mir_interp.specs.declared.report.RunFault.{RunFault}
 use Rattle.mir_interp.specs.declared.report.RunFault.TheVariants.{WrongInputs, Deep, Memory}
-use Rattle.mir_opt.specs.Best.{MovesBest}
 use Rattle.mir_opt.specs.Stages.{KeepsProgram}
-use Rattle.mir_opt.specs.declared.trails.UnitTrail.{UnitTrail}
 use Rattle.mir_top.specs.declared.command.Command.{Command}
 use Rattle.mir_top.specs.declared.command.Command.TheVariants.{Run}
 use Rattle.mir_top.specs.declared.outcome.Outcome.{Outcome}
@@ -25,9 +23,9 @@ makes_with inputs program asked command outcome output text is same makes =
     subst (λ (c : Command). Makes inputs program c outcome output) (sym is) (subst (Makes inputs program command outcome) (sym same) makes)
 
 -- what the passes promise of a trail is what is asked of it
-pub improves_from : (Linked : Type 0) (Only : ProgramShape → Type 0) (parts : List UnitTrail) (program source target : ProgramShape) → source ≡ program → Linked → Only program → KeepsProgram program target → All MovesBest parts → Improves Linked (Only source) parts source target
-improves_from Linked Only parts program source target is linked only keeps best =
-    subst (λ (p : ProgramShape). Improves Linked (Only p) parts p target) (sym is) (record {
+pub improves_from : (Linked : Type 0) (Only : ProgramShape → Type 0) (Best : Type 0) (program source target : ProgramShape) → source ≡ program → Linked → Only program → KeepsProgram program target → Best → Improves Linked (Only source) Best source target
+improves_from Linked Only Best program source target is linked only keeps best =
+    subst (λ (p : ProgramShape). Improves Linked (Only p) Best p target) (sym is) (record {
       linked = linked;
       only = only;
       same = keeps.same;

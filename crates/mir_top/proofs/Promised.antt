@@ -5,20 +5,21 @@ use Rattle.std.specs.Io.KnownBytes.{Consumes, IsAtEnd}
 use Rattle.mir_base.specs.Limits.{most_bytes}
 use Rattle.mir_base.specs.Shapes.{ProgramShape}
 use Rattle.mir_outside.specs.Transfer.{TakesAtMost}
+use Rattle.mir_trial.specs.Trial.{trial_program}
 use Rattle.mir_top.specs.declared.answer.Answer.{Answer}
 use Rattle.mir_top.specs.declared.command.Command.{Command}
-use Rattle.mir_top.specs.declared.command.Command.TheVariants.{Optimise, Move, Run}
+use Rattle.mir_top.specs.declared.command.Command.TheVariants.{Optimise, Move, Run, Trial}
 use Rattle.mir_top.specs.declared.outcome.Outcome.{Outcome}
 use Rattle.mir_top.specs.Calls.{Call, answer_of, refusal_with, Answers, MakesOutput, WorkedOn}
 use Rattle.mir_top.specs.Commands.{command_of, inputs_in, Asks, Reads}
 use Rattle.mir_top.specs.Complaints.{Complaint, usage, read_fault, write_fault, out_of_memory}
 use Rattle.mir_top.specs.Due.{IsShortTextOf, WorksOn, IsRefused, long, unreadable, invalid, Refuses, no_command, no_text, wrong_number, too_deep, Completes}
 use Rattle.mir_top.specs.Outputs.{Makes}
-use Rattle.mir_top.specs.Promises.{Promises, HasSeen, IsOnlyMade, HasMade, HasCutShort, HasRun, HasRefused, EndsBy, HasText}
+use Rattle.mir_top.specs.Promises.{Promises, HasSeen, IsOnlyMade, HasMade, HasCutShort, HasRun, HasTried, HasRefused, EndsBy, HasText}
 use Rattle.mir_top.specs.Streams.{Stream, Untouched, HasFailed, Took, Gave, Tried}
 use Rattle.mir_top.specs.Texts.{OneReading}
 use Rattle.mir_top.proofs.Endings.{EndingCase, ends_done, ends_cut, ends_failed, ends_out_of_memory, ends_refused, ends}
-use Rattle.mir_top.proofs.Judgements.{no_command_of, same_command, has_read, runs_of, run_of_status, refuses_same, makes_no_refusal, completes_no_refusal, completes_status, only_output}
+use Rattle.mir_top.proofs.Judgements.{no_command_of, same_command, has_read, runs_of, run_of_status, summary_of, status_of_trial, trial_reads, unread_refusal, refuses_same, makes_no_refusal, completes_no_refusal, completes_status, only_output}
 use Rattle.mir_top.proofs.Statuses.{is_success, is_refusal, is_of_run, is_silent, run_has, success_is, refusal_is, silent_is, refusal_no_success, success_no_refusal, success_no_silent, refusal_below, success_below, outcome_is_success, refuses_is_refusal}
 use Rattle.mir_top.proofs.Trails.{passes, motion, trail_improves, trail_is_asked, trail_comes}
 
@@ -81,6 +82,31 @@ module _ (laws : OneReading) (call : Call) where
         written = subst (Gave call.out) runs.2 has.done.written;
       }
 
+  -- under a trial with status 0 its program was tried
+  tries : EndingCase call → (number units : ℕ) → command_of call.words ≡ Some (Trial number units) → is_success call.answer.status → HasTried call (trial_program number units)
+  tries ends number units asked success =
+      let has = (success_of ends success).0 in
+      let made = has.done.made in
+      let is = same_command made.command (Trial number units) (command_of call.words) made.worked.asked asked in
+      let tried = summary_of (inputs_in call.words) made.program made.command has.outcome has.done.output number units made.made is in
+      record {
+        trail = tried.trail;
+        source = tried.source ∙ subst (λ (c : Command). WorksOn c made.text made.program) is made.worked.subject;
+        improves = tried.optimises;
+        written = subst (Gave call.out) tried.output_is has.done.written;
+      }
+
+  -- a trial ends with an output, or it is cut short, or memory runs out
+  of_trial : EndingCase call → (number units : ℕ) → command_of call.words ≡ Some (Trial number units) → Contains (0 ∷ 7 ∷ 8 ∷ []) call.answer.status
+  of_trial (ends_done outcome answered is quiet) number units asked =
+      let same = same_command is.made.command (Trial number units) (command_of call.words) is.made.worked.asked asked in
+      (0, omega arith, sym (status_is _ answered ∙ status_of_trial (inputs_in call.words) is.made.program is.made.command outcome is.output number units is.made.made same))
+  of_trial (ends_cut answered is told) number units asked = (1, omega arith, sym (status_is _ answered))
+  of_trial (ends_failed answered reads fails silent told) number units asked = absurd (trial_reads call.words number units asked reads)
+  of_trial (ends_out_of_memory answered asked silent told) number units also = (2, omega arith, sym (status_is _ answered))
+  of_trial (ends_refused text complaint answered seen refuses silent told) number units asked =
+      absurd (unread_refusal call.words text (Trial number units) complaint asked (λ is. absurd (cc)) refuses)
+
   -- ---- statuses 1, 2 and 5
 
   refused_of : EndingCase call → is_refusal call.answer.status → HasRefused call
@@ -135,6 +161,7 @@ module _ (laws : OneReading) (call : Call) where
       by Optimise asked on = here (Optimise, asked, refl) on
       by Move asked on = here (Move, asked, refl) on
       by (Run n) asked on = here (Run n, asked, refl) on
+      by (Trial number units) asked on = on
 
   -- what a refusal that is due makes of a call
   ends_by : (text : List ℕ) (complaint : Complaint) → HasText call text → Refuses call.words text complaint → EndingCase call → EndsBy call complaint
@@ -235,6 +262,8 @@ module _ (laws : OneReading) (call : Call) where
     moves = trail_improves motion call whole;
     reports = λ steps asked among. reports whole steps asked (success_is _ among);
     of_run = of_run whole;
+    tries = λ number units asked at. tries whole number units asked (subst is_success (sym at) tt);
+    of_trial = of_trial whole;
     refused = λ among. refused_of whole (refusal_is _ among);
     refuses = λ text complaint tells due. ends_by text complaint tells due whole;
     usage = usage_is whole;

@@ -14,7 +14,7 @@ use Rattle.mir_valid.specs.declared.faults.ValidFault.{ValidFault}
 use Rattle.mir_valid.specs.declared.faults.ValidFault.TheVariants.{NoUnit, TooManyUnits, SameUnit, TooManyInsts, LateReceive, SameReceive, TooManyReceives, SameLabel, NoLabel, NoSuchUnit, WrongCount, Memory as NoMemoryForProgram}
 use Rattle.mir_valid.specs.Refusals.{IsValidMemory}
 use Rattle.mir_top.specs.declared.outcome.Outcome.{Outcome}
-use Rattle.mir_top.specs.declared.outcome.Outcome.TheVariants.{Optimised, Moved, Ran}
+use Rattle.mir_top.specs.declared.outcome.Outcome.TheVariants.{Optimised, Moved, Ran, Compared}
 use Rattle.mir_top.specs.Calls.{answer_of}
 use Rattle.mir_top.specs.Complaints.{Complaint, of_text, of_program, out_of_memory}
 use Rattle.mir_top.specs.Due.{IsRefused, long, unreadable, invalid, Refuses, no_command, no_text, wrong_number, too_deep, status_of_finish}
@@ -113,6 +113,7 @@ pub outcome_is_success : (outcome : Outcome) → IsSuccess (answer_of outcome).s
 outcome_is_success (Optimised trail) = (0, omega arith, refl)
 outcome_is_success (Moved trail) = (0, omega arith, refl)
 outcome_is_success (Ran finish) = finish_is_success finish
+outcome_is_success Compared = (0, omega arith, refl)
 
 -- ---- the complaint of each fault: running out of memory has one, and each refusal has status 1, 2 or 5
 

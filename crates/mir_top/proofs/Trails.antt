@@ -13,7 +13,7 @@ use Rattle.mir_top.specs.declared.outcome.Outcome.{Outcome}
 use Rattle.mir_top.specs.Calls.{Call, answer_of, refusal_with, IsDone}
 use Rattle.mir_top.specs.Commands.{command_of, inputs_in, reads_text}
 use Rattle.mir_top.specs.Due.{WorksOn}
-use Rattle.mir_top.specs.Outputs.{Optimises, MovesCode, Makes, optimised, moved, ran}
+use Rattle.mir_top.specs.Outputs.{Optimises, MovesCode, Makes, optimised, moved, ran, compared}
 use Rattle.mir_top.specs.Promises.{Asked, HasImproved, HasMade, StatusIs}
 use Rattle.mir_top.specs.Streams.{Gave}
 use Rattle.mir_top.proofs.Endings.{EndingCase, ends_done, ends_cut, ends_failed, ends_out_of_memory, ends_refused}
@@ -36,37 +36,41 @@ pub record HasTrails {T : Type 0} (own : Command) (field : Answer → Option T) 
 
 -- ---- the two fields
 
--- of the three outcomes that of `optimise` alone has a trail of all passes, and it is of its making
+-- of the outcomes that of `optimise` alone has a trail of all passes, and it is of its making
 passes_of : (inputs : List ℤ) (program : ProgramShape) (command : Command) (outcome : Outcome) (output : List ℕ) → Makes inputs program command outcome output
     → IfSome (answer_of outcome).trail (IsTrailOf Optimise (λ (t : Trail). t.source) (λ t. t.target) Optimises program command outcome output)
 passes_of inputs program _ _ _ (optimised trail source optimises) = (refl, refl, source, optimises, refl)
 passes_of inputs program _ _ _ (moved trail source moves) = tt
 passes_of inputs program _ _ _ (ran n runs report reports) = tt
+passes_of inputs program _ _ _ (compared number units output is) = tt
 
--- under `optimise` the outcome is that one, as the other two are of other commands
+-- under `optimise` the outcome is that one, as the others are of other commands
 passes_come : (inputs : List ℤ) (program : ProgramShape) (command : Command) (outcome : Outcome) (output : List ℕ) → Makes inputs program command outcome output
     → command ≡ Optimise → IsSome (answer_of outcome).trail
 passes_come inputs program _ _ _ (optimised trail source optimises) is = refl
 passes_come inputs program _ _ _ (moved trail source moves) is = absurd (cc)
 passes_come inputs program _ _ _ (ran n runs report reports) is = absurd (cc)
+passes_come inputs program _ _ _ (compared number units output is_summary) is = absurd (cc)
 
 -- so the field `trail` has the trail of `optimise`
 pub passes : HasTrails Optimise (λ (a : Answer). a.trail) (λ (t : Trail). t.source) (λ t. t.target) Optimises
 passes = record { reads = refl; empty = λ status. refl; of = passes_of; comes = passes_come }
 
--- of the three outcomes that of `move` alone has a trail of code motion, and it is of its making
+-- of the outcomes that of `move` alone has a trail of code motion, and it is of its making
 motion_of : (inputs : List ℤ) (program : ProgramShape) (command : Command) (outcome : Outcome) (output : List ℕ) → Makes inputs program command outcome output
     → IfSome (answer_of outcome).moved (IsTrailOf Move (λ (t : MoveTrail). t.source) (λ t. t.target) MovesCode program command outcome output)
 motion_of inputs program _ _ _ (optimised trail source optimises) = tt
 motion_of inputs program _ _ _ (moved trail source moves) = (refl, refl, source, moves, refl)
 motion_of inputs program _ _ _ (ran n runs report reports) = tt
+motion_of inputs program _ _ _ (compared number units output is) = tt
 
--- under `move` the outcome is that one, as the other two are of other commands
+-- under `move` the outcome is that one, as the others are of other commands
 motion_comes : (inputs : List ℤ) (program : ProgramShape) (command : Command) (outcome : Outcome) (output : List ℕ) → Makes inputs program command outcome output
     → command ≡ Move → IsSome (answer_of outcome).moved
 motion_comes inputs program _ _ _ (optimised trail source optimises) is = absurd (cc)
 motion_comes inputs program _ _ _ (moved trail source moves) is = refl
 motion_comes inputs program _ _ _ (ran n runs report reports) is = absurd (cc)
+motion_comes inputs program _ _ _ (compared number units output is_summary) is = absurd (cc)
 
 -- so the field `moved` has the trail of `move`
 pub motion : HasTrails Move (λ (a : Answer). a.moved) (λ (t : MoveTrail). t.source) (λ t. t.target) MovesCode

@@ -16,7 +16,7 @@ use Rattle.mir_top.specs.declared.command.Command.{Command}
 use Rattle.mir_top.specs.declared.ending.Ending.{Ending}
 use Rattle.mir_top.specs.declared.ending.Ending.TheVariants.{Done, CutShort, Prevented}
 use Rattle.mir_top.specs.declared.outcome.Outcome.{Outcome}
-use Rattle.mir_top.specs.declared.outcome.Outcome.TheVariants.{Optimised, Moved, Ran}
+use Rattle.mir_top.specs.declared.outcome.Outcome.TheVariants.{Optimised, Moved, Ran, Compared}
 use Rattle.mir_top.specs.Commands.{command_of, inputs_in, Reads}
 use Rattle.mir_top.specs.Complaints.{Complaint, complaint_of, write_fault}
 use Rattle.mir_top.specs.Due.{WorksOn, status_of_finish}
@@ -39,6 +39,7 @@ abbrev pub answer_of : Outcome → Answer
 answer_of (Optimised trail) = record { status = 0; trail = Some trail; moved = None }
 answer_of (Moved trail) = record { status = 0; trail = None; moved = Some trail }
 answer_of (Ran finish) = record { status = status_of_finish finish; trail = None; moved = None }
+answer_of Compared = record { status = 0; trail = None; moved = None }
 
 -- the command that the words are works on this program; where it reads the text, this is what was read, to the end
 pub record WorkedOn
@@ -47,6 +48,11 @@ pub record WorkedOn
   pub asked : command_of words ≡ Some command
   pub read : Reads words → TookAll source text
   pub subject : WorksOn command text program
+
+-- the command that the words are works on this program
+abbrev pub IsSubject : List (List ℕ) → Stream → Command → ProgramShape → Type 0
+IsSubject words source command program =
+    (text : List ℕ) × WorkedOn words source text command program
 
 -- the command that the words are made this of the program that it works on, with this output
 pub record MakesOutput

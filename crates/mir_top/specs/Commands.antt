@@ -1,13 +1,13 @@
 -- What each command asks of its words. Cited by contracts.
-use Rattle.std.specs.Prelude.{ℕ, ◌≡◌, ℤ, pos, Bool, true, List, [], ◌∷◌, map, codes, String, string_bytes, Option, None, Some, nat_eq, nat_le, if◌then◌else◌, IsTrue, IsSome, is_some, unwrap_or}
+use Rattle.std.specs.Prelude.{ℕ, ◌≡◌, ℤ, pos, Bool, true, false, ◌&&◌, List, [], ◌∷◌, map, codes, String, string_bytes, Option, None, Some, nat_eq, nat_le, if◌then◌else◌, IsTrue, IsSome, is_some, unwrap_or}
 use Rattle.std.specs.declared.alloc.Global.{Global}
 use Rattle.std.specs.List.{list_all}
 use Rattle.std.specs.Option.{option_map}
 use Rattle.std.specs.Cmp.Lexicographic.{pointwise}
-use Rattle.mir_base.specs.Limits.{most_steps}
+use Rattle.mir_base.specs.Limits.{most_steps, most_units}
 use Rattle.mir_lex.specs.Numbers.{signed_number, unsigned_number}
 use Rattle.mir_top.specs.declared.command.Command.{Command}
-use Rattle.mir_top.specs.declared.command.Command.TheVariants.{Optimise, Move, Run}
+use Rattle.mir_top.specs.declared.command.Command.TheVariants.{Optimise, Move, Run, Trial}
 
 -- the bytes of each word of the command line
 abbrev pub word_bytes : List (String Global) → List (List ℕ)
@@ -41,13 +41,28 @@ run_of [] = None
 run_of (steps ∷ inputs) =
     if list_all is_input inputs then option_map (λ count. Run count) (step_count steps) else None
 
+-- `trial NUMBER UNITS`, by the two numbers: there are from 1 to 256 units
+abbrev pub trial_with : Option ℕ → Option ℕ → Option Command
+trial_with None units = None
+trial_with (Some number) None = None
+trial_with (Some number) (Some units) =
+    if nat_le 1 units && nat_le units most_units then Some (Trial number units) else None
+
+-- `trial NUMBER UNITS`, by the words after `trial`: each is one or more decimal digits, of a number below 2^64
+abbrev pub trial_of : List (List ℕ) → Option Command
+trial_of [] = None
+trial_of (number ∷ []) = None
+trial_of (number ∷ units ∷ []) = trial_with (unsigned_number number) (unsigned_number units)
+trial_of (number ∷ units ∷ other ∷ others) = None
+
 -- the command that these words are
 abbrev pub command_of : List (List ℕ) → Option Command
 command_of [] = None
 command_of (word ∷ arguments) =
     if is_word word (codes "optimise") then alone_of Optimise arguments else
     if is_word word (codes "move") then alone_of Move arguments else
-    if is_word word (codes "run") then run_of arguments else None
+    if is_word word (codes "run") then run_of arguments else
+    if is_word word (codes "trial") then trial_of arguments else None
 
 -- the words are those of a command
 abbrev pub Asks : List (List ℕ) → Type 0
@@ -58,6 +73,7 @@ abbrev pub reads_text : Command → Bool
 reads_text Optimise = true
 reads_text Move = true
 reads_text (Run steps) = true
+reads_text (Trial number units) = false
 
 -- the words are those of a command that reads the text
 abbrev pub Reads : List (List ℕ) → Type 0

@@ -1,17 +1,19 @@
 -- What is due for the words and a text: a refusal with its status and line, or an output with its status. Cited by
 -- contracts.
 use Rattle.std.specs.Prelude.{ℕ, ◌≡◌, ◌≢◌, ◌<◌, ◌≤◌, List, length, Some, None}
-use Rattle.mir_base.specs.Limits.{most_bytes, most_frames}
+use Rattle.mir_base.specs.Limits.{most_bytes, most_frames, most_units}
 use Rattle.mir_base.specs.Shapes.{ProgramShape}
 use Rattle.mir_base.specs.Runs.{run, inputs_of}
 use Rattle.mir_interp.specs.declared.report.Finish.{Finish}
 use Rattle.mir_interp.specs.declared.report.Finish.TheVariants.{Running, Ended, Trapped}
 use Rattle.mir_parse.specs.declared.faults.TextFault.{TextFault}
 use Rattle.mir_parse.specs.Spells.{IsTextRefusal}
+use Rattle.mir_sim.specs.Calls.{CallsHigher}
+use Rattle.mir_trial.specs.Trial.{trial_program}
 use Rattle.mir_valid.specs.declared.faults.ValidFault.{ValidFault}
 use Rattle.mir_valid.specs.Texts.{IsTextOf}
 use Rattle.mir_top.specs.declared.command.Command.{Command}
-use Rattle.mir_top.specs.declared.command.Command.TheVariants.{Optimise, Move, Run}
+use Rattle.mir_top.specs.declared.command.Command.TheVariants.{Optimise, Move, Run, Trial}
 use Rattle.mir_top.specs.Commands.{command_of, inputs_in, Reads}
 use Rattle.mir_top.specs.Complaints.{Complaint, usage, wrong_inputs, too_long, deep, of_text, of_program}
 use Rattle.mir_top.specs.Outputs.{Runs, reported}
@@ -22,11 +24,26 @@ pub record IsShortTextOf (text : List ℕ) (program : ProgramShape) : Type 0 whe
   pub short : length text ≤ most_bytes
   pub parsed : IsTextOf text program
 
--- the program that a command works on: for each command that reads the text, the program of the text
+-- the program that a command works on: that of the text, and for `trial` the one that its numbers draw
 abbrev pub WorksOn : Command → List ℕ → ProgramShape → Type 0
 WorksOn Optimise text program = IsShortTextOf text program
 WorksOn Move text program = IsShortTextOf text program
 WorksOn (Run steps) text program = IsShortTextOf text program
+WorksOn (Trial number units) text program = program ≡ trial_program number units
+
+-- the program takes the inputs of a trial, and no run of it has too many frames: each unit calls units
+-- of higher numbers alone, and there are at most 256
+pub record CanBeTried (program : ProgramShape) : Type 0 where
+  pub inputs : inputs_of program ≡ 2
+  pub higher : CallsHigher program
+  pub few : length program.units ≤ most_units
+
+-- what a command needs of the program that it works on
+abbrev pub Needs : Command → ProgramShape → Type 0
+Needs Optimise program = Unit {0}
+Needs Move program = Unit {0}
+Needs (Run steps) program = Unit {0}
+Needs (Trial number units) program = CanBeTried program
 
 -- why a text is of no program: it is too long, it spells no raw program, or one that is not valid
 pub data IsRefused (text : List ℕ) : Complaint → Type 0 where
@@ -64,3 +81,5 @@ pub data Completes (words : List (List ℕ)) (text : List ℕ) : ℕ → Type 0 
   of_run : (steps : ℕ) (program : ProgramShape) → command_of words ≡ Some (Run steps)
       → WorksOn (Run steps) text program → Runs program (inputs_in words) steps
       → Completes words text (status_of_finish (reported program (inputs_in words) steps).finish)
+  of_trial : (number units : ℕ) → command_of words ≡ Some (Trial number units)
+      → Completes words text 0

@@ -1,11 +1,11 @@
 -- What each command makes of the program that it works on. Cited by contracts.
-use Rattle.std.specs.Prelude.{ℕ, ℤ, ◌≡◌, ◌≢◌, ◌<◌, ◌≤◌, List, All, length, ◌++◌, codes, decimal, flat_map}
+use Rattle.std.specs.Prelude.{ℕ, ℤ, pos, ◌≡◌, ◌≢◌, ◌<◌, ◌≤◌, List, [], ◌∷◌, All, length, sum_by, ◌++◌, codes, decimal, flat_map}
 use Rattle.std.specs.declared.alloc.AllocError.{AllocError}
 use Rattle.std.specs.Fmt.{signed_decimal}
 use Rattle.mir_base.specs.declared.operators.Trap.TheVariants.{ZeroDivisor}
-use Rattle.mir_base.specs.Limits.{most_frames}
+use Rattle.mir_base.specs.Limits.{most_frames, most_steps}
 use Rattle.mir_base.specs.Shapes.{ProgramShape}
-use Rattle.mir_base.specs.Runs.{Same, Cheaper, run, inputs_of}
+use Rattle.mir_base.specs.Runs.{State, Same, Cheaper, run, inputs_of}
 use Rattle.mir_base.specs.Text.{canonical_text}
 use Rattle.mir_interp.specs.declared.report.Finish.{Finish}
 use Rattle.mir_interp.specs.declared.report.Finish.TheVariants.{Running, Ended, Trapped}
@@ -15,15 +15,14 @@ use Rattle.mir_interp.specs.declared.report.RunFault.TheVariants.{WrongInputs, D
 use Rattle.mir_interp.specs.Reports.{report_of}
 use Rattle.mir_opt.specs.declared.trails.Trail.{Trail}
 use Rattle.mir_opt.specs.declared.trails.MoveTrail.{MoveTrail}
-use Rattle.mir_opt.specs.declared.trails.UnitTrail.{UnitTrail}
 use Rattle.mir_opt.specs.Links.{IsLinked, IsMoveLinked, IsOnlyMoveTrail, IsOnlyTrail}
-use Rattle.mir_opt.specs.Best.{MovesBest}
+use Rattle.mir_opt.specs.Best.{MotionIsBest, MovesBest}
 use Rattle.mir_sim.specs.Pairs.{AllUnitsSame}
 use Rattle.mir_top.specs.declared.command.Command.{Command}
-use Rattle.mir_top.specs.declared.command.Command.TheVariants.{Optimise, Move, Run}
+use Rattle.mir_top.specs.declared.command.Command.TheVariants.{Optimise, Move, Run, Trial}
 use Rattle.mir_top.specs.declared.making.Made.{Made}
 use Rattle.mir_top.specs.declared.outcome.Outcome.{Outcome}
-use Rattle.mir_top.specs.declared.outcome.Outcome.TheVariants.{Optimised, Moved, Ran}
+use Rattle.mir_top.specs.declared.outcome.Outcome.TheVariants.{Optimised, Moved, Ran, Compared}
 
 -- ---- trails
 
@@ -31,23 +30,24 @@ use Rattle.mir_top.specs.declared.outcome.Outcome.TheVariants.{Optimised, Moved,
 -- other parts are; the target does what the program does, whole and unit by unit; over whole runs
 -- that end it evaluates no more operators; and the code motion of each unit is the best
 pub record Improves
-    (Linked Only : Type 0) (parts : List UnitTrail) (source target : ProgramShape) : Type 0 where
+    (Linked Only Best : Type 0) (source target : ProgramShape) : Type 0 where
   pub linked : Linked
   pub only : Only
   pub same : Same source target
   pub units : AllUnitsSame source target
   pub cheaper : Cheaper source target
-  pub best : All MovesBest parts
+  pub best : Best
 
 -- the trail of all passes has an improved target
 abbrev pub Optimises : Trail → Type 0
 Optimises trail =
-    Improves (IsLinked trail) (IsOnlyTrail trail.source trail) trail.units trail.source trail.target
+    Improves (IsLinked trail) (IsOnlyTrail trail.source trail) (All MovesBest trail.units)
+    trail.source trail.target
 
 -- and so has the trail of code motion alone
 abbrev pub MovesCode : MoveTrail → Type 0
 MovesCode trail =
-    Improves (IsMoveLinked trail) (IsOnlyMoveTrail trail.source trail) trail.units
+    Improves (IsMoveLinked trail) (IsOnlyMoveTrail trail.source trail) (All MotionIsBest trail.units)
     trail.source trail.target
 
 -- ---- reports
@@ -77,6 +77,46 @@ pub record Runs (program : ProgramShape) (inputs : List ℤ) (steps : ℕ) : Typ
   pub enough : length inputs ≡ inputs_of program
   pub shallow : (run program inputs steps).depth ≤ most_frames
 
+-- ---- trials
+
+-- the inputs of the runs of a trial
+abbrev pub trial_inputs : List ℤ
+trial_inputs = pos 3 ∷ pos 5 ∷ []
+
+-- the run of a program in a trial: with these inputs, and as many steps as a run may be asked for
+unfoldable pub trial_run : ProgramShape → State
+trial_run program = run program trial_inputs most_steps
+
+-- the lengths of all bodies, added up
+abbrev pub instructions_in : ProgramShape → ℕ
+instructions_in program = sum_by (λ unit. length unit.body) program.units
+
+-- a number behind a text, on a line of its own
+abbrev pub count_line : List ℕ → ℕ → List ℕ
+count_line what count = what ++ decimal count ++ codes "\n"
+
+-- the instructions of both programs, the evaluations of both runs, and how many numbers the run of the source printed
+abbrev pub summary_text : ProgramShape → ProgramShape → Report → Report → List ℕ
+summary_text source target before after =
+    count_line (codes "source instructions ") (instructions_in source)
+    ++ count_line (codes "result instructions ") (instructions_in target)
+    ++ count_line (codes "source evals ") before.evals
+    ++ count_line (codes "result evals ") after.evals
+    ++ count_line (codes "printed ") (length before.lines)
+
+-- the summary of a trail, with the trial's runs of its source and of its target
+abbrev pub trail_summary : Trail → List ℕ
+trail_summary trail =
+    summary_text trail.source trail.target
+    (report_of (trial_run trail.source)) (report_of (trial_run trail.target))
+
+-- the output is the summary of the trail of the program
+pub record IsSummary (program : ProgramShape) (output : List ℕ) : Type 0 where
+  pub trail : Trail
+  pub source : trail.source ≡ program
+  pub optimises : Optimises trail
+  pub output_is : output ≡ trail_summary trail
+
 -- ---- by command
 
 -- the command, with these inputs, makes this of the program, with this output
@@ -89,6 +129,8 @@ pub data Makes (inputs : List ℤ) (program : ProgramShape)
   ran : (steps : ℕ) → Runs program inputs steps
       → (report : Report) → report ≡ reported program inputs steps
       → Makes inputs program (Run steps) (Ran report.finish) (report_text report)
+  compared : (number units : ℕ) (output : List ℕ) → IsSummary program output
+      → Makes inputs program (Trial number units) Compared output
 
 -- the same of the outcome and the output together
 abbrev pub IsMadeBy : List ℤ → ProgramShape → Command → Made → Type 0

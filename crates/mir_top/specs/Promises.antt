@@ -7,14 +7,15 @@ use Rattle.mir_base.specs.Text.{canonical_text}
 use Rattle.mir_opt.specs.declared.trails.Trail.{Trail}
 use Rattle.mir_opt.specs.declared.trails.MoveTrail.{MoveTrail}
 use Rattle.mir_outside.specs.Transfer.{TakesAtMost}
+use Rattle.mir_trial.specs.Trial.{trial_program}
 use Rattle.mir_top.specs.declared.command.Command.{Command}
-use Rattle.mir_top.specs.declared.command.Command.TheVariants.{Optimise, Move, Run}
+use Rattle.mir_top.specs.declared.command.Command.TheVariants.{Optimise, Move, Run, Trial}
 use Rattle.mir_top.specs.declared.outcome.Outcome.{Outcome}
 use Rattle.mir_top.specs.Calls.{Call, answer_of, MakesOutput, IsDone, IsCutShort}
 use Rattle.mir_top.specs.Commands.{command_of, inputs_in, Asks, Reads}
 use Rattle.mir_top.specs.Complaints.{Complaint, read_fault, write_fault, out_of_memory}
 use Rattle.mir_top.specs.Due.{IsShortTextOf, Refuses, Completes, status_of_finish}
-use Rattle.mir_top.specs.Outputs.{Optimises, MovesCode, Runs, reported, report_text, IsOnlyOutput}
+use Rattle.mir_top.specs.Outputs.{Optimises, MovesCode, Runs, reported, report_text, trail_summary, IsOnlyOutput}
 use Rattle.mir_top.specs.Streams.{Stream, Untouched, HasFailed, Took, TookAll, Gave, Tried}
 
 -- ---- what was read
@@ -78,6 +79,13 @@ pub record HasRun (call : Call) (steps : ℕ) : Type 0 where
       ≡ status_of_finish (reported program (inputs_in call.words) steps).finish
   pub written : Gave call.out (report_text (reported program (inputs_in call.words) steps))
 
+-- the summary of the trail of this program was written, whole and nothing else
+pub record HasTried (call : Call) (program : ProgramShape) : Type 0 where
+  pub trail : Trail
+  pub source : trail.source ≡ program
+  pub improves : Optimises trail
+  pub written : Gave call.out (trail_summary trail)
+
 -- ---- what was refused
 
 -- the line of the complaint was written, whole unless the error output failed
@@ -128,6 +136,12 @@ pub record Promises (call : Call) : Type 0 where
   pub reports : (steps : ℕ) → Asked call (Run steps) → StatusIn call (0 ∷ 3 ∷ 4 ∷ [])
       → HasRun call steps
   pub of_run : StatusIn call (3 ∷ 4 ∷ []) → (steps : ℕ) × Asked call (Run steps)
+  -- Under `trial` status 0 says that the program of its numbers was tried; else the output failed or memory ran out. So
+  -- no run of a trial is ever too deep.
+  pub tries : (number units : ℕ) → Asked call (Trial number units) → StatusIs call 0
+      → HasTried call (trial_program number units)
+  pub of_trial : (number units : ℕ) → Asked call (Trial number units)
+      → StatusIn call (0 ∷ 7 ∷ 8 ∷ [])
   -- Status 1, 2 and 5 come only where the words, the text, the inputs or the run are refused, with the line of this
   -- refusal. Where a refusal is due it comes, unless reading fails or memory runs out; wrong words need neither a read
   -- nor memory.

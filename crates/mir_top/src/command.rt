@@ -2,9 +2,9 @@
 ghost use Rattle.std.specs.Prelude.{◌≡◌, map, IfOk};
 ghost use Rattle.std.specs.List.{list_all};
 ghost use Rattle.mir_base.specs.Limits.{most_steps};
-ghost use Rattle.mir_top.specs.Commands.{command_of, alone_of, run_of, at_most, step_count, is_input, is_word, input_value, inputs_in, word_bytes};
+ghost use Rattle.mir_top.specs.Commands.{command_of, alone_of, run_of, trial_of, trial_with, at_most, step_count, is_input, is_word, input_value, inputs_in, word_bytes};
 
-use mir_base::{MOST_STEPS, Memory};
+use mir_base::{MOST_STEPS, MOST_UNITS, Memory};
 use mir_lex::{number, unsigned};
 use std::alloc::Global;
 
@@ -17,6 +17,9 @@ pub enum Command {
     Move,
     /// `run STEPS [N ..]`: the report of the run of the program, with the inputs N, after so many steps or at its end.
     Run(u64),
+    /// `trial NUMBER UNITS`: what the runs show of the program that NUMBER draws, with so many units, and of the target
+    /// of its passes. It reads no text.
+    Trial(u64, usize),
 }
 
 impl Command {
@@ -33,6 +36,8 @@ impl Command {
                     alone(Command::Move, arguments)
                 } else if is_word(word.as_bytes(), b"run") {
                     run(arguments)
+                } else if is_word(word.as_bytes(), b"trial") {
+                    trial(arguments)
                 } else {
                     None
                 }
@@ -86,6 +91,37 @@ fn run(arguments: &[String]) -> Option<Command>
                 None
             }
         }
+    }
+}
+
+/// The trial that the words after `trial` ask for.
+fn trial(arguments: &[String]) -> Option<Command>
+    ensures { result ≡ trial_of (word_bytes arguments.now) }
+{
+    match arguments {
+        [] => None,
+        [_] => None,
+        [number, units] => trial_with(unsigned(number.as_bytes()), unsigned(units.as_bytes())),
+        [_, _, _, ..] => None,
+    }
+}
+
+/// The trial with these numbers, where there are from 1 to `MOST_UNITS` units.
+fn trial_with(number: Option<u64>, units: Option<u64>) -> Option<Command>
+    ensures { result ≡ trial_with number units }
+{
+    match number {
+        None => None,
+        Some(number) => match units {
+            None => None,
+            Some(units) => {
+                if 1 <= units && units <= MOST_UNITS as u64 {
+                    Some(Command::Trial(number, units as usize))
+                } else {
+                    None
+                }
+            }
+        },
     }
 }
 

@@ -30,7 +30,7 @@ $ move
 main: begin
 return 0
 end
-# a straight body
+# a straight body, of which all is known
 main: begin
 x <- 007
 y <- x - -2
@@ -41,6 +41,12 @@ end
 $ optimise
 @ 0
 main: begin
+print 9
+return 0
+end
+$ move
+@ 0
+main: begin
 x <- 7
 y <- x - -2
 print y
@@ -48,6 +54,7 @@ return 0
 end
 # variables that occur no more
 f: begin
+receive a(val)
 x <- a + -9223372036854775808
 return x
 z <- b
@@ -55,8 +62,90 @@ end
 $ optimise
 @ 0
 f: begin
+receive a(val)
 x <- a + -9223372036854775808
 return x
+end
+# identities: a product with 0, and a division by 0 that stays
+main: begin
+receive a(val)
+c <- 3
+x <- a * 0
+y <- x + c
+z <- y / x
+return z
+end
+$ optimise
+@ 0
+main: begin
+receive a(val)
+z <- 3 / 0
+return z
+end
+# a constant test
+main: begin
+x <- 0
+if x goto L1
+print 7
+return 1
+L1: y <- 1 / 0
+return y
+end
+$ optimise
+@ 0
+main: begin
+print 7
+return 1
+end
+# the least number by -1 has a quotient and a rest
+main: begin
+m <- -9223372036854775808
+n <- 0 - 1
+q <- m / n
+print q
+r <- m mod n
+return r
+end
+$ optimise
+@ 0
+main: begin
+print -9223372036854775808
+return 0
+end
+$ | run 9
+@ 0
+-9223372036854775808
+result 0
+evals 0
+# where ways meet: an equal constant, a different one, and what a call answers
+main: begin
+receive a(val)
+d <- 0
+if d goto L2
+x <- 4
+if a goto L1
+x <- 2 * 2
+y <- 1
+L1: z <- x + y
+w <- a + d
+v <- main,(0,int)
+print v
+print z
+return w
+L2: q <- a / d
+return q
+end
+$ optimise
+@ 0
+main: begin
+receive a(val)
+if a goto L1
+y <- 1
+L1: v <- main,(0,int)
+print v
+z <- 4 + y
+print z
+return a
 end
 # labels and comments
 || one
@@ -233,13 +322,15 @@ main: begin
 goto A
 B: print b
 return a
-A: a <- 1
+A: a <- main,()
+b <- main,()
 goto B
 end
 $ optimise
 @ 0
 main: begin
-a <- 1
+a <- main,()
+b <- main,()
 print b
 return a
 end
@@ -276,14 +367,12 @@ i <- 1
 h1 <- n * 8
 L1: if i > n goto L2
 t <- square,(i,int)
-k <- h1
 s <- s + t
-s <- s + k
+s <- s + h1
 i <- i + 1
 goto L1
 L2: print s
-m <- h1
-print m
+print h1
 return s
 end
 square: begin
@@ -291,13 +380,105 @@ receive x(val)
 y <- x * x
 return y
 end
+# the same value under another name is computed once, and what only hands it on goes
+main: begin
+receive a(val)
+receive b(val)
+x <- a * b
+y <- a
+z <- y * b
+return z
+end
+$ optimise
+@ 0
+main: begin
+receive a(val)
+receive b(val)
+x <- a * b
+return x
+end
+# squares of squares: terms that double with each line
+main: begin
+receive x(val)
+y <- x
+x <- x * x
+y <- y * y
+x <- x * x
+y <- y * y
+return y
+end
+$ optimise
+@ 0
+main: begin
+receive x(val)
+x <- x * x
+x <- x * x
+return x
+end
+# what one way alone needs is evaluated on it alone
+main: begin
+receive a(val)
+receive b(val)
+x <- a + b
+if a goto L1
+return b
+L1: return x
+end
+$ optimise
+@ 0
+main: begin
+receive a(val)
+receive b(val)
+if a goto L1
+return b
+L1: x <- a + b
+return x
+end
+# an expression of its own variable stays
+main: begin
+receive i(val)
+i <- i + 1
+i <- i + 1
+return i
+end
+$ optimise
+@ same
+# a diamond, one side of which evaluates what comes after it
+main: begin
+receive a(val)
+receive b(val)
+if a goto L1
+print a
+goto L2
+L1: x <- a + b
+print x
+L2: y <- a + b
+print y
+return y
+end
+$ optimise
+@ 0
+main: begin
+receive a(val)
+receive b(val)
+if a goto L2
+print a
+h1 <- a + b
+L1: print h1
+return h1
+L2: h1 <- a + b
+print h1
+goto L1
+end
 # a name of sixty-four bytes
 main: begin
+receive nnnnnnnnnnnnnnnnnnnnnnnnnnnnnnnnnnnnnnnnnnnnnnnnnnnnnnnnnnnnnnnn(val)
 print nnnnnnnnnnnnnnnnnnnnnnnnnnnnnnnnnnnnnnnnnnnnnnnnnnnnnnnnnnnnnnnn
 end
 $ optimise
 @ 0
 main: begin
+receive nnnnnnnnnnnnnnnnnnnnnnnnnnnnnnnnnnnnnnnnnnnnnnnnnnnnnnnnnnnnnnnn(val)
 print nnnnnnnnnnnnnnnnnnnnnnnnnnnnnnnnnnnnnnnnnnnnnnnnnnnnnnnnnnnnnnnn
 return 0
 end

@@ -29,6 +29,7 @@ mod report_text;
 mod run_examples;
 #[cfg(test)]
 mod tests;
+mod trial;
 mod work;
 
 pub use answer::Answer;

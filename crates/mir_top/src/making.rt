@@ -2,10 +2,13 @@
 ghost use Rattle.std.specs.Prelude.{◌≡◌, IfOk, IfErr};
 ghost use Rattle.mir_base.specs.Text.{canonical_text};
 ghost use Rattle.mir_top.specs.Commands.{inputs_in, word_bytes};
+ghost use Rattle.mir_opt.specs.Stages.{KeepsProgram};
+ghost use Rattle.mir_top.specs.Due.{Needs};
 ghost use Rattle.mir_top.specs.Outputs.{CannotMake, IsMadeBy, MovesCode, Optimises};
 
 use crate::command::inputs;
 use crate::report_text::text_of_report;
+use crate::trial::trial;
 use crate::{Command, Outcome};
 use mir_base::{Memory, Program};
 use mir_interp::{RunFault, run};
@@ -29,6 +32,7 @@ pub fn make(
     words: &[String],
     program: &Program,
 ) -> Result<Made, RunFault>
+    requires { Needs command program.now }
     ensures made { IfOk result (IsMadeBy (inputs_in (word_bytes words.now)) program.now command) }
     ensures stopped { IfErr result
         (CannotMake (inputs_in (word_bytes words.now)) program.now command) }
@@ -52,6 +56,13 @@ pub fn make(
             Ok(inputs) => ran(alloc, program, &inputs, steps),
             Err(refusal) => Err(RunFault::Memory(refusal)),
         },
+        Command::Trial(_, _) => match trial(alloc, program) {
+            Ok(output) => Ok(Made {
+                outcome: Outcome::Compared,
+                output,
+            }),
+            Err(refusal) => Err(RunFault::Memory(refusal)),
+        },
     }
 }
 
@@ -61,9 +72,19 @@ fn optimised(alloc: Global, program: &Program) -> Result<(Trail, Vec<u8>), Memor
     ensures optimises { IfOk result (λ made. Optimises made.0) }
     ensures output { IfOk result (λ made. made.1.items ≡ canonical_text made.0.target) }
 {
-    let trail = optimise(alloc, program)?;
+    let trail = trail_of(alloc, program)?;
     let output = print(alloc, &trail.target)?;
     Ok((trail, output))
+}
+
+/// What the passes make of the program.
+pub fn trail_of(alloc: Global, program: &Program) -> Result<Trail, Memory>
+    ensures source { IfOk result (λ trail. trail.source ≡ program.now) }
+    ensures optimises { IfOk result Optimises }
+    ensures keeps { IfOk result (λ trail. KeepsProgram program.now trail.target) }
+{
+    let trail = optimise(alloc, program)?;
+    Ok(trail)
 }
 
 /// What code motion alone makes of the program, and the text of its target.

@@ -16,6 +16,8 @@ pub enum Outcome {
     Moved(MoveTrail),
     /// The report of its run, which stands like this.
     Ran(Finish),
+    /// How its trial compares it with its target.
+    Compared,
 }
 
 impl Outcome {
@@ -36,6 +38,11 @@ impl Outcome {
             },
             Outcome::Ran(finish) => Answer {
                 status: status_of_finish(finish),
+                trail: None,
+                moved: None,
+            },
+            Outcome::Compared => Answer {
+                status: 0,
                 trail: None,
                 moved: None,
             },

@@ -200,4 +200,14 @@ run +5
 run 5 x
 run 5 9223372036854775808
 run 5 --1
-run 5 +1";
+run 5 +1
+Trial 7 3
+trial
+trial 7
+trial 7 0
+trial 7 257
+trial 7 -1
+trial x 3
+trial -1 3
+trial 18446744073709551616 3
+trial 7 3 3";

@@ -235,6 +235,26 @@ fn a_thousand_diamonds(rt: HostRuntime) -> Result<(), Fail> {
     Ok(())
 }
 
+/// A trial from a source that fails at each read: it reads nothing. A write that fails cuts its output.
+#[test]
+fn trials(rt: HostRuntime) -> Result<(), Fail> {
+    let alloc = rt.alloc();
+    for (failing_write, status, line) in [(0, 0, ""), (3, 7, "write fault\n")] {
+        let on = Devices {
+            read_piece: 1,
+            failing_read: 1,
+            write_piece: 8,
+            failing_write,
+            failing_line: 0,
+        };
+        let seen = call(alloc, "trial 0018446744073709551615 2", SMALLEST, on)?;
+        assert_eq!(rt; seen.status, status);
+        assert!(rt; seen.err.written() == line.as_bytes());
+        assert!(rt; seen.out.written().starts_with(b"source instructi"));
+    }
+    Ok(())
+}
+
 /// Faults of the source, the output and the error output.
 #[test]
 fn devices_that_fail(rt: HostRuntime) -> Result<(), Fail> {

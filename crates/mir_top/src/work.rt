@@ -1,20 +1,23 @@
 // From the words and the source to the output.
-ghost use Rattle.std.specs.Prelude.{◌+◌, IfOk, IfErr};
+ghost use Rattle.std.specs.Prelude.{◌≡◌, ◌+◌, IfOk, IfErr, IsTrue, Some};
 ghost use Rattle.mir_base.specs.Limits.{most_bytes};
 ghost use Rattle.mir_outside.specs.Transfer.{TakesAtMost};
-ghost use Rattle.mir_top.specs.Calls.{MakesOutput, Prevents};
-ghost use Rattle.mir_top.specs.Commands.{word_bytes, Reads};
+ghost use Rattle.mir_top.specs.Calls.{IsSubject, MakesOutput, Prevents};
+ghost use Rattle.mir_top.specs.Commands.{command_of, reads_text, word_bytes, Reads};
+ghost use Rattle.mir_top.specs.Due.{Needs};
 ghost use Rattle.mir_top.specs.Streams.{stream_of, Untouched};
 
 use crate::making::{Made, make};
 use crate::{Cause, Command};
-use mir_base::MOST_BYTES;
+use mir_base::{MOST_BYTES, Program};
+use mir_interp::RunFault;
 use mir_outside::{Source, read_all};
 use mir_parse::read_text;
+use mir_trial::trial_program;
 use mir_valid::check;
 use std::alloc::Global;
 
-/// Reads the text and makes the output, or answers why there is none. It is given no sink, so nothing is written yet.
+/// Makes the output that the words ask, or answers why there is none. It is given no sink, so nothing is written yet.
 pub fn prepare<S: Source>(alloc: Global, words: &[String], source: &mut S) -> Result<Made, Cause>
     ensures most { TakesAtMost (S.left source.old) (S.left source.new) (most_bytes + 1) }
     ensures unread { ¬ Reads (word_bytes words.now) →
@@ -27,6 +30,63 @@ pub fn prepare<S: Source>(alloc: Global, words: &[String], source: &mut S) -> Re
     let Some(command) = Command::of(words) else {
         return Err(Cause::Usage);
     };
+    let program = match subject(alloc, command, words, source) {
+        Ok(program) => program,
+        Err(cause) => return Err(cause),
+    };
+    match make(alloc, command, words, &program) {
+        Ok(made) => Ok(made),
+        Err(fault) => Err(Cause::Making(fault)),
+    }
+}
+
+/// The program that the command of these words works on: that of the text, and for a trial the one that its numbers
+/// draw.
+fn subject<S: Source>(
+    alloc: Global,
+    command: Command,
+    words: &[String],
+    source: &mut S,
+) -> Result<Program, Cause>
+    requires { command_of (word_bytes words.now) ≡ Some command }
+    ensures most { TakesAtMost (S.left source.old) (S.left source.new) (most_bytes + 1) }
+    ensures unread { ¬ Reads (word_bytes words.now) →
+        Untouched (stream_of S.left S.faults source.old source.new) }
+    ensures subject { IfOk result (IsSubject (word_bytes words.now)
+        (stream_of S.left S.faults source.old source.new) command) }
+    ensures needs { IfOk result (Needs command) }
+    ensures prevented { IfErr result (Prevents (word_bytes words.now)
+        (stream_of S.left S.faults source.old source.new)) }
+{
+    match command {
+        Command::Optimise => program_of_text(alloc, command, words, source),
+        Command::Move => program_of_text(alloc, command, words, source),
+        Command::Run(_) => program_of_text(alloc, command, words, source),
+        Command::Trial(number, units) => match trial_program(alloc, number, units) {
+            Ok(program) => Ok(program),
+            Err(refusal) => Err(Cause::Making(RunFault::Memory(refusal))),
+        },
+    }
+}
+
+/// The program of the text that the source gives. The command of these words is one that reads the text.
+fn program_of_text<S: Source>(
+    alloc: Global,
+    command: Command,
+    words: &[String],
+    source: &mut S,
+) -> Result<Program, Cause>
+    requires asked { command_of (word_bytes words.now) ≡ Some command }
+    requires reads { IsTrue (reads_text command) }
+    ensures most { TakesAtMost (S.left source.old) (S.left source.new) (most_bytes + 1) }
+    ensures unread { ¬ Reads (word_bytes words.now) →
+        Untouched (stream_of S.left S.faults source.old source.new) }
+    ensures subject { IfOk result (IsSubject (word_bytes words.now)
+        (stream_of S.left S.faults source.old source.new) command) }
+    ensures needs { IfOk result (Needs command) }
+    ensures prevented { IfErr result (Prevents (word_bytes words.now)
+        (stream_of S.left S.faults source.old source.new)) }
+{
     let text = match read_all(alloc, source, MOST_BYTES) {
         Ok(text) => text,
         Err(fault) => return Err(Cause::Reading(fault)),
@@ -35,12 +95,8 @@ pub fn prepare<S: Source>(alloc: Global, words: &[String], source: &mut S) -> Re
         Ok(raw) => raw,
         Err(fault) => return Err(Cause::Text(fault)),
     };
-    let program = match check(alloc, &raw) {
-        Ok(program) => program,
-        Err(fault) => return Err(Cause::Program(fault)),
-    };
-    match make(alloc, command, words, &program) {
-        Ok(made) => Ok(made),
-        Err(fault) => Err(Cause::Making(fault)),
+    match check(alloc, &raw) {
+        Ok(program) => Ok(program),
+        Err(fault) => Err(Cause::Program(fault)),
     }
 }

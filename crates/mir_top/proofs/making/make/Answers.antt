@@ -1,8 +1,9 @@
+use Rattle.std.proofs.Common.{refl}
 use Rattle.mir_base.specs.Text.{canonical_text}
-use Rattle.mir_top.specs.declared.command.Command.TheVariants.{Optimise, Move}
-use Rattle.mir_top.specs.declared.outcome.Outcome.TheVariants.{Optimised, Moved}
+use Rattle.mir_top.specs.declared.command.Command.TheVariants.{Optimise, Move, Trial}
+use Rattle.mir_top.specs.declared.outcome.Outcome.TheVariants.{Optimised, Moved, Compared}
 use Rattle.mir_top.specs.Commands.{inputs_in, word_bytes}
-use Rattle.mir_top.specs.Outputs.{optimised, moved, no_memory}
+use Rattle.mir_top.specs.Outputs.{optimised, moved, compared, no_memory}
 use Rattle.mir_top.proofs.MadeLaws.{makes_with}
 use Rattle.mir_top.proofs.making.make.Goals as goal
 
@@ -26,3 +27,13 @@ returns-in-Err-moved-clause-stopped c = no_memory c.args.command c.in-Err-moved.
 
 pub returns-in-Err-inputs-clause-stopped : goal.returns-in-Err-inputs-clause-stopped
 returns-in-Err-inputs-clause-stopped c = no_memory c.args.command c.in-Err-inputs.refusal
+
+pub returns-in-Ok-trial-clause-made : goal.returns-in-Ok-trial-clause-made
+returns-in-Ok-trial-clause-made c =
+    let number = c.in-Trial.field-0 in
+    let units = c.in-Trial.field-1 in
+    let output = c.in-Ok-trial.output.items in
+    makes_with (inputs_in (word_bytes c.args.words.now)) c.args.program.now c.args.command (Trial number units) Compared output output c.in-Trial.is refl (compared number units output c.in-Ok-trial.ensures)
+
+pub returns-in-Err-trial-clause-stopped : goal.returns-in-Err-trial-clause-stopped
+returns-in-Err-trial-clause-stopped c = no_memory c.args.command c.in-Err-trial.refusal

@@ -1,0 +1,116 @@
+-- What the command of the words works on: the program of the text, or the one that the numbers of a trial draw.
+use Rattle.std.proofs.Common.{◌≡◌, ◌<◌, ◌≤◌, ℕ, List, [], ◌∷◌, Option, None, Some, Bool, true, false, ◌&&◌, if◌then◌else◌, nat_le, IsTrue, refl, sym, ◌∙◌, ap, subst, arith, codes}
+use Rattle.std.proofs.lemmas.Bool.Decides.{nat_tests}
+use Rattle.std.specs.declared.alloc.AllocError.{AllocError}
+use Rattle.std.specs.List.{list_all}
+use Rattle.std.specs.Option.{option_map}
+use Rattle.mir_base.specs.Limits.{most_units}
+use Rattle.mir_base.specs.Shapes.{ProgramShape}
+use Rattle.mir_interp.specs.declared.report.RunFault.TheVariants.{Memory}
+use Rattle.mir_lex.specs.Numbers.{unsigned_number}
+use Rattle.mir_trial.specs.Trial.{trial_program}
+use Rattle.mir_top.specs.declared.cause.Cause.TheVariants.{Making}
+use Rattle.mir_top.specs.declared.command.Command.{Command}
+use Rattle.mir_top.specs.declared.command.Command.TheVariants.{Optimise, Move, Run, Trial}
+use Rattle.mir_top.specs.Calls.{IsSubject, Prevents}
+use Rattle.mir_top.specs.Commands.{alone_of, command_of, is_input, is_word, reads_text, run_of, step_count, trial_of, trial_with}
+use Rattle.mir_top.specs.Due.{IsShortTextOf, Needs, WorksOn}
+use Rattle.mir_top.specs.Outputs.{no_memory}
+use Rattle.mir_top.specs.Streams.{Stream, TookAll}
+use Rattle.mir_top.proofs.Judgements.{trial_reads, works_on}
+
+-- ---- a text
+
+-- a command that reads the text works on the program of the text that was read
+pub read_subject : (words : List (List ℕ)) (source : Stream) (command : Command) (text : List ℕ) (program : ProgramShape) → command_of words ≡ Some command → IsTrue (reads_text command) → TookAll source text → IsShortTextOf text program → IsSubject words source command program
+read_subject words source command text program asked reads read within = (text, record { asked = asked; read = λ _. read; subject = works_on command text program reads within })
+
+-- and it needs nothing of the program
+pub read_needs : (command : Command) (program : ProgramShape) → IsTrue (reads_text command) → Needs command program
+read_needs Optimise program reads = tt
+read_needs Move program reads = tt
+read_needs (Run steps) program reads = tt
+read_needs (Trial number units) program reads = absurd (cc)
+
+-- ---- a trial
+
+-- the command of these words is that of these numbers
+trial_asked : (words : List (List ℕ)) (command : Command) (number units : ℕ) → command_of words ≡ Some command → command ≡ Trial number units → command_of words ≡ Some (Trial number units)
+trial_asked words command number units asked is = asked ∙ ap (λ (c : Command). Some c) is
+
+-- a trial works on the program of its numbers, and nothing was read
+pub drawn_subject : (words : List (List ℕ)) (source : Stream) (command : Command) (number units : ℕ) (program : ProgramShape) → command_of words ≡ Some command → command ≡ Trial number units → program ≡ trial_program number units → IsSubject words source command program
+drawn_subject words source command number units program asked is drawn = (
+  [],
+  record {
+    asked = asked;
+    read = λ reads. absurd (trial_reads words number units (trial_asked words command number units asked is) reads);
+    subject = subst (λ (c : Command). WorksOn c [] program) (sym is) drawn;
+  },
+)
+
+-- where memory runs out, nothing is made of it
+pub drawn_prevents : (words : List (List ℕ)) (source : Stream) (command : Command) (number units : ℕ) (refusal : AllocError) → command_of words ≡ Some command → command ≡ Trial number units → Prevents words source (Making (Memory refusal))
+drawn_prevents words source command number units refusal asked is =
+    let subject = drawn_subject words source command number units (trial_program number units) asked is refl in
+    record { text = subject.0; command = command; program = trial_program number units; worked = subject.1; stopped = no_memory command refusal }
+
+-- ---- the units of a trial
+
+-- there are from 1 to 256
+abbrev pub IsUnitCount : ℕ → Type 0
+IsUnitCount units = (0 < units) × (units ≤ most_units)
+
+-- by the tests of both bounds
+tested : (number count n units : ℕ) (some few : Bool) → nat_le 1 count ≡ some → nat_le count most_units ≡ few → (if some && few then Some (Trial number count) else None) ≡ Some (Trial n units) → IsUnitCount units
+tested number count n units true true least most is =
+    let same : count ≡ units = cc in
+    let above : 0 < count = grind (arith, nat_tests) in
+    let below : count ≤ most_units = grind (arith, nat_tests) in
+    subst IsUnitCount same (above, below)
+tested number count n units true false least most is = absurd (cc)
+tested number count n units false few least most is = absurd (cc)
+
+-- by the two numbers
+with_numbers : (first second : Option ℕ) (n units : ℕ) → trial_with first second ≡ Some (Trial n units) → IsUnitCount units
+with_numbers None second n units is = absurd (cc)
+with_numbers (Some number) None n units is = absurd (cc)
+with_numbers (Some number) (Some count) n units is = tested number count n units (nat_le 1 count) (nat_le count most_units) refl refl is
+
+-- by the words after `trial`
+after_trial : (arguments : List (List ℕ)) (n units : ℕ) → trial_of arguments ≡ Some (Trial n units) → IsUnitCount units
+after_trial [] n units is = absurd (cc)
+after_trial (number ∷ []) n units is = absurd (cc)
+after_trial (number ∷ count ∷ []) n units is = with_numbers (unsigned_number number) (unsigned_number count) n units is
+after_trial (number ∷ count ∷ other ∷ others) n units is = absurd (cc)
+
+-- a command of one word is no trial
+alone_is_none : (command : Command) (arguments : List (List ℕ)) (n units : ℕ) → (command ≡ Trial n units → ⊥) → alone_of command arguments ≡ Some (Trial n units) → ⊥
+alone_is_none command [] n units other is = (let e : command ≡ Trial n units = cc in other e)
+alone_is_none command (argument ∷ arguments) n units other is = cc
+
+-- nor is a run
+run_with : (are : Bool) (count : Option ℕ) (n units : ℕ) → (if are then option_map (λ (k : ℕ). Run k) count else None) ≡ Some (Trial n units) → ⊥
+run_with true None n units is = cc
+run_with true (Some k) n units is = cc
+run_with false count n units is = cc
+
+-- by the words after `run`
+after_run : (arguments : List (List ℕ)) (n units : ℕ) → run_of arguments ≡ Some (Trial n units) → ⊥
+after_run [] n units is = cc
+after_run (steps ∷ inputs) n units is = run_with (list_all is_input inputs) (step_count steps) n units is
+
+-- by which of the commands the first word is
+by_word : (optimise move run trial : Bool) (arguments : List (List ℕ)) (n units : ℕ)
+    → (if optimise then alone_of Optimise arguments else if move then alone_of Move arguments else if run then run_of arguments else if trial then trial_of arguments else None) ≡ Some (Trial n units) → IsUnitCount units
+by_word true move run trial arguments n units is = absurd (alone_is_none Optimise arguments n units (λ e. absurd (cc)) is)
+by_word false true run trial arguments n units is = absurd (alone_is_none Move arguments n units (λ e. absurd (cc)) is)
+by_word false false true trial arguments n units is = absurd (after_run arguments n units is)
+by_word false false false true arguments n units is = after_trial arguments n units is
+by_word false false false false arguments n units is = absurd (cc)
+
+-- the units of a trial that words ask for
+pub units_of_trial : (words : List (List ℕ)) (number units : ℕ) → command_of words ≡ Some (Trial number units) → IsUnitCount units
+units_of_trial [] number units is = absurd (cc)
+units_of_trial (word ∷ arguments) number units is =
+    by_word (is_word word (codes "optimise")) (is_word word (codes "move")) (is_word word (codes "run")) (is_word word (codes "trial")) arguments number units is
