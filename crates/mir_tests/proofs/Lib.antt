@@ -1,2 +1,1 @@
-mod Everywhere
 mod OneBlock

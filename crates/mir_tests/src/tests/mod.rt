@@ -1,19 +1,19 @@
 // One file for each layer.
 mod blocks;
-mod editing;
+mod examples;
 mod flows;
-mod folding;
 mod language;
+mod laws;
 mod lists;
 mod outside;
+mod passes;
 mod paths;
 mod placing;
-mod programs;
-mod raws;
 mod rows;
-mod runs;
-mod shapes;
+mod shown;
+mod stages;
 mod support;
+mod text_examples;
 mod texts;
-mod tokens;
 mod trial;
+mod value_examples;

@@ -1,14 +1,16 @@
 // The three statements about paths at each node of two loops without exit.
 ghost use Rattle.std.specs.Prelude.{◌≡◌, IfOk};
-ghost use Rattle.path_laws.specs.Paths.{HaveShape, width};
+ghost use Rattle.flow_graph.specs.Edges.{edges_of};
+ghost use Rattle.path_laws.specs.Paths.{HaveShape};
 
-use crate::tests::support::{first_bit, graph_at, trail_of};
+use crate::tests::shown::put_first_bit;
+use crate::tests::support::graph_of;
 use bit_rows::Rows;
 use flow_graph::{Edges, Graph};
 use mir_base::Memory;
-use mir_opt::Stage;
 use path_laws::{backward_all, backward_some, forward_all};
 use std::alloc::Global;
+use std::mem;
 use std::test::Fail;
 
 /// A program, the nodes at which a bit is born and stopped, and the nodes at which it holds on every path to them, on
@@ -17,9 +19,7 @@ struct Case {
     text: &'static str,
     born: &'static [usize],
     stop: &'static [usize],
-    before: &'static [usize],
-    after: &'static [usize],
-    ahead: &'static [usize],
+    held: &'static str,
 }
 
 const CASES: [Case; 2] = [
@@ -28,66 +28,103 @@ const CASES: [Case; 2] = [
         text: "main: begin\nL: a <- a + 1\na <- a\ngoto L\nend",
         born: &[1],
         stop: &[0, 2],
-        before: &[2],
-        after: &[1, 3],
-        ahead: &[1, 3],
+        held: "before 2\nafter 1 3\nahead 1 3\n",
     },
     Case {
         // Node 1 is a Skip to itself: born nowhere, stopped at Start. No path from the Skip ends.
         text: "main: begin\nL: goto L\nprint a\nend",
         born: &[],
         stop: &[0],
-        before: &[],
-        after: &[1],
-        ahead: &[],
+        held: "before\nafter 1\nahead\n",
     },
 ];
 
 /// Each of the three path calls, on both graphs.
 #[test]
 fn statements_about_paths(rt: HostRuntime) -> Result<(), Fail> {
-    let alloc = rt.alloc();
     for case in &CASES {
-        let held = held_of(alloc, case)?;
-        assert_eq!(rt; held.before.as_slice(), case.before);
-        assert_eq!(rt; held.after.as_slice(), case.after);
-        assert_eq!(rt; held.ahead.as_slice(), case.ahead);
+        assert!(rt; is_held(rt.alloc(), case)?, "{}", case.held);
     }
     Ok(())
 }
 
-/// The nodes at which a bit holds on every path to them, on every path from them, and on some path from them.
-#[derive(Drop)]
-struct Held {
-    before: Vec<usize>,
-    after: Vec<usize>,
-    ahead: Vec<usize>,
+/// Whether the statements hold where the case says.
+fn is_held(alloc: Global, case: &Case) -> Result<bool, Fail> {
+    let graph = graph_of(alloc, case.text)?;
+    let held = held_of(alloc, &graph, case);
+    mem::drop(graph);
+    Ok(held?.as_str() == case.held)
 }
 
-/// Where each statement holds for a bit that is born and stopped at the nodes of the case.
-fn held_of(alloc: Global, case: &Case) -> Result<Held, Fail> {
-    let trail = trail_of(alloc, case.text)?;
-    let graph = graph_at(&trail, Stage::Lower)?;
+/// Where the statements hold.
+fn held_of(alloc: Global, graph: &Graph, case: &Case) -> Result<String, Memory> {
     let edges = Edges::of(alloc, graph)?;
-    let (born, stop) = born_and_stopped(alloc, graph, case)?;
-    let before = forward_all(alloc, graph, &edges, &born, &stop)?;
-    let after = backward_all(alloc, graph, &edges, &born, &stop)?;
-    let ahead = backward_some(alloc, graph, &edges, &born, &stop)?;
-    Ok(Held {
-        before: first_bit(alloc, &before)?,
-        after: first_bit(alloc, &after)?,
-        ahead: first_bit(alloc, &ahead)?,
-    })
+    let held = held_along(alloc, graph, &edges, case);
+    mem::drop(edges);
+    held
 }
 
-/// Rows of one bit for each node: true where the case has it born, and where it is stopped.
-fn born_and_stopped(alloc: Global, graph: &Graph, case: &Case) -> Result<(Rows, Rows), Memory>
-    ensures born { IfOk result (λ both. HaveShape graph.now (width both.0) both.0) }
-    ensures stop { IfOk result (λ both. HaveShape graph.now (width both.0) both.1) }
+/// The same, along the edges of the graph.
+fn held_along(alloc: Global, graph: &Graph, edges: &Edges, case: &Case) -> Result<String, Memory>
+    requires edges { edges.now ≡ edges_of graph.now.nodes }
 {
     let born = rows_at(alloc, graph, case.born)?;
-    let stop = rows_at(alloc, graph, case.stop)?;
-    Ok((born, stop))
+    let held = held_from(alloc, graph, edges, &born, case.stop);
+    mem::drop(born);
+    held
+}
+
+/// The same, for a bit that is born in these rows and stopped at these nodes.
+fn held_from(
+    alloc: Global,
+    graph: &Graph,
+    edges: &Edges,
+    born: &Rows,
+    stop: &[usize],
+) -> Result<String, Memory>
+    requires edges { edges.now ≡ edges_of graph.now.nodes }
+    requires born { HaveShape graph.now 1 born.now }
+{
+    let stop = rows_at(alloc, graph, stop)?;
+    let held = held_over(alloc, graph, edges, born, &stop);
+    mem::drop(stop);
+    held
+}
+
+/// The same, for a bit that is born and stopped in these rows.
+fn held_over(
+    alloc: Global,
+    graph: &Graph,
+    edges: &Edges,
+    born: &Rows,
+    stop: &Rows,
+) -> Result<String, Memory>
+    requires edges { edges.now ≡ edges_of graph.now.nodes }
+    requires born { HaveShape graph.now 1 born.now }
+    requires stop { HaveShape graph.now 1 stop.now }
+{
+    let mut text = String::new(alloc);
+    put_all(
+        &mut text,
+        "before",
+        forward_all(alloc, graph, edges, born, stop),
+    )?;
+    put_all(
+        &mut text,
+        "after",
+        backward_all(alloc, graph, edges, born, stop),
+    )?;
+    put_all(
+        &mut text,
+        "ahead",
+        backward_some(alloc, graph, edges, born, stop),
+    )?;
+    Ok(text)
+}
+
+/// Appends a line with a name and the nodes at which the bit holds.
+fn put_all(text: &mut String, name: &str, rows: Result<Rows, Memory>) -> Result<(), Memory> {
+    put_first_bit(text, name, &rows?)
 }
 
 /// Rows of one bit for each node, true at these nodes.

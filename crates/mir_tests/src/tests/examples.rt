@@ -1,0 +1,214 @@
+// Examples of passes.
+
+/// An example is a line with a remark, a program, and what becomes of the graph of its first unit: after `$` the passes in
+/// turn, of which the first is `lower`, and then the graph that they make, node by node. Where the line of the passes ends
+/// with `: blocks`, the blocks of that graph follow instead; with `: busy`, `: lazy` or `: early`, where its first expression
+/// is placed.
+pub(crate) const EXAMPLES: &str = "\
+# each kind of node
+main: begin
+receive a(val)
+x <- a + -1
+y <- ! x
+y <- call main,(x,int)
+call main,(7,int)
+if x <= y goto L
+if ! a goto L
+z <- y
+goto L
+L: return
+end
+$ lower
+0: start to 1
+1: x <- a + -1 to 2
+2: y <- ! x to 3
+3: y <- call 0 x to 4
+4: call 0 7 to 5
+5: if x <= y to 9 else 6
+6: if ! a to 9 else 7
+7: z <- y to 8
+8: skip to 9
+9: return 0
+# branches are blocks of their own, and so is the node at which they come together
+main: begin
+receive a(val)
+if a goto M
+print a
+goto L
+M: print 1
+L: return a
+end
+$ lower: blocks
+block 0 1
+block 2 3
+block 4
+block 5
+# a circle of jumps stays as one jump to itself
+main: begin
+print a
+L: goto N
+M: goto L
+N: goto M
+end
+$ lower clean
+0: start to 1
+1: print a to 2
+2: skip to 2
+# the last test leads to one place, and so does each test before it once those after it are gone
+main: begin
+if a goto L
+if a goto M
+L: if a goto N
+M: if a goto N
+N: return a
+end
+$ lower clean
+0: start to 1
+1: return a
+# two tests lead to each other alone: what is left is a jump to itself
+main: begin
+M: if a goto N
+N: if ! a goto M
+goto N
+end
+$ lower clean
+0: start to 1
+1: skip to 1
+# a test of a loop stays, and the jumps around it go
+main: begin
+receive a(val)
+L: goto M
+M: if ! a goto N
+print a
+goto L
+N: return a
+end
+$ lower clean
+0: start to 1
+1: if ! a to 3 else 2
+2: print a to 1
+3: return a
+# two nodes that lie on a loop are each entered from within it and from the test before it
+main: begin
+receive a(val)
+if a goto M
+L: print a
+M: if a goto L
+return a
+end
+$ lower split
+0: start to 1
+1: if a to 5 else 6
+2: print a to 7
+3: if a to 8 else 4
+4: return a
+5: skip to 3
+6: skip to 2
+7: skip to 3
+8: skip to 2
+# a loop that is entered at its first node and repeated by a test at its last
+main: begin
+receive a(val)
+receive b(val)
+L: x <- a + b
+i <- i + 1
+if i < x goto L
+return i
+end
+$ lower split: blocks
+block 0 5
+block 1 2 3
+block 4
+block 6
+# a test of a constant is decided, and its other way goes
+main: begin
+x <- 0
+if x goto L1
+print 7
+return 1
+L1: y <- 1 / 0
+return y
+end
+$ lower fold clean
+0: start to 1
+1: x <- 0 to 2
+2: print 7 to 3
+3: return 1
+# equal constants at a join stay, and so does a test of what was received
+main: begin
+receive a(val)
+x <- 1
+if x = 1 goto L
+x <- 2
+L: if a goto M
+print x
+M: return x
+end
+$ lower fold clean
+0: start to 1
+1: x <- 1 to 2
+2: if a to 4 else 3
+3: print 1 to 4
+4: return 1
+# the first use kills what it evaluates, so the second is evaluated anew
+main: begin
+receive a(val)
+print a
+a <- a + 1
+x <- a + 1
+return x
+end
+$ lower: busy
+insert 1 3
+replace 2 3
+# one branch evaluates, and so does what follows both: the other branch evaluates at its end
+main: begin
+receive a(val)
+if a goto M
+x <- a + 1
+goto L
+M: print a
+goto L
+L: x <- a + 1
+return x
+end
+$ lower: lazy
+insert 2 5
+replace 2 6
+# what a loop evaluates each time around is evaluated once, before it
+main: begin
+receive a(val)
+goto L
+L: x <- a + 1
+if x goto M
+return x
+M: goto L
+end
+$ lower: lazy
+insert 1
+replace 2
+# what is used only once stays as it is
+main: begin
+receive a(val)
+print a
+x <- a + 1
+return x
+end
+$ lower: lazy
+insert
+replace
+# one branch evaluates, and so does what follows both: it is early where they part
+main: begin
+receive a(val)
+if a goto M
+x <- a + 1
+goto L
+M: goto L
+L: x <- a + 1
+return x
+end
+$ lower: early
+available 3 6
+down 1 2 3 4 5
+earliest 1
+";

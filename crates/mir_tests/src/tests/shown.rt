@@ -1,0 +1,135 @@
+// The texts of graphs and rows.
+use bit_rows::Rows;
+use flow_graph::{Graph, Node};
+use mir_base::{Memory, Name, Operand, Rhs, Test, op_text, rel_op_text, un_op_text};
+use std::alloc::Global;
+
+/// The text of a graph: a line for each node, by its number, with the numbers of its successors.
+pub(crate) fn graph_text(alloc: Global, graph: &Graph) -> Result<String, Memory> {
+    let mut text = String::new(alloc);
+    for (number, node) in graph.nodes().iter().enumerate() {
+        write!(text, "{number}: ")?;
+        put_node(&mut text, graph.vars(), node)?;
+    }
+    Ok(text)
+}
+
+/// Appends the line of a node.
+fn put_node(text: &mut String, vars: &[Name], node: &Node) -> Result<(), Memory> {
+    match node {
+        Node::Start(next) => write!(text, "start to {next}\n"),
+        Node::Skip(next) => write!(text, "skip to {next}\n"),
+        Node::Assign(x, rhs, next) => {
+            put_var(text, vars, *x)?;
+            text.push_str(" <- ")?;
+            put_rhs(text, vars, rhs)?;
+            write!(text, " to {next}\n")
+        }
+        Node::Print(a, next) => {
+            text.push_str("print ")?;
+            put_operand(text, vars, a)?;
+            write!(text, " to {next}\n")
+        }
+        Node::Call(into, unit, args, next) => {
+            if let Some(x) = into {
+                put_var(text, vars, *x)?;
+                text.push_str(" <- ")?;
+            }
+            write!(text, "call {unit}")?;
+            put_operands(text, vars, args.items())?;
+            write!(text, " to {next}\n")
+        }
+        Node::Test(test, taken, other) => {
+            text.push_str("if ")?;
+            put_test(text, vars, test)?;
+            write!(text, " to {taken} else {other}\n")
+        }
+        Node::Return(a) => {
+            text.push_str("return ")?;
+            put_operand(text, vars, a)?;
+            text.push('\n')
+        }
+    }
+}
+
+/// Appends each operand, after a blank.
+fn put_operands(text: &mut String, vars: &[Name], operands: &[Operand]) -> Result<(), Memory> {
+    for operand in operands {
+        text.push(' ')?;
+        put_operand(text, vars, operand)?;
+    }
+    Ok(())
+}
+
+/// Appends a right side.
+fn put_rhs(text: &mut String, vars: &[Name], rhs: &Rhs) -> Result<(), Memory> {
+    match rhs {
+        Rhs::Plain(a) => put_operand(text, vars, a),
+        Rhs::Unary(op, a) => put_one(text, vars, un_op_text(*op), a),
+        Rhs::Binary(op, a, b) => put_two(text, vars, a, op_text(*op), b),
+    }
+}
+
+/// Appends a test.
+fn put_test(text: &mut String, vars: &[Name], test: &Test) -> Result<(), Memory> {
+    match test {
+        Test::Rel(relation, a, b) => put_two(text, vars, a, rel_op_text(*relation), b),
+        Test::Holds(a) => put_operand(text, vars, a),
+        Test::Fails(a) => put_one(text, vars, b"!", a),
+    }
+}
+
+/// Appends an operator and its operand.
+fn put_one(text: &mut String, vars: &[Name], op: &[u8], a: &Operand) -> Result<(), Memory> {
+    put_bytes(text, op)?;
+    text.push(' ')?;
+    put_operand(text, vars, a)
+}
+
+/// Appends an operator between its operands.
+fn put_two(
+    text: &mut String,
+    vars: &[Name],
+    a: &Operand,
+    op: &[u8],
+    b: &Operand,
+) -> Result<(), Memory> {
+    put_operand(text, vars, a)?;
+    text.push(' ')?;
+    put_one(text, vars, op, b)
+}
+
+/// Appends an operand.
+fn put_operand(text: &mut String, vars: &[Name], operand: &Operand) -> Result<(), Memory> {
+    match operand {
+        Operand::Var(x) => put_var(text, vars, *x),
+        Operand::Const(number) => write!(text, "{number}"),
+    }
+}
+
+/// Appends the name of a variable.
+fn put_var(text: &mut String, vars: &[Name], x: usize) -> Result<(), Memory> {
+    match vars.get(x) {
+        Some(name) => put_bytes(text, name.bytes()),
+        None => text.push('?'),
+    }
+}
+
+/// Appends bytes of ASCII.
+fn put_bytes(text: &mut String, bytes: &[u8]) -> Result<(), Memory> {
+    for byte in bytes {
+        text.push(char::from(*byte))?;
+    }
+    Ok(())
+}
+
+/// Appends a line with a name and the nodes whose row has the first bit.
+pub(crate) fn put_first_bit(text: &mut String, name: &str, rows: &Rows) -> Result<(), Memory> {
+    text.push_str(name)?;
+    for node in 0..rows.len() {
+        if rows.bits() > 0 && rows.get(node, 0) {
+            write!(text, " {node}")?;
+        }
+    }
+    text.push('\n')
+}
