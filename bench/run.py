@@ -11,6 +11,7 @@ import argparse
 import ctypes
 import itertools
 import os
+import re
 import string
 import subprocess
 import sys
@@ -39,13 +40,16 @@ LEAST_SECONDS, LEAST_BYTES = 0.001, 200_000
 
 
 class Case(NamedTuple):
-    """One call of mir, with the size by which it is compared, and the status and the output that are right."""
+    """One call of mir, with the size by which it is compared, and the status and the output that are right. A pattern is an
+    output with `N` for each number that is not judged. With no output the answer is a program, and it is right where it
+    runs as the text does, and evaluates no more."""
 
     size: int
     words: list[str]
     text: str
     status: int
-    output: str
+    output: Optional[str]
+    is_pattern: bool = False
 
 
 class Workload(NamedTuple):
@@ -164,6 +168,14 @@ def gotos_in_a_chain(unit: str, instructions: int) -> str:
     return ''.join(lines)
 
 
+def sums_in_a_line(unit: str, count: int) -> tuple[str, str]:
+    """A unit of so many instructions: assignments to as many variables, each of which is one more than the one before, and
+    a print of the last one; and what is left of it, the print of a constant."""
+    names = [f'v{number}' for number in range(count - 1)]
+    text = f'{names[0]} <- 1\n' + ''.join(f'{x} <- {y} + 1\n' for y, x in zip(names, names[1:]))
+    return f'{unit}: begin\n{text}print {names[-1]}\nend\n', f'{unit}: begin\nprint {count - 1}\nreturn 0\nend\n'
+
+
 def diamonds(unit: str, count: int) -> tuple[str, str]:
     """A unit of so many diamonds, one after the other, each of which evaluates a + b; and the unit with moved code, which
     evaluates it once, on the paths of which there are 2 to the power of the count."""
@@ -234,6 +246,33 @@ def loops_in_a_row(unit: str, loops: int, sums: int) -> tuple[str, str]:
     return ''.join(text) + 'return x\nend\n', ''.join(moved) + 'return x\nend\n'
 
 
+def doubling(unit: str, lines: int) -> str:
+    """A unit of so many lines in which two variables with one value are squared in turn, so that their term doubles with
+    each line."""
+    head = f'{unit}: begin\nreceive x(val)\ny <- x\n'
+    return head + 'x <- x * x\ny <- y * y\n' * (lines // 2) + 'return y\nend\n'
+
+
+def twins(unit: str, instructions: int) -> str:
+    """A unit of so many instructions without a jump, over 40 names: two received variables, and 19 pairs of variables
+    that have one value, of which one pair after the other is multiplied."""
+    lines = [f'x{number} <- p + {number}\ny{number} <- x{number}\n' for number in range(19)]
+    pairs = (instructions - 2 - 38 - 1) // 2
+    lines += [f'x{number % 19} <- x{number % 19} * q\ny{number % 19} <- y{number % 19} * q\n' for number in range(pairs)]
+    return f'{unit}: begin\nreceive p(val)\nreceive q(val)\n' + ''.join(lines) + f'return y{(pairs - 1) % 19}\nend\n'
+
+
+def joins_with_copies(unit: str, count: int) -> str:
+    """A unit of so many joins, one after the other: both arms before each copy the received variable to a variable of
+    the join, which the next test reads."""
+    lines, others = [f'{unit}: begin\nreceive a(val)\n'], []
+    for number in range(1, count + 1):
+        test = f'v{number - 1}' if number > 1 else 'a'
+        lines.append(f'if {test} goto L{count + number}\nv{number} <- a\nL{number}: ')
+        others.append(f'L{count + number}: v{number} <- a\ngoto L{number}\n')
+    return ''.join(lines) + f'return v{count}\n' + ''.join(others) + 'end\n'
+
+
 def edges_into_one_join(unit: str, count: int) -> tuple[str, str]:
     """A unit of so many tests that all jump to one sum, which the last path to it has evaluated; and the unit with moved
     code, which evaluates it on each of the edges."""
@@ -284,6 +323,26 @@ def loop_of(steps: int) -> Case:
     return Case(steps, ['run', str(steps)], LOOP, RUNNING, f'running\nevals {steps // 2}\n')
 
 
+# What source instructions, source evaluations and printed numbers the trial of number 0 has with so many units: they were
+# worked out by another program, from the definition.
+TRIALS = {64: (8855, 10322, 1045), 128: (17849, 20881, 2032), 256: (35668, 41931, 4105)}
+
+
+def trial() -> list[Case]:
+    """Programs that a number draws, whose runs and those of their targets end."""
+    return [
+        Case(
+            units,
+            ['trial', '0', str(units)],
+            '',
+            ENDED,
+            f'source instructions {insts}\nresult instructions N\nsource evals {evals}\nresult evals N\nprinted {printed}\n',
+            is_pattern=True,
+        )
+        for units, (insts, evals, printed) in TRIALS.items()
+    ]
+
+
 # The numbers of instructions of a unit: a quarter, a half and the whole of what a unit may have.
 INSTRUCTIONS = (1024, 2048, 4096)
 
@@ -304,6 +363,15 @@ def chains() -> list[Case]:
         text = ''.join(gotos_in_a_chain(f'u{number}', instructions) for number in range(12))
         output = ''.join(f'u{number}: begin\nprint 1\nreturn 0\nend\n' for number in range(12))
         cases.append(Case(instructions, ['optimise'], text, ENDED, output))
+    return cases
+
+
+def line() -> list[Case]:
+    """Units of one line of assignments, all of which are constants in the end."""
+    cases = []
+    for count in INSTRUCTIONS:
+        text, known = sums_in_a_line('main', count)
+        cases.append(Case(count, ['optimise'], text, ENDED, known))
     return cases
 
 
@@ -345,8 +413,41 @@ def sized_by(sizes: tuple[int, ...], texts: Callable[[int], tuple[str, str]]) ->
     return lambda word: [Case(size, [word], text, ENDED, moved) for size in sizes for text, moved in [texts(size)]]
 
 
+def by_runs(sizes: tuple[int, ...], texts: Callable[[int], str]) -> Callable[[], list[Case]]:
+    """The cases of `optimise` on the texts of these sizes, judged by their runs."""
+    return lambda: [Case(size, ['optimise'], texts(size), ENDED, None) for size in sizes]
+
+
+def judged(cases: list[Case]) -> list[Case]:
+    """The cases of a command on code motion: what `move` writes is known, and what `optimise` writes is judged by its
+    runs."""
+    return [case if case.words == ['move'] else case._replace(output=None) for case in cases]
+
+
 # How many joins, tests, loops and sums: a quarter, a half and all that a unit has room for, or nearly so.
 JOINS, TESTS, LOOPS, SUMS = (250, 500, 1000), (300, 600, 1200), (55, 110, 220), (1000, 2000, 4000)
+
+# What the passes before and after code motion are measured on.
+VALUES = [
+    Workload(name, about, unit, by_runs(sizes, texts), by_runs(sizes, texts))
+    for name, about, unit, sizes, texts in (
+        ('doubling', 'terms that double with each line', 'lines', SUMS, lambda lines: doubling('main', lines)),
+        (
+            'twins',
+            'a line over 40 names, every second instruction of which computes again',
+            'insts',
+            (1024, 2048, 4096),
+            lambda insts: twins('main', insts),
+        ),
+        (
+            'joins-copies',
+            'a copy in both arms before each join, another one for each join',
+            'joins',
+            JOINS,
+            lambda joins: joins_with_copies('main', joins),
+        ),
+    )
+]
 
 # What code motion is measured on: under `move`, which does nothing else, and as one of the passes of `optimise`.
 MOTION = [
@@ -354,8 +455,8 @@ MOTION = [
         f'{name}-{word}',
         f'{about}, under {word}',
         unit,
-        lambda cases=cases, word=word: cases(word),
-        lambda cases=cases, word=word: cases(word),
+        lambda cases=cases, word=word: judged(cases(word)),
+        lambda cases=cases, word=word: judged(cases(word)),
     )
     for name, about, unit, cases in (
         ('diamonds', 'code is moved in a chain of diamonds', 'insts', diamonds_by),
@@ -427,12 +528,27 @@ WORKLOADS = [
         chains,
     ),
     Workload(
+        'line',
+        'a line of assignments to as many variables, which are all constants',
+        'insts',
+        line,
+        line,
+    ),
+    Workload(
         'loop',
         'a loop of four instructions is run',
         'steps',
         lambda: [loop_of(250_000), loop_of(500_000), loop_of(1_000_000)],
         lambda: [loop_of(100_000), loop_of(200_000)],
     ),
+    Workload(
+        'trial',
+        'a large program is drawn, optimised and run, and its target too',
+        'units',
+        trial,
+        trial,
+    ),
+    *VALUES,
     *MOTION,
 ]
 
@@ -440,9 +556,42 @@ WORKLOADS = [
 # ---- measuring
 
 
+# Steps in which all workloads end that are judged by their runs, and the inputs of those runs, by the number of receives.
+STEPS, INPUTS = '1000000', (3, 5, -2)
+
+
+def run_of(command: list[str], text: str) -> tuple[list[str], int]:
+    """What the run of a program writes, and how many operators it evaluates."""
+    receives = text.split('end\n', 1)[0].count('receive ')
+    words = ['run', STEPS, *(str(number) for number in INPUTS[:receives])]
+    answer = subprocess.run(command + words, input=text, stdout=subprocess.PIPE, text=True, check=False)
+    *lines, evals = answer.stdout.splitlines()
+    return [str(answer.returncode), *lines], int(evals.split()[1])
+
+
+def runs_alike(command: list[str], text: str, output: str) -> bool:
+    """Whether the output is a program that runs as the text does, and evaluates no more operators."""
+    (source, before), (target, after) = run_of(program_of(command), text), run_of(program_of(command), output)
+    return source == target and after <= before
+
+
+def program_of(command: list[str]) -> list[str]:
+    """The command without the tool that watches it."""
+    return command[-1:]
+
+
+def is_right(command: list[str], case: Case, output: str) -> bool:
+    """Whether the output is that of the case, or fits its pattern, or is a program that runs as the text does."""
+    if case.output is None:
+        return runs_alike(command, case.text, output)
+    if case.is_pattern:
+        return re.fullmatch(case.output.replace('N', '[0-9]+'), output) is not None
+    return output == case.output
+
+
 def judge(command: list[str], case: Case, status: int, output: str, errors: str) -> None:
     """Accepts the status and the output that are right for the case alone."""
-    if (status, output) != (case.status, case.output):
+    if status != case.status or not is_right(command, case, output):
         said = f'{output[:200]}{errors[-400:]}'.strip()
         raise Failure(f'{" ".join(command + case.words)}, at size {case.size}: status {status}: {said}')
 
