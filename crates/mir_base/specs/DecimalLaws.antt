@@ -1,6 +1,6 @@
--- The decimal text of a number below 2^64: it is of digits, at most 20, and no other number has it; and names that end in
--- such a text. For proofs only.
-use Rattle.std.proofs.Common.{◌≡◌, ◌<◌, ◌≤◌, ◌^◌, ℕ, Bool, true, false, not, ◌||◌, nat_eq, nat_le, List, [], ◌∷◌, ◌++◌, length, length-append, decimal, refl, sym, ap, ◌∙◌, subst, arith}
+-- The decimal text of a number below 2^64: it is of digits, at most 20, and no other number has it; digits among other
+-- bytes, and names that end in such a text. For proofs only.
+use Rattle.std.proofs.Common.{◌≡◌, ◌<◌, ◌≤◌, ◌^◌, ℕ, Bool, true, false, not, ◌||◌, ◌&&◌, nat_eq, nat_le, List, [], ◌∷◌, ◌++◌, length, length-append, decimal, refl, sym, ap, ◌∙◌, subst, arith}
 use Rattle.std.specs.List.{list_all, list_any}
 use Rattle.std.specs.Char.{is_ascii_digit}
 use Rattle.std.specs.Str.{all_ascii_digits}
@@ -41,6 +41,23 @@ decimal_has_value n low = digits_value-decimal digits_are_numerals n low
 pub numbered_differ : (front : List ℕ) (m n : ℕ) → m < 2 ^ 64 → n < 2 ^ 64 → front ++ decimal m ≡ front ++ decimal n → m ≡ n
 numbered_differ front m n m_low n_low same = decimal_injective m n m_low n_low (append_cancel_left front (decimal m) (decimal n) same)
 
+-- ---- a byte among others
+
+-- digits are bytes that each pass the test of a digit
+pub digits_all : (s : List ℕ) → all_ascii_digits s ≡ list_all is_ascii_digit s
+digits_all [] = refl
+digits_all (d ∷ s) = ap (λ (t : Bool). is_ascii_digit d && t) (digits_all s)
+
+-- a byte among bytes that all pass a test passes it
+pub passes_at : (test : ℕ → Bool) (bytes : List ℕ) (byte : ℕ) (more : List ℕ) → list_all test (bytes ++ byte ∷ more) ≡ true → test byte ≡ true
+passes_at test bytes byte more h =
+    let parts = and_parts (list_all test bytes) (test byte && list_all test more) (sym (list_all-append test bytes (byte ∷ more)) ∙ h) in
+    (and_parts (test byte) (list_all test more) parts.1).0
+
+-- a byte among digits is one
+pub digit_at : (bytes : List ℕ) (byte : ℕ) (more : List ℕ) → all_ascii_digits (bytes ++ byte ∷ more) ≡ true → is_ascii_digit byte ≡ true
+digit_at bytes byte more h = passes_at is_ascii_digit bytes byte more (sym (digits_all (bytes ++ byte ∷ more)) ∙ h)
+
 -- ---- names that end in a number
 
 -- a digit may stand in a name
@@ -78,13 +95,17 @@ ends_in_digit (x ∷ front) ds some h = by (is_ascii_digit x) (ends_in_digit fro
     by true e = refl
     by false e = e
 
+-- no text both has a digit and has none
+has_or_has_none : (b : Bool) → b ≡ true → not b ≡ true → ⊥
+has_or_has_none b has none = let both : false ≡ true = ap not (sym has) ∙ none in cc
+
 -- no reserved word has a digit, so a text that ends in one is not reserved
-not_reserved : (front ds : List ℕ) → 0 < length ds → all_ascii_digits ds ≡ true → is_reserved (front ++ ds) ≡ false
+ends_unreserved : (front ds : List ℕ) → 0 < length ds → all_ascii_digits ds ≡ true → is_reserved (front ++ ds) ≡ false
 unfolding is_reserved
-not_reserved front ds some h = by (list_any (λ word. pointwise nat_eq word (front ++ ds)) reserved_words) refl
+ends_unreserved front ds some h = by (list_any (λ word. pointwise nat_eq word (front ++ ds)) reserved_words) refl
   where
     by : (b : Bool) → list_any (λ word. pointwise nat_eq word (front ++ ds)) reserved_words ≡ b → b ≡ false
-    by true is = let none = among_words reserved_words (front ++ ds) refl is in let some_digit = ends_in_digit front ds some h in absurd (cc)
+    by true is = absurd (has_or_has_none (list_any is_ascii_digit (front ++ ds)) (ends_in_digit front ds some h) (among_words reserved_words (front ++ ds) refl is))
     by false is = refl
 
 -- a name begins with its first byte, whatever is added at its end
@@ -99,4 +120,4 @@ numbered_is_name front n begins bytes room low =
     let all_digits = decimal_all_digits n low in
     let name_bytes : list_all is_name_byte (front ++ ds) ≡ true = list_all-append is_name_byte front ds ∙ both_true bytes (digits_in_name ds all_digits) in
     let short : nat_le (length (front ++ ds)) 64 ≡ true = (let long = length-append front ds in let few = decimal_is_short n low in grind (arith, nat_tests)) in
-    both_true (both_true (both_true (begins_still front ds begins) name_bytes) short) (ap not (not_reserved front ds (decimal_nonempty n low) all_digits))
+    both_true (both_true (both_true (begins_still front ds begins) name_bytes) short) (ap not (ends_unreserved front ds (decimal_nonempty n low) all_digits))

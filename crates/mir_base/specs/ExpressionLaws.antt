@@ -26,7 +26,7 @@ only_false true h = cc
 only_false false h = refl
 
 -- a truth value is false where its negation is true
-not_true : (b : Bool) → not b ≡ true → b ≡ false
+pub not_true : (b : Bool) → not b ≡ true → b ≡ false
 not_true true h = cc
 not_true false h = refl
 

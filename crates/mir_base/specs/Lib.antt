@@ -1,4 +1,5 @@
 pub mod Limits
+pub mod Words
 pub mod Operators
 pub mod Names
 pub mod Numbers

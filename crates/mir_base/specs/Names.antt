@@ -1,9 +1,9 @@
 -- How a name is spelled: an ASCII letter and then ASCII letters, digits and `_`, at most 64 bytes, and no reserved word.
 -- Cited by contracts.
-use Rattle.std.specs.Prelude.{ℕ, Bool, false, ◌&&◌, ◌||◌, not, nat_le, nat_eq, List, [], ◌∷◌, length, codes, IsTrue}
+use Rattle.std.specs.Prelude.{ℕ, Bool, false, ◌&&◌, ◌||◌, not, nat_le, nat_eq, List, [], ◌∷◌, length, map, IsTrue}
 use Rattle.std.specs.List.{list_all, list_any}
-use Rattle.std.specs.Cmp.Lexicographic.{pointwise}
 use Rattle.mir_base.specs.Limits.{most_name_bytes}
+use Rattle.mir_base.specs.Words.{is_text, word_text, words}
 
 -- an ASCII letter
 abbrev pub is_letter : ℕ → Bool
@@ -17,16 +17,9 @@ is_digit byte = nat_le 48 byte && nat_le byte 57
 abbrev pub is_name_byte : ℕ → Bool
 is_name_byte byte = is_letter byte || is_digit byte || nat_eq byte 95
 
--- the bytes are this text
-abbrev pub is_text : List ℕ → List ℕ → Bool
-is_text text bytes = pointwise nat_eq text bytes
-
--- the words that no name is
+-- the texts that no name is
 abbrev pub reserved_words : List (List ℕ)
-reserved_words =
-    codes "begin" ∷ codes "end" ∷ codes "receive" ∷ codes "goto" ∷ codes "if" ∷ codes "call" ∷ codes "return" ∷ codes "print" ∷ codes "mod" ∷ codes "min"
-    ∷ codes "max" ∷ codes "shl" ∷ codes "shr" ∷ codes "shra" ∷ codes "and" ∷ codes "or" ∷ codes "xor" ∷ codes "trap" ∷ codes "global" ∷ codes "sequence"
-    ∷ []
+reserved_words = map word_text words
 
 -- the bytes are a reserved word
 unfoldable pub is_reserved : List ℕ → Bool

@@ -18,6 +18,7 @@ mod limits;
 mod names;
 mod operators;
 mod programs;
+mod words;
 
 pub use evaluation::{divides, eval, eval1, expr_of, relates};
 pub use instructions::{Args, Expr, Inst, Operand, Rhs, Test};
@@ -25,9 +26,10 @@ pub use items::Items;
 pub use limits::{
     MOST_BYTES, MOST_FRAMES, MOST_INSTS, MOST_NAME_BYTES, MOST_RECEIVES, MOST_STEPS, MOST_UNITS,
 };
-pub use names::{Name, is_letter, is_name_byte, is_text};
+pub use names::{Name, is_letter, is_name_byte};
 pub use operators::{Op, RelOp, Trap, UnOp, op_of_relation, op_text, rel_op_text, un_op_text};
 pub use programs::{Program, Unit};
+pub use words::{Word, is_text, reserved_word};
 
 /// There is not enough memory: the allocator refused.
 pub type Memory = std::alloc::AllocError;

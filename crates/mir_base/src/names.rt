@@ -1,9 +1,9 @@
 // Names of variables, labels and units, and what bytes may stand in one.
 ghost use Rattle.std.specs.Prelude.{◌≡◌, ◌↔◌, IfSome, IsSome};
-ghost use Rattle.std.specs.List.{list_all, list_any};
-ghost use Rattle.mir_base.specs.Names.{IsName, begins_as_name, is_letter, is_name, is_name_byte, is_reserved, is_text};
+ghost use Rattle.std.specs.List.{list_all};
+ghost use Rattle.mir_base.specs.Names.{IsName, begins_as_name, is_letter, is_name, is_name_byte, is_reserved};
 
-use crate::MOST_NAME_BYTES;
+use crate::{MOST_NAME_BYTES, reserved_word};
 use std::alloc::AllocError;
 use std::marker::Model;
 
@@ -107,49 +107,9 @@ pub fn is_name_byte(byte: u8) -> bool
     byte.is_ascii_alphabetic() || byte.is_ascii_digit() || byte == b'_'
 }
 
-/// Whether the bytes are this text. It does not allocate.
-pub fn is_text(text: &[u8], bytes: &[u8]) -> bool
-    ensures { result ≡ is_text text.now bytes.now }
-{
-    text == bytes
-}
-
-/// Whether the bytes are a reserved word. Only the words of their length are looked at.
+/// Whether the bytes are a reserved word.
 fn is_reserved(bytes: &[u8]) -> bool
     ensures { result ≡ is_reserved bytes.now }
 {
-    match bytes.len() {
-        2 => is_among(&OF_2, bytes),
-        3 => is_among(&OF_3, bytes),
-        4 => is_among(&OF_4, bytes),
-        5 => is_among(&OF_5, bytes),
-        6 => is_among(&OF_6, bytes),
-        7 => is_among(&OF_7, bytes),
-        8 => is_among(&OF_8, bytes),
-        _ => false,
-    }
-}
-
-// The reserved words of so many bytes.
-const OF_2: [&[u8]; 2] = [b"if", b"or"];
-
-const OF_3: [&[u8]; 8] = [
-    b"end", b"mod", b"min", b"max", b"shl", b"shr", b"and", b"xor",
-];
-
-const OF_4: [&[u8]; 4] = [b"goto", b"call", b"shra", b"trap"];
-
-const OF_5: [&[u8]; 2] = [b"begin", b"print"];
-
-const OF_6: [&[u8]; 2] = [b"return", b"global"];
-
-const OF_7: [&[u8]; 1] = [b"receive"];
-
-const OF_8: [&[u8]; 1] = [b"sequence"];
-
-/// Whether the bytes are one of the words.
-fn is_among(words: &[&[u8]], bytes: &[u8]) -> bool
-    ensures { result ≡ list_any (λ word. is_text word.now bytes.now) words.now }
-{
-    words.iter().any(|word| is_text(word, bytes))
+    reserved_word(bytes).is_some()
 }

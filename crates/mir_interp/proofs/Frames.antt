@@ -85,8 +85,8 @@ length_waiting stack = length_callers_of _ (reverse stack.callers.items) ∙ len
 -- ---- calls and returns
 
 -- a frame begins behind the values, where the caller joins the frames that wait
-pub entered : (values arguments read pushed : List ℤ) (n base first called : ℕ) (callers more : List Caller) (caller : Caller) → read ≡ values ++ arguments → pushed ≡ read ++ replicate n (pos 0) → base ≡ length values → first ≡ length read → more ≡ callers ++ caller ∷ [] → Running called (frame_of pushed (record { unit = called; place = 0; arguments = base; variables = first })) (callers_of (take base pushed) (reverse more)) ≡ Running called (first_frame (record { arguments = arguments })) (callers_of values (caller ∷ reverse callers))
-entered values arguments read pushed n base first called callers more caller is_read is_pushed is_base is_first is_more =
+pub callee_entered : (values arguments read pushed : List ℤ) (n base first called : ℕ) (callers more : List Caller) (caller : Caller) → read ≡ values ++ arguments → pushed ≡ read ++ replicate n (pos 0) → base ≡ length values → first ≡ length read → more ≡ callers ++ caller ∷ [] → Running called (frame_of pushed (record { unit = called; place = 0; arguments = base; variables = first })) (callers_of (take base pushed) (reverse more)) ≡ Running called (first_frame (record { arguments = arguments })) (callers_of values (caller ∷ reverse callers))
+callee_entered values arguments read pushed n base first called callers more caller is_read is_pushed is_base is_first is_more =
     let zeros : List ℤ = replicate n (pos 0) in
     let own : drop base (take first pushed) ≡ arguments = rw (is_pushed, is_base, is_first, is_read) (arguments_of values arguments zeros) in
     let fresh : values_of (drop first pushed) ≡ all_zero = rw (is_pushed, is_first, is_read) (fresh_values (values ++ arguments) n) in

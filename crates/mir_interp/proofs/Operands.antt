@@ -19,8 +19,8 @@ value_kept xs ys (Var x) below = get_or_append_left xs ys (pos 0) x below.0
 value_kept xs ys (Const c) below = refl
 
 -- an operand that is read while values are pushed behind the variables
-pub read_is : (values more read : List ℤ) (from : ℕ) (a : Operand) → from ≤ length values → read ≡ values ++ more → AllBelow (length (drop from values)) (operand_vars a) → operand_value (values_of (take (length read - from) (drop from read))) a ≡ operand_value (values_of (drop from values)) a
-read_is values more read from a within is below =
+pub operand_read : (values more read : List ℤ) (from : ℕ) (a : Operand) → from ≤ length values → read ≡ values ++ more → AllBelow (length (drop from values)) (operand_vars a) → operand_value (values_of (take (length read - from) (drop from read))) a ≡ operand_value (values_of (drop from values)) a
+operand_read values more read from a within is below =
     let all : take (length read - from) (drop from read) ≡ drop from read = take_all _ _ (omega (arith, length-drop from read)) in
     let kept : drop from read ≡ drop from values ++ more = ap (drop from) is ∙ drop-append-le from values more within in
     ap (λ vs. operand_value (values_of vs) a) (all ∙ kept) ∙ value_kept (drop from values) more a below

@@ -1,9 +1,8 @@
 -- Which classes of bytes exclude which, and lists of bytes of one class. For proofs only.
 use Rattle.std.specs.List.{list_all}
 use Rattle.std.specs.Char.{is_ascii_digit}
-use Rattle.std.specs.Str.{all_ascii_digits}
 use Rattle.mir_base.specs.Names.{is_name_byte, is_letter, is_digit}
-use Rattle.std.proofs.Common.{◌≡◌, ℕ, ◌==◌, Bool, true, false, ◌||◌, ◌&&◌, not, List, [], ◌∷◌, ◌++◌, refl, sym, ◌∙◌, ap, arith, nat_eq}
+use Rattle.std.proofs.Common.{◌≡◌, ℕ, ◌==◌, Bool, true, false, ◌||◌, ◌&&◌, not, List, [], ◌∷◌, ◌++◌, refl, ◌∙◌, ap, arith, nat_eq}
 use Rattle.std.proofs.lemmas.Bool.{and_from, and_parts}
 use Rattle.std.proofs.lemmas.List.Folds.{list_all-append}
 use Rattle.mir_lex.specs.Spelling.{is_blank, HasNoLineFeed}
@@ -65,24 +64,9 @@ name_feed byte h = grind (arith, nat_tests)
 
 -- ---- lists of bytes that all pass a test
 
--- std's test of digits is one of these
-pub digits_all : (s : List ℕ) → all_ascii_digits s ≡ list_all is_ascii_digit s
-digits_all [] = refl
-digits_all (d ∷ s) = ap (λ (t : Bool). is_ascii_digit d && t) (digits_all s)
-
 -- one more byte that passes
 pub all_push : (test : ℕ → Bool) (bytes : List ℕ) (byte : ℕ) → list_all test bytes ≡ true → test byte ≡ true → list_all test (bytes ++ byte ∷ []) ≡ true
 all_push test bytes byte all is = list_all-append test bytes (byte ∷ []) ∙ and_from _ _ all (and_from _ _ is refl)
-
--- a byte among them passes
-pub all_at : (test : ℕ → Bool) (bytes : List ℕ) (byte : ℕ) (more : List ℕ) → list_all test (bytes ++ byte ∷ more) ≡ true → test byte ≡ true
-all_at test bytes byte more h =
-    let parts = and_parts (list_all test bytes) (test byte && list_all test more) (sym (list_all-append test bytes (byte ∷ more)) ∙ h) in
-    (and_parts (test byte) (list_all test more) parts.1).0
-
--- a byte among digits is one
-pub digit_at : (bytes : List ℕ) (byte : ℕ) (more : List ℕ) → all_ascii_digits (bytes ++ byte ∷ more) ≡ true → is_ascii_digit byte ≡ true
-digit_at bytes byte more h = all_at is_ascii_digit bytes byte more (sym (digits_all (bytes ++ byte ∷ more)) ∙ h)
 
 -- bytes that pass a test which a line feed fails lie on one line
 pub all_fed : (test : ℕ → Bool) → ((byte : ℕ) → test byte ≡ true → (byte == 10) ≡ false) → (bytes : List ℕ) → list_all test bytes ≡ true → HasNoLineFeed bytes

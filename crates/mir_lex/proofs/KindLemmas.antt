@@ -6,9 +6,9 @@ use Rattle.std.specs.Str.{all_ascii_digits}
 use Rattle.std.specs.Str.Parse.{signed_digits_value, without_leading_sign}
 use Rattle.std.specs.Int.Signed.{mag}
 use Rattle.std.specs.Cmp.Lexicographic.{same_text, pointwise}
-use Rattle.mir_base.specs.Names.{is_text, is_name, is_name_byte, begins_as_name, is_reserved, reserved_words}
-use Rattle.mir_lex.specs.declared.words.Word.{Word}
-use Rattle.mir_lex.specs.declared.words.Word.TheVariants.{Begin, End, Receive, Goto, If, Call, Return, Print, Mod, Min, Max, Shl, Shr, Shra, And, Or, Xor, Trap, Global, Sequence}
+use Rattle.mir_base.specs.Names.{is_name, is_name_byte, begins_as_name, is_reserved, reserved_words}
+use Rattle.mir_base.specs.declared.words.Word.{Word}
+use Rattle.mir_base.specs.declared.words.Word.TheVariants.{Begin}
 use Rattle.mir_lex.specs.declared.words.Kind.{Kind}
 use Rattle.mir_lex.specs.declared.words.Kind.TheVariants.{Name as NameKind, Word as WordKind}
 use Rattle.mir_lex.specs.declared.scan.Pending.TheVariants.{Word as PWord}
@@ -16,8 +16,9 @@ use Rattle.mir_lex.specs.declared.scan.Previous.{Previous}
 use Rattle.std.proofs.Common.{◌≡◌, ℕ, ℤ, ◌<◌, ◌≤◌, ◌^◌, ◌==◌, Bool, true, false, ◌||◌, ◌&&◌, not, List, [], ◌∷◌, length, drop, map, Option, None, Some, refl, sym, ◌∙◌, ap, subst, inl, inr, if◌then◌else◌, cond, arith, nat_lt, nat_le, nat_eq, slice_index}
 use Rattle.std.proofs.lemmas.Bool.{and_right, or_from, lt-ltb, ltb-true, ltb-false, leb-false, and_from, and_parts, cond-false, cond-true, cond_both, false_from_ne_true}
 use Rattle.std.proofs.lemmas.Bool.Decides.{nat_tests}
-use Rattle.mir_lex.specs.Spelling.{word_text, words, IsDigits, IsNumeral, IsInRange}
-use Rattle.mir_lex.specs.Scanner.{is_number, number_of, is_lone_letter, first_word, reserved_word, word_kind}
+use Rattle.mir_base.specs.Words.{first_word, is_text, reserved_word, word_text, words}
+use Rattle.mir_lex.specs.Spelling.{IsDigits, IsNumeral, IsInRange}
+use Rattle.mir_lex.specs.Scanner.{is_number, number_of, is_lone_letter, word_kind}
 use Rattle.mir_lex.proofs.Pieces.{IsPieceToken}
 use Rattle.mir_lex.proofs.Classes.{digit_minus, digit_sign, letter_name}
 
@@ -29,14 +30,14 @@ WordIs s None = Unit {0}
 WordIs s (Some w) = s ≡ word_text w
 
 -- a word that is found is spelled so
-first_is : (s : List ℕ) (table : List Word) → WordIs s (first_word word_text (λ word. word) s table)
-first_is s [] = tt
-first_is s (word ∷ table) = cond_both (is_text (word_text word) s) (Some word) _ (WordIs s) (λ h. sym (same_text (word_text word) s (sym h))) (λ h. first_is s table)
+first_spelled : (s : List ℕ) (table : List Word) → WordIs s (first_word word_text (λ word. word) s table)
+first_spelled s [] = tt
+first_spelled s (word ∷ table) = cond_both (is_text (word_text word) s) (Some word) _ (WordIs s) (λ h. sym (same_text (word_text word) s (sym h))) (λ h. first_spelled s table)
 
 -- a reserved word that is found is spelled so
-pub word_is : (s : List ℕ) → WordIs s (reserved_word s)
+pub word_spelled : (s : List ℕ) → WordIs s (reserved_word s)
 unfolding reserved_word
-word_is s = first_is s words
+word_spelled s = first_spelled s words
 
 -- where no word is found, none of the table is spelled so
 none_among : (s : List ℕ) (table : List Word) → first_word word_text (λ word. word) s table ≡ None → list_any (λ text. is_text text s) (map word_text table) ≡ false
@@ -48,9 +49,9 @@ none_among s (word ∷ table) h = not_tested (is_text (word_text word) s) _ word
     not_tested false r w o rest h = rest h
 
 -- bytes of which no reserved word is found are none
-not_reserved : (s : List ℕ) → reserved_word s ≡ None → is_reserved s ≡ false
+none_reserved : (s : List ℕ) → reserved_word s ≡ None → is_reserved s ≡ false
 unfolding reserved_word is_reserved
-not_reserved s h = none_among s words h
+none_reserved s h = none_among s words h
 
 -- what is found for a word
 abbrev pub KindIs : Previous → List ℕ → Option Kind → Type 0
@@ -72,13 +73,13 @@ too_long s h begins all free =
 
 -- what is found for bytes of a name that are none
 no_name : (previous : Previous) (s : List ℕ) (o : Option Word) → reserved_word s ≡ o → WordIs s o → is_name s ≡ false → begins_as_name s ≡ true → list_all is_name_byte s ≡ true → KindIs previous s (option_map (λ w. WordKind w) o)
-no_name previous s None is word h begins all = too_long s h begins all (not_reserved s is)
+no_name previous s None is word h begins all = too_long s h begins all (none_reserved s is)
 no_name previous s (Some w) is word h begins all = (word, refl)
 
 -- what is found for a word is its kind, and nothing is found only where it is too long
 pub kind_is : (previous : Previous) (s : List ℕ) → begins_as_name s ≡ true → list_all is_name_byte s ≡ true → KindIs previous s (word_kind s)
 unfolding word_kind
-kind_is previous s begins all = cond_both (is_name s) (Some NameKind) (option_map (λ w. WordKind w) (reserved_word s)) (KindIs previous s) (λ h. (h, refl)) (λ h. no_name previous s (reserved_word s) refl (word_is s) h begins all)
+kind_is previous s begins all = cond_both (is_name s) (Some NameKind) (option_map (λ w. WordKind w) (reserved_word s)) (KindIs previous s) (λ h. (h, refl)) (λ h. no_name previous s (reserved_word s) refl (word_spelled s) h begins all)
 
 -- ---- the kind of a word, and the value of a number
 
@@ -93,25 +94,7 @@ pub record WordFacts (w : Word) : Type 0 where
 pub word_facts : (w : Word) → WordFacts w
 unfolding word_kind reserved_word is_reserved
 word_facts Begin = record { begins = refl; all = refl; kind = refl; short = omega arith }
-word_facts End = record { begins = refl; all = refl; kind = refl; short = omega arith }
-word_facts Receive = record { begins = refl; all = refl; kind = refl; short = omega arith }
-word_facts Goto = record { begins = refl; all = refl; kind = refl; short = omega arith }
-word_facts If = record { begins = refl; all = refl; kind = refl; short = omega arith }
-word_facts Call = record { begins = refl; all = refl; kind = refl; short = omega arith }
-word_facts Return = record { begins = refl; all = refl; kind = refl; short = omega arith }
-word_facts Print = record { begins = refl; all = refl; kind = refl; short = omega arith }
-word_facts Mod = record { begins = refl; all = refl; kind = refl; short = omega arith }
-word_facts Min = record { begins = refl; all = refl; kind = refl; short = omega arith }
-word_facts Max = record { begins = refl; all = refl; kind = refl; short = omega arith }
-word_facts Shl = record { begins = refl; all = refl; kind = refl; short = omega arith }
-word_facts Shr = record { begins = refl; all = refl; kind = refl; short = omega arith }
-word_facts Shra = record { begins = refl; all = refl; kind = refl; short = omega arith }
-word_facts And = record { begins = refl; all = refl; kind = refl; short = omega arith }
-word_facts Or = record { begins = refl; all = refl; kind = refl; short = omega arith }
-word_facts Xor = record { begins = refl; all = refl; kind = refl; short = omega arith }
-word_facts Trap = record { begins = refl; all = refl; kind = refl; short = omega arith }
-word_facts Global = record { begins = refl; all = refl; kind = refl; short = omega arith }
-word_facts Sequence = record { begins = refl; all = refl; kind = refl; short = omega arith }
+word_facts w = record { begins = refl; all = refl; kind = refl; short = omega arith }
 
 -- a name is found to be one
 pub name_kind : (s : List ℕ) → is_name s ≡ true → word_kind s ≡ Some NameKind
@@ -142,7 +125,7 @@ name_shape s h =
 -- no kind is found for a word of more than 64 bytes
 pub long_word : (s : List ℕ) → 64 < length s → word_kind s ≡ None
 unfolding word_kind
-long_word s long = cond-false (is_name s) (Some NameKind) (option_map (λ w. WordKind w) (reserved_word s)) (no_name (begins_as_name s) (list_all is_name_byte s) (not (is_reserved s))) ∙ no_word (reserved_word s) (word_is s)
+long_word s long = cond-false (is_name s) (Some NameKind) (option_map (λ w. WordKind w) (reserved_word s)) (no_name (begins_as_name s) (list_all is_name_byte s) (not (is_reserved s))) ∙ no_word (reserved_word s) (word_spelled s)
   where
     far : nat_le (length s) 64 ≡ false
     far = grind (arith, nat_tests)
@@ -204,9 +187,9 @@ pub number_test : (s : List ℕ) → Shape s → is_number s ≡ nat_lt (mag (si
 number_test s h = ap (λ (t : Bool). t && nat_lt (mag (signed_digits_value 10 s)) (2 ^ 63)) (and_from _ _ (and_from _ _ (ap not h.plus) h.some) h.digits)
 
 -- what is found for a numeral
-pub number_is : (s : List ℕ) → Shape s → NumberIs s (number_of s)
+pub number_spelled : (s : List ℕ) → Shape s → NumberIs s (number_of s)
 unfolding number_of
-number_is s h = cond_both (is_number s) (Some (signed_digits_value 10 s)) None (NumberIs s)
+number_spelled s h = cond_both (is_number s) (Some (signed_digits_value 10 s)) None (NumberIs s)
     (λ is. (record { sfits = ltb-true _ _ (sym (number_test s h) ∙ is) }, refl)) (λ is. too_large s (sym (number_test s h) ∙ is))
 
 -- a number in range is found
@@ -225,14 +208,9 @@ large_number previous s numeral large = cond-false (is_number s) (Some (signed_d
     above : (a b : ℕ) → (a < b → ⊥) → nat_lt a b ≡ false
     above a b h = false_from_ne_true (nat_lt a b) (λ e. h (ltb-true a b e))
 
--- ---- words and numbers are not empty
+-- ---- words are not empty
 
 -- a word is not empty
 pub named_some : (s : List ℕ) → begins_as_name s ≡ true → 0 < length s
 named_some [] h = absurd (cc)
 named_some (b ∷ s) h = omega arith
-
--- a number is not empty
-pub numeral_some : (previous : Previous) (s : List ℕ) → IsNumeral previous s → 0 < length s
-numeral_some previous s (inl h) = h.0
-numeral_some previous s (inr h) = omega (arith, ap length h.1)

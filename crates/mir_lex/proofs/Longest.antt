@@ -4,7 +4,7 @@ use Rattle.std.specs.Str.{all_ascii_digits}
 use Rattle.mir_base.specs.Names.{is_name_byte, is_letter}
 use Rattle.mir_lex.specs.declared.words.Mark.{Mark}
 use Rattle.mir_lex.specs.declared.words.Mark.TheVariants.{Colon, Comma, Semicolon, LeftParen, RightParen, Plus, Minus, Star, Slash, Equal, NotEqual, Less, LessEqual, Greater, GreaterEqual, Bang, Arrow}
-use Rattle.mir_lex.specs.declared.words.Word.{Word}
+use Rattle.mir_base.specs.declared.words.Word.{Word}
 use Rattle.mir_lex.specs.declared.words.Kind.{Kind}
 use Rattle.mir_lex.specs.declared.words.Kind.TheVariants.{Name as NameKind, Word as WordKind, Number as NumberKind, Mark as MarkKind, LineEnd as LineEndKind}
 use Rattle.mir_lex.specs.declared.scan.Pending.{Pending}
@@ -13,12 +13,15 @@ use Rattle.mir_lex.specs.declared.scan.Previous.{Previous}
 use Rattle.mir_lex.specs.declared.scan.Previous.TheVariants.{LineEnd as AfterLineEnd, Operand as AfterOperand, Other as AfterOther}
 use Rattle.std.proofs.Common.{◌≡◌, ℕ, ◌==◌, Bool, true, false, ◌||◌, List, [], ◌∷◌, ◌++◌, refl, sym, ◌∙◌, ap, subst, inl, inr, ◌⊎◌, arith}
 use Rattle.std.proofs.lemmas.Bool.{cases_Bool, eqb-true, and_from}
-use Rattle.mir_lex.specs.Spelling.{word_text, mark_text, IsMark, IsWord, IsNumeral, IsSpelled, IsLongest, BeginsWith, IsToken}
+use Rattle.mir_base.specs.Words.{word_text}
+use Rattle.mir_lex.specs.Spelling.{mark_text, IsMark, IsWord, IsNumeral, IsSpelled, IsLongest, BeginsWith, IsToken}
 use Rattle.mir_lex.proofs.Pieces.{IsPieceToken, NotContinued, continues, idle_closed, minus_open, open_of_mark}
-use Rattle.mir_lex.proofs.Classes.{all_at, all_push, digit_at, digit_is_name, letter_is_name, name_digit}
+use Rattle.mir_base.specs.DecimalLaws.{digit_at, passes_at}
+use Rattle.mir_lex.proofs.Classes.{all_push, digit_is_name, letter_is_name, name_digit}
 use Rattle.mir_lex.proofs.Sound.{begins_snoc, numeral_snoc}
 use Rattle.mir_lex.proofs.Marks.{by_spelling, mark_no_name, mark_second, mark_third, numeral_first, numeral_no_letter, opens, spelled_first}
-use Rattle.mir_lex.proofs.KindLemmas.{name_shape, numeral_some, word_facts}
+use Rattle.mir_lex.specs.SpellingLaws.{numeral_some}
+use Rattle.mir_lex.proofs.KindLemmas.{name_shape, word_facts}
 
 -- ---- what the next byte does not continue is as long as it can be
 
@@ -34,7 +37,7 @@ longest_by previous bytes after tail longer ends (byte ∷ more) rest split spel
 -- only a byte of a name makes a word longer
 word_no_longer : (previous : Previous) (bytes : List ℕ) → IsWord bytes → NoLonger previous bytes PWord
 word_no_longer previous [] word byte more ends spelled = let is = word.0 in absurd (cc)
-word_no_longer previous (first ∷ bytes) word byte more ends (inl longer) = let is = all_at is_name_byte (first ∷ bytes) byte more longer.1 in absurd (cc)
+word_no_longer previous (first ∷ bytes) word byte more ends (inl longer) = let is = passes_at is_name_byte (first ∷ bytes) byte more longer.1 in absurd (cc)
 word_no_longer previous (first ∷ bytes) word byte more ends (inr (inl numeral)) = let is = word.0 in let no = numeral_no_letter previous first (bytes ++ byte ∷ more) numeral in absurd (cc)
 word_no_longer previous (first ∷ bytes) word byte more ends (inr (inr mark)) =
     let is = letter_is_name first word.0 in let no = mark_no_name mark.0 first (bytes ++ byte ∷ more) mark.1 in absurd (cc)
@@ -190,13 +193,13 @@ spelled_two : (previous : Previous) (mark : Mark) (first byte second : ℕ) → 
 spelled_two previous mark first byte second text is at = inr (inr (mark, subst (IsMark mark) (sym (ap (λ b. first ∷ b ∷ []) (eqb-true byte second is) ∙ text)) at))
 
 -- one of two tests passed
-either : (a b : Bool) → (a || b) ≡ true → (a ≡ true) ⊎ (b ≡ true)
-either true b h = inl refl
-either false b h = inr h
+one_of_two : (a b : Bool) → (a || b) ≡ true → (a ≡ true) ⊎ (b ≡ true)
+one_of_two true b h = inl refl
+one_of_two false b h = inr h
 
 -- `<-` and `<=` are spelled
 less_more : (previous : Previous) (byte : ℕ) → continues PLess byte ≡ true → IsSpelled previous (60 ∷ byte ∷ [])
-less_more previous byte goes = elim (either (byte == 45) (byte == 61) goes) [
+less_more previous byte goes = elim (one_of_two (byte == 45) (byte == 61) goes) [
   | inl is ↦ spelled_two previous Arrow 60 byte 45 refl is (inl refl)
   | inr is ↦ spelled_two previous LessEqual 60 byte 61 refl is refl
 ]
@@ -213,19 +216,7 @@ mark_closed previous Less after longest = mark_more previous 60 after PLess long
 mark_closed previous Greater after longest = mark_more previous 62 after PGreater longest (λ byte goes. spelled_two previous GreaterEqual 62 byte 61 refl goes refl)
 mark_closed previous Bang after longest = mark_more previous 33 after PBang longest (λ byte goes. spelled_two previous NotEqual 33 byte 61 refl goes refl)
 mark_closed previous Minus after longest = minus_closed previous after longest
-mark_closed previous Colon after longest = idle_closed after
-mark_closed previous Comma after longest = idle_closed after
-mark_closed previous Semicolon after longest = idle_closed after
-mark_closed previous LeftParen after longest = idle_closed after
-mark_closed previous RightParen after longest = idle_closed after
-mark_closed previous Plus after longest = idle_closed after
-mark_closed previous Star after longest = idle_closed after
-mark_closed previous Slash after longest = idle_closed after
-mark_closed previous Equal after longest = idle_closed after
-mark_closed previous NotEqual after longest = idle_closed after
-mark_closed previous LessEqual after longest = idle_closed after
-mark_closed previous GreaterEqual after longest = idle_closed after
-mark_closed previous Arrow after longest = idle_closed after
+mark_closed previous mark after longest = idle_closed after
 
 -- a token as the scanner has it
 pub record AsPiece (previous : Previous) (bytes after : List ℕ) (kind : Kind) : Type 0 where

@@ -96,9 +96,9 @@ no_digits b bytes n is none = last_false (nat_lt 0 (length (b ∷ bytes))) _ (ap
     last_false false u is = refl
 
 -- the scanner's test is that of digits behind a minus, and of the range
-same_test : (bytes : List ℕ) → is_number bytes ≡ (is_digits (without_minus bytes) && fits_signed (signed_digits_value 10 bytes))
-same_test [] = refl
-same_test (b ∷ bytes) = go (b == 45) (b == 43) refl refl
+same_number_test : (bytes : List ℕ) → is_number bytes ≡ (is_digits (without_minus bytes) && fits_signed (signed_digits_value 10 bytes))
+same_number_test [] = refl
+same_number_test (b ∷ bytes) = go (b == 45) (b == 43) refl refl
   where
     v : Bool
     v = fits_signed (signed_digits_value 10 (b ∷ bytes))
@@ -120,7 +120,7 @@ same_test (b ∷ bytes) = go (b == 45) (b == 43) refl refl
 -- the number of the scanner is the one that contracts name
 pub signed_is : (bytes : List ℕ) → number_of bytes ≡ signed_number bytes
 unfolding number_of signed_number
-signed_is bytes = ap (λ (t : Bool). cond t (Some (signed_digits_value 10 bytes)) None) (same_test bytes)
+signed_is bytes = ap (λ (t : Bool). cond t (Some (signed_digits_value 10 bytes)) None) (same_number_test bytes)
 
 -- ---- digits below 2^64
 

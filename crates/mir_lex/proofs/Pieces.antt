@@ -18,7 +18,8 @@ use Rattle.mir_lex.specs.declared.scan.Previous.TheVariants.{LineEnd as AfterLin
 use Rattle.mir_lex.specs.declared.faults.LexFault.{LexFault}
 use Rattle.mir_lex.specs.declared.faults.LexFault.TheVariants.{BadByte, BadNumber, LongName, Memory}
 use Rattle.mir_lex.specs.Scanner.{single_mark}
-use Rattle.mir_lex.specs.Spelling.{with_token, word_text, IsMark, IsNumeral, IsInRange, with_line_end, is_blank, previous_of, HasNoLineFeed}
+use Rattle.mir_base.specs.Words.{word_text}
+use Rattle.mir_lex.specs.Spelling.{with_token, IsMark, IsNumeral, IsInRange, with_line_end, is_blank, previous_of, HasNoLineFeed}
 
 -- ---- what may become longer
 

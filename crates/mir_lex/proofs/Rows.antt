@@ -16,15 +16,18 @@ use Rattle.mir_lex.specs.declared.faults.LexFault.TheVariants.{BadByte, BadNumbe
 use Rattle.std.proofs.Common.{◌≡◌, ℕ, ◌+◌, ◌<◌, ◌==◌, Bool, true, false, not, List, [], ◌∷◌, ◌++◌, length, Option, None, Some, refl, sym, ◌∙◌, ap, subst, append_assoc, inl, inr, ◌⊎◌, cond, arith}
 use Rattle.std.proofs.lemmas.Bool.{cases_Bool, eqb-true, and_from, and_parts, false_from_ne_true, not-false, not-true}
 use Rattle.std.proofs.lemmas.List.{append-nil, append_cancel_left}
-use Rattle.mir_lex.specs.Spelling.{with_token, word_text, IsMark, IsNumeral, IsInRange, with_line_end, is_blank, previous_of, HasNoLineFeed, IsSpelled, BeginsWith, IsToken, comment_text, EndsLine, Row, start as row_start, token as row_token, blank as row_blank, comment as row_comment, line_feed as row_line_feed, IsTokens, BeginsNone, IsBadNumber, StopsLexing, IsRefusal}
+use Rattle.mir_base.specs.Words.{word_text}
+use Rattle.mir_lex.specs.Spelling.{with_token, IsMark, IsNumeral, IsInRange, with_line_end, is_blank, previous_of, HasNoLineFeed, IsSpelled, BeginsWith, IsToken, comment_text, EndsLine, Row, start as row_start, token as row_token, blank as row_blank, comment as row_comment, line_feed as row_line_feed, IsTokens, BeginsNone, IsBadNumber, StopsLexing, IsRefusal}
 use Rattle.mir_lex.specs.Scanner.{single_mark}
 use Rattle.mir_lex.specs.Tokens.{line_after}
 use Rattle.std.proofs.lemmas.List.Sums.{sum_by-append}
 use Rattle.mir_lex.proofs.Pieces.{ByteBeginsNone, IsPieceToken, NotContinued, PieceBadNumber, PieceRefusal, PieceStops, Pieces, PiecesTokens, blank_piece, closed_before, comment_piece, ends_append, feed_piece, idle_closed, no_piece, token_piece}
 use Rattle.mir_lex.proofs.Sound.{MarkIs, single_is}
-use Rattle.mir_lex.proofs.Classes.{all_fed, blank_feed, digit_feed, digits_all, letter_name, name_digit, name_feed}
+use Rattle.mir_base.specs.DecimalLaws.{digits_all}
+use Rattle.mir_lex.proofs.Classes.{all_fed, blank_feed, digit_feed, letter_name, name_digit, name_feed}
 use Rattle.mir_lex.proofs.Marks.{at_mark, every, mark_arrow, mark_no_bar, mark_some, no_mark_here, spelled_first, spelled_some}
-use Rattle.mir_lex.proofs.KindLemmas.{name_shape, named_some, numeral_some, word_facts}
+use Rattle.mir_lex.specs.SpellingLaws.{numeral_some}
+use Rattle.mir_lex.proofs.KindLemmas.{name_shape, named_some, word_facts}
 use Rattle.mir_lex.proofs.Longest.{number_closed, number_longest, piece_token, token_piece_is, word_closed, word_longest}
 
 -- ---- lines

@@ -21,7 +21,8 @@ use Rattle.std.proofs.lemmas.List.{take_at, drop_at}
 use Rattle.mir_lex.specs.Spelling.{with_token, IsDigits, CanBeSigned, with_line_end, is_blank, previous_of}
 use Rattle.mir_lex.specs.Scanner.{number_of, word_kind, extend, push, skip, push_word, push_number, pending_bytes, emit_as, emit, end_line, minus_after, begin, begin_after, complete, turn_as, stays, step_as, scan_step, start, scan}
 use Rattle.std.proofs.lemmas.List.Sums.{fold-append}
-use Rattle.mir_lex.proofs.Classes.{blank_feed, digit_blank, digit_feed, digit_no_letter, digits_all, letter_blank, letter_feed, name_digit}
+use Rattle.mir_base.specs.DecimalLaws.{digits_all}
+use Rattle.mir_lex.proofs.Classes.{blank_feed, digit_blank, digit_feed, digit_no_letter, letter_blank, letter_feed, name_digit}
 use Rattle.mir_lex.proofs.Pieces.{continues}
 
 -- ---- scans, and what they hand over

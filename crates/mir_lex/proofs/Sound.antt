@@ -22,8 +22,10 @@ use Rattle.std.proofs.lemmas.List.{append-nil, length-append}
 use Rattle.mir_lex.specs.Spelling.{with_token, IsDigits, CanBeSigned, IsNumeral, with_line_end, is_blank, previous_of, HasNoLineFeed}
 use Rattle.mir_lex.specs.Scanner.{number_of, word_kind, single_mark, extend, push, skip, push_word, push_number, pending_bytes, emit_as, emit, end_line, next_line, line_feed, minus_after, push_mark, begin, begin_after, complete, step_as, scan_step, start, scan, finish_with, finish, scanned}
 use Rattle.mir_lex.proofs.Pieces.{ByteBeginsNone, IsPieceToken, NotContinued, PieceRefusal, PieceStops, Pieces, PiecesTokens, begins_closed, blank_piece, comment_piece, continues, ends_append, feed_piece, minus_open, no_piece, token_piece}
-use Rattle.mir_lex.proofs.KindLemmas.{KindIs, NumberIs, kind_is, named_some, number_is, numeral_shape, numeral_some}
-use Rattle.mir_lex.proofs.Classes.{all_push, digits_all, letter_name}
+use Rattle.mir_lex.specs.SpellingLaws.{numeral_some}
+use Rattle.mir_lex.proofs.KindLemmas.{KindIs, NumberIs, kind_is, named_some, number_spelled, numeral_shape}
+use Rattle.mir_base.specs.DecimalLaws.{digits_all}
+use Rattle.mir_lex.proofs.Classes.{all_push, letter_name}
 use Rattle.mir_lex.proofs.Runs.{last_line, since}
 
 -- ---- what was read
@@ -160,7 +162,7 @@ emit_as_keeps text prefix rest st Comment is h ends = drop_comment prefix st h
 emit_as_keeps text prefix rest st PWord is h ends = word_emits text prefix rest st (word_kind (pending_bytes text st)) is h
     (subst (λ (l : List ℕ). KindIs st.previous h.own (word_kind l)) (sym (own_bytes text prefix rest st PWord is h)) (kind_is st.previous h.own h.reads.0 h.reads.1)) ends
 emit_as_keeps text prefix rest st PNumber is h ends = number_emits text prefix rest st (number_of (pending_bytes text st)) is h
-    (subst (λ (l : List ℕ). NumberIs h.own (number_of l)) (sym (own_bytes text prefix rest st PNumber is h)) (number_is h.own (numeral_shape st.previous h.own h.reads))) ends
+    (subst (λ (l : List ℕ). NumberIs h.own (number_of l)) (sym (own_bytes text prefix rest st PNumber is h)) (number_spelled h.own (numeral_shape st.previous h.own h.reads))) ends
 emit_as_keeps text prefix rest st PMinus is h ends = put_fresh prefix st PMinus PMinus (MarkKind Minus) h (h.reads.0, minus_open_is st.previous h.reads.1)
 emit_as_keeps text prefix rest st PLess is h ends = put_fresh prefix st PLess PLess (MarkKind Less) h (h.reads, refl)
 emit_as_keeps text prefix rest st PGreater is h ends = put_fresh prefix st PGreater PGreater (MarkKind Greater) h (h.reads, refl)
@@ -234,21 +236,21 @@ MarkIs previous b None = Unit {0}
 MarkIs previous b (Some m) = IsPieceToken previous (b ∷ []) (MarkKind m) Idle
 
 -- the byte by its test
-here : (b n : ℕ) → (b == n) ≡ true → b ∷ [] ≡ n ∷ []
-here b n h = ap (λ (x : ℕ). x ∷ []) (eqb-true b n h)
+one_byte : (b n : ℕ) → (b == n) ≡ true → b ∷ [] ≡ n ∷ []
+one_byte b n h = ap (λ (x : ℕ). x ∷ []) (eqb-true b n h)
 
 -- a mark of one byte is spelled as this byte
 pub single_is : (previous : Previous) (b : ℕ) → MarkIs previous b (single_mark b)
 single_is previous b =
-    cond_both (b == 58) (Some Colon) _ (MarkIs previous b) (λ h. (here b 58 h, refl)) (λ _.
-    cond_both (b == 44) (Some Comma) _ (MarkIs previous b) (λ h. (here b 44 h, refl)) (λ _.
-    cond_both (b == 59) (Some Semicolon) _ (MarkIs previous b) (λ h. (here b 59 h, refl)) (λ _.
-    cond_both (b == 40) (Some LeftParen) _ (MarkIs previous b) (λ h. (here b 40 h, refl)) (λ _.
-    cond_both (b == 41) (Some RightParen) _ (MarkIs previous b) (λ h. (here b 41 h, refl)) (λ _.
-    cond_both (b == 43) (Some Plus) _ (MarkIs previous b) (λ h. (here b 43 h, refl)) (λ _.
-    cond_both (b == 42) (Some Star) _ (MarkIs previous b) (λ h. (here b 42 h, refl)) (λ _.
-    cond_both (b == 47) (Some Slash) _ (MarkIs previous b) (λ h. (here b 47 h, refl)) (λ _.
-    cond_both (b == 61) (Some Equal) None (MarkIs previous b) (λ h. (here b 61 h, refl)) (λ _. tt)))))))))
+    cond_both (b == 58) (Some Colon) _ (MarkIs previous b) (λ h. (one_byte b 58 h, refl)) (λ _.
+    cond_both (b == 44) (Some Comma) _ (MarkIs previous b) (λ h. (one_byte b 44 h, refl)) (λ _.
+    cond_both (b == 59) (Some Semicolon) _ (MarkIs previous b) (λ h. (one_byte b 59 h, refl)) (λ _.
+    cond_both (b == 40) (Some LeftParen) _ (MarkIs previous b) (λ h. (one_byte b 40 h, refl)) (λ _.
+    cond_both (b == 41) (Some RightParen) _ (MarkIs previous b) (λ h. (one_byte b 41 h, refl)) (λ _.
+    cond_both (b == 43) (Some Plus) _ (MarkIs previous b) (λ h. (one_byte b 43 h, refl)) (λ _.
+    cond_both (b == 42) (Some Star) _ (MarkIs previous b) (λ h. (one_byte b 42 h, refl)) (λ _.
+    cond_both (b == 47) (Some Slash) _ (MarkIs previous b) (λ h. (one_byte b 47 h, refl)) (λ _.
+    cond_both (b == 61) (Some Equal) None (MarkIs previous b) (λ h. (one_byte b 61 h, refl)) (λ _. tt)))))))))
 
 -- a byte that is a mark, or begins nothing
 mark_keeps : (text prefix rest : List ℕ) (st : Scan) (tail : Pending) (b : ℕ) (o : Option Mark) → text ≡ prefix ++ b ∷ rest → Fresh prefix st tail → continues tail b ≡ false → MarkIs st.previous b o → (o ≡ None → ByteBeginsNone (b ∷ rest)) → KeepsBytes text (prefix ++ b ∷ []) (push_mark st o)
@@ -269,11 +271,11 @@ begin_keeps text prefix rest st tail b is h ends =
     cond_both (is_letter b) (Going (extend st PWord)) _ P (λ e. opened prefix st tail PWord b h ends (e, letter_name b e)) (λ nletter.
     cond_both (is_ascii_digit b) (Going (extend st PNumber)) _ P (λ e. opened prefix st tail PNumber b h ends (inl (omega arith, and_from _ _ e refl))) (λ ndigit.
     cond_both (b == 45) (Going (minus_after st st.previous)) _ P (λ e. at_byte (λ b. continues tail b ≡ false → KeepsBytes text (prefix ++ b ∷ []) (Going (minus_after st st.previous))) b 45 e (λ ends. minus_as prefix st tail st.previous refl h ends) ends) (λ n45.
-    cond_both (b == 60) (Going (extend st PLess)) _ P (λ e. opened prefix st tail PLess b h ends (here b 60 e)) (λ n60.
-    cond_both (b == 62) (Going (extend st PGreater)) _ P (λ e. opened prefix st tail PGreater b h ends (here b 62 e)) (λ n62.
-    cond_both (b == 33) (Going (extend st PBang)) _ P (λ e. opened prefix st tail PBang b h ends (here b 33 e)) (λ n33.
-    cond_both (b == 124) (Going (extend st Bar)) _ P (λ e. opened prefix st tail Bar b h ends (here b 124 e)) (λ n124.
-    cond_both (b == 226) (Going (extend st ArrowFirst)) (push_mark st (single_mark b)) P (λ e. opened prefix st tail ArrowFirst b h ends (here b 226 e)) (λ n226.
+    cond_both (b == 60) (Going (extend st PLess)) _ P (λ e. opened prefix st tail PLess b h ends (one_byte b 60 e)) (λ n60.
+    cond_both (b == 62) (Going (extend st PGreater)) _ P (λ e. opened prefix st tail PGreater b h ends (one_byte b 62 e)) (λ n62.
+    cond_both (b == 33) (Going (extend st PBang)) _ P (λ e. opened prefix st tail PBang b h ends (one_byte b 33 e)) (λ n33.
+    cond_both (b == 124) (Going (extend st Bar)) _ P (λ e. opened prefix st tail Bar b h ends (one_byte b 124 e)) (λ n124.
+    cond_both (b == 226) (Going (extend st ArrowFirst)) (push_mark st (single_mark b)) P (λ e. opened prefix st tail ArrowFirst b h ends (one_byte b 226 e)) (λ n226.
     mark_keeps text prefix rest st tail b (single_mark b) is h ends (single_is st.previous b) (λ nothing. inr (inr (n10, nblank, nletter, ndigit, n45, n60, n62, n33, n124, n226, nothing)))))))))))))
 
 -- the same where what was pending may have been refused

@@ -5,10 +5,10 @@ use Rattle.std.specs.Char.{is_ascii_digit}
 use Rattle.std.specs.Str.{all_ascii_digits}
 use Rattle.std.specs.Str.Parse.{without_leading_sign, signed_digits_value}
 use Rattle.std.specs.Int.Signed.{mag}
-use Rattle.mir_base.specs.Names.{is_name, is_name_byte, is_letter, is_text}
+use Rattle.mir_base.specs.Names.{is_name, is_name_byte, is_letter}
+use Rattle.mir_base.specs.Words.{reserved_word}
 use Rattle.mir_lex.specs.declared.words.Mark.{Mark}
 use Rattle.mir_lex.specs.declared.words.Mark.TheVariants.{Colon, Comma, Semicolon, LeftParen, RightParen, Plus, Minus, Star, Slash, Equal, NotEqual, Less, LessEqual, Greater, GreaterEqual, Bang, Arrow}
-use Rattle.mir_lex.specs.declared.words.Word.{Word}
 use Rattle.mir_lex.specs.declared.words.Kind.{Kind}
 use Rattle.mir_lex.specs.declared.words.Kind.TheVariants.{Name as NameKind, Word as WordKind, Number as NumberKind, Mark as MarkKind, LineEnd as LineEndKind}
 use Rattle.mir_lex.specs.declared.scan.Pending.{Pending}
@@ -20,7 +20,7 @@ use Rattle.mir_lex.specs.declared.scan.Scanned.{Scanned}
 use Rattle.mir_lex.specs.declared.scan.Scanned.TheVariants.{Going, Stopped}
 use Rattle.mir_lex.specs.declared.faults.LexFault.{LexFault}
 use Rattle.mir_lex.specs.declared.faults.LexFault.TheVariants.{BadByte, BadNumber, LongName}
-use Rattle.mir_lex.specs.Spelling.{word_text, words, with_token, is_blank, previous_of}
+use Rattle.mir_lex.specs.Spelling.{with_token, is_blank, previous_of}
 
 -- ---- words, numbers and marks
 
@@ -39,15 +39,6 @@ abbrev pub is_lone_letter : List ℕ → Bool
 is_lone_letter [] = false
 is_lone_letter (byte ∷ []) = is_letter byte
 is_lone_letter (byte ∷ next ∷ bytes) = false
-
--- the word of the first entry whose spelling the bytes are
-abbrev pub first_word : {Entry : Type 0} → (Entry → List ℕ) → (Entry → Word) → List ℕ → List Entry → Option Word
-first_word text word bytes [] = None
-first_word text word bytes (entry ∷ entries) = if is_text (text entry) bytes then Some (word entry) else first_word text word bytes entries
-
--- the reserved word that these bytes are
-unfoldable pub reserved_word : List ℕ → Option Word
-reserved_word bytes = first_word word_text (λ word. word) bytes words
 
 -- what a word is; none where it is too long
 unfoldable pub word_kind : List ℕ → Option Kind

@@ -7,8 +7,7 @@ use Rattle.std.specs.Int.{w64}
 use Rattle.std.specs.Str.Parse.{signed_digits_value}
 use Rattle.mir_base.specs.Limits.{most_name_bytes}
 use Rattle.mir_base.specs.Names.{IsName, is_name_byte, begins_as_name}
-use Rattle.mir_lex.specs.declared.words.Word.{Word}
-use Rattle.mir_lex.specs.declared.words.Word.TheVariants.{Begin, End, Receive, Goto, If, Call, Return, Print, Mod, Min, Max, Shl, Shr, Shra, And, Or, Xor, Trap, Global, Sequence}
+use Rattle.mir_base.specs.Words.{word_text}
 use Rattle.mir_lex.specs.declared.words.Mark.{Mark}
 use Rattle.mir_lex.specs.declared.words.Mark.TheVariants.{Colon, Comma, Semicolon, LeftParen, RightParen, Plus, Minus, Star, Slash, Equal, NotEqual, Less, LessEqual, Greater, GreaterEqual, Bang, Arrow}
 use Rattle.mir_lex.specs.declared.words.Kind.{Kind}
@@ -21,35 +20,6 @@ use Rattle.mir_lex.specs.declared.faults.LexFault.TheVariants.{BadByte, BadNumbe
 use Rattle.mir_lex.specs.Tokens.{line_after}
 
 -- ---- spellings
-
--- how a reserved word is spelled
-abbrev pub word_text : Word → List ℕ
-word_text Begin = codes "begin"
-word_text End = codes "end"
-word_text Receive = codes "receive"
-word_text Goto = codes "goto"
-word_text If = codes "if"
-word_text Call = codes "call"
-word_text Return = codes "return"
-word_text Print = codes "print"
-word_text Mod = codes "mod"
-word_text Min = codes "min"
-word_text Max = codes "max"
-word_text Shl = codes "shl"
-word_text Shr = codes "shr"
-word_text Shra = codes "shra"
-word_text And = codes "and"
-word_text Or = codes "or"
-word_text Xor = codes "xor"
-word_text Trap = codes "trap"
-word_text Global = codes "global"
-word_text Sequence = codes "sequence"
-
--- the reserved words
-abbrev pub words : List Word
-words =
-    Begin ∷ End ∷ Receive ∷ Goto ∷ If ∷ Call ∷ Return ∷ Print ∷ Mod ∷ Min ∷ Max ∷ Shl ∷ Shr ∷ Shra ∷ And ∷ Or ∷ Xor ∷ Trap ∷ Global ∷ Sequence
-    ∷ []
 
 -- how a mark is spelled
 abbrev pub mark_text : Mark → List ℕ

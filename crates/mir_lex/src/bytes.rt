@@ -1,11 +1,10 @@
 // What bytes begin or spell.
 ghost use Rattle.std.specs.Prelude.{◌≡◌};
 ghost use Rattle.mir_lex.specs.Spelling.{is_blank};
-ghost use Rattle.mir_lex.specs.Scanner.{is_lone_letter, first_word, reserved_word, word_kind, single_mark};
+ghost use Rattle.mir_lex.specs.Scanner.{is_lone_letter, word_kind, single_mark};
 
-use crate::words::WORDS;
-use crate::{Kind, Mark, Word};
-use mir_base::{Name, is_letter, is_text};
+use crate::{Kind, Mark};
+use mir_base::{Name, is_letter, reserved_word};
 
 /// What a letter with the letters, digits and `_` behind it is, and `None` where it is too long for a name.
 #[tactic(auto, unfolding(crate::specs::Scanner::word_kind))]
@@ -29,26 +28,6 @@ fn is_lone_letter(bytes: &[u8]) -> bool
         [only] => is_letter(*only),
         _ => false,
     }
-}
-
-// The reserved word that the bytes are, and `None` where they are none.
-#[tactic(auto, unfolding(crate::specs::Scanner::reserved_word))]
-fn reserved_word(bytes: &[u8]) -> Option<Word>
-    ensures { result ≡ reserved_word bytes.now }
-{
-    word_among(&WORDS, bytes)
-}
-
-// The word of the first entry whose spelling the bytes are, and `None` where there is none.
-fn word_among(table: &[(&[u8], Word)], bytes: &[u8]) -> Option<Word>
-    ensures { result ≡ first_word (λ entry. entry.0.now) (λ entry. entry.1) bytes.now table.now }
-{
-    for (text, word) in table {
-        if is_text(text, bytes) {
-            return Some(*word);
-        }
-    }
-    None
 }
 
 /// The mark that this byte alone is, whatever follows.

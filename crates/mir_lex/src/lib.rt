@@ -24,7 +24,7 @@ pub use lexing::lex;
 pub use numbers::{number, unsigned};
 pub use terminals::{Symbol, Terminal};
 pub use tokens::{Token, Tokens};
-pub use words::{Kind, Mark, Word};
+pub use words::{Kind, Mark};
 
-/// The call ran out of memory: the allocator refused.
+/// There is not enough memory: the allocator refused.
 pub type Memory = std::alloc::AllocError;

@@ -1,5 +1,6 @@
 // Numbers.
-ghost use Rattle.std.specs.Prelude.{◌≡◌, ◌↔◌, ◌==◌, ℕ, ℤ, Some, slice_index};
+ghost use Rattle.std.specs.Prelude.{◌≡◌, ◌↔◌, ◌==◌, ◌⊎◌, ℕ, ℤ, true, false, Some, IfNone, IfSome, slice_index};
+ghost use Rattle.std.specs.Str.{IsUtf8};
 ghost use Rattle.mir_lex.specs.Numbers.{signed_number, unsigned_number, IsSignedWord, IsUnsignedWord};
 ghost use Rattle.mir_lex.specs.Scanner.{number_of};
 
@@ -27,12 +28,9 @@ pub fn unsigned(bytes: &[u8]) -> Option<u64>
 fn parsed_unsigned(bytes: &[u8]) -> Option<u64>
     ensures { result ≡ unsigned_number bytes.now }
 {
-    if begins_with_plus(bytes) {
-        return None;
-    }
-    match str::from_utf8(bytes) {
-        Ok(digits) => digits.parse().ok(),
-        Err(_) => None,
+    match plain_text(bytes) {
+        Some(digits) => digits.parse().ok(),
+        None => None,
     }
 }
 
@@ -40,16 +38,29 @@ fn parsed_unsigned(bytes: &[u8]) -> Option<u64>
 pub fn scanned_number(bytes: &[u8]) -> Option<i64>
     ensures { result ≡ number_of bytes.now }
 {
+    match plain_text(bytes) {
+        Some(text) => text.parse().ok(),
+        None => None,
+    }
+}
+
+// The bytes as a text, and `None` where they are none, or a plus stands first: the library would take it for a sign.
+fn plain_text(bytes: &[u8]) -> Option<&str>
+    ensures some { IfSome result (λ text.
+        (text.now ≡ bytes.now) × ((slice_index bytes.now 0 == 43) ≡ false)) }
+    ensures none { IfNone result
+        (((slice_index bytes.now 0 == 43) ≡ true) ⊎ (IsUtf8 bytes.now → ⊥)) }
+{
     if begins_with_plus(bytes) {
         return None;
     }
     match str::from_utf8(bytes) {
-        Ok(text) => text.parse().ok(),
+        Ok(text) => Some(text),
         Err(_) => None,
     }
 }
 
-// Whether a plus stands first: the library would take it for a sign.
+// Whether a plus stands first.
 fn begins_with_plus(bytes: &[u8]) -> bool
     ensures { result ≡ (slice_index bytes.now 0 == 43) }
 {

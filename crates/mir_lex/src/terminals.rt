@@ -1,6 +1,6 @@
 // Tokens as the grammar reads them.
-use crate::{Mark, Word};
-use mir_base::Name;
+use crate::Mark;
+use mir_base::{Name, Word};
 
 /// A terminal symbol of the grammar: what a token is, with the bytes of its name.
 #[derive(Drop)]

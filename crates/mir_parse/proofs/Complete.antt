@@ -11,7 +11,7 @@ use Rattle.mir_lex.specs.declared.terminals.Symbol.{Symbol}
 use Rattle.mir_lex.specs.declared.terminals.Symbol.TheVariants.{Name as NAME, Word as WORD, Mark as MARK, LineEnd as NL}
 use Rattle.mir_lex.specs.declared.terminals.Terminal.{Terminal}
 use Rattle.mir_lex.specs.declared.words.Mark.TheVariants.{Colon, Comma, RightParen}
-use Rattle.mir_lex.specs.declared.words.Word.TheVariants.{Begin as BeginWord, End as EndWord, Goto as GotoWord}
+use Rattle.mir_base.specs.declared.words.Word.TheVariants.{Begin as BeginWord, End as EndWord, Goto as GotoWord}
 use Rattle.mir_parse.specs.declared.raw.RawOperand.{RawOperand}
 use Rattle.mir_parse.specs.declared.raw.RawOperand.TheVariants.{Var, Const}
 use Rattle.mir_parse.specs.declared.raw.RawRhs.{RawRhs}
@@ -28,7 +28,7 @@ use Rattle.mir_parse.specs.declared.state.Hole.TheVariants.{Unary as OfUnary, Bi
 use Rattle.mir_parse.specs.declared.state.Part.TheVariants.{Fresh, Named, Arrowed, Wants, Opening, FirstArg, Given, Typed, If as PIf, IfOperand}
 use Rattle.mir_parse.specs.declared.state.Next.{Next}
 use Rattle.mir_parse.specs.declared.state.Next.TheVariants.{No, Go, Done, Label}
-use Rattle.mir_parse.specs.declared.state.Spot.TheVariants.{Named as UnitNamed, Headed, Begun, Inside, Mid, Ended}
+use Rattle.mir_parse.specs.declared.state.Spot.TheVariants.{Named as UnitNamed, Headed, Begun, Inside, Mid, AfterEnd}
 use Rattle.mir_parse.specs.declared.state.Reading.{Reading}
 use Rattle.mir_parse.specs.declared.state.State.{State}
 use Rattle.mir_parse.specs.declared.state.State.TheVariants.{Outside, In}
@@ -68,55 +68,17 @@ inside_run b colon form s ts at h = after_run b at form (fresh s) ts at h
 -- an operator after a first operand makes the reader wait for the second one: after a variable
 plain_op : (x y : List ℕ) (op : Op) → plain_name x y (binop_symbol op) ≡ Go (Wants (OfBinary x op (Var y)))
 plain_op x y Add = refl
-plain_op x y Sub = refl
-plain_op x y Mul = refl
-plain_op x y Div = refl
-plain_op x y Mod = refl
-plain_op x y Min = refl
-plain_op x y Max = refl
-plain_op x y Eq = refl
-plain_op x y Ne = refl
-plain_op x y Lt = refl
-plain_op x y Le = refl
-plain_op x y Gt = refl
-plain_op x y Ge = refl
-plain_op x y Shl = refl
-plain_op x y Shr = refl
-plain_op x y Shra = refl
-plain_op x y And = refl
-plain_op x y Or = refl
-plain_op x y Xor = refl
+plain_op x y op = refl
 
 -- after a number
 number_op : (x : List ℕ) (z : ℤ) (op : Op) → plain_number x z (binop_symbol op) ≡ Go (Wants (OfBinary x op (Const z)))
 number_op x y Add = refl
-number_op x y Sub = refl
-number_op x y Mul = refl
-number_op x y Div = refl
-number_op x y Mod = refl
-number_op x y Min = refl
-number_op x y Max = refl
-number_op x y Eq = refl
-number_op x y Ne = refl
-number_op x y Lt = refl
-number_op x y Le = refl
-number_op x y Gt = refl
-number_op x y Ge = refl
-number_op x y Shl = refl
-number_op x y Shr = refl
-number_op x y Shra = refl
-number_op x y And = refl
-number_op x y Or = refl
-number_op x y Xor = refl
+number_op x y op = refl
 
 -- after the first operand of a test
 rel_op : (a : RawOperand) (op : RelOp) → if_operand a (relop_symbol op) ≡ Go (Wants (OfRel op a))
 rel_op a IsEq = refl
-rel_op a IsNe = refl
-rel_op a IsLt = refl
-rel_op a IsLe = refl
-rel_op a IsGt = refl
-rel_op a IsGe = refl
+rel_op a op = refl
 
 -- where an operand is awaited, each operand is taken
 wants_operand : (hole : Hole) (a : RawOperand) → wants hole (operand_symbol a) ≡ Go (filled hole a)
@@ -303,8 +265,8 @@ head_run units name line (t ∷ ts) h =
 -- `end` closes the unit, also after a label
 tail_run : (b : Reading) (colon : Bool) (ts : List Terminal) → symbols ts ≡ WORD EndWord ∷ NL ∷ [] → fold read_step (In b (Inside colon)) ts ≡ Outside (b.units ++ b.unit ∷ [])
 tail_run b colon ts h =
-    let one = run_on (In b (Inside colon)) (In b Ended) (WORD EndWord) (NL ∷ []) ts h (λ at. refl) in
-    let two = run_on (In b Ended) (Outside (b.units ++ b.unit ∷ [])) NL [] one.0 one.1 (λ at. refl) in
+    let one = run_on (In b (Inside colon)) (In b AfterEnd) (WORD EndWord) (NL ∷ []) ts h (λ at. refl) in
+    let two = run_on (In b AfterEnd) (Outside (b.units ++ b.unit ∷ [])) NL [] one.0 one.1 (λ at. refl) in
     one.2 ∙ two.2 ∙ run_end (Outside (b.units ++ b.unit ∷ [])) two.0 two.1
 
 -- the tokens of a unit add it to the units read so far

@@ -6,7 +6,7 @@ use Rattle.mir_lex.specs.declared.terminals.Symbol.{Symbol}
 use Rattle.mir_lex.specs.declared.terminals.Symbol.TheVariants.{Name as NAME, Word as WORD, Number as NUMBER, Mark as MARK, LineEnd as NL}
 use Rattle.mir_lex.specs.declared.terminals.Terminal.{Terminal}
 use Rattle.mir_lex.specs.declared.words.Mark.TheVariants.{Colon, Comma, LeftParen, RightParen, Arrow}
-use Rattle.mir_lex.specs.declared.words.Word.TheVariants.{Begin as BeginWord, End as EndWord, Goto as GotoWord, Return as ReturnWord}
+use Rattle.mir_base.specs.declared.words.Word.TheVariants.{Begin as BeginWord, End as EndWord, Goto as GotoWord, Return as ReturnWord}
 use Rattle.mir_parse.specs.declared.raw.RawOperand.TheVariants.{Var, Const}
 use Rattle.mir_parse.specs.declared.raw.RawRhs.TheVariants.{Plain, Unary, Binary}
 use Rattle.mir_parse.specs.declared.raw.RawTest.TheVariants.{Rel, Holds, Fails}
@@ -20,12 +20,12 @@ use Rattle.mir_parse.specs.declared.state.Part.TheVariants.{Fresh, Receive as PR
 use Rattle.mir_parse.specs.declared.state.Next.{Next}
 use Rattle.mir_parse.specs.declared.state.Next.TheVariants.{No, Go, Done, Label}
 use Rattle.mir_parse.specs.declared.state.Spot.{Spot}
-use Rattle.mir_parse.specs.declared.state.Spot.TheVariants.{Named as UnitNamed, Headed, Begun, Inside, Mid, Ended}
+use Rattle.mir_parse.specs.declared.state.Spot.TheVariants.{Named as UnitNamed, Headed, Begun, Inside, Mid, AfterEnd}
 use Rattle.mir_parse.specs.declared.state.Reading.{Reading}
 use Rattle.mir_parse.specs.declared.state.State.{State}
 use Rattle.mir_parse.specs.declared.state.State.TheVariants.{Outside, In, Dead}
-use Rattle.mir_parse.specs.Grammar.{symbols, IsText, IsTextPrefix, IsUnexpected, IsEnded}
-use Rattle.mir_parse.specs.Reader.{fresh, part_step, with_inst, reading_after, outside, unit_named, headed, begun, inside, ended, spot_step, read_step, reads}
+use Rattle.mir_parse.specs.Grammar.{symbols, IsText, IsTextPrefix, IsUnexpected, IsUnfinished}
+use Rattle.mir_parse.specs.Reader.{fresh, part_step, with_inst, reading_after, outside, unit_named, headed, begun, inside, after_end, spot_step, read_step, reads}
 use Rattle.mir_parse.proofs.Complete.{part_run, after_run, text_run}
 use Rattle.mir_parse.proofs.Sound.{IsStateOf, reads_keeps}
 
@@ -118,7 +118,7 @@ spot_goes b (Headed broken) = headed_goes b broken
 spot_goes b Begun = record { remainder = at_zero (NL ∷ WORD EndWord ∷ NL ∷ []); units = b.units ++ b.unit ∷ []; run = refl }
 spot_goes b (Inside colon) = ends_colon b colon
 spot_goes b (Mid line p) = mid_goes b line p
-spot_goes b Ended = record { remainder = at_zero (NL ∷ []); units = b.units ++ b.unit ∷ []; run = refl }
+spot_goes b AfterEnd = record { remainder = at_zero (NL ∷ []); units = b.units ++ b.unit ∷ []; run = refl }
 
 -- no token changes a dead state
 pub dead_run : (line : ℕ) (ts : List Terminal) → fold read_step (Dead line) ts ≡ Dead line
@@ -200,9 +200,9 @@ inside_dies b true NL at dead h = absurd (cc)
 inside_dies b colon s at dead h = after_dies b at at (fresh s) dead h
 
 -- after `end`
-ended_dies : (b : Reading) (s : Symbol) (at dead : ℕ) → ended b s at ≡ Dead dead → at ≡ dead
-ended_dies b NL at dead h = absurd (cc)
-ended_dies b s at dead h = cc
+after_end_dies : (b : Reading) (s : Symbol) (at dead : ℕ) → after_end b s at ≡ Dead dead → at ≡ dead
+after_end_dies b NL at dead h = absurd (cc)
+after_end_dies b s at dead h = cc
 
 -- at each place in a unit
 spot_dies : (b : Reading) (spot : Spot) (s : Symbol) (at dead : ℕ) → spot_step b spot s at ≡ Dead dead → at ≡ dead
@@ -211,7 +211,7 @@ spot_dies b (Headed broken) s at dead h = headed_dies b broken s at dead h
 spot_dies b Begun s at dead h = begun_dies b s at dead h
 spot_dies b (Inside colon) s at dead h = inside_dies b colon s at dead h
 spot_dies b (Mid line p) s at dead h = after_dies b line at (part_step p s) dead h
-spot_dies b Ended s at dead h = ended_dies b s at dead h
+spot_dies b AfterEnd s at dead h = after_end_dies b s at dead h
 
 -- in every state
 step_dies : (st : State) (t : Terminal) (dead : ℕ) → (IsDead st → ⊥) → read_step st t ≡ Dead dead → t.line ≡ dead
@@ -292,15 +292,15 @@ pub outside_text : (ts : List Terminal) (units : List RawUnitShape) → reads ts
 outside_text ts units h = subst (λ (st : State). IsStateOf st ts) h (reads_keeps ts)
 
 -- what is read to a place in a unit ends there
-pub inside_ended : (ts : List Terminal) (b : Reading) (spot : Spot) → reads ts ≡ In b spot → IsEnded ts
-inside_ended ts b spot h = (
+pub inside_unfinished : (ts : List Terminal) (b : Reading) (spot : Spot) → reads ts ≡ In b spot → IsUnfinished ts
+inside_unfinished ts b spot h = (
   alive_prefix ts (λ dead. subst IsDead h dead),
   λ units text. let same = sym h ∙ text_run ts units text in absurd (cc),
 )
 
 -- a prefix of a text that is no text ends inside a unit
-pub ended_inside : (ts : List Terminal) → IsEnded ts → (b : Reading) × (spot : Spot) × (reads ts ≡ In b spot)
-ended_inside ts h = now (reads ts) refl
+pub unfinished_inside : (ts : List Terminal) → IsUnfinished ts → (b : Reading) × (spot : Spot) × (reads ts ≡ In b spot)
+unfinished_inside ts h = now (reads ts) refl
   where
     now : (st : State) → reads ts ≡ st → (b : Reading) × (spot : Spot) × (reads ts ≡ In b spot)
     now (Outside units) is = absurd (h.1 units (outside_text ts units is))
@@ -318,8 +318,8 @@ pub outside_unexpected : (ts : List Terminal) (units : List RawUnitShape) → Ou
 outside_unexpected ts units h line is = let same = h ∙ unexpected_dead ts line is in absurd (cc)
 
 -- nor do the tokens end in a unit
-pub outside_ended : (ts : List Terminal) (units : List RawUnitShape) → Outside units ≡ reads ts → IsEnded ts → ⊥
-outside_ended ts units h is = is.1 units (outside_text ts units (sym h))
+pub outside_unfinished : (ts : List Terminal) (units : List RawUnitShape) → Outside units ≡ reads ts → IsUnfinished ts → ⊥
+outside_unfinished ts units h is = is.1 units (outside_text ts units (sym h))
 
 -- tokens that leave the state dead are no text
 pub dead_only : (ts : List Terminal) (line : ℕ) → Dead line ≡ reads ts → (us : List RawUnitShape) → IsText ts us → ⊥
@@ -330,8 +330,8 @@ pub dead_line : (ts : List Terminal) (line : ℕ) → Dead line ≡ reads ts →
 dead_line ts line h other is = let same = h ∙ unexpected_dead ts other is in cc
 
 -- the tokens do not end in a unit where the state is dead
-pub dead_ended : (ts : List Terminal) (line : ℕ) → Dead line ≡ reads ts → IsEnded ts → ⊥
-dead_ended ts line h is = prefix_alive ts line is.0 (sym h)
+pub dead_unfinished : (ts : List Terminal) (line : ℕ) → Dead line ≡ reads ts → IsUnfinished ts → ⊥
+dead_unfinished ts line h is = prefix_alive ts line is.0 (sym h)
 
 -- tokens that leave the state in a unit are no text
 pub in_only : (ts : List Terminal) (b : Reading) (spot : Spot) → In b spot ≡ reads ts → (us : List RawUnitShape) → IsText ts us → ⊥

@@ -1,15 +1,16 @@
 -- What a part of an instruction has read, and that each token keeps it.
-use Rattle.std.proofs.Common.{◌≡◌, ℕ, ℤ, Bool, List, [], ◌∷◌, ◌++◌, codes, Option, None, Some, refl, sym, ◌∙◌, ap, subst, append_assoc, inl, inr, if◌then◌else◌, nat_eq}
+use Rattle.std.proofs.Common.{option_map, ◌≡◌, ℕ, ℤ, Bool, List, [], ◌∷◌, ◌++◌, codes, Option, None, Some, refl, sym, ◌∙◌, ap, subst, append_assoc, inl, inr, if◌then◌else◌, nat_eq}
 use Rattle.std.specs.Cmp.Lexicographic.{pointwise, same_text}
 use Rattle.std.proofs.lemmas.Bool.{cases_Bool}
 use Rattle.mir_base.specs.declared.operators.Op.{Op}
 use Rattle.mir_base.specs.declared.operators.RelOp.{RelOp}
+use Rattle.mir_base.specs.Operators.{op_of_relation}
 use Rattle.mir_lex.specs.declared.terminals.Symbol.{Symbol}
 use Rattle.mir_lex.specs.declared.terminals.Symbol.TheVariants.{Name as NAME, Word as WORD, Number as NUMBER, Mark as MARK, LineEnd as NL}
 use Rattle.mir_lex.specs.declared.words.Mark.{Mark}
 use Rattle.mir_lex.specs.declared.words.Mark.TheVariants.{Colon, Comma, Semicolon, LeftParen, RightParen, Plus, Minus, Star, Slash, Equal, NotEqual, Less, LessEqual, Greater, GreaterEqual, Bang, Arrow}
-use Rattle.mir_lex.specs.declared.words.Word.{Word}
-use Rattle.mir_lex.specs.declared.words.Word.TheVariants.{Receive as ReceiveWord, Goto as GotoWord, If as IfWord, Call as CallWord, Return as ReturnWord, Print as PrintWord, Mod as ModWord, Min as MinWord, Max as MaxWord, Shl as ShlWord, Shr as ShrWord, Shra as ShraWord, And as AndWord, Or as OrWord, Xor as XorWord}
+use Rattle.mir_base.specs.declared.words.Word.{Word}
+use Rattle.mir_base.specs.declared.words.Word.TheVariants.{Receive as ReceiveWord, Goto as GotoWord, If as IfWord, Call as CallWord, Return as ReturnWord, Print as PrintWord, Mod as ModWord, Min as MinWord, Max as MaxWord, Shl as ShlWord, Shr as ShrWord, Shra as ShraWord, And as AndWord, Or as OrWord, Xor as XorWord}
 use Rattle.mir_parse.specs.declared.raw.RawOperand.{RawOperand}
 use Rattle.mir_parse.specs.declared.raw.RawOperand.TheVariants.{Var, Const}
 use Rattle.mir_parse.specs.declared.raw.RawTest.{RawTest}
@@ -125,19 +126,28 @@ abbrev pub IsFoundFor : {A : Type 0} → (A → Symbol) → Option A → Symbol 
 IsFoundFor symbol_of None s = Unit {0}
 IsFoundFor symbol_of (Some op) s = s ≡ symbol_of op
 
+-- the relation that was found for a mark is spelled by this mark
+mark_rel : (m : Mark) → IsFoundFor relop_symbol (relop_of_mark m) (MARK m)
+mark_rel Equal = refl
+mark_rel NotEqual = refl
+mark_rel Less = refl
+mark_rel LessEqual = refl
+mark_rel Greater = refl
+mark_rel GreaterEqual = refl
+mark_rel m = tt
+
+-- and so is its operator
+relation_op : (o : Option RelOp) (s : Symbol) → IsFoundFor relop_symbol o s → IsFoundFor binop_symbol (option_map op_of_relation o) s
+relation_op None s is = tt
+relation_op (Some relation) s is = is
+
 -- the operator that was found for a symbol is spelled by this symbol: for marks
 mark_op : (m : Mark) → IsFoundFor binop_symbol (op_of_mark m) (MARK m)
 mark_op Plus = refl
 mark_op Minus = refl
 mark_op Star = refl
 mark_op Slash = refl
-mark_op Equal = refl
-mark_op NotEqual = refl
-mark_op Less = refl
-mark_op LessEqual = refl
-mark_op Greater = refl
-mark_op GreaterEqual = refl
-mark_op m = tt
+mark_op m = relation_op (relop_of_mark m) (MARK m) (mark_rel m)
 
 -- for words
 word_op : (w : Word) → IsFoundFor binop_symbol (op_of_word w) (WORD w)
@@ -151,16 +161,6 @@ word_op AndWord = refl
 word_op OrWord = refl
 word_op XorWord = refl
 word_op w = tt
-
--- for comparisons
-mark_rel : (m : Mark) → IsFoundFor relop_symbol (relop_of_mark m) (MARK m)
-mark_rel Equal = refl
-mark_rel NotEqual = refl
-mark_rel Less = refl
-mark_rel LessEqual = refl
-mark_rel Greater = refl
-mark_rel GreaterEqual = refl
-mark_rel m = tt
 
 -- a first operand and the operator found
 binary_with_keeps : (x : List ℕ) (a : RawOperand) (o : Option Op) (s : Symbol) (ss : List Symbol) → IsFoundFor binop_symbol o s → ss ≡ NAME x ∷ MARK Arrow ∷ operand_symbol a ∷ [] → KeepsSymbols (binary_with x a o) (ss ++ s ∷ [])
@@ -286,11 +286,11 @@ full_keeps f NL ss h = (ss, h, refl)
 full_keeps f s ss h = tt
 
 -- where one mark alone may follow
-mark_keeps : (mark : Mark) (p : Part) (s : Symbol) (ss : List Symbol) → Read p (ss ++ MARK mark ∷ []) → KeepsSymbols (mark_then mark p s) (ss ++ s ∷ [])
-mark_keeps Comma p (MARK Comma) ss h = h
-mark_keeps LeftParen p (MARK LeftParen) ss h = h
-mark_keeps RightParen p (MARK RightParen) ss h = h
-mark_keeps mark p s ss h = tt
+mark_then_keeps : (mark : Mark) (p : Part) (s : Symbol) (ss : List Symbol) → Read p (ss ++ MARK mark ∷ []) → KeepsSymbols (mark_then mark p s) (ss ++ s ∷ [])
+mark_then_keeps Comma p (MARK Comma) ss h = h
+mark_then_keeps LeftParen p (MARK LeftParen) ss h = h
+mark_then_keeps RightParen p (MARK RightParen) ss h = h
+mark_then_keeps mark p s ss h = tt
 
 -- where one name alone may follow
 name_keeps : (x : List ℕ) (p : Part) (s : Symbol) (ss : List Symbol) → Read p (ss ++ NAME x ∷ []) → KeepsSymbols (name_then x p s) (ss ++ s ∷ [])
@@ -315,19 +315,19 @@ args_on x f args end ss s h = record {
 pub part_keeps : (p : Part) (s : Symbol) (ss : List Symbol) → Read p ss → KeepsSymbols (part_step p s) (ss ++ s ∷ [])
 part_keeps Fresh s ss h = subst (λ (l : List Symbol). KeepsSymbols (fresh s) (l ++ s ∷ [])) (sym h) (fresh_keeps s)
 part_keeps PReceive s ss h = receive_word_keeps s ss h
-part_keeps (ReceiveName x) s ss h = mark_keeps LeftParen (ReceiveOpen x) s ss (on ss _ (MARK LeftParen) h)
+part_keeps (ReceiveName x) s ss h = mark_then_keeps LeftParen (ReceiveOpen x) s ss (on ss _ (MARK LeftParen) h)
 part_keeps (ReceiveOpen x) s ss h = name_keeps (codes "val") (ReceiveVal x) s ss (on ss _ (NAME (codes "val")) h)
-part_keeps (ReceiveVal x) s ss h = mark_keeps RightParen (Full (Receive x)) s ss (on ss _ (MARK RightParen) h)
+part_keeps (ReceiveVal x) s ss h = mark_then_keeps RightParen (Full (Receive x)) s ss (on ss _ (MARK RightParen) h)
 part_keeps (Named x) s ss h = named_keeps x s ss h
 part_keeps (Arrowed x) s ss h = arrowed_keeps x s ss h
 part_keeps (PlainName x y) s ss h = plain_name_keeps x y s ss h
 part_keeps (PlainNumber x z) s ss h = plain_number_keeps x z s ss h
 part_keeps (Wants hole) s ss h = wants_keeps hole s ss h
 part_keeps (PCall x) s ss h = call_word_keeps x s ss h
-part_keeps (Callee x f) s ss h = mark_keeps Comma (Opening x f) s ss (h.0, h.1, on_start ss h.0 _ (MARK Comma) h.2)
-part_keeps (Opening x f) s ss h = mark_keeps LeftParen (FirstArg x f) s ss (h.0, h.1, on_start ss h.0 _ (MARK LeftParen) h.2)
+part_keeps (Callee x f) s ss h = mark_then_keeps Comma (Opening x f) s ss (h.0, h.1, on_start ss h.0 _ (MARK Comma) h.2)
+part_keeps (Opening x f) s ss h = mark_then_keeps LeftParen (FirstArg x f) s ss (h.0, h.1, on_start ss h.0 _ (MARK LeftParen) h.2)
 part_keeps (FirstArg x f) s ss h = first_arg_keeps x f s ss h
-part_keeps (Given x f args) s ss h = mark_keeps Comma (Typing x f args) s ss (args_on x f args [] ss (MARK Comma) h)
+part_keeps (Given x f args) s ss h = mark_then_keeps Comma (Typing x f args) s ss (args_on x f args [] ss (MARK Comma) h)
 part_keeps (Typing x f args) s ss h = name_keeps (codes "int") (Typed x f args) s ss (args_on x f args (MARK Comma ∷ []) ss (NAME (codes "int")) h)
 part_keeps (Typed x f args) s ss h = typed_keeps x f args s ss h
 part_keeps PGoto s ss h = goto_word_keeps s ss h

@@ -5,7 +5,7 @@ use Rattle.mir_lex.specs.declared.terminals.Symbol.{Symbol}
 use Rattle.mir_lex.specs.declared.terminals.Symbol.TheVariants.{Name as NAME, Word as WORD, Mark as MARK, LineEnd as NL}
 use Rattle.mir_lex.specs.declared.terminals.Terminal.{Terminal}
 use Rattle.mir_lex.specs.declared.words.Mark.TheVariants.{Colon}
-use Rattle.mir_lex.specs.declared.words.Word.TheVariants.{Begin as BeginWord, End as EndWord}
+use Rattle.mir_base.specs.declared.words.Word.TheVariants.{Begin as BeginWord, End as EndWord}
 use Rattle.mir_parse.specs.declared.raw.RawForm.{RawForm}
 use Rattle.mir_parse.specs.declared.raw.RawInst.{RawInst}
 use Rattle.mir_parse.specs.declared.raw.RawLabel.{RawLabel}
@@ -15,12 +15,12 @@ use Rattle.mir_parse.specs.declared.state.Part.TheVariants.{Fresh}
 use Rattle.mir_parse.specs.declared.state.Next.{Next}
 use Rattle.mir_parse.specs.declared.state.Next.TheVariants.{No, Go, Done, Label}
 use Rattle.mir_parse.specs.declared.state.Spot.{Spot}
-use Rattle.mir_parse.specs.declared.state.Spot.TheVariants.{Named as UnitNamed, Headed, Begun, Inside, Mid, Ended}
+use Rattle.mir_parse.specs.declared.state.Spot.TheVariants.{Named as UnitNamed, Headed, Begun, Inside, Mid, AfterEnd}
 use Rattle.mir_parse.specs.declared.state.Reading.{Reading}
 use Rattle.mir_parse.specs.declared.state.State.{State}
 use Rattle.mir_parse.specs.declared.state.State.TheVariants.{Outside, In, Dead}
 use Rattle.mir_parse.specs.Grammar.{symbols, StartsAt, Are, IsBreak, Body, IsHead, IsText, bare, label, inst, no_unit, more}
-use Rattle.mir_parse.specs.Reader.{fresh, part_step, begin_unit, with_inst, with_label, reading_after, outside, unit_named, headed, begun, inside, ended, spot_step, read_step, reads}
+use Rattle.mir_parse.specs.Reader.{fresh, part_step, begin_unit, with_inst, with_label, reading_after, outside, unit_named, headed, begun, inside, after_end, spot_step, read_step, reads}
 use Rattle.mir_parse.proofs.PartSound.{Read, KeepsSymbols, part_keeps}
 
 -- no label and no instruction yet
@@ -85,7 +85,7 @@ At b Begun own = (brk : List Symbol) × IsBreak brk × HeadOf b (brk ++ WORD Beg
 At b (Inside false) own = InRows b own
 At b (Inside true) own = AtColon b own
 At b (Mid line p) own = InPart b line p own
-At b Ended own = AtEnd b own
+At b AfterEnd own = AtEnd b own
 
 -- the tokens are those of whole units, and those of one up to this place
 pub record InUnit (b : Reading) (spot : Spot) (ts : List Terminal) : Type 0 where
@@ -249,7 +249,7 @@ fresh_keeps s = part_keeps Fresh s [] refl
 
 -- the state that follows a symbol says what was read: between two instructions
 inside_keeps : (b : Reading) (colon : Bool) (s : Symbol) (at : ℕ) (before own : List Terminal) → IsText before b.units → At b (Inside colon) own → IsStateOf (inside b colon s at) (before ++ (own ++ token s at ∷ []))
-inside_keeps b colon (WORD EndWord) at before own text h = in_unit b Ended before (own ++ token (WORD EndWord) at ∷ []) text (end_of_rows b at own (rows_of b colon own h))
+inside_keeps b colon (WORD EndWord) at before own text h = in_unit b AfterEnd before (own ++ token (WORD EndWord) at ∷ []) text (end_of_rows b at own (rows_of b colon own h))
 inside_keeps b true NL at before own text h = in_unit b (Inside false) before (own ++ token NL at ∷ []) text (broken b at own h)
 inside_keeps b colon s at before own text h = first_keeps b (fresh s) s at before own text (rows_of b colon own h) (fresh_keeps s)
 
@@ -288,8 +288,8 @@ begun_keeps b NL at before own text h = in_unit b (Inside false) before (own ++ 
 begun_keeps b s at before own text h = tt
 
 -- after `end`
-ended_keeps : (b : Reading) (s : Symbol) (at : ℕ) (before own : List Terminal) → IsText before b.units → At b Ended own → IsStateOf (ended b s at) (before ++ (own ++ token s at ∷ []))
-ended_keeps b NL at before own text h = more b.unit text (record {
+after_end_keeps : (b : Reading) (s : Symbol) (at : ℕ) (before own : List Terminal) → IsText before b.units → At b AfterEnd own → IsStateOf (after_end b s at) (before ++ (own ++ token s at ∷ []))
+after_end_keeps b NL at before own text h = more b.unit text (record {
   head = h.head;
   body = h.rows;
   tail = h.tail ++ token NL at ∷ [];
@@ -298,7 +298,7 @@ ended_keeps b NL at before own text h = more b.unit text (record {
   is_tail = symbols_append h.tail (token NL at ∷ []) ∙ ap (λ (l : List Symbol). l ++ NL ∷ []) h.is_tail;
   text = own_on own h.head h.rows h.tail (token NL at ∷ []) h.text ∙ sym (append_assoc h.head h.rows (h.tail ++ token NL at ∷ []));
 })
-ended_keeps b s at before own text h = tt
+after_end_keeps b s at before own text h = tt
 
 -- at each place in a unit
 spot_keeps : (b : Reading) (spot : Spot) (s : Symbol) (at : ℕ) (before own : List Terminal) → IsText before b.units → At b spot own → IsStateOf (spot_step b spot s at) (before ++ (own ++ token s at ∷ []))
@@ -307,21 +307,21 @@ spot_keeps b (Headed colon) s at before own text h = headed_keeps b colon s at b
 spot_keeps b Begun s at before own text h = begun_keeps b s at before own text h
 spot_keeps b (Inside colon) s at before own text h = inside_keeps b colon s at before own text h
 spot_keeps b (Mid line p) s at before own text h = after_keeps b line p (part_step p s) s at before own text h (part_keeps p s h.ss h.read)
-spot_keeps b Ended s at before own text h = ended_keeps b s at before own text h
+spot_keeps b AfterEnd s at before own text h = after_end_keeps b s at before own text h
 
 -- what was read stays true with each token
-step_keeps : (st : State) (t : Terminal) (ts : List Terminal) → IsStateOf st ts → IsStateOf (read_step st t) (ts ++ t ∷ [])
-step_keeps (Outside units) t ts h = outside_keeps units t.symbol t.line ts h
-step_keeps (In b spot) t ts h = subst (λ (l : List Terminal). IsStateOf (spot_step b spot t.symbol t.line) l)
+token_keeps : (st : State) (t : Terminal) (ts : List Terminal) → IsStateOf st ts → IsStateOf (read_step st t) (ts ++ t ∷ [])
+token_keeps (Outside units) t ts h = outside_keeps units t.symbol t.line ts h
+token_keeps (In b spot) t ts h = subst (λ (l : List Terminal). IsStateOf (spot_step b spot t.symbol t.line) l)
     (sym (ap (λ (l : List Terminal). l ++ t ∷ []) h.is ∙ append_assoc h.before h.own (t ∷ [])))
     (spot_keeps b spot t.symbol t.line h.before h.own h.text h.at)
-step_keeps (Dead line) t ts h = tt
+token_keeps (Dead line) t ts h = tt
 
 -- what a state has read, with more tokens
-pub run_keeps : (st : State) (ts us : List Terminal) → IsStateOf st ts → IsStateOf (fold read_step st us) (ts ++ us)
-run_keeps st ts [] h = subst (λ (l : List Terminal). IsStateOf st l) (sym (append-nil ts)) h
-run_keeps st ts (u ∷ us) h = subst (λ (l : List Terminal). IsStateOf (fold read_step (read_step st u) us) l) (append_assoc ts (u ∷ []) us) (run_keeps (read_step st u) (ts ++ u ∷ []) us (step_keeps st u ts h))
+pub tokens_keep : (st : State) (ts us : List Terminal) → IsStateOf st ts → IsStateOf (fold read_step st us) (ts ++ us)
+tokens_keep st ts [] h = subst (λ (l : List Terminal). IsStateOf st l) (sym (append-nil ts)) h
+tokens_keep st ts (u ∷ us) h = subst (λ (l : List Terminal). IsStateOf (fold read_step (read_step st u) us) l) (append_assoc ts (u ∷ []) us) (tokens_keep (read_step st u) (ts ++ u ∷ []) us (token_keeps st u ts h))
 
 -- what is read outside a unit is a text
 pub reads_keeps : (ts : List Terminal) → IsStateOf (reads ts) ts
-reads_keeps ts = run_keeps (Outside []) [] ts no_unit
+reads_keeps ts = tokens_keep (Outside []) [] ts no_unit

@@ -7,14 +7,14 @@ use Rattle.mir_lex.specs.Terminals.{terminals}
 use Rattle.mir_lex.specs.Spelling.{IsTokens, IsRefusal, IsLexMemory}
 use Rattle.mir_parse.specs.declared.raw.Raw.{Raw}
 use Rattle.mir_parse.specs.declared.faults.ParseFault.{ParseFault}
-use Rattle.mir_parse.specs.declared.faults.ParseFault.TheVariants.{Unexpected, Ended, Memory}
+use Rattle.mir_parse.specs.declared.faults.ParseFault.TheVariants.{Unexpected, Unfinished, Memory}
 use Rattle.mir_parse.specs.declared.faults.TextFault.{TextFault}
 use Rattle.mir_parse.specs.declared.faults.TextFault.TheVariants.{Lex, Parse}
 use Rattle.mir_parse.specs.RawUnit.{RawUnitShape}
 use Rattle.mir_parse.specs.Fault.{IsParseMemory}
-use Rattle.mir_parse.specs.Grammar.{IsText, IsUnexpected, IsEnded}
+use Rattle.mir_parse.specs.Grammar.{IsText, IsUnexpected, IsUnfinished}
 use Rattle.mir_parse.specs.Spells.{Spells, IsTextRefusal, TokensRefused}
-use Rattle.mir_parse.proofs.Exact.{text_same, unexpected_dead, outside_unexpected, outside_ended, dead_ended}
+use Rattle.mir_parse.proofs.Exact.{text_same, unexpected_dead, outside_unexpected, outside_unfinished, dead_unfinished}
 use Rattle.mir_parse.proofs.Complete.{text_run}
 
 -- a fact of the terminals of a text, at a text and tokens that are the same
@@ -36,12 +36,12 @@ spells_same bytes unique one other is also =
 pub by_cause : (bytes : List ℕ) (P : TextFault → Type 0)
     → ((fault : LexFault) → IsRefusal bytes fault → P (Lex fault))
     → ((line : ℕ) (items : List Token) → IsTokens bytes items → IsUnexpected (terminals bytes items) line → P (Parse (Unexpected line)))
-    → ((items : List Token) → IsTokens bytes items → IsEnded (terminals bytes items) → P (Parse Ended))
+    → ((items : List Token) → IsTokens bytes items → IsUnfinished (terminals bytes items) → P (Parse Unfinished))
     → (fault : TextFault) → IsTextRefusal bytes fault → P fault
-by_cause bytes P lex unexpected ended (Lex fault) h = lex fault h
-by_cause bytes P lex unexpected ended (Parse (Unexpected line)) h = unexpected line h.0 h.1 h.2
-by_cause bytes P lex unexpected ended (Parse Ended) h = ended h.0 h.1 h.2
-by_cause bytes P lex unexpected ended (Parse (Memory refused)) h = absurd h.2
+by_cause bytes P lex unexpected unfinished (Lex fault) h = lex fault h
+by_cause bytes P lex unexpected unfinished (Parse (Unexpected line)) h = unexpected line h.0 h.1 h.2
+by_cause bytes P lex unexpected unfinished (Parse Unfinished) h = unfinished h.0 h.1 h.2
+by_cause bytes P lex unexpected unfinished (Parse (Memory refused)) h = absurd h.2
 
 -- the same refusal of the tokens, or running out of memory, as a refusal of the text
 pub same_parse : (other fault : ParseFault) → (other ≡ fault) ⊎ IsParseMemory other → (Parse other ≡ Parse fault) ⊎ IsParseMemory other
@@ -58,17 +58,17 @@ same_lex other fault (inr memory) = inr memory
 -- tokens are refused for at most one cause
 tokens_refused_same : (bytes : List ℕ) (items : List Token) (one other : ParseFault) → TokensRefused bytes items one → TokensRefused bytes items other → one ≡ other
 tokens_refused_same bytes items (Unexpected m) (Unexpected n) is also = let e = sym (unexpected_dead _ m is) ∙ unexpected_dead _ n also in cc
-tokens_refused_same bytes items (Unexpected m) Ended is also = absurd (dead_ended _ m (sym (unexpected_dead _ m is)) also)
+tokens_refused_same bytes items (Unexpected m) Unfinished is also = absurd (dead_unfinished _ m (sym (unexpected_dead _ m is)) also)
 tokens_refused_same bytes items (Unexpected m) (Memory refusal) is also = absurd also
-tokens_refused_same bytes items Ended (Unexpected n) is also = absurd (dead_ended _ n (sym (unexpected_dead _ n also)) is)
-tokens_refused_same bytes items Ended Ended is also = refl
-tokens_refused_same bytes items Ended (Memory refusal) is also = absurd also
+tokens_refused_same bytes items Unfinished (Unexpected n) is also = absurd (dead_unfinished _ n (sym (unexpected_dead _ n also)) is)
+tokens_refused_same bytes items Unfinished Unfinished is also = refl
+tokens_refused_same bytes items Unfinished (Memory refusal) is also = absurd also
 tokens_refused_same bytes items (Memory refusal) other is also = absurd is
 
 -- and those that are a text are not refused
 tokens_refused_none : (bytes : List ℕ) (items : List Token) (fault : ParseFault) (units : List RawUnitShape) → TokensRefused bytes items fault → IsText (terminals bytes items) units → ⊥
 tokens_refused_none bytes items (Unexpected line) units is text = outside_unexpected _ units (sym (text_run (terminals bytes items) units text)) line is
-tokens_refused_none bytes items Ended units is text = outside_ended _ units (sym (text_run (terminals bytes items) units text)) is
+tokens_refused_none bytes items Unfinished units is text = outside_unfinished _ units (sym (text_run (terminals bytes items) units text)) is
 tokens_refused_none bytes items (Memory refusal) units is text = is
 
 -- the text has at most one list of tokens

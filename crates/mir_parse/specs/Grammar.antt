@@ -6,14 +6,14 @@ use Rattle.mir_base.specs.declared.operators.Op.TheVariants.{Add, Sub, Mul, Div,
 use Rattle.mir_base.specs.declared.operators.UnOp.{UnOp}
 use Rattle.mir_base.specs.declared.operators.UnOp.TheVariants.{Neg, Not}
 use Rattle.mir_base.specs.declared.operators.RelOp.{RelOp}
-use Rattle.mir_base.specs.declared.operators.RelOp.TheVariants.{Eq as IsEq, Ne as IsNe, Lt as IsLt, Le as IsLe, Gt as IsGt, Ge as IsGe}
+use Rattle.mir_base.specs.Operators.{op_of_relation}
 use Rattle.mir_lex.specs.declared.terminals.Symbol.{Symbol}
 use Rattle.mir_lex.specs.declared.terminals.Symbol.TheVariants.{Name as NAME, Word as WORD, Number as NUMBER, Mark as MARK, LineEnd as NL}
 use Rattle.mir_lex.specs.declared.terminals.Terminal.{Terminal}
 use Rattle.mir_lex.specs.Terminals.{terminals}
 use Rattle.mir_lex.specs.Tokens.{TokensShape}
 use Rattle.mir_lex.specs.declared.words.Mark.TheVariants.{Colon, Comma, Semicolon, LeftParen, RightParen, Plus, Minus, Star, Slash, Equal, NotEqual, Less, LessEqual, Greater, GreaterEqual, Bang, Arrow}
-use Rattle.mir_lex.specs.declared.words.Word.TheVariants.{Begin as BeginWord, End as EndWord, Receive as ReceiveWord, Goto as GotoWord, If as IfWord, Call as CallWord, Return as ReturnWord, Print as PrintWord, Mod as ModWord, Min as MinWord, Max as MaxWord, Shl as ShlWord, Shr as ShrWord, Shra as ShraWord, And as AndWord, Or as OrWord, Xor as XorWord}
+use Rattle.mir_base.specs.declared.words.Word.TheVariants.{Begin as BeginWord, End as EndWord, Receive as ReceiveWord, Goto as GotoWord, If as IfWord, Call as CallWord, Return as ReturnWord, Print as PrintWord, Mod as ModWord, Min as MinWord, Max as MaxWord, Shl as ShlWord, Shr as ShrWord, Shra as ShraWord, And as AndWord, Or as OrWord, Xor as XorWord}
 use Rattle.mir_parse.specs.declared.raw.RawOperand.{RawOperand}
 use Rattle.mir_parse.specs.declared.raw.RawOperand.TheVariants.{Var, Const}
 use Rattle.mir_parse.specs.declared.raw.RawRhs.{RawRhs}
@@ -32,15 +32,6 @@ use Rattle.mir_parse.specs.RawUnit.{RawUnitShape}
 abbrev pub operand_symbol : RawOperand → Symbol
 operand_symbol (Var x) = NAME x
 operand_symbol (Const z) = NUMBER z
-
--- relop = "=" | "!=" | "<" | "<=" | ">" | ">="
-abbrev pub relop_symbol : RelOp → Symbol
-relop_symbol IsEq = MARK Equal
-relop_symbol IsNe = MARK NotEqual
-relop_symbol IsLt = MARK Less
-relop_symbol IsLe = MARK LessEqual
-relop_symbol IsGt = MARK Greater
-relop_symbol IsGe = MARK GreaterEqual
 
 -- binop = relop | "+" | "-" | "*" | "/" | "mod" | "min" | "max" | "shl" | "shr" | "shra" | "and" | "or" | "xor"
 abbrev pub binop_symbol : Op → Symbol
@@ -63,6 +54,10 @@ binop_symbol Shra = WORD ShraWord
 binop_symbol And = WORD AndWord
 binop_symbol Or = WORD OrWord
 binop_symbol Xor = WORD XorWord
+
+-- relop = "=" | "!=" | "<" | "<=" | ">" | ">="; a relation is spelled as the operator of the same name
+abbrev pub relop_symbol : RelOp → Symbol
+relop_symbol relation = binop_symbol (op_of_relation relation)
 
 -- the mark of an operator on one operand
 abbrev pub unop_symbol : UnOp → Symbol
@@ -203,8 +198,8 @@ pub record IsUnexpected (ts : List Terminal) (line : ℕ) : Type 0 where
   pub at : bad.line ≡ line
 
 -- the tokens are a prefix of a text, and no text
-abbrev pub IsEnded : List Terminal → Type 0
-IsEnded ts = IsTextPrefix ts × ((units : List RawUnitShape) → IsText ts units → ⊥)
+abbrev pub IsUnfinished : List Terminal → Type 0
+IsUnfinished ts = IsTextPrefix ts × ((units : List RawUnitShape) → IsText ts units → ⊥)
 
 -- ---- laws
 

@@ -13,8 +13,8 @@ use Rattle.mir_lex.specs.declared.terminals.Symbol.TheVariants.{Name as NAME, Wo
 use Rattle.mir_lex.specs.declared.terminals.Terminal.{Terminal}
 use Rattle.mir_lex.specs.declared.words.Mark.{Mark}
 use Rattle.mir_lex.specs.declared.words.Mark.TheVariants.{Colon, Comma, Semicolon, LeftParen, RightParen, Plus, Minus, Star, Slash, Equal, NotEqual, Less, LessEqual, Greater, GreaterEqual, Bang, Arrow}
-use Rattle.mir_lex.specs.declared.words.Word.{Word}
-use Rattle.mir_lex.specs.declared.words.Word.TheVariants.{Begin as BeginWord, End as EndWord, Receive as ReceiveWord, Goto as GotoWord, If as IfWord, Call as CallWord, Return as ReturnWord, Print as PrintWord, Mod as ModWord, Min as MinWord, Max as MaxWord, Shl as ShlWord, Shr as ShrWord, Shra as ShraWord, And as AndWord, Or as OrWord, Xor as XorWord}
+use Rattle.mir_base.specs.declared.words.Word.{Word}
+use Rattle.mir_base.specs.declared.words.Word.TheVariants.{Begin as BeginWord, End as EndWord, Receive as ReceiveWord, Goto as GotoWord, If as IfWord, Call as CallWord, Return as ReturnWord, Print as PrintWord, Mod as ModWord, Min as MinWord, Max as MaxWord, Shl as ShlWord, Shr as ShrWord, Shra as ShraWord, And as AndWord, Or as OrWord, Xor as XorWord}
 use Rattle.mir_parse.specs.declared.raw.RawOperand.{RawOperand}
 use Rattle.mir_parse.specs.declared.raw.RawOperand.TheVariants.{Var, Const}
 use Rattle.mir_parse.specs.declared.raw.RawRhs.TheVariants.{Plain, Unary, Binary}
@@ -30,7 +30,7 @@ use Rattle.mir_parse.specs.declared.state.Part.TheVariants.{Fresh, Receive as PR
 use Rattle.mir_parse.specs.declared.state.Next.{Next}
 use Rattle.mir_parse.specs.declared.state.Next.TheVariants.{No, Go, Done, Label}
 use Rattle.mir_parse.specs.declared.state.Spot.{Spot}
-use Rattle.mir_parse.specs.declared.state.Spot.TheVariants.{Named as UnitNamed, Headed, Begun, Inside, Mid, Ended}
+use Rattle.mir_parse.specs.declared.state.Spot.TheVariants.{Named as UnitNamed, Headed, Begun, Inside, Mid, AfterEnd}
 use Rattle.mir_parse.specs.declared.state.Reading.{Reading}
 use Rattle.mir_parse.specs.declared.state.State.{State}
 use Rattle.mir_parse.specs.declared.state.Turn.{Turn}
@@ -276,14 +276,14 @@ begun reading symbol at = Dead at
 
 -- between two instructions
 abbrev pub inside : Reading → Bool → Symbol → ℕ → State
-inside reading after_colon (WORD EndWord) at = In reading Ended
+inside reading after_colon (WORD EndWord) at = In reading AfterEnd
 inside reading true NL at = In reading (Inside false)
 inside reading after_colon symbol at = reading_after reading at at (fresh symbol)
 
 -- after `end`
-abbrev pub ended : Reading → Symbol → ℕ → State
-ended reading NL at = Outside (reading.units ++ reading.unit ∷ [])
-ended reading symbol at = Dead at
+abbrev pub after_end : Reading → Symbol → ℕ → State
+after_end reading NL at = Outside (reading.units ++ reading.unit ∷ [])
+after_end reading symbol at = Dead at
 
 -- what a token makes of the unit that is read
 abbrev pub spot_step : Reading → Spot → Symbol → ℕ → State
@@ -292,7 +292,7 @@ spot_step reading (Headed after_colon) symbol at = headed reading after_colon sy
 spot_step reading Begun symbol at = begun reading symbol at
 spot_step reading (Inside after_colon) symbol at = inside reading after_colon symbol at
 spot_step reading (Mid line part) symbol at = reading_after reading line at (part_step part symbol)
-spot_step reading Ended symbol at = ended reading symbol at
+spot_step reading AfterEnd symbol at = after_end reading symbol at
 
 -- the state after a token that turned the unit to this, with what was read and the place in it after the token
 abbrev pub unit_turned : Turn → Reading → Spot → ℕ → State

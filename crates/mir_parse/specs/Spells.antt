@@ -5,11 +5,11 @@ use Rattle.mir_lex.specs.Terminals.{terminals}
 use Rattle.mir_lex.specs.Spelling.{IsTokens, IsRefusal, IsLexMemory}
 use Rattle.mir_parse.specs.declared.raw.Raw.{Raw}
 use Rattle.mir_parse.specs.declared.faults.ParseFault.{ParseFault}
-use Rattle.mir_parse.specs.declared.faults.ParseFault.TheVariants.{Unexpected, Ended, Memory}
+use Rattle.mir_parse.specs.declared.faults.ParseFault.TheVariants.{Unexpected, Unfinished, Memory}
 use Rattle.mir_parse.specs.declared.faults.TextFault.{TextFault}
 use Rattle.mir_parse.specs.declared.faults.TextFault.TheVariants.{Lex, Parse}
 use Rattle.mir_parse.specs.Fault.{IsParseMemory}
-use Rattle.mir_parse.specs.Grammar.{IsText, IsUnexpected, IsEnded}
+use Rattle.mir_parse.specs.Grammar.{IsText, IsUnexpected, IsUnfinished}
 
 -- the bytes have tokens, and these are a text of the raw program's units
 pub record Spells (bytes : List ℕ) (raw : Raw) : Type 0 where
@@ -20,7 +20,7 @@ pub record Spells (bytes : List ℕ) (raw : Raw) : Type 0 where
 -- the tokens of the bytes are refused for this cause
 abbrev pub TokensRefused : List ℕ → List Token → ParseFault → Type 0
 TokensRefused bytes items (Unexpected line) = IsUnexpected (terminals bytes items) line
-TokensRefused bytes items Ended = IsEnded (terminals bytes items)
+TokensRefused bytes items Unfinished = IsUnfinished (terminals bytes items)
 TokensRefused bytes items (Memory refused) = ⊥
 
 -- the bytes spell no raw program, for this cause

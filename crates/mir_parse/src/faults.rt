@@ -11,8 +11,8 @@ pub enum ParseFault {
     Unexpected(usize),
     /// There is no such token, and the tokens end inside a unit.
     #[error("text ends inside a unit")]
-    Ended,
-    /// Want of memory.
+    Unfinished,
+    /// There is not enough memory.
     #[error(transparent)]
     Memory(Memory),
 }

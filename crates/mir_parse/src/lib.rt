@@ -23,5 +23,5 @@ pub use parsing::parse;
 pub use raw::{Raw, RawForm, RawInst, RawLabel, RawOperand, RawRhs, RawTest, RawUnit};
 pub use reading::read_text;
 
-/// Want of memory: the allocator refused.
+/// There is not enough memory: the allocator refused.
 pub type Memory = std::alloc::AllocError;

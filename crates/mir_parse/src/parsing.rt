@@ -1,6 +1,6 @@
 // From tokens to a raw program.
 ghost use Rattle.std.specs.Prelude.{◌≡◌, ◌<◌, length, OnOk, IfOk, IsErrOf};
-ghost use Rattle.mir_parse.specs.Grammar.{IsText, IsEnded, UnitsAreUnique, terminals_of};
+ghost use Rattle.mir_parse.specs.Grammar.{IsText, IsUnfinished, UnitsAreUnique, terminals_of};
 ghost use Rattle.mir_parse.specs.Reader.{reads, HasStepped};
 ghost use Rattle.mir_parse.specs.Answers.{IsRefusedFor, AnswersUnits, OnlyUnexpectedIsRefused, UnexpectedIsRefused};
 
@@ -15,7 +15,7 @@ use std::mem;
 /// The raw program that the tokens spell by the grammar of `specs/Grammar.antt`.
 ///
 /// It refuses with `Unexpected(line)` where some token makes the tokens up to it no prefix of a text of the grammar,
-/// with the line of the first such token, and with `Ended` where there is no such token and the tokens end inside a
+/// with the line of the first such token, and with `Unfinished` where there is no such token and the tokens end inside a
 /// unit. It also fails when it runs out of memory.
 pub fn parse(alloc: Global, tokens: &Tokens) -> Result<Raw, ParseFault>
     // The raw program is spelled by the tokens, and one that is spelled is not refused, unless memory runs out.
@@ -30,8 +30,10 @@ pub fn parse(alloc: Global, tokens: &Tokens) -> Result<Raw, ParseFault>
     ensures unexpected_only { UnexpectedIsRefused result (terminals_of tokens.now) }
 
     // The tokens end inside a unit, and such tokens are refused.
-    ensures ended { IsErrOf result ParseFault.Ended → IsEnded (terminals_of tokens.now) }
-    ensures ended_only { IsEnded (terminals_of tokens.now) → IsRefusedFor result ParseFault.Ended }
+    ensures unfinished { IsErrOf result ParseFault.Unfinished
+        → IsUnfinished (terminals_of tokens.now) }
+    ensures unfinished_only { IsUnfinished (terminals_of tokens.now)
+        → IsRefusedFor result ParseFault.Unfinished }
 {
     match read(alloc, tokens) {
         Ok(State::Outside(units)) => Ok(Raw { units }),
@@ -39,7 +41,7 @@ pub fn parse(alloc: Global, tokens: &Tokens) -> Result<Raw, ParseFault>
         Ok(State::In(reading, spot)) => {
             mem::drop(reading);
             mem::drop(spot);
-            Err(ParseFault::Ended)
+            Err(ParseFault::Unfinished)
         }
         Err(refused) => Err(ParseFault::Memory(refused)),
     }

@@ -5,8 +5,8 @@ ghost use Rattle.mir_parse.specs.Reader.{relop_of_mark, op_of_mark, op_of_word, 
 
 use crate::state::{Hole, Next, Part};
 use crate::{Memory, RawForm, RawOperand, RawRhs, RawTest};
-use mir_base::{Items, Name, Op, RelOp, UnOp, op_of_relation};
-use mir_lex::{Mark, Symbol, Word};
+use mir_base::{Items, Name, Op, RelOp, UnOp, Word, op_of_relation};
+use mir_lex::{Mark, Symbol};
 use std::alloc::Global;
 use std::mem;
 

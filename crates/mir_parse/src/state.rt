@@ -99,7 +99,7 @@ pub enum Spot {
     /// In an instruction that began on this line.
     Mid(usize, Part),
     /// Behind its `end`.
-    Ended,
+    AfterEnd,
 }
 
 /// The units that were read whole, and what was read of the next one.

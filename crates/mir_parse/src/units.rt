@@ -1,13 +1,13 @@
 // What a token makes of the units that were read: `step` is called once for each token. `at` is the line of the token, and
 // `line` that of an instruction that began before it.
 ghost use Rattle.std.specs.Prelude.{◌≡◌, OnOk};
-ghost use Rattle.mir_parse.specs.Reader.{Turns, TurnsEach, state_turned, reading_after, outside, unit_named, headed, begun, inside, ended, spot_step, read_step};
+ghost use Rattle.mir_parse.specs.Reader.{Turns, TurnsEach, state_turned, reading_after, outside, unit_named, headed, begun, inside, after_end, spot_step, read_step};
 
 use crate::parts::{fresh, part_step};
 use crate::state::{Next, Reading, Spot, State, Turn};
 use crate::{Memory, RawUnit};
-use mir_base::Items;
-use mir_lex::{Mark, Symbol, Terminal, Word};
+use mir_base::{Items, Word};
+use mir_lex::{Mark, Symbol, Terminal};
 use std::alloc::Global;
 use std::mem;
 
@@ -93,7 +93,7 @@ fn spot_step(
 ) -> Result<Turn, Memory>
     ensures { Turns (spot_step reading.old spot.old symbol at) reading.new spot.new at result }
 {
-    match mem::replace(spot, Spot::Ended) {
+    match mem::replace(spot, Spot::AfterEnd) {
         Spot::Named => Ok(unit_named(spot, symbol)),
         Spot::Headed(after_colon) => Ok(headed(spot, after_colon, symbol)),
         Spot::Begun => Ok(begun(spot, symbol)),
@@ -102,7 +102,7 @@ fn spot_step(
             let next = part_step(alloc, part, symbol)?;
             after(reading, spot, line, at, next)
         }
-        Spot::Ended => Ok(ended(symbol)),
+        Spot::AfterEnd => Ok(after_end(symbol)),
     }
 }
 
@@ -157,7 +157,7 @@ fn inside(
     ensures { Turns (inside reading.old after_colon symbol at) reading.new spot.new at result }
 {
     match symbol {
-        Symbol::Word(Word::End) => Ok(go_to(spot, Spot::Ended)),
+        Symbol::Word(Word::End) => Ok(go_to(spot, Spot::AfterEnd)),
         Symbol::LineEnd => Ok(if after_colon {
             go_to(spot, Spot::Inside(false))
         } else {
@@ -192,8 +192,8 @@ fn after(
 }
 
 // A token after `end`: only a line end, with which the unit is whole.
-fn ended(symbol: Symbol) -> Turn
-    ensures { TurnsEach (λ reading at. ended reading symbol at) Spot.Ended result }
+fn after_end(symbol: Symbol) -> Turn
+    ensures { TurnsEach (λ reading at. after_end reading symbol at) Spot.AfterEnd result }
 {
     match symbol {
         Symbol::LineEnd => Turn::Ends,

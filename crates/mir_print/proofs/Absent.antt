@@ -31,7 +31,7 @@ flat_none f [] each = refl
 flat_none f (x ∷ xs) each = ap (λ (l : List ℕ). l ++ flat_map f xs) (each 0 x refl) ∙ flat_none f xs (λ i y at. each (suc i) y at)
 
 -- no instruction passes the test
-pub lines_none : (test : RawForm → Bool) (body : List RawInst) → ((i : ℕ) (inst : RawInst) → slice_get body i ≡ Some inst → test inst.form ≡ false) → lines_where test body ≡ []
-lines_none test [] each = refl
-lines_none test (inst ∷ body) each =
-    ap (λ (b : Bool). map (λ (i : RawInst). i.line) (if b then inst ∷ filter (λ (i : RawInst). test i.form) body else filter (λ (i : RawInst). test i.form) body)) (each 0 inst refl) ∙ lines_none test body (λ i other at. each (suc i) other at)
+pub no_broken_lines : (test : RawForm → Bool) (body : List RawInst) → ((i : ℕ) (inst : RawInst) → slice_get body i ≡ Some inst → test inst.form ≡ false) → lines_where test body ≡ []
+no_broken_lines test [] each = refl
+no_broken_lines test (inst ∷ body) each =
+    ap (λ (b : Bool). map (λ (i : RawInst). i.line) (if b then inst ∷ filter (λ (i : RawInst). test i.form) body else filter (λ (i : RawInst). test i.form) body)) (each 0 inst refl) ∙ no_broken_lines test body (λ i other at. each (suc i) other at)

@@ -17,8 +17,8 @@ use Rattle.mir_valid.specs.Names.{is_same, has_name, number_in}
 use Rattle.mir_valid.specs.Rules.{unit_names, same_unit_lines, is_receive, misses_unit, no_unit_lines, receive_counts, differs_from, wrong_count_lines}
 use Rattle.mir_print.proofs.Raws.{raw_operand, raw_form, raw_insts, unit_naming, raw_units}
 use Rattle.mir_print.proofs.Standing.{names_of_raw}
-use Rattle.mir_print.proofs.Absent.{name_absent, broken_none, flat_none, lines_none}
-use Rattle.mir_print.proofs.Places.{inst_at, unit_at, get_take}
+use Rattle.mir_print.proofs.Absent.{name_absent, broken_none, flat_none, no_broken_lines}
+use Rattle.mir_print.proofs.Places.{inst_at, unit_at, get_from_take}
 
 -- ---- units are distinct
 
@@ -57,7 +57,7 @@ module _ (units : List UnitShape) (fits : IsProgram units) (line : ℕ) where
       absent : (j : ℕ) → slice_get (unit_names (take i raws)) j ≡ Some raw.name → ⊥
       absent j there =
           let found = unit_at names line units i raw at in
-          let earlier = get_take names i j raw.name (ap (λ (l : List (List ℕ)). slice_get l j) (sym (names_before i)) ∙ there) in
+          let earlier = get_from_take names i j raw.name (ap (λ (l : List (List ℕ)). slice_get l j) (sym (names_before i)) ∙ there) in
           let here : slice_get names i ≡ Some raw.name = name_of_unit units i found.unit found.at ∙ ap (λ (r : RawUnitShape). Some r.name) (sym found.is) in
           let clash : j ≡ i = differ j i (slice_get_within names j raw.name earlier.1) (slice_get_within names i raw.name here) (earlier.1 ∙ sym here) in
           let under = earlier.0 in
@@ -82,13 +82,13 @@ module _ (units : List UnitShape) (fits : IsProgram units) (line : ℕ) where
       let found = unit_at names line units i raw at in
       let body_fits = fits.bodies i found.unit found.at in
       ap (no_unit_lines raws) found.is
-      ∙ lines_none (misses_unit raws) (raw_insts (unit_naming names found.unit) (found.line + 1) found.unit.body) (λ j x there.
+      ∙ no_broken_lines (misses_unit raws) (raw_insts (unit_naming names found.unit) (found.line + 1) found.unit.body) (λ j x there.
       let inst = inst_at (unit_naming names found.unit) (found.line + 1) found.unit.body j x there in
       ap (misses_unit raws) inst.form ∙ misses_unit_at found.unit j inst.inst (body_fits.insts j inst.inst inst.at)))
 
 -- one more instruction in front adds one to the receives if it is one, and otherwise nothing
-count_cons : (inst : RawInst) (insts : List RawInst) → count_by is_receive (inst ∷ insts) ≡ (if is_receive inst then 1 else 0) + count_by is_receive insts
-count_cons inst insts = let sum = sum_by-append (λ (i : RawInst). if is_receive i then 1 else 0) (inst ∷ []) insts in omega (arith, sum)
+receives_cons : (inst : RawInst) (insts : List RawInst) → count_by is_receive (inst ∷ insts) ≡ (if is_receive inst then 1 else 0) + count_by is_receive insts
+receives_cons inst insts = let sum = sum_by-append (λ (i : RawInst). if is_receive i then 1 else 0) (inst ∷ []) insts in omega (arith, sum)
 
 -- only the receives that stand first are receives
 OnlyFirst : List Inst → Type 0
@@ -99,14 +99,14 @@ no_receives : (naming : Naming) (line : ℕ) (insts : List Inst) → ((i x : ℕ
 no_receives naming line [] never = refl
 no_receives naming line (Receive x ∷ insts) never = absurd (never 0 x refl)
 no_receives naming line (inst ∷ insts) never =
-    count_cons (record { line = line; form = raw_form naming inst }) (raw_insts naming (line + 1) insts) ∙ ap (λ (n : ℕ). 0 + n) (no_receives naming (line + 1) insts (λ i x at. never (suc i) x at))
+    receives_cons (record { line = line; form = raw_form naming inst }) (raw_insts naming (line + 1) insts) ∙ ap (λ (n : ℕ). 0 + n) (no_receives naming (line + 1) insts (λ i x at. never (suc i) x at))
 
 -- as many receives as stand first
 count_receives : (naming : Naming) (line : ℕ) (insts : List Inst) → OnlyFirst insts → count_by is_receive (raw_insts naming line insts) ≡ receives_in insts
 unfolding OnlyFirst
 count_receives naming line [] only = refl
 count_receives naming line (Receive x ∷ insts) only =
-    let sum = count_cons (record { line = line; form = raw_form naming (Receive x) }) (raw_insts naming (line + 1) insts) in
+    let sum = receives_cons (record { line = line; form = raw_form naming (Receive x) }) (raw_insts naming (line + 1) insts) in
     let rest = count_receives naming (line + 1) insts (λ i y at. let low = only (suc i) y at in omega (arith, low)) in
     omega (arith, sum, rest)
 count_receives naming line (inst ∷ insts) only = no_receives naming line (inst ∷ insts) (λ i x at. let low = only i x at in absurd (omega (arith, low)))
@@ -126,16 +126,16 @@ record Counted (names : List (List ℕ)) (units : List UnitShape) (f : List ℕ)
   is : count ≡ count_by is_receive (raw_insts (unit_naming names unit) line unit.body)
 
 -- the receives counted under a name are those of some unit with that name
-counted_from : (names : List (List ℕ)) (line : ℕ) (units : List UnitShape) (f : List ℕ) (count : ℕ) → number_in (receive_counts (raw_units names line units)) f ≡ Some count → Counted names units f count
-counted_from names line [] f count found = absurd (cc)
-counted_from names line (unit ∷ units) f count found = elim (cases_Bool (is_same f unit.name)) [
+receives_counted : (names : List (List ℕ)) (line : ℕ) (units : List UnitShape) (f : List ℕ) (count : ℕ) → number_in (receive_counts (raw_units names line units)) f ≡ Some count → Counted names units f count
+receives_counted names line [] f count found = absurd (cc)
+receives_counted names line (unit ∷ units) f count found = elim (cases_Bool (is_same f unit.name)) [
   | inl same ↦
       let here : Some (count_by is_receive (raw_insts (unit_naming names unit) (line + 1) unit.body)) ≡ Some count =
       sym (ap (λ (b : Bool). cond b (Some (count_by is_receive (raw_insts (unit_naming names unit) (line + 1) unit.body))) (number_in (receive_counts (raw_units names (line + 1 + length unit.body + 1) units)) f)) same) ∙ found in
       record { number = 0; unit = unit; line = line + 1; at = refl; name = same_is f unit.name same; is = cc }
   | inr differ ↦
       let there =
-      counted_from names (line + 1 + length unit.body + 1) units f count
+      receives_counted names (line + 1 + length unit.body + 1) units f count
       (sym (ap (λ (b : Bool). cond b (Some (count_by is_receive (raw_insts (unit_naming names unit) (line + 1) unit.body))) (number_in (receive_counts (raw_units names (line + 1 + length unit.body + 1) units)) f)) differ) ∙ found) in
       record { number = suc there.number; unit = there.unit; line = there.line; at = there.at; name = there.name; is = there.is }
 ]
@@ -155,7 +155,7 @@ module _ (units : List UnitShape) (fits : IsProgram units) (line : ℕ) where
   -- the count of a called unit is the number of its arguments
   count_is : (called many count : ℕ) → called < length units → many ≡ receives_in (body_at units called) → number_in (receive_counts all_raws) (slice_index_or all_names called []) ≡ Some count → count ≡ many
   count_is called many count low is found =
-      let counted = counted_from all_names line units (slice_index_or all_names called []) count found in
+      let counted = receives_counted all_names line units (slice_index_or all_names called []) count found in
       let unit : UnitShape = slice_index_or units called counted.unit in
       let at : slice_get units called ≡ Some unit = slice_get-get_or units called counted.unit low in
       let named : slice_index_or all_names called [] ≡ unit.name = get_or_from_slice_get all_names called unit.name [] (name_of_unit units called unit at) in
@@ -179,6 +179,6 @@ module _ (units : List UnitShape) (fits : IsProgram units) (line : ℕ) where
       let body_fits = fits.bodies i found.unit found.at in
       let naming = unit_naming all_names found.unit in
       ap (wrong_count_lines all_raws) found.is
-      ∙ lines_none (differs_from (receive_counts all_raws)) (raw_insts naming (found.line + 1) found.unit.body) (λ j x there.
+      ∙ no_broken_lines (differs_from (receive_counts all_raws)) (raw_insts naming (found.line + 1) found.unit.body) (λ j x there.
       let inst = inst_at naming (found.line + 1) found.unit.body j x there in
       ap (differs_from (receive_counts all_raws)) inst.form ∙ differs_at naming found.unit j inst.inst refl (body_fits.insts j inst.inst inst.at)))

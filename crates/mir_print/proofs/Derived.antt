@@ -12,7 +12,7 @@ use Rattle.mir_lex.specs.declared.terminals.Terminal.{Terminal}
 use Rattle.mir_lex.specs.declared.scan.Previous.{Previous}
 use Rattle.mir_lex.specs.declared.scan.Previous.TheVariants.{LineEnd as AfterLineEnd, Other as AfterOther}
 use Rattle.mir_lex.specs.declared.words.Mark.TheVariants.{Colon}
-use Rattle.mir_lex.specs.declared.words.Word.TheVariants.{Begin as BeginWord, End as EndWord}
+use Rattle.mir_base.specs.declared.words.Word.TheVariants.{Begin as BeginWord, End as EndWord}
 use Rattle.mir_parse.specs.declared.raw.RawForm.{RawForm}
 use Rattle.mir_parse.specs.declared.raw.RawInst.{RawInst}
 use Rattle.mir_parse.specs.declared.raw.RawLabel.{RawLabel}
@@ -86,8 +86,8 @@ body_read_as text before front front' line line' labels labels' raws raws' same_
     (subst (λ (ls : List RawLabel). BodyRead text front line before ls raws') same_labels (subst (λ (rs : List RawInst). BodyRead text front line before labels rs) same_raws h)))
 
 -- appended lists may be grouped in another way
-behind : (before ts a b : List Terminal) → (before ++ ts) ++ (a ++ b) ≡ before ++ ((ts ++ a) ++ b)
-behind before ts a b = simp append_assoc
+regrouped : (before ts a b : List Terminal) → (before ++ ts) ++ (a ++ b) ≡ before ++ ((ts ++ a) ++ b)
+regrouped before ts a b = simp append_assoc
 
 module _ (naming : Naming) (text : List ℕ) (before : List Terminal) (named : (place : ℕ) → place ≤ length naming.body → IsName (label naming.body place)) where
   -- the text from an instruction to the end of the unit
@@ -118,7 +118,7 @@ module _ (naming : Naming) (text : List ℕ) (before : List Terminal) (named : (
         tail_is = refl;
         read =
             read_as text (line + 1) AfterLineEnd (front ++ ((label_text b l ++ pieces_text (Shown (WORD EndWord) ∷ [])) ++ codes "\n")) (front ++ rest_text place [] place) ((before ++ ts) ++ (a ++ tail)) (before ++ ((ts ++ a) ++ tail))
-            (ap (λ (t : List ℕ). front ++ t) written) (behind before ts a tail)
+            (ap (λ (t : List ℕ). front ++ t) written) (regrouped before ts a tail)
             (line_read b l text front line (before ++ ts) (WORD EndWord) [] after was (split ∙ ap (λ (t : List ℕ). front ++ (t ++ after)) (sym written)) (λ _. named place within) (λ previous. (tt, refl, tt)));
       }
 
@@ -144,7 +144,7 @@ module _ (naming : Naming) (text : List ℕ) (before : List Terminal) (named : (
       let low : place ≤ length naming.body = omega (arith, ends, within) in
       let a = on_line line (label_symbols b l) in
       let c = on_line line (symbols_of (form_pieces form) ++ NL ∷ []) in
-      let read = read_as text (line + 1) AfterLineEnd (front ++ pieces) (front ++ shown) ((before ++ ts) ++ (a ++ c)) (before ++ ((ts ++ a) ++ c)) (ap (λ (t : List ℕ). front ++ t) written) (behind before ts a c)
+      let read = read_as text (line + 1) AfterLineEnd (front ++ pieces) (front ++ shown) ((before ++ ts) ++ (a ++ c)) (before ++ ((ts ++ a) ++ c)) (ap (λ (t : List ℕ). front ++ t) written) (regrouped before ts a c)
       (line_read b l text front line (before ++ ts) (first_symbol form) (rest_pieces form) (rest ++ after) was (cut ∙ ap (λ (t : List ℕ). front ++ (t ++ (rest ++ after))) (sym written)) (λ _. named place low)
       (λ previous. form_spaced previous form (rest ++ after) (fits 0 inst refl))) in
       let one : RawInst = record { line = line; form = form } in
@@ -199,7 +199,7 @@ unit_read units unit text front line before after spelled was split =
       };
       read =
           read_as text (line + 1 + length unit.body + 1) AfterLineEnd ((front ++ head) ++ rest) (front ++ unit_text units unit) ((before ++ h) ++ (body.ts ++ body.tail)) (before ++ (h ++ body.ts ++ body.tail))
-          (append_assoc front head rest ∙ ap (λ (t : List ℕ). front ++ t) written) (behind before h body.ts body.tail) body.read;
+          (append_assoc front head rest ∙ ap (λ (t : List ℕ). front ++ t) written) (regrouped before h body.ts body.tail) body.read;
     }
   where
     whole : (head lines label close : List ℕ) → head ++ (lines ++ label ++ close) ≡ head ++ lines ++ label ++ close

@@ -4,8 +4,8 @@ use Rattle.std.specs.List.{list_all}
 use Rattle.std.specs.Char.{is_ascii_digit}
 use Rattle.std.specs.Str.{all_ascii_digits}
 use Rattle.std.proofs.lemmas.Bool.Decides.{nat_tests}
-use Rattle.std.proofs.lemmas.List.Folds.{list_all-append}
 use Rattle.std.proofs.lemmas.Bool.{and_parts}
+use Rattle.mir_base.specs.DecimalLaws.{digit_at, passes_at}
 use Rattle.mir_base.specs.Names.{is_letter, is_name_byte}
 use Rattle.mir_lex.specs.declared.words.Mark.{Mark}
 use Rattle.mir_lex.specs.declared.words.Mark.TheVariants.{Colon, Comma, Semicolon, LeftParen, RightParen, Plus, Minus, Star, Slash, Equal, NotEqual, Less, LessEqual, Greater, GreaterEqual, Bang, Arrow}
@@ -15,15 +15,6 @@ use Rattle.mir_lex.specs.Spelling.{IsMark, IsSpelled, IsLongest, BeginsWith}
 -- a blank, a line feed, or one of `( ) , : ;`
 abbrev pub is_separator : ℕ → Bool
 is_separator byte = byte == 32 || byte == 10 || byte == 40 || byte == 41 || byte == 44 || byte == 58 || byte == 59
-
--- a byte in the middle of bytes that all pass a test passes it too
-passes_at : (test : ℕ → Bool) (bytes : List ℕ) (byte : ℕ) (more : List ℕ) → list_all test (bytes ++ byte ∷ more) ≡ true → test byte ≡ true
-passes_at test bytes byte more h = (and_parts (test byte) (list_all test more) (and_parts (list_all test bytes) (list_all test (byte ∷ more)) (sym (list_all-append test bytes (byte ∷ more)) ∙ h)).1).0
-
--- a byte in the middle of digits is a digit
-digit_at : (bytes : List ℕ) (byte : ℕ) (more : List ℕ) → all_ascii_digits (bytes ++ byte ∷ more) ≡ true → is_ascii_digit byte ≡ true
-digit_at [] byte more h = (and_parts (is_ascii_digit byte) (all_ascii_digits more) h).0
-digit_at (first ∷ bytes) byte more h = digit_at bytes byte more (and_parts (is_ascii_digit first) (all_ascii_digits (bytes ++ byte ∷ more)) h).1
 
 -- the byte ends no token
 abbrev pub is_plain : ℕ → Bool
@@ -38,29 +29,29 @@ digit_plain : (byte : ℕ) → is_ascii_digit byte ≡ true → is_plain byte �
 digit_plain byte h = grind (arith, nat_tests)
 
 -- what equals these bytes has no separator behind its first byte if they have none there
-behind : (b c : ℕ) (bs cs : List ℕ) → b ∷ bs ≡ c ∷ cs → list_all is_plain cs ≡ true → list_all is_plain bs ≡ true
-behind b c bs cs is h = let same : bs ≡ cs = cc in ap (list_all is_plain) same ∙ h
+plain_behind : (b c : ℕ) (bs cs : List ℕ) → b ∷ bs ≡ c ∷ cs → list_all is_plain cs ≡ true → list_all is_plain bs ≡ true
+plain_behind b c bs cs is h = let same : bs ≡ cs = cc in ap (list_all is_plain) same ∙ h
 
 -- behind its first byte no mark has a separator
 mark_plain : (mark : Mark) (b : ℕ) (bs : List ℕ) → IsMark mark (b ∷ bs) → list_all is_plain bs ≡ true
-mark_plain Colon b bs is = behind b 58 bs [] is refl
-mark_plain Comma b bs is = behind b 44 bs [] is refl
-mark_plain Semicolon b bs is = behind b 59 bs [] is refl
-mark_plain LeftParen b bs is = behind b 40 bs [] is refl
-mark_plain RightParen b bs is = behind b 41 bs [] is refl
-mark_plain Plus b bs is = behind b 43 bs [] is refl
-mark_plain Minus b bs is = behind b 45 bs [] is refl
-mark_plain Star b bs is = behind b 42 bs [] is refl
-mark_plain Slash b bs is = behind b 47 bs [] is refl
-mark_plain Equal b bs is = behind b 61 bs [] is refl
-mark_plain NotEqual b bs is = behind b 33 bs (61 ∷ []) is refl
-mark_plain Less b bs is = behind b 60 bs [] is refl
-mark_plain LessEqual b bs is = behind b 60 bs (61 ∷ []) is refl
-mark_plain Greater b bs is = behind b 62 bs [] is refl
-mark_plain GreaterEqual b bs is = behind b 62 bs (61 ∷ []) is refl
-mark_plain Bang b bs is = behind b 33 bs [] is refl
-mark_plain Arrow b bs (inl is) = behind b 60 bs (45 ∷ []) is refl
-mark_plain Arrow b bs (inr is) = behind b 226 bs (134 ∷ 144 ∷ []) is refl
+mark_plain Colon b bs is = plain_behind b 58 bs [] is refl
+mark_plain Comma b bs is = plain_behind b 44 bs [] is refl
+mark_plain Semicolon b bs is = plain_behind b 59 bs [] is refl
+mark_plain LeftParen b bs is = plain_behind b 40 bs [] is refl
+mark_plain RightParen b bs is = plain_behind b 41 bs [] is refl
+mark_plain Plus b bs is = plain_behind b 43 bs [] is refl
+mark_plain Minus b bs is = plain_behind b 45 bs [] is refl
+mark_plain Star b bs is = plain_behind b 42 bs [] is refl
+mark_plain Slash b bs is = plain_behind b 47 bs [] is refl
+mark_plain Equal b bs is = plain_behind b 61 bs [] is refl
+mark_plain NotEqual b bs is = plain_behind b 33 bs (61 ∷ []) is refl
+mark_plain Less b bs is = plain_behind b 60 bs [] is refl
+mark_plain LessEqual b bs is = plain_behind b 60 bs (61 ∷ []) is refl
+mark_plain Greater b bs is = plain_behind b 62 bs [] is refl
+mark_plain GreaterEqual b bs is = plain_behind b 62 bs (61 ∷ []) is refl
+mark_plain Bang b bs is = plain_behind b 33 bs [] is refl
+mark_plain Arrow b bs (inl is) = plain_behind b 60 bs (45 ∷ []) is refl
+mark_plain Arrow b bs (inr is) = plain_behind b 226 bs (134 ∷ 144 ∷ []) is refl
 
 -- what is spelled has no separator behind its first byte
 spelled_plain : (previous : Previous) (b : ℕ) (bs : List ℕ) (byte : ℕ) (more : List ℕ) → IsSpelled previous (b ∷ (bs ++ byte ∷ more)) → is_plain byte ≡ true

@@ -41,11 +41,11 @@ EarlierLabels : List Inst → ℕ → List RawLabel → Type 0
 EarlierLabels body place earlier = (j : ℕ) (x : List ℕ) → slice_get (label_names earlier) j ≡ Some x → (k : ℕ) × (k < place) × (is_target body k ≡ true) × (x ≡ label body k)
 
 -- an item of a list with one more at its end is an old item or the new one
-get_push : {A : Type 0} (xs : List A) (y : A) (j : ℕ) (x : A) → slice_get (xs ++ y ∷ []) j ≡ Some x → (slice_get xs j ≡ Some x) ⊎ (x ≡ y)
-get_push [] y zero x at = inr (cc)
-get_push [] y (suc j) x at = absurd (cc)
-get_push (z ∷ xs) y zero x at = inl at
-get_push (z ∷ xs) y (suc j) x at = get_push xs y j x at
+get_from_push : {A : Type 0} (xs : List A) (y : A) (j : ℕ) (x : A) → slice_get (xs ++ y ∷ []) j ≡ Some x → (slice_get xs j ≡ Some x) ⊎ (x ≡ y)
+get_from_push [] y zero x at = inr (cc)
+get_from_push [] y (suc j) x at = absurd (cc)
+get_from_push (z ∷ xs) y zero x at = inl at
+get_from_push (z ∷ xs) y (suc j) x at = get_from_push xs y j x at
 
 -- labels of places before this one are labels of places before the next
 earlier_later : (body : List Inst) (place : ℕ) (earlier : List RawLabel) → EarlierLabels body place earlier → EarlierLabels body (suc place) earlier
@@ -60,7 +60,7 @@ earlier_more body line place earlier false is known = subst (EarlierLabels body 
 earlier_more body line place earlier true is known = λ j x at.
     let l : RawLabel = record { name = label body place; place = place; line = line } in
     let split : slice_get (label_names earlier ++ l.name ∷ []) j ≡ Some x = ap (λ (ns : List (List ℕ)). slice_get ns j) (sym (map-append (λ (k : RawLabel). k.name) earlier (l ∷ []))) ∙ at in
-    elim (get_push (label_names earlier) l.name j x split) [
+    elim (get_from_push (label_names earlier) l.name j x split) [
       | inl before ↦ (let found = known j x before in (found.0, omega (arith, found.1), found.2, found.3))
       | inr same ↦ (place, omega arith, is, same)
     ]

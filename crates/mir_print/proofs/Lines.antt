@@ -23,7 +23,7 @@ use Rattle.mir_lex.specs.declared.terminals.Symbol.TheVariants.{Name as NAME, Wo
 use Rattle.mir_lex.specs.declared.scan.Previous.{Previous}
 use Rattle.mir_lex.specs.declared.scan.Previous.TheVariants.{Operand as AfterOperand, Other as AfterOther}
 use Rattle.mir_lex.specs.declared.words.Mark.TheVariants.{Comma, Semicolon, LeftParen, RightParen, Bang, Arrow}
-use Rattle.mir_lex.specs.declared.words.Word.TheVariants.{Receive as ReceiveWord, Goto as GotoWord, If as IfWord, Call as CallWord, Return as ReturnWord, Print as PrintWord}
+use Rattle.mir_base.specs.declared.words.Word.TheVariants.{Receive as ReceiveWord, Goto as GotoWord, If as IfWord, Call as CallWord, Return as ReturnWord, Print as PrintWord}
 use Rattle.mir_lex.specs.Spelling.{BeginsWith}
 use Rattle.mir_parse.specs.declared.raw.RawOperand.{RawOperand}
 use Rattle.mir_parse.specs.declared.raw.RawOperand.TheVariants.{Var as RawVar, Const as RawConst}

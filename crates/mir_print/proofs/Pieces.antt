@@ -9,8 +9,8 @@ use Rattle.std.proofs.lemmas.List.{append-nil, map_push, take_at, drop_at}
 use Rattle.std.proofs.lemmas.List.Sums.{sum_by-append}
 use Rattle.std.proofs.lemmas.Bool.{and_parts}
 use Rattle.mir_base.specs.Names.{is_name_byte, IsName, begins_as_name, is_reserved}
-use Rattle.mir_lex.specs.declared.words.Word.{Word}
-use Rattle.mir_lex.specs.declared.words.Word.TheVariants.{Begin}
+use Rattle.mir_base.specs.declared.words.Word.{Word}
+use Rattle.mir_base.specs.declared.words.Word.TheVariants.{Begin}
 use Rattle.mir_lex.specs.declared.words.Mark.{Mark}
 use Rattle.mir_lex.specs.declared.words.Mark.TheVariants.{Colon, Comma, Semicolon, LeftParen, Arrow}
 use Rattle.mir_lex.specs.declared.words.Kind.{Kind}
@@ -23,7 +23,9 @@ use Rattle.mir_lex.specs.declared.scan.Previous.{Previous}
 use Rattle.mir_lex.specs.declared.scan.Previous.TheVariants.{LineEnd as AfterLineEnd, Operand as AfterOperand, Other as AfterOther}
 use Rattle.mir_lex.specs.Tokens.{line_after}
 use Rattle.mir_lex.specs.Terminals.{symbol_of, terminal_of, terminals}
-use Rattle.mir_lex.specs.Spelling.{word_text, mark_text, IsMark, CanBeSigned, IsNumeral, IsLongest, BeginsWith, IsToken, previous_of, with_line_end, Row, start as row_start, token as row_token, blank as row_blank, line_feed as row_line_feed}
+use Rattle.mir_base.specs.Words.{word_text}
+use Rattle.mir_lex.specs.Spelling.{mark_text, IsMark, CanBeSigned, IsNumeral, IsLongest, BeginsWith, IsToken, previous_of, with_line_end, Row, start as row_start, token as row_token, blank as row_blank, line_feed as row_line_feed}
+use Rattle.mir_lex.specs.SpellingLaws.{numeral_some}
 use Rattle.mir_print.proofs.Numerals.{signed_numeral, signed_value}
 use Rattle.mir_print.proofs.Ends.{is_separator, longest_before, longest_alone, left_alone, comma_alone, semicolon_alone}
 
@@ -123,17 +125,12 @@ name_some : (x : List ℕ) → IsName x → 0 < length x
 name_some [] name = absurd (cc)
 name_some (b ∷ x) name = omega arith
 
--- and so has a number
-numeral_some : (previous : Previous) (bytes : List ℕ) → IsNumeral previous bytes → 0 < length bytes
-numeral_some previous bytes (inl digits) = digits.0
-numeral_some previous bytes (inr signed) = omega (arith, ap length signed.1)
-
 -- no mark is longer with a byte that may follow it
-mark_longest : (previous : Previous) (mark : Mark) (after : List ℕ) → EndsSymbol (MARK mark) after → IsLongest previous (mark_text mark) after
-mark_longest previous Comma after ends = longest_alone previous 44 after comma_alone
-mark_longest previous Semicolon after ends = longest_alone previous 59 after semicolon_alone
-mark_longest previous LeftParen after ends = longest_alone previous 40 after left_alone
-mark_longest previous mark after ends = longest_before previous (mark_text mark) after (omega arith) ends
+printed_mark_longest : (previous : Previous) (mark : Mark) (after : List ℕ) → EndsSymbol (MARK mark) after → IsLongest previous (mark_text mark) after
+printed_mark_longest previous Comma after ends = longest_alone previous 44 after comma_alone
+printed_mark_longest previous Semicolon after ends = longest_alone previous 59 after semicolon_alone
+printed_mark_longest previous LeftParen after ends = longest_alone previous 40 after left_alone
+printed_mark_longest previous mark after ends = longest_before previous (mark_text mark) after (omega arith) ends
 
 -- a reserved word has at least one byte
 word_some : (word : Word) → 0 < length (word_text word)
@@ -145,7 +142,7 @@ is_longest : (previous : Previous) (symbol : Symbol) (after : List ℕ) → Fits
 is_longest previous (NAME x) after fits ends = longest_before previous x after (name_some x fits) ends
 is_longest previous (WORD word) after fits ends = longest_before previous (word_text word) after (word_some word) ends
 is_longest previous (NUMBER z) after fits ends = longest_before previous (signed_decimal z) after (numeral_some previous (signed_decimal z) (signed_numeral previous z fits.0 fits.1)) ends
-is_longest previous (MARK mark) after fits ends = mark_longest previous mark after ends
+is_longest previous (MARK mark) after fits ends = printed_mark_longest previous mark after ends
 is_longest previous NL after fits ends = absurd fits
 
 -- ---- no token has a line feed
@@ -308,10 +305,10 @@ stays_other previous (Blank ∷ pieces) after other spaced = stays_other previou
 stays_other previous (Shown symbol ∷ pieces) after other spaced = stays_other (previous_after symbol) pieces after (other_than_end previous symbol spaced.0) spaced.2
 
 -- a line that is not ended is ended by a token of its own
-line_end : (items : List Token) (previous : Previous) (line start length : ℕ) → previous ≢ AfterLineEnd → with_line_end items previous line start length ≡ items ++ record { kind = LineEndKind; start = start; length = length; line = line } ∷ []
-line_end items AfterLineEnd line start length other = absurd (other refl)
-line_end items AfterOperand line start length other = refl
-line_end items AfterOther line start length other = refl
+line_end_added : (items : List Token) (previous : Previous) (line start length : ℕ) → previous ≢ AfterLineEnd → with_line_end items previous line start length ≡ items ++ record { kind = LineEndKind; start = start; length = length; line = line } ∷ []
+line_end_added items AfterLineEnd line start length other = absurd (other refl)
+line_end_added items AfterOperand line start length other = refl
+line_end_added items AfterOther line start length other = refl
 
 -- a line feed behind a line that is not ended ends it, and the next line begins
 read_feed : (text front : List ℕ) (line : ℕ) (previous : Previous) (ts : List Terminal) (after : List ℕ) → previous ≢ AfterLineEnd → Read text front line previous ts → text ≡ front ++ 10 ∷ after
@@ -322,7 +319,7 @@ read_feed text front line previous ts after other was split =
       items = with_line_end was.items previous (line_after front) (length front) 1;
       row = row_line_feed after was.row split;
       tokens =
-          ap (terminals text) (line_end was.items previous (line_after front) (length front) 1 other)
+          ap (terminals text) (line_end_added was.items previous (line_after front) (length front) 1 other)
           ∙ map_push (terminal_of text) was.items token
           ∙ ap (λ (us : List Terminal). us ++ record { symbol = NL; line = line_after front } ∷ []) was.tokens
           ∙ ap (λ (n : ℕ). ts ++ record { symbol = NL; line = n } ∷ []) was.on;

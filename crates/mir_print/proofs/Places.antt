@@ -50,8 +50,8 @@ length_units names line [] = refl
 length_units names line (unit ∷ units) = ap suc (length_units names (line + 1 + length unit.body + 1) units)
 
 -- an item of the first ones
-pub get_take : {A : Type 0} (xs : List A) (i k : ℕ) (x : A) → slice_get (take i xs) k ≡ Some x → (k < i) × (slice_get xs k ≡ Some x)
-get_take xs zero k x at = absurd (cc)
-get_take [] (suc i) k x at = absurd (cc)
-get_take (y ∷ xs) (suc i) zero x at = (omega arith, at)
-get_take (y ∷ xs) (suc i) (suc k) x at = let found = get_take xs i k x at in (omega (arith, found.0), found.1)
+pub get_from_take : {A : Type 0} (xs : List A) (i k : ℕ) (x : A) → slice_get (take i xs) k ≡ Some x → (k < i) × (slice_get xs k ≡ Some x)
+get_from_take xs zero k x at = absurd (cc)
+get_from_take [] (suc i) k x at = absurd (cc)
+get_from_take (y ∷ xs) (suc i) zero x at = (omega arith, at)
+get_from_take (y ∷ xs) (suc i) (suc k) x at = let found = get_from_take xs i k x at in (omega (arith, found.0), found.1)

@@ -12,7 +12,7 @@ use Rattle.mir_valid.specs.Texts.{IsTextOfOnly}
 use Rattle.mir_print.specs.Texts.{SpellsFor, KeepsLimits}
 use Rattle.mir_print.proofs.Derived.{raw_of, text_spells}
 use Rattle.mir_print.proofs.Known.{unit_spelled}
-use Rattle.mir_print.proofs.Standing.{names_of_raw, units_stand}
+use Rattle.mir_print.proofs.Standing.{names_of_raw, raw_units_stand}
 use Rattle.mir_print.proofs.Validity.{are_valid}
 
 -- each unit of the program is spelled, so the text spells the raw program
@@ -23,7 +23,7 @@ raw_spelled program kept = text_spells program (λ i unit at. unit_spelled progr
 raw_stands : (program : ProgramShape) → ProgramKept program → StandsFor (raw_of program) program
 raw_stands program kept =
     let units = program.units in
-    units_stand units _ (names_of_raw (map (λ (unit : UnitShape). unit.name) units) 1 units) 1 units (λ i unit at. (kept.fits.bodies i unit at, all_at UnitKept units i unit kept.units at))
+    raw_units_stand units _ (names_of_raw (map (λ (unit : UnitShape). unit.name) units) 1 units) 1 units (λ i unit at. (kept.fits.bodies i unit at, all_at UnitKept units i unit kept.units at))
 
 -- the canonical text spells a raw program that stands for the program
 pub spells_for : (program : ProgramShape) → ProgramKept program → SpellsFor (canonical_text program) program

@@ -83,15 +83,15 @@ module _ (naming : Naming) where
       ∙ sym (map-append (var_text naming) (inst_vars inst) (flat_map inst_vars insts))
 
 -- the numbers never fall
-numbered_case : (x : ℕ) (xs : List ℕ) (n m : ℕ) (b c : Bool) → cond b (numbered_from n xs) (cond c (numbered_from (suc n) xs) None) ≡ Some m → ((k : ℕ) → numbered_from k xs ≡ Some m → k ≤ m) → n ≤ m
-numbered_case x xs n m true c e more = more n e
-numbered_case x xs n m false true e more = let above = more (suc n) e in omega (arith, above)
-numbered_case x xs n m false false e more = absurd (cc)
+above_case : (x : ℕ) (xs : List ℕ) (n m : ℕ) (b c : Bool) → cond b (numbered_from n xs) (cond c (numbered_from (suc n) xs) None) ≡ Some m → ((k : ℕ) → numbered_from k xs ≡ Some m → k ≤ m) → n ≤ m
+above_case x xs n m true c e more = more n e
+above_case x xs n m false true e more = let above = more (suc n) e in omega (arith, above)
+above_case x xs n m false false e more = absurd (cc)
 
 -- the number reached is at least the one that the count began with
 numbered_above : (xs : List ℕ) (n m : ℕ) → numbered_from n xs ≡ Some m → n ≤ m
 numbered_above [] n m e = let same : n ≡ m = cc in omega arith
-numbered_above (x ∷ xs) n m e = numbered_case x xs n m (nat_lt x n) (nat_eq x n) e (λ k. numbered_above xs k m)
+numbered_above (x ∷ xs) n m e = above_case x xs n m (nat_lt x n) (nat_eq x n) e (λ k. numbered_above xs k m)
 
 module _ (vars : List (List ℕ)) (differ : AllDiffer vars) where
   abbrev name_at : ℕ → List ℕ
@@ -250,8 +250,8 @@ module _ (all : List UnitShape) (raws : List (List ℕ)) (same_names : raws ≡ 
             (all_at (λ (j : Inst). AllBelow (length unit.vars) (inst_vars j)) unit.body i inst kept.below at));
       }
 
-  pub units_stand : (line : ℕ) (units : List UnitShape) → ((i : ℕ) (unit : UnitShape) → slice_get units i ≡ Some unit → BodyFits all unit.body × UnitKept unit) → EachStands (UnitStands raws) (raw_units names line units) units
-  units_stand line [] known = tt
-  units_stand line (unit ∷ units) known =
+  pub raw_units_stand : (line : ℕ) (units : List UnitShape) → ((i : ℕ) (unit : UnitShape) → slice_get units i ≡ Some unit → BodyFits all unit.body × UnitKept unit) → EachStands (UnitStands raws) (raw_units names line units) units
+  raw_units_stand line [] known = tt
+  raw_units_stand line (unit ∷ units) known =
       let here = known 0 unit refl in
-      (unit_stands line unit here.0 here.1, units_stand (line + 1 + length unit.body + 1) units (λ i other at. known (suc i) other at))
+      (unit_stands line unit here.0 here.1, raw_units_stand (line + 1 + length unit.body + 1) units (λ i other at. known (suc i) other at))

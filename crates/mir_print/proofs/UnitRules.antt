@@ -23,8 +23,8 @@ use Rattle.mir_print.specs.Labels.{JumpsTo}
 use Rattle.mir_print.proofs.Jumps.{jumps_to_is}
 use Rattle.mir_print.proofs.Raws.{raw_form, raw_insts, raw_label, raw_labels, unit_naming, raw_unit}
 use Rattle.mir_print.proofs.Standing.{is_place}
-use Rattle.mir_print.proofs.Absent.{name_absent, broken_none, lines_none}
-use Rattle.mir_print.proofs.Places.{inst_at, take_insts, length_insts, get_take}
+use Rattle.mir_print.proofs.Absent.{name_absent, broken_none, no_broken_lines}
+use Rattle.mir_print.proofs.Places.{inst_at, take_insts, length_insts, get_from_take}
 
 -- ---- receives
 
@@ -119,7 +119,7 @@ module _ (units : List UnitShape) (names : List (List ℕ)) (line : ℕ) (unit :
       absent : (j : ℕ) → slice_get (received (take i insts)) j ≡ Some (var_text naming x) → ⊥
       absent j there =
           let found = received_from naming (line + 1) (take i unit.body) j (var_text naming x) (ap (λ (l : List RawInst). slice_get (received l) j) (sym (take_insts naming (line + 1) i unit.body)) ∙ there) in
-          let earlier = get_take unit.body i found.0 (Receive found.1) found.2 in
+          let earlier = get_from_take unit.body i found.0 (Receive found.1) found.2 in
           let same : x ≡ found.1 = same_var x found.1 (var_low i x at) (var_low found.0 found.1 earlier.1) found.3 in
           let clash : found.0 ≡ i = fits.received found.0 i x (subst (λ (v : ℕ). slice_get unit.body found.0 ≡ Some (Receive v)) (sym same) earlier.1) at in
           let under = earlier.0 in
@@ -170,4 +170,4 @@ module _ (units : List UnitShape) (names : List (List ℕ)) (line : ℕ) (unit :
   misses_at inst jumps = refl
 
   pub no_missing : no_label_lines (raw_unit names line unit) ≡ []
-  no_missing = lines_none (misses_label labels) insts (λ i x at. let found = inst_at naming (line + 1) unit.body i x at in ap (misses_label labels) found.form ∙ misses_at found.inst (jumps_to_is units unit.body fits i found.inst found.at))
+  no_missing = no_broken_lines (misses_label labels) insts (λ i x at. let found = inst_at naming (line + 1) unit.body i x at in ap (misses_label labels) found.form ∙ misses_at found.inst (jumps_to_is units unit.body fits i found.inst found.at))

@@ -19,5 +19,5 @@ mod scope;
 pub use printing::print;
 pub use reading_back::text_is_read_back;
 
-/// Running out of memory: the allocator refused.
+/// There is not enough memory: the allocator refused.
 pub type Memory = std::alloc::AllocError;

@@ -37,9 +37,9 @@ grow count first start left items state so =
     }
 
 -- one group more at the end
-pub grows : (count : ℕ) (first : List Inst) (start turn : ℕ) (items : List Inst) (state : ℕ) (new : List Inst) (next : ℕ) → turn < count → SoFar count first start (count - turn) items state
+pub turn_grows : (count : ℕ) (first : List Inst) (start turn : ℕ) (items : List Inst) (state : ℕ) (new : List Inst) (next : ℕ) → turn < count → SoFar count first start (count - turn) items state
     → new ≡ items ++ (group (length items) state).insts → next ≡ (group (length items) state).state → SoFar count first start (count - (turn + 1)) new next
-grows count first start turn items state new next below so is also =
+turn_grows count first start turn items state new next below so is also =
     let one : count - turn ≡ suc (count - (turn + 1)) = omega arith in
     let grown = grow count first start (count - (turn + 1)) items state (subst (λ (n : ℕ). SoFar count first start n items state) one so) in
     subst (λ (l : List Inst). SoFar count first start (count - (turn + 1)) l next) (sym is)

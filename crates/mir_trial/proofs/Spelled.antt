@@ -2,13 +2,14 @@
 use Rattle.std.proofs.Common.{◌≡◌, ◌<◌, ◌^◌, ℕ, false, not, List, codes, IsTrue, refl, ap, arith}
 use Rattle.std.specs.List.{list_any}
 use Rattle.mir_base.specs.DecimalLaws.{numbered_differ, numbered_is_name}
-use Rattle.mir_base.specs.Names.{is_reserved, is_text, reserved_words, IsName}
+use Rattle.mir_base.specs.Names.{is_reserved, reserved_words, IsName}
+use Rattle.mir_base.specs.Words.{is_text}
 use Rattle.mir_trial.specs.Trial.{name_of}
 
 -- of a text that is known whether it is reserved is computed
-pub not_reserved : (bytes : List ℕ) → list_any (λ word. is_text word bytes) reserved_words ≡ false → IsTrue (not (is_reserved bytes))
+pub is_unreserved : (bytes : List ℕ) → list_any (λ word. is_text word bytes) reserved_words ≡ false → IsTrue (not (is_reserved bytes))
 unfolding is_reserved
-not_reserved bytes is = ap not is
+is_unreserved bytes is = ap not is
 
 -- `u` and a number of 64 bits are a name
 pub unit_name : (n : ℕ) → n < 2 ^ 64 → IsName (name_of n)

@@ -151,15 +151,15 @@ inner_at total k last (x ∷ insts) zero inst h at = let same : x ≡ inst = cc 
 inner_at total k last (x ∷ insts) (suc place) inst h at = inner_at total k last insts place inst h.1 at
 
 -- none of these instructions is a Receive
-no_receives : (total k : ℕ) (last : Bool) (insts : List Inst) → AllInner total k last insts → receives_in insts ≡ 0
-no_receives total k last [] h = refl
-no_receives total k last (Receive x ∷ insts) h = absurd h.0
-no_receives total k last (Assign x rhs ∷ insts) h = refl
-no_receives total k last (Goto place ∷ insts) h = refl
-no_receives total k last (If test place ∷ insts) h = refl
-no_receives total k last (Call into called operands ∷ insts) h = refl
-no_receives total k last (Print a ∷ insts) h = refl
-no_receives total k last (Return a ∷ insts) h = refl
+inner_receives : (total k : ℕ) (last : Bool) (insts : List Inst) → AllInner total k last insts → receives_in insts ≡ 0
+inner_receives total k last [] h = refl
+inner_receives total k last (Receive x ∷ insts) h = absurd h.0
+inner_receives total k last (Assign x rhs ∷ insts) h = refl
+inner_receives total k last (Goto place ∷ insts) h = refl
+inner_receives total k last (If test place ∷ insts) h = refl
+inner_receives total k last (Call into called operands ∷ insts) h = refl
+inner_receives total k last (Print a ∷ insts) h = refl
+inner_receives total k last (Return a ∷ insts) h = refl
 
 -- the new numbers
 abbrev to_of : ℕ → Bool → ℕ → ℕ → ℕ
@@ -175,16 +175,16 @@ tail_inner j last z = all_renamed (to_of j last z) (length (body_of j last z)) (
 
 -- the only receives of a unit are the two that it begins with
 two_receives : (j : ℕ) (last : Bool) (z : ℕ) → receives_in (unit_of j last z).body ≡ 2
-two_receives j last z = ap (λ (n : ℕ). suc (suc n)) (no_receives _ (suc j) last (tail_of j last z) (tail_inner j last z))
+two_receives j last z = ap (λ (n : ℕ). suc (suc n)) (inner_receives _ (suc j) last (tail_of j last z) (tail_inner j last z))
 
 -- and its length is that of the body before the renaming
 unit_long : (j : ℕ) (last : Bool) (z : ℕ) → length (unit_of j last z).body ≡ length (body_of j last z)
 unit_long j last z = length-map (body_of j last z) (renamed (to_of j last z))
 
 -- the list of variables grows at its end alone
-grown : (seen xs : List ℕ) → (more : List ℕ) × (seen_after seen xs ≡ seen ++ more)
-grown seen [] = ([], sym (append-nil seen))
-grown seen (x ∷ xs) = chosen (is_in x seen) (grown seen xs) (grown (seen ++ x ∷ []) xs)
+seen_grown : (seen xs : List ℕ) → (more : List ℕ) × (seen_after seen xs ≡ seen ++ more)
+seen_grown seen [] = ([], sym (append-nil seen))
+seen_grown seen (x ∷ xs) = chosen (is_in x seen) (seen_grown seen xs) (seen_grown (seen ++ x ∷ []) xs)
   where
     chosen : (b : Bool) → (more : List ℕ) × (seen_after seen xs ≡ seen ++ more) → (more : List ℕ) × (seen_after (seen ++ x ∷ []) xs ≡ (seen ++ x ∷ []) ++ more) → (more : List ℕ) × (cond b (seen_after seen xs) (seen_after (seen ++ x ∷ []) xs) ≡ seen ++ more)
     chosen true p q = p
@@ -193,7 +193,7 @@ grown seen (x ∷ xs) = chosen (is_in x seen) (grown seen xs) (grown (seen ++ x 
 -- the parameters keep their numbers
 parameters : (j : ℕ) (last : Bool) (z : ℕ) → (to_of j last z 0 ≡ 0) × (to_of j last z 1 ≡ 1)
 parameters j last z =
-    let more = grown (0 ∷ 1 ∷ []) (flat_map inst_vars (rest_of j last z)) in
+    let more = seen_grown (0 ∷ 1 ∷ []) (flat_map inst_vars (rest_of j last z)) in
     (ap (λ (seen : List ℕ). position seen 0) more.1, ap (λ (seen : List ℕ). position seen 1) more.1)
 
 -- ---- the units of the program
@@ -257,24 +257,24 @@ units_long zero j z = refl
 units_long (suc count) j z = let later = units_long count (suc j) (groups 60 2 z).state in omega (arith, later)
 
 -- names are numbered in the order of the units
-names_at : (count j z u : ℕ) → u < count → slice_get (names_of (units_from count j z)) u ≡ Some (name_of (j + u))
-names_at zero j z u below = absurd (omega (arith, below))
-names_at (suc count) j z zero below = subst (λ (n : ℕ). Some (name_of j) ≡ Some (name_of n)) (omega arith) refl
-names_at (suc count) j z (suc u) below =
-    subst (λ (n : ℕ). slice_get (names_of (units_from count (suc j) (groups 60 2 z).state)) u ≡ Some (name_of n)) (omega arith) (names_at count (suc j) (groups 60 2 z).state u (omega (arith, below)))
+drawn_names_at : (count j z u : ℕ) → u < count → slice_get (names_of (units_from count j z)) u ≡ Some (name_of (j + u))
+drawn_names_at zero j z u below = absurd (omega (arith, below))
+drawn_names_at (suc count) j z zero below = subst (λ (n : ℕ). Some (name_of j) ≡ Some (name_of n)) (omega arith) refl
+drawn_names_at (suc count) j z (suc u) below =
+    subst (λ (n : ℕ). slice_get (names_of (units_from count (suc j) (groups 60 2 z).state)) u ≡ Some (name_of n)) (omega arith) (drawn_names_at count (suc j) (groups 60 2 z).state u (omega (arith, below)))
 
 -- there is one name for each unit
-names_long : (count j z : ℕ) → length (names_of (units_from count j z)) ≡ count
-names_long zero j z = refl
-names_long (suc count) j z = let later = names_long count (suc j) (groups 60 2 z).state in omega (arith, later)
+drawn_names_long : (count j z : ℕ) → length (names_of (units_from count j z)) ≡ count
+drawn_names_long zero j z = refl
+drawn_names_long (suc count) j z = let later = drawn_names_long count (suc j) (groups 60 2 z).state in omega (arith, later)
 
 -- different numbers give different names, so no two units have one name
 names_differ : (count z : ℕ) → count ≤ most_units → AllDiffer (names_of (units_from count 0 z))
 names_differ count z few u v u_low v_low same =
-    let long = names_long count 0 z in
+    let long = drawn_names_long count 0 z in
     let one : u < count = omega (arith, long, u_low) in
     let other : v < count = omega (arith, long, v_low) in
-    let e : Some (name_of (0 + u)) ≡ Some (name_of (0 + v)) = sym (names_at count 0 z u one) ∙ same ∙ names_at count 0 z v other in
+    let e : Some (name_of (0 + u)) ≡ Some (name_of (0 + v)) = sym (drawn_names_at count 0 z u one) ∙ same ∙ drawn_names_at count 0 z v other in
     let f : name_of (0 + u) ≡ name_of (0 + v) = cc in
     let g : 0 + u ≡ 0 + v = unit_one (0 + u) (0 + v) (omega (arith, one, few)) (omega (arith, other, few)) f in
     omega (arith, g)

@@ -93,22 +93,15 @@ fn parameter(draws: &mut Draws) -> Operand
 fn operator(number: u64) -> Op
     ensures { result ≡ operator_of number }
 {
-    if number == 0 {
-        Op::Add
-    } else if number == 1 {
-        Op::Sub
-    } else if number == 2 {
-        Op::Mul
-    } else if number == 3 {
-        Op::Min
-    } else if number == 4 {
-        Op::Max
-    } else if number == 5 {
-        Op::And
-    } else if number == 6 {
-        Op::Or
-    } else {
-        Op::Xor
+    match number {
+        0 => Op::Add,
+        1 => Op::Sub,
+        2 => Op::Mul,
+        3 => Op::Min,
+        4 => Op::Max,
+        5 => Op::And,
+        6 => Op::Or,
+        _ => Op::Xor,
     }
 }
 

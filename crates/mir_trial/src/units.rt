@@ -60,7 +60,7 @@ fn unit(
 }
 
 /// The names of the variables.
-#[tactic(auto, using(crate::proofs::Spelled::not_reserved))]
+#[tactic(auto, using(crate::proofs::Spelled::is_unreserved))]
 fn variables(alloc: Global) -> Result<Vec<Name>, Memory>
     ensures { IfOk result (λ names. names.items ≡ variables) }
 {

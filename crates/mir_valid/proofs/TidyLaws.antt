@@ -91,9 +91,9 @@ numbered_first k m xs same =
     ap (λ b. cond b (numbered_from k xs) (cond (nat_eq m k) (numbered_from (suc k) xs) None)) e ∙ ap (λ b. cond b (numbered_from (suc k) xs) None) e'
 
 -- names that are added go last
-grown : (names vars : List (List ℕ)) → (rest : List (List ℕ)) × (fold with_name vars names ≡ vars ++ rest)
-grown [] vars = ([], sym (append-nil vars))
-grown (x ∷ names) vars = by (has_name vars x) refl (grown names (with_name vars x))
+names_grown : (names vars : List (List ℕ)) → (rest : List (List ℕ)) × (fold with_name vars names ≡ vars ++ rest)
+names_grown [] vars = ([], sym (append-nil vars))
+names_grown (x ∷ names) vars = by (has_name vars x) refl (names_grown names (with_name vars x))
   where
     by : (b : Bool) → has_name vars x ≡ b → (rest : List (List ℕ)) × (fold with_name (with_name vars x) names ≡ with_name vars x ++ rest)
         → (rest : List (List ℕ)) × (fold with_name vars (x ∷ names) ≡ vars ++ rest)
@@ -105,7 +105,7 @@ old_number : (vars all : List (List ℕ)) (names : List (List ℕ)) (x : List �
 old_number vars all names x has is =
     let found = some_of (number_in (numbered 0 vars) x) (has_number 0 vars x ∙ has) in
     let place = number_place 0 vars x found.0 found.1 in
-    let more = grown names vars in
+    let more = names_grown names vars in
     let number : number_or_zero (numbered 0 all) x ≡ found.0 =
     ap (λ ns. number_or_zero (numbered 0 ns) x) (is ∙ more.1) ∙ ap (λ o. unwrap_or o 0) (number_kept vars more.0 x found.0 found.1) in
     let low : place.0 < length vars = slice_get_within vars place.0 x place.2 in
@@ -115,7 +115,7 @@ old_number vars all names x has is =
 new_number : (vars all : List (List ℕ)) (names : List (List ℕ)) (x : List ℕ) → has_name vars x ≡ false → all ≡ fold with_name (vars ++ x ∷ []) names
     → number_or_zero (numbered 0 all) x ≡ length vars
 new_number vars all names x new is =
-    let more = grown names (vars ++ x ∷ []) in
+    let more = names_grown names (vars ++ x ∷ []) in
     ap (λ ns. number_or_zero (numbered 0 ns) x) (is ∙ more.1)
     ∙ ap (λ o. unwrap_or o 0) (number_kept (vars ++ x ∷ []) more.0 x (length vars) (number_new vars x new))
 

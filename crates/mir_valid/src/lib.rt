@@ -28,5 +28,5 @@ pub use checking::check;
 pub use faults::ValidFault;
 pub use laws::{program_is_unique, refused_is_not_valid};
 
-/// Running out of memory: the allocator refused.
+/// There is not enough memory: the allocator refused.
 pub type Memory = std::alloc::AllocError;

@@ -1,15 +1,15 @@
-use Rattle.std.proofs.Common.{sym, ◌∙◌, subst, ℕ, List}
+use Rattle.std.proofs.Common.{◌∙◌, subst, inl, inr, ℕ, List}
 use Rattle.std.specs.Str.Parse.{ParsesUnsigned}
 use Rattle.mir_lex.proofs.NumberLemmas.{unsigned_plus, unsigned_read, unsigned_text}
 use Rattle.mir_lex.proofs.numbers.parsed_unsigned.Goals as goal
 
-pub returns-then-begins_with_plus : goal.returns-then-begins_with_plus
-returns-then-begins_with_plus c = unsigned_plus c.args.bytes.now (sym c.begins_with_plus.ensures ∙ c.if-begins_with_plus.true)
+pub returns-in-Some : goal.returns-in-Some
+returns-in-Some c =
+    let read = subst (λ (bytes : List ℕ). ParsesUnsigned 64 10 bytes c.parse.result) c.in-Some.ensures.some.0 c.parse.ensures.value.0 in
+    c.ok.ensures.value ∙ unsigned_read c.args.bytes.now c.parse.result c.in-Some.ensures.some.1 read
 
-pub returns-in-Ok : goal.returns-in-Ok
-returns-in-Ok c =
-    let read = subst (λ (bytes : List ℕ). ParsesUnsigned 64 10 bytes c.parse.result) c.in-Ok.ensures.cases.0 c.parse.ensures.value.0 in
-    c.ok.ensures.value ∙ unsigned_read c.args.bytes.now c.parse.result (sym c.begins_with_plus.ensures ∙ c.if-begins_with_plus.false) read
-
-pub returns-in-Err : goal.returns-in-Err
-returns-in-Err c = unsigned_text c.args.bytes.now c.in-Err.ensures.cases.0
+pub returns-in-None : goal.returns-in-None
+returns-in-None c = elim c.in-None.ensures.none [
+  | inl plus ↦ unsigned_plus c.args.bytes.now plus
+  | inr no_text ↦ unsigned_text c.args.bytes.now no_text
+]

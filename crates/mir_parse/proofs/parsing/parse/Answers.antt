@@ -2,7 +2,7 @@ use Rattle.std.proofs.Common.{sym, ap, subst, ◌≡◌, inl, ℕ}
 use Rattle.mir_parse.specs.Grammar.{IsUnexpected}
 use Rattle.mir_lex.specs.Terminals.{terminals}
 use Rattle.mir_parse.specs.declared.faults.ParseFault.TheVariants.{Unexpected}
-use Rattle.mir_parse.proofs.Exact.{outside_text, dead_unexpected, inside_ended, outside_only, outside_unexpected, outside_ended, dead_only, dead_line, dead_ended, in_only, in_unexpected, text_same}
+use Rattle.mir_parse.proofs.Exact.{outside_text, dead_unexpected, inside_unfinished, outside_only, outside_unexpected, outside_unfinished, dead_only, dead_line, dead_unfinished, in_only, in_unexpected, text_same}
 use Rattle.mir_parse.proofs.parsing.parse.Goals as goal
 
 pub returns-in-Ok-Outside-clause-found : goal.returns-in-Ok-Outside-clause-found
@@ -14,8 +14,8 @@ returns-in-Ok-Outside-clause-only c = let e = rw c.in-Ok-Outside.field-0-is at c
 pub returns-in-Ok-Outside-clause-unexpected_only : goal.returns-in-Ok-Outside-clause-unexpected_only
 returns-in-Ok-Outside-clause-unexpected_only c = let e = rw c.in-Ok-Outside.field-0-is at c.in-Ok-Outside.ensures in λ line is. outside_unexpected _ _ e line is
 
-pub returns-in-Ok-Outside-clause-ended_only : goal.returns-in-Ok-Outside-clause-ended_only
-returns-in-Ok-Outside-clause-ended_only c = let e = rw c.in-Ok-Outside.field-0-is at c.in-Ok-Outside.ensures in λ is. outside_ended _ _ e is
+pub returns-in-Ok-Outside-clause-unfinished_only : goal.returns-in-Ok-Outside-clause-unfinished_only
+returns-in-Ok-Outside-clause-unfinished_only c = let e = rw c.in-Ok-Outside.field-0-is at c.in-Ok-Outside.ensures in λ is. outside_unfinished _ _ e is
 
 pub returns-in-Ok-Dead-clause-only : goal.returns-in-Ok-Dead-clause-only
 returns-in-Ok-Dead-clause-only c = let e = rw c.in-Ok-Dead.field-0-is at c.in-Ok-Dead.ensures in λ us text. dead_only _ _ e us text
@@ -30,8 +30,8 @@ returns-in-Ok-Dead-clause-unexpected c =
 pub returns-in-Ok-Dead-clause-unexpected_only : goal.returns-in-Ok-Dead-clause-unexpected_only
 returns-in-Ok-Dead-clause-unexpected_only c = let e = rw c.in-Ok-Dead.field-0-is at c.in-Ok-Dead.ensures in λ line is. inl (ap (λ (n : ℕ). Unexpected n) (dead_line _ _ e line is))
 
-pub returns-in-Ok-Dead-clause-ended_only : goal.returns-in-Ok-Dead-clause-ended_only
-returns-in-Ok-Dead-clause-ended_only c = let e = rw c.in-Ok-Dead.field-0-is at c.in-Ok-Dead.ensures in λ is. absurd (dead_ended _ _ e is)
+pub returns-in-Ok-Dead-clause-unfinished_only : goal.returns-in-Ok-Dead-clause-unfinished_only
+returns-in-Ok-Dead-clause-unfinished_only c = let e = rw c.in-Ok-Dead.field-0-is at c.in-Ok-Dead.ensures in λ is. absurd (dead_unfinished _ _ e is)
 
 pub returns-in-Ok-In-clause-only : goal.returns-in-Ok-In-clause-only
 returns-in-Ok-In-clause-only c = let e = rw c.in-Ok-In.field-0-is at c.in-Ok-In.ensures in λ us text. in_only _ _ _ e us text
@@ -39,8 +39,8 @@ returns-in-Ok-In-clause-only c = let e = rw c.in-Ok-In.field-0-is at c.in-Ok-In.
 pub returns-in-Ok-In-clause-unexpected_only : goal.returns-in-Ok-In-clause-unexpected_only
 returns-in-Ok-In-clause-unexpected_only c = let e = rw c.in-Ok-In.field-0-is at c.in-Ok-In.ensures in λ line is. absurd (in_unexpected _ _ _ e line is)
 
-pub returns-in-Ok-In-clause-ended : goal.returns-in-Ok-In-clause-ended
-returns-in-Ok-In-clause-ended c = let e = rw c.in-Ok-In.field-0-is at c.in-Ok-In.ensures in λ same. inside_ended _ _ _ (sym e)
+pub returns-in-Ok-In-clause-unfinished : goal.returns-in-Ok-In-clause-unfinished
+returns-in-Ok-In-clause-unfinished c = let e = rw c.in-Ok-In.field-0-is at c.in-Ok-In.ensures in λ same. inside_unfinished _ _ _ (sym e)
 
 pub returns-in-Ok-Outside-clause-unique : goal.returns-in-Ok-Outside-clause-unique
 returns-in-Ok-Outside-clause-unique c = text_same (terminals c.args.tokens.now.text c.args.tokens.now.items)

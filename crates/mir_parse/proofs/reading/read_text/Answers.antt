@@ -1,7 +1,7 @@
 use Rattle.std.proofs.Common.{◌≡◌, ◌⊎◌, inr}
-use Rattle.mir_parse.specs.declared.faults.ParseFault.TheVariants.{Unexpected, Ended}
+use Rattle.mir_parse.specs.declared.faults.ParseFault.TheVariants.{Unexpected, Unfinished}
 use Rattle.mir_parse.specs.declared.faults.TextFault.TheVariants.{Lex, Parse}
-use Rattle.mir_parse.specs.Grammar.{IsText, IsUnexpected, IsEnded}
+use Rattle.mir_parse.specs.Grammar.{IsText, IsUnexpected, IsUnfinished}
 use Rattle.mir_parse.specs.Spells.{IsTextMemory}
 use Rattle.mir_parse.proofs.Texts.{moved, raw_same, spells_same, by_cause, same_parse, same_lex}
 use Rattle.mir_parse.proofs.reading.read_text.Goals as goal
@@ -22,8 +22,8 @@ returns-in-Ok-parse-clause-refused_only c =
     by_cause c.args.text.now (λ fault. ⊥) c.in-Ok.ensures.refused_only
     (λ line items tokens h. c.in-Ok-parse.ensures.unexpected_only line
     (moved (λ ts. IsUnexpected ts line) c.args.text.now c.in-Ok.tokens.text items c.in-Ok.tokens.items c.in-Ok.ensures.found.0 (c.in-Ok.ensures.only items tokens) h))
-    (λ items tokens h. c.in-Ok-parse.ensures.ended_only
-    (moved IsEnded c.args.text.now c.in-Ok.tokens.text items c.in-Ok.tokens.items c.in-Ok.ensures.found.0 (c.in-Ok.ensures.only items tokens) h))
+    (λ items tokens h. c.in-Ok-parse.ensures.unfinished_only
+    (moved IsUnfinished c.args.text.now c.in-Ok.tokens.text items c.in-Ok.tokens.items c.in-Ok.ensures.found.0 (c.in-Ok.ensures.only items tokens) h))
 
 -- its tokens are refused
 
@@ -40,8 +40,8 @@ returns-in-Ok-clause-refused_only c =
     by_cause c.args.text.now (λ fault. (Parse c.in-Err-parse.fault ≡ fault) ⊎ IsTextMemory (Parse c.in-Err-parse.fault)) (λ fault h. absurd (c.in-Ok.ensures.refused_only fault h))
     (λ line items tokens h. same_parse c.in-Err-parse.fault (Unexpected line) (c.in-Err-parse.ensures.unexpected_only line
     (moved (λ ts. IsUnexpected ts line) c.args.text.now c.in-Ok.tokens.text items c.in-Ok.tokens.items c.in-Ok.ensures.found.0 (c.in-Ok.ensures.only items tokens) h)))
-    (λ items tokens h. same_parse c.in-Err-parse.fault Ended (c.in-Err-parse.ensures.ended_only
-    (moved IsEnded c.args.text.now c.in-Ok.tokens.text items c.in-Ok.tokens.items c.in-Ok.ensures.found.0 (c.in-Ok.ensures.only items tokens) h)))
+    (λ items tokens h. same_parse c.in-Err-parse.fault Unfinished (c.in-Err-parse.ensures.unfinished_only
+    (moved IsUnfinished c.args.text.now c.in-Ok.tokens.text items c.in-Ok.tokens.items c.in-Ok.ensures.found.0 (c.in-Ok.ensures.only items tokens) h)))
 
 -- it has no tokens
 

@@ -1,5 +1,5 @@
 use Rattle.std.proofs.Common.{◌≡◌, arith}
-use Rattle.mir_trial.proofs.Growing.{begins, grows, ends_insts, ends_state}
+use Rattle.mir_trial.proofs.Growing.{begins, turn_grows, ends_insts, ends_state}
 use Rattle.mir_trial.proofs.groups.push_groups.Goals as goal
 
 pub loop-turn-init : goal.loop-turn-init
@@ -8,7 +8,7 @@ loop-turn-init c = begins c.args.count c.args.body.now.items c.args.draws.now.st
 pub loop-turn-preserved : goal.loop-turn-preserved
 loop-turn-preserved c =
     let added = c.in_ok-push_group.ensures in
-    grows c.args.count c.args.body.now.items c.args.draws.now.state c.loop-turn.turn c.loop-turn.body.items c.loop-turn.draws.state c.push_group.new.body.items c.push_group.new.draws.state
+    turn_grows c.args.count c.args.body.now.items c.args.draws.now.state c.loop-turn.turn c.loop-turn.body.items c.loop-turn.draws.state c.push_group.new.body.items c.push_group.new.draws.state
     c.loop-turn-test.true c.loop-turn.invariant added.insts added.state
 
 pub returns-clause-insts : goal.returns-clause-insts

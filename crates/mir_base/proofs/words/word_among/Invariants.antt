@@ -1,6 +1,6 @@
 use Rattle.std.proofs.Common.{◌≡◌, drop}
-use Rattle.mir_lex.specs.Scanner.{first_word}
-use Rattle.mir_lex.proofs.bytes.word_among.Given as goal
+use Rattle.mir_base.specs.Words.{first_word}
+use Rattle.mir_base.proofs.words.word_among.Given as goal
 
 abbrev pub invariant-loop-text : goal.invariant-loop-text
 invariant-loop-text l =
