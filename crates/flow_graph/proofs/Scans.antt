@@ -12,7 +12,7 @@ use Rattle.flow_graph.specs.Graphs.{AllWithin, IsBelow, following, succs_of}
 use Rattle.flow_graph.specs.Plans.{after_node, first_open, is_placed, new_trace, next_item, open_at, or_else}
 use Rattle.flow_graph.specs.Walks.{unmarked}
 use Rattle.flow_graph.specs.Placing.{ArePlaced, ItemsWithin, follower_of, open_by, open_by_item, open_if, open_item, AreClosed, FirstOpenIsAt, open_end, placed_after, plan_weight, taken_of}
-use Rattle.flow_graph.proofs.Walks.{unmarked_set}
+use Rattle.flow_graph.specs.MarkLaws.{unmarked_set}
 use Rattle.flow_graph.proofs.Plans.{fresh}
 use Rattle.mir_base.specs.ItemLaws.{some_of, none_of}
 

@@ -1,15 +1,16 @@
 -- What a walk keeps, and what it leaves.
-use Rattle.std.proofs.Common.{◌≡◌, ℕ, zero, suc, ◌+◌, ◌<◌, ◌≤◌, Bool, true, false, cond, List, [], ◌∷◌, ◌++◌, length, slice_get, slice_set, slice_index_or, Option, Some, None, ◌⊎◌, inl, inr, refl, sym, ap, ◌∙◌, subst, arith, replicate, length-append}
+use Rattle.std.proofs.Common.{◌≡◌, ℕ, zero, suc, ◌<◌, ◌≤◌, Bool, true, false, cond, List, [], ◌∷◌, ◌++◌, length, slice_get, slice_set, slice_index_or, Option, Some, None, ◌⊎◌, inl, inr, refl, sym, ap, ◌∙◌, subst, arith, replicate, length-append}
 use Rattle.std.proofs.lemmas.Bool.{cases_eq}
 use Rattle.std.proofs.lemmas.List.{length-replicate, length-set}
 use Rattle.std.proofs.lemmas.Option.{slice_get_within}
 use Rattle.flow_graph.specs.ListLaws.{set_here, set_elsewhere}
+use Rattle.flow_graph.specs.MarkLaws.{unmarked_same, unmarked_set}
 use Rattle.flow_graph.specs.declared.nodes.Node.{Node}
 use Rattle.flow_graph.specs.BoundLaws.{slot_low}
 use Rattle.flow_graph.specs.Graphs.{IsEdge, Reached, at_start, along, node_succs, succs_of, succs_at, AllWithin, IsBelow}
 use Rattle.flow_graph.specs.Kept.{MarkReached}
 use Rattle.flow_graph.specs.Numbering.{is_in}
-use Rattle.flow_graph.specs.Walks.{Walking, marks_after, stack_after, unmarked, walk_weight}
+use Rattle.flow_graph.specs.Walks.{Walking, marks_after, stack_after, walk_weight}
 use Rattle.flow_graph.specs.NumberingLaws.{is_in_first, is_in_last, is_in_pushed}
 
 -- ---- marks
@@ -24,22 +25,6 @@ set_keeps marks s n e = elim (cases_eq n s) [
 -- what is marked then was marked, or is the node
 pub marked_before : (marks : List Bool) (s n : ℕ) → slice_get (slice_set marks s true) n ≡ Some true → (n ≡ s) ⊎ (slice_get marks n ≡ Some true)
 marked_before marks s n e = elim (cases_eq n s) [ inl p ↦ inl p | inr other ↦ inr (sym (set_elsewhere marks s n true other) ∙ e) ]
-
--- one node fewer is unmarked
-pub unmarked_set : (marks : List Bool) (s : ℕ) → s < length marks → slice_index_or marks s false ≡ false → unmarked (slice_set marks s true) + 1 ≡ unmarked marks
-unmarked_set [] s lt e = absurd (omega (arith, lt))
-unmarked_set (true ∷ marks) zero lt e = cc
-unmarked_set (false ∷ marks) zero lt e = omega arith
-unmarked_set (true ∷ marks) (suc s) lt e = unmarked_set marks s (omega (arith, lt)) e
-unmarked_set (false ∷ marks) (suc s) lt e = omega (arith, unmarked_set marks s (omega (arith, lt)) e)
-
--- marking what is marked leaves as many unmarked
-unmarked_same : (marks : List Bool) (s : ℕ) → slice_index_or marks s false ≡ true → unmarked (slice_set marks s true) ≡ unmarked marks
-unmarked_same [] s e = refl
-unmarked_same (true ∷ marks) zero e = refl
-unmarked_same (false ∷ marks) zero e = cc
-unmarked_same (true ∷ marks) (suc s) e = unmarked_same marks s e
-unmarked_same (false ∷ marks) (suc s) e = ap suc (unmarked_same marks s e)
 
 -- ---- one mark
 

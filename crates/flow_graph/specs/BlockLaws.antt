@@ -21,6 +21,18 @@ only_is [] x e = cc
 only_is (y ∷ []) x e = cc
 only_is (y ∷ z ∷ xs) x e = cc
 
+-- where there is no second item, the first is the only one
+pub only_first : (xs : List ℕ) → slice_get xs 1 ≡ None → slice_get xs 0 ≡ only xs
+only_first [] e = refl
+only_first (x ∷ []) e = refl
+only_first (x ∷ y ∷ xs) e = cc
+
+-- and where there is a second item there is no only one
+pub none_only : (xs : List ℕ) (y : ℕ) → slice_get xs 1 ≡ Some y → only xs ≡ None
+none_only [] y e = cc
+none_only (x ∷ []) y e = cc
+none_only (x ∷ z ∷ xs) y e = refl
+
 -- a list of one item
 pub only_one : (xs : List ℕ) → length xs ≡ 1 → (x : ℕ) × (xs ≡ x ∷ [])
 only_one [] e = absurd (omega (arith, e))

@@ -129,13 +129,17 @@ rhs_at (Some node) = node_rhs node
 
 -- ---- what is true of each graph
 
+-- the variables of each node are below this number
+abbrev pub HaveVarsBelow : ℕ → List Node → Type 0
+HaveVarsBelow vars nodes = (n : ℕ) (node : Node) → slice_get nodes n ≡ Some node → AllBelow vars (node_vars node)
+
 -- a graph can be made of these: node 0 is the only Start, no edge leads to it, successors and variables are in range,
 -- and the received variables and the names are distinct
 pub record CanMake (vars : List (List ℕ)) (received : List ℕ) (nodes : List Node) : Type 0 where
   pub start : (s : ℕ) × (slice_get nodes 0 ≡ Some (Start s))
   pub only : (n s : ℕ) → slice_get nodes n ≡ Some (Start s) → n ≡ 0
   pub succs : (m slot s : ℕ) → IsEdge nodes m slot s → (1 ≤ s) × (s < length nodes)
-  pub below : (n : ℕ) (node : Node) → slice_get nodes n ≡ Some node → AllBelow (length vars) (node_vars node)
+  pub below : HaveVarsBelow (length vars) nodes
   pub received_below : AllBelow (length vars) received
   pub received_differ : AllDiffer received
   pub names : AllDiffer vars

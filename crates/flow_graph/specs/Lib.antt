@@ -11,6 +11,7 @@ pub mod Edges
 pub mod LeavingLaws
 pub mod EnteringLaws
 pub mod EdgeLaws
+pub mod JoinLaws
 pub mod PredLaws
 pub mod Lowered
 pub mod Calls
@@ -26,6 +27,7 @@ pub mod Passes
 pub mod KeepsLaws
 pub mod OneLaws
 pub mod Walks
+pub mod MarkLaws
 pub mod Sorting
 pub mod Placing
 pub mod Examples

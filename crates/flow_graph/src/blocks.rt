@@ -2,6 +2,7 @@
 ghost use Rattle.std.specs.Prelude.{◌≡◌, ◌≢◌, ℕ, ◌+◌, ◌<◌, ◌++◌, [], ◌∷◌, length, replicate, slice_get, slice_index_or, slice_set, Some, IfOk, OnOk};
 ghost use Rattle.flow_graph.specs.Blocks.{AreBlocksOf, AreOnlyBlocks, AreStored, IsFirst, IsBlockSoFar, IsGlued, IsLast, IsPlaced, StandsIn, is_first, next_of, only, IsUnplaced, GluedToPlaced, IsFollowedBlock};
 ghost use Rattle.flow_graph.specs.Edges.{edges_of};
+ghost use Rattle.flow_graph.specs.Graphs.{succs_at};
 
 use crate::tables::{bounds, filled, part};
 use crate::{Edges, Graph};
@@ -157,8 +158,7 @@ fn next(graph: &Graph, edges: &Edges, node: usize) -> Option<usize>
     ensures { result ≡ next_of graph.now.nodes node }
 {
     let _nodes = graph.nodes();
-    let succs = graph.succs(node);
-    match only(succs.as_slice()) {
+    match only_succ(graph, node) {
         None => None,
         Some(next) => match only(edges.preds(next)) {
             None => None,
@@ -175,10 +175,22 @@ fn is_first(graph: &Graph, edges: &Edges, node: usize) -> bool
 {
     match only(edges.preds(node)) {
         None => true,
-        Some(before) => match only(graph.succs(before).as_slice()) {
+        Some(before) => match only_succ(graph, before) {
             None => true,
             Some(_) => false,
         },
+    }
+}
+
+/// The only successor of a node.
+fn only_succ(graph: &Graph, node: usize) -> Option<usize>
+    requires { node < length graph.now.nodes }
+    ensures { result ≡ only (succs_at graph.now.nodes node) }
+{
+    let here = &graph.nodes()[node];
+    match here.second_succ() {
+        None => here.first_succ(),
+        Some(_) => None,
     }
 }
 

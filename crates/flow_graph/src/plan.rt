@@ -90,13 +90,8 @@ fn following(node: &Node) -> Option<usize>
     ensures { result ≡ following (Some node.now) }
 {
     match node {
-        Node::Start(next) => Some(*next),
-        Node::Skip(next) => Some(*next),
-        Node::Assign(_, _, next) => Some(*next),
-        Node::Print(_, next) => Some(*next),
-        Node::Call(_, _, _, next) => Some(*next),
         Node::Test(_, _, other) => Some(*other),
-        Node::Return(_) => None,
+        _ => node.first_succ(),
     }
 }
 

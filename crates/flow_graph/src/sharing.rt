@@ -50,7 +50,7 @@ impl Names {
     }
 
     /// A share of the names. It does not allocate, and is refused only where there are too many shares to count.
-    fn share(&self) -> Result<Names, Memory>
+    pub(crate) fn share(&self) -> Result<Names, Memory>
         ensures { IfOk result (λ share. share ≡ self.now) }
     {
         let shared = self.shared.clone()?;

@@ -13,3 +13,6 @@ pub mod Between
 pub mod Crossings
 pub mod Problem
 pub mod Statements
+pub mod Says
+pub mod KeyRows
+pub mod KeyRowLaws

@@ -5,8 +5,8 @@ use Rattle.flow_graph.specs.Blocks.{only}
 use Rattle.flow_graph.specs.BlockLaws.{edge_within, only_is}
 use Rattle.flow_graph.proofs.blocks.is_first.Goals as goal
 
-pub succs-requires : goal.succs-requires
-succs-requires c =
+pub only_succ-requires : goal.only_succ-requires
+only_succ-requires c =
     let preds : c.preds.result.now ≡ preds_of c.args.graph.now.nodes c.args.node = c.preds.ensures ∙ ap (λ (e : EdgesShape). preds_among c.args.node e.edges) c.requires.edges in
     let enters = only_is (preds_of c.args.graph.now.nodes c.args.node) c.in-Some.before (ap only (sym preds) ∙ sym c.only.ensures ∙ c.in-Some.is) in
     edge_within c.args.graph.now.nodes c.in-Some.before c.args.node (pred_is c.args.graph.now.nodes c.args.node 0 c.in-Some.before (ap (λ l. slice_get l 0) enters))
