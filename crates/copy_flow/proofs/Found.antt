@@ -11,10 +11,11 @@ use Rattle.flow_graph.specs.declared.nodes.Node.{Node}
 use Rattle.flow_graph.specs.declared.nodes.Node.TheVariants.{Start, Skip, Assign, Print, Call, Test, Return}
 use Rattle.flow_graph.specs.Graphs.{CanMake, GraphShape, node_vars}
 use Rattle.flow_graph.specs.PathLaws.{reached_trace}
+use Rattle.path_laws.specs.KeyRows.{key_in}
 use Rattle.path_laws.specs.Paths.{Since}
 use Rattle.copy_flow.specs.declared.table.VarCopy.{VarCopy}
 use Rattle.copy_flow.specs.Copies.{IsCopyOf, IsReadFor, copies_at, ends_at, is_copy, is_var}
-use Rattle.copy_flow.specs.Tables.{HasCopies, copy_in}
+use Rattle.copy_flow.specs.Tables.{HasCopies, copy_of}
 use Rattle.copy_flow.specs.Rows.{AreHeldRows, read_in}
 use Rattle.copy_flow.proofs.Values.{both_true, differ}
 
@@ -65,14 +66,14 @@ read_below graph can v w n (inr none) low = subst (λ x. x < length graph.vars) 
 -- ---- the table
 
 -- an assignment of another variable is a copy
-copy_in_assign : (v w next : ℕ) → w ≢ v → copy_in (Some (Assign v (Plain (Var w)) next)) ≡ Some (record { target = v; source = w })
-copy_in_assign v w next apart = let off : nat_eq v w ≡ false = differ v w (λ same. apart (sym same)) in rw off refl
+copy_of_assign : (v w next : ℕ) → w ≢ v → copy_of (Assign v (Plain (Var w)) next) ≡ Some (record { target = v; source = w })
+copy_of_assign v w next apart = let off : nat_eq v w ≡ false = differ v w (λ same. apart (sym same)) in rw off refl
 
 -- a copy that holds somewhere stands in the table
 pub in_table : (graph : GraphShape) (table : List VarCopy) → HasCopies graph.nodes table → (v w n : ℕ) → IsCopyOf graph v w n → Contains table (record { target = v; source = w })
 in_table graph table all v w n copy =
     let node = held_copy graph v w n copy in
-    all node.0 (record { target = v; source = w }) (ap copy_in node.2 ∙ copy_in_assign v w node.1 copy.apart)
+    all node.0 (record { target = v; source = w }) (ap (key_in copy_of) node.2 ∙ copy_of_assign v w node.1 copy.apart)
 
 -- ---- what is read by a row
 
@@ -146,7 +147,7 @@ module _ (graph : GraphShape) (table : List VarCopy) (held : List (List Bool)) (
       by : ReadCases table (row_of held n) v → IsReadFor graph v (read_in table (row_of held n) v) n
       by (inl r) =
           let c = r.1 in
-          let copy : IsCopyOf graph c.target c.source n = (rows.tells n r.0 c lt r.2.here).0 r.2.bit in
+          let copy : IsCopyOf graph c.target c.source n = (rows.bits n r.0 c lt r.2.here).0 r.2.bit in
           let target : c.target ≡ v = eqb-true c.target v r.2.in_var in
           inl (subst (λ w. IsCopyOf graph v w n) (sym r.3) (subst (λ x. IsCopyOf graph x c.source n) target copy))
       by (inr r) = inr (
@@ -154,5 +155,5 @@ module _ (graph : GraphShape) (table : List VarCopy) (held : List (List Bool)) (
         λ u copy.
             let there = in_table graph table all v u n copy in
             let here : slice_get table there.0 ≡ Some (record { target = v; source = u }) = slice_get-get_or table there.0 (record { target = v; source = u }) there.1 ∙ ap Some there.2 in
-            r.1 there.0 (record { target = v; source = u }) here ((rows.tells n there.0 (record { target = v; source = u }) lt here).1 copy) (eq-eqb v v refl),
+            r.1 there.0 (record { target = v; source = u }) here ((rows.bits n there.0 (record { target = v; source = u }) lt here).1 copy) (eq-eqb v v refl),
       )

@@ -2,9 +2,7 @@ pub mod Values
 pub mod Steps
 pub mod Shapes
 pub mod Found
-pub mod Equal
 pub mod Taking
 pub mod Bits
-pub mod Ended
 pub mod Whole
 pub mod Rereads

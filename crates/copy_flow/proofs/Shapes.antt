@@ -20,7 +20,8 @@ use Rattle.flow_graph.specs.Edges.{IsSplit, edges_from, leaving, preds_among, pr
 use Rattle.flow_graph.specs.Graphs.{GraphShape, IsEdge, Reached, at_start, along, node_succs, node_vars, succs_at, succs_of}
 use Rattle.flow_graph.specs.NodeLaws.{mapped_from}
 use Rattle.copy_flow.specs.Copies.{is_var}
-use Rattle.copy_flow.specs.Copied.{AreCopied, reread, reread_node, reread_rhs, reread_test}
+use Rattle.flow_graph.specs.Numbering.{renamed_operand, renamed_rhs, renamed_test}
+use Rattle.copy_flow.specs.Copied.{AreCopied, reread_node}
 
 -- ---- one node
 
@@ -33,7 +34,7 @@ chosen_succs false x rhs next = refl
 pub reread_succs : (read : ℕ → ℕ) (node : Node) → node_succs (reread_node read node) ≡ node_succs node
 reread_succs read (Start next) = refl
 reread_succs read (Skip next) = refl
-reread_succs read (Assign x rhs next) = chosen_succs (is_var x (reread_rhs read rhs)) x (reread_rhs read rhs) next
+reread_succs read (Assign x rhs next) = chosen_succs (is_var x (renamed_rhs read rhs)) x (renamed_rhs read rhs) next
 reread_succs read (Print a next) = refl
 reread_succs read (Call into unit operands next) = refl
 reread_succs read (Test test taken other) = refl
@@ -48,9 +49,9 @@ chosen_call false x rhs next = refl
 reread_call : (read : ℕ → ℕ) (node : Node) → node_call (reread_node read node) ≡ node_call node
 reread_call read (Start next) = refl
 reread_call read (Skip next) = refl
-reread_call read (Assign x rhs next) = chosen_call (is_var x (reread_rhs read rhs)) x (reread_rhs read rhs) next
+reread_call read (Assign x rhs next) = chosen_call (is_var x (renamed_rhs read rhs)) x (renamed_rhs read rhs) next
 reread_call read (Print a next) = refl
-reread_call read (Call into unit operands next) = ap (λ n. Some (unit, n)) (length-map operands (reread read))
+reread_call read (Call into unit operands next) = ap (λ n. Some (unit, n)) (length-map operands (renamed_operand read))
 reread_call read (Test test taken other) = refl
 reread_call read (Return a) = refl
 
@@ -63,7 +64,7 @@ chosen_start false x rhs next s e = cc
 pub reread_start : (read : ℕ → ℕ) (node : Node) (s : ℕ) → reread_node read node ≡ Start s → node ≡ Start s
 reread_start read (Start next) s e = e
 reread_start read (Skip next) s e = cc
-reread_start read (Assign x rhs next) s e = absurd (chosen_start (is_var x (reread_rhs read rhs)) x (reread_rhs read rhs) next s e)
+reread_start read (Assign x rhs next) s e = absurd (chosen_start (is_var x (renamed_rhs read rhs)) x (renamed_rhs read rhs) next s e)
 reread_start read (Print a next) s e = cc
 reread_start read (Call into unit operands next) s e = cc
 reread_start read (Test test taken other) s e = cc
@@ -72,26 +73,26 @@ reread_start read (Return a) s e = cc
 -- ---- variables of a node
 
 module _ (k : ℕ) (read : ℕ → ℕ) (low : (v : ℕ) → v < k → read v < k) where
-  operand_below : (a : Operand) → AllBelow k (operand_vars a) → AllBelow k (operand_vars (reread read a))
+  operand_below : (a : Operand) → AllBelow k (operand_vars a) → AllBelow k (operand_vars (renamed_operand read a))
   operand_below (Var x) below = (low x below.0, tt)
   operand_below (Const c) below = tt
 
-  operands_below : (operands : List Operand) → AllBelow k (flat_map operand_vars operands) → AllBelow k (flat_map operand_vars (map (reread read) operands))
+  operands_below : (operands : List Operand) → AllBelow k (flat_map operand_vars operands) → AllBelow k (flat_map operand_vars (map (renamed_operand read) operands))
   operands_below [] below = tt
   operands_below (a ∷ operands) below =
-      all_below_append k (operand_vars (reread read a)) (flat_map operand_vars (map (reread read) operands)) (operand_below a (all_below_left k (operand_vars a) (flat_map operand_vars operands) below))
+      all_below_append k (operand_vars (renamed_operand read a)) (flat_map operand_vars (map (renamed_operand read) operands)) (operand_below a (all_below_left k (operand_vars a) (flat_map operand_vars operands) below))
       (operands_below operands (all_below_right k (operand_vars a) (flat_map operand_vars operands) below))
 
-  pair_below : (a b : Operand) → AllBelow k (operand_vars a ++ operand_vars b) → AllBelow k (operand_vars (reread read a) ++ operand_vars (reread read b))
+  pair_below : (a b : Operand) → AllBelow k (operand_vars a ++ operand_vars b) → AllBelow k (operand_vars (renamed_operand read a) ++ operand_vars (renamed_operand read b))
   pair_below a b below =
-      all_below_append k (operand_vars (reread read a)) (operand_vars (reread read b)) (operand_below a (all_below_left k (operand_vars a) (operand_vars b) below)) (operand_below b (all_below_right k (operand_vars a) (operand_vars b) below))
+      all_below_append k (operand_vars (renamed_operand read a)) (operand_vars (renamed_operand read b)) (operand_below a (all_below_left k (operand_vars a) (operand_vars b) below)) (operand_below b (all_below_right k (operand_vars a) (operand_vars b) below))
 
-  rhs_below : (rhs : Rhs) → AllBelow k (rhs_vars rhs) → AllBelow k (rhs_vars (reread_rhs read rhs))
+  rhs_below : (rhs : Rhs) → AllBelow k (rhs_vars rhs) → AllBelow k (rhs_vars (renamed_rhs read rhs))
   rhs_below (Plain a) below = operand_below a below
   rhs_below (Unary op a) below = operand_below a below
   rhs_below (Binary op a b) below = pair_below a b below
 
-  test_below : (test : tests.Test) → AllBelow k (test_vars test) → AllBelow k (test_vars (reread_test read test))
+  test_below : (test : tests.Test) → AllBelow k (test_vars test) → AllBelow k (test_vars (renamed_test read test))
   test_below (Rel op a b) below = pair_below a b below
   test_below (Holds a) below = operand_below a below
   test_below (Fails a) below = operand_below a below
@@ -103,10 +104,10 @@ module _ (k : ℕ) (read : ℕ → ℕ) (low : (v : ℕ) → v < k → read v < 
   pub reread_below : (node : Node) → AllBelow k (node_vars node) → AllBelow k (node_vars (reread_node read node))
   reread_below (Start next) below = below
   reread_below (Skip next) below = below
-  reread_below (Assign x rhs next) below = chosen_below (is_var x (reread_rhs read rhs)) x (reread_rhs read rhs) next below.0 (rhs_below rhs below.1)
+  reread_below (Assign x rhs next) below = chosen_below (is_var x (renamed_rhs read rhs)) x (renamed_rhs read rhs) next below.0 (rhs_below rhs below.1)
   reread_below (Print a next) below = operand_below a below
   reread_below (Call into unit operands next) below =
-      all_below_append k (into_vars into) (flat_map operand_vars (map (reread read) operands)) (all_below_left k (into_vars into) (flat_map operand_vars operands) below)
+      all_below_append k (into_vars into) (flat_map operand_vars (map (renamed_operand read) operands)) (all_below_left k (into_vars into) (flat_map operand_vars operands) below)
       (operands_below operands (all_below_right k (into_vars into) (flat_map operand_vars operands) below))
   reread_below (Test test taken other) below = test_below test below
   reread_below (Return a) below = operand_below a below
@@ -187,14 +188,14 @@ module _ (graph : GraphShape) (nodes : List Node) (are : AreCopied graph nodes) 
   -- ---- divisions
 
   -- an operand that may be 0 may be 0 still
-  zero_stays : (read : ℕ → ℕ) (a : Operand) → may_be_zero (reread read a) ≡ may_be_zero a
+  zero_stays : (read : ℕ → ℕ) (a : Operand) → may_be_zero (renamed_operand read a) ≡ may_be_zero a
   zero_stays read (Var x) = refl
   zero_stays read (Const c) = refl
 
   division_stays : (n x : ℕ) (op : Op) → DividesAt graph.nodes n x op → DividesAt nodes n x op
   division_stays n x op at = record {
-    left = reread (are.read n) at.left;
-    right = reread (are.read n) at.right;
+    left = renamed_operand (are.read n) at.left;
+    right = renamed_operand (are.read n) at.right;
     next = at.next;
     is = are.nodes_are n ∙ ap (option_map (reread_node (are.read n))) at.is;
     may_trap = ap (λ b. is_dividing op && b) (zero_stays (are.read n) at.right) ∙ at.may_trap;

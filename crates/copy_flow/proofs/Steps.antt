@@ -18,7 +18,8 @@ use Rattle.flow_graph.specs.Graphs.{CanMake, GraphShape, node_succs, succs_of}
 use Rattle.flow_graph.specs.Machines.{received_from, node_transition, graph_code, graph_machine, machine_of}
 use Rattle.flow_graph.specs.Paths.{Trace, from_start, goes_on}
 use Rattle.copy_flow.specs.Copies.{IsReadFor, is_copy, is_var}
-use Rattle.copy_flow.specs.Copied.{AreCopied, assigned_unless_itself, reread_node, reread_rhs}
+use Rattle.flow_graph.specs.Numbering.{renamed_rhs}
+use Rattle.copy_flow.specs.Copied.{AreCopied, assigned_unless_itself, reread_node}
 use Rattle.copy_flow.proofs.Values.{CopiesAgree, agree_on, agree_assign, agree_call, agree_start, own_value, reread_count, reread_holds, reread_rhs_traps, reread_rhs_value, reread_value, reread_values, start_first, var_traps, var_value}
 
 -- both stand at one place, with the same values, and on the path to it copies have the values of what they copy
@@ -63,15 +64,15 @@ module _ (graph : GraphShape) (can : CanMake graph.vars graph.received graph.nod
         let stays : at next f ≡ assigned x (rhs_value f.values rhs) next f = ap (λ (v : Values). record { place = next; arguments = f.arguments; values = v }) (sym (ap (λ y. with_value x y f.values) value ∙ own_value x f.values)) in
         (omega arith, subst (OnPath graph (assigned x (rhs_value f.values rhs) next f)) (sym stays) (assigns_on x rhs next here))
 
-    assign_alike : (x : ℕ) (rhs : Rhs) (next : ℕ) → slice_get graph.nodes f.place ≡ Some (Assign x rhs next) → (b : Bool) → is_var x (reread_rhs read rhs) ≡ b
-        → Alike (OnPath graph) (if rhs_traps f.values rhs then Traps ZeroDivisor 1 else Continues (rhs_count rhs) (assigned x (rhs_value f.values rhs) next f)) (node_transition graph.received (Some (if b then Skip next else Assign x (reread_rhs read rhs) next)) f)
+    assign_alike : (x : ℕ) (rhs : Rhs) (next : ℕ) → slice_get graph.nodes f.place ≡ Some (Assign x rhs next) → (b : Bool) → is_var x (renamed_rhs read rhs) ≡ b
+        → Alike (OnPath graph) (if rhs_traps f.values rhs then Traps ZeroDivisor 1 else Continues (rhs_count rhs) (assigned x (rhs_value f.values rhs) next f)) (node_transition graph.received (Some (if b then Skip next else Assign x (renamed_rhs read rhs) next)) f)
     assign_alike x rhs next here true is =
-        skipped_alike x rhs next here (rhs_traps f.values rhs) (sym (reread_rhs_traps read f.values same rhs) ∙ var_traps x (reread_rhs read rhs) f.values is)
-        (sym (reread_rhs_value read f.values same rhs) ∙ var_value x (reread_rhs read rhs) f.values is)
+        skipped_alike x rhs next here (rhs_traps f.values rhs) (sym (reread_rhs_traps read f.values same rhs) ∙ var_traps x (renamed_rhs read rhs) f.values is)
+        (sym (reread_rhs_value read f.values same rhs) ∙ var_value x (renamed_rhs read rhs) f.values is)
     assign_alike x rhs next here false is =
-        let few : rhs_count (reread_rhs read rhs) ≤ rhs_count rhs = omega (arith, reread_count read rhs) in
-        subst (Alike (OnPath graph) (if rhs_traps f.values rhs then Traps ZeroDivisor 1 else Continues (rhs_count rhs) (assigned x (rhs_value f.values rhs) next f))) (sym (assign_is x (reread_rhs read rhs) next f))
-        (assigned_alike x rhs next here (rhs_traps f.values rhs) (rhs_traps f.values (reread_rhs read rhs)) (rhs_value f.values (reread_rhs read rhs)) (rhs_count (reread_rhs read rhs))
+        let few : rhs_count (renamed_rhs read rhs) ≤ rhs_count rhs = omega (arith, reread_count read rhs) in
+        subst (Alike (OnPath graph) (if rhs_traps f.values rhs then Traps ZeroDivisor 1 else Continues (rhs_count rhs) (assigned x (rhs_value f.values rhs) next f))) (sym (assign_is x (renamed_rhs read rhs) next f))
+        (assigned_alike x rhs next here (rhs_traps f.values rhs) (rhs_traps f.values (renamed_rhs read rhs)) (rhs_value f.values (renamed_rhs read rhs)) (rhs_count (renamed_rhs read rhs))
         (reread_rhs_traps read f.values same rhs) (reread_rhs_value read f.values same rhs) few)
 
     -- the result of a call
@@ -94,8 +95,8 @@ module _ (graph : GraphShape) (can : CanMake graph.vars graph.received graph.nod
     at_node (Start next) here = (le_refl 0, start_alike next here (received_from 0 graph.received f.arguments all_zero))
     at_node (Skip next) here = (le_refl 0, moves_on next (Skip next) 0 here refl (λ v w. refl))
     at_node (Assign x rhs next) here =
-        subst (λ t. Alike (OnPath graph) t (node_transition graph.received (Some (assigned_unless_itself x (reread_rhs read rhs) next)) f)) (sym (assign_is x rhs next f))
-        (assign_alike x rhs next here (is_var x (reread_rhs read rhs)) refl)
+        subst (λ t. Alike (OnPath graph) t (node_transition graph.received (Some (assigned_unless_itself x (renamed_rhs read rhs) next)) f)) (sym (assign_is x rhs next f))
+        (assign_alike x rhs next here (is_var x (renamed_rhs read rhs)) refl)
     at_node (Print a next) here = (sym (reread_value read f.values same a), moves_on next (Print a next) 0 here refl (λ v w. refl))
     at_node (Call into unit operands next) here = (
       refl,

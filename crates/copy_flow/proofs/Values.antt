@@ -18,7 +18,7 @@ use Rattle.flow_graph.specs.ListLaws.{cons_same}
 use Rattle.flow_graph.specs.Paths.{Trace, from_start, goes_on}
 use Rattle.path_laws.specs.Paths.{Since}
 use Rattle.copy_flow.specs.Copies.{assigns_either, copies_at, ends_at, is_copy, is_var}
-use Rattle.copy_flow.specs.Copied.{reread, reread_rhs, reread_test}
+use Rattle.flow_graph.specs.Numbering.{renamed_operand, renamed_rhs, renamed_test}
 
 -- ---- one value
 
@@ -133,31 +133,31 @@ agree_start graph n s values here = record { is = λ v w apart since. by v w sin
 
 module _ (read : ℕ → ℕ) (values : Values) (same : (v : ℕ) → values (read v) ≡ values v) where
   -- operands, right sides, traps and tests
-  pub reread_value : (a : Operand) → operand_value values (reread read a) ≡ operand_value values a
+  pub reread_value : (a : Operand) → operand_value values (renamed_operand read a) ≡ operand_value values a
   reread_value (Var x) = same x
   reread_value (Const c) = refl
 
-  pub reread_values : (operands : List Operand) → map (operand_value values) (map (reread read) operands) ≡ map (operand_value values) operands
+  pub reread_values : (operands : List Operand) → map (operand_value values) (map (renamed_operand read) operands) ≡ map (operand_value values) operands
   reread_values [] = refl
   reread_values (a ∷ operands) = cons_same (reread_value a) (reread_values operands)
 
-  pub reread_rhs_value : (rhs : Rhs) → rhs_value values (reread_rhs read rhs) ≡ rhs_value values rhs
+  pub reread_rhs_value : (rhs : Rhs) → rhs_value values (renamed_rhs read rhs) ≡ rhs_value values rhs
   reread_rhs_value (Plain a) = reread_value a
   reread_rhs_value (Unary op a) = ap (value_of_un_op op) (reread_value a)
-  reread_rhs_value (Binary op a b) = ap (λ v. value_of_op op v (operand_value values (reread read b))) (reread_value a) ∙ ap (value_of_op op (operand_value values a)) (reread_value b)
+  reread_rhs_value (Binary op a b) = ap (λ v. value_of_op op v (operand_value values (renamed_operand read b))) (reread_value a) ∙ ap (value_of_op op (operand_value values a)) (reread_value b)
 
-  pub reread_rhs_traps : (rhs : Rhs) → rhs_traps values (reread_rhs read rhs) ≡ rhs_traps values rhs
+  pub reread_rhs_traps : (rhs : Rhs) → rhs_traps values (renamed_rhs read rhs) ≡ rhs_traps values rhs
   reread_rhs_traps (Plain a) = refl
   reread_rhs_traps (Unary op a) = refl
   reread_rhs_traps (Binary op a b) = ap (traps op) (reread_value b)
 
-  pub reread_holds : (test : tests.Test) → test_holds values (reread_test read test) ≡ test_holds values test
-  reread_holds (Rel op a b) = ap (λ v. relation_holds op v (operand_value values (reread read b))) (reread_value a) ∙ ap (relation_holds op (operand_value values a)) (reread_value b)
+  pub reread_holds : (test : tests.Test) → test_holds values (renamed_test read test) ≡ test_holds values test
+  reread_holds (Rel op a b) = ap (λ v. relation_holds op v (operand_value values (renamed_operand read b))) (reread_value a) ∙ ap (relation_holds op (operand_value values a)) (reread_value b)
   reread_holds (Holds a) = ap (λ v. not (int_eq v (pos 0))) (reread_value a)
   reread_holds (Fails a) = ap (λ v. int_eq v (pos 0)) (reread_value a)
 
 -- the count of a right side stays
-pub reread_count : (read : ℕ → ℕ) (rhs : Rhs) → rhs_count (reread_rhs read rhs) ≡ rhs_count rhs
+pub reread_count : (read : ℕ → ℕ) (rhs : Rhs) → rhs_count (renamed_rhs read rhs) ≡ rhs_count rhs
 reread_count read (Plain a) = refl
 reread_count read (Unary op a) = refl
 reread_count read (Binary op a b) = refl

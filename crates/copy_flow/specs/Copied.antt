@@ -1,35 +1,14 @@
 -- The graph in which copies give way to what they copy. Cited by contracts, those of mir_opt too.
 use Rattle.std.specs.Prelude.{◌≡◌, ℕ, ◌<◌, if◌then◌else◌, List, length, map, slice_get, option_map}
-use Rattle.mir_base.specs.declared.instructions.Operand.{Operand}
-use Rattle.mir_base.specs.declared.instructions.Operand.TheVariants.{Var, Const}
 use Rattle.mir_base.specs.declared.instructions.Rhs.{Rhs}
-use Rattle.mir_base.specs.declared.instructions.Rhs.TheVariants.{Plain, Unary, Binary}
-use Rattle.mir_base.specs.declared.instructions.Test as tests
-use Rattle.mir_base.specs.declared.instructions.Test.TheVariants.{Rel, Holds, Fails}
 use Rattle.flow_graph.specs.declared.nodes.Node.{Node}
 use Rattle.flow_graph.specs.declared.nodes.Node.TheVariants.{Start, Skip, Assign, Print, Call, Test, Return}
 use Rattle.flow_graph.specs.Edges.{IsSplit}
 use Rattle.flow_graph.specs.Graphs.{GraphShape, succs_at}
+use Rattle.flow_graph.specs.Numbering.{renamed_operand, renamed_rhs, renamed_test}
 use Rattle.copy_flow.specs.Copies.{IsReadFor, is_var}
 
 -- ---- what a node becomes, where `read` tells for each variable which one is read in its place
-
--- an operand with another variable
-abbrev pub reread : (ℕ → ℕ) → Operand → Operand
-reread read (Var x) = Var (read x)
-reread read (Const c) = Const c
-
--- a right side with other variables
-abbrev pub reread_rhs : (ℕ → ℕ) → Rhs → Rhs
-reread_rhs read (Plain a) = Plain (reread read a)
-reread_rhs read (Unary op a) = Unary op (reread read a)
-reread_rhs read (Binary op a b) = Binary op (reread read a) (reread read b)
-
--- a test with other variables
-abbrev pub reread_test : (ℕ → ℕ) → tests.Test → tests.Test
-reread_test read (Rel op a b) = Rel op (reread read a) (reread read b)
-reread_test read (Holds a) = Holds (reread read a)
-reread_test read (Fails a) = Fails (reread read a)
 
 -- an assignment; that of a variable to itself is a Skip
 abbrev pub assigned_unless_itself : ℕ → Rhs → ℕ → Node
@@ -39,11 +18,11 @@ assigned_unless_itself x rhs next = if is_var x rhs then Skip next else Assign x
 abbrev pub reread_node : (ℕ → ℕ) → Node → Node
 reread_node read (Start next) = Start next
 reread_node read (Skip next) = Skip next
-reread_node read (Assign x rhs next) = assigned_unless_itself x (reread_rhs read rhs) next
-reread_node read (Print a next) = Print (reread read a) next
-reread_node read (Call into unit operands next) = Call into unit (map (reread read) operands) next
-reread_node read (Test test taken other) = Test (reread_test read test) taken other
-reread_node read (Return a) = Return (reread read a)
+reread_node read (Assign x rhs next) = assigned_unless_itself x (renamed_rhs read rhs) next
+reread_node read (Print a next) = Print (renamed_operand read a) next
+reread_node read (Call into unit operands next) = Call into unit (map (renamed_operand read) operands) next
+reread_node read (Test test taken other) = Test (renamed_test read test) taken other
+reread_node read (Return a) = Return (renamed_operand read a)
 
 -- ---- the graph
 

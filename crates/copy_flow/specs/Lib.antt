@@ -2,4 +2,5 @@ pub mod Copies
 pub mod Copied
 pub mod CopiedLaws
 pub mod Tables
+pub mod SameCopies
 pub mod Rows

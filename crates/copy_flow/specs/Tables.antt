@@ -5,6 +5,7 @@ use Rattle.mir_base.specs.declared.instructions.Rhs.{Rhs}
 use Rattle.mir_base.specs.declared.instructions.Rhs.TheVariants.{Plain, Unary, Binary}
 use Rattle.flow_graph.specs.declared.nodes.Node.{Node}
 use Rattle.flow_graph.specs.declared.nodes.Node.TheVariants.{Start, Skip, Assign, Print, Call, Test, Return}
+use Rattle.path_laws.specs.KeyRows.{HasKey}
 use Rattle.copy_flow.specs.declared.table.VarCopy.{VarCopy}
 
 -- the copy of the one variable in the other, unless they are one
@@ -28,11 +29,6 @@ copy_of (Call into unit operands next) = None
 copy_of (Test test taken other) = None
 copy_of (Return a) = None
 
--- the same of a node that may be absent
-abbrev pub copy_in : Option Node → Option VarCopy
-copy_in None = None
-copy_in (Some node) = copy_of node
-
 -- each of these is a copy of another variable, in one of so many variables
 pub record AreCopies (vars : ℕ) (table : List VarCopy) : Type 0 where
   pub apart : (i : ℕ) (c : VarCopy) → slice_get table i ≡ Some c → c.source ≢ c.target
@@ -40,8 +36,4 @@ pub record AreCopies (vars : ℕ) (table : List VarCopy) : Type 0 where
 
 -- each copy that a node is stands in the table
 abbrev pub HasCopies : List Node → List VarCopy → Type 0
-HasCopies nodes table = (n : ℕ) (c : VarCopy) → copy_in (slice_get nodes n) ≡ Some c → Contains table c
-
--- the number is that of the copy that the node is; there is none where it is no copy
-abbrev pub FindsCopy : List VarCopy → Node → Option ℕ → Type 0
-FindsCopy table node number = (i : ℕ) (c : VarCopy) → slice_get table i ≡ Some c → (copy_of node ≡ Some c → number ≡ Some i) × (number ≡ Some i → copy_of node ≡ Some c)
+HasCopies nodes table = (n : ℕ) (c : VarCopy) → HasKey copy_of nodes c n → Contains table c

@@ -1,7 +1,7 @@
 // The copied graph.
 ghost use Rattle.std.specs.Prelude.{◌≡◌, IfOk};
 ghost use Rattle.flow_graph.specs.Graphs.{IsGraph};
-ghost use Rattle.flow_graph.specs.Passes.{GraphCalls, GraphCheaper, GraphDivides, GraphKeeps, GraphSame};
+ghost use Rattle.flow_graph.specs.Passes.{GraphDivides, GraphKeeps};
 ghost use Rattle.copy_flow.specs.Copied.{AreCopied, HaveSameSuccs, IsCopied, IsOnlyCopied, StaysSplit};
 
 use crate::held::HeldCopies;
@@ -21,23 +21,19 @@ pub fn copies(alloc: Global, graph: &Graph) -> Result<Graph, Memory>
 
     // there is no other such graph
     ensures only { IfOk result (IsOnlyCopied graph.now) }
-    ensures same { IfOk result (GraphSame graph.now) }
-    ensures cheaper { IfOk result (GraphCheaper graph.now) }
+
+    // it has the name of the graph, does the same, evaluates no more operators, and makes no other calls
     ensures keeps { IfOk result (GraphKeeps graph.now) }
 
     // each dividing assignment stays, with its variable and its operator
     ensures divides { IfOk result (GraphDivides graph.now) }
-
-    // it makes no calls but those of the graph
-    ensures calls { IfOk result (GraphCalls graph.now) }
 
     // its edges are those of the graph, so it is split where the graph is
     ensures succs { IfOk result (HaveSameSuccs graph.now) }
     ensures split { IfOk result (StaysSplit graph.now) }
 {
     let nodes = copied_nodes(alloc, graph)?;
-    let extra = Vec::new(alloc);
-    let copied = graph.with_nodes(alloc, extra, nodes)?;
+    let copied = graph.with_nodes(alloc, nodes)?;
     Ok(copied)
 }
 

@@ -2,12 +2,14 @@
 ghost use Rattle.std.specs.Prelude.{◌≡◌, length, IfOk};
 ghost use Rattle.flow_graph.specs.Graphs.{IsGraph};
 ghost use Rattle.copy_flow.specs.Tables.{AreCopies, HasCopies};
-ghost use Rattle.copy_flow.specs.Rows.{AreCopyRows, AreHeldRows, AreTargetRows, IsLookup, is_born, is_ended};
+ghost use Rattle.path_laws.specs.KeyRows.{AreKeyRows};
+ghost use Rattle.copy_flow.specs.Rows.{AreHeldRows, AreTargetRows, IsLookup, is_born, is_ended};
 
 use crate::rows::{Side, born_rows, ended_rows, side_rows};
-use crate::table::CopyTable;
+use crate::table::{VarCopy, table_of};
 use bit_rows::Rows;
 use flow_graph::{Edges, Graph};
+use key_table::KeyTable;
 use mir_base::Memory;
 use path_laws::forward_all;
 use std::alloc::Global;
@@ -16,7 +18,7 @@ use std::alloc::Global;
 #[derive(Drop)]
 pub(crate) struct HeldCopies {
     /// The copies.
-    pub(crate) table: CopyTable,
+    pub(crate) table: KeyTable<VarCopy>,
     /// For each variable, which copies have it as target.
     pub(crate) targets: Rows,
     /// For each node, which copies hold before it.
@@ -30,7 +32,7 @@ impl HeldCopies {
         ensures held { IfOk result (λ copies. AreHeldRows graph.now copies.table copies.held) }
         ensures all { IfOk result (λ copies. HasCopies graph.now.nodes copies.table) }
     {
-        let table = CopyTable::of(alloc, graph)?;
+        let table = table_of(alloc, graph)?;
         let targets = side_rows(alloc, graph.vars().len(), &table, Side::Target)?;
         let held = held_rows(alloc, graph, &table, &targets)?;
         Ok(HeldCopies {
@@ -46,7 +48,7 @@ impl HeldCopies {
 fn held_rows(
     alloc: Global,
     graph: &Graph,
-    table: &CopyTable,
+    table: &KeyTable<VarCopy>,
     targets: &Rows,
 ) -> Result<Rows, Memory>
     requires copies { AreCopies (length graph.now.vars) table.now }
@@ -67,14 +69,14 @@ fn held_rows(
 fn held_since(
     alloc: Global,
     graph: &Graph,
-    table: &CopyTable,
+    table: &KeyTable<VarCopy>,
     born: &Rows,
     ended: &Rows,
 ) -> Result<Rows, Memory>
     requires copies { AreCopies (length graph.now.vars) table.now }
-    requires born { AreCopyRows (length graph.now.nodes) table.now (is_born graph.now.nodes)
+    requires born { AreKeyRows (length graph.now.nodes) table.now (is_born graph.now.nodes)
         born.now }
-    requires ended { AreCopyRows (length graph.now.nodes) table.now (is_ended graph.now) ended.now }
+    requires ended { AreKeyRows (length graph.now.nodes) table.now (is_ended graph.now) ended.now }
     ensures { IfOk result (AreHeldRows graph.now table.now) }
 {
     let _ = table;

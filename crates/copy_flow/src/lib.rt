@@ -10,6 +10,7 @@
 
 mod copying;
 mod held;
+mod keys;
 mod rereading;
 mod rows;
 mod table;

@@ -1,6 +1,7 @@
 // The nodes with what is read in the place of copies.
 ghost use Rattle.std.specs.Prelude.{◌≡◌, ◌<◌, length, map, IfNone, IfOk, IfSome};
-ghost use Rattle.copy_flow.specs.Copied.{assigned_unless_itself, reread, reread_node, reread_rhs, reread_test};
+ghost use Rattle.flow_graph.specs.Numbering.{renamed_operand, renamed_rhs, renamed_test};
+ghost use Rattle.copy_flow.specs.Copied.{assigned_unless_itself, reread_node};
 ghost use Rattle.copy_flow.specs.Copies.{is_var};
 ghost use Rattle.copy_flow.specs.Rows.{AreReread, HaveNoneInBoth, IsAtNode, IsFirstInBoth, IsLookup, read_at};
 
@@ -61,7 +62,7 @@ impl<'a> HeldAt<'a> {
     /// What a right side becomes.
     fn rhs(&self, rhs: Rhs) -> Rhs
         requires { IsAtNode self.now }
-        ensures { result ≡ reread_rhs (read_at self.now) rhs }
+        ensures { result ≡ renamed_rhs (read_at self.now) rhs }
     {
         match rhs {
             Rhs::Plain(a) => Rhs::Plain(self.operand(a)),
@@ -73,7 +74,7 @@ impl<'a> HeldAt<'a> {
     /// What a test becomes.
     fn test(&self, test: Test) -> Test
         requires { IsAtNode self.now }
-        ensures { result ≡ reread_test (read_at self.now) test }
+        ensures { result ≡ renamed_test (read_at self.now) test }
     {
         match test {
             Test::Rel(op, a, b) => Test::Rel(op, self.operand(a), self.operand(b)),
@@ -85,7 +86,8 @@ impl<'a> HeldAt<'a> {
     /// What the arguments of a call become.
     fn operands(&self, alloc: Global, operands: &[Operand]) -> Result<Vec<Operand>, Memory>
         requires { IsAtNode self.now }
-        ensures { IfOk result (λ all. all.items ≡ map (reread (read_at self.now)) operands.now) }
+        ensures { IfOk result (λ all.
+            all.items ≡ map (renamed_operand (read_at self.now)) operands.now) }
     {
         let mut all = Vec::with_capacity(alloc, operands.len())?;
         for a in operands {
@@ -97,7 +99,7 @@ impl<'a> HeldAt<'a> {
     /// What an operand becomes.
     fn operand(&self, a: Operand) -> Operand
         requires { IsAtNode self.now }
-        ensures { result ≡ reread (read_at self.now) a }
+        ensures { result ≡ renamed_operand (read_at self.now) a }
     {
         match a {
             Operand::Var(x) => Operand::Var(self.read(x)),

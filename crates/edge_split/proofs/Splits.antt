@@ -8,7 +8,7 @@ use Rattle.std.proofs.lemmas.Grind.{flat_map-append}
 use Rattle.std.proofs.lemmas.List.{length-map}
 use Rattle.std.proofs.lemmas.List.Elements.{filter-append}
 use Rattle.std.proofs.lemmas.Option.{slice_get-map, slice_get_within}
-use Rattle.mir_base.specs.Shapes.{AllBelow, AllDiffer}
+use Rattle.mir_base.specs.Shapes.{AllBelow}
 use Rattle.mir_base.specs.UnitRuns.{UnitSame, UnitCheaper}
 use Rattle.flow_graph.specs.declared.edges.Edge.{Edge}
 use Rattle.flow_graph.specs.declared.nodes.Node.{Node}
@@ -173,7 +173,7 @@ module _ (vars : List (List ℕ)) (received : List ℕ) (nodes : List Node) (gra
       let place : length nodes + j ≡ length olds + j = omega (arith, rerouted_long join (length nodes) nodes) in
       ap (slice_get (after nodes)) place ∙ get_right olds (map Skip joins) j ∙ slice_get-map Skip joins j ∙ ap (option_map Skip) e
 
-  can_make : CanMake (vars ++ []) received (after nodes)
+  can_make : CanMake vars received (after nodes)
   can_make = record {
     start =
         let old = old_ways (after nodes) join nodes (length nodes) 0 (Start graph.can.start.0) stand graph.can.start.1 in
@@ -188,14 +188,13 @@ module _ (vars : List (List ℕ)) (received : List ℕ) (nodes : List Node) (gra
       | inr old ↦ let low = target_in old.0 s old.1 in (low.0, omega (arith, low.1, after_long))
     ];
     below = λ n node e.
-        subst (λ v. AllBelow (length v) (node_vars node)) (sym (append-nil vars))
-        (elim (after_node n node e) [
+        elim (after_node n node e) [
           | inl old ↦ subst (AllBelow (length vars)) (sym (ap node_vars old.3 ∙ with_vars old.0 old.1)) (graph.can.below n old.0 old.2)
           | inr new ↦ subst (λ x. AllBelow (length vars) (node_vars x)) (sym new.1) tt
-        ]);
-    received_below = subst (λ v. AllBelow (length v) received) (sym (append-nil vars)) graph.can.received_below;
+        ];
+    received_below = graph.can.received_below;
     received_differ = graph.can.received_differ;
-    names = subst AllDiffer (sym (append-nil vars)) graph.can.names;
+    names = graph.can.names;
   }
 
   -- ---- split
@@ -298,8 +297,8 @@ module _ (vars : List (List ℕ)) (received : List ℕ) (nodes : List Node) (gra
 -- ---- the theorem
 
 module _ (graph : GraphShape) (is_graph : IsGraph graph.vars graph.received graph.nodes) where
-  pub split_can_make : CanMake (graph.vars ++ []) graph.received (split_nodes graph.nodes)
-  split_can_make = subst (CanMake (graph.vars ++ []) graph.received) (sym (split_is graph.nodes)) (can_make graph.vars graph.received graph.nodes is_graph)
+  pub split_can_make : CanMake graph.vars graph.received (split_nodes graph.nodes)
+  split_can_make = subst (CanMake graph.vars graph.received) (sym (split_is graph.nodes)) (can_make graph.vars graph.received graph.nodes is_graph)
 
   pub split_reached : (n : ℕ) → n < length (split_nodes graph.nodes) → Reached (split_nodes graph.nodes) n
   split_reached = subst (λ ns. (n : ℕ) → n < length ns → Reached ns n) (sym (split_is graph.nodes)) (all_reached graph.vars graph.received graph.nodes is_graph)

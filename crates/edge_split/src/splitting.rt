@@ -3,7 +3,7 @@ ghost use Rattle.std.specs.Prelude.{◌≡◌, ◌^◌, ◌<◌, [], ◌∷◌, 
 ghost use Rattle.mir_base.specs.Shapes.{AllBelow};
 ghost use Rattle.flow_graph.specs.Edges.{IsSplit};
 ghost use Rattle.flow_graph.specs.Graphs.{IsGraph, node_succs};
-ghost use Rattle.flow_graph.specs.Passes.{GraphCalls, GraphCheaper, GraphDivides, GraphKeeps, GraphSame};
+ghost use Rattle.flow_graph.specs.Passes.{GraphDivides, GraphKeeps};
 ghost use Rattle.edge_split.specs.NewSkips.{MakesSkips, node_through, succs_through};
 ghost use Rattle.edge_split.specs.Split.{IsEdgeSplit, split_nodes};
 
@@ -18,19 +18,15 @@ use std::alloc::Global;
 pub fn split(alloc: Global, graph: &Graph) -> Result<Graph, Memory>
     ensures exact { IfOk result (IsEdgeSplit graph.now) }
     ensures split { IfOk result (λ made. IsSplit made.nodes) }
-    ensures same { IfOk result (GraphSame graph.now) }
-    ensures cheaper { IfOk result (GraphCheaper graph.now) }
+
+    // it has the name of the graph, does the same, evaluates no more operators, and makes no other calls
     ensures keeps { IfOk result (GraphKeeps graph.now) }
 
     // each dividing assignment stays
     ensures divides { IfOk result (GraphDivides graph.now) }
-
-    // it makes no calls but those of the graph
-    ensures calls { IfOk result (GraphCalls graph.now) }
 {
     let nodes = all_nodes(alloc, graph)?;
-    let extra = Vec::new(alloc);
-    let made = graph.with_nodes(alloc, extra, nodes)?;
+    let made = graph.with_nodes(alloc, nodes)?;
     Ok(made)
 }
 

@@ -1,9 +1,9 @@
 -- A graph can be made of the cleaned nodes, and it does the same; its jumps are clean.
-use Rattle.std.proofs.Common.{◌≡◌, ◌≢◌, ℕ, zero, suc, ◌<◌, ◌≤◌, Bool, true, false, List, [], ◌∷◌, ◌++◌, map, length, slice_get, slice_index_or, Option, Some, None, option_map, inl, inr, refl, sym, ap, ◌∙◌, subst, arith, append-nil}
+use Rattle.std.proofs.Common.{◌≡◌, ◌≢◌, ℕ, zero, suc, ◌<◌, ◌≤◌, Bool, true, false, List, [], ◌∷◌, map, length, slice_get, slice_index_or, Option, Some, None, option_map, inl, inr, refl, sym, ap, ◌∙◌, subst, arith}
 use Rattle.flow_graph.specs.NodeLaws.{mapped_from, redirected_start, redirected_succs_of, redirected_vars}
 use Rattle.std.proofs.lemmas.Option.{slice_get-map, slice_get_within}
 use Rattle.mir_base.specs.declared.instructions.Test as tests
-use Rattle.mir_base.specs.Shapes.{AllBelow, AllDiffer}
+use Rattle.mir_base.specs.Shapes.{AllBelow}
 use Rattle.mir_base.specs.UnitRuns.{UnitSame, UnitCheaper}
 use Rattle.mir_base.specs.UnitLaws.{same_trans, cheaper_trans}
 use Rattle.flow_graph.specs.declared.nodes.Node.{Node}
@@ -147,7 +147,7 @@ module _ (vars : List (List ℕ)) (received : List ℕ) (nodes cleaned : List No
   reduced_start : slice_get reduced 0 ≡ Some (Start graph.can.start.0)
   reduced_start = new_start nodes reduced becomes 0 graph.can.start.0 graph.can.start.1
 
-  pub can_make : CanMake (vars ++ []) received cleaned
+  pub can_make : CanMake vars received cleaned
   can_make = record {
     start = (to graph.can.start.0, cleaned_at 0 ∙ ap (option_map (redirected to)) reduced_start);
     only = λ n s e.
@@ -163,10 +163,10 @@ module _ (vars : List (List ℕ)) (received : List ℕ) (nodes cleaned : List No
     below = λ n node e.
         let old = mapped_from (redirected to) (slice_get reduced n) node (sym (cleaned_at n) ∙ e) in
         let vars_same : node_vars old.0 ≡ node_vars node = sym (redirected_vars to old.0) ∙ ap node_vars old.2 in
-        subst (λ v. AllBelow (length v) (node_vars node)) (sym (append-nil vars)) (subst (AllBelow (length vars)) vars_same (vars_below (length vars) nodes reduced becomes graph.can.below n old.0 old.1));
-    received_below = subst (λ v. AllBelow (length v) received) (sym (append-nil vars)) graph.can.received_below;
+        subst (AllBelow (length vars)) vars_same (vars_below (length vars) nodes reduced becomes graph.can.below n old.0 old.1);
+    received_below = graph.can.received_below;
     received_differ = graph.can.received_differ;
-    names = subst AllDiffer (sym (append-nil vars)) graph.can.names;
+    names = graph.can.names;
   }
 
   -- ---- the same

@@ -2,7 +2,7 @@
 ghost use Rattle.std.specs.Prelude.{◌≡◌, length, map, IfOk};
 ghost use Rattle.flow_graph.specs.Graphs.{AllWithin, IsGraph};
 ghost use Rattle.flow_graph.specs.Kept.{redirected_by};
-ghost use Rattle.flow_graph.specs.Passes.{GraphCalls, GraphCheaper, GraphDivides, GraphKeeps, GraphSame};
+ghost use Rattle.flow_graph.specs.Passes.{GraphDivides, GraphKeeps};
 ghost use Rattle.jump_clean.specs.Cleaned.{AreCleaned, HasCleanJumps, IsClean, IsOnlyClean};
 
 use crate::chains::ends;
@@ -25,19 +25,15 @@ pub fn clean(alloc: Global, graph: &Graph) -> Result<Graph, Memory>
     // there is no other such graph: the order in which Tests become Skips does not matter
     ensures only { IfOk result (IsOnlyClean graph.now) }
     ensures jumps { IfOk result (λ cleaned. HasCleanJumps cleaned.nodes) }
-    ensures same { IfOk result (GraphSame graph.now) }
-    ensures cheaper { IfOk result (GraphCheaper graph.now) }
+
+    // it has the name of the graph, does the same, evaluates no more operators, and makes no other calls
     ensures keeps { IfOk result (GraphKeeps graph.now) }
 
     // each dividing assignment stays
     ensures divides { IfOk result (GraphDivides graph.now) }
-
-    // it makes no calls but those of the graph
-    ensures calls { IfOk result (GraphCalls graph.now) }
 {
     let nodes = cleaned(alloc, graph)?;
-    let extra = Vec::new(alloc);
-    let cleaned = graph.with_nodes(alloc, extra, nodes)?;
+    let cleaned = graph.with_nodes(alloc, nodes)?;
     Ok(cleaned)
 }
 

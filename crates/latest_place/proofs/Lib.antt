@@ -2,5 +2,4 @@ pub mod Admissible
 pub mod Counts
 pub mod Optimal
 pub mod Combined
-pub mod Says
 pub mod Reading

@@ -12,7 +12,8 @@ use Rattle.motion_rewrite.specs.Placements.{DownLaws, IsAdmissible, IsAvailable,
 use Rattle.down_safe.specs.Busy.{IsEarliest}
 use Rattle.latest_place.specs.Lazy.{IsDelayed, IsLatest, IsLazy}
 use Rattle.latest_place.specs.Stable.{Is, stable_le, stable_cases, split_bit, not_both}
-use Rattle.latest_place.specs.Walks.{Walks, skip_leads}
+use Rattle.flow_graph.specs.JoinLaws.{skip_leads}
+use Rattle.latest_place.specs.Walks.{Walks}
 
 -- the temporary of e holds its value at n: every path from Start to n has an insertion from which on no node kills e
 abbrev pub IsAvailableFrom : GraphShape → Expr → Places → ℕ → Type 0
@@ -120,7 +121,7 @@ module _ (graph : GraphShape) (walks : Walks graph) (e : Expr) (Down : ℕ → T
           | inl used ↦ true≢false (sym used ∙ s.0)
           | inr x ↦ x.2 (elim (walks.one_or_skips x.0) [
             | inl one ↦ delayed_on m x.0 x.1 (λ k edge'. one m k x.1 edge') (delayed_back m n edge late d) s.0
-            | inr skips ↦ subst (λ y. IsDelayed graph e Down y) (sym (skip_leads graph m x.0 n (skips m x.1) edge)) d
+            | inr skips ↦ subst (λ y. IsDelayed graph e Down y) (sym (skip_leads graph.nodes m x.0 n (skips m x.1) edge)) d
           ])
         ]
       ]

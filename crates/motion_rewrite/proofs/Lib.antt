@@ -1,4 +1,3 @@
-pub mod Equal
 pub mod Inserts
 pub mod RowBits
 pub mod SetBits

@@ -7,10 +7,10 @@ use Rattle.flow_graph.specs.declared.nodes.Node.TheVariants.{Skip}
 use Rattle.flow_graph.specs.Graphs.{GraphShape, succs_at}
 use Rattle.flow_graph.specs.Paths.{HasEdge, IsFullPath, Trace}
 use Rattle.flow_graph.specs.Sums.{one_if}
-use Rattle.path_laws.specs.Paths.{BornAfter, has_bit}
+use Rattle.path_laws.specs.Paths.{BornAfter, HaveShape, has_bit}
 use Rattle.motion_rewrite.specs.declared.placement.Placement.{Placement}
 use Rattle.motion_rewrite.specs.Expressions.{uses, kills}
-use Rattle.motion_rewrite.specs.Tables.{ForEachExpr}
+use Rattle.motion_rewrite.specs.Tables.{AreMovable, ForEachExpr}
 
 -- of the nodes before a node, the nearest first, one is good, and neither it nor any after it is bad
 abbrev pub ReachesAlong : (ℕ → Type 0) → (ℕ → Bool) → List ℕ → Type 0
@@ -107,6 +107,14 @@ AreOptimal graph table Down p = ForEachExpr table (λ i e. IsOptimal graph e (Do
 -- the graph can be rewritten by it, expression by expression
 abbrev pub CanFlattenBy : GraphShape → List Expr → Placement → Type 0
 CanFlattenBy graph table p = ForEachExpr table (λ i e. CanFlatten graph e (places_of p i))
+
+-- the expressions are movable and over the graph's variables, and the placement has their rows, by which the graph can be
+-- rewritten
+pub record IsFlattenable (graph : GraphShape) (table : List Expr) (p : Placement) : Type 0 where
+  pub movable : AreMovable (length graph.vars) table
+  pub insert : HaveShape graph (length table) p.insert
+  pub replace : HaveShape graph (length table) p.replace
+  pub placed : CanFlattenBy graph table p
 
 -- the placement evaluates no expression of the table more often than the nodes as they are
 pub record IsNoDearer (graph : GraphShape) (table : List Expr) (p : Placement) : Type 0 where

@@ -8,7 +8,7 @@ ghost use Rattle.flow_graph.specs.Passes.{GraphCalls, GraphCheaper, GraphDivides
 ghost use Rattle.path_laws.specs.Paths.{HaveShape};
 ghost use Rattle.motion_rewrite.specs.Flatten.{IsFlattened};
 ghost use Rattle.motion_rewrite.specs.Over.{HasOverEach};
-ghost use Rattle.motion_rewrite.specs.Placements.{CanFlattenBy, IsNoDearer};
+ghost use Rattle.motion_rewrite.specs.Placements.{CanFlattenBy, IsFlattenable, IsNoDearer};
 ghost use Rattle.motion_rewrite.specs.Tables.{AreMovable};
 
 use crate::editing::{insertions_in, put_evaluations, read_temporaries};
@@ -76,10 +76,7 @@ fn rewritten(
     table: &ExprTable,
     placement: &Placement,
 ) -> Result<Graph, Memory>
-    requires movable { AreMovable (length graph.now.vars) table.now }
-    requires insert { HaveShape graph.now (length table.now) placement.now.insert }
-    requires replace { HaveShape graph.now (length table.now) placement.now.replace }
-    requires placed { CanFlattenBy graph.now table.now placement.now }
+    requires { IsFlattenable graph.now table.now placement.now }
     ensures graph { OnOk result (IsGraph graph.now.vars graph.now.received graph.now.nodes) }
     ensures differ { OnOk result (AllDiffer table.now) }
     ensures flattened { IfOk result (IsFlattened graph.now table.now placement.now) }

@@ -15,7 +15,7 @@ returns c =
     let table = c.args.table.now in
     record {
       shape = rows_as_many (length nodes) (length table) c.args.born.now c.in_ok-rows.rows c.requires.born.shape c.in_ok-rows.ensures.shape;
-      tells = λ n i copy n_in at.
+      bits = λ n i copy n_in at.
           let wide : width c.args.born.now ≡ length c.args.table.now = width_is (length nodes) (length table) n c.args.born.now c.requires.born.shape n_in in
           let paths = c.in_ok-rows.ensures.paths n i n_in (rw wide (slice_get_within table i copy at)) in
           let born = whole_rows (length nodes) table (is_born nodes) c.args.born.now i copy at (λ m late. ap (is_copy copy.target copy.source) (slice_get_past nodes m late)) c.requires.born in

@@ -1,22 +1,29 @@
-use Rattle.std.proofs.Common.{◌≡◌, ◌∙◌, ◌<◌, Bool, Some, List, length, get_or, subst, slice_get, false, ap, sym}
-use Rattle.mir_base.specs.Shapes.{AllBelow}
+use Rattle.std.proofs.Common.{◌≡◌, ◌∙◌, ◌<◌, ℕ, Bool, List, length, slice_get, subst, false, sym}
 use Rattle.flow_graph.specs.declared.nodes.Node.{Node}
-use Rattle.flow_graph.specs.Graphs.{node_vars}
+use Rattle.flow_graph.specs.Graphs.{GraphShape, HaveVarsBelow}
+use Rattle.path_laws.specs.KeyRows.{AreAssignedRows, AreKeyRows, of_assigned}
+use Rattle.path_laws.specs.KeyRowLaws.{assigned_keys, same_test}
+use Rattle.path_laws.specs.Paths.{AreRows}
+use Rattle.copy_flow.specs.declared.table.VarCopy.{VarCopy}
 use Rattle.copy_flow.specs.Copies.{assigns_either}
-use Rattle.copy_flow.proofs.Ended.{ended_bit}
+use Rattle.copy_flow.specs.Rows.{is_on_either}
+use Rattle.copy_flow.proofs.Bits.{ends_copy}
 use Rattle.copy_flow.proofs.rows.ended_rows.Goals as goal
 
+-- the node of this number ends the copy
+abbrev ends : GraphShape → List Node → VarCopy → ℕ → Bool
+ends graph nodes copy n = assigns_either graph copy.target copy.source (slice_get nodes n)
+
 pub returns : goal.returns
-returns c = record {
-  shape = rw (← c.nodes.ensures.value, ← c.len.ensures) c.in_ok-rows.ensures.shape;
-  bits = λ n i copy n_in at.
-      let nodes = c.nodes.result.now in
-      let touched = c.in_ok-touched.touched in
-      let long : length c.in_ok-touched.touched ≡ length c.args.graph.now.vars = c.in_ok-touched.ensures.shape.len ∙ c.requires.shape.len in
-      let below : (node : Node) → slice_get c.nodes.result.now n ≡ Some node → AllBelow (length c.in_ok-touched.touched) (node_vars node) = λ node here. subst (λ vars. AllBelow vars (node_vars node)) (sym long) (c.nodes.ensures.graph.can.below n node here) in
-      let row = c.in_ok-rows.ensures.ended n (subst (λ l. n < length l) (sym c.nodes.ensures.value) n_in) in
-      ap (λ (r : List Bool). get_or r i false) row
-      ∙ ended_bit c.args.graph.now touched c.len.result i copy (slice_get nodes n)
-      (λ x x_in. c.in_ok-touched.ensures.bits x i copy (subst (λ l. x < l) c.in_ok-touched.ensures.shape.len x_in) at) below
-      ∙ ap (λ (l : List Node). assigns_either c.args.graph.now copy.target copy.source (slice_get l n)) c.nodes.ensures.value;
-}
+returns c =
+    let nodes = c.nodes-nodes.result.now in
+    let touched = c.in_ok-touched.touched in
+    let rows = c.in_ok-rows.rows in
+    let long : length c.in_ok-touched.touched ≡ length c.args.graph.now.vars = c.in_ok-touched.ensures.shape.len ∙ c.requires.shape.len in
+    let made = assigned_keys false touched nodes c.args.table.now is_on_either rows
+    (subst (λ vars. HaveVarsBelow vars nodes) (sym long) c.nodes-nodes.ensures.graph.can.below)
+    (λ x i copy x_in at. c.in_ok-touched.ensures.bits x i copy (subst (λ l. x < l) c.in_ok-touched.ensures.shape.len x_in) at)
+    (subst (λ bits. AreRows (length nodes) bits rows) c.len.ensures.len c.in_ok-rows.ensures.shape)
+    (subst (λ bits. AreAssignedRows false touched bits nodes rows) c.len.ensures.len c.in_ok-rows.ensures.rows) in
+    let all_end = same_test (length nodes) c.args.table.now (λ copy n. of_assigned false false (is_on_either copy) (slice_get nodes n)) (ends c.args.graph.now nodes) rows (λ copy n. ends_copy c.args.graph.now copy (slice_get nodes n)) made in
+    subst (λ (all : List Node). AreKeyRows (length all) c.args.table.now (ends c.args.graph.now all) rows) c.nodes-nodes.ensures.value all_end

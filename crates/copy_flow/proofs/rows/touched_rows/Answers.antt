@@ -1,7 +1,7 @@
 use Rattle.std.proofs.Common.{◌∙◌, ap, ◌||◌, nat_eq, length}
+use Rattle.std.proofs.Math.Bool.{or_comm}
 use Rattle.path_laws.specs.Paths.{has_bit}
 use Rattle.path_laws.specs.RowLaws.{are_alike, like_rows}
-use Rattle.copy_flow.proofs.Ended.{either_way}
 use Rattle.copy_flow.proofs.rows.touched_rows.Goals as goal
 
 pub or_rows-requires : goal.or_rows-requires
@@ -14,5 +14,5 @@ returns c = record {
       c.or_rows.ensures.bits n i
       ∙ ap (λ b. b || has_bit c.args.targets.now i n) (c.in_ok-rows.ensures.bits n i copy (rw c.len.ensures n_in) at)
       ∙ ap (λ b. nat_eq copy.source n || b) (c.requires.bits n i copy n_in at)
-      ∙ either_way (nat_eq copy.source n) (nat_eq copy.target n);
+      ∙ or_comm (nat_eq copy.source n) (nat_eq copy.target n);
 }

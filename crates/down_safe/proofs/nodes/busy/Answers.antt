@@ -24,8 +24,8 @@ up_is g c n i e h there =
     let all_paths = c.in_ok-up.ensures.available n i h (in_kills g c n i e h there) in
     let used = has_bit c.in_ok-uses.uses i in
     let killed = has_bit c.in_ok-kills.kills i in (
-      λ on. available_alike nodes used (uses c.args.graph.now e) killed (kills c.args.graph.now e) (λ m m_in. c.in_ok-uses.ensures.uses m i e m_in there) (λ m m_in. c.in_ok-kills.ensures.kills m i e m_in there) n (all_paths.0 on),
-      λ all. all_paths.1 (available_alike nodes (uses c.args.graph.now e) used (kills c.args.graph.now e) killed (λ m m_in. sym (c.in_ok-uses.ensures.uses m i e m_in there)) (λ m m_in. sym (c.in_ok-kills.ensures.kills m i e m_in there)) n all),
+      λ on. available_alike nodes used (uses c.args.graph.now e) killed (kills c.args.graph.now e) (λ m m_in. c.in_ok-uses.ensures.bits m i e m_in there) (λ m m_in. c.in_ok-kills.ensures.bits m i e m_in there) n (all_paths.0 on),
+      λ all. all_paths.1 (available_alike nodes (uses c.args.graph.now e) used (kills c.args.graph.now e) killed (λ m m_in. sym (c.in_ok-uses.ensures.bits m i e m_in there)) (λ m m_in. sym (c.in_ok-kills.ensures.bits m i e m_in there)) n all),
     )
 
 early_is : (g : _) (c : In_ok-early g) (n i : ℕ) (e : Expr) → n < length c.args.graph.now.nodes → slice_get c.args.table.now i ≡ Some e → (has_bit c.in_ok-early.early i n ≡ true) ↔ IsEarliest c.args.graph.now e (g.R.DownRule.is_down c.args.rule.now c.args.graph.now e) n
@@ -33,7 +33,7 @@ early_is g c n i e h there =
     let nodes = c.args.graph.now.nodes in
     let early = c.in_ok-early.ensures.early n i h (in_kills g (goal.at.In_ok-early g c).In_ok-up n i e h there) in
     let Down : ℕ → Type 0 = g.R.DownRule.is_down c.args.rule.now c.args.graph.now e in
-    let kill_is = λ (m : ℕ) (m_in : m < length c.args.graph.now.nodes). c.in_ok-kills.ensures.kills m i e m_in there in
+    let kill_is = λ (m : ℕ) (m_in : m < length c.args.graph.now.nodes). c.in_ok-kills.ensures.bits m i e m_in there in
     let up_at = λ (m : ℕ) (m_in : m < length c.args.graph.now.nodes). up_is g (goal.at.In_ok-early g c).In_ok-up m i e m_in there in
     let down_at = λ (m : ℕ) (m_in : m < length c.args.graph.now.nodes). c.in_ok-down.ensures.bits m i e m_in there in
     let killed = has_bit c.in_ok-kills.kills i in
@@ -45,7 +45,7 @@ early_is g c n i e h there =
 
 pub returns : goal.returns
 returns g c = record {
-  uses = record { shape = c.in_ok-uses.ensures.shape; bits = c.in_ok-uses.ensures.uses };
+  uses = c.in_ok-uses.ensures;
   up = record {
     shape = rows_as_many (length c.args.graph.now.nodes) (length c.args.table.now) c.in_ok-kills.kills c.in_ok-up.up c.in_ok-kills.ensures.shape c.in_ok-up.ensures.shape;
     bits = up_is g (goal.at.returns g c).In_ok-up;

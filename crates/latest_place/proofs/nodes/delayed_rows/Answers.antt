@@ -2,7 +2,7 @@ use Rattle.std.proofs.Common.{◌≡◌, ◌&&◌, not, ℕ, Bool, List, inl, in
 use Rattle.std.proofs.Math.Path.{fun_ext}
 use Rattle.path_laws.specs.Paths.{BornBefore, has_bit, width}
 use Rattle.latest_place.proofs.Combined.{copy_width}
-use Rattle.latest_place.proofs.Says.{either_says}
+use Rattle.path_laws.specs.Says.{either_says}
 use Rattle.latest_place.proofs.nodes.delayed_rows.Goals as goal
 
 pub returns-clause-bits : goal.returns-clause-bits

@@ -1,7 +1,7 @@
 use Rattle.std.proofs.Common.{◌≡◌, arith, not, ℕ, Bool, List, inl, inr, sym, ap, ◌∙◌}
 use Rattle.flow_graph.specs.Paths.{HasEdge}
 use Rattle.path_laws.specs.Paths.{has_bit}
-use Rattle.latest_place.proofs.Says.{both_say, either_says, not_says}
+use Rattle.path_laws.specs.Says.{both_say, either_says, not_says}
 use Rattle.latest_place.proofs.nodes.latest_rows.Goals as goal
 
 pub returns-clause-bits : goal.returns-clause-bits

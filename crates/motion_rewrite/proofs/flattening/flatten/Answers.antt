@@ -6,6 +6,9 @@ use Rattle.motion_rewrite.proofs.Rewritable.{IsRewritable, rewritable}
 use Rattle.motion_rewrite.proofs.flattening.flatten.Goals as goal
 use Rattle.motion_rewrite.proofs.flattening.flatten.Goals.{In_ok-flat}
 
+pub rewritten-requires : goal.rewritten-requires
+rewritten-requires c = record { movable = c.requires.movable; insert = c.requires.insert; replace = c.requires.replace; placed = c.requires.placed }
+
 rewritable_here : (c : In_ok-flat) → IsRewritable c.args.graph.now c.args.table.now c.args.placement.now
 rewritable_here c = rewritable c.args.graph.now c.args.table.now c.args.placement.now c.args.graph.now.nodes refl c.in_ok-flat.ensures.graph c.requires.movable c.requires.insert c.requires.replace c.requires.placed
 

@@ -1,20 +1,32 @@
-use Rattle.std.proofs.Common.{◌≡◌, ◌∙◌, ◌<◌, Bool, Some, List, length, get_or, subst, slice_get, false, ap, sym}
-use Rattle.std.proofs.lemmas.Option.{slice_get_within}
-use Rattle.mir_base.specs.Shapes.{AllBelow}
+use Rattle.std.proofs.Common.{◌≡◌, ◌∙◌, ◌<◌, ℕ, Bool, List, length, slice_get, subst, true, false, ap, sym}
+use Rattle.mir_base.specs.declared.instructions.Expr.{Expr}
+use Rattle.mir_base.specs.ExpressionVars.{expr_vars}
 use Rattle.flow_graph.specs.declared.nodes.Node.{Node}
-use Rattle.flow_graph.specs.Graphs.{node_vars}
+use Rattle.flow_graph.specs.Graphs.{GraphShape, HaveVarsBelow}
+use Rattle.flow_graph.specs.Numbering.{is_in}
+use Rattle.path_laws.specs.KeyRows.{AreAssignedRows, AreKeyRows, of_assigned}
+use Rattle.path_laws.specs.KeyRowLaws.{assigned_keys, same_test}
+use Rattle.path_laws.specs.Paths.{AreRows}
 use Rattle.motion_rewrite.specs.Expressions.{node_kills}
-use Rattle.motion_rewrite.proofs.RowBits.{kill_bit}
+use Rattle.motion_rewrite.proofs.RowBits.{kills_assigned}
 use Rattle.motion_rewrite.proofs.rows.kill_rows.Goals as goal
 
-pub returns-clause-kills : goal.returns-clause-kills
-returns-clause-kills c = λ n i e n_in e_at.
-    let nodes = c.nodes.result.now in
+-- the variable is one of the expression
+abbrev has_var : Expr → ℕ → Bool
+has_var e x = is_in x (expr_vars e)
+
+pub returns : goal.returns
+returns c =
+    let graph = c.args.graph.now in
+    let nodes = c.nodes-nodes.result.now in
+    let table = c.args.table.now in
     let operands = c.in_ok-operands.operands in
+    let rows = c.in_ok-rows.rows in
+    let kills : List Node → Expr → ℕ → Bool = λ all e n. node_kills graph e (slice_get all n) in
     let long : length c.in_ok-operands.operands ≡ length c.args.graph.now.vars = c.in_ok-operands.ensures.shape.len ∙ ap length c.vars.ensures in
-    let below : (node : Node) → slice_get c.nodes.result.now n ≡ Some node → AllBelow (length c.in_ok-operands.operands) (node_vars node) = λ node at. subst (λ vars. AllBelow vars (node_vars node)) (sym long) (c.nodes.ensures.graph.can.below n node at) in
-    let row = c.in_ok-rows.ensures.kills n (subst (λ l. n < length l) (sym c.nodes.ensures.value) n_in) in
-    ap (λ (r : List Bool). get_or r i false) row
-    ∙ kill_bit c.args.graph.now operands c.len.result i e (slice_get nodes n) (subst (λ l. i < l) (sym c.len.ensures.len) (slice_get_within c.args.table.now i e e_at))
-    (λ x x_in. c.in_ok-operands.ensures.operands x i e (subst (λ l. x < l) c.in_ok-operands.ensures.shape.len x_in) e_at) below
-    ∙ ap (λ (l : List Node). node_kills c.args.graph.now e (slice_get l n)) c.nodes.ensures.value
+    let below = subst (λ vars. HaveVarsBelow vars nodes) (sym long) c.nodes-nodes.ensures.graph.can.below in
+    let bits = λ (x i : ℕ) (e : Expr) (x_in : x < length c.in_ok-operands.operands). c.in_ok-operands.ensures.operands x i e (subst (λ l. x < l) c.in_ok-operands.ensures.shape.len x_in) in
+    let shape = subst (λ many. AreRows (length nodes) many rows) c.len.ensures.len c.in_ok-rows.ensures.shape in
+    let are = subst (λ many. AreAssignedRows true operands many nodes rows) c.len.ensures.len c.in_ok-rows.ensures.rows in
+    subst (λ (all : List Node). AreKeyRows (length all) table (kills all) rows) c.nodes-nodes.ensures.value
+    (same_test (length nodes) table (λ e n. of_assigned true false (has_var e) (slice_get nodes n)) (kills nodes) rows (λ e n. kills_assigned graph e (slice_get nodes n)) (assigned_keys true operands nodes table has_var rows below bits shape are))

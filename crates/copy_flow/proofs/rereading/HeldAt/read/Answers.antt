@@ -15,7 +15,7 @@ returns-in-Some c =
     let copies = c.args.self.now.copies.now in
     let within : c.args.var < length c.args.self.now.copies.now.targets = omega (arith, c.if-var-len.false, c.len.ensures) in
     let first = subst (λ r. IsFirstInBoth r (row_of c.args.self.now.copies.now.held c.args.self.now.node) c.in-Some.number) c.row.ensures (subst (λ r. IsFirstInBoth c.row.result r c.in-Some.number) c.row-2.ensures c.in-Some.ensures.found) in
-    sym (read_found (length copies.targets) copies.table copies.targets (row_of copies.held c.args.self.now.node) c.args.var within c.requires.lookup.targets c.in-Some.number c.get.result c.get.ensures first)
+    sym (read_found (length copies.targets) copies.table copies.targets (row_of copies.held c.args.self.now.node) c.args.var within c.requires.lookup.targets c.in-Some.number c.get.result.now c.get.ensures first)
 
 pub returns-in-None : goal.returns-in-None
 returns-in-None c =
