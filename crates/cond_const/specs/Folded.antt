@@ -12,14 +12,14 @@ use Rattle.cond_const.specs.declared.known.Known.{Known}
 use Rattle.cond_const.specs.States.{NodeState, Knows, BelowState, is_reached, size_of}
 use Rattle.cond_const.specs.Folding.{passed_along, entry_state, folded_nodes, resolved}
 
--- a state for each node, about so many variables: that of Start is not below the entry's, and that of the target of each
--- edge is not below what passes along it
+-- a state for each node, each about so many variables, so that the entry's state is below that of Start, and what passes
+-- along each edge is below the state of the node to which the edge leads; each state is below itself
 pub record AreStates (received : List ℕ) (nodes : List Node) (size : ℕ) (states : ℕ → NodeState) : Type 0 where
   pub sizes : (n : ℕ) → n < length nodes → size_of (states n) ≡ size
   pub start : BelowState (entry_state size) (states 0)
   pub edges : (n slot s : ℕ) (node : Node) → slice_get nodes n ≡ Some node → IsEdge nodes n slot s → BelowState (passed_along received node slot (states n)) (states s)
 
--- and the least such states: at each node the others know no more
+-- and the least such states: at each node they are below any other such states
 pub record AreLeastStates (received : List ℕ) (nodes : List Node) (size : ℕ) (states : ℕ → NodeState) : Type 0 where
   pub are : AreStates received nodes size states
   pub least : (others : ℕ → NodeState) → AreStates received nodes size others → (n : ℕ) → n < length nodes → BelowState (states n) (others n)

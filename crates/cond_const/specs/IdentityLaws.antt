@@ -1,8 +1,9 @@
 -- Each identity holds for all signed 64-bit numbers. For proofs only.
 use Rattle.std.proofs.Common.{◌≡◌, ℕ, zero, suc, ◌-◌, ◌/◌, ◌^◌, ◌<◌, Bool, true, false, if◌then◌else◌, nat_eq, eqb-true, not, mod-eq_of_lt, div-one, ℤ, pos, negsuc, ◌+ℤ◌, ◌-ℤ◌, ◌*ℤ◌, refl, sym, ap, ◌∙◌, subst, arith, FitsSigned, w64, to_z, of_z, pow_pos, to_z-of_z, int_lt, int_rem, int_div, unsigned_abs, bit_and, bit_or}
 use Rattle.std.specs.Ordering.{int_eq}
-use Rattle.std.specs.Int.Bits.{and_zero_r, and_zero_l, or_zero_r, or_zero_l, xor_zero_r, xor_zero_l, and_self, or_self, xor_self, or_lt}
-use Rattle.std.proofs.lemmas.Nat.{and_mask, and_comm, or_comm, le_or_l}
+use Rattle.std.specs.Int.Bits.{and_zero_r, or_zero_r, xor_zero_r, and_self, or_self, xor_self, or_lt}
+use Rattle.std.proofs.lemmas.Nat.{and_mask, and_comm, or_comm, xor_comm, le_or_l}
+use Rattle.std.proofs.Math.IntN.{+ℤ_comm, *ℤ_comm}
 use Rattle.std.specs.Int.{int_wrap, int_div_euclid}
 use Rattle.std.proofs.lemmas.Int.{int_wrap_fits, ints, quot-rem, rem_below}
 use Rattle.std.proofs.Math.Facts.{Fits-of_z}
@@ -71,19 +72,11 @@ ones_fit = record { sfits = pow_pos 63 }
 and_ones : (a : ℤ) → FitsSigned w64 a → bit_and (of_z w64 a) (of_z w64 (negsuc 0)) ≡ of_z w64 a
 and_ones a fits = and_mask (of_z w64 a) 64 ∙ mod-eq_of_lt (below_two_to_64 a fits)
 
--- a conjunction with -1 is the number
-ones_and : (a : ℤ) → FitsSigned w64 a → bit_and (of_z w64 (negsuc 0)) (of_z w64 a) ≡ of_z w64 a
-ones_and a fits = and_comm (of_z w64 (negsuc 0)) (of_z w64 a) ∙ and_ones a fits
-
--- and `or` all bits
-ones_or : (a : ℤ) → FitsSigned w64 a → bit_or (of_z w64 (negsuc 0)) (of_z w64 a) ≡ 2 ^ 64 - 1
-ones_or a fits =
-    let ones : of_z w64 (negsuc 0) < 2 ^ 64 = omega arith in
-    omega (arith, le_or_l (of_z w64 (negsuc 0)) (of_z w64 a), or_lt 64 (of_z w64 (negsuc 0)) (of_z w64 a) ones (below_two_to_64 a fits))
-
--- a disjunction with -1 is -1
+-- and `or` all bits: a disjunction with -1 is -1
 or_ones : (a : ℤ) → FitsSigned w64 a → bit_or (of_z w64 a) (of_z w64 (negsuc 0)) ≡ 2 ^ 64 - 1
-or_ones a fits = or_comm (of_z w64 a) (of_z w64 (negsuc 0)) ∙ ones_or a fits
+or_ones a fits =
+    let ones : of_z w64 (negsuc 0) < 2 ^ 64 = omega arith in
+    or_comm (of_z w64 a) (of_z w64 (negsuc 0)) ∙ omega (arith, le_or_l (of_z w64 (negsuc 0)) (of_z w64 a), or_lt 64 (of_z w64 (negsuc 0)) (of_z w64 a) ones (below_two_to_64 a fits))
 
 -- ---- shifts by nothing, and of 0
 
@@ -114,11 +107,7 @@ shra_zero k = ap pos (zero-div (2 ^ k))
 
 -- the table of a variable with itself, operator by operator
 pub same_keeps : (op : Op) (a : ℤ) → FitsSigned w64 a → IsIdentity (identity_same op) a op a a
-same_keeps Add a fits = tt
 same_keeps Sub a fits = (refl, wraps_to (a -ℤ a) (pos 0) (omega (arith, ints)) zero_fits)
-same_keeps Mul a fits = tt
-same_keeps Div a fits = tt
-same_keeps Mod a fits = tt
 same_keeps Min a fits = (refl, either (int_lt a a) a)
 same_keeps Max a fits = (refl, either (int_lt a a) a)
 same_keeps Eq a fits = (refl, ap truth (int_eq_same a))
@@ -127,72 +116,62 @@ same_keeps Lt a fits = (refl, ap truth (int_lt_same a))
 same_keeps Le a fits = (refl, ap truth (int_le_same a))
 same_keeps Gt a fits = (refl, ap truth (int_lt_same a))
 same_keeps Ge a fits = (refl, ap truth (int_le_same a))
-same_keeps Shl a fits = tt
-same_keeps Shr a fits = tt
-same_keeps Shra a fits = tt
 same_keeps And a fits = (refl, sym (and_is a a fits fits) ∙ back a _ fits (and_self (of_z w64 a)))
 same_keeps Or a fits = (refl, sym (or_is a a fits fits) ∙ back a _ fits (or_self (of_z w64 a)))
 same_keeps Xor a fits = (refl, sym (xor_is a a fits fits) ∙ ap (to_z w64) (xor_self (of_z w64 a)))
+same_keeps _ a fits = tt
 
 -- a shift by a multiple of 64
 no_distance : (op : Op) (a c : ℤ) → traps op c ≡ false → ((k : ℕ) → k ≡ distance c → k ≡ 0 → value_of_op op a c ≡ a) → (b : Bool) → nat_eq (distance c) 0 ≡ b → IsIdentity (if b then Itself else Absent) a op a c
 no_distance op a c calm is true e = (calm, is (distance c) refl (eqb-true (distance c) 0 e))
 no_distance op a c calm is false e = tt
 
+-- an identity of a variable and a constant that holds at one number, and there is none elsewhere
+right_at : (op : Op) (a c d : ℤ) (rule : Identity) → IsIdentity rule a op a d → IsIdentity (where_equal c d rule Absent) a op a c
+right_at op a c d rule here = at_number c d rule Absent (λ r e. IsIdentity r a op a e) here tt
+
+-- two that hold at two numbers
+right_at_two : (op : Op) (a c d e : ℤ) (rule other : Identity) → IsIdentity rule a op a d → IsIdentity other a op a e → IsIdentity (where_equal c d rule (where_equal c e other Absent)) a op a c
+right_at_two op a c d e rule other first second = at_number c d rule (where_equal c e other Absent) (λ r n. IsIdentity r a op a n) first (right_at op a c e other second)
+
 -- the table of a variable and a constant
 pub right_keeps : (op : Op) (a c : ℤ) → FitsSigned w64 a → FitsSigned w64 c → IsIdentity (identity_right op c) a op a c
-right_keeps Add a c fits fits' = at_number c (pos 0) Itself Absent (λ r d. IsIdentity r a Add a d) (refl, wraps_to (a +ℤ pos 0) a (omega (arith, ints)) fits) tt
-right_keeps Sub a c fits fits' = at_number c (pos 0) Itself Absent (λ r d. IsIdentity r a Sub a d) (refl, wraps_to (a -ℤ pos 0) a (omega (arith, ints)) fits) tt
+right_keeps Add a c fits fits' = right_at Add a c (pos 0) Itself (refl, wraps_to (a +ℤ pos 0) a (omega (arith, ints)) fits)
+right_keeps Sub a c fits fits' = right_at Sub a c (pos 0) Itself (refl, wraps_to (a -ℤ pos 0) a (omega (arith, ints)) fits)
 right_keeps Mul a c fits fits' =
-    at_number c (pos 0) (Always (pos 0)) (where_equal c (pos 1) Itself Absent) (λ r d. IsIdentity r a Mul a d) (refl, wraps_to (a *ℤ pos 0) (pos 0) (omega (arith, ints)) zero_fits)
-    (at_number c (pos 1) Itself Absent (λ r d. IsIdentity r a Mul a d) (refl, wraps_to (a *ℤ pos 1) a (omega (arith, ints)) fits) tt)
-right_keeps Div a c fits fits' = at_number c (pos 1) Itself Absent (λ r d. IsIdentity r a Div a d) (refl, ap wrapped (div_one a) ∙ int_wrap_fits w64 a fits) tt
-right_keeps Mod a c fits fits' =
-    at_number c (pos 1) (Always (pos 0)) (where_equal c (negsuc 0) (Always (pos 0)) Absent) (λ r d. IsIdentity r a Mod a d) (refl, rem_one a)
-    (at_number c (negsuc 0) (Always (pos 0)) Absent (λ r d. IsIdentity r a Mod a d) (refl, rem_minus_one a) tt)
-right_keeps Min a c fits fits' = tt
-right_keeps Max a c fits fits' = tt
-right_keeps Eq a c fits fits' = tt
-right_keeps Ne a c fits fits' = tt
-right_keeps Lt a c fits fits' = tt
-right_keeps Le a c fits fits' = tt
-right_keeps Gt a c fits fits' = tt
-right_keeps Ge a c fits fits' = tt
+    right_at_two Mul a c (pos 0) (pos 1) (Always (pos 0)) Itself (refl, wraps_to (a *ℤ pos 0) (pos 0) (omega (arith, ints)) zero_fits) (refl, wraps_to (a *ℤ pos 1) a (omega (arith, ints)) fits)
+right_keeps Div a c fits fits' = right_at Div a c (pos 1) Itself (refl, ap wrapped (div_one a) ∙ int_wrap_fits w64 a fits)
+right_keeps Mod a c fits fits' = right_at_two Mod a c (pos 1) (negsuc 0) (Always (pos 0)) (Always (pos 0)) (refl, rem_one a) (refl, rem_minus_one a)
 right_keeps Shl a c fits fits' = no_distance Shl a c refl (λ k is none. ap (λ j. wrapped (a *ℤ pos (2 ^ j))) (sym is ∙ none) ∙ shl_none a fits) (nat_eq (distance c) 0) refl
 right_keeps Shr a c fits fits' = no_distance Shr a c refl (λ k is none. ap (λ j. wrapped (pos (unsigned a / 2 ^ j))) (sym is ∙ none) ∙ shr_none a fits) (nat_eq (distance c) 0) refl
 right_keeps Shra a c fits fits' = no_distance Shra a c refl (λ k is none. ap (λ j. int_div_euclid a (pos (2 ^ j))) (sym is ∙ none) ∙ shra_none a) (nat_eq (distance c) 0) refl
 right_keeps And a c fits fits' =
-    at_number c (pos 0) (Always (pos 0)) (where_equal c (negsuc 0) Itself Absent) (λ r d. IsIdentity r a And a d) (refl, sym (and_is a (pos 0) fits zero_fits) ∙ ap (to_z w64) (and_zero_r (of_z w64 a)))
-    (at_number c (negsuc 0) Itself Absent (λ r d. IsIdentity r a And a d) (refl, sym (and_is a (negsuc 0) fits ones_fit) ∙ back a _ fits (and_ones a fits)) tt)
+    right_at_two And a c (pos 0) (negsuc 0) (Always (pos 0)) Itself (refl, sym (and_is a (pos 0) fits zero_fits) ∙ ap (to_z w64) (and_zero_r (of_z w64 a)))
+    (refl, sym (and_is a (negsuc 0) fits ones_fit) ∙ back a _ fits (and_ones a fits))
 right_keeps Or a c fits fits' =
-    at_number c (pos 0) Itself (where_equal c (negsuc 0) (Always (negsuc 0)) Absent) (λ r d. IsIdentity r a Or a d) (refl, sym (or_is a (pos 0) fits zero_fits) ∙ back a _ fits (or_zero_r (of_z w64 a)))
-    (at_number c (negsuc 0) (Always (negsuc 0)) Absent (λ r d. IsIdentity r a Or a d) (refl, sym (or_is a (negsuc 0) fits ones_fit) ∙ ap (to_z w64) (or_ones a fits)) tt)
-right_keeps Xor a c fits fits' = at_number c (pos 0) Itself Absent (λ r d. IsIdentity r a Xor a d) (refl, sym (xor_is a (pos 0) fits zero_fits) ∙ back a _ fits (xor_zero_r (of_z w64 a))) tt
+    right_at_two Or a c (pos 0) (negsuc 0) Itself (Always (negsuc 0)) (refl, sym (or_is a (pos 0) fits zero_fits) ∙ back a _ fits (or_zero_r (of_z w64 a)))
+    (refl, sym (or_is a (negsuc 0) fits ones_fit) ∙ ap (to_z w64) (or_ones a fits))
+right_keeps Xor a c fits fits' = right_at Xor a c (pos 0) Itself (refl, sym (xor_is a (pos 0) fits zero_fits) ∙ back a _ fits (xor_zero_r (of_z w64 a)))
+right_keeps _ a c fits fits' = tt
 
--- the table of a constant and a variable
+-- an identity of an operator that does not trap, and gives the same in the other order
+flipped : (op : Op) (a c : ℤ) (rule : Identity) → traps op a ≡ false → value_of_op op c a ≡ value_of_op op a c → IsIdentity rule a op a c → IsIdentity rule a op c a
+flipped op a c Absent calm same is = tt
+flipped op a c Itself calm same is = (calm, same ∙ is.1)
+flipped op a c (Always d) calm same is = (calm, same ∙ is.1)
+
+-- a shift of 0 is 0
+zero_shifted : (op : Op) (a c : ℤ) → traps op a ≡ false → value_of_op op (pos 0) a ≡ pos 0 → IsIdentity (where_equal c (pos 0) (Always (pos 0)) Absent) a op c a
+zero_shifted op a c calm is = at_number c (pos 0) (Always (pos 0)) Absent (λ r d. IsIdentity r a op d a) (calm, is) tt
+
+-- the table of a constant and a variable: where the operands may change places, it is the one before
 pub left_keeps : (op : Op) (a c : ℤ) → FitsSigned w64 a → FitsSigned w64 c → IsIdentity (identity_left op c) a op c a
-left_keeps Add a c fits fits' = at_number c (pos 0) Itself Absent (λ r d. IsIdentity r a Add d a) (refl, wraps_to (pos 0 +ℤ a) a (omega (arith, ints)) fits) tt
-left_keeps Sub a c fits fits' = tt
-left_keeps Mul a c fits fits' =
-    at_number c (pos 0) (Always (pos 0)) (where_equal c (pos 1) Itself Absent) (λ r d. IsIdentity r a Mul d a) (refl, wraps_to (pos 0 *ℤ a) (pos 0) (omega (arith, ints)) zero_fits)
-    (at_number c (pos 1) Itself Absent (λ r d. IsIdentity r a Mul d a) (refl, wraps_to (pos 1 *ℤ a) a (omega (arith, ints)) fits) tt)
-left_keeps Div a c fits fits' = tt
-left_keeps Mod a c fits fits' = tt
-left_keeps Min a c fits fits' = tt
-left_keeps Max a c fits fits' = tt
-left_keeps Eq a c fits fits' = tt
-left_keeps Ne a c fits fits' = tt
-left_keeps Lt a c fits fits' = tt
-left_keeps Le a c fits fits' = tt
-left_keeps Gt a c fits fits' = tt
-left_keeps Ge a c fits fits' = tt
-left_keeps Shl a c fits fits' = at_number c (pos 0) (Always (pos 0)) Absent (λ r d. IsIdentity r a Shl d a) (refl, shl_zero (distance a)) tt
-left_keeps Shr a c fits fits' = at_number c (pos 0) (Always (pos 0)) Absent (λ r d. IsIdentity r a Shr d a) (refl, shr_zero (distance a)) tt
-left_keeps Shra a c fits fits' = at_number c (pos 0) (Always (pos 0)) Absent (λ r d. IsIdentity r a Shra d a) (refl, shra_zero (distance a)) tt
-left_keeps And a c fits fits' =
-    at_number c (pos 0) (Always (pos 0)) (where_equal c (negsuc 0) Itself Absent) (λ r d. IsIdentity r a And d a) (refl, sym (and_is (pos 0) a zero_fits fits) ∙ ap (to_z w64) (and_zero_l (of_z w64 a)))
-    (at_number c (negsuc 0) Itself Absent (λ r d. IsIdentity r a And d a) (refl, sym (and_is (negsuc 0) a ones_fit fits) ∙ back a _ fits (ones_and a fits)) tt)
-left_keeps Or a c fits fits' =
-    at_number c (pos 0) Itself (where_equal c (negsuc 0) (Always (negsuc 0)) Absent) (λ r d. IsIdentity r a Or d a) (refl, sym (or_is (pos 0) a zero_fits fits) ∙ back a _ fits (or_zero_l (of_z w64 a)))
-    (at_number c (negsuc 0) (Always (negsuc 0)) Absent (λ r d. IsIdentity r a Or d a) (refl, sym (or_is (negsuc 0) a ones_fit fits) ∙ ap (to_z w64) (ones_or a fits)) tt)
-left_keeps Xor a c fits fits' = at_number c (pos 0) Itself Absent (λ r d. IsIdentity r a Xor d a) (refl, sym (xor_is (pos 0) a zero_fits fits) ∙ back a _ fits (xor_zero_l (of_z w64 a))) tt
+left_keeps Add a c fits fits' = flipped Add a c (identity_left Add c) refl (ap wrapped (+ℤ_comm c a)) (right_keeps Add a c fits fits')
+left_keeps Mul a c fits fits' = flipped Mul a c (identity_left Mul c) refl (ap wrapped (*ℤ_comm c a)) (right_keeps Mul a c fits fits')
+left_keeps And a c fits fits' = flipped And a c (identity_left And c) refl (ap (λ n. wrapped (pos n)) (and_comm (unsigned c) (unsigned a))) (right_keeps And a c fits fits')
+left_keeps Or a c fits fits' = flipped Or a c (identity_left Or c) refl (ap (λ n. wrapped (pos n)) (or_comm (unsigned c) (unsigned a))) (right_keeps Or a c fits fits')
+left_keeps Xor a c fits fits' = flipped Xor a c (identity_left Xor c) refl (ap (λ n. wrapped (pos n)) (xor_comm (unsigned c) (unsigned a))) (right_keeps Xor a c fits fits')
+left_keeps Shl a c fits fits' = zero_shifted Shl a c refl (shl_zero (distance a))
+left_keeps Shr a c fits fits' = zero_shifted Shr a c refl (shr_zero (distance a))
+left_keeps Shra a c fits fits' = zero_shifted Shra a c refl (shra_zero (distance a))
+left_keeps _ a c fits fits' = tt

@@ -2,7 +2,7 @@
 ghost use Rattle.std.specs.Prelude.{◌≡◌, IfOk};
 ghost use Rattle.flow_graph.specs.Blocks.{AreBlocksOf};
 ghost use Rattle.flow_graph.specs.Graphs.{IsGraph};
-ghost use Rattle.flow_graph.specs.Passes.{GraphCalls, GraphCheaper, GraphKeeps, GraphSame};
+ghost use Rattle.flow_graph.specs.Passes.{GraphKeeps};
 ghost use Rattle.cond_const.specs.Folded.{AreFolded, IsFolded, IsOnlyFolded, KeepsDivisions};
 
 use crate::rewriting::rewrite;
@@ -26,19 +26,15 @@ pub fn fold(alloc: Global, graph: &Graph) -> Result<Graph, Memory>
 
     // there is no other such graph
     ensures only { IfOk result (IsOnlyFolded graph.now) }
-    ensures same { IfOk result (GraphSame graph.now) }
-    ensures cheaper { IfOk result (GraphCheaper graph.now) }
+
+    // it has the name of the graph, does the same, evaluates no more operators, and makes no other calls
     ensures keeps { IfOk result (GraphKeeps graph.now) }
 
     // each division that is reached keeps its variable, and unless its divisor is known and not 0 its operator
     ensures divides { IfOk result (KeepsDivisions graph.now) }
-
-    // it makes no calls but those of the graph
-    ensures calls { IfOk result (GraphCalls graph.now) }
 {
     let nodes = folded(alloc, graph)?;
-    let extra = Vec::new(alloc);
-    let folded = graph.with_nodes(alloc, extra, nodes)?;
+    let folded = graph.with_nodes(alloc, nodes)?;
     Ok(folded)
 }
 

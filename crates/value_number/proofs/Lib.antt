@@ -1,8 +1,8 @@
 pub mod Values
 pub mod Lockstep
 pub mod Whole
-pub mod Inserts
 pub mod Stands
+pub mod Covers
 pub mod Holders
 pub mod Walks
 pub mod Weights

@@ -1,11 +1,11 @@
 -- A number stands for one term, and a term has one number; numbers of operands, right sides and variables.
-use Rattle.std.proofs.Common.{◌≡◌, ℕ, List, slice_get, Option, Some, None, Result, Ok, Err, IfOk, OnOk, sym, ap, ◌∙◌, subst}
-use Rattle.std.proofs.lemmas.Option.{slice_get_within}
+use Rattle.std.proofs.Common.{◌≡◌, ℕ, List, slice_get, Option, Some, None, Result, Ok, Err, IfOk, OnOk, ap, ◌∙◌, subst}
 use Rattle.mir_base.specs.declared.operators.Op.{Op}
 use Rattle.mir_base.specs.declared.operators.UnOp.{UnOp}
 use Rattle.mir_base.specs.declared.instructions.Operand.{Operand}
 use Rattle.mir_base.specs.declared.instructions.Rhs.TheVariants.{Unary, Binary}
 use Rattle.mir_base.specs.Shapes.{AllDiffer}
+use Rattle.key_table.specs.KeyLaws.{one_place}
 use Rattle.value_number.specs.declared.terms.TermKey.{TermKey}
 use Rattle.value_number.specs.declared.terms.TermKey.TheVariants as keys
 use Rattle.value_number.specs.Terms.{Term, Terms, Initial, Opaque, Number, UnaryOf, BinaryOf, operand_term, rhs_term}
@@ -53,11 +53,7 @@ one_term table (BinaryOf op t s) (BinaryOf op' u w) n p q =
     let right : s ≡ w = one_term table s w q.1 (subst (λ k. Stands table k s) b p.4) q.4 in
     cc
 
--- equal entries of a table of different ones stand at one place
-one_place : (table : List TermKey) → AllDiffer table → (i j : ℕ) (s : TermKey) → slice_get table i ≡ Some s → slice_get table j ≡ Some s → i ≡ j
-one_place table d i j s p q = d i j (slice_get_within table i s p) (slice_get_within table j s q) (p ∙ sym q)
-
--- so a term has one number
+-- and in a table of distinct entries a term has one number
 pub one_number : (table : List TermKey) → AllDiffer table → (t : Term) (n m : ℕ) → Stands table n t → Stands table m t → n ≡ m
 one_number table d (Initial v r) n m p q = one_place table d n m (keys.Initial v r) p q
 one_number table d (Opaque k) n m p q = one_place table d n m (keys.Opaque k) p q

@@ -70,9 +70,11 @@ module _ (nodes : List Node) (table : List TermKey) where
   put_restore (Restore v old ∷ steps) w o numbers lt h = (subst (λ k. v < k) (length-set numbers w o) h.0, put_restore steps w o numbers lt h.1)
 
   -- a change, and the step that undoes it
-  change_ready : (steps : List Step) (numbers : List (Option ℕ)) (change : Option Change) → ChangeWithin (length numbers) change → AreReady nodes table numbers steps → AreReady nodes table (changed_numbers numbers change) (steps ++ undoing numbers change)
+  change_ready : (steps : List Step) (numbers : List (Option ℕ)) (change : Option Change) → ChangeWithin (length numbers) change → AreReady nodes table numbers steps → AreReady nodes table (changed_numbers numbers change) (steps ++ undoing steps numbers change)
   change_ready steps numbers None within h = subst (AreReady nodes table numbers) (sym (append-nil steps)) h
-  change_ready steps numbers (Some change) within h =
+  change_ready [] numbers (Some change) within h = tt
+  change_ready (first ∷ rest) numbers (Some change) within h =
+      let steps = first ∷ rest in
       let v = change.variable in
       let old = slice_index_or numbers v None in
       let back : slice_set (slice_set numbers v (Some change.number)) v old ≡ numbers = set-set numbers v (Some change.number) old ∙ set-get_or numbers v None in
@@ -213,7 +215,7 @@ module _ (graph : GraphShape) where
     after_path = subst (λ o. Represent table' numbers' root (terms_after n o terms)) (sym here) after_node
 
     -- the walk with the node at hand
-    taken : KeepsTerms graph table' numbers' listed (steps ++ undoing numbers found.change) holders' (Some n)
+    taken : KeepsTerms graph table' numbers' listed (steps ++ undoing steps numbers found.change) holders' (Some n)
     taken = record {
       numbers_long = changed_long numbers found.change ∙ walk.numbers_long;
       listed_long = walk.listed_long;
@@ -224,7 +226,7 @@ module _ (graph : GraphShape) where
     }
       where
         Where : ℕ → Type 0
-        Where k = IsToVisit k (steps ++ undoing numbers found.change) ⊎ (Some n ≡ Some k) ⊎ IsVisited graph listed holders' k
+        Where k = IsToVisit k (steps ++ undoing steps numbers found.change) ⊎ (Some n ≡ Some k) ⊎ IsVisited graph listed holders' k
 
         other : (k : ℕ) → k ≢ n → IsVisited graph listed holders k → IsVisited graph listed holders' k
         other k apart v = record {
@@ -313,7 +315,7 @@ listed_all (t ∷ succs) listed (suc i) s at lt = listed_all succs (slice_set li
 -- a node is visited: the walk goes on
 pub visit_walks : (graph : GraphShape) → IsGraph graph.vars graph.received graph.nodes → (table table' : List TermKey) (numbers : List (Option ℕ)) (listed : List Bool) (steps : List Step) (holders : List (Option ℕ)) (n root : ℕ) (node : Node) (found : Found)
     → KeepsTerms graph table numbers listed (steps ++ Visit n root ∷ []) holders None → slice_get graph.nodes n ≡ Some node → Finds table table' numbers root n node found
-    → KeepsTerms graph table' (changed_numbers numbers found.change) (listed_after (succs_at graph.nodes n) listed) (steps_after root (succs_at graph.nodes n) listed (steps ++ undoing numbers found.change)) (slice_set holders n found.holder) None
+    → KeepsTerms graph table' (changed_numbers numbers found.change) (listed_after (succs_at graph.nodes n) listed) (steps_after root (succs_at graph.nodes n) listed (steps ++ undoing steps numbers found.change)) (slice_set holders n found.holder) None
 visit_walks graph is_graph table table' numbers listed steps holders n root node found walk here finds = record {
   numbers_long = at_hand.numbers_long;
   listed_long = at_hand.listed_long;
@@ -336,7 +338,7 @@ visit_walks graph is_graph table table' numbers listed steps holders n root node
     listed' = listed_after succs listed
 
     steps' : List Step
-    steps' = steps_after root succs listed (steps ++ undoing numbers found.change)
+    steps' = steps_after root succs listed (steps ++ undoing steps numbers found.change)
 
     is_ready : IsReady graph.nodes table numbers n root
     is_ready = ready graph is_graph table table' numbers listed steps holders n root node found walk here finds
@@ -345,7 +347,7 @@ visit_walks graph is_graph table table' numbers listed steps holders n root node
     edges i s at = ((i, at), omega (arith, (is_graph.can.succs n i s at).1, walk.listed_long))
 
     at_hand : KeepsTerms graph table' numbers' listed' steps' holders' (Some n)
-    at_hand = list_all graph table' numbers' holders' n root is_ready.before is_ready.path (after_path graph is_graph table table' numbers listed steps holders n root node found walk here finds) succs listed (steps ++ undoing numbers found.change) edges
+    at_hand = list_all graph table' numbers' holders' n root is_ready.before is_ready.path (after_path graph is_graph table table' numbers listed steps holders n root node found walk here finds) succs listed (steps ++ undoing steps numbers found.change) edges
         (taken graph is_graph table table' numbers listed steps holders n root node found walk here finds)
 
     visited : IsVisited graph listed' holders' n
@@ -367,8 +369,8 @@ visit_walks graph is_graph table table' numbers listed steps holders n root node
     ]
 
 -- the node of a visit that is taken is one of the graph
-pub at_visit : (graph : GraphShape) (table : List TermKey) (numbers : List (Option ℕ)) (listed : List Bool) (steps : List Step) (holders : List (Option ℕ)) (n root : ℕ) → KeepsTerms graph table numbers listed (steps ++ Visit n root ∷ []) holders None → n < length graph.nodes
-at_visit graph table numbers listed steps holders n root walk = let ready = (ready_visit graph.nodes table steps n root numbers walk.ready).1 in ready.within
+pub at_visit : {graph : GraphShape} {table : List TermKey} {numbers : List (Option ℕ)} {listed : List Bool} (steps : List Step) {holders : List (Option ℕ)} {n : ℕ} (root : ℕ) → KeepsTerms graph table numbers listed (steps ++ Visit n root ∷ []) holders None → n < length graph.nodes
+at_visit {graph = graph} {table = table} {numbers = numbers} steps {n = n} root walk = let ready = (ready_visit graph.nodes table steps n root numbers walk.ready).1 in ready.within
 
 -- its successors are nodes of the graph, for which there are marks
 pub succs_below : (graph : GraphShape) → IsGraph graph.vars graph.received graph.nodes → (listed : List Bool) (n : ℕ) → length listed ≡ length graph.nodes → AllBelow (length listed) (succs_at graph.nodes n)
@@ -377,14 +379,14 @@ succs_below graph is_graph listed n long = all_below (length listed) (succs_at g
 -- a visit, as the code makes it: the walk goes on, and less is left
 module _ (graph : GraphShape) (is_graph : IsGraph graph.vars graph.received graph.nodes) (table table' : List TermKey) (numbers : List (Option ℕ)) (listed : List Bool) (steps : List Step) (holders : List (Option ℕ)) (n root : ℕ) (node : Node) (found : Found)
     (numbers' : List (Option ℕ)) (listed' : List Bool) (changed steps' : List Step) (holders' : List (Option ℕ)) (succs : List ℕ)
-    (numbers_are : numbers' ≡ changed_numbers numbers found.change) (changed_are : changed ≡ steps ++ undoing numbers found.change) (succs_are : succs ≡ succs_at graph.nodes n)
+    (numbers_are : numbers' ≡ changed_numbers numbers found.change) (changed_are : changed ≡ steps ++ undoing steps numbers found.change) (succs_are : succs ≡ succs_at graph.nodes n)
     (listed_are : listed' ≡ listed_after succs listed) (steps_are : steps' ≡ steps_after root succs listed changed) (holders_are : holders' ≡ slice_set holders n found.holder) where
   -- the marks, by the graph's own successors
   marks_made : listed' ≡ listed_after (succs_at graph.nodes n) listed
   marks_made = listed_are ∙ ap (λ l. listed_after l listed) succs_are
 
   -- and the steps
-  steps_made : steps' ≡ steps_after root (succs_at graph.nodes n) listed (steps ++ undoing numbers found.change)
+  steps_made : steps' ≡ steps_after root (succs_at graph.nodes n) listed (steps ++ undoing steps numbers found.change)
   steps_made = steps_are ∙ ap (λ l. steps_after root l listed changed) succs_are ∙ ap (steps_after root (succs_at graph.nodes n) listed) changed_are
 
   -- the walk goes on
@@ -393,7 +395,7 @@ module _ (graph : GraphShape) (is_graph : IsGraph graph.vars graph.received grap
       subst (λ l. KeepsTerms graph table' l listed' steps' holders' None) (sym numbers_are)
       (subst (λ l. KeepsTerms graph table' (changed_numbers numbers found.change) l steps' holders' None) (sym marks_made)
       (subst (λ l. KeepsTerms graph table' (changed_numbers numbers found.change) (listed_after (succs_at graph.nodes n) listed) l holders' None) (sym steps_made)
-      (subst (λ l. KeepsTerms graph table' (changed_numbers numbers found.change) (listed_after (succs_at graph.nodes n) listed) (steps_after root (succs_at graph.nodes n) listed (steps ++ undoing numbers found.change)) l None) (sym holders_are)
+      (subst (λ l. KeepsTerms graph table' (changed_numbers numbers found.change) (listed_after (succs_at graph.nodes n) listed) (steps_after root (succs_at graph.nodes n) listed (steps ++ undoing steps numbers found.change)) l None) (sym holders_are)
       (visit_walks graph is_graph table table' numbers listed steps holders n root node found walk here finds))))
 
   -- and less is left

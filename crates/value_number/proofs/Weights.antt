@@ -1,11 +1,12 @@
 -- Each step of the walk makes what is left less.
-use Rattle.std.proofs.Common.{◌≡◌, ℕ, zero, suc, ◌+◌, ◌<◌, ◌≤◌, Bool, true, false, if◌then◌else◌, List, [], ◌∷◌, ◌++◌, length, slice_index_or, slice_set, Option, Some, None, refl, sym, ap, subst, arith}
+use Rattle.std.proofs.Common.{◌≡◌, ℕ, ◌+◌, ◌<◌, ◌≤◌, Bool, true, false, if◌then◌else◌, List, [], ◌∷◌, ◌++◌, length, slice_index_or, slice_set, Option, Some, None, refl, sym, subst, arith}
 use Rattle.std.proofs.lemmas.List.{length-set}
 use Rattle.mir_base.specs.Shapes.{AllBelow}
+use Rattle.flow_graph.specs.MarkLaws.{unmarked_same, unmarked_set}
 use Rattle.value_number.specs.declared.finding.Change.{Change}
 use Rattle.value_number.specs.declared.walk.Step.{Step}
 use Rattle.value_number.specs.declared.walk.Step.TheVariants.{Visit, Restore}
-use Rattle.value_number.specs.Walks.{undoing, listed_after, steps_after, unlisted, steps_weight, weight_left}
+use Rattle.value_number.specs.Walks.{undoing, listed_after, steps_after, steps_weight, weight_left}
 
 -- the weights of steps one after the other
 weight_append : (xs ys : List Step) → steps_weight (xs ++ ys) ≡ steps_weight xs + steps_weight ys
@@ -13,30 +14,15 @@ weight_append [] ys = omega arith
 weight_append (x ∷ xs) ys = omega (arith, weight_append xs ys)
 
 -- a change weighs at most one
-undoing_light : (numbers : List (Option ℕ)) (change : Option Change) → steps_weight (undoing numbers change) ≤ 1
-undoing_light numbers None = omega arith
-undoing_light numbers (Some change) = omega arith
-
--- one node fewer is not listed
-unlisted_set : (listed : List Bool) (s : ℕ) → s < length listed → slice_index_or listed s false ≡ false → unlisted (slice_set listed s true) + 1 ≡ unlisted listed
-unlisted_set [] s lt e = absurd (omega (arith, lt))
-unlisted_set (true ∷ listed) zero lt e = cc
-unlisted_set (false ∷ listed) zero lt e = omega arith
-unlisted_set (true ∷ listed) (suc s) lt e = unlisted_set listed s (omega (arith, lt)) e
-unlisted_set (false ∷ listed) (suc s) lt e = omega (arith, unlisted_set listed s (omega (arith, lt)) e)
-
--- listing what is listed leaves as many
-unlisted_same : (listed : List Bool) (s : ℕ) → slice_index_or listed s false ≡ true → unlisted (slice_set listed s true) ≡ unlisted listed
-unlisted_same [] s e = refl
-unlisted_same (true ∷ listed) zero e = refl
-unlisted_same (false ∷ listed) zero e = cc
-unlisted_same (true ∷ listed) (suc s) e = unlisted_same listed s e
-unlisted_same (false ∷ listed) (suc s) e = ap suc (unlisted_same listed s e)
+undoing_light : (steps : List Step) (numbers : List (Option ℕ)) (change : Option Change) → steps_weight (undoing steps numbers change) ≤ 1
+undoing_light steps numbers None = omega arith
+undoing_light [] numbers (Some change) = omega arith
+undoing_light (step ∷ steps) numbers (Some change) = omega arith
 
 -- a successor that is listed makes no more
 list_light : (root s : ℕ) (listed : List Bool) (steps : List Step) → s < length listed → (b : Bool) → slice_index_or listed s false ≡ b → weight_left (slice_set listed s true) (if b then steps else steps ++ Visit s root ∷ []) ≤ weight_left listed steps
-list_light root s listed steps lt true is = omega (arith, unlisted_same listed s is)
-list_light root s listed steps lt false is = omega (arith, unlisted_set listed s lt is, weight_append steps (Visit s root ∷ []))
+list_light root s listed steps lt true is = omega (arith, unmarked_same listed s is)
+list_light root s listed steps lt false is = omega (arith, unmarked_set listed s lt is, weight_append steps (Visit s root ∷ []))
 
 -- nor do all of them
 list_all_light : (root : ℕ) (succs : List ℕ) (listed : List Bool) (steps : List Step) → AllBelow (length listed) succs → weight_left (listed_after succs listed) (steps_after root succs listed steps) ≤ weight_left listed steps
@@ -48,9 +34,9 @@ list_all_light root (s ∷ succs) listed steps below =
 
 -- a visit makes it less
 pub visit_light : (n root : ℕ) (succs : List ℕ) (listed : List Bool) (steps : List Step) (numbers : List (Option ℕ)) (change : Option Change) → AllBelow (length listed) succs
-    → weight_left (listed_after succs listed) (steps_after root succs listed (steps ++ undoing numbers change)) < weight_left listed (steps ++ Visit n root ∷ [])
+    → weight_left (listed_after succs listed) (steps_after root succs listed (steps ++ undoing steps numbers change)) < weight_left listed (steps ++ Visit n root ∷ [])
 visit_light n root succs listed steps numbers change below =
-    omega (arith, list_all_light root succs listed (steps ++ undoing numbers change) below, weight_append steps (undoing numbers change), undoing_light numbers change, weight_append steps (Visit n root ∷ []))
+    omega (arith, list_all_light root succs listed (steps ++ undoing steps numbers change) below, weight_append steps (undoing steps numbers change), undoing_light steps numbers change, weight_append steps (Visit n root ∷ []))
 
 -- and so does a number that is restored
 pub restore_light : (v : ℕ) (old : Option ℕ) (listed : List Bool) (steps : List Step) → weight_left listed steps < weight_left listed (steps ++ Restore v old ∷ [])

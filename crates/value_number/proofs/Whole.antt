@@ -9,7 +9,7 @@ use Rattle.flow_graph.specs.Graphs.{AllReached, CanMake, Reached, at_start, alon
 use Rattle.flow_graph.specs.ListLaws.{some_at}
 use Rattle.value_number.specs.Terms.{Term, Terms}
 use Rattle.value_number.specs.Numbered.{AreNumbered, IsHolder, numbered_node}
-use Rattle.value_number.specs.NumberedLaws.{same_succs}
+use Rattle.value_number.specs.NumberedLaws.{numbered_shares, same_succs}
 
 -- ---- what a node becomes
 
@@ -31,14 +31,7 @@ start_becomes (Some v) s = refl
 
 -- its call stays
 becomes_call : (node : Node) (holder : Option ℕ) → node_call (numbered_node node holder) ≡ node_call node
-becomes_call node None = refl
-becomes_call (Start next) (Some v) = refl
-becomes_call (Skip next) (Some v) = refl
-becomes_call (Assign x rhs next) (Some v) = refl
-becomes_call (Print a next) (Some v) = refl
-becomes_call (Call into unit operands next) (Some v) = refl
-becomes_call (Test test taken other) (Some v) = refl
-becomes_call (Return a) (Some v) = refl
+becomes_call = numbered_shares node_call (λ x rhs other next. refl)
 
 -- a holder is a variable of the graph
 holder_below : (count : ℕ) (terms : Terms) (o : Option Term) (v : ℕ) → IsHolder count terms o (Some v) → v < count

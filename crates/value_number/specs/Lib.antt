@@ -2,6 +2,8 @@ pub mod Terms
 pub mod Roots
 pub mod Numbered
 pub mod Table
+pub mod SameTerms
+pub mod Candidates
 pub mod Walks
 pub mod RootLaws
 pub mod NumberedLaws

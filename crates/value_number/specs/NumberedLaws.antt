@@ -4,7 +4,9 @@ use Rattle.std.proofs.Common.{◌≡◌, ℕ, suc, ◌<◌, true, not, if◌then
 use Rattle.std.proofs.lemmas.Bool.{cases_lt}
 use Rattle.std.proofs.lemmas.Option.{slice_get_cases, slice_get_past}
 use Rattle.mir_base.specs.declared.instructions.Operand.{Operand}
-use Rattle.mir_base.specs.declared.instructions.Rhs.TheVariants.{Binary}
+use Rattle.mir_base.specs.declared.instructions.Operand.TheVariants.{Var}
+use Rattle.mir_base.specs.declared.instructions.Rhs.{Rhs}
+use Rattle.mir_base.specs.declared.instructions.Rhs.TheVariants.{Plain, Binary}
 use Rattle.mir_base.specs.declared.operators.Op.{Op}
 use Rattle.mir_base.specs.Expressions.{divides}
 use Rattle.flow_graph.specs.declared.nodes.Node.{Node}
@@ -71,16 +73,20 @@ numbered_is_one graph a b p q =
 
 -- ---- what a node becomes
 
--- it has the successors of the node
-pub numbered_succs : (node : Node) (holder : Option ℕ) → node_succs (numbered_node node holder) ≡ node_succs node
-numbered_succs node None = refl
-numbered_succs (Start next) (Some v) = refl
-numbered_succs (Skip next) (Some v) = refl
-numbered_succs (Assign x rhs next) (Some v) = refl
-numbered_succs (Print a next) (Some v) = refl
-numbered_succs (Call into unit operands next) (Some v) = refl
-numbered_succs (Test test taken other) (Some v) = refl
-numbered_succs (Return a) (Some v) = refl
+-- whatever two assignments to one variable share, with one successor, it shares with the node
+pub numbered_shares : {A : Type 0} (f : Node → A) → ((x : ℕ) (rhs other : Rhs) (next : ℕ) → f (Assign x rhs next) ≡ f (Assign x other next)) → (node : Node) (holder : Option ℕ) → f (numbered_node node holder) ≡ f node
+numbered_shares f same node None = refl
+numbered_shares f same (Start next) (Some v) = refl
+numbered_shares f same (Skip next) (Some v) = refl
+numbered_shares f same (Assign x rhs next) (Some v) = same x (Plain (Var v)) rhs next
+numbered_shares f same (Print a next) (Some v) = refl
+numbered_shares f same (Call into unit operands next) (Some v) = refl
+numbered_shares f same (Test test taken other) (Some v) = refl
+numbered_shares f same (Return a) (Some v) = refl
+
+-- so its successors are those of the node
+numbered_succs : (node : Node) (holder : Option ℕ) → node_succs (numbered_node node holder) ≡ node_succs node
+numbered_succs = numbered_shares node_succs (λ x rhs other next. refl)
 
 -- a Skip stays one
 numbered_skip : (next : ℕ) (holder : Option ℕ) → numbered_node (Skip next) holder ≡ Skip next

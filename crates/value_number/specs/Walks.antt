@@ -1,9 +1,10 @@
 -- What the walk over the graph keeps: numbers for the terms of the variables, and steps that are still to be taken. Cited
 -- by contracts of private functions.
-use Rattle.std.specs.Prelude.{◌≡◌, ◌⊎◌, ℕ, suc, ◌+◌, ◌*◌, ◌<◌, Bool, true, false, if◌then◌else◌, List, [], ◌∷◌, ◌++◌, length, slice_get, slice_index_or, slice_set, Option, Some, None}
+use Rattle.std.specs.Prelude.{◌≡◌, ◌⊎◌, ℕ, ◌+◌, ◌*◌, ◌<◌, Bool, true, false, if◌then◌else◌, List, [], ◌∷◌, ◌++◌, length, slice_get, slice_index_or, slice_set, Option, Some, None}
 use Rattle.flow_graph.specs.declared.nodes.Node.{Node}
 use Rattle.flow_graph.specs.Graphs.{GraphShape, is_start}
 use Rattle.flow_graph.specs.Paths.{HasEdge}
+use Rattle.flow_graph.specs.Walks.{unmarked}
 use Rattle.value_number.specs.declared.finding.Change.{Change}
 use Rattle.value_number.specs.declared.finding.Found.{Found}
 use Rattle.value_number.specs.declared.terms.TermKey.{TermKey}
@@ -38,10 +39,15 @@ abbrev pub changed_numbers : List (Option ℕ) → Option Change → List (Optio
 changed_numbers numbers None = numbers
 changed_numbers numbers (Some change) = slice_set numbers change.variable (Some change.number)
 
--- and the steps that undo it
-abbrev pub undoing : List (Option ℕ) → Option Change → List Step
-undoing numbers None = []
-undoing numbers (Some change) = Restore change.variable (slice_index_or numbers change.variable None) ∷ []
+-- this step, where there are others: where none is left, nothing has to be undone
+abbrev pub where_any : List Step → Step → List Step
+where_any [] step = []
+where_any (other ∷ steps) step = step ∷ []
+
+-- and what undoes it before these steps
+abbrev pub undoing : List Step → List (Option ℕ) → Option Change → List Step
+undoing steps numbers None = []
+undoing steps numbers (Some change) = where_any steps (Restore change.variable (slice_index_or numbers change.variable None))
 
 -- a change is that of a variable below `count`
 abbrev pub ChangeWithin : ℕ → Option Change → Type 0
@@ -102,7 +108,7 @@ pub record KeepsTerms (graph : GraphShape) (table : List TermKey) (numbers : Lis
 
 -- the same of the walk in the code, with these steps
 abbrev pub GoesOver : GraphShape → Walk → List Step → Type 0
-GoesOver graph walk steps = KeepsTerms graph walk.table walk.numbers.items walk.listed.items steps walk.holders.items None
+GoesOver graph walk steps = KeepsTerms graph walk.table walk.numbers walk.listed.items steps walk.holders.items None
 
 -- ---- listing successors
 
@@ -118,12 +124,6 @@ steps_after root (s ∷ succs) listed steps = steps_after root succs (slice_set 
 
 -- ---- how much is left
 
--- how many nodes are not listed
-abbrev pub unlisted : List Bool → ℕ
-unlisted [] = 0
-unlisted (true ∷ listed) = unlisted listed
-unlisted (false ∷ listed) = suc (unlisted listed)
-
 -- a visit weighs more than what it puts in its place beside nodes that it lists
 abbrev pub step_weight : Step → ℕ
 step_weight (Visit n root) = 2
@@ -136,7 +136,7 @@ steps_weight (step ∷ steps) = step_weight step + steps_weight steps
 
 -- what each step makes less
 abbrev pub weight_left : List Bool → List Step → ℕ
-weight_left listed steps = 3 * unlisted listed + steps_weight steps
+weight_left listed steps = 3 * unmarked listed + steps_weight steps
 
 -- ---- all nodes
 

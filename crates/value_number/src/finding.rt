@@ -1,5 +1,5 @@
 // What is found at one node: which variable has the term of its right side, and which number its variable gets.
-ghost use Rattle.std.specs.Prelude.{◌≡◌, ℕ, ◌<◌, ◌≢◌, false, List, Option, None, Some, IfNone, IfSome, IfOk, length};
+ghost use Rattle.std.specs.Prelude.{◌≡◌, ℕ, ◌<◌, false, List, Option, None, Some, IfOk, length};
 ghost use Rattle.mir_base.specs.declared.instructions.Operand.{Operand};
 ghost use Rattle.mir_base.specs.Expressions.{divides};
 ghost use Rattle.mir_base.specs.Shapes.{AllBelow, AllDiffer, into_vars, rhs_vars};
@@ -7,12 +7,14 @@ ghost use Rattle.flow_graph.specs.declared.nodes.Node.TheVariants.{Assign, Call}
 ghost use Rattle.flow_graph.specs.Graphs.{node_vars};
 ghost use Rattle.value_number.specs.declared.terms.TermKey.{TermKey};
 ghost use Rattle.value_number.specs.Numbered.{IsHolder};
-ghost use Rattle.value_number.specs.Table.{Represent, Stands, Stay, kept_number};
+ghost use Rattle.value_number.specs.Table.{Represent, Stands, Stay};
 ghost use Rattle.value_number.specs.Terms.{Terms, movable_rhs_term, rhs_term};
 ghost use Rattle.value_number.specs.Walks.{Finds};
 
-use crate::terms::{TermKey, TermTable};
+use crate::numbers::Numbers;
+use crate::terms::{TermKey, rhs_number, term_number};
 use flow_graph::Node;
+use key_table::KeyTable;
 use mir_base::{Memory, Rhs, divides};
 
 /// A variable gets a term.
@@ -34,16 +36,17 @@ pub(crate) struct Found {
 }
 
 /// What is found at node `n`, which is this one, where `numbers` are those of the variables before it. It fails only with
-/// `Memory`. The variables are searched only where the table had the term before.
+/// `Memory`. A variable is looked for only where the table had the term before.
 pub(crate) fn find(
-    table: &mut TermTable,
-    numbers: &[Option<usize>],
+    table: &mut KeyTable<TermKey>,
+    numbers: &mut Numbers,
     root: usize,
     n: usize,
     node: &Node,
 ) -> Result<Found, Memory>
-    requires { AllBelow (length numbers.now) (node_vars node.now) }
-    ensures { IfOk result (Finds table.old table.new numbers.now root n node.now) }
+    requires { AllBelow (length numbers.old) (node_vars node.now) }
+    ensures finds { IfOk result (Finds table.old table.new numbers.old root n node.now) }
+    ensures same { numbers.new ≡ numbers.old }
 {
     match node {
         Node::Start(_) => Ok(NOTHING),
@@ -80,7 +83,7 @@ fn changes(holder: Option<usize>, variable: usize, number: usize) -> Found
 }
 
 /// What is found at node `n`, which calls a unit, whose result goes to this variable, where there is one.
-fn called(table: &mut TermTable, n: usize, into: Option<usize>) -> Result<Found, Memory>
+fn called(table: &mut KeyTable<TermKey>, n: usize, into: Option<usize>) -> Result<Found, Memory>
     ensures { IfOk result (λ found. (numbers : List (Option ℕ)) (root unit next : ℕ)
         (operands : List Operand) → AllBelow (length numbers) (into_vars into)
         → Finds table.old table.new numbers root n (Call into unit operands next) found) }
@@ -88,7 +91,7 @@ fn called(table: &mut TermTable, n: usize, into: Option<usize>) -> Result<Found,
     match into {
         None => Ok(NOTHING),
         Some(x) => {
-            let number = table.number(TermKey::Opaque(n))?;
+            let number = term_number(table, TermKey::Opaque(n))?;
             Ok(changes(None, x, number))
         }
     }
@@ -96,38 +99,41 @@ fn called(table: &mut TermTable, n: usize, into: Option<usize>) -> Result<Found,
 
 /// What is found at node `n`, which assigns this right side to this variable.
 fn assigned(
-    table: &mut TermTable,
-    numbers: &[Option<usize>],
+    table: &mut KeyTable<TermKey>,
+    numbers: &mut Numbers,
     root: usize,
     n: usize,
     x: usize,
     rhs: Rhs,
     next: usize,
 ) -> Result<Found, Memory>
-    requires within { x < length numbers.now }
-    requires below { AllBelow (length numbers.now) (rhs_vars rhs) }
-    ensures { IfOk result (Finds table.old table.new numbers.now root n (Assign x rhs next)) }
+    requires within { x < length numbers.old }
+    requires below { AllBelow (length numbers.old) (rhs_vars rhs) }
+    ensures finds { IfOk result
+        (Finds table.old table.new numbers.old root n (Assign x rhs next)) }
+    ensures same { numbers.new ≡ numbers.old }
 {
     let _ = next;
     if divides(&rhs) {
-        let number = table.number(TermKey::Opaque(n))?;
+        let number = term_number(table, TermKey::Opaque(n))?;
         Ok(changes(None, x, number))
     } else {
         let known = table.len();
-        let number = table.right_side(numbers, root, rhs)?;
-        table.differ();
+        let number = rhs_number(table, numbers.as_slice(), root, rhs)?;
+        let _distinct = table.len();
         Ok(changes(holder(numbers, rhs, number, known), x, number))
     }
 }
 
 /// The first variable whose number is that of the term of a right side, which does not divide; none for a plain one. Before
 /// it the table had so many terms, so a number that is not below has been given to no variable yet.
-fn holder(numbers: &[Option<usize>], rhs: Rhs, number: usize, known: usize) -> Option<usize>
+fn holder(numbers: &mut Numbers, rhs: Rhs, number: usize, known: usize) -> Option<usize>
     requires { divides rhs ≡ false }
-    ensures { (old new : List TermKey) (root : ℕ) (terms : Terms)
+    ensures holder { (old new : List TermKey) (root : ℕ) (terms : Terms)
         → length old ≡ known → Stay old new → AllDiffer new
-        → Represent old numbers.now root terms → Stands new number (rhs_term terms rhs)
-        → IsHolder (length numbers.now) terms (movable_rhs_term terms rhs) result }
+        → Represent old numbers.old root terms → Stands new number (rhs_term terms rhs)
+        → IsHolder (length numbers.old) terms (movable_rhs_term terms rhs) result }
+    ensures same { numbers.new ≡ numbers.old }
 {
     if number < known {
         known_holder(numbers, rhs, number)
@@ -137,31 +143,16 @@ fn holder(numbers: &[Option<usize>], rhs: Rhs, number: usize, known: usize) -> O
 }
 
 /// The same, where the table had the term.
-fn known_holder(numbers: &[Option<usize>], rhs: Rhs, number: usize) -> Option<usize>
+fn known_holder(numbers: &mut Numbers, rhs: Rhs, number: usize) -> Option<usize>
     requires { divides rhs ≡ false }
-    ensures { (table : List TermKey) (root : ℕ) (terms : Terms) → AllDiffer table
-        → Represent table numbers.now root terms → Stands table number (rhs_term terms rhs)
-        → IsHolder (length numbers.now) terms (movable_rhs_term terms rhs) result }
+    ensures holder { (table : List TermKey) (root : ℕ) (terms : Terms) → AllDiffer table
+        → Represent table numbers.old root terms → Stands table number (rhs_term terms rhs)
+        → IsHolder (length numbers.old) terms (movable_rhs_term terms rhs) result }
+    ensures same { numbers.new ≡ numbers.old }
 {
     match rhs {
         Rhs::Plain(_) => None,
-        Rhs::Unary(_, _) => first_with(numbers, number),
-        Rhs::Binary(_, _, _) => first_with(numbers, number),
+        Rhs::Unary(_, _) => numbers.first_with(number),
+        Rhs::Binary(_, _, _) => numbers.first_with(number),
     }
-}
-
-/// The first variable with this number.
-fn first_with(numbers: &[Option<usize>], number: usize) -> Option<usize>
-    ensures within { IfSome result (λ v. v < length numbers.now) }
-    ensures has { IfSome result (λ v. kept_number numbers.now v ≡ Some number) }
-    ensures first { IfSome result (λ v. (u : ℕ) → u < v → kept_number numbers.now u ≢ Some number) }
-    ensures none { IfNone result
-        ((u : ℕ) → u < length numbers.now → kept_number numbers.now u ≢ Some number) }
-{
-    for v in 0..numbers.len() {
-        if numbers[v] == Some(number) {
-            return Some(v);
-        }
-    }
-    None
 }

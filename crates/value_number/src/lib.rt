@@ -7,11 +7,15 @@
 //! In `specs/Terms.antt` and `specs/Roots.antt` stands what the term of a variable before a node is: a tree of operators,
 //! read off the nodes on the way from the last root. The code builds no tree: a term is a number in a hashed table, whose
 //! entries name the numbers of its operands (`terms.rt`), so a term that has doubled its size a thousand times costs a
-//! thousand entries. One walk over the graph keeps the number of each variable's term (`walk.rt`).
+//! thousand entries. One walk over the graph keeps the number of each variable's term (`walk.rt`), and for each number the
+//! variables that may have it, of which the first is at hand (`numbers.rt`, `candidates.rt`).
 #![tactic(auto)]
 
+mod candidates;
 mod finding;
+mod keys;
 mod numbering;
+mod numbers;
 mod terms;
 mod walk;
 

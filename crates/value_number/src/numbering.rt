@@ -1,7 +1,7 @@
 // The graph in which a variable is read in the place of a right side whose value it has.
 ghost use Rattle.std.specs.Prelude.{◌≡◌, length, IfOk};
 ghost use Rattle.flow_graph.specs.Graphs.{IsGraph};
-ghost use Rattle.flow_graph.specs.Passes.{GraphCalls, GraphCheaper, GraphDivides, GraphKeeps, GraphSame};
+ghost use Rattle.flow_graph.specs.Passes.{GraphDivides, GraphKeeps};
 ghost use Rattle.value_number.specs.Numbered.{AreNumbered, BecomeNumbered, IsNumbered, IsOnlyNumbered, KeepsEdges, numbered_node};
 
 use crate::walk::holders;
@@ -22,22 +22,18 @@ pub fn number(alloc: Global, graph: &Graph) -> Result<Graph, Memory>
 
     // there is no other such graph
     ensures only { IfOk result (IsOnlyNumbered graph.now) }
-    ensures same { IfOk result (GraphSame graph.now) }
-    ensures cheaper { IfOk result (GraphCheaper graph.now) }
+
+    // it has the name of the graph, does the same, evaluates no more operators, and makes no other calls
     ensures keeps { IfOk result (GraphKeeps graph.now) }
 
     // each dividing assignment stays
     ensures divides { IfOk result (GraphDivides graph.now) }
 
-    // it makes no calls but those of the graph
-    ensures calls { IfOk result (GraphCalls graph.now) }
-
     // each node has the successors that it had, and a split graph stays split
     ensures edges { IfOk result (KeepsEdges graph.now) }
 {
     let nodes = numbered(alloc, graph)?;
-    let extra = Vec::new(alloc);
-    let numbered = graph.with_nodes(alloc, extra, nodes)?;
+    let numbered = graph.with_nodes(alloc, nodes)?;
     Ok(numbered)
 }
 

@@ -5,11 +5,13 @@ ghost use Rattle.flow_graph.specs.Edges.{edges_of};
 ghost use Rattle.flow_graph.specs.Graphs.{node_succs};
 ghost use Rattle.value_number.specs.declared.walk.Step.TheVariants.{Visit};
 ghost use Rattle.value_number.specs.Roots.{is_root};
-ghost use Rattle.value_number.specs.Walks.{AreHolders, AreRoots, ChangeWithin, VisitRoots, GoesOver, changed_numbers, listed_after, steps_after, undoing, weight_left, with_root};
+ghost use Rattle.value_number.specs.Walks.{AreHolders, AreRoots, ChangeWithin, VisitRoots, GoesOver, changed_numbers, listed_after, steps_after, undoing, weight_left, where_any, with_root};
 
 use crate::finding::{Change, find};
-use crate::terms::TermTable;
+use crate::numbers::Numbers;
+use crate::terms::TermKey;
 use flow_graph::{Edges, Graph};
+use key_table::KeyTable;
 use mir_base::Memory;
 use std::alloc::Global;
 
@@ -26,9 +28,9 @@ pub(crate) enum Step {
 #[derive(Drop)]
 pub(crate) struct Walk {
     /// The terms so far.
-    pub(crate) table: TermTable,
+    pub(crate) table: KeyTable<TermKey>,
     /// The number of each variable's term at the node at hand; none where it is the variable's leaf of the root.
-    pub(crate) numbers: Vec<Option<usize>>,
+    pub(crate) numbers: Numbers,
     /// Which nodes have been visited, or are to be.
     pub(crate) listed: Vec<bool>,
     /// What is still to be done.
@@ -38,8 +40,7 @@ pub(crate) struct Walk {
 }
 
 /// For each node the first variable that has the term of its movable right side before it, where there is one. The time is
-/// linear in nodes and edges, but for a search through the variables at each movable right side whose term has come before.
-/// It fails only with `Memory`.
+/// linear in nodes and edges, but for a logarithm where variables that had a term lose it. It fails only with `Memory`.
 pub(crate) fn holders(alloc: Global, graph: &Graph) -> Result<Vec<Option<usize>>, Memory>
     ensures { IfOk result (λ holders. AreHolders graph.now holders.items) }
 {
@@ -69,16 +70,16 @@ fn unnumbered(
     steps: Vec<Step>,
 ) -> Result<Walk, Memory>
     ensures numbers { IfOk result (λ walk.
-        walk.numbers.items ≡ replicate (length graph.now.vars) None) }
+        walk.numbers ≡ replicate (length graph.now.vars) None) }
     ensures holders { IfOk result (λ walk.
         walk.holders.items ≡ replicate (length graph.now.nodes) None) }
     ensures listed { IfOk result (λ walk. walk.listed.items ≡ listed.items) }
     ensures steps { IfOk result (λ walk. walk.steps.items ≡ steps.items) }
 {
-    let numbers = vec![in alloc; None; graph.vars().len()]?;
+    let numbers = Numbers::none(alloc, graph.vars().len())?;
     let holders = vec![in alloc; None; graph.len()]?;
     Ok(Walk {
-        table: TermTable::new(alloc),
+        table: KeyTable::new(alloc),
         numbers,
         listed,
         steps,
@@ -141,7 +142,7 @@ impl Walk {
         match step {
             Step::Visit(node, root) => self.visit(graph, node, root),
             Step::Restore(variable, number) => {
-                put(&mut self.numbers, variable, number);
+                self.numbers.set(variable, number)?;
                 Ok(())
             }
         }
@@ -157,7 +158,7 @@ impl Walk {
     {
         let _nodes = graph.nodes();
         let node = graph.node(n);
-        let found = find(&mut self.table, self.numbers.as_slice(), root, n, node)?;
+        let found = find(&mut self.table, &mut self.numbers, root, n, node)?;
         put(&mut self.holders, n, found.holder);
         change(&mut self.numbers, &mut self.steps, found.change)?;
         list(
@@ -178,25 +179,37 @@ fn put(list: &mut Vec<Option<usize>>, index: usize, value: Option<usize>)
     list[index] = value;
 }
 
-/// Changes the number of a variable, where there is a change, and lists the step that undoes it.
+/// Changes the number of a variable, where there is a change, and lists the step that undoes it, where steps are left.
 fn change(
-    numbers: &mut Vec<Option<usize>>,
+    numbers: &mut Numbers,
     steps: &mut Vec<Step>,
     change: Option<Change>,
 ) -> Result<(), Memory>
-    requires { ChangeWithin (length numbers.old.items) change }
-    ensures numbers { OnOk result (numbers.new.items ≡ changed_numbers numbers.old.items change) }
+    requires { ChangeWithin (length numbers.old) change }
+    ensures numbers { OnOk result (numbers.new ≡ changed_numbers numbers.old change) }
     ensures steps { OnOk result
-        (steps.new.items ≡ steps.old.items ++ undoing numbers.old.items change) }
+        (steps.new.items ≡ steps.old.items ++ undoing steps.old.items numbers.old change) }
 {
     match change {
         None => Ok(()),
         Some(change) => {
-            steps.push(Step::Restore(change.variable, numbers[change.variable]))?;
-            put(numbers, change.variable, Some(change.number));
+            let old = numbers.as_slice()[change.variable];
+            list_where_any(steps, Step::Restore(change.variable, old))?;
+            numbers.set(change.variable, Some(change.number))?;
             Ok(())
         }
     }
+}
+
+/// Lists a step, where there are others.
+fn list_where_any(steps: &mut Vec<Step>, step: Step) -> Result<(), Memory>
+    ensures { OnOk result
+        (steps.new.items ≡ steps.old.items ++ where_any steps.old.items step) }
+{
+    if !steps.is_empty() {
+        steps.push(step)?;
+    }
+    Ok(())
 }
 
 /// Lists those of these successors that are not listed, to be visited under this root.

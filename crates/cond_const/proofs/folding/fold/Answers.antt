@@ -1,4 +1,4 @@
-use Rattle.std.proofs.Common.{ap, append-nil, ◌++◌, ◌∙◌, sym, subst}
+use Rattle.std.proofs.Common.{sym, subst}
 use Rattle.flow_graph.specs.Calls.{NodesCall}
 use Rattle.flow_graph.specs.Graphs.{CanMake}
 use Rattle.flow_graph.specs.Kept.{IsMade}
@@ -18,21 +18,19 @@ pub with_nodes-requires : goal.with_nodes-requires
 with_nodes-requires c =
     let graph = c.args.graph.now in
     let are = c.in_ok-nodes.ensures.are in
-    let can = subst (CanMake graph.vars graph.received) (sym are.are) (folded_can_make are.states graph.nodes graph.vars graph.received c.folded.ensures.graph.can) in
-    subst (λ l. CanMake (graph.vars ++ l) graph.received c.in_ok-nodes.nodes.items) (sym c.new-extra.ensures.items) (subst (λ vars. CanMake vars graph.received c.in_ok-nodes.nodes.items) (sym (append-nil graph.vars)) can)
+    subst (CanMake graph.vars graph.received) (sym are.are) (folded_can_make are.states graph.nodes graph.vars graph.received c.folded.ensures.graph.can)
 
 -- the answer is the exact graph
 exact : (c : In_ok-folded) → IsFolded c.args.graph.now c.in_ok-folded.folded
 exact c =
     let graph = c.args.graph.now in
     let are = c.in_ok-nodes.ensures.are in
-    let made = subst (λ vars. IsMade graph.name vars graph.received c.in_ok-nodes.nodes.items c.in_ok-folded.folded) (ap (λ l. graph.vars ++ l) c.new-extra.ensures.items ∙ append-nil graph.vars) c.in_ok-folded.ensures.made in
-    let made' = subst (λ l. IsMade graph.name graph.vars graph.received l c.in_ok-folded.folded) are.are made in
+    let made = subst (λ l. IsMade graph.name graph.vars graph.received l c.in_ok-folded.folded) are.are c.in_ok-folded.ensures.made in
     record {
       states = are.states;
       least = are.least;
-      made = made';
-      kept = exactly_kept graph c.in_ok-folded.folded are.states (λ m slot s edge. (c.folded.ensures.graph.can.succs m slot s edge).1) are.least made';
+      made = made;
+      kept = exactly_kept graph c.in_ok-folded.folded are.states (λ m slot s edge. (c.folded.ensures.graph.can.succs m slot s edge).1) are.least made;
     }
 
 -- it keeps the graph
@@ -52,17 +50,8 @@ returns-clause-folded c = exact c
 pub returns-clause-only : goal.returns-clause-only
 returns-clause-only c = λ other is. folded_is_one c.args.graph.now other c.in_ok-folded.folded is (exact c)
 
-pub returns-clause-same : goal.returns-clause-same
-returns-clause-same c = let k = kept c in k.same
-
-pub returns-clause-cheaper : goal.returns-clause-cheaper
-returns-clause-cheaper c = let k = kept c in k.cheaper
-
 pub returns-clause-keeps : goal.returns-clause-keeps
 returns-clause-keeps c = kept c
 
 pub returns-clause-divides : goal.returns-clause-divides
 returns-clause-divides c = keeps_divisions c.args.graph.now c.in_ok-folded.folded (exact c)
-
-pub returns-clause-calls : goal.returns-clause-calls
-returns-clause-calls c = let k = kept c in k.calls

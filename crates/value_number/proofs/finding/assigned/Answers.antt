@@ -1,22 +1,24 @@
 use Rattle.std.proofs.Common.{◌≡◌, ◌∙◌, true, false, None, sym, subst, if◌then◌else◌, length}
 use Rattle.mir_base.specs.Expressions.{divides}
-use Rattle.value_number.specs.Terms.{Opaque, rhs_term}
-use Rattle.value_number.specs.Table.{Stands}
+use Rattle.value_number.specs.Terms.{Terms, Opaque, rhs_term}
+use Rattle.value_number.specs.Table.{Represent, Stands}
 use Rattle.value_number.proofs.Holders.{dividing_unheld, finds_assigned}
 use Rattle.value_number.proofs.finding.assigned.Goals as goal
 
-pub returns-in_ok-number : goal.returns-in_ok-number
-returns-in_ok-number c =
+pub returns-in_ok-number-clause-finds : goal.returns-in_ok-number-clause-finds
+returns-in_ok-number-clause-finds c =
     let divided : divides c.args.rhs ≡ true = sym c.divides.ensures ∙ c.if-divides.true in
-    finds_assigned c.args.table.now c.number.new.self c.args.numbers.now c.args.root c.args.n c.args.x c.args.next c.in_ok-number.number c.args.rhs None c.changes.result c.in_ok-number.ensures.stay c.requires.within
-    (λ terms represent. subst (λ b. Stands c.number.new.self c.in_ok-number.number (if b then Opaque c.args.n else rhs_term terms c.args.rhs)) (sym divided) c.in_ok-number.ensures.here)
+    finds_assigned c.args.table.now c.term_number.new.table c.args.numbers.now c.args.root c.args.n c.args.x c.args.next c.in_ok-number.number c.args.rhs None c.changes.result c.in_ok-number.ensures.stay c.requires.within
+    (λ terms represent. subst (λ b. Stands c.term_number.new.table c.in_ok-number.number (if b then Opaque c.args.n else rhs_term terms c.args.rhs)) (sym divided) c.in_ok-number.ensures.here)
     (λ terms represent. dividing_unheld (length c.args.numbers.now) terms c.args.rhs divided)
     c.changes.ensures.holder c.changes.ensures.change
 
-pub returns-in_ok-number-2 : goal.returns-in_ok-number-2
-returns-in_ok-number-2 c =
+pub returns-in_ok-number-2-clause-finds : goal.returns-in_ok-number-2-clause-finds
+returns-in_ok-number-2-clause-finds c =
     let undivided : divides c.args.rhs ≡ false = sym c.divides.ensures ∙ c.if-divides.false in
-    finds_assigned c.args.table.now c.right_side.new.self c.args.numbers.now c.args.root c.args.n c.args.x c.args.next c.in_ok-number-2.number c.args.rhs c.holder.result c.changes-else-divides.result c.in_ok-number-2.ensures.stay c.requires.within
-    (λ terms represent. subst (λ b. Stands c.right_side.new.self c.in_ok-number-2.number (if b then Opaque c.args.n else rhs_term terms c.args.rhs)) (sym undivided) (c.in_ok-number-2.ensures.stands terms represent))
-    (λ terms represent. c.holder.ensures c.args.table.now c.right_side.new.self c.args.root terms (sym c.len-known.ensures) c.in_ok-number-2.ensures.stay c.differ.ensures represent (c.in_ok-number-2.ensures.stands terms represent))
+    let stands : (terms : Terms) → Represent c.args.table.now c.args.numbers.now c.args.root terms → Stands c.rhs_number.new.table c.in_ok-number-2.number (rhs_term terms c.args.rhs) =
+    λ terms represent. c.in_ok-number-2.ensures.stands terms (subst (λ l. Represent c.args.table.now l c.args.root terms) (sym c.as_slice.ensures) represent) in
+    finds_assigned c.args.table.now c.rhs_number.new.table c.args.numbers.now c.args.root c.args.n c.args.x c.args.next c.in_ok-number-2.number c.args.rhs c.holder.result c.changes-else-divides.result c.in_ok-number-2.ensures.stay c.requires.within
+    (λ terms represent. subst (λ b. Stands c.rhs_number.new.table c.in_ok-number-2.number (if b then Opaque c.args.n else rhs_term terms c.args.rhs)) (sym undivided) (stands terms represent))
+    (λ terms represent. c.holder.ensures.holder c.args.table.now c.rhs_number.new.table c.args.root terms (sym c.len-known.ensures.len) c.in_ok-number-2.ensures.stay c.len-distinct.ensures.differ represent (stands terms represent))
     c.changes-else-divides.ensures.holder c.changes-else-divides.ensures.change

@@ -1,5 +1,4 @@
-use Rattle.std.proofs.Common.{◌++◌, ◌∙◌, ap, sym, subst, length, append-nil}
-use Rattle.flow_graph.specs.Graphs.{CanMake}
+use Rattle.std.proofs.Common.{sym, subst, length}
 use Rattle.flow_graph.specs.Keeps.{AsGraph, Keeps}
 use Rattle.flow_graph.specs.KeepsLaws.{made_keeps}
 use Rattle.value_number.specs.Numbered.{AreNumbered, IsNumbered}
@@ -12,9 +11,7 @@ use Rattle.value_number.proofs.numbering.number.Goals.{In_ok-numbered}
 pub with_nodes-requires : goal.with_nodes-requires
 with_nodes-requires c =
     let graph = c.args.graph.now in
-    let nodes = c.in_ok-nodes.nodes.items in
-    let can = numbered_can_make graph.vars graph.received graph.nodes nodes c.in_ok-nodes.ensures.graph.can c.in_ok-nodes.ensures.are in
-    subst (λ l. CanMake (graph.vars ++ l) graph.received nodes) (sym c.new-extra.ensures.items) (subst (λ vars. CanMake vars graph.received nodes) (sym (append-nil graph.vars)) can)
+    numbered_can_make graph.vars graph.received graph.nodes c.in_ok-nodes.nodes.items c.in_ok-nodes.ensures.graph.can c.in_ok-nodes.ensures.are
 
 -- the answer is the exact graph
 exact : (c : In_ok-numbered) → IsNumbered c.args.graph.now c.in_ok-numbered.numbered
@@ -25,7 +22,7 @@ exact c =
     let whole = c.in_ok-numbered.ensures.whole (numbered_reached (length graph.vars) graph.nodes c.in_ok-nodes.nodes.items are c.in_ok-nodes.ensures.graph.reached) in
     record {
       name_is = made.name_is;
-      vars_are = made.vars_are ∙ ap (λ l. graph.vars ++ l) c.new-extra.ensures.items ∙ append-nil graph.vars;
+      vars_are = made.vars_are;
       received_are = made.received_are;
       nodes_are = subst (AreNumbered (length graph.vars) graph.nodes) (sym whole) are;
     }
@@ -46,20 +43,11 @@ returns-clause-numbered c = exact c
 pub returns-clause-only : goal.returns-clause-only
 returns-clause-only c = λ other is. numbered_is_one c.args.graph.now other c.in_ok-numbered.numbered is (exact c)
 
-pub returns-clause-same : goal.returns-clause-same
-returns-clause-same c = let k = kept c in k.same
-
-pub returns-clause-cheaper : goal.returns-clause-cheaper
-returns-clause-cheaper c = let k = kept c in k.cheaper
-
 pub returns-clause-keeps : goal.returns-clause-keeps
 returns-clause-keeps c = kept c
 
 pub returns-clause-divides : goal.returns-clause-divides
 returns-clause-divides c = let e = exact c in numbered_stay (length c.args.graph.now.vars) c.args.graph.now.nodes c.in_ok-numbered.numbered.nodes e.nodes_are
-
-pub returns-clause-calls : goal.returns-clause-calls
-returns-clause-calls c = let k = kept c in k.calls
 
 pub returns-clause-edges : goal.returns-clause-edges
 returns-clause-edges c = numbered_edges c.args.graph.now c.in_ok-numbered.numbered (exact c)

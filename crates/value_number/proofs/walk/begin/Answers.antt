@@ -10,4 +10,4 @@ returns c =
     let e = c.in_ok-walk.ensures in
     let are = subst (AreRoots graph.nodes) (sym e.listed) c.in_ok-listed.ensures in
     let visits = subst (VisitRoots walk.listed.items) (sym e.steps) (subst (λ l. VisitRoots l c.in_ok-steps.steps.items) (c.as_slice.ensures.value ∙ sym e.listed) c.in_ok-steps.ensures) in
-    begins graph walk.table walk.numbers.items walk.holders.items walk.listed.items walk.steps.items e.numbers e.holders are visits
+    begins graph walk.table walk.numbers walk.holders.items walk.listed.items walk.steps.items e.numbers e.holders are visits

@@ -10,5 +10,5 @@ returns c =
     let graph = c.args.graph.now in
     let walk = c.loop-step.walk in
     let none : walk.steps.items ≡ [] = grind (arith, common_steps) in
-    all_visited graph (subst (λ l. IsGraph graph.vars graph.received l) c.nodes-nodes.ensures.value c.nodes-nodes.ensures.graph) walk.table walk.numbers.items walk.listed.items walk.holders.items
-    (subst (λ l. KeepsTerms graph walk.table walk.numbers.items walk.listed.items l walk.holders.items None) none c.loop-step.invariant)
+    all_visited graph (subst (λ l. IsGraph graph.vars graph.received l) c.nodes-nodes.ensures.value c.nodes-nodes.ensures.graph) walk.table walk.numbers walk.listed.items walk.holders.items
+    (subst (λ l. KeepsTerms graph walk.table walk.numbers walk.listed.items l walk.holders.items None) none c.loop-step.invariant)

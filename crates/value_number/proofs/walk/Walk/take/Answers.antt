@@ -4,21 +4,21 @@ use Rattle.value_number.proofs.Walks.{restore_walks}
 use Rattle.value_number.proofs.Weights.{restore_light}
 use Rattle.value_number.proofs.walk.Walk.take.Goals as goal
 
-pub put-requires : goal.put-requires
-put-requires c =
+pub set-requires : goal.set-requires
+set-requires c =
     let walk = c.args.self.now in
-    (restore_walks c.args.graph.now walk.table walk.numbers.items walk.listed.items walk.steps.items walk.holders.items c.in-Restore.variable c.in-Restore.number
-    (subst (λ s. KeepsTerms c.args.graph.now walk.table walk.numbers.items walk.listed.items (walk.steps.items ++ s ∷ []) walk.holders.items None) c.in-Restore.is c.requires.walks)).0
+    (restore_walks c.args.graph.now walk.table walk.numbers walk.listed.items walk.steps.items walk.holders.items c.in-Restore.variable c.in-Restore.number
+    (subst (λ s. KeepsTerms c.args.graph.now walk.table walk.numbers walk.listed.items (walk.steps.items ++ s ∷ []) walk.holders.items None) c.in-Restore.is c.requires.walks)).0
 
-pub returns-in-Restore-clause-walks : goal.returns-in-Restore-clause-walks
-returns-in-Restore-clause-walks c =
+pub returns-in_ok-set-in-Restore-clause-walks : goal.returns-in_ok-set-in-Restore-clause-walks
+returns-in_ok-set-in-Restore-clause-walks c =
     let walk = c.args.self.now in
     let graph = c.args.graph.now in
-    rw c.put.ensures
-    (restore_walks graph walk.table walk.numbers.items walk.listed.items walk.steps.items walk.holders.items c.in-Restore.variable c.in-Restore.number
-    (subst (λ s. KeepsTerms graph walk.table walk.numbers.items walk.listed.items (walk.steps.items ++ s ∷ []) walk.holders.items None) c.in-Restore.is c.requires.walks)).1
+    rw c.in_ok-set-in-Restore.ensures
+    (restore_walks graph walk.table walk.numbers walk.listed.items walk.steps.items walk.holders.items c.in-Restore.variable c.in-Restore.number
+    (subst (λ s. KeepsTerms graph walk.table walk.numbers walk.listed.items (walk.steps.items ++ s ∷ []) walk.holders.items None) c.in-Restore.is c.requires.walks)).1
 
-pub returns-in-Restore-clause-lighter : goal.returns-in-Restore-clause-lighter
-returns-in-Restore-clause-lighter c =
+pub returns-in_ok-set-in-Restore-clause-lighter : goal.returns-in_ok-set-in-Restore-clause-lighter
+returns-in_ok-set-in-Restore-clause-lighter c =
     let walk = c.args.self.now in
     rw c.in-Restore.is (restore_light c.in-Restore.variable c.in-Restore.number walk.listed.items walk.steps.items)
