@@ -14,6 +14,7 @@ use Rattle.flow_graph.specs.BoundLaws.{edge_within}
 use Rattle.flow_graph.specs.Edges.{IsSplit}
 use Rattle.flow_graph.specs.Graphs.{GraphShape, IsGraph, AllWithin, assigns, node_reads, succs_of}
 use Rattle.flow_graph.specs.Insertions.{Insertion, Kept, Removed}
+use Rattle.flow_graph.specs.JoinLaws.{joins, one_or_skips, skip_leads}
 use Rattle.flow_graph.specs.Numbering.{is_in}
 use Rattle.flow_graph.specs.PathLaws.{reached_trace}
 use Rattle.flow_graph.specs.Paths.{HasEdge, Trace, from_start, goes_on}
@@ -21,7 +22,6 @@ use Rattle.flow_graph.specs.Sinking.{put_for, AllOthers, AllPut, AreApart, Leave
 use Rattle.sink_dead.specs.Accesses.{blocks_at, blocks_pattern, is_calm, is_occurrence, occurs_at}
 use Rattle.sink_dead.specs.Delaying.{IsDelayedTo, IsInsertedAt}
 use Rattle.sink_dead.specs.SunkGraphs.{AreInsertions, RisesFrom, emptied, sinking}
-use Rattle.sink_dead.proofs.Joins.{joins, skip_leads}
 use Rattle.sink_dead.proofs.Occurring.{calm_is, is_occurrence_of, lets_pass, neither, occurrence_blocks, occurrence_calm, occurrence_is, reading_blocks}
 use Rattle.sink_dead.proofs.Ordered.{EachPut, each_put}
 use Rattle.sink_dead.proofs.Waiting.{Waits, one_waits, waits_apart, waits_calm}
@@ -41,7 +41,7 @@ differ_test : (x y : ℕ) → (x ≡ y → ⊥) → nat_eq x y ≡ false
 differ_test x y differ = ne_eqb x y differ
 
 -- a path with no node before its last is that of Start
-at_start : (nodes : List Node) (s : ℕ) → Trace nodes s [] → s ≡ 0
+pub at_start : (nodes : List Node) (s : ℕ) → Trace nodes s [] → s ≡ 0
 at_start nodes s from_start = refl
 
 module _ (graph : GraphShape) (is_graph : IsGraph graph.vars graph.received graph.nodes) where
@@ -59,7 +59,7 @@ module _ (graph : GraphShape) (is_graph : IsGraph graph.vars graph.received grap
   target_within n s edge = within n edge.0 s edge.1
 
   -- no edge leads to Start
-  start_unentered : (n : ℕ) → HasEdge graph.nodes n 0 → ⊥
+  pub start_unentered : (n : ℕ) → HasEdge graph.nodes n 0 → ⊥
   start_unentered n edge = let above = (is_graph.can.succs n edge.0 0 edge.1).0 in omega (arith, above)
 
   -- of one variable one pattern is delayed at a node
@@ -121,6 +121,26 @@ module _ (graph : GraphShape) (is_graph : IsGraph graph.vars graph.received grap
       | inl blocked ↦ true≢false (sym blocked ∙ free)
       | inr lost ↦ lost.2 (delayed_each n s lost.0 x t edge lost.1 free d on)
     ]
+
+    -- where a pattern passes a node and is yet inserted before it, the node is a Skip: of a node with other predecessors too all
+    -- are Skips, and a node with one alone gets what passes it
+    pub passed_at_skip : (n x : ℕ) (t : Rhs) → IsInsertedAt graph x t n → blocks_at x t graph n ≡ false → (next : ℕ) × (slice_get graph.nodes n ≡ Some (Skip next))
+    passed_at_skip n x t put free = elim put.1 [
+      | inl blocked ↦ absurd (true≢false (sym blocked ∙ free))
+      | inr lost ↦ by lost.0 lost.1 lost.2
+    ]
+      where
+        by : (s : ℕ) → HasEdge graph.nodes n s → (IsDelayedTo graph x t s → ⊥) → (next : ℕ) × (slice_get graph.nodes n ≡ Some (Skip next))
+        by s edge stays = elim (one_or_skips graph.nodes within split s) [
+          | inl one ↦ absurd (stays (passes s edge (λ k from. one n k edge from)))
+          | inr skips ↦ (s, skips n edge)
+        ]
+          where
+            passes : (s : ℕ) → HasEdge graph.nodes n s → ((k : ℕ) → HasEdge graph.nodes k s → n ≡ k) → IsDelayedTo graph x t s
+            passes s edge one [] trace = absurd (start_unentered n (subst (HasEdge graph.nodes n) (at_start graph.nodes s trace) edge))
+            passes s edge one (k ∷ before) (goes_on k0 s0 before0 trace from) =
+                let same = one k from in
+                inr (subst (λ m. blocks_at x t graph m ≡ false) same free, put.0 before (subst (λ m. Trace graph.nodes m before) (sym same) trace))
 
 -- ---- the tables
 

@@ -1,5 +1,5 @@
 -- The patterns of the nodes as far as a loop has come.
-use Rattle.std.proofs.Common.{◌≡◌, inl, inr, ℕ, zero, suc, ◌+◌, ◌<◌, Bool, true, false, cond, List, [], ◌∷◌, ◌++◌, get_or, slice_get, position, Contains, Option, None, Some, refl, sym, ap, ◌∙◌, subst, true≢false, arith}
+use Rattle.std.proofs.Common.{◌≡◌, ◌⊎◌, inl, inr, ℕ, zero, suc, ◌+◌, ◌<◌, Bool, true, false, cond, List, [], ◌∷◌, ◌++◌, get_or, slice_get, position, Contains, Option, None, Some, refl, sym, ap, ◌∙◌, subst, true≢false, arith}
 use Rattle.std.specs.List.{AllByRecursion, IsDistinct, list_any}
 use Rattle.std.proofs.lemmas.Bool.{cases_eq}
 use Rattle.std.proofs.lemmas.List.Elements.{Contains-append_left}
@@ -16,8 +16,8 @@ use Rattle.flow_graph.specs.Graphs.{node_vars}
 use Rattle.flow_graph.specs.ListLaws.{get_push}
 use Rattle.sink_dead.specs.declared.patterns.Pattern.{Pattern}
 use Rattle.flow_graph.specs.Graphs.{GraphShape}
-use Rattle.sink_dead.specs.Accesses.{blocks_pattern}
-use Rattle.sink_dead.specs.Tables.{AreCalmBelow, calm_pattern, moving_of, passing, pattern_of}
+use Rattle.sink_dead.specs.Moving.{IsStopped, MovesFrom}
+use Rattle.sink_dead.specs.Tables.{AreCalmBelow, pattern_of}
 use Rattle.sink_dead.proofs.PatternEqual.{equal, equal_same, equal_self}
 
 -- ---- found
@@ -67,15 +67,16 @@ still_there keys (Some p) q there = by (list_any (equal p) keys)
     by true = there
     by false = Contains-append_left keys (p ∷ []) q there
 
--- the moving patterns of these nodes, up to a number, are among the keys, which do not divide and are over the variables
+-- each pattern of these nodes, up to a number, that is not stopped after its node is among the keys, which do not divide and are
+-- over the variables
 pub record AreFound (graph : GraphShape) (vars : ℕ) (nodes : List Node) (i : ℕ) (keys : List Pattern) : Type 0 where
-  pub all : (n : ℕ) (node : Node) (p : Pattern) → n < i → slice_get nodes n ≡ Some node → moving_of graph node ≡ Some p → Contains keys p
+  pub all : (n next : ℕ) (p : Pattern) → n < i → slice_get nodes n ≡ Some (Assign p.var p.rhs next) → pattern_of (Assign p.var p.rhs next) ≡ Some p → Contains keys p ⊎ IsStopped graph p next
   pub each : AreCalmBelow vars keys
 
 -- of no nodes
 pub found_none : (graph : GraphShape) (vars : ℕ) (nodes : List Node) (keys : List Pattern) → keys ≡ [] → AreFound graph vars nodes 0 keys
 found_none graph vars nodes keys is = record {
-  all = λ n node p lt. absurd (omega (arith, lt));
+  all = λ n next p lt. absurd (omega (arith, lt));
   each = λ k p at. (let none : slice_get [] k ≡ Some p = sym (ap (λ l. slice_get l k) is) ∙ at in cc);
 }
 
@@ -95,43 +96,30 @@ node_calm vars (Call into unit operands next) p below h = cc
 node_calm vars (Test test taken other) p below h = cc
 node_calm vars (Return a) p below h = cc
 
--- a pattern that moves on occurs
-passing_occurs : (graph : GraphShape) (next : Option Node) (o : Option Pattern) (p : Pattern) → passing graph next o ≡ Some p → o ≡ Some p
-passing_occurs graph next None p h = cc
-passing_occurs graph next (Some q) p h = by (blocks_pattern graph q.var q.rhs next) h
-  where
-    by : (b : Bool) → cond b None (Some q) ≡ Some p → Some q ≡ Some p
-    by true h' = cc
-    by false h' = h'
-
--- at its node
-moving_occurs : (graph : GraphShape) (node : Node) (p : Pattern) → moving_of graph node ≡ Some p → pattern_of node ≡ Some p
-moving_occurs graph (Start next) p h = cc
-moving_occurs graph (Skip next) p h = cc
-moving_occurs graph (Assign x rhs next) p h = passing_occurs graph (slice_get graph.nodes next) (calm_pattern x rhs) p h
-moving_occurs graph (Print a next) p h = cc
-moving_occurs graph (Call into unit operands next) p h = cc
-moving_occurs graph (Test test taken other) p h = cc
-moving_occurs graph (Return a) p h = cc
-
 -- of one node more
 pub found_more : (graph : GraphShape) (vars : ℕ) (nodes : List Node) (i : ℕ) (node : Node) (found : Option Pattern) (keys new : List Pattern)
-    → slice_get nodes i ≡ Some node → AllBelow vars (node_vars node) → found ≡ moving_of graph node → new ≡ put_in keys found
+    → slice_get nodes i ≡ Some node → AllBelow vars (node_vars node) → MovesFrom graph node found → new ≡ put_in keys found
     → AreFound graph vars nodes i keys → AreFound graph vars nodes (i + 1) new
-found_more graph vars nodes i node found keys new at below f put before = record {
-  all = λ n other p lt there is. elim (cases_eq n i) [
+found_more graph vars nodes i node found keys new at below moves put before = record {
+  all = λ n next p lt there is. elim (cases_eq n i) [
     | inl same ↦
-        let one : node ≡ other = same_Some node other (sym at ∙ ap (slice_get nodes) (sym same) ∙ there) in
-        subst (λ l. Contains l p) (sym put) (put_there (f ∙ ap (moving_of graph) one ∙ is))
-    | inr differ ↦ subst (λ l. Contains l p) (sym put) (still_there keys found p (before.all n other p (omega (arith, lt, differ)) there is))
+        let one : node ≡ Assign p.var p.rhs next = same_Some node (Assign p.var p.rhs next) (sym at ∙ ap (slice_get nodes) (sym same) ∙ there) in
+        subst (λ l. Contains l p ⊎ IsStopped graph p next) (sym put) (here found p next one (ap pattern_of one ∙ is) moves)
+    | inr differ ↦ elim (before.all n next p (omega (arith, lt, differ)) there is) [
+      | inl held ↦ inl (subst (λ l. Contains l p) (sym put) (still_there keys found p held))
+      | inr stopped ↦ inr stopped
+    ]
   ];
-  each = subst (AreCalmBelow vars) (sym put) (calm found f);
+  each = subst (AreCalmBelow vars) (sym put) (calm found moves);
 }
   where
-    put_there : {p : Pattern} → found ≡ Some p → Contains (put_in keys found) p
-    put_there {p = p} e = subst (λ o. Contains (put_in keys o) p) (sym e) (Contains-insert_key equal equal_same keys p)
+    here : (o : Option Pattern) (p : Pattern) (next : ℕ) → node ≡ Assign p.var p.rhs next → pattern_of node ≡ Some p → MovesFrom graph node o → Contains (put_in keys o) p ⊎ IsStopped graph p next
+    here None p next one is stops = inr (stops p next one is)
+    here (Some q) p next one is moves =
+        let same : q ≡ p = same_Some q p (sym moves ∙ is) in
+        inl (subst (Contains (insert_key equal keys q)) same (Contains-insert_key equal equal_same keys q))
 
-    calm : (o : Option Pattern) → o ≡ moving_of graph node → AreCalmBelow vars (put_in keys o)
+    calm : (o : Option Pattern) → MovesFrom graph node o → AreCalmBelow vars (put_in keys o)
     calm None e = before.each
     calm (Some p) e = by (list_any (equal p) keys)
       where
@@ -139,5 +127,5 @@ found_more graph vars nodes i node found keys new at below f put before = record
         by true = before.each
         by false = λ k q there. elim (get_push keys p q k there) [
           | inl old ↦ before.each k q old
-          | inr new_one ↦ subst (λ (r : Pattern). (divides r.rhs ≡ false) × ((r.var < vars) × AllBelow vars (rhs_vars r.rhs))) new_one.1 (node_calm vars node p below (moving_occurs graph node p (sym e)))
+          | inr new_one ↦ subst (λ (r : Pattern). (divides r.rhs ≡ false) × ((r.var < vars) × AllBelow vars (rhs_vars r.rhs))) new_one.1 (node_calm vars node p below e)
         ]

@@ -1,7 +1,6 @@
 pub mod SameRhs
 pub mod Occurring
 pub mod Waiting
-pub mod Joins
 pub mod Ordered
 pub mod Delays
 pub mod Credit
@@ -13,15 +12,14 @@ pub mod SiteBits
 pub mod PatternEqual
 pub mod Found
 pub mod Emptied
-pub mod Says
 pub mod RowsTell
 pub mod BlockedLong
 pub mod PrunedMarks
 pub mod PrunedBy
-pub mod LayoutEqual
 pub mod LayoutLists
 pub mod PrunedPaths
 pub mod RoundsSoFar
 pub mod Merged
+pub mod Skipping
 pub mod Settles
 pub mod Noting

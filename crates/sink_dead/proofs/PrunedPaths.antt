@@ -3,7 +3,7 @@ use Rattle.std.proofs.Common.{◌≡◌, ◌≤◌, ◌+◌, ℕ, Bool, true, fa
 use Rattle.mir_base.specs.declared.instructions.Rhs.{Rhs}
 use Rattle.flow_graph.specs.declared.nodes.Node.{Node}
 use Rattle.flow_graph.specs.declared.nodes.Node.TheVariants.{Start, Skip, Assign, Print, Call, Test, Return}
-use Rattle.flow_graph.specs.Graphs.{GraphShape, IsGraph}
+use Rattle.flow_graph.specs.Graphs.{GraphShape, IsGraph, succs_at}
 use Rattle.flow_graph.specs.Insertions.{changed}
 use Rattle.flow_graph.specs.Paths.{IsFullPath, IsPath, is_return}
 use Rattle.flow_graph.specs.Sums.{count_sums, one_if, sum_on}
@@ -37,6 +37,22 @@ occurs_less x t gone (Some (Call into unit operands next)) = omega arith
 occurs_less x t gone (Some (Test test taken other)) = omega arith
 occurs_less x t gone (Some (Return a)) = omega arith
 
+-- a path of these nodes is one of those, where these are as many and have the same successors
+path_by : (these those : List Node) → length these ≡ length those → ((n : ℕ) → succs_at those n ≡ succs_at these n) → (path : List ℕ) → IsPath these path → IsPath those path
+path_by these those many succs [] is = absurd is
+path_by these those many succs (n ∷ []) is = omega (arith, is, many)
+path_by these those many succs (m ∷ n ∷ path) is = ((is.0.0, ap (λ l. slice_get l is.0.0) (succs m) ∙ is.0.1), path_by these those many succs (n ∷ path) is.1)
+
+-- and a full path is a full one, where besides the same of them are Returns
+full_by : (these those : List Node) → length these ≡ length those → ((n : ℕ) → succs_at those n ≡ succs_at these n) → ((n : ℕ) → is_return (slice_get those n) ≡ is_return (slice_get these n)) → (path : List ℕ) → IsFullPath these path → IsFullPath those path
+full_by these those many succs returns path full = record {
+  is_path = path_by these those many succs path full.is_path;
+  begins = full.begins;
+  last = full.last;
+  ends = full.ends;
+  returns = returns full.last ∙ full.returns;
+}
+
 module _ (graph pruned : GraphShape) (is_graph : IsGraph graph.vars graph.received graph.nodes) (p : IsPruned graph pruned) where
   node_is : (n : ℕ) → slice_get pruned.nodes n ≡ option_map (changed (removed_if (p.dead (0 + n)))) (slice_get graph.nodes n)
   node_is n = ap (λ (g : GraphShape). slice_get g.nodes n) p.is ∙ pruned_get p.dead graph.nodes 0 n
@@ -44,35 +60,18 @@ module _ (graph pruned : GraphShape) (is_graph : IsGraph graph.vars graph.receiv
   as_many : length pruned.nodes ≡ length graph.nodes
   as_many = ap (λ (g : GraphShape). length g.nodes) p.is ∙ pruned_length p.dead 0 graph.nodes
 
-  path_stays : (path : List ℕ) → IsPath graph.nodes path → IsPath pruned.nodes path
-  path_stays [] is = absurd is
-  path_stays (n ∷ []) is = omega (arith, is, as_many)
-  path_stays (m ∷ n ∷ path) is = ((is.0.0, ap (λ l. slice_get l is.0.0) (pruned_succs graph pruned is_graph p m) ∙ is.0.1), path_stays (n ∷ path) is.1)
+  same_succs : (n : ℕ) → succs_at pruned.nodes n ≡ succs_at graph.nodes n
+  same_succs n = pruned_succs graph pruned is_graph p n
 
-  -- and one of the pruned graph is one of the graph
-  path_stood : (path : List ℕ) → IsPath pruned.nodes path → IsPath graph.nodes path
-  path_stood [] is = absurd is
-  path_stood (n ∷ []) is = omega (arith, is, as_many)
-  path_stood (m ∷ n ∷ path) is = ((is.0.0, ap (λ l. slice_get l is.0.0) (sym (pruned_succs graph pruned is_graph p m)) ∙ is.0.1), path_stood (n ∷ path) is.1)
+  same_returns : (n : ℕ) → is_return (slice_get pruned.nodes n) ≡ is_return (slice_get graph.nodes n)
+  same_returns n = ap is_return (node_is n) ∙ return_stays (p.dead (0 + n)) (slice_get graph.nodes n)
 
   -- so the full paths of the two graphs are the same
   full_stood : (path : List ℕ) → IsFullPath pruned.nodes path → IsFullPath graph.nodes path
-  full_stood path full = record {
-    is_path = path_stood path full.is_path;
-    begins = full.begins;
-    last = full.last;
-    ends = full.ends;
-    returns = sym (ap is_return (node_is full.last) ∙ return_stays (p.dead (0 + full.last)) (slice_get graph.nodes full.last)) ∙ full.returns;
-  }
+  full_stood path full = full_by pruned.nodes graph.nodes as_many (λ n. sym (same_succs n)) (λ n. sym (same_returns n)) path full
 
   full_stays : (path : List ℕ) → IsFullPath graph.nodes path → IsFullPath pruned.nodes path
-  full_stays path full = record {
-    is_path = path_stays path full.is_path;
-    begins = full.begins;
-    last = full.last;
-    ends = full.ends;
-    returns = ap is_return (node_is full.last) ∙ return_stays (p.dead (0 + full.last)) (slice_get graph.nodes full.last) ∙ full.returns;
-  }
+  full_stays path full = full_by graph.nodes pruned.nodes (sym as_many) same_succs same_returns path full
 
   fewer : (x : ℕ) (t : Rhs) (path : List ℕ) → sum_on (λ n. one_if (occurs_at x t pruned n)) path ≤ sum_on (λ n. one_if (occurs_at x t graph n)) path
   fewer x t [] = omega arith

@@ -1,18 +1,18 @@
 -- The bits of the rows of sites: of one node, and of the nodes as far as a loop has come.
-use Rattle.std.proofs.Common.{◌≡◌, ◌≢◌, inl, inr, ℕ, zero, suc, ◌+◌, ◌<◌, ◌≤◌, ◌↔◌, Bool, true, false, ◌||◌, nat_eq, if◌then◌else◌, List, [], ◌∷◌, ◌++◌, length, get_or, map, replicate, subst, take, set, slice_get, Contains, Option, None, Some, refl, sym, ap, ◌∙◌, true≢false, arith, get_or-set_same, get_or-set_other}
-use Rattle.std.proofs.Math.Seq.{set-append_seam}
+use Rattle.std.proofs.Common.{◌≡◌, ◌≢◌, inl, inr, ℕ, ◌+◌, ◌<◌, ◌≤◌, ◌↔◌, Bool, true, false, ◌||◌, nat_eq, if◌then◌else◌, List, [], ◌∷◌, ◌++◌, length, get_or, map, replicate, subst, set, slice_get, Contains, Option, None, Some, refl, sym, ap, ◌∙◌, true≢false, arith, get_or-set_same, get_or-set_other}
 use Rattle.std.proofs.lemmas.Bool.{cases_eq, eq-eqb, ne_eqb}
-use Rattle.std.proofs.lemmas.List.{get_or-replicate, length-replicate, length-set, map-append, take_more}
+use Rattle.std.proofs.lemmas.List.{get_or-replicate, length-replicate, length-set}
 use Rattle.std.proofs.lemmas.Option.{slice_get_within, get_or_from_slice_get, same_Some}
 use Rattle.std.specs.List.{list_any}
 use Rattle.mir_base.specs.Expressions.{divides}
 use Rattle.mir_base.specs.Shapes.{AllBelow, AllDiffer, operand_vars, rhs_vars, test_vars}
 use Rattle.bit_rows.specs.BitLaws.{length_or, or_bit}
-use Rattle.bit_rows.specs.Bits.{AreEquallyLong, not_bits, or_bits, row_of}
+use Rattle.bit_rows.specs.Bits.{or_bits, row_of}
 use Rattle.flow_graph.specs.declared.nodes.Node.{Node}
 use Rattle.flow_graph.specs.declared.nodes.Node.TheVariants.{Start, Skip, Assign, Print, Call, Test, Return}
 use Rattle.flow_graph.specs.Graphs.{GraphShape, node_reads, node_vars}
 use Rattle.flow_graph.specs.Numbering.{is_in}
+use Rattle.path_laws.specs.KeyRowLaws.{false_bit, false_rows, row_at}
 use Rattle.path_laws.specs.Paths.{AreRows, has_bit}
 use Rattle.sink_dead.specs.declared.patterns.Pattern.{Pattern}
 use Rattle.sink_dead.specs.Accesses.{blocks_pattern, is_occurrence}
@@ -21,32 +21,6 @@ use Rattle.sink_dead.specs.Tables.{calm_pattern, pattern_of}
 use Rattle.sink_dead.proofs.Occurring.{is_occurrence_of, occurrence_is}
 use Rattle.flow_graph.specs.NumberingLaws.{in_any}
 use Rattle.flow_graph.specs.VarLaws.{assigns_none}
-
--- ---- rows
-
--- the turned row of false ones
-not_falses : (n : ℕ) → not_bits (replicate n false) ≡ replicate n true
-not_falses zero = refl
-not_falses (suc n) = ap (λ xs. true ∷ xs) (not_falses n)
-
--- a bit of a row of false ones
-pub false_bit : (n k : ℕ) → get_or (replicate n false) k false ≡ false
-false_bit zero k = refl
-false_bit (suc n) zero = refl
-false_bit (suc n) (suc k) = false_bit n k
-
--- rows of false ones
-pub false_rows : (nodes bits : ℕ) (rows : List (List Bool)) → rows ≡ replicate nodes (replicate bits false) → AreRows nodes bits rows × ((m i : ℕ) → m < nodes → has_bit rows i m ≡ false)
-false_rows nodes bits rows is = (
-  record {
-    len = ap length is ∙ length-replicate nodes (replicate bits false);
-    each = λ m m_in. ap length (row m m_in) ∙ length-replicate bits false;
-  },
-  λ m i m_in. ap (λ r. get_or r i false) (row m m_in) ∙ false_bit bits i,
-)
-  where
-    row : (m : ℕ) → m < nodes → row_of rows m ≡ replicate bits false
-    row m m_in = ap (λ r. row_of r m) is ∙ get_or-replicate nodes m (replicate bits false) [] m_in
 
 -- ---- occurrences
 
@@ -178,51 +152,15 @@ found_number table here found differ at absent nothing i p there = (by found ref
     by' None w o f h = let none : found ≡ None = nothing w in cc
     by' (Some q) w o f h = let q_at = at q i w (f ∙ h) in sym q_at ∙ there
 
--- ---- rows that are pushed
+-- ---- rows of what is blocked
 
--- the row at the end
-last_row : (rows : List (List Bool)) (row : List Bool) → row_of (rows ++ row ∷ []) (length rows) ≡ row
-last_row [] row = refl
-last_row (r ∷ rows) row = last_row rows row
-
--- a row of false ones at the end, turned
-pub last_turned : (rows : List (List Bool)) (bits n : ℕ) → n ≡ length rows → set (rows ++ replicate bits false ∷ []) n (not_bits (row_of (rows ++ replicate bits false ∷ []) n)) ≡ rows ++ replicate bits true ∷ []
-last_turned rows bits n is =
-    ap (λ k. set (rows ++ replicate bits false ∷ []) k (not_bits (row_of (rows ++ replicate bits false ∷ []) k))) is
-    ∙ ap (λ r. set (rows ++ replicate bits false ∷ []) (length rows) (not_bits r)) (last_row rows (replicate bits false))
-    ∙ set-append_seam rows (replicate bits false) [] (not_bits (replicate bits false))
-    ∙ ap (λ r. rows ++ r ∷ []) (not_falses bits)
-
--- one for each node
+-- one row for each node
 abbrev pub blocked_rows_of : List (List Bool) → List (List Bool) → ℕ → List Node → List (List Bool)
 blocked_rows_of assigning naming bits nodes = map (blocked_row assigning naming bits) nodes
 
--- the row of a node stands at its number
-blocked_row_at : (assigning naming : List (List Bool)) (bits : ℕ) (nodes : List Node) (n : ℕ) (node : Node) → slice_get nodes n ≡ Some node → row_of (blocked_rows_of assigning naming bits nodes) n ≡ blocked_row assigning naming bits node
-blocked_row_at assigning naming bits [] n node at = cc
-blocked_row_at assigning naming bits (first ∷ nodes) zero node at = ap (blocked_row assigning naming bits) (same_Some first node at)
-blocked_row_at assigning naming bits (first ∷ nodes) (suc n) node at = blocked_row_at assigning naming bits nodes n node at
-
 -- so the rows are those of what the nodes block
 pub are_blocked_rows : (assigning naming : List (List Bool)) (bits : ℕ) (nodes : List Node) (rows : List (List Bool)) → rows ≡ blocked_rows_of assigning naming bits nodes → AreBlockedRows assigning naming bits nodes rows
-are_blocked_rows assigning naming bits nodes rows is n node at = ap (λ r. row_of r n) is ∙ blocked_row_at assigning naming bits nodes n node at
-
--- with a row of as many bits at the end
-pub longer : (bits : ℕ) (rows new : List (List Bool)) (row : List Bool) → AreEquallyLong bits rows → length row ≡ bits → new ≡ rows ++ row ∷ [] → AreEquallyLong bits new
-longer bits rows new row long is put = subst (AreEquallyLong bits) (sym put) (record { each = each rows long.each })
-  where
-    each : (rs : List (List Bool)) → ((k : ℕ) → k < length rs → length (row_of rs k) ≡ bits) → (k : ℕ) → k < length (rs ++ row ∷ []) → length (row_of (rs ++ row ∷ []) k) ≡ bits
-    each [] old zero lt = is
-    each [] old (suc k) lt = absurd (omega (arith, lt))
-    each (r ∷ rs) old zero lt = old 0 (omega arith)
-    each (r ∷ rs) old (suc k) lt = each rs (λ j j_in. old (suc j) (omega (arith, j_in))) k (omega (arith, lt))
-
--- one node more
-pub blocked_more : (assigning naming : List (List Bool)) (bits : ℕ) (nodes : List Node) (i : ℕ) (node : Node) (rows new : List (List Bool)) → i < length nodes → node ≡ get_or nodes i node → rows ≡ blocked_rows_of assigning naming bits (take i nodes)
-    → new ≡ rows ++ blocked_row assigning naming bits node ∷ [] → new ≡ blocked_rows_of assigning naming bits (take (i + 1) nodes)
-blocked_more assigning naming bits nodes i node rows new i_in is before put =
-    put ∙ ap (λ r. r ++ blocked_row assigning naming bits node ∷ []) before
-    ∙ sym (ap (blocked_rows_of assigning naming bits) (take_more nodes i node i_in ∙ ap (λ n. take i nodes ++ n ∷ []) (sym is)) ∙ map-append (blocked_row assigning naming bits) (take i nodes) (node ∷ []))
+are_blocked_rows assigning naming bits nodes rows is n node at = ap (λ r. row_of r n) is ∙ row_at (blocked_row assigning naming bits) nodes n node at
 
 -- ---- the bits of a blocked row
 

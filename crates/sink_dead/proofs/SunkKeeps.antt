@@ -13,7 +13,7 @@ use Rattle.flow_graph.specs.Credits.{weighs_no_more}
 use Rattle.flow_graph.specs.Dividing.{DividesStay}
 use Rattle.flow_graph.specs.DividingLaws.{stay_in_place}
 use Rattle.flow_graph.specs.Edges.{IsSplit}
-use Rattle.flow_graph.specs.Graphs.{GraphShape, IsGraph}
+use Rattle.flow_graph.specs.Graphs.{AllWithin, GraphShape, IsGraph}
 use Rattle.flow_graph.specs.InsertionGraphs.{rewritten_calls}
 use Rattle.flow_graph.specs.InsertionNodes.{old_get}
 use Rattle.flow_graph.specs.InsertionPaths.{over_weight, path_within, rewritten_alone, rewritten_over}
@@ -29,6 +29,7 @@ use Rattle.flow_graph.specs.Sinking.{put_for, sinking_same, sinking_cheaper}
 use Rattle.flow_graph.specs.Sums.{count_sums, one_if, on_same, sum_on}
 use Rattle.sink_dead.specs.Accesses.{is_calm, is_occurrence, occurs_at, same_rhs}
 use Rattle.sink_dead.specs.NoMore.{HasNoMoreOver}
+use Rattle.sink_dead.specs.RoundsKept.{RoundKeeps}
 use Rattle.sink_dead.specs.SunkGraphs.{AreInsertions, IsSunk, emptied, sinking}
 use Rattle.sink_dead.proofs.Credit.{credit, delayed_below, is_credit}
 use Rattle.sink_dead.proofs.Delays.{insertions_sink, none_at_start}
@@ -116,25 +117,25 @@ module _ (graph : GraphShape) (is_graph : IsGraph graph.vars graph.received grap
 
   -- ---- what it does
 
-  pub sunk_same : UnitSame (machine_of graph) (machine_of result)
+  sunk_same : UnitSame (machine_of graph) (machine_of result)
   sunk_same = subst (UnitSame (machine_of graph)) machines (sinking_same way [] graph sunk.delayed sunk_fits is_graph (insertions_sink graph is_graph split sunk.delayed sunk.inserts sunk.insertions))
 
-  pub sunk_cheaper : UnitCheaper (machine_of graph) (machine_of result)
+  sunk_cheaper : UnitCheaper (machine_of graph) (machine_of result)
   sunk_cheaper = subst (UnitCheaper (machine_of graph)) machines
       (sinking_cheaper way [] graph sunk.delayed sunk_fits is_graph (insertions_sink graph is_graph split sunk.delayed sunk.inserts sunk.insertions)
       (weighs_no_more counts way graph.nodes (credit graph is_graph split sunk.delayed sunk.inserts sunk.insertions counts) (is_credit graph is_graph split sunk.delayed sunk.inserts sunk.insertions counts)))
 
-  pub sunk_split : IsSplit result.nodes
+  sunk_split : IsSplit result.nodes
   sunk_split = subst IsSplit (sym nodes_are) (rewritten_split way graph.nodes (λ m slot s edge. (is_graph.can.succs m slot s edge).1) split)
 
-  pub sunk_calls : (called count : ℕ) → NodesCall result.nodes called count → NodesCall graph.nodes called count
+  sunk_calls : (called count : ℕ) → NodesCall result.nodes called count → NodesCall graph.nodes called count
   sunk_calls called count calls = rewritten_calls way graph.nodes called count (subst (λ l. NodesCall l called count) nodes_are calls)
 
-  pub sunk_keeps : Keeps (AsGraph graph) (AsGraph result)
+  sunk_keeps : Keeps (AsGraph graph) (AsGraph result)
   sunk_keeps = record { name = ap (λ (g : GraphShape). g.name) sunk.is; same = sunk_same; cheaper = sunk_cheaper; calls = sunk_calls }
 
   -- a node that divides stays
-  pub sunk_divides : DividesStay graph.nodes result.nodes
+  sunk_divides : DividesStay graph.nodes result.nodes
   sunk_divides = subst (DividesStay graph.nodes) (sym nodes_are) (stay_in_place graph.nodes nodes' (λ n x op left right next may_trap is. (
     _,
     old_get way graph.nodes n (Assign x (Binary op left right) next) is
@@ -143,7 +144,7 @@ module _ (graph : GraphShape) (is_graph : IsGraph graph.vars graph.received grap
 
   -- ---- paths
 
-  pub sunk_no_more : (path : List ℕ) → IsFullPath graph.nodes path → HasNoMoreOver graph result path
+  sunk_no_more : (path : List ℕ) → IsFullPath graph.nodes path → HasNoMoreOver graph result path
   sunk_no_more path full = subst (λ l. HasNoMoreOver graph (record result { nodes = l }) path) (sym nodes_are) (record {
     over = over_path sunk.inserts (length graph.nodes) path;
     is_over = rewritten_over way [] graph sunk_fits is_graph path full;
@@ -155,3 +156,7 @@ module _ (graph : GraphShape) (is_graph : IsGraph graph.vars graph.received grap
         let less = weighs_no_more (one_at x t) way graph.nodes (credit graph is_graph split sunk.delayed sunk.inserts sunk.insertions (one_at x t)) (is_credit graph is_graph split sunk.delayed sunk.inserts sunk.insertions (one_at x t)) path full in
         omega (arith, now, was, sum, less);
   })
+
+  -- all of it
+  pub sunk_round : AllWithin result.nodes → RoundKeeps graph result
+  sunk_round within = record { keeps = sunk_keeps; divides = sunk_divides; no_more = sunk_no_more; is_split = sunk_split; within = within }

@@ -6,6 +6,8 @@ pub mod SunkLaws
 pub mod Tables
 pub mod SiteRows
 pub mod Puts
+pub mod Skips
+pub mod Moving
 pub mod Settled
 pub mod NoMore
 pub mod Liveness

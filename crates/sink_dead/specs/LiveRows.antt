@@ -6,9 +6,10 @@ use Rattle.mir_base.specs.Shapes.{into_vars}
 use Rattle.bit_rows.specs.Bits.{row_of}
 use Rattle.flow_graph.specs.declared.nodes.Node.{Node}
 use Rattle.flow_graph.specs.declared.nodes.Node.TheVariants.{Start, Skip, Assign, Print, Call, Test, Return}
-use Rattle.flow_graph.specs.Graphs.{GraphShape}
+use Rattle.flow_graph.specs.Graphs.{GraphShape, node_reads}
 use Rattle.flow_graph.specs.Numbering.{is_in}
-use Rattle.path_laws.specs.Paths.{Tell, has_bit}
+use Rattle.path_laws.specs.Paths.{HaveShape, Tell, has_bit}
+use Rattle.sink_dead.specs.declared.liveness.AccessRows.{AccessRows}
 use Rattle.sink_dead.specs.Liveness.{IsLiveBefore}
 use Rattle.sink_dead.specs.Pruned.{pruned_from}
 
@@ -38,6 +39,13 @@ assigned_vars (Print a next) = []
 assigned_vars (Call into unit operands next) = into_vars into
 assigned_vars (Test test taken other) = []
 assigned_vars (Return a) = []
+
+-- one row for each node and one bit for each variable: which variables the nodes read, and which they assign
+pub record AreAccessRows (graph : GraphShape) (accesses : AccessRows) : Type 0 where
+  pub reads_shape : HaveShape graph (length graph.vars) accesses.reads
+  pub assigns_shape : HaveShape graph (length graph.vars) accesses.assigns
+  pub reads : AreMarked (node_reads graph) graph.nodes accesses.reads
+  pub assigns : AreMarked assigned_vars graph.nodes accesses.assigns
 
 -- ---- rows of what is live
 

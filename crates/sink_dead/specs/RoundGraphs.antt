@@ -33,3 +33,8 @@ AreRoundsFrom (suc more) graph next (later ∷ rest) = IsRound graph next × (¬
 abbrev pub AreRounds : GraphShape → List GraphShape → Type 0
 AreRounds graph [] = ⊥
 AreRounds graph (next ∷ rest) = AreRoundsFrom 15 graph next rest
+
+-- the last graph of the list, and this one where there is none
+abbrev pub last_round : GraphShape → List GraphShape → GraphShape
+last_round graph [] = graph
+last_round graph (round ∷ rounds) = last_round round rounds

@@ -8,14 +8,15 @@ use Rattle.flow_graph.specs.DividingLaws.{stay_trans}
 use Rattle.flow_graph.specs.Edges.{IsSplit}
 use Rattle.flow_graph.specs.Graphs.{AllWithin, GraphShape}
 use Rattle.flow_graph.specs.Keeps.{AsGraph, KeepInTurn}
+use Rattle.flow_graph.specs.KeepsLaws.{keeps_trans}
 use Rattle.flow_graph.specs.Layouts.{IsLayout}
 use Rattle.flow_graph.specs.ListLaws.{cons_same}
 use Rattle.flow_graph.specs.OneLaws.{layout_is_one}
 use Rattle.flow_graph.specs.Passes.{GraphDivides}
 use Rattle.sink_dead.specs.Pruned.{IsPruned}
 use Rattle.sink_dead.specs.PrunedLaws.{pruned_is_one}
-use Rattle.sink_dead.specs.RoundGraphs.{AreRounds, AreRoundsFrom, HaveOneLayout, IsRound}
-use Rattle.sink_dead.specs.RoundsKept.{RoundKeeps, RoundsKeep}
+use Rattle.sink_dead.specs.RoundGraphs.{AreRounds, AreRoundsFrom, HaveOneLayout, IsRound, last_round}
+use Rattle.sink_dead.specs.RoundsKept.{LastKeeps, RoundKeeps, RoundsKeep}
 use Rattle.sink_dead.specs.SunkLaws.{sunk_is_one}
 
 -- ---- one result
@@ -113,6 +114,24 @@ rounds_in_turn graph (round ∷ rounds) kept = (kept.0.keeps, rounds_in_turn rou
 pub rounds_split : (graph : GraphShape) (rounds : List GraphShape) → RoundsKeep graph rounds → All (λ round. IsSplit round.nodes × AllWithin round.nodes) rounds
 rounds_split graph [] kept = All-nil (λ (round : GraphShape). IsSplit round.nodes × AllWithin round.nodes)
 rounds_split graph (round ∷ rounds) kept = All-cons (λ (round : GraphShape). IsSplit round.nodes × AllWithin round.nodes) round rounds (kept.0.is_split, kept.0.within) (rounds_split round rounds kept.1)
+
+-- the last of one round and more keeps of the graph what each keeps of the one before
+last_keeps_from : (graph round : GraphShape) (rounds : List GraphShape) → RoundKeeps graph round → RoundsKeep round rounds → LastKeeps graph (last_round round rounds)
+last_keeps_from graph round [] first kept = record { keeps = first.keeps; divides = first.divides; is_split = first.is_split; within = first.within }
+last_keeps_from graph round (next ∷ rounds) first kept =
+    let later = last_keeps_from round next rounds kept.0 kept.1 in
+    let last = last_round next rounds in
+    record {
+      keeps = keeps_trans (AsGraph graph) (AsGraph round) (AsGraph last) first.keeps later.keeps;
+      divides = stay_trans graph.nodes round.nodes last.nodes first.divides later.divides;
+      is_split = later.is_split;
+      within = later.within;
+    }
+
+-- so it is of the rounds of a graph
+pub last_keeps : (graph : GraphShape) (rounds : List GraphShape) → AreRounds graph rounds → RoundsKeep graph rounds → LastKeeps graph (last_round graph rounds)
+last_keeps graph [] are kept = absurd are
+last_keeps graph (round ∷ rounds) are kept = last_keeps_from graph round rounds kept.0 kept.1
 
 -- in each of them each dividing assignment of the graph stays
 pub rounds_divide : (graph : GraphShape) (rounds : List GraphShape) → RoundsKeep graph rounds → All (GraphDivides graph) rounds

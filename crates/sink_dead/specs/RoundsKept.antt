@@ -18,6 +18,14 @@ pub record RoundKeeps (graph round : GraphShape) : Type 0 where
   pub is_split : IsSplit round.nodes
   pub within : AllWithin round.nodes
 
+-- what the last of the rounds keeps of the graph, however many there are: all of the unit and each dividing assignment; it is
+-- split, and its edges lead to nodes
+pub record LastKeeps (graph last : GraphShape) : Type 0 where
+  pub keeps : GraphKeeps graph last
+  pub divides : GraphDivides graph last
+  pub is_split : IsSplit last.nodes
+  pub within : AllWithin last.nodes
+
 -- so it is from the graph to the first of these, and from each of them to the next
 abbrev pub RoundsKeep : GraphShape → List GraphShape → Type 0
 RoundsKeep graph [] = Unit {0}

@@ -1,12 +1,12 @@
 -- Rows by nodes of a graph and patterns of a table: where each pattern occurs, is blocked, is delayed and is inserted. Cited by
 -- contracts.
-use Rattle.std.specs.Prelude.{◌≡◌, ◌↔◌, ◌<◌, ◌||◌, ◌&&◌, ℕ, Bool, true, false, nat_eq, List, [], ◌∷◌, length, flat_map, replicate, slice_get, Option, Some}
+use Rattle.std.specs.Prelude.{◌≡◌, ◌↔◌, ◌<◌, ℕ, Bool, true, false, List, [], ◌∷◌, length, flat_map, replicate, slice_get, Option, Some}
 use Rattle.mir_base.specs.declared.instructions.Rhs.{Rhs}
-use Rattle.mir_base.specs.Shapes.{AllBelow, into_vars, operand_vars, rhs_vars, test_vars}
+use Rattle.mir_base.specs.Shapes.{into_vars, operand_vars, rhs_vars, test_vars}
 use Rattle.bit_rows.specs.Bits.{or_bits, row_of}
 use Rattle.flow_graph.specs.declared.nodes.Node.{Node}
 use Rattle.flow_graph.specs.declared.nodes.Node.TheVariants.{Start, Skip, Assign, Print, Call, Test, Return}
-use Rattle.flow_graph.specs.Graphs.{GraphShape, node_vars}
+use Rattle.flow_graph.specs.Graphs.{GraphShape}
 use Rattle.flow_graph.specs.Numbering.{is_in}
 use Rattle.path_laws.specs.Paths.{HaveShape, has_bit}
 use Rattle.sink_dead.specs.declared.patterns.Pattern.{Pattern}
@@ -45,12 +45,6 @@ pattern_vars p = p.var ∷ rhs_vars p.rhs
 abbrev pub AreBitsByVariable : ℕ → List Pattern → (Pattern → List ℕ) → List (List Bool) → Type 0
 AreBitsByVariable vars table of_pattern rows = (x k : ℕ) (p : Pattern) → x < vars → slice_get table k ≡ Some p → has_bit rows k x ≡ is_in x (of_pattern p)
 
--- the bit of this number is set in the rows of these variables, and all else stays
-pub record SetsBitAt (number : ℕ) (vars : List ℕ) (old new : List (List Bool)) : Type 0 where
-  pub len : length new ≡ length old
-  pub each : (x : ℕ) → length (row_of new x) ≡ length (row_of old x)
-  pub bits : (x i : ℕ) → x < length old → has_bit new i x ≡ (has_bit old i x || (nat_eq number i && is_in x vars))
-
 -- the row with the rows of these variables joined to it
 abbrev pub joined_rows : List (List Bool) → List ℕ → List Bool → List Bool
 joined_rows rows [] row = row
@@ -70,7 +64,3 @@ blocked_row assigning naming bits (Return a) = joined_rows assigning (operand_va
 -- each row is that of what its node blocks
 abbrev pub AreBlockedRows : List (List Bool) → List (List Bool) → ℕ → List Node → List (List Bool) → Type 0
 AreBlockedRows assigning naming bits nodes rows = (n : ℕ) (node : Node) → slice_get nodes n ≡ Some node → row_of rows n ≡ blocked_row assigning naming bits node
-
--- the variables of each node are below this number
-abbrev pub HaveVarsBelow : ℕ → List Node → Type 0
-HaveVarsBelow vars nodes = (n : ℕ) (node : Node) → slice_get nodes n ≡ Some node → AllBelow vars (node_vars node)

@@ -1,5 +1,6 @@
 // What a round and the rounds of a graph give.
 use flow_graph::Graph;
+use mir_base::Items;
 
 /// One round of sinking and pruning.
 #[derive(Drop)]
@@ -14,5 +15,5 @@ pub struct Round {
 #[derive(Drop)]
 pub struct Sunk {
     /// The graph of each round, in their order.
-    pub rounds: Vec<Graph>,
+    pub rounds: Items<Graph>,
 }

@@ -1,10 +1,10 @@
 // What is inserted before each node, and the edits that insert it.
-ghost use Rattle.std.specs.Prelude.{◌≡◌, ◌<◌, ◌≤◌, ◌++◌, [], length, slice_get, slice_index_or, None, IfOk, OnOk, Some};
+ghost use Rattle.std.specs.Prelude.{◌≡◌, ◌<◌, ◌≤◌, ◌++◌, [], length, slice_get, IfOk, OnOk, Some};
 ghost use Rattle.flow_graph.specs.Editing.{graph_changed};
 ghost use Rattle.path_laws.specs.Paths.{AreRows};
 ghost use Rattle.sink_dead.specs.Accesses.{is_calm};
 ghost use Rattle.sink_dead.specs.Puts.{CanPut, all_puts, chosen, graph_emptied, graph_with, put_at, puts_at};
-ghost use Rattle.sink_dead.specs.Settled.{PushesEarlier, inserted_by, merged};
+ghost use Rattle.sink_dead.specs.Settled.{PushesEarlier, held_at, inserted_by, merged};
 ghost use Rattle.sink_dead.specs.SunkGraphs.{emptied};
 
 use crate::patterns::{Pattern, Patterns};
@@ -25,29 +25,40 @@ pub(crate) struct Put {
 /// It fails only with `Memory`.
 pub(crate) fn puts_of(
     alloc: Global,
+    nodes: &[Node],
     table: &Patterns,
     settled: &[Option<Pattern>],
     insert: &Rows,
 ) -> Result<Vec<Put>, Memory>
     requires rows { AreRows (length insert.now) (length table.now) insert.now }
     requires settled { length settled.now ≡ length insert.now }
-    ensures { IfOk result (λ puts. puts.items ≡
-        all_puts (inserted_by table.now settled.now insert.now) (length insert.now) 0) }
+    requires nodes { length nodes.now ≡ length insert.now }
+    ensures { IfOk result (λ puts. puts.items ≡ all_puts
+        (inserted_by nodes.now table.now settled.now insert.now) (length insert.now) 0) }
 {
     let mut puts = Vec::new(alloc);
     for node in 0..insert.len() {
-        let noted = noted_at(settled, node);
-        push_merged(&mut puts, node, table, noted, &insert.row(node))?;
+        let held = held_at(nodes, settled, node);
+        push_merged(&mut puts, node, table, held, &insert.row(node))?;
     }
     Ok(puts)
 }
 
-/// What is noted for a node.
-fn noted_at(settled: &[Option<Pattern>], node: usize) -> Option<Pattern>
-    requires { node < length settled.now }
-    ensures { result ≡ slice_index_or settled.now node None }
+/// What is noted for a node, where it is no Skip.
+fn held_at(nodes: &[Node], settled: &[Option<Pattern>], node: usize) -> Option<Pattern>
+    requires node { node < length nodes.now }
+    requires settled { node < length settled.now }
+    ensures { result ≡ held_at nodes.now settled.now node }
 {
-    settled[node]
+    match &nodes[node] {
+        Node::Start(_) => settled[node],
+        Node::Skip(_) => None,
+        Node::Assign(_, _, _) => settled[node],
+        Node::Print(_, _) => settled[node],
+        Node::Call(_, _, _, _) => settled[node],
+        Node::Test(_, _, _) => settled[node],
+        Node::Return(_) => settled[node],
+    }
 }
 
 /// Pushes the insertions of the patterns whose bits are set, before a node, with the settled one among them.

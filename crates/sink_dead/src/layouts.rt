@@ -167,6 +167,7 @@ fn same_into(a: Option<usize>, b: Option<usize>) -> bool
 }
 
 /// Whether two operands are equal.
+#[tactic(auto, using(key_table::specs::SameValues::same_operands, key_table::specs::SameValues::operand_self))]
 fn same_operand(a: Operand, b: Operand) -> bool
     ensures { IsTrue result ↔ (a ≡ b) }
 {
@@ -181,6 +182,7 @@ fn same_rhs(a: &Rhs, b: &Rhs) -> bool
 }
 
 /// Whether two tests are equal.
+#[tactic(auto, using(key_table::specs::SameValues::same_tests, key_table::specs::SameValues::test_self))]
 fn same_test(a: &Test, b: &Test) -> bool
     ensures { IsTrue result ↔ (a.now ≡ b.now) }
 {

@@ -17,8 +17,9 @@ mod rounds;
 mod settling;
 mod sinking;
 mod sites;
+mod skips;
 
 pub use answers::{Round, Sunk};
-pub use delaying::inserted_apart;
+pub use delaying::{inserted_apart, inserted_at_skips};
 pub use mir_base::Memory;
 pub use rounds::{MOST_ROUNDS, round, sink};

@@ -4,7 +4,7 @@ ghost use Rattle.mir_base.specs.Shapes.{AllBelow, operand_vars, rhs_vars, test_v
 ghost use Rattle.bit_rows.specs.Bits.{row_of};
 ghost use Rattle.flow_graph.specs.Graphs.{node_reads, node_vars};
 ghost use Rattle.path_laws.specs.Paths.{HaveShape};
-ghost use Rattle.sink_dead.specs.LiveRows.{AreMarked, IsMarkedAt, TellLive, assigned_vars};
+ghost use Rattle.sink_dead.specs.LiveRows.{AreAccessRows, IsMarkedAt, TellLive, assigned_vars};
 
 use bit_rows::Rows;
 use flow_graph::{Edges, Graph, Node};
@@ -19,26 +19,35 @@ pub(crate) fn live_rows(alloc: Global, graph: &Graph) -> Result<Rows, Memory>
     ensures live { IfOk result (TellLive graph.now) }
 {
     let edges = Edges::of(alloc, graph)?;
-    let reads = read_rows(alloc, graph)?;
-    let assigns = assigned_rows(alloc, graph)?;
-    let live = backward_some(alloc, graph, &edges, &reads, &assigns)?;
+    let accesses = access_rows(alloc, graph)?;
+    let live = backward_some(alloc, graph, &edges, &accesses.reads, &accesses.assigns)?;
     Ok(live)
 }
 
-// ---- what nodes read
+/// What the nodes of a graph do with its variables: one row for each node, one bit for each variable.
+#[derive(Drop)]
+struct AccessRows {
+    /// Which variables each node reads.
+    reads: Rows,
+    /// Which variable it assigns, where it assigns one.
+    assigns: Rows,
+}
 
-/// Which variables each node reads.
-fn read_rows(alloc: Global, graph: &Graph) -> Result<Rows, Memory>
-    ensures shape { IfOk result (HaveShape graph.now (length graph.now.vars)) }
-    ensures reads { IfOk result (AreMarked (node_reads graph.now) graph.now.nodes) }
+/// Which variables each node reads, and which one it assigns.
+fn access_rows(alloc: Global, graph: &Graph) -> Result<AccessRows, Memory>
+    ensures { IfOk result (AreAccessRows graph.now) }
 {
     let nodes = graph.nodes();
-    let mut rows = Rows::new(alloc, nodes.len(), graph.vars().len())?;
+    let mut reads = Rows::new(alloc, nodes.len(), graph.vars().len())?;
+    let mut assigns = Rows::new(alloc, nodes.len(), graph.vars().len())?;
     for n in 0..nodes.len() {
-        mark_read(graph, &mut rows, n, &nodes[n]);
+        mark_read(graph, &mut reads, n, &nodes[n]);
+        mark_assigned(&mut assigns, n, &nodes[n]);
     }
-    Ok(rows)
+    Ok(AccessRows { reads, assigns })
 }
+
+// ---- what nodes read
 
 /// Sets the bits of the variables that a node reads in its row.
 fn mark_read(graph: &Graph, rows: &mut Rows, n: usize, node: &Node)
@@ -117,19 +126,6 @@ fn mark_operand(rows: &mut Rows, n: usize, operand: Operand)
 }
 
 // ---- what nodes assign
-
-/// Which variable each node assigns.
-fn assigned_rows(alloc: Global, graph: &Graph) -> Result<Rows, Memory>
-    ensures shape { IfOk result (HaveShape graph.now (length graph.now.vars)) }
-    ensures assigned { IfOk result (AreMarked assigned_vars graph.now.nodes) }
-{
-    let nodes = graph.nodes();
-    let mut rows = Rows::new(alloc, nodes.len(), graph.vars().len())?;
-    for n in 0..nodes.len() {
-        mark_assigned(&mut rows, n, &nodes[n]);
-    }
-    Ok(rows)
-}
 
 /// Sets the bit of the variable that a node assigns in its row.
 fn mark_assigned(rows: &mut Rows, n: usize, node: &Node)

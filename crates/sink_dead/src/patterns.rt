@@ -2,13 +2,16 @@
 ghost use Rattle.std.specs.Prelude.{◌≡◌, ◌<◌, ◌||◌, Contains, IsPermutation, flat_map, length, nat_eq, slice_get, IfNone, IfOk, IfSome, OnOk, Some};
 ghost use Rattle.std.specs.List.Sorted.{IsNonDecreasingBy};
 ghost use Rattle.mir_base.specs.Shapes.{AllDiffer, operand_vars, rhs_vars, test_vars};
-ghost use Rattle.flow_graph.specs.Graphs.{GraphShape, SuccsBelow, is_start, node_reads};
+ghost use Rattle.flow_graph.specs.Edges.{edges_of};
+ghost use Rattle.flow_graph.specs.Graphs.{AllWithin, GraphShape, SuccsBelow, is_start, node_reads};
 ghost use Rattle.std.specs.List.{list_any};
 ghost use Rattle.flow_graph.specs.Numbering.{is_in};
 ghost use Rattle.sink_dead.specs.Accesses.{blocks_pattern};
-ghost use Rattle.sink_dead.specs.Tables.{AreMoving, AreOrdered, calm_pattern, moving_of, passing, pattern_of, touches_pattern};
+ghost use Rattle.sink_dead.specs.Moving.{AreMoving, MovesFrom, MovesOn};
+ghost use Rattle.sink_dead.specs.Tables.{AreOrdered, calm_pattern, pattern_of, touches_pattern};
 
-use flow_graph::{Graph, Node};
+use crate::skips::stop_after;
+use flow_graph::{Edges, Graph, Node};
 use indexmap::IndexSet;
 use mir_base::{Memory, Operand, Rhs, Test, divides};
 use std::alloc::Global;
@@ -67,15 +70,20 @@ impl Patterns {
     }
 }
 
-/// The patterns that can still move: those with an occurrence whose next node does not block them. It fails only with
-/// `Memory`.
-pub(crate) fn moving_patterns(alloc: Global, graph: &Graph) -> Result<Patterns, Memory>
+/// The patterns that can still move: those with an occurrence from which Skips lead to no node that blocks them. `edges` are
+/// those of the graph. It fails only with `Memory`.
+pub(crate) fn moving_patterns(
+    alloc: Global,
+    graph: &Graph,
+    edges: &Edges,
+) -> Result<Patterns, Memory>
+    requires { edges.now ≡ edges_of graph.now.nodes }
     ensures { IfOk result (AreMoving graph.now) }
 {
     let mut set = IndexSet::new(alloc);
     let nodes = graph.nodes();
     for node in nodes {
-        if let Some(pattern) = moving_at(nodes, node) {
+        if let Some(pattern) = moving_at(nodes, edges, node) {
             set.insert(pattern)?;
         }
     }
@@ -93,24 +101,29 @@ fn sort_by_variable(set: &mut IndexSet<Pattern>) -> Result<(), Memory>
     Ok(())
 }
 
-/// The pattern that occurs at a node, where the next of these nodes does not block it.
-fn moving_at(nodes: &[Node], node: &Node) -> Option<Pattern>
-    requires { SuccsBelow (length nodes.now) node.now }
-    ensures { (graph : GraphShape) → nodes.now ≡ graph.nodes → result ≡ moving_of graph node.now }
+/// The pattern that occurs at a node, where Skips do not lead from there to a node that blocks it.
+fn moving_at(nodes: &[Node], edges: &Edges, node: &Node) -> Option<Pattern>
+    requires edges { edges.now ≡ edges_of nodes.now }
+    requires within { AllWithin nodes.now }
+    requires below { SuccsBelow (length nodes.now) node.now }
+    ensures { (graph : GraphShape) → nodes.now ≡ graph.nodes → MovesFrom graph node.now result }
 {
     match node {
-        Node::Assign(x, rhs, next) => passing(&nodes[*next], *x, *rhs),
+        Node::Assign(_, _, next) => moving_on(nodes, edges, node, *next),
         _ => None,
     }
 }
 
-/// The pattern of an assignment, where its right side does not divide and the next node does not block it.
-fn passing(next: &Node, var: usize, rhs: Rhs) -> Option<Pattern>
-    ensures { (graph : GraphShape) →
-        result ≡ passing graph (Some next.now) (calm_pattern var rhs) }
+/// The pattern that occurs at a node, where Skips do not lead from its successor to a node that blocks it.
+fn moving_on(nodes: &[Node], edges: &Edges, node: &Node, next: usize) -> Option<Pattern>
+    requires edges { edges.now ≡ edges_of nodes.now }
+    requires within { AllWithin nodes.now }
+    requires next { next < length nodes.now }
+    ensures { (graph : GraphShape) → nodes.now ≡ graph.nodes → MovesOn graph node.now next result }
 {
-    let pattern = calm_pattern(var, rhs)?;
-    if blocks(next, &pattern) {
+    let pattern = pattern_at(node)?;
+    let stop = stop_after(nodes, edges, next);
+    if blocks(&nodes[stop], &pattern) {
         None
     } else {
         Some(pattern)

@@ -2,8 +2,8 @@
 ghost use Rattle.std.specs.Prelude.{IfOk};
 ghost use Rattle.flow_graph.specs.Edges.{IsSplit};
 ghost use Rattle.flow_graph.specs.Layouts.{IsLayout};
-ghost use Rattle.sink_dead.specs.RoundGraphs.{AreRounds, IsRound, SaysChanged};
-ghost use Rattle.sink_dead.specs.RoundsKept.{RoundKeeps, RoundsKeep};
+ghost use Rattle.sink_dead.specs.RoundGraphs.{AreRounds, IsRound, SaysChanged, last_round};
+ghost use Rattle.sink_dead.specs.RoundsKept.{LastKeeps, RoundKeeps, RoundsKeep};
 ghost use Rattle.sink_dead.specs.RoundsMade.{IsMadeRound};
 
 use crate::answers::{Round, Sunk};
@@ -11,7 +11,7 @@ use crate::layouts::same_unit;
 use crate::pruning::pruned;
 use crate::sinking::sunk;
 use flow_graph::{Graph, layout};
-use mir_base::{Memory, Unit as MirUnit};
+use mir_base::{Items, Memory, Unit as MirUnit};
 use std::alloc::Global;
 use std::mem;
 
@@ -39,8 +39,11 @@ pub fn round(alloc: Global, graph: &Graph) -> Result<Round, Memory>
 /// fails only with `Memory`.
 pub fn sink(alloc: Global, graph: &Graph) -> Result<Sunk, Memory>
     requires { IsSplit graph.now.nodes }
-    ensures rounds { IfOk result (λ sunk. AreRounds graph.now sunk.rounds.items) }
-    ensures keeps { IfOk result (λ sunk. RoundsKeep graph.now sunk.rounds.items) }
+    ensures rounds { IfOk result (λ sunk. AreRounds graph.now sunk.rounds) }
+    ensures keeps { IfOk result (λ sunk. RoundsKeep graph.now sunk.rounds) }
+
+    // the last of them keeps the graph in one step
+    ensures last { IfOk result (λ sunk. LastKeeps graph.now (last_round graph.now sunk.rounds)) }
 {
     let unit = layout(alloc, graph)?;
     let mut last = next_round(alloc, graph, &unit)?;
@@ -50,7 +53,9 @@ pub fn sink(alloc: Global, graph: &Graph) -> Result<Sunk, Memory>
         rounds.push(mem::replace(&mut last, next).graph)?;
     }
     rounds.push(last.graph)?;
-    Ok(Sunk { rounds })
+    Ok(Sunk {
+        rounds: Items::of(rounds),
+    })
 }
 
 /// A round with its layout.

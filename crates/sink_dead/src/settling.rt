@@ -1,46 +1,86 @@
-// The assignments that cannot move: the next node blocks them. Each is put right back before that node.
-ghost use Rattle.std.specs.Prelude.{length, IfOk};
+// The assignments that cannot move: Skips alone part them from a node that blocks them. Each is put right before that node.
+ghost use Rattle.std.specs.Prelude.{◌≡◌, ◌<◌, length, IfOk};
+ghost use Rattle.flow_graph.specs.Edges.{edges_of};
 ghost use Rattle.flow_graph.specs.Graphs.{AllWithin, SuccsBelow};
-ghost use Rattle.sink_dead.specs.Settled.{AreSettled, IsStill, NotesNode};
+ghost use Rattle.sink_dead.specs.Settled.{AreNotedOn, AreSettled, IsStill, NotesNode};
 
 use crate::patterns::{Pattern, Patterns, pattern_at};
-use flow_graph::Node;
+use crate::skips::skip_on;
+use flow_graph::{Edges, Node};
 use mir_base::Memory;
 use std::alloc::Global;
 
-/// For each node the pattern that occurs just before it, where there is one that cannot move: `moving` does not have it. It
-/// fails only with `Memory`.
+/// For each node the pattern that comes to it over Skips alone, where there is one that cannot move: `moving` does not have
+/// it. `edges` are those of the nodes. It fails only with `Memory`.
 pub(crate) fn settled(
     alloc: Global,
     nodes: &[Node],
+    edges: &Edges,
     moving: &Patterns,
 ) -> Result<Vec<Option<Pattern>>, Memory>
-    requires { AllWithin nodes.now }
+    requires edges { edges.now ≡ edges_of nodes.now }
+    requires within { AllWithin nodes.now }
     ensures { IfOk result (λ settled. AreSettled nodes.now moving.now settled.items) }
 {
     let mut settled = vec![in alloc; None; nodes.len()]?;
     for node in nodes {
-        note(&mut settled, node, moving);
+        note(&mut settled, nodes, edges, node, moving);
     }
     Ok(settled)
 }
 
-/// Notes the pattern of a node for its successor, where it cannot move.
-fn note(settled: &mut Vec<Option<Pattern>>, node: &Node, moving: &Patterns)
-    requires { SuccsBelow (length settled.old.items) node.now }
-    ensures { NotesNode moving.now node.now settled.old.items settled.new.items }
+/// Notes the pattern of a node for the nodes to which Skips lead from its successor, where it cannot move.
+fn note(
+    settled: &mut Vec<Option<Pattern>>,
+    nodes: &[Node],
+    edges: &Edges,
+    node: &Node,
+    moving: &Patterns,
+)
+    requires edges { edges.now ≡ edges_of nodes.now }
+    requires within { AllWithin nodes.now }
+    requires long { length settled.old.items ≡ length nodes.now }
+    requires below { SuccsBelow (length nodes.now) node.now }
+    ensures { NotesNode nodes.now moving.now node.now settled.old.items settled.new.items }
 {
     match node {
         Node::Start(_) => {}
         Node::Skip(_) => {}
         Node::Assign(_, _, next) => match still(node, moving) {
-            Some(pattern) => settled[*next] = Some(pattern),
+            Some(pattern) => note_on(settled, nodes, edges, *next, pattern),
             None => {}
         },
         Node::Print(_, _) => {}
         Node::Call(_, _, _, _) => {}
         Node::Test(_, _, _) => {}
         Node::Return(_) => {}
+    }
+}
+
+/// Notes a pattern for a node and for those to which Skips lead from there.
+fn note_on(
+    settled: &mut Vec<Option<Pattern>>,
+    nodes: &[Node],
+    edges: &Edges,
+    first: usize,
+    pattern: Pattern,
+)
+    requires edges { edges.now ≡ edges_of nodes.now }
+    requires within { AllWithin nodes.now }
+    requires long { length settled.old.items ≡ length nodes.now }
+    requires first { first < length nodes.now }
+    ensures { AreNotedOn nodes.now first pattern settled.old.items settled.new.items }
+{
+    let mut at = first;
+    settled[at] = Some(pattern);
+    for _ in 0..nodes.len() {
+        match skip_on(nodes, edges, at) {
+            Some(next) => {
+                settled[next] = Some(pattern);
+                at = next;
+            }
+            None => return,
+        }
     }
 }
 

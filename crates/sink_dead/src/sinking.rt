@@ -2,16 +2,15 @@
 ghost use Rattle.std.specs.Prelude.{◌≡◌, length, IfOk, OnOk};
 ghost use Rattle.flow_graph.specs.Edges.{IsSplit};
 ghost use Rattle.flow_graph.specs.Graphs.{IsGraph};
-ghost use Rattle.flow_graph.specs.Passes.{GraphCalls, GraphCheaper, GraphDivides, GraphKeeps, GraphSame};
-ghost use Rattle.sink_dead.specs.NoMore.{HasNoMore};
 ghost use Rattle.sink_dead.specs.Puts.{ArePutsOf};
+ghost use Rattle.sink_dead.specs.RoundsKept.{RoundKeeps};
 ghost use Rattle.sink_dead.specs.SunkGraphs.{IsSunk};
 
 use crate::delaying::insertion_rows;
 use crate::inserting::{Put, empty_occurrences, put_each, puts_of};
 use crate::patterns::moving_patterns;
 use crate::settling::settled;
-use flow_graph::{Editor, Graph};
+use flow_graph::{Edges, Editor, Graph};
 use mir_base::Memory;
 use std::alloc::Global;
 
@@ -22,21 +21,10 @@ use std::alloc::Global;
 pub(crate) fn sunk(alloc: Global, graph: &Graph) -> Result<Graph, Memory>
     requires { IsSplit graph.now.nodes }
     ensures exact { IfOk result (IsSunk graph.now) }
-    ensures split { IfOk result (λ sunk. IsSplit sunk.nodes) }
-    ensures same { IfOk result (GraphSame graph.now) }
-    ensures cheaper { IfOk result (GraphCheaper graph.now) }
-    ensures keeps { IfOk result (GraphKeeps graph.now) }
-
-    // each dividing assignment stays
-    ensures divides { IfOk result (GraphDivides graph.now) }
-
-    // it makes no calls but those of the graph
-    ensures calls { IfOk result (GraphCalls graph.now) }
-
-    // on the path over each full path no plain or movable assignment stands more often
-    ensures no_more { IfOk result (HasNoMore graph.now) }
+    ensures keeps { IfOk result (RoundKeeps graph.now) }
 {
     let sunk = sunk_graph(alloc, graph)?;
+    let _nodes = sunk.nodes();
     Ok(sunk)
 }
 
@@ -63,9 +51,11 @@ fn insertions(alloc: Global, graph: &Graph) -> Result<Vec<Put>, Memory>
     ensures graph { OnOk result (IsGraph graph.now.vars graph.now.received graph.now.nodes) }
     ensures puts { IfOk result (λ puts. ArePutsOf graph.now puts.items) }
 {
-    let table = moving_patterns(alloc, graph)?;
-    let settled = settled(alloc, graph.nodes(), &table)?;
-    let insert = insertion_rows(alloc, graph, &table)?;
-    let puts = puts_of(alloc, &table, settled.as_slice(), &insert)?;
+    let edges = Edges::of(alloc, graph)?;
+    let table = moving_patterns(alloc, graph, &edges)?;
+    let nodes = graph.nodes();
+    let settled = settled(alloc, nodes, &edges, &table)?;
+    let insert = insertion_rows(alloc, graph, &edges, &table)?;
+    let puts = puts_of(alloc, nodes, &table, settled.as_slice(), &insert)?;
     Ok(puts)
 }

@@ -2,16 +2,18 @@
 ghost use Rattle.std.specs.Prelude.{◌≡◌, ℕ, ◌<◌, ◌∷◌, ◌++◌, [], Some, length, flat_map, replicate, slice_get, true, IfOk, OnOk, IfSome};
 ghost use Rattle.mir_base.specs.Shapes.{AllBelow, operand_vars, rhs_vars, test_vars};
 ghost use Rattle.bit_rows.specs.Bits.{AreEquallyLong, row_of};
-ghost use Rattle.flow_graph.specs.Graphs.{node_vars};
+ghost use Rattle.flow_graph.specs.Graphs.{HaveVarsBelow, node_vars};
+ghost use Rattle.path_laws.specs.KeyRows.{SetsBitAt};
 ghost use Rattle.path_laws.specs.Paths.{AreRows};
 ghost use Rattle.sink_dead.specs.Accesses.{blocks_at, occurs_at};
-ghost use Rattle.sink_dead.specs.SiteRows.{AreBitsByVariable, AreBlockedRows, AreSiteRows, FindsPattern, HaveVarsBelow, SetsBitAt, blocked_row, joined_rows, pattern_vars};
+ghost use Rattle.sink_dead.specs.SiteRows.{AreBitsByVariable, AreBlockedRows, AreSiteRows, FindsPattern, blocked_row, joined_rows, pattern_vars};
 ghost use Rattle.sink_dead.specs.Tables.{AreCalmBelow};
 
 use crate::patterns::{Patterns, pattern_at};
 use bit_rows::{Row, Rows};
 use flow_graph::{Graph, Node};
 use mir_base::{Memory, Operand, Rhs, Test};
+use path_laws::{mark_operand, mark_var, push_true};
 use std::alloc::Global;
 
 // ---- occurrences
@@ -86,16 +88,6 @@ fn by_variable(alloc: Global, vars: usize, table: &Patterns) -> Result<ByVariabl
     Ok(ByVariable { assigning, naming })
 }
 
-/// Sets the bit of this number in the row of the variable, where it has a row.
-fn mark_var(rows: &mut Rows, number: usize, x: usize)
-    requires { (x : ℕ) → x < length rows.old → number < length (row_of rows.old x) }
-    ensures { SetsBitAt number (x ∷ []) rows.old rows.new }
-{
-    if x < rows.len() {
-        rows.set(x, number, true);
-    }
-}
-
 /// Sets the bit of this number in the rows of the variables of a right side.
 fn mark_rhs(rows: &mut Rows, number: usize, rhs: &Rhs)
     requires { (x : ℕ) → x < length rows.old → number < length (row_of rows.old x) }
@@ -108,17 +100,6 @@ fn mark_rhs(rows: &mut Rows, number: usize, rhs: &Rhs)
             mark_operand(rows, number, *a);
             mark_operand(rows, number, *b);
         }
-    }
-}
-
-/// Sets the bit of this number in the row of the operand, where it is a variable that has a row.
-fn mark_operand(rows: &mut Rows, number: usize, operand: Operand)
-    requires { (x : ℕ) → x < length rows.old → number < length (row_of rows.old x) }
-    ensures { SetsBitAt number (operand_vars operand) rows.old rows.new }
-{
-    match operand {
-        Operand::Var(x) => mark_var(rows, number, x),
-        Operand::Const(_) => {}
     }
 }
 
@@ -177,17 +158,6 @@ fn push_blocked(
         Node::Return(a) => join_operand(&mut row, *a, &by_variable.assigning),
     }
     rows.push(&row.view())
-}
-
-/// Puts a row of so many bits, all true, at the end. It fails only with `Memory`.
-fn push_true(rows: &mut Rows, bits: usize) -> Result<(), Memory>
-    requires { AreEquallyLong bits rows.old }
-    ensures { OnOk result (rows.new ≡ rows.old ++ replicate bits true ∷ []) }
-{
-    let last = rows.len();
-    rows.push_false(bits)?;
-    rows.flip(last);
-    Ok(())
 }
 
 /// Joins the row of a variable to a row.

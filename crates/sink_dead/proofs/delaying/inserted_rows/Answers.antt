@@ -5,7 +5,7 @@ use Rattle.path_laws.specs.Paths.{AreRows, has_bit}
 use Rattle.path_laws.specs.RowLaws.{like_rows, rows_as_many}
 use Rattle.sink_dead.specs.declared.patterns.Pattern.{Pattern}
 use Rattle.sink_dead.specs.Delaying.{IsInsertedAt}
-use Rattle.sink_dead.proofs.Says.{both_say, either_says, not_says, off_says}
+use Rattle.path_laws.specs.Says.{both_say, either_says, not_says, off_says}
 use Rattle.sink_dead.proofs.delaying.inserted_rows.Goals as goal
 use Rattle.sink_dead.proofs.delaying.inserted_rows.Goals.{After-and_rows}
 

@@ -1,10 +1,10 @@
 use Rattle.std.proofs.Common.{◌≡◌, ◌∙◌, true, sym, subst}
 use Rattle.mir_base.specs.contracts.instructions.RhsPartialEq.TheImpl.{ghosts}
-use Rattle.sink_dead.proofs.LayoutEqual.{equal_rhs, rhs_self}
+use Rattle.key_table.specs.SameValues.{right_side_self, same_right_sides}
 use Rattle.sink_dead.proofs.layouts.same_rhs.Goals as goal
 
 pub returns : goal.returns
 returns c = (
-  λ same. equal_rhs c.args.a.now c.args.b.now (sym c.eq.ensures ∙ same),
-  λ is. c.eq.ensures ∙ subst (λ r. ghosts.eq c.args.a.now r ≡ true) is (rhs_self c.args.a.now),
+  λ same. same_right_sides c.args.a.now c.args.b.now (sym c.eq.ensures ∙ same),
+  λ is. c.eq.ensures ∙ subst (λ r. ghosts.eq c.args.a.now r ≡ true) is (right_side_self c.args.a.now),
 )

@@ -1,10 +1,13 @@
-use Rattle.std.proofs.Common.{◌≡◌, ◌≤◌, ◌+◌, ℕ, List, ap, ◌∙◌, sym, length, slice_get, Contains, Option, None, Some, arith}
+use Rattle.std.proofs.Common.{◌≡◌, ◌≤◌, ◌+◌, ℕ, List, ap, ◌∙◌, sym, length, slice_get, Contains, Option, None, Some, inl, inr, subst, arith}
 use Rattle.std.proofs.lemmas.List.Sorted.{Contains-permutation, IsPermutation-sym}
 use Rattle.std.proofs.lemmas.Option.{get_or_from_slice_get, slice_get-get_or, slice_get_within}
 use Rattle.flow_graph.specs.BoundLaws.{node_succs_below}
 use Rattle.flow_graph.specs.declared.nodes.Node.{Node}
+use Rattle.flow_graph.specs.declared.nodes.Node.TheVariants.{Assign}
+use Rattle.flow_graph.specs.Edges.{edges_of}
 use Rattle.flow_graph.specs.Graphs.{succs_of}
 use Rattle.sink_dead.specs.declared.patterns.Pattern.{Pattern}
+use Rattle.sink_dead.specs.Moving.{MovesFrom}
 use Rattle.sink_dead.proofs.Found.{AreFound, found_more, found_none, put_in}
 use Rattle.sink_dead.proofs.PatternEqual.{equal}
 use Rattle.sink_dead.proofs.patterns.moving_patterns.Goals as goal
@@ -18,7 +21,7 @@ more c found new is put =
     let nodes = c.nodes-nodes.result.now in
     let i = c.loop-node.node-index in
     let at = slice_get-get_or nodes i c.node-item.result c.loop-node-test.true ∙ ap Some (sym c.node-item.is) in
-    found_more c.args.graph.now (length c.args.graph.now.vars) nodes i c.node-item.result found c.loop-node.set.keys new at (c.nodes-nodes.ensures.graph.can.below i c.node-item.result at) (sym is ∙ c.moving_at.ensures c.args.graph.now c.nodes-nodes.ensures.value) put c.loop-node.invariant
+    found_more c.args.graph.now (length c.args.graph.now.vars) nodes i c.node-item.result found c.loop-node.set.keys new at (c.nodes-nodes.ensures.graph.can.below i c.node-item.result at) (subst (MovesFrom c.args.graph.now c.node-item.result) is (c.moving_at.ensures c.args.graph.now c.nodes-nodes.ensures.value)) put c.loop-node.invariant
 
 pub loop-node-preserved : goal.loop-node-preserved
 loop-node-preserved c =
@@ -28,8 +31,14 @@ loop-node-preserved c =
       | in_default w ↦ more known None c.match-moving_at.set.keys w.in_default.is (ap (λ s. s.keys) w.set-is)
     ]
 
-pub moving_at-requires : goal.moving_at-requires
-moving_at-requires c =
+pub moving_at-requires-clause-edges : goal.moving_at-requires-clause-edges
+moving_at-requires-clause-edges c = c.requires ∙ ap (λ (l : List Node). edges_of l) (sym c.nodes-nodes.ensures.value)
+
+pub moving_at-requires-clause-within : goal.moving_at-requires-clause-within
+moving_at-requires-clause-within c = λ m slot s edge. (c.nodes-nodes.ensures.graph.can.succs m slot s edge).1
+
+pub moving_at-requires-clause-below : goal.moving_at-requires-clause-below
+moving_at-requires-clause-below c =
     let nodes = c.nodes-nodes.result.now in
     let i = c.loop-node.node-index in
     let at = slice_get-get_or nodes i c.node-item.result c.loop-node-test.true ∙ ap Some (sym c.node-item.is) in
@@ -53,8 +62,11 @@ returns c =
     let same = c.nodes-nodes.ensures.value in
     record {
       ordered = record { differ = sorted.differ; in_order = sorted.sorted };
-      all = λ n node p at is.
-          let here : slice_get nodes n ≡ Some node = ap (λ (l : List Node). slice_get l n) same ∙ at in
-          Contains-permutation old new p sorted.same (c.loop-node.invariant.all n node p (omega (arith, late, slice_get_within nodes n node here)) here is);
+      all = λ n next p at is.
+          let here : slice_get nodes n ≡ Some (Assign p.var p.rhs next) = ap (λ (l : List Node). slice_get l n) same ∙ at in
+          elim (c.loop-node.invariant.all n next p (omega (arith, late, slice_get_within nodes n (Assign p.var p.rhs next) here)) here is) [
+            | inl there ↦ inl (Contains-permutation old new p sorted.same there)
+            | inr stopped ↦ inr stopped
+          ];
       each = λ k p at. (let there = place old p (Contains-permutation new old p (IsPermutation-sym old new sorted.same) (held new k p at)) in c.loop-node.invariant.each there.0 p there.1);
     }

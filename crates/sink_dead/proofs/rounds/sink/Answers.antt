@@ -2,10 +2,11 @@ use Rattle.std.proofs.Common.{◌≡◌, ◌∙◌, ◌<◌, ◌≤◌, ◌++◌
 use Rattle.flow_graph.specs.Graphs.{GraphShape}
 use Rattle.sink_dead.specs.declared.rounds.MadeRound.{MadeRound}
 use Rattle.sink_dead.specs.RoundGraphs.{AreRounds}
+use Rattle.sink_dead.specs.RoundLaws.{last_keeps}
 use Rattle.sink_dead.specs.RoundsKept.{RoundsKeep}
 use Rattle.sink_dead.proofs.RoundsSoFar.{AreSoFar, all_keep, all_rounds, one_more}
 use Rattle.sink_dead.proofs.rounds.sink.Goals as goal
-use Rattle.sink_dead.proofs.rounds.sink.Goals.{then-rounds-test+else-len, else-rounds-test}
+use Rattle.sink_dead.proofs.rounds.sink.Goals.{After-of, then-rounds-test+else-len, else-rounds-test}
 
 pub rounds-preserved : goal.rounds-preserved
 rounds-preserved c =
@@ -16,13 +17,30 @@ rounds-preserved c =
     let pushed = c.in_ok-push.ensures.items ∙ ap (λ (m : MadeRound). rounds ++ m.graph ∷ []) c.replace.ensures.value in
     subst (AreSoFar graph c.push.new.self.items) (sym c.replace.ensures.after) (subst (λ (l : List GraphShape). AreSoFar graph l c.in_ok-next.next) (sym pushed) more)
 
+-- how the loop ended
+ends : (c : After-of) → (c.rounds.last.changed ≡ false) ⊎ (15 ≤ length c.rounds.rounds.items)
+ends c = elim c.rounds-test.branch [
+  | then-rounds-test+else-len w ↦ inr (omega (arith, w.if-len.false, w.len.ensures))
+  | else-rounds-test w ↦ inl w.rounds-test.false
+]
+
+-- the list that is returned: the rounds of the loop, and the last one
+list_is : (c : After-of) → c.of.result ≡ c.rounds.rounds.items ++ c.rounds.last.graph ∷ []
+list_is c = c.of.ensures ∙ c.in_ok-push-2.ensures.items
+
+are_rounds : (c : After-of) → AreRounds c.args.graph.now c.of.result
+are_rounds c = subst (AreRounds c.args.graph.now) (sym (list_is c)) (all_rounds c.args.graph.now c.rounds.rounds.items c.rounds.last c.rounds.invariant (ends c))
+
+they_keep : (c : After-of) → RoundsKeep c.args.graph.now c.of.result
+they_keep c = subst (RoundsKeep c.args.graph.now) (sym (list_is c)) (all_keep c.args.graph.now c.rounds.rounds.items c.rounds.last c.rounds.invariant)
+
 pub returns-clause-rounds : goal.returns-clause-rounds
-returns-clause-rounds c =
-    let ends : (c.rounds.last.changed ≡ false) ⊎ (15 ≤ length c.rounds.rounds.items) = elim c.rounds-test.branch [
-      | then-rounds-test+else-len w ↦ inr (omega (arith, w.if-len.false, w.len.ensures))
-      | else-rounds-test w ↦ inl w.rounds-test.false
-    ] in
-    subst (AreRounds c.args.graph.now) (sym c.in_ok-push-2.ensures.items) (all_rounds c.args.graph.now c.rounds.rounds.items c.rounds.last c.rounds.invariant ends)
+returns-clause-rounds c = are_rounds (goal.at.returns-clause-rounds c).After-of
 
 pub returns-clause-keeps : goal.returns-clause-keeps
-returns-clause-keeps c = subst (RoundsKeep c.args.graph.now) (sym c.in_ok-push-2.ensures.items) (all_keep c.args.graph.now c.rounds.rounds.items c.rounds.last c.rounds.invariant)
+returns-clause-keeps c = they_keep (goal.at.returns-clause-keeps c).After-of
+
+pub returns-clause-last : goal.returns-clause-last
+returns-clause-last c =
+    let known = (goal.at.returns-clause-last c).After-of in
+    last_keeps c.args.graph.now c.of.result (are_rounds known) (they_keep known)

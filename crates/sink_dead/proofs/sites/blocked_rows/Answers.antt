@@ -2,7 +2,8 @@ use Rattle.std.proofs.Common.{◌≤◌, length, Some, ap, sym, ◌∙◌}
 use Rattle.std.proofs.lemmas.List.{take_all}
 use Rattle.std.proofs.lemmas.Option.{slice_get-get_or}
 use Rattle.sink_dead.specs.SiteRows.{blocked_row}
-use Rattle.sink_dead.proofs.SiteBits.{are_blocked_rows, blocked_more, blocked_rows_of, longer}
+use Rattle.path_laws.specs.KeyRowLaws.{longer, rows_more}
+use Rattle.sink_dead.proofs.SiteBits.{are_blocked_rows, blocked_rows_of}
 use Rattle.sink_dead.proofs.BlockedLong.{row_long}
 use Rattle.sink_dead.proofs.sites.blocked_rows.Goals as goal
 
@@ -14,7 +15,7 @@ loop-node-preserved c =
     let at = slice_get-get_or nodes c.loop-node.node-index node c.loop-node-test.true ∙ ap Some (sym c.node-item.is) in
     let put = c.in_ok-push_blocked.ensures in
     record {
-      are = blocked_more by.assigning by.naming c.args.bits nodes c.loop-node.node-index node c.loop-node.rows c.push_blocked.new.rows c.loop-node-test.true c.node-item.is c.loop-node.invariant.are put;
+      are = rows_more (blocked_row by.assigning by.naming c.args.bits) nodes c.loop-node.node-index node c.loop-node.rows c.push_blocked.new.rows c.loop-node-test.true c.node-item.is c.loop-node.invariant.are put;
       long = longer c.args.bits c.loop-node.rows c.push_blocked.new.rows (blocked_row by.assigning by.naming c.args.bits node) c.loop-node.invariant.long (row_long by.assigning by.naming c.args.bits c.requires.assigning c.requires.naming node (c.requires.below c.loop-node.node-index node at)) put;
     }
 

@@ -1,0 +1,19 @@
+use Rattle.std.proofs.Common.{◌≡◌, ℕ, Option, Some, None, sym, ◌∙◌, subst}
+use Rattle.mir_base.specs.declared.instructions.Rhs.{Rhs}
+use Rattle.flow_graph.specs.declared.nodes.Node.{Node}
+use Rattle.flow_graph.specs.declared.nodes.Node.TheVariants.{Assign}
+use Rattle.flow_graph.specs.Graphs.{GraphShape}
+use Rattle.sink_dead.specs.declared.patterns.Pattern.{Pattern}
+use Rattle.sink_dead.specs.Moving.{IsStopped, MovesFrom, MovesOn}
+use Rattle.sink_dead.proofs.patterns.moving_at.Goals as goal
+
+-- an assignment has one successor
+moves_from : (graph : GraphShape) (node : Node) (x next : ℕ) (t : Rhs) → node ≡ Assign x t next → (found : Option Pattern) → MovesOn graph node next found → MovesFrom graph node found
+moves_from graph node x next t is None stops = λ p k at here.
+    let one : Assign x t next ≡ Assign p.var p.rhs k = sym is ∙ at in
+    let same : next ≡ k = cc in
+    subst (IsStopped graph p) same (stops p here)
+moves_from graph node x next t is (Some p) moves = moves
+
+pub returns-in-Assign : goal.returns-in-Assign
+returns-in-Assign c = λ graph same. moves_from graph c.args.node.now c.in-Assign.field-0 c.in-Assign.next c.in-Assign.field-1 c.in-Assign.is c.moving_on.result (c.moving_on.ensures graph same)
