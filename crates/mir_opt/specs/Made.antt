@@ -9,12 +9,12 @@ use Rattle.flow_graph.specs.Graphs.{AllWithin, GraphShape}
 use Rattle.flow_graph.specs.Keeps.{AsGraph, AsUnit, Keeps}
 use Rattle.flow_graph.specs.Layouts.{IsLayout}
 use Rattle.flow_graph.specs.Lowered.{CanLower}
-use Rattle.flow_graph.specs.Passes.{GraphDivides}
+use Rattle.flow_graph.specs.Passes.{GraphDivides, GraphKeeps}
 use Rattle.cond_const.specs.Folded.{KeepsDivisions}
 use Rattle.motion_rewrite.specs.Flatten.{IsFlattened}
 use Rattle.motion_rewrite.specs.Tables.{movable_exprs}
-use Rattle.sink_dead.specs.RoundGraphs.{AreRounds}
-use Rattle.sink_dead.specs.RoundsKept.{RoundsKeep}
+use Rattle.sink_dead.specs.RoundGraphs.{last_round}
+use Rattle.sink_dead.specs.RoundsKept.{LastKeeps, RoundsKeep}
 use Rattle.mir_opt.specs.declared.back.Back.{Back}
 use Rattle.mir_opt.specs.declared.front.Front.{Front}
 use Rattle.mir_opt.specs.declared.front.Lowered.{Lowered}
@@ -26,7 +26,7 @@ use Rattle.mir_opt.specs.declared.walking.Walked.{Walked}
 use Rattle.mir_opt.specs.Best.{IsBest, MovesBest}
 use Rattle.mir_opt.specs.Divisions.{DivisionsStay}
 use Rattle.mir_opt.specs.Links.{IsBack, IsBeforeMotion, IsLazyPlacement, IsMotion, IsStart}
-use Rattle.mir_opt.specs.Stages.{AreLaid, KeepsProgram, after_all}
+use Rattle.mir_opt.specs.Stages.{AreLaid, KeepsProgram}
 
 -- after all passes the code motion of a unit is the best, and divisions stay
 pub record UnitBest (unit : UnitTrail) : Type 0 where
@@ -50,15 +50,15 @@ pub record LoweredMade (source : UnitShape) (made : Lowered) : Type 0 where
   pub start : IsStart source made.lowered made.cleaned
   pub within : AllWithin made.lowered.nodes
   pub lowered_keeps : Keeps (AsUnit source) (AsGraph made.lowered)
-  pub cleaned_keeps : Keeps (AsGraph made.lowered) (AsGraph made.cleaned)
+  pub cleaned_keeps : GraphKeeps made.lowered made.cleaned
   pub divides : GraphDivides made.lowered made.cleaned
 
 -- the passes on values, on a clean graph
 pub record ValuesMade (cleaned : GraphShape) (made : Valued) : Type 0 where
   pub values : IsBeforeMotion cleaned made.folded made.numbered made.copied
-  pub folded_keeps : Keeps (AsGraph cleaned) (AsGraph made.folded)
-  pub numbered_keeps : Keeps (AsGraph made.folded) (AsGraph made.numbered)
-  pub copied_keeps : Keeps (AsGraph made.numbered) (AsGraph made.copied)
+  pub folded_keeps : GraphKeeps cleaned made.folded
+  pub numbered_keeps : GraphKeeps made.folded made.numbered
+  pub copied_keeps : GraphKeeps made.numbered made.copied
   pub folded_divides : KeepsDivisions cleaned made.folded
   pub copied_divides : GraphDivides made.folded made.copied
 
@@ -69,17 +69,12 @@ pub record FrontMade (source : UnitShape) (made : Front) : Type 0 where
 
 -- and those after it
 pub record BackMade (moved : GraphShape) (made : Back) : Type 0 where
-  pub back : IsBack moved made.recopied made.sunk made.swept
-  pub recopied_keeps : Keeps (AsGraph moved) (AsGraph made.recopied)
-  pub sunk_keep : RoundsKeep made.recopied made.sunk
-  pub within : AllWithin (after_all made.recopied made.sunk).nodes
-  pub swept_keeps : Keeps (AsGraph (after_all made.recopied made.sunk)) (AsGraph made.swept)
+  pub back : IsBack moved made.recopied made.sunk.rounds made.swept
+  pub recopied_keeps : GraphKeeps moved made.recopied
+  pub rounds_keep : RoundsKeep made.recopied made.sunk.rounds
+  pub last_keeps : LastKeeps made.recopied (last_round made.recopied made.sunk.rounds)
+  pub swept_keeps : GraphKeeps (last_round made.recopied made.sunk.rounds) made.swept
   pub divides : GraphDivides moved made.swept
-
--- the rounds of sinking on a graph
-pub record RoundsMade (graph : GraphShape) (made : List GraphShape) : Type 0 where
-  pub rounds : AreRounds graph made
-  pub keep : RoundsKeep graph made
 
 -- the rewriting of a split graph by the lazy placement of a table: the moved graph keeps it, and stays split
 pub record CodeMade (Down : GraphShape → Expr → ℕ → Type 0) (split : GraphShape) (table : List Expr) (made : Placed) : Type 0 where
@@ -87,7 +82,7 @@ pub record CodeMade (Down : GraphShape → Expr → ℕ → Type 0) (split : Gra
   pub flattened : IsFlattened split table made.placement made.moved
   pub best : IsBest Down split table made.placement made.moved
   pub is_split : IsSplit made.moved.nodes
-  pub keeps : Keeps (AsGraph split) (AsGraph made.moved)
+  pub keeps : GraphKeeps split made.moved
   pub divides : GraphDivides split made.moved
 
 -- code motion by a down rule on a graph: each graph keeps the one before
@@ -95,8 +90,8 @@ pub record MotionMade (Down : GraphShape → Expr → ℕ → Type 0) (graph : G
   pub motion : IsMotion movable_exprs Down graph made.split made.table made.placement made.moved
   pub best : IsBest Down made.split made.table made.placement made.moved
   pub is_split : IsSplit made.moved.nodes
-  pub split_keeps : Keeps (AsGraph graph) (AsGraph made.split)
-  pub moved_keeps : Keeps (AsGraph made.split) (AsGraph made.moved)
+  pub split_keeps : GraphKeeps graph made.split
+  pub moved_keeps : GraphKeeps made.split made.moved
   pub divides : GraphDivides graph made.moved
 
 -- the unit is the layout of the graph, keeps it, and can be lowered again

@@ -18,7 +18,7 @@ use Rattle.value_number.specs.Numbered.{IsNumbered}
 use Rattle.value_number.specs.NumberedLaws.{numbered_is_one}
 use Rattle.copy_flow.specs.Copied.{IsCopied}
 use Rattle.copy_flow.specs.CopiedLaws.{copied_is_one}
-use Rattle.sink_dead.specs.RoundGraphs.{AreRounds}
+use Rattle.sink_dead.specs.RoundGraphs.{AreRounds, last_round}
 use Rattle.sink_dead.specs.RoundLaws.{sunk_rounds_are_one}
 use Rattle.motion_rewrite.specs.declared.placement.Placement.{Placement}
 use Rattle.motion_rewrite.specs.Flatten.{IsFlattened}
@@ -29,7 +29,7 @@ use Rattle.latest_place.specs.LazyLaws.{lazy_is_one}
 use Rattle.mir_opt.specs.declared.trails.MoveUnit.{MoveUnit}
 use Rattle.mir_opt.specs.declared.trails.UnitTrail.{UnitTrail}
 use Rattle.mir_opt.specs.Links.{AllLinked, HasOneLink, IsLazyPlacement, IsMotion, IsStart, LinksMove, LinksUnit}
-use Rattle.mir_opt.specs.Stages.{AreLaid, CleansWithin, MotionCleansWithin, after_all}
+use Rattle.mir_opt.specs.Stages.{AreLaid, CleansWithin, MotionCleansWithin}
 
 -- ---- single passes
 
@@ -97,9 +97,9 @@ motion_is_one exprs Down graph graph' split split' table table' placement placem
 -- ---- one unit
 
 -- trails with equal parts are equal
-same_trails : (a b : UnitTrail) → a.lowered ≡ b.lowered → a.cleaned ≡ b.cleaned → a.folded ≡ b.folded → a.numbered ≡ b.numbered → a.copied ≡ b.copied → a.split ≡ b.split → a.table ≡ b.table → a.placement ≡ b.placement → a.moved ≡ b.moved → a.recopied ≡ b.recopied → a.sunk ≡ b.sunk → a.swept ≡ b.swept → a ≡ b
+same_trails : (a b : UnitTrail) → a.lowered ≡ b.lowered → a.cleaned ≡ b.cleaned → a.folded ≡ b.folded → a.numbered ≡ b.numbered → a.copied ≡ b.copied → a.split ≡ b.split → a.table ≡ b.table → a.placement ≡ b.placement → a.moved ≡ b.moved → a.recopied ≡ b.recopied → a.sunk.rounds ≡ b.sunk.rounds → a.swept ≡ b.swept → a ≡ b
 same_trails a b lowered cleaned folded numbered copied split table placement moved recopied sunk swept =
-    let same : ◌≡◌ {A = UnitTrail} (record { lowered = a.lowered; cleaned = a.cleaned; folded = a.folded; numbered = a.numbered; copied = a.copied; split = a.split; table = a.table; placement = a.placement; moved = a.moved; recopied = a.recopied; sunk = a.sunk; swept = a.swept }) (record { lowered = b.lowered; cleaned = b.cleaned; folded = b.folded; numbered = b.numbered; copied = b.copied; split = b.split; table = b.table; placement = b.placement; moved = b.moved; recopied = b.recopied; sunk = b.sunk; swept = b.swept }) = cc in
+    let same : ◌≡◌ {A = UnitTrail} (record { lowered = a.lowered; cleaned = a.cleaned; folded = a.folded; numbered = a.numbered; copied = a.copied; split = a.split; table = a.table; placement = a.placement; moved = a.moved; recopied = a.recopied; sunk = record { rounds = a.sunk.rounds }; swept = a.swept }) (record { lowered = b.lowered; cleaned = b.cleaned; folded = b.folded; numbered = b.numbered; copied = b.copied; split = b.split; table = b.table; placement = b.placement; moved = b.moved; recopied = b.recopied; sunk = record { rounds = b.sunk.rounds }; swept = b.swept }) = cc in
     same
 
 -- so are move trails
@@ -140,11 +140,11 @@ module _ (source : UnitShape) (a b : UnitTrail) (within : CleansWithin a) (p : L
   recopied : a.recopied ≡ b.recopied
   recopied = copied_same a.moved b.moved a.recopied b.recopied motion.moves p.back.copies q.back.copies
 
-  sunk : a.sunk ≡ b.sunk
-  sunk = sunk_rounds_are_one a.recopied a.sunk b.sunk p.back.sinks (subst (λ g. AreRounds g b.sunk) (sym recopied) q.back.sinks)
+  sunk : a.sunk.rounds ≡ b.sunk.rounds
+  sunk = sunk_rounds_are_one a.recopied a.sunk.rounds b.sunk.rounds p.back.sinks (subst (λ g. AreRounds g b.sunk.rounds) (sym recopied) q.back.sinks)
 
   swept : a.swept ≡ b.swept
-  swept = clean_same (after_all a.recopied a.sunk) (after_all b.recopied b.sunk) a.swept b.swept within.1 (ap (λ g. after_all g a.sunk) recopied ∙ ap (after_all b.recopied) sunk) p.back.sweeps q.back.sweeps
+  swept = clean_same (last_round a.recopied a.sunk.rounds) (last_round b.recopied b.sunk.rounds) a.swept b.swept within.1 (ap (λ g. last_round g a.sunk.rounds) recopied ∙ ap (last_round b.recopied) sunk) p.back.sweeps q.back.sweeps
 
   pub unit_is_one : a ≡ b
   unit_is_one = same_trails a b start.lowers start.cleans folded numbered copied motion.splits motion.tables motion.placements motion.moves recopied sunk swept

@@ -9,6 +9,7 @@ use Rattle.mir_sim.specs.Pairs.{AllUnitsSame}
 use Rattle.flow_graph.specs.Graphs.{AllWithin, GraphShape}
 use Rattle.flow_graph.specs.Keeps.{AsGraph, AsUnit, Keeps}
 use Rattle.flow_graph.specs.Layouts.{IsLayout}
+use Rattle.sink_dead.specs.RoundGraphs.{last_round}
 use Rattle.mir_opt.specs.declared.stages.Stage.{Stage}
 use Rattle.mir_opt.specs.declared.stages.Stage.TheVariants.{Lower, Clean, Fold, Number, Copies, Split, Motion, CopiesAfterMotion, Round, Result}
 use Rattle.mir_opt.specs.declared.stages.MoveStage.{MoveStage}
@@ -22,10 +23,6 @@ after_rounds graph [] count = graph
 after_rounds graph (round ∷ rounds) zero = graph
 after_rounds graph (round ∷ rounds) (suc count) = after_rounds round rounds count
 
--- the graph after all of them
-abbrev pub after_all : GraphShape → List GraphShape → GraphShape
-after_all graph rounds = after_rounds graph rounds (length rounds)
-
 -- the graph of a unit at a stage of all passes; a unit with fewer rounds shows its last one
 abbrev pub graph_at : UnitTrail → Stage → GraphShape
 graph_at unit Lower = unit.lowered
@@ -36,12 +33,12 @@ graph_at unit Copies = unit.copied
 graph_at unit Split = unit.split
 graph_at unit Motion = unit.moved
 graph_at unit CopiesAfterMotion = unit.recopied
-graph_at unit (Round count) = after_rounds unit.recopied unit.sunk count
+graph_at unit (Round count) = after_rounds unit.recopied unit.sunk.rounds count
 graph_at unit Result = unit.swept
 
 -- the greatest number of rounds that any of these units had
 abbrev pub most_rounds : List UnitTrail → ℕ
-most_rounds units = fold (λ most unit. max most (length unit.sunk)) 0 units
+most_rounds units = fold (λ most unit. max most (length unit.sunk.rounds)) 0 units
 
 -- so many rounds
 abbrev pub first_rounds : ℕ → List Stage
@@ -66,7 +63,7 @@ move_graph_at unit moves.Result = unit.swept
 
 -- the edges of the graphs of a unit that are cleaned lead to nodes
 abbrev pub CleansWithin : UnitTrail → Type 0
-CleansWithin unit = AllWithin unit.lowered.nodes × AllWithin (after_all unit.recopied unit.sunk).nodes
+CleansWithin unit = AllWithin unit.lowered.nodes × AllWithin (last_round unit.recopied unit.sunk.rounds).nodes
 
 -- and of one whose code is moved alone
 abbrev pub MotionCleansWithin : MoveUnit → Type 0

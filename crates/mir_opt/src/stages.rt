@@ -1,5 +1,6 @@
 // The stages of the passes, and the graph of a unit at each.
 ghost use Rattle.std.specs.Prelude.{◌≡◌, ◌++◌, IfOk, OnOk};
+ghost use Rattle.sink_dead.specs.RoundGraphs.{last_round};
 ghost use Rattle.mir_opt.specs.Stages.{after_rounds, first_rounds, graph_at, most_rounds, move_graph_at, stages_in};
 
 use crate::{Memory, MoveUnit, Trail, UnitTrail};
@@ -69,7 +70,7 @@ fn most_rounds(units: &[UnitTrail]) -> usize
 {
     let mut most = 0;
     for unit in units {
-        most = most.max(unit.sunk.items().len());
+        most = most.max(unit.sunk.rounds.items().len());
     }
     most
 }
@@ -103,7 +104,7 @@ impl UnitTrail {
             Stage::Split => &self.split,
             Stage::Motion => &self.moved,
             Stage::CopiesAfterMotion => &self.recopied,
-            Stage::Round(count) => after_rounds(&self.recopied, self.sunk.items(), count),
+            Stage::Round(count) => after_rounds(&self.recopied, self.sunk.rounds.items(), count),
             Stage::Result => &self.swept,
         }
     }
@@ -125,7 +126,7 @@ impl MoveUnit {
 }
 
 /// The graph after so many rounds; after the last one it stays. It does not allocate.
-pub(crate) fn after_rounds<'a>(graph: &'a Graph, rounds: &'a [Graph], count: usize) -> &'a Graph
+fn after_rounds<'a>(graph: &'a Graph, rounds: &'a [Graph], count: usize) -> &'a Graph
     ensures { result.now ≡ after_rounds graph.now rounds.now count }
 {
     if count == 0 {
@@ -134,8 +135,15 @@ pub(crate) fn after_rounds<'a>(graph: &'a Graph, rounds: &'a [Graph], count: usi
     if count < rounds.len() {
         return &rounds[count - 1];
     }
-    if rounds.is_empty() {
-        return graph;
+    last_round(graph, rounds)
+}
+
+/// The graph after all of these rounds. It does not allocate.
+pub(crate) fn last_round<'a>(graph: &'a Graph, rounds: &'a [Graph]) -> &'a Graph
+    ensures { result.now ≡ last_round graph.now rounds.now }
+{
+    match rounds.last() {
+        None => graph,
+        Some(last) => last,
     }
-    &rounds[rounds.len() - 1]
 }

@@ -1,4 +1,4 @@
-use Rattle.std.proofs.Common.{◌≡◌, ◌<◌, ◌-◌, suc, length, sym, ap, ◌∙◌, arith}
+use Rattle.std.proofs.Common.{◌≡◌, ◌-◌, suc, sym, ap, ◌∙◌, arith}
 use Rattle.mir_opt.specs.Stages.{after_rounds}
 use Rattle.mir_opt.proofs.Rounds.{after_none, after_past, after_some}
 use Rattle.mir_opt.proofs.stages.after_rounds.Goals as goal
@@ -12,9 +12,4 @@ returns-then-count-rounds c =
     c.index-rounds-count.is ∙ after_some c.args.graph.now c.args.rounds.now (c.args.count - 1) c.index-rounds-count.result (omega (arith, c.if-count-rounds.true)) ∙ ap (after_rounds c.args.graph.now c.args.rounds.now) here
 
 pub returns : goal.returns
-returns c =
-    let rounds = c.args.rounds.now in
-    let some : 0 < length rounds = grind (arith, c.is_empty.ensures, c.if-is_empty.false) in
-    let here : suc (length rounds - 1) ≡ length rounds = omega (arith, some) in
-    c.index-rounds-rounds.is ∙ after_some c.args.graph.now rounds (length rounds - 1) c.index-rounds-rounds.result (omega (arith, some)) ∙ ap (after_rounds c.args.graph.now rounds) here
-    ∙ sym (after_past c.args.graph.now rounds c.args.count (omega (arith, c.if-count-rounds.false)))
+returns c = c.last_round.ensures ∙ sym (after_past c.args.graph.now c.args.rounds.now c.args.count (omega (arith, c.if-count-rounds.false)))

@@ -1,13 +1,13 @@
 -- Each pass keeps the graph before it, so each stage keeps the source; and what divides stays from pass to pass.
-use Rattle.std.proofs.Common.{ℕ, List, [], ◌∷◌, length, arith}
+use Rattle.std.proofs.Common.{List, [], ◌∷◌, arith}
 use Rattle.std.specs.Prelude.{All}
 use Rattle.flow_graph.specs.DividingLaws.{stay_trans}
 use Rattle.flow_graph.specs.Keeps.{AsGraph, AsUnit, Form, KeepInTurn, Keeps}
-use Rattle.flow_graph.specs.KeepsLaws.{chain_keeps, keeps_trans}
+use Rattle.flow_graph.specs.KeepsLaws.{chain_keeps}
 use Rattle.flow_graph.specs.Passes.{GraphDivides}
+use Rattle.sink_dead.specs.RoundGraphs.{last_round}
 use Rattle.sink_dead.specs.RoundLaws.{rounds_in_turn}
 use Rattle.mir_opt.specs.declared.stages.Stage.TheVariants.{Lower, Clean, Fold, Number, Copies, Split, Motion, CopiesAfterMotion, Round, Result}
-use Rattle.mir_opt.specs.Stages.{after_all, after_rounds}
 use Rattle.mir_opt.proofs.Rounds.{rounds_keep}
 use Rattle.mir_opt.proofs.chain.UnitTrailUnitSteps.make.Goals as goal
 
@@ -23,10 +23,9 @@ returns c =
     let front = c.in_ok-front.ensures in
     let after = c.in_ok-back.ensures in
     let source : Form = AsUnit c.args.source.now in
-    let stages : List Form = AsGraph start.lowered ∷ AsGraph start.cleaned ∷ AsGraph values.folded ∷ AsGraph values.numbered ∷ AsGraph values.copied ∷ AsGraph code.split ∷ AsGraph code.moved ∷ AsGraph back.recopied ∷ [] in
-    let passes : KeepInTurn source stages = (front.start.lowered_keeps, (front.start.cleaned_keeps, (front.values.folded_keeps, (front.values.numbered_keeps, (front.values.copied_keeps, (c.in_ok-code.ensures.split_keeps, (c.in_ok-code.ensures.moved_keeps, (after.recopied_keeps, tt)))))))) in
+    let stages : List Form = AsGraph start.lowered ∷ AsGraph start.cleaned ∷ AsGraph values.folded ∷ AsGraph values.numbered ∷ AsGraph values.copied ∷ AsGraph code.split ∷ AsGraph code.moved ∷ AsGraph back.recopied ∷ AsGraph (last_round back.recopied back.sunk.rounds) ∷ AsGraph back.swept ∷ [] in
+    let passes : KeepInTurn source stages = (front.start.lowered_keeps, (front.start.cleaned_keeps, (front.values.folded_keeps, (front.values.numbered_keeps, (front.values.copied_keeps, (c.in_ok-code.ensures.split_keeps, (c.in_ok-code.ensures.moved_keeps, (after.recopied_keeps, (after.last_keeps.keeps, (after.swept_keeps, tt)))))))))) in
     let keep : All (Keeps source) stages = chain_keeps source stages passes in
-    let rounds : (count : ℕ) → Keeps source (AsGraph (after_rounds back.recopied back.sunk count)) = rounds_keep source back.recopied back.sunk (keep 7 source (omega arith)) (rounds_in_turn back.recopied back.sunk after.sunk_keep) in
     let rest : GraphDivides values.folded back.swept =
     stay_trans values.folded.nodes values.copied.nodes back.swept.nodes front.values.copied_divides (stay_trans values.copied.nodes code.moved.nodes back.swept.nodes c.in_ok-code.ensures.divides after.divides) in
     record {
@@ -41,8 +40,8 @@ returns c =
         | Split ↦ keep 5 source (omega arith)
         | Motion ↦ keep 6 source (omega arith)
         | CopiesAfterMotion ↦ keep 7 source (omega arith)
-        | Round count ↦ rounds count
-        | Result ↦ keeps_trans source (AsGraph (after_all back.recopied back.sunk)) (AsGraph back.swept) (rounds (length back.sunk)) after.swept_keeps
+        | Round count ↦ rounds_keep source back.recopied back.sunk.rounds (keep 7 source (omega arith)) (rounds_in_turn back.recopied back.sunk.rounds after.rounds_keep) count
+        | Result ↦ keep 9 source (omega arith)
       ];
-      within = (front.start.within, after.within);
+      within = (front.start.within, after.last_keeps.within);
     }
