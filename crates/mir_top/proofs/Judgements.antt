@@ -11,16 +11,18 @@ use Rattle.mir_valid.specs.Refusals.{refusal}
 use Rattle.mir_valid.specs.Stands.{StandsFor}
 use Rattle.mir_valid.specs.Texts.{IsTextOf}
 use Rattle.mir_top.specs.declared.command.Command.{Command}
-use Rattle.mir_top.specs.declared.command.Command.TheVariants.{Optimise, Move, Run, Trial}
+use Rattle.mir_top.specs.declared.command.Command.TheVariants.{Optimise, Stages, Move, Run, Trial}
 use Rattle.mir_top.specs.declared.outcome.Outcome.{Outcome}
 use Rattle.mir_top.specs.Calls.{answer_of}
 use Rattle.mir_top.specs.Commands.{command_of, inputs_in, reads_text, Reads}
 use Rattle.mir_top.specs.Complaints.{Complaint, wrong_inputs, deep, of_text, of_program}
-use Rattle.mir_top.specs.Due.{IsShortTextOf, WorksOn, IsRefused, long, unreadable, invalid, Refuses, no_command, no_text, wrong_number, too_deep, Completes, of_optimise, of_move, of_run, of_trial, status_of_finish}
-use Rattle.mir_top.specs.Outputs.{Runs, reported, report_text, IsSummary, trail_summary, IsOnlyOutput, Makes, optimised, moved, ran, compared}
+use Rattle.mir_top.specs.Due.{IsShortTextOf, WorksOn, IsRefused, long, unreadable, invalid, Refuses, no_command, no_text, wrong_number, too_deep, Completes, of_optimise, of_stages, of_move, of_run, of_trial, status_of_finish}
+use Rattle.mir_top.specs.Outputs.{Runs, reported, report_text, IsSummary, trail_summary, IsOnlyOutput, Makes, optimised, shown, moved, ran, compared}
 use Rattle.mir_top.specs.Promises.{HasRead}
+use Rattle.mir_top.specs.StageTexts.{ShowsStages}
 use Rattle.mir_top.specs.Streams.{Stream, TookAll}
 use Rattle.mir_top.specs.Texts.{OneReading}
+use Rattle.mir_top.proofs.ShownLaws.{stages_same}
 use Rattle.mir_top.proofs.Statuses.{is_of_run}
 
 -- ---- commands
@@ -40,6 +42,7 @@ same_steps one other asked first second = let e = sym first ∙ second in cc
 -- a command that reads the text works on the program of the text
 pub within_of : (command : Command) (text : List ℕ) (program : ProgramShape) → IsTrue (reads_text command) → WorksOn command text program → IsShortTextOf text program
 within_of Optimise text program reads on = on
+within_of Stages text program reads on = on
 within_of Move text program reads on = on
 within_of (Run steps) text program reads on = on
 within_of (Trial number units) text program reads on = absurd (cc)
@@ -47,6 +50,7 @@ within_of (Trial number units) text program reads on = absurd (cc)
 -- and a command works on the program of the text
 pub works_on : (command : Command) (text : List ℕ) (program : ProgramShape) → IsTrue (reads_text command) → IsShortTextOf text program → WorksOn command text program
 works_on Optimise text program reads within = within
+works_on Stages text program reads within = within
 works_on Move text program reads within = within
 works_on (Run steps) text program reads within = within
 works_on (Trial number units) text program reads within = absurd (cc)
@@ -133,6 +137,7 @@ refuses_same laws words text _ other (too_deep n program asked on right above) a
 pub runs_of : (inputs : List ℤ) (program : ProgramShape) (command : Command) (outcome : Outcome) (output : List ℕ) (steps : ℕ) → Makes inputs program command outcome output → command ≡ Run steps
     → Runs program inputs steps × ((answer_of outcome).status ≡ status_of_finish (reported program inputs steps).finish) × (output ≡ report_text (reported program inputs steps))
 runs_of inputs program _ _ _ steps (optimised trail source optimises) is = absurd (cc)
+runs_of inputs program _ _ _ steps (shown trail source optimises text shows) is = absurd (cc)
 runs_of inputs program _ _ _ steps (moved trail source moves) is = absurd (cc)
 runs_of inputs program _ _ _ steps (compared number units output is_summary) is = absurd (cc)
 runs_of inputs program _ _ _ steps (ran n runs report reports) is =
@@ -145,6 +150,7 @@ runs_of inputs program _ _ _ steps (ran n runs report reports) is =
 -- an outcome with status 3 or 4 is that of a run
 pub run_of_status : (inputs : List ℤ) (program : ProgramShape) (command : Command) (outcome : Outcome) (output : List ℕ) → Makes inputs program command outcome output → is_of_run (answer_of outcome).status → (n : ℕ) × (command ≡ Run n)
 run_of_status inputs program _ _ _ (optimised trail source optimises) is = absurd is
+run_of_status inputs program _ _ _ (shown trail source optimises text shows) is = absurd is
 run_of_status inputs program _ _ _ (moved trail source moves) is = absurd is
 run_of_status inputs program _ _ _ (compared number units output is_summary) is = absurd is
 run_of_status inputs program _ _ _ (ran n runs report reports) is = (n, refl)
@@ -152,6 +158,7 @@ run_of_status inputs program _ _ _ (ran n runs report reports) is = (n, refl)
 -- what a trial makes
 pub summary_of : (inputs : List ℤ) (program : ProgramShape) (command : Command) (outcome : Outcome) (output : List ℕ) (number units : ℕ) → Makes inputs program command outcome output → command ≡ Trial number units → IsSummary program output
 summary_of inputs program _ _ _ number units (optimised trail source optimises) is = absurd (cc)
+summary_of inputs program _ _ _ number units (shown trail source optimises text shows) is = absurd (cc)
 summary_of inputs program _ _ _ number units (moved trail source moves) is = absurd (cc)
 summary_of inputs program _ _ _ number units (ran n runs report reports) is = absurd (cc)
 summary_of inputs program _ _ _ number units (compared other count output summary) is = summary
@@ -159,6 +166,7 @@ summary_of inputs program _ _ _ number units (compared other count output summar
 -- what a trial makes has status 0
 pub status_of_trial : (inputs : List ℤ) (program : ProgramShape) (command : Command) (outcome : Outcome) (output : List ℕ) (number units : ℕ) → Makes inputs program command outcome output → command ≡ Trial number units → (answer_of outcome).status ≡ 0
 status_of_trial inputs program _ _ _ number units (optimised trail source optimises) is = refl
+status_of_trial inputs program _ _ _ number units (shown trail source optimises text shows) is = refl
 status_of_trial inputs program _ _ _ number units (moved trail source moves) is = refl
 status_of_trial inputs program _ _ _ number units (ran n runs report reports) is = absurd (cc)
 status_of_trial inputs program _ _ _ number units (compared other count output summary) is = refl
@@ -202,6 +210,7 @@ unread_refusal words text command _ asked unread (too_deep n other also on right
 -- where an output is due, no refusal is
 pub completes_no_refusal : OneReading → (words : List (List ℕ)) (text : List ℕ) (status : ℕ) (complaint : Complaint) → Completes words text status → Refuses words text complaint → ⊥
 completes_no_refusal laws words text _ complaint (of_optimise program asked on) refuses = other_refusal laws words text Optimise program complaint asked on (λ n is. absurd (cc)) refuses
+completes_no_refusal laws words text _ complaint (of_stages program asked on) refuses = other_refusal laws words text Stages program complaint asked on (λ n is. absurd (cc)) refuses
 completes_no_refusal laws words text _ complaint (of_move program asked on) refuses = other_refusal laws words text Move program complaint asked on (λ n is. absurd (cc)) refuses
 completes_no_refusal laws words text _ complaint (of_trial number units asked) refuses = unread_refusal words text (Trial number units) complaint asked (λ reads. absurd (cc)) refuses
 completes_no_refusal laws words text _ complaint (of_run n program asked on runs) refuses =
@@ -211,6 +220,7 @@ completes_no_refusal laws words text _ complaint (of_run n program asked on runs
 -- what is made by a command that is no run has status 0
 status_of_text : (inputs : List ℤ) (program : ProgramShape) (command : Command) (outcome : Outcome) (output : List ℕ) → Makes inputs program command outcome output → ((n : ℕ) → command ≡ Run n → ⊥) → (answer_of outcome).status ≡ 0
 status_of_text inputs program _ _ _ (optimised trail source optimises) no_run = refl
+status_of_text inputs program _ _ _ (shown trail source optimises text shows) no_run = refl
 status_of_text inputs program _ _ _ (moved trail source moves) no_run = refl
 status_of_text inputs program _ _ _ (compared number units output is_summary) no_run = refl
 status_of_text inputs program _ _ _ (ran n runs report reports) no_run = absurd (no_run n refl)
@@ -220,6 +230,8 @@ pub completes_status : OneReading → (words : List (List ℕ)) (text : List ℕ
     → Makes (inputs_in words) program command outcome output → (answer_of outcome).status ≡ status
 completes_status laws words text _ command program outcome output (of_optimise other also within) asked on makes =
     status_of_text (inputs_in words) program command outcome output makes (λ n is. let e = sym (same_command command Optimise (command_of words) asked also) ∙ is in absurd (cc))
+completes_status laws words text _ command program outcome output (of_stages other also within) asked on makes =
+    status_of_text (inputs_in words) program command outcome output makes (λ n is. let e = sym (same_command command Stages (command_of words) asked also) ∙ is in absurd (cc))
 completes_status laws words text _ command program outcome output (of_move other also within) asked on makes =
     status_of_text (inputs_in words) program command outcome output makes (λ n is. let e = sym (same_command command Move (command_of words) asked also) ∙ is in absurd (cc))
 completes_status laws words text _ command program outcome output (of_trial number units also) asked on makes =
@@ -232,6 +244,7 @@ completes_status laws words text _ command program outcome output (of_run n othe
 -- under a command that is no run an output is due with status 0
 due_of_text : (words : List (List ℕ)) (text : List ℕ) (command : Command) (status : ℕ) → command_of words ≡ Some command → ((n : ℕ) → command ≡ Run n → ⊥) → Completes words text status → 0 ≡ status
 due_of_text words text command _ asked no_run (of_optimise program also on) = refl
+due_of_text words text command _ asked no_run (of_stages program also on) = refl
 due_of_text words text command _ asked no_run (of_move program also on) = refl
 due_of_text words text command _ asked no_run (of_trial number units also) = refl
 due_of_text words text command _ asked no_run (of_run n program also on runs) = absurd (no_run n (same_command command (Run n) (command_of words) asked also))
@@ -239,6 +252,7 @@ due_of_text words text command _ asked no_run (of_run n program also on runs) = 
 -- under a run of the program of the text it is due with the status of its end
 due_of_run : OneReading → (words : List (List ℕ)) (text : List ℕ) (steps : ℕ) (program : ProgramShape) (status : ℕ) → command_of words ≡ Some (Run steps) → IsShortTextOf text program → Completes words text status → status_of_finish (reported program (inputs_in words) steps).finish ≡ status
 due_of_run laws words text steps program _ asked within (of_optimise other also on) = absurd (let e = same_command (Run steps) Optimise (command_of words) asked also in cc)
+due_of_run laws words text steps program _ asked within (of_stages other also on) = absurd (let e = same_command (Run steps) Stages (command_of words) asked also in cc)
 due_of_run laws words text steps program _ asked within (of_move other also on) = absurd (let e = same_command (Run steps) Move (command_of words) asked also in cc)
 due_of_run laws words text steps program _ asked within (of_trial number units also) = absurd (let e = same_command (Run steps) (Trial number units) (command_of words) asked also in cc)
 due_of_run laws words text steps program _ asked within (of_run n other also on runs) =
@@ -248,6 +262,7 @@ due_of_run laws words text steps program _ asked within (of_run n other also on 
 -- where an output is due, it is due with one status
 pub completes_same : OneReading → (words : List (List ℕ)) (text : List ℕ) (one other : ℕ) → Completes words text one → Completes words text other → one ≡ other
 completes_same laws words text _ other (of_optimise program asked on) due = due_of_text words text Optimise other asked (λ n is. absurd (cc)) due
+completes_same laws words text _ other (of_stages program asked on) due = due_of_text words text Stages other asked (λ n is. absurd (cc)) due
 completes_same laws words text _ other (of_move program asked on) due = due_of_text words text Move other asked (λ n is. absurd (cc)) due
 completes_same laws words text _ other (of_trial number units asked) due = due_of_text words text (Trial number units) other asked (λ n is. absurd (cc)) due
 completes_same laws words text _ other (of_run n program asked on runs) due = due_of_run laws words text n program other asked on due
@@ -258,6 +273,8 @@ completes_same laws words text _ other (of_run n program asked on runs) due = du
 pub only_output : (inputs : List ℤ) (program : ProgramShape) (command : Command) (outcome : Outcome) (output : List ℕ) → Makes inputs program command outcome output → IsOnlyOutput inputs program command output
 only_output inputs program _ _ _ (optimised trail source optimises) _ _ (optimised other also improves) =
     ap (λ (t : Trail). canonical_text t.target) (optimises.only other (also ∙ sym source) improves.linked)
+only_output inputs program _ _ _ (shown trail source optimises text shows) _ _ (shown other also improves text' shows') =
+    stages_same trail text text' shows (subst (λ (t : Trail). ShowsStages t text') (sym (optimises.only other (also ∙ sym source) improves.linked)) shows')
 only_output inputs program _ _ _ (moved trail source moves) _ _ (moved other also improves) =
     ap (λ (t : MoveTrail). canonical_text t.target) (moves.only other (also ∙ sym source) improves.linked)
 only_output inputs program _ _ _ (compared number units output is) _ _ (compared _ _ other also) =

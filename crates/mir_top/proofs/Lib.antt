@@ -1,5 +1,6 @@
 mod MadeLaws
 mod Statuses
+mod ShownLaws
 mod Judgements
 mod Subjects
 mod Endings

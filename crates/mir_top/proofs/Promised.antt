@@ -1,27 +1,29 @@
 -- What `top` promises, from how a call ends.
-use Rattle.std.proofs.Common.{◌≡◌, ◌<◌, ◌≤◌, ◌+◌, ◌⊎◌, inl, inr, ℕ, List, [], ◌∷◌, ◌++◌, length, Option, None, Some, is_some, Contains, refl, sym, ◌∙◌, ap, subst, arith, length-append}
+use Rattle.std.proofs.Common.{◌≡◌, ◌<◌, ◌≤◌, ◌+◌, ◌⊎◌, inl, inr, ℕ, List, [], ◌∷◌, ◌++◌, length, Option, None, Some, IsSome, IfSome, is_some, Contains, refl, sym, ◌∙◌, ap, subst, arith, length-append}
 use Rattle.std.proofs.lemmas.List.{append-nil}
+use Rattle.std.proofs.lemmas.Option.{IfSome_then}
 use Rattle.std.specs.Io.KnownBytes.{Consumes, IsAtEnd}
 use Rattle.mir_base.specs.Limits.{most_bytes}
 use Rattle.mir_base.specs.Shapes.{ProgramShape}
+use Rattle.mir_opt.specs.declared.trails.MoveTrail.{MoveTrail}
 use Rattle.mir_outside.specs.Transfer.{TakesAtMost}
 use Rattle.mir_trial.specs.Trial.{trial_program}
 use Rattle.mir_top.specs.declared.answer.Answer.{Answer}
 use Rattle.mir_top.specs.declared.command.Command.{Command}
-use Rattle.mir_top.specs.declared.command.Command.TheVariants.{Optimise, Move, Run, Trial}
+use Rattle.mir_top.specs.declared.command.Command.TheVariants.{Optimise, Stages, Move, Run, Trial}
 use Rattle.mir_top.specs.declared.outcome.Outcome.{Outcome}
 use Rattle.mir_top.specs.Calls.{Call, answer_of, refusal_with, Answers, MakesOutput, WorkedOn}
 use Rattle.mir_top.specs.Commands.{command_of, inputs_in, Asks, Reads}
 use Rattle.mir_top.specs.Complaints.{Complaint, usage, read_fault, write_fault, out_of_memory}
 use Rattle.mir_top.specs.Due.{IsShortTextOf, WorksOn, IsRefused, long, unreadable, invalid, Refuses, no_command, no_text, wrong_number, too_deep, Completes}
 use Rattle.mir_top.specs.Outputs.{Makes}
-use Rattle.mir_top.specs.Promises.{Promises, HasSeen, IsOnlyMade, HasMade, HasCutShort, HasRun, HasTried, HasRefused, EndsBy, HasText}
+use Rattle.mir_top.specs.Promises.{Promises, HasSeen, IsOnlyMade, StatusIs, Asked, HasOptimised, HasShown, HasMoved, HasMade, HasCutShort, HasRun, HasTried, HasRefused, EndsBy, HasText}
 use Rattle.mir_top.specs.Streams.{Stream, Untouched, HasFailed, Took, Gave, Tried}
 use Rattle.mir_top.specs.Texts.{OneReading}
 use Rattle.mir_top.proofs.Endings.{EndingCase, ends_done, ends_cut, ends_failed, ends_out_of_memory, ends_refused, ends}
 use Rattle.mir_top.proofs.Judgements.{no_command_of, same_command, has_read, runs_of, run_of_status, summary_of, status_of_trial, trial_reads, unread_refusal, refuses_same, makes_no_refusal, completes_no_refusal, completes_status, only_output}
 use Rattle.mir_top.proofs.Statuses.{is_success, is_refusal, is_of_run, is_silent, run_has, success_is, refusal_is, silent_is, refusal_no_success, success_no_refusal, success_no_silent, refusal_below, success_below, outcome_is_success, refuses_is_refusal}
-use Rattle.mir_top.proofs.Trails.{passes, motion, trail_improves, trail_is_asked, trail_comes}
+use Rattle.mir_top.proofs.Trails.{HasPasses, passes, motion, trail_has_output, trail_is_asked, trail_comes}
 
 -- ---- a source whose bytes can be observed
 
@@ -159,6 +161,7 @@ module _ (laws : OneReading) (call : Call) where
 
       by : (command : Command) → command_of call.words ≡ Some command → WorksOn command read program → WorksOn command text program
       by Optimise asked on = here (Optimise, asked, refl) on
+      by Stages asked on = here (Stages, asked, refl) on
       by Move asked on = here (Move, asked, refl) on
       by (Run n) asked on = here (Run n, asked, refl) on
       by (Trial number units) asked on = on
@@ -249,6 +252,36 @@ module _ (laws : OneReading) (call : Call) where
   below (ends_out_of_memory answered asked silent told) = omega (arith, status_is _ answered)
   below (ends_refused text complaint answered seen refuses silent told) = subst (λ (n : ℕ). n ≤ 8) (sym (status_is _ answered)) (refusal_below complaint.status (refuses_is_refusal laws call.words text complaint refuses))
 
+  -- ---- trails
+
+  -- words of a command that has a trail of all passes are those of `optimise` or `stages`
+  has_asked : EndingCase call → IsSome call.answer.trail → StatusIs call 0 × (Asked call Optimise ⊎ Asked call Stages)
+  has_asked ends some = (let is = trail_is_asked passes call ends some in (is.0, by is.1.0 is.1.1 is.1.2))
+    where
+      by : (command : Command) → Asked call command → HasPasses command → Asked call Optimise ⊎ Asked call Stages
+      by command asked (inl is) = inl (asked ∙ ap (λ (c : Command). Some c) is)
+      by command asked (inr is) = inr (asked ∙ ap (λ (c : Command). Some c) is)
+
+  passes_come : HasMade call → Asked call Optimise ⊎ Asked call Stages → IsSome call.answer.trail
+  passes_come made (inl asked) = trail_comes passes call made Optimise asked (inl refl)
+  passes_come made (inr asked) = trail_comes passes call made Stages asked (inr refl)
+
+  optimised_of : EndingCase call → Asked call Optimise → IfSome call.answer.trail (HasOptimised call)
+  optimised_of ends asked = IfSome_then call.answer.trail (trail_has_output passes call ends Optimise asked) (λ trail is. record { read = is.read; improves = is.improves; written = subst (Gave call.out) (is.is_output.0 refl) is.written })
+
+  shown_of : EndingCase call → Asked call Stages → IfSome call.answer.trail (HasShown call)
+  shown_of ends asked = IfSome_then call.answer.trail (trail_has_output passes call ends Stages asked) (λ trail is. record { text = is.output; read = is.read; improves = is.improves; shows = is.is_output.1 refl; written = is.written })
+
+  move_is_asked : EndingCase call → IsSome call.answer.moved → StatusIs call 0 × Asked call Move
+  move_is_asked ends some = (let is = trail_is_asked motion call ends some in (is.0, is.1.1 ∙ ap (λ (c : Command). Some c) is.1.2))
+
+  moved_of : EndingCase call → IfSome call.answer.moved (HasMoved call)
+  moved_of ends = by ends call.answer.moved refl
+    where
+      by : EndingCase call → (o : Option MoveTrail) → call.answer.moved ≡ o → IfSome o (HasMoved call)
+      by ends None is = tt
+      by ends (Some trail) is = subst (λ (o : Option MoveTrail). IfSome o (HasMoved call)) is (IfSome_then call.answer.moved (trail_has_output motion call ends Move (move_is_asked ends (subst IsSome (sym is) refl)).1) (λ trail is. record { read = is.read; improves = is.improves; written = subst (Gave call.out) is.is_output is.written }))
+
   -- ---- all of them
 
   pub promised : TakesAtMost call.source.old call.source.new (most_bytes + 1) → ((Reads call.words → ⊥) → Untouched call.source) → Answers call → Promises call
@@ -256,10 +289,11 @@ module _ (laws : OneReading) (call : Call) where
     most = most;
     unread = unread;
     made = λ among. (success_of whole (success_is _ among)).0;
-    trail = (trail_is_asked passes call whole, λ at. trail_comes passes call (success_of whole (subst is_success (sym at.0) tt)).0 at.1);
-    optimised = trail_improves passes call whole;
-    moved = (trail_is_asked motion call whole, λ at. trail_comes motion call (success_of whole (subst is_success (sym at.0) tt)).0 at.1);
-    moves = trail_improves motion call whole;
+    trail = (has_asked whole, λ at. passes_come (success_of whole (subst is_success (sym at.0) tt)).0 at.1);
+    optimised = optimised_of whole;
+    stages = shown_of whole;
+    moved = (move_is_asked whole, λ at. trail_comes motion call (success_of whole (subst is_success (sym at.0) tt)).0 Move at.1 refl);
+    moves = moved_of whole;
     reports = λ steps asked among. reports whole steps asked (success_is _ among);
     of_run = of_run whole;
     tries = λ number units asked at. tries whole number units asked (subst is_success (sym at) tt);

@@ -6,7 +6,7 @@ use Rattle.mir_interp.specs.declared.report.Finish.TheVariants.{Running, Ended a
 use Rattle.mir_lex.specs.declared.faults.LexFault.{LexFault}
 use Rattle.mir_lex.specs.declared.faults.LexFault.TheVariants.{BadByte, BadNumber, LongName, Memory as NoMemoryForTokens}
 use Rattle.mir_parse.specs.declared.faults.ParseFault.{ParseFault}
-use Rattle.mir_parse.specs.declared.faults.ParseFault.TheVariants.{Unexpected, Ended, Memory as NoMemoryForRaw}
+use Rattle.mir_parse.specs.declared.faults.ParseFault.TheVariants.{Unexpected, Unfinished, Memory as NoMemoryForRaw}
 use Rattle.mir_parse.specs.declared.faults.TextFault.{TextFault}
 use Rattle.mir_parse.specs.declared.faults.TextFault.TheVariants.{Lex, Parse}
 use Rattle.mir_parse.specs.Spells.{IsTextRefusal, IsTextMemory}
@@ -14,7 +14,7 @@ use Rattle.mir_valid.specs.declared.faults.ValidFault.{ValidFault}
 use Rattle.mir_valid.specs.declared.faults.ValidFault.TheVariants.{NoUnit, TooManyUnits, SameUnit, TooManyInsts, LateReceive, SameReceive, TooManyReceives, SameLabel, NoLabel, NoSuchUnit, WrongCount, Memory as NoMemoryForProgram}
 use Rattle.mir_valid.specs.Refusals.{IsValidMemory}
 use Rattle.mir_top.specs.declared.outcome.Outcome.{Outcome}
-use Rattle.mir_top.specs.declared.outcome.Outcome.TheVariants.{Optimised, Moved, Ran, Compared}
+use Rattle.mir_top.specs.declared.outcome.Outcome.TheVariants.{Optimised, Shown, Moved, Ran, Compared}
 use Rattle.mir_top.specs.Calls.{answer_of}
 use Rattle.mir_top.specs.Complaints.{Complaint, of_text, of_program, out_of_memory}
 use Rattle.mir_top.specs.Due.{IsRefused, long, unreadable, invalid, Refuses, no_command, no_text, wrong_number, too_deep, status_of_finish}
@@ -111,6 +111,7 @@ finish_is_success Running = (2, omega arith, refl)
 -- so the status of each outcome is one of success
 pub outcome_is_success : (outcome : Outcome) → IsSuccess (answer_of outcome).status
 outcome_is_success (Optimised trail) = (0, omega arith, refl)
+outcome_is_success (Shown trail) = (0, omega arith, refl)
 outcome_is_success (Moved trail) = (0, omega arith, refl)
 outcome_is_success (Ran finish) = finish_is_success finish
 outcome_is_success Compared = (0, omega arith, refl)
@@ -131,7 +132,7 @@ bytes_complaint text (NoMemoryForTokens refusal) = (λ _. refl, λ refused. absu
 -- for a fault of the tokens
 tokens_complaint : (text : List ℕ) (fault : ParseFault) → (IsTextMemory (Parse fault) → of_text (Parse fault) ≡ out_of_memory) × (IsTextRefusal text (Parse fault) → IsRefusalStatus (of_text (Parse fault)).status)
 tokens_complaint text (Unexpected line) = (λ is. absurd is, λ _. two)
-tokens_complaint text Ended = (λ is. absurd is, λ _. two)
+tokens_complaint text Unfinished = (λ is. absurd is, λ _. two)
 tokens_complaint text (NoMemoryForRaw refusal) = (λ _. refl, λ refused. absurd refused.2)
 
 -- so for each fault of a text

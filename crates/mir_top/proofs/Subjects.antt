@@ -11,7 +11,7 @@ use Rattle.mir_lex.specs.Numbers.{unsigned_number}
 use Rattle.mir_trial.specs.Trial.{trial_program}
 use Rattle.mir_top.specs.declared.cause.Cause.TheVariants.{Making}
 use Rattle.mir_top.specs.declared.command.Command.{Command}
-use Rattle.mir_top.specs.declared.command.Command.TheVariants.{Optimise, Move, Run, Trial}
+use Rattle.mir_top.specs.declared.command.Command.TheVariants.{Optimise, Stages, Move, Run, Trial}
 use Rattle.mir_top.specs.Calls.{IsSubject, Prevents}
 use Rattle.mir_top.specs.Commands.{alone_of, command_of, is_input, is_word, reads_text, run_of, step_count, trial_of, trial_with}
 use Rattle.mir_top.specs.Due.{IsShortTextOf, Needs, WorksOn}
@@ -28,6 +28,7 @@ read_subject words source command text program asked reads read within = (text, 
 -- and it needs nothing of the program
 pub read_needs : (command : Command) (program : ProgramShape) → IsTrue (reads_text command) → Needs command program
 read_needs Optimise program reads = tt
+read_needs Stages program reads = tt
 read_needs Move program reads = tt
 read_needs (Run steps) program reads = tt
 read_needs (Trial number units) program reads = absurd (cc)
@@ -101,16 +102,17 @@ after_run [] n units is = cc
 after_run (steps ∷ inputs) n units is = run_with (list_all is_input inputs) (step_count steps) n units is
 
 -- by which of the commands the first word is
-by_word : (optimise move run trial : Bool) (arguments : List (List ℕ)) (n units : ℕ)
-    → (if optimise then alone_of Optimise arguments else if move then alone_of Move arguments else if run then run_of arguments else if trial then trial_of arguments else None) ≡ Some (Trial n units) → IsUnitCount units
-by_word true move run trial arguments n units is = absurd (alone_is_none Optimise arguments n units (λ e. absurd (cc)) is)
-by_word false true run trial arguments n units is = absurd (alone_is_none Move arguments n units (λ e. absurd (cc)) is)
-by_word false false true trial arguments n units is = absurd (after_run arguments n units is)
-by_word false false false true arguments n units is = after_trial arguments n units is
-by_word false false false false arguments n units is = absurd (cc)
+by_word : (optimise stages move run trial : Bool) (arguments : List (List ℕ)) (n units : ℕ)
+    → (if optimise then alone_of Optimise arguments else if stages then alone_of Stages arguments else if move then alone_of Move arguments else if run then run_of arguments else if trial then trial_of arguments else None) ≡ Some (Trial n units) → IsUnitCount units
+by_word true stages move run trial arguments n units is = absurd (alone_is_none Optimise arguments n units (λ e. absurd (cc)) is)
+by_word false true move run trial arguments n units is = absurd (alone_is_none Stages arguments n units (λ e. absurd (cc)) is)
+by_word false false true run trial arguments n units is = absurd (alone_is_none Move arguments n units (λ e. absurd (cc)) is)
+by_word false false false true trial arguments n units is = absurd (after_run arguments n units is)
+by_word false false false false true arguments n units is = after_trial arguments n units is
+by_word false false false false false arguments n units is = absurd (cc)
 
 -- the units of a trial that words ask for
 pub units_of_trial : (words : List (List ℕ)) (number units : ℕ) → command_of words ≡ Some (Trial number units) → IsUnitCount units
 units_of_trial [] number units is = absurd (cc)
 units_of_trial (word ∷ arguments) number units is =
-    by_word (is_word word (codes "optimise")) (is_word word (codes "move")) (is_word word (codes "run")) (is_word word (codes "trial")) arguments number units is
+    by_word (is_word word (codes "optimise")) (is_word word (codes "stages")) (is_word word (codes "move")) (is_word word (codes "run")) (is_word word (codes "trial")) arguments number units is

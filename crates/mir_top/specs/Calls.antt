@@ -16,7 +16,7 @@ use Rattle.mir_top.specs.declared.command.Command.{Command}
 use Rattle.mir_top.specs.declared.ending.Ending.{Ending}
 use Rattle.mir_top.specs.declared.ending.Ending.TheVariants.{Done, CutShort, Prevented}
 use Rattle.mir_top.specs.declared.outcome.Outcome.{Outcome}
-use Rattle.mir_top.specs.declared.outcome.Outcome.TheVariants.{Optimised, Moved, Ran, Compared}
+use Rattle.mir_top.specs.declared.outcome.Outcome.TheVariants.{Optimised, Shown, Moved, Ran, Compared}
 use Rattle.mir_top.specs.Commands.{command_of, inputs_in, Reads}
 use Rattle.mir_top.specs.Complaints.{Complaint, complaint_of, write_fault}
 use Rattle.mir_top.specs.Due.{WorksOn, status_of_finish}
@@ -37,6 +37,7 @@ pub record Call : Type 0 where
 -- the answer where this was made and written
 abbrev pub answer_of : Outcome → Answer
 answer_of (Optimised trail) = record { status = 0; trail = Some trail; moved = None }
+answer_of (Shown trail) = record { status = 0; trail = Some trail; moved = None }
 answer_of (Moved trail) = record { status = 0; trail = None; moved = Some trail }
 answer_of (Ran finish) = record { status = status_of_finish finish; trail = None; moved = None }
 answer_of Compared = record { status = 0; trail = None; moved = None }

@@ -7,7 +7,7 @@ use Rattle.std.specs.Cmp.Lexicographic.{pointwise}
 use Rattle.mir_base.specs.Limits.{most_steps, most_units}
 use Rattle.mir_lex.specs.Numbers.{signed_number, unsigned_number}
 use Rattle.mir_top.specs.declared.command.Command.{Command}
-use Rattle.mir_top.specs.declared.command.Command.TheVariants.{Optimise, Move, Run, Trial}
+use Rattle.mir_top.specs.declared.command.Command.TheVariants.{Optimise, Stages, Move, Run, Trial}
 
 -- the bytes of each word of the command line
 abbrev pub word_bytes : List (String Global) → List (List ℕ)
@@ -60,6 +60,7 @@ abbrev pub command_of : List (List ℕ) → Option Command
 command_of [] = None
 command_of (word ∷ arguments) =
     if is_word word (codes "optimise") then alone_of Optimise arguments else
+    if is_word word (codes "stages") then alone_of Stages arguments else
     if is_word word (codes "move") then alone_of Move arguments else
     if is_word word (codes "run") then run_of arguments else
     if is_word word (codes "trial") then trial_of arguments else None
@@ -71,6 +72,7 @@ Asks words = IsSome (command_of words)
 -- whether a command works on the text that the source gives
 abbrev pub reads_text : Command → Bool
 reads_text Optimise = true
+reads_text Stages = true
 reads_text Move = true
 reads_text (Run steps) = true
 reads_text (Trial number units) = false

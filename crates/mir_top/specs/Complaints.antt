@@ -7,7 +7,7 @@ use Rattle.mir_lex.specs.declared.faults.LexFault.TheVariants.{BadByte, BadNumbe
 use Rattle.mir_outside.specs.declared.transfer.ReadFault.{ReadFault}
 use Rattle.mir_outside.specs.declared.transfer.ReadFault.TheVariants.{Failed, TooLong, Memory as NoMemoryForText}
 use Rattle.mir_parse.specs.declared.faults.ParseFault.{ParseFault}
-use Rattle.mir_parse.specs.declared.faults.ParseFault.TheVariants.{Unexpected, Ended, Memory as NoMemoryForRaw}
+use Rattle.mir_parse.specs.declared.faults.ParseFault.TheVariants.{Unexpected, Unfinished, Memory as NoMemoryForRaw}
 use Rattle.mir_parse.specs.declared.faults.TextFault.{TextFault}
 use Rattle.mir_parse.specs.declared.faults.TextFault.TheVariants.{Lex, Parse}
 use Rattle.mir_valid.specs.declared.faults.ValidFault.{ValidFault}
@@ -39,7 +39,7 @@ pub record ArePartsOf (complaint : Complaint) (parts : ComplaintParts) : Type 0 
 
 -- the words are those of no command
 abbrev pub usage : Complaint
-usage = record { status = 1; line = codes "usage: mir optimise | move | run STEPS [N ..]\n" }
+usage = record { status = 1; line = codes "usage: mir optimise | stages | move | run STEPS [N ..] | trial NUMBER UNITS\n" }
 
 -- a run has more or fewer inputs than the program receives
 abbrev pub wrong_inputs : ℕ → Complaint
@@ -94,7 +94,7 @@ of_bytes (NoMemoryForTokens refusal) = out_of_memory
 -- the complaint of tokens that are no raw program
 abbrev pub of_tokens : ParseFault → Complaint
 of_tokens (Unexpected line) = refused_at line (codes ": unexpected\n")
-of_tokens Ended = refused (codes "text ends inside a unit\n")
+of_tokens Unfinished = refused (codes "text ends inside a unit\n")
 of_tokens (NoMemoryForRaw refusal) = out_of_memory
 
 -- the complaint of a text that spells no raw program

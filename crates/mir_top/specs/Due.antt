@@ -13,7 +13,7 @@ use Rattle.mir_trial.specs.Trial.{trial_program}
 use Rattle.mir_valid.specs.declared.faults.ValidFault.{ValidFault}
 use Rattle.mir_valid.specs.Texts.{IsTextOf}
 use Rattle.mir_top.specs.declared.command.Command.{Command}
-use Rattle.mir_top.specs.declared.command.Command.TheVariants.{Optimise, Move, Run, Trial}
+use Rattle.mir_top.specs.declared.command.Command.TheVariants.{Optimise, Stages, Move, Run, Trial}
 use Rattle.mir_top.specs.Commands.{command_of, inputs_in, Reads}
 use Rattle.mir_top.specs.Complaints.{Complaint, usage, wrong_inputs, too_long, deep, of_text, of_program}
 use Rattle.mir_top.specs.Outputs.{Runs, reported}
@@ -27,6 +27,7 @@ pub record IsShortTextOf (text : List ℕ) (program : ProgramShape) : Type 0 whe
 -- the program that a command works on: that of the text, and for `trial` the one that its numbers draw
 abbrev pub WorksOn : Command → List ℕ → ProgramShape → Type 0
 WorksOn Optimise text program = IsShortTextOf text program
+WorksOn Stages text program = IsShortTextOf text program
 WorksOn Move text program = IsShortTextOf text program
 WorksOn (Run steps) text program = IsShortTextOf text program
 WorksOn (Trial number units) text program = program ≡ trial_program number units
@@ -41,6 +42,7 @@ pub record CanBeTried (program : ProgramShape) : Type 0 where
 -- what a command needs of the program that it works on
 abbrev pub Needs : Command → ProgramShape → Type 0
 Needs Optimise program = Unit {0}
+Needs Stages program = Unit {0}
 Needs Move program = Unit {0}
 Needs (Run steps) program = Unit {0}
 Needs (Trial number units) program = CanBeTried program
@@ -76,6 +78,8 @@ status_of_finish Running = 4
 pub data Completes (words : List (List ℕ)) (text : List ℕ) : ℕ → Type 0 where
   of_optimise : (program : ProgramShape) → command_of words ≡ Some Optimise
       → WorksOn Optimise text program → Completes words text 0
+  of_stages : (program : ProgramShape) → command_of words ≡ Some Stages
+      → WorksOn Stages text program → Completes words text 0
   of_move : (program : ProgramShape) → command_of words ≡ Some Move
       → WorksOn Move text program → Completes words text 0
   of_run : (steps : ℕ) (program : ProgramShape) → command_of words ≡ Some (Run steps)

@@ -2,6 +2,7 @@ pub mod Streams
 pub mod Commands
 pub mod Texts
 pub mod Complaints
+pub mod StageTexts
 pub mod Outputs
 pub mod Due
 pub mod Calls

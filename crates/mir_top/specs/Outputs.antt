@@ -18,11 +18,12 @@ use Rattle.mir_opt.specs.declared.trails.MoveTrail.{MoveTrail}
 use Rattle.mir_opt.specs.Links.{IsLinked, IsMoveLinked, IsOnlyMoveTrail, IsOnlyTrail}
 use Rattle.mir_opt.specs.Best.{MotionIsBest, MovesBest}
 use Rattle.mir_sim.specs.Pairs.{AllUnitsSame}
+use Rattle.mir_top.specs.StageTexts.{ShowsStages}
 use Rattle.mir_top.specs.declared.command.Command.{Command}
-use Rattle.mir_top.specs.declared.command.Command.TheVariants.{Optimise, Move, Run, Trial}
+use Rattle.mir_top.specs.declared.command.Command.TheVariants.{Optimise, Stages, Move, Run, Trial}
 use Rattle.mir_top.specs.declared.making.Made.{Made}
 use Rattle.mir_top.specs.declared.outcome.Outcome.{Outcome}
-use Rattle.mir_top.specs.declared.outcome.Outcome.TheVariants.{Optimised, Moved, Ran, Compared}
+use Rattle.mir_top.specs.declared.outcome.Outcome.TheVariants.{Optimised, Shown, Moved, Ran, Compared}
 
 -- ---- trails
 
@@ -124,6 +125,9 @@ pub data Makes (inputs : List ℤ) (program : ProgramShape)
     : Command → Outcome → List ℕ → Type 0 where
   optimised : (trail : Trail) → trail.source ≡ program → Optimises trail
       → Makes inputs program Optimise (Optimised trail) (canonical_text trail.target)
+  shown : (trail : Trail) → trail.source ≡ program → Optimises trail
+      → (text : List ℕ) → ShowsStages trail text
+      → Makes inputs program Stages (Shown trail) text
   moved : (trail : MoveTrail) → trail.source ≡ program → MovesCode trail
       → Makes inputs program Move (Moved trail) (canonical_text trail.target)
   ran : (steps : ℕ) → Runs program inputs steps

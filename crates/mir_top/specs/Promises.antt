@@ -9,13 +9,14 @@ use Rattle.mir_opt.specs.declared.trails.MoveTrail.{MoveTrail}
 use Rattle.mir_outside.specs.Transfer.{TakesAtMost}
 use Rattle.mir_trial.specs.Trial.{trial_program}
 use Rattle.mir_top.specs.declared.command.Command.{Command}
-use Rattle.mir_top.specs.declared.command.Command.TheVariants.{Optimise, Move, Run, Trial}
+use Rattle.mir_top.specs.declared.command.Command.TheVariants.{Optimise, Stages, Move, Run, Trial}
 use Rattle.mir_top.specs.declared.outcome.Outcome.{Outcome}
 use Rattle.mir_top.specs.Calls.{Call, answer_of, MakesOutput, IsDone, IsCutShort}
 use Rattle.mir_top.specs.Commands.{command_of, inputs_in, Asks, Reads}
 use Rattle.mir_top.specs.Complaints.{Complaint, read_fault, write_fault, out_of_memory}
 use Rattle.mir_top.specs.Due.{IsShortTextOf, Refuses, Completes, status_of_finish}
 use Rattle.mir_top.specs.Outputs.{Optimises, MovesCode, Runs, reported, report_text, trail_summary, IsOnlyOutput}
+use Rattle.mir_top.specs.StageTexts.{ShowsStages}
 use Rattle.mir_top.specs.Streams.{Stream, Untouched, HasFailed, Took, TookAll, Gave, Tried}
 
 -- ---- what was read
@@ -66,7 +67,15 @@ pub record HasImproved
 abbrev pub HasOptimised : Call → Trail → Type 0
 HasOptimised call trail = HasImproved call (Optimises trail) trail.source trail.target
 
--- and with those of the trail of code motion alone
+-- this with the texts of all stages of the trail in place of that of its target
+pub record HasShown (call : Call) (trail : Trail) : Type 0 where
+  pub text : List ℕ
+  pub read : HasRead call.source trail.source
+  pub improves : Optimises trail
+  pub shows : ShowsStages trail text
+  pub written : Gave call.out text
+
+-- and with source and target of the trail of code motion alone
 abbrev pub HasMoved : Call → MoveTrail → Type 0
 HasMoved call trail = HasImproved call (MovesCode trail) trail.source trail.target
 
@@ -127,9 +136,11 @@ pub record Promises (call : Call) : Type 0 where
   pub unread : ¬ Reads call.words → Untouched call.source
   -- With the statuses 0, 3 and 4 the one output that the words ask was made, and written, whole and nothing else.
   pub made : StatusIn call (0 ∷ 3 ∷ 4 ∷ []) → HasMade call
-  -- A trail comes exactly with status 0 under `optimise`, a move trail so under `move`.
-  pub trail : IsSome call.answer.trail ↔ (StatusIs call 0 × Asked call Optimise)
-  pub optimised : IfSome call.answer.trail (HasOptimised call)
+  -- A trail comes exactly with status 0 under `optimise` and `stages`, a move trail so under `move`.
+  pub trail : IsSome call.answer.trail
+      ↔ (StatusIs call 0 × (Asked call Optimise ⊎ Asked call Stages))
+  pub optimised : Asked call Optimise → IfSome call.answer.trail (HasOptimised call)
+  pub stages : Asked call Stages → IfSome call.answer.trail (HasShown call)
   pub moved : IsSome call.answer.moved ↔ (StatusIs call 0 × Asked call Move)
   pub moves : IfSome call.answer.moved (HasMoved call)
   -- Under `run` the statuses 0, 3 and 4 say how the run stands; 3 and 4 come under `run` alone.

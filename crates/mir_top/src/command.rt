@@ -13,6 +13,8 @@ use std::alloc::Global;
 pub enum Command {
     /// `optimise`: the canonical text of the target of the program that is read.
     Optimise,
+    /// `stages`: the canonical text of the program at each stage of the passes.
+    Stages,
     /// `move`: the same of the target of code motion alone.
     Move,
     /// `run STEPS [N ..]`: the report of the run of the program, with the inputs N, after so many steps or at its end.
@@ -32,6 +34,8 @@ impl Command {
             [word, arguments @ ..] => {
                 if is_word(word.as_bytes(), b"optimise") {
                     alone(Command::Optimise, arguments)
+                } else if is_word(word.as_bytes(), b"stages") {
+                    alone(Command::Stages, arguments)
                 } else if is_word(word.as_bytes(), b"move") {
                     alone(Command::Move, arguments)
                 } else if is_word(word.as_bytes(), b"run") {

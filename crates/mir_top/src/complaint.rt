@@ -118,7 +118,10 @@ fn of_cause(cause: &Cause) -> ComplaintParts
     ensures { ArePartsOf (complaint_of cause.now) result }
 {
     match cause {
-        Cause::Usage => plain(1, b"usage: mir optimise | move | run STEPS [N ..]\n"),
+        Cause::Usage => plain(
+            1,
+            b"usage: mir optimise | stages | move | run STEPS [N ..] | trial NUMBER UNITS\n",
+        ),
         Cause::Reading(fault) => of_reading(fault),
         Cause::Text(fault) => of_text(fault),
         Cause::Program(fault) => of_program(fault),
@@ -165,7 +168,7 @@ fn of_tokens(fault: &ParseFault) -> ComplaintParts
 {
     match fault {
         ParseFault::Unexpected(line) => at(*line, b": unexpected\n"),
-        ParseFault::Ended => plain(2, b"text ends inside a unit\n"),
+        ParseFault::Unfinished => plain(2, b"text ends inside a unit\n"),
         ParseFault::Memory(_) => out_of_memory(),
     }
 }

@@ -470,24 +470,4 @@ L2: h1 <- a + b
 print h1
 goto L1
 end
-# a name of sixty-four bytes
-main: begin
-receive nnnnnnnnnnnnnnnnnnnnnnnnnnnnnnnnnnnnnnnnnnnnnnnnnnnnnnnnnnnnnnnn(val)
-print nnnnnnnnnnnnnnnnnnnnnnnnnnnnnnnnnnnnnnnnnnnnnnnnnnnnnnnnnnnnnnnn
-end
-$ optimise
-@ 0
-main: begin
-receive nnnnnnnnnnnnnnnnnnnnnnnnnnnnnnnnnnnnnnnnnnnnnnnnnnnnnnnnnnnnnnnn(val)
-print nnnnnnnnnnnnnnnnnnnnnnnnnnnnnnnnnnnnnnnnnnnnnnnnnnnnnnnnnnnnnnnn
-return 0
-end
-# a loop of one test
-main: begin
-receive a(val)
-L1: if a goto L1
-return a
-end
-$ optimise
-@ same
 ";

@@ -4,8 +4,8 @@
 //! In go the words, the bytes of the source and memory; out come the bytes on the output, a line of complaint on the
 //! error output, a status, and the programs that were read and made. The theorem is on `top`: what is written is the
 //! canonical text of a program that is the same as the one that was read, and whose code motion evaluates nothing more
-//! often on any full path than an admissible placement does, or it is the report of its run; and every other answer has
-//! its cause.
+//! often on any full path than an admissible placement does, or that of the program at each stage on the way to it, or
+//! the report of its run; and every other answer has its cause.
 #![tactic(auto)]
 
 mod answer;
@@ -14,9 +14,13 @@ mod calm;
 mod cause;
 mod command;
 mod complaint;
+#[cfg(test)]
+mod devices;
 mod ending;
 #[cfg(test)]
 mod examples;
+#[cfg(test)]
+mod hostile;
 mod laws;
 mod making;
 #[cfg(test)]
@@ -27,6 +31,9 @@ mod refusals;
 mod report_text;
 #[cfg(test)]
 mod run_examples;
+#[cfg(test)]
+mod stage_examples;
+mod stages;
 #[cfg(test)]
 mod tests;
 mod trial;

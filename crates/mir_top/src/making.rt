@@ -2,12 +2,14 @@
 ghost use Rattle.std.specs.Prelude.{◌≡◌, IfOk, IfErr};
 ghost use Rattle.mir_base.specs.Text.{canonical_text};
 ghost use Rattle.mir_top.specs.Commands.{inputs_in, word_bytes};
-ghost use Rattle.mir_opt.specs.Stages.{KeepsProgram};
+ghost use Rattle.mir_opt.specs.Stages.{AllKeep, KeepsProgram, graph_at};
 ghost use Rattle.mir_top.specs.Due.{Needs};
+ghost use Rattle.mir_top.specs.StageTexts.{ShowsStages};
 ghost use Rattle.mir_top.specs.Outputs.{CannotMake, IsMadeBy, MovesCode, Optimises};
 
 use crate::command::inputs;
 use crate::report_text::text_of_report;
+use crate::stages::text_of_stages;
 use crate::trial::trial;
 use crate::{Command, Outcome};
 use mir_base::{Memory, Program};
@@ -41,6 +43,13 @@ pub fn make(
         Command::Optimise => match optimised(alloc, program) {
             Ok((trail, output)) => Ok(Made {
                 outcome: Outcome::Optimised(trail),
+                output,
+            }),
+            Err(refusal) => Err(RunFault::Memory(refusal)),
+        },
+        Command::Stages => match shown(alloc, program) {
+            Ok((trail, output)) => Ok(Made {
+                outcome: Outcome::Shown(trail),
                 output,
             }),
             Err(refusal) => Err(RunFault::Memory(refusal)),
@@ -82,9 +91,21 @@ pub fn trail_of(alloc: Global, program: &Program) -> Result<Trail, Memory>
     ensures source { IfOk result (λ trail. trail.source ≡ program.now) }
     ensures optimises { IfOk result Optimises }
     ensures keeps { IfOk result (λ trail. KeepsProgram program.now trail.target) }
+    ensures stages { IfOk result (λ trail. AllKeep graph_at trail.source.units trail.units) }
 {
     let trail = optimise(alloc, program)?;
     Ok(trail)
+}
+
+/// What the passes make of the program, and the texts of its stages.
+fn shown(alloc: Global, source: &Program) -> Result<(Trail, Vec<u8>), Memory>
+    ensures source { IfOk result (λ made. made.0.source ≡ source.now) }
+    ensures optimises { IfOk result (λ made. Optimises made.0) }
+    ensures output { IfOk result (λ made. ShowsStages made.0 made.1.items) }
+{
+    let trail = trail_of(alloc, source)?;
+    let output = text_of_stages(alloc, &trail)?;
+    Ok((trail, output))
 }
 
 /// What code motion alone makes of the program, and the text of its target.

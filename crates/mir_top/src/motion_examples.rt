@@ -138,30 +138,6 @@ return x
 end
 $ move
 @ same
-# a loop that is entered at two places
-main: begin
-receive a(val)
-receive b(val)
-if a goto L2
-L1: x <- a + b
-L2: y <- a + b
-if y < 9 goto L1
-return x
-end
-$ move
-@ 0
-main: begin
-receive a(val)
-receive b(val)
-if a goto L3
-h1 <- a + b
-L1: x <- h1
-L2: y <- h1
-if y < 9 goto L1
-return x
-L3: h1 <- a + b
-goto L2
-end
 ";
 
 /// A text of a thousand diamonds, each of which evaluates the same expression.

@@ -12,6 +12,8 @@ use mir_opt::{MoveTrail, Trail};
 pub enum Outcome {
     /// What the passes made of it.
     Optimised(Trail),
+    /// What the passes made of it, shown at each stage.
+    Shown(Trail),
     /// What code motion alone made of it.
     Moved(MoveTrail),
     /// The report of its run, which stands like this.
@@ -27,6 +29,11 @@ impl Outcome {
     {
         match self {
             Outcome::Optimised(trail) => Answer {
+                status: 0,
+                trail: Some(trail),
+                moved: None,
+            },
+            Outcome::Shown(trail) => Answer {
                 status: 0,
                 trail: Some(trail),
                 moved: None,

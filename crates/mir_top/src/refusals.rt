@@ -36,13 +36,6 @@ end
 $ optimise
 @ 2
 line 2: bad byte
-# a byte 0
-main: begin
-x <- \x00
-end
-$ optimise
-@ 2
-line 2: bad byte
 # a single bar
 main: begin
 x <- 1 | 2
@@ -50,13 +43,6 @@ end
 $ optimise
 @ 2
 line 2: bad byte
-# a long name
-main: begin
-nnnnnnnnnnnnnnnnnnnnnnnnnnnnnnnnnnnnnnnnnnnnnnnnnnnnnnnnnnnnnnnnn <- 1
-end
-$ optimise
-@ 2
-line 2: long name
 # a reserved word as a name
 main: begin
 mod <- 1
@@ -190,6 +176,8 @@ pub const OTHER_WORDS: &str = "
 optimize
 Optimise
 optimise x
+Stages
+stages 1
 Move
 move 1
 run

@@ -225,15 +225,6 @@ $ run 99
 @ 0
 result 0
 evals 0
-# a comment with a byte 0
-main: begin || \x00 || ?
-print 3
-end
-$ run 9
-@ 0
-3
-result 0
-evals 0
 # carriage returns and tabs
 main:\tbegin\r
 \tprint\t3\r

@@ -60,6 +60,7 @@ fn subject<S: Source>(
 {
     match command {
         Command::Optimise => program_of_text(alloc, command, words, source),
+        Command::Stages => program_of_text(alloc, command, words, source),
         Command::Move => program_of_text(alloc, command, words, source),
         Command::Run(_) => program_of_text(alloc, command, words, source),
         Command::Trial(number, units) => match trial_program(alloc, number, units) {

@@ -1,9 +1,9 @@
 use Rattle.std.proofs.Common.{refl}
 use Rattle.mir_base.specs.Text.{canonical_text}
-use Rattle.mir_top.specs.declared.command.Command.TheVariants.{Optimise, Move, Trial}
-use Rattle.mir_top.specs.declared.outcome.Outcome.TheVariants.{Optimised, Moved, Compared}
+use Rattle.mir_top.specs.declared.command.Command.TheVariants.{Optimise, Stages, Move, Trial}
+use Rattle.mir_top.specs.declared.outcome.Outcome.TheVariants.{Optimised, Shown, Moved, Compared}
 use Rattle.mir_top.specs.Commands.{inputs_in, word_bytes}
-use Rattle.mir_top.specs.Outputs.{optimised, moved, compared, no_memory}
+use Rattle.mir_top.specs.Outputs.{optimised, shown, moved, compared, no_memory}
 use Rattle.mir_top.proofs.MadeLaws.{makes_with}
 use Rattle.mir_top.proofs.making.make.Goals as goal
 
@@ -15,6 +15,16 @@ returns-in-Ok-clause-made c =
 
 pub returns-in-Err-clause-stopped : goal.returns-in-Err-clause-stopped
 returns-in-Err-clause-stopped c = no_memory c.args.command c.in-Err.refusal
+
+pub returns-in-Ok-shown-clause-made : goal.returns-in-Ok-shown-clause-made
+returns-in-Ok-shown-clause-made c =
+    let trail = c.in-Ok-shown.trail in
+    let is = c.in-Ok-shown.ensures in
+    let output = c.in-Ok-shown.output.items in
+    makes_with (inputs_in (word_bytes c.args.words.now)) c.args.program.now c.args.command Stages (Shown trail) output output c.in-Stages.is refl (shown trail is.source is.optimises output is.output)
+
+pub returns-in-Err-shown-clause-stopped : goal.returns-in-Err-shown-clause-stopped
+returns-in-Err-shown-clause-stopped c = no_memory c.args.command c.in-Err-shown.refusal
 
 pub returns-in-Ok-moved-clause-made : goal.returns-in-Ok-moved-clause-made
 returns-in-Ok-moved-clause-made c =

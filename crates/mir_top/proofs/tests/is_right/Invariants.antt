@@ -1,4 +1,3 @@
-use Rattle.std.proofs.Common.{◌≡◌}
 use denote.Text.{Utf8}
 use denote.Shadow.{shadow}
 use Rattle.mir_top.proofs.tests.is_right.Given as goal
