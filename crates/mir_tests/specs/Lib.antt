@@ -1,2 +1,3 @@
 pub mod Ladder
+pub mod Slope
 pub mod Squares

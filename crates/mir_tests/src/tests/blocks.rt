@@ -62,38 +62,13 @@ fn called_over<L: Ledger>(
     requires parts { blank.parts ≡ L.parts }
     requires some { 0 < blank.parts }
 {
-    let blocks = Blocks::of(alloc, graph, edges)?;
-    let count = blocks.len();
-    let called = if count == 1 {
-        called_in::<L>(alloc, graph, edges, &blocks, blank)
-    } else {
-        Ok(())
-    };
-    mem::drop(blocks);
-    called?;
-    Ok(count)
-}
-
-/// Makes a call with one bit over one block.
-fn called_in<L: Ledger>(
-    alloc: Global,
-    graph: &Graph,
-    edges: &Edges,
-    blocks: &Blocks,
-    blank: Blank,
-) -> Result<(), Memory>
-    requires edges { edges.now ≡ edges_of graph.now.nodes }
-    requires blocks { AreBlocksOf graph.now.nodes blocks.now }
-    requires one { length blocks.now.lists ≡ 1 }
-    requires name { blank.name ≡ L.name }
-    requires parts { blank.parts ≡ L.parts }
-    requires some { 0 < blank.parts }
-{
     let rows = Rows::new(alloc, graph.len(), 1)?;
     let mut steps = Steps::<L>::new(blank);
-    let stays = stays(alloc, graph, edges, blocks, &rows, &mut steps);
-    mem::drop(rows);
-    stays
+    let blocks = Blocks::of(alloc, graph, edges)?;
+    if blocks.len() == 1 {
+        stays(alloc, graph, edges, &blocks, &rows, &mut steps)?;
+    }
+    Ok(blocks.len())
 }
 
 /// A call over one block leaves the counter as it was.

@@ -1,9 +1,10 @@
 // Examples of passes.
 
-/// An example is a line with a remark, a program, and what becomes of the graph of its first unit: after `$` the passes in
-/// turn, of which the first is `lower`, and then the graph that they make, node by node. Where the line of the passes ends
-/// with `: blocks`, the blocks of that graph follow instead; with `: busy`, `: lazy` or `: early`, where its first expression
-/// is placed.
+/// An example is a line with a remark, a program, and what becomes of the graph of its first unit, once or more: after `$`
+/// the passes in turn, of which the first is `lower`, and then the graph that they make, node by node. Where the line of
+/// the passes ends with `: changes`, its nodes follow that the lowered graph does not have, and how many it has; with `:
+/// blocks` its blocks; with `: motion` what code motion finds out of its first expression; and with a statement about paths
+/// the nodes at which a bit holds by it that is born and stopped at these nodes.
 pub(crate) const EXAMPLES: &str = "\
 # each kind of node
 main: begin
@@ -120,20 +121,6 @@ block 0 5
 block 1 2 3
 block 4
 block 6
-# a test of a constant is decided, and its other way goes
-main: begin
-x <- 0
-if x goto L1
-print 7
-return 1
-L1: y <- 1 / 0
-return y
-end
-$ lower fold clean
-0: start to 1
-1: x <- 0 to 2
-2: print 7 to 3
-3: return 1
 # equal constants at a join stay, and so does a test of what was received
 main: begin
 receive a(val)
@@ -150,65 +137,4 @@ $ lower fold clean
 2: if a to 4 else 3
 3: print 1 to 4
 4: return 1
-# the first use kills what it evaluates, so the second is evaluated anew
-main: begin
-receive a(val)
-print a
-a <- a + 1
-x <- a + 1
-return x
-end
-$ lower: busy
-insert 1 3
-replace 2 3
-# one branch evaluates, and so does what follows both: the other branch evaluates at its end
-main: begin
-receive a(val)
-if a goto M
-x <- a + 1
-goto L
-M: print a
-goto L
-L: x <- a + 1
-return x
-end
-$ lower: lazy
-insert 2 5
-replace 2 6
-# what a loop evaluates each time around is evaluated once, before it
-main: begin
-receive a(val)
-goto L
-L: x <- a + 1
-if x goto M
-return x
-M: goto L
-end
-$ lower: lazy
-insert 1
-replace 2
-# what is used only once stays as it is
-main: begin
-receive a(val)
-print a
-x <- a + 1
-return x
-end
-$ lower: lazy
-insert
-replace
-# one branch evaluates, and so does what follows both: it is early where they part
-main: begin
-receive a(val)
-if a goto M
-x <- a + 1
-goto L
-M: goto L
-L: x <- a + 1
-return x
-end
-$ lower: early
-available 3 6
-down 1 2 3 4 5
-earliest 1
 ";

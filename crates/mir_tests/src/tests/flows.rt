@@ -1,7 +1,8 @@
-// Flows that count their own pushes: on a chain of joins, and on the graph of a loop.
+// Flows that count their own pushes: on a chain of joins, down a line, and on the graph of a loop.
 ghost use Rattle.std.specs.Prelude.{◌≡◌, ◌<◌, ◌-◌, ◌+◌, false, nat_eq, if◌then◌else◌, IfOk, length};
 ghost use Rattle.fix_solve.specs.Net.{Net};
 ghost use Rattle.mir_tests.specs.Ladder.{Under, ladder, ladder_laws, level, level_laws, level_size};
+ghost use Rattle.mir_tests.specs.Slope.{slope, slope_laws};
 ghost use Rattle.mir_tests.specs.Squares.{EachImplies, size_of_three, squares, squares_laws, three_laws, trues_of};
 
 use fix_solve::{Flow, Lattice, Memory, Steps, Work, solve};
@@ -111,6 +112,68 @@ impl<L: Ledger> Flow for Ladder<L> {
     ghost laws = { λ l v. ladder_laws l.joins v };
 }
 
+/// Levels that run down a line of nodes from the last one, which begins with the highest.
+#[derive(Drop)]
+struct Slope<L: Ledger> {
+    edges: usize,
+    pushes: Cell<u64>,
+    ledger: PhantomData<L>,
+}
+
+impl<L: Ledger> Flow for Slope<L> {
+    type Value = Level;
+
+    type Ledger = L;
+
+    ghost valid = { λ s. s.edges < 256 };
+
+    ghost net = { λ s. slope s.edges };
+
+    fn nodes(&self) -> usize {
+        self.edges + 1
+    }
+
+    fn edges(&self) -> usize {
+        self.edges
+    }
+
+    fn edge(&self, number: usize) -> (usize, usize) {
+        (number + 1, number)
+    }
+
+    fn out(&self, node: usize) -> (usize, usize) {
+        (node.saturating_sub(1), node)
+    }
+
+    fn height(&self) -> u64 {
+        255
+    }
+
+    fn first(&self, _alloc: Global, node: usize) -> Result<Level, Memory> {
+        let level = node as u64;
+        Ok(Level { level })
+    }
+
+    fn push(
+        &self,
+        _number: usize,
+        _target: usize,
+        from: &Level,
+        into: &mut Level,
+        steps: &mut Steps<L>,
+    ) -> bool {
+        count(&self.pushes, steps);
+        into.join_from(from)
+    }
+
+    fn push_self(&self, _number: usize, _value: &mut Level, steps: &mut Steps<L>) -> bool {
+        count(&self.pushes, steps);
+        false
+    }
+
+    ghost laws = { λ s v. slope_laws s.edges v };
+}
+
 /// Three truth values.
 #[derive(Drop)]
 struct Marks {
@@ -120,6 +183,7 @@ struct Marks {
 }
 
 impl Model for Marks {
+    ghost use Rattle.mir_tests.specs.Slope.{slope, slope_laws};
     ghost use Rattle.mir_tests.specs.Squares.{Three};
 
     ghost Value = { Three };
@@ -277,6 +341,29 @@ fn climbed<L: Ledger>(alloc: Global, joins: usize, blank: Blank) -> Result<u64, 
 #[test]
 fn a_chain_of_joins_is_pushed_once(rt: HostRuntime) -> Result<(), Fail> {
     assert_eq!(rt; climbed::<Brand>(rt.alloc(), 200, Blank::new(1))?, 400);
+    Ok(())
+}
+
+/// How many pushes solve the line.
+fn descended<L: Ledger>(alloc: Global, edges: usize, blank: Blank) -> Result<u64, Memory>
+    requires few { edges < 256 }
+    requires name { blank.name ≡ L.name }
+    requires parts { blank.parts ≡ L.parts }
+    requires some { 0 < blank.parts }
+{
+    let flow = Slope {
+        edges,
+        pushes: Cell::new(0),
+        ledger: PhantomData::<L>,
+    };
+    let _work = solved(alloc, &flow, blank)?;
+    Ok(flow.pushes.get())
+}
+
+/// Each edge is pushed along once, where all edges lead down; in the order of the numbers it would be 20,100 pushes.
+#[test]
+fn a_line_that_leads_down_is_pushed_once(rt: HostRuntime) -> Result<(), Fail> {
+    assert_eq!(rt; descended::<Brand>(rt.alloc(), 200, Blank::new(1))?, 200);
     Ok(())
 }
 

@@ -9,6 +9,7 @@ mod outside;
 mod passes;
 mod paths;
 mod placing;
+mod row_examples;
 mod rows;
 mod shown;
 mod stages;

@@ -1,7 +1,10 @@
-// What the passes make of small programs: the examples of `examples.rt` and `value_examples.rt`.
+// What the passes make of small programs, and what they find out: the examples of `examples.rt`, `value_examples.rt` and
+// `row_examples.rt`.
 use crate::tests::examples::EXAMPLES;
-use crate::tests::placing::placed_text;
-use crate::tests::shown::graph_text;
+use crate::tests::paths::held_text;
+use crate::tests::placing::motion_text;
+use crate::tests::row_examples::ROW_EXAMPLES;
+use crate::tests::shown::{graph_text, put_changes};
 use crate::tests::support::graph_of;
 use crate::tests::value_examples::VALUE_EXAMPLES;
 use cond_const::fold;
@@ -19,22 +22,27 @@ use value_number::number;
 /// Each example.
 #[test]
 fn examples_of_passes(rt: HostRuntime) -> Result<(), Fail> {
-    for example in EXAMPLES.split("# ").skip(1) {
-        assert!(rt; is_right(rt.alloc(), example)?, "{example}");
-    }
-    for example in VALUE_EXAMPLES.split("# ").skip(1) {
-        assert!(rt; is_right(rt.alloc(), example)?, "{example}");
+    for examples in [EXAMPLES, VALUE_EXAMPLES, ROW_EXAMPLES] {
+        for example in examples.split("# ").skip(1) {
+            let other = other_than(rt.alloc(), example)?;
+            assert!(rt; other.is_empty(), "{example}makes otherwise:\n{other}");
+        }
     }
     Ok(())
 }
 
-/// Whether the passes of an example make what it says.
-fn is_right(alloc: Global, example: &str) -> Result<bool, Fail> {
+/// The first passes that make something else than an example says, with what they make; no text where all is as it says.
+fn other_than(alloc: Global, example: &str) -> Result<String, Fail> {
     let (_, example) = example.split_once('\n').ok_or("no remark")?;
-    let (text, example) = example.split_once("$ lower").ok_or("no passes")?;
-    let (passes, wanted) = example.split_once('\n').ok_or("nothing shown")?;
-    let made = made_of(alloc, text, passes)?;
-    Ok(made.as_str() == wanted)
+    let (text, shown) = example.split_once("$ ").ok_or("nothing shown")?;
+    for part in shown.split("$ ") {
+        let (passes, wanted) = part.split_once('\n').ok_or("no lines")?;
+        let made = made_of(alloc, text, passes)?;
+        if made.as_str() != wanted {
+            return Ok(format!(in alloc; "{passes}\n{made}")?);
+        }
+    }
+    Ok(String::new(alloc))
 }
 
 /// What is shown of the graph that the passes make, in turn, of the graph of a text.
@@ -47,9 +55,9 @@ fn made_of(alloc: Global, text: &str, passes: &str) -> Result<String, Fail> {
     for pass in passes.split(' ').skip(1) {
         graph = next_of(alloc, pass, graph)?;
     }
-    let text = shown_of(alloc, shown, &graph);
+    let made = shown_of(alloc, text, shown, &graph);
     mem::drop(graph);
-    text
+    made
 }
 
 /// What the pass of this name makes of a graph, which is dropped.
@@ -83,13 +91,33 @@ fn round_of(alloc: Global, graph: &Graph) -> Result<Graph, Fail> {
     Ok(round(alloc, graph)?.graph)
 }
 
-/// What is shown of a graph: its nodes, its blocks, or where its first expression is placed.
-fn shown_of(alloc: Global, shown: &str, graph: &Graph) -> Result<String, Fail> {
+/// What is shown of the graph that was made of a text: its nodes, or those that the passes changed; its blocks; what code
+/// motion finds out of its first expression; or where a bit holds.
+fn shown_of(alloc: Global, text: &str, shown: &str, graph: &Graph) -> Result<String, Fail> {
     match shown {
         "graph" => Ok(graph_text(alloc, graph)?),
+        "changes" => changes_text(alloc, text, graph),
         "blocks" => Ok(blocks_text(alloc, graph)?),
-        _ => placed_text(alloc, shown, graph),
+        "motion" => motion_text(alloc, graph),
+        _ => held_text(alloc, shown, graph),
     }
+}
+
+/// The nodes of a graph that the graph of a text does not have, and how many it has.
+fn changes_text(alloc: Global, text: &str, graph: &Graph) -> Result<String, Fail> {
+    let before = lowered_text(alloc, text)?;
+    let after = graph_text(alloc, graph)?;
+    let mut changes = String::new(alloc);
+    put_changes(&mut changes, before.as_str(), after.as_str())?;
+    Ok(changes)
+}
+
+/// The nodes of the graph of a text.
+fn lowered_text(alloc: Global, text: &str) -> Result<String, Fail> {
+    let graph = graph_of(alloc, text)?;
+    let text = graph_text(alloc, &graph);
+    mem::drop(graph);
+    Ok(text?)
 }
 
 /// A line for each block, with its nodes.

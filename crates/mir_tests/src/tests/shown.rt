@@ -1,8 +1,17 @@
-// The texts of graphs and rows.
+// The texts of programs, graphs and rows, and what changes from one text to another.
 use bit_rows::Rows;
 use flow_graph::{Graph, Node};
-use mir_base::{Memory, Name, Operand, Rhs, Test, op_text, rel_op_text, un_op_text};
+use mir_base::{Memory, Name, Operand, Program, Rhs, Test, op_text, rel_op_text, un_op_text};
+use mir_print::print;
 use std::alloc::Global;
+
+/// The canonical text of a program.
+pub(crate) fn program_text(alloc: Global, program: &Program) -> Result<String, Memory> {
+    let bytes = print(alloc, program)?;
+    let mut text = String::new(alloc);
+    put_bytes(&mut text, bytes.as_slice())?;
+    Ok(text)
+}
 
 /// The text of a graph: a line for each node, by its number, with the numbers of its successors.
 pub(crate) fn graph_text(alloc: Global, graph: &Graph) -> Result<String, Memory> {
@@ -132,4 +141,27 @@ pub(crate) fn put_first_bit(text: &mut String, name: &str, rows: &Rows) -> Resul
         }
     }
     text.push('\n')
+}
+
+/// Appends the lines of a text that another does not have, and how many of its lines that one has.
+pub(crate) fn put_changes(text: &mut String, before: &str, after: &str) -> Result<(), Memory> {
+    let mut stay = 0usize;
+    for line in after.split_inclusive('\n') {
+        if has_line(before, line) {
+            stay = stay.saturating_add(1);
+        } else {
+            text.push_str(line)?;
+        }
+    }
+    write!(text, "{stay} stay\n")
+}
+
+/// Whether a text has a line.
+fn has_line(text: &str, wanted: &str) -> bool {
+    for line in text.split_inclusive('\n') {
+        if line == wanted {
+            return true;
+        }
+    }
+    false
 }

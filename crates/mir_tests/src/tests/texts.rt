@@ -2,10 +2,11 @@
 ghost use Rattle.std.specs.Prelude.{◌≤◌, length};
 ghost use Rattle.mir_base.specs.Limits.{most_bytes};
 
+use crate::tests::shown::{program_text, put_changes};
 use crate::tests::text_examples::TEXTS;
-use mir_base::{MOST_BYTES, Memory, Program};
+use mir_base::{MOST_BYTES, Memory};
 use mir_parse::{Raw, read_text};
-use mir_print::{print, text_is_read_back};
+use mir_print::text_is_read_back;
 use mir_valid::check;
 use std::alloc::Global;
 use std::mem;
@@ -24,42 +25,47 @@ fn examples_of_texts(rt: HostRuntime) -> Result<(), Fail> {
 fn is_right(alloc: Global, example: &str) -> Result<bool, Fail> {
     let (_, example) = example.split_once('\n').ok_or("no remark")?;
     let (text, wanted) = example.split_once("$ ").ok_or("no answer")?;
-    let wanted = if wanted == "same\n" { text } else { wanted };
     if text.len() > MOST_BYTES {
         return Ok(false);
     }
-    Ok(is_read_as(alloc, text.as_bytes(), wanted)?)
+    let wanted = if wanted == "same\n" { text } else { wanted };
+    let made = read_as(alloc, text)?;
+    match wanted.strip_prefix("changes\n") {
+        Some(changes) => Ok(changed(alloc, text, made.as_str())?.as_str() == changes),
+        None => Ok(made.as_str() == wanted),
+    }
 }
 
-/// Whether this is the canonical text of the program of a text, or the line of its refusal.
-fn is_read_as(alloc: Global, text: &[u8], wanted: &str) -> Result<bool, Memory>
+/// What changes from one text to the other.
+fn changed(alloc: Global, before: &str, after: &str) -> Result<String, Memory> {
+    let mut text = String::new(alloc);
+    put_changes(&mut text, before, after)?;
+    Ok(text)
+}
+
+/// The canonical text of the program of a text, or the line of its refusal.
+fn read_as(alloc: Global, text: &str) -> Result<String, Memory>
     requires { length text.now ≤ most_bytes }
 {
-    match read_text(alloc, text) {
+    match read_text(alloc, text.as_bytes()) {
         Ok(raw) => {
-            let is = is_checked_as(alloc, &raw, wanted);
+            let text = checked_as(alloc, &raw);
             mem::drop(raw);
-            is
+            text
         }
-        Err(fault) => Ok(format!(in alloc; "{fault}\n")?.as_str() == wanted),
+        Err(fault) => format!(in alloc; "{fault}\n"),
     }
 }
 
 /// The same, of a raw program.
-fn is_checked_as(alloc: Global, raw: &Raw, wanted: &str) -> Result<bool, Memory> {
+fn checked_as(alloc: Global, raw: &Raw) -> Result<String, Memory> {
     match check(alloc, raw) {
         Ok(program) => {
-            let is = is_printed_as(alloc, &program, wanted);
+            text_is_read_back(&program);
+            let text = program_text(alloc, &program);
             mem::drop(program);
-            is
+            text
         }
-        Err(fault) => Ok(format!(in alloc; "{fault}\n")?.as_str() == wanted),
+        Err(fault) => format!(in alloc; "{fault}\n"),
     }
-}
-
-/// Whether this is the canonical text of a program.
-fn is_printed_as(alloc: Global, program: &Program, wanted: &str) -> Result<bool, Memory> {
-    text_is_read_back(program);
-    let text = print(alloc, program)?;
-    Ok(text.as_slice() == wanted.as_bytes())
 }

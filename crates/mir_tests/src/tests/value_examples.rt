@@ -109,18 +109,8 @@ x <- a shl 63
 x <- a min 0
 return a
 end
-$ lower fold clean
-0: start to 1
-1: x <- a / a to 2
-2: x <- a mod a to 3
-3: x <- a / 0 to 4
-4: x <- a mod 0 to 5
-5: x <- 0 / a to 6
-6: x <- 0 mod a to 7
-7: x <- 0 - a to 8
-8: x <- a shl 63 to 9
-9: x <- a min 0 to 10
-10: return a
+$ lower fold: changes
+11 stay
 # a test of a variable and itself is decided, and one of what was received is not
 main: begin
 receive a(val)
@@ -154,36 +144,6 @@ $ lower fold clean
 3: x <- 1 to 4
 4: if i < n to 2 else 5
 5: return 1
-# a product of the same values under another name is the variable that has it
-main: begin
-receive a(val)
-receive b(val)
-x <- a * b
-y <- a
-z <- y * b
-return z
-end
-$ lower number
-0: start to 1
-1: x <- a * b to 2
-2: y <- a to 3
-3: z <- x to 4
-4: return z
-# an operand that is assigned anew between makes another term
-main: begin
-receive a(val)
-receive b(val)
-x <- a * b
-a <- b
-w <- a * b
-return w
-end
-$ lower number
-0: start to 1
-1: x <- a * b to 2
-2: a <- b to 3
-3: w <- a * b to 4
-4: return w
 # the first of two variables that have a term is read; a variable that had it and has it no more is not
 main: begin
 receive a(val)
@@ -194,32 +154,11 @@ x <- 5
 w <- a + 1
 return w
 end
-$ lower number
-0: start to 1
-1: x <- a + 1 to 2
+$ lower number: changes
 2: y <- x to 3
 3: z <- x to 4
-4: x <- 5 to 5
 5: w <- y to 6
-6: return w
-# terms that double with each line stay equal
-main: begin
-receive x(val)
-y <- x
-x <- x * x
-y <- y * y
-x <- x * x
-y <- y * y
-return y
-end
-$ lower number
-0: start to 1
-1: y <- x to 2
-2: x <- x * x to 3
-3: y <- x to 4
-4: x <- x * x to 5
-5: y <- x to 6
-6: return y
+4 stay
 # terms go on in both arms of a test, and begin anew where these meet
 main: begin
 receive a(val)
@@ -231,15 +170,10 @@ other: y <- a + 1
 join: z <- a + 1
 return z
 end
-$ lower number
-0: start to 1
-1: x <- a + 1 to 2
-2: if a to 5 else 3
+$ lower number: changes
 3: y <- x to 4
-4: skip to 6
 5: y <- x to 6
-6: z <- a + 1 to 7
-7: return z
+6 stay
 # a division and a call give values of their own, and operands are not exchanged
 main: begin
 receive a(val)
@@ -249,44 +183,26 @@ y <- a / b
 z <- x + y
 w <- y + x
 v <- x + y
-x <- call g,(a,int)
+x <- main,(a,int;b,int)
 u <- x + y
 return u
 end
-g: begin
-receive a(val)
-return a
-end
-$ lower number
-0: start to 1
-1: x <- a / b to 2
-2: y <- a / b to 3
-3: z <- x + y to 4
-4: w <- y + x to 5
+$ lower number: changes
 5: v <- z to 6
-6: x <- call 1 a to 7
-7: u <- x + y to 8
-8: return u
+8 stay
 # a call without a result keeps all terms, and a division by a number is an operator as others are
 main: begin
 receive a(val)
 x <- a / 2
-call g,(a,int)
+call main,(a,int)
 y <- a / 2
 y <- a / 2
 return y
 end
-g: begin
-receive a(val)
-return a
-end
-$ lower number
-0: start to 1
-1: x <- a / 2 to 2
-2: call 1 a to 3
+$ lower number: changes
 3: y <- x to 4
 4: y <- x to 5
-5: return y
+4 stay
 # round a loop terms begin anew
 main: begin
 receive a(val)
@@ -296,13 +212,9 @@ z <- a + 1
 if z goto L1
 return y
 end
-$ lower number
-0: start to 1
-1: x <- a + 1 to 2
-2: y <- a + 1 to 3
+$ lower number: changes
 3: z <- y to 4
-4: if z to 2 else 5
-5: return y
+5 stay
 # a test with two equal successors makes a root
 main: begin
 receive a(val)
@@ -311,12 +223,8 @@ if a goto next
 next: y <- a + 1
 return y
 end
-$ lower number
-0: start to 1
-1: x <- a + 1 to 2
-2: if a to 3 else 3
-3: y <- a + 1 to 4
-4: return y
+$ lower number: changes
+5 stay
 # a copy holds through a loop in which neither variable is assigned
 main: begin
 receive a(val)
@@ -325,12 +233,11 @@ L1: i <- i + b
 if i < b goto L1
 return b
 end
-$ lower copies
-0: start to 1
-1: b <- a to 2
+$ lower copies: changes
 2: i <- i + a to 3
 3: if i < a to 2 else 4
 4: return a
+2 stay
 # not where its variable is assigned in the loop
 main: begin
 receive a(val)
@@ -340,13 +247,10 @@ b <- i
 if i < b goto L1
 return b
 end
-$ lower copies
-0: start to 1
-1: b <- a to 2
-2: i <- i + b to 3
-3: b <- i to 4
+$ lower copies: changes
 4: if i < i to 2 else 5
 5: return i
+4 stay
 # a copy that one path alone has
 main: begin
 receive a(val)
@@ -356,12 +260,8 @@ b <- a
 L1: print b
 return b
 end
-$ lower copies
-0: start to 1
-1: if c to 3 else 2
-2: b <- a to 3
-3: print b to 4
-4: return b
+$ lower copies: changes
+5 stay
 # a copy that both paths have, by two nodes
 main: begin
 receive a(val)
@@ -374,15 +274,10 @@ b <- a
 L2: print b
 return b
 end
-$ lower copies
-0: start to 1
-1: if c to 4 else 2
-2: b <- a to 3
-3: skip to 6
-4: print c to 5
-5: b <- a to 6
+$ lower copies: changes
 6: print a to 7
 7: return a
+6 stay
 # two copies in a circle: all is decided on the graph as it was, and then b <- b is a Skip
 main: begin
 receive a(val)
@@ -392,13 +287,11 @@ b <- a
 print a
 return b
 end
-$ lower copies
-0: start to 1
-1: b <- a to 2
+$ lower copies: changes
 2: skip to 3
 3: skip to 4
-4: print a to 5
 5: return a
+3 stay
 # a chain of copies is followed one step
 main: begin
 receive a(val)
@@ -407,12 +300,11 @@ c <- b
 print c
 return c
 end
-$ lower copies
-0: start to 1
-1: b <- a to 2
+$ lower copies: changes
 2: c <- a to 3
 3: print b to 4
 4: return b
+2 stay
 # a copy ends where what it copies is assigned, and where its variable is
 main: begin
 receive a(val)
@@ -425,37 +317,22 @@ c <- a + c
 print c
 return b
 end
-$ lower copies
-0: start to 1
-1: b <- a to 2
+$ lower copies: changes
 2: print a to 3
-3: a <- 1 to 4
-4: print b to 5
-5: c <- a to 6
 6: c <- a + a to 7
-7: print c to 8
-8: return b
+7 stay
 # the result of a call ends a copy, and arguments are read anew
 main: begin
 receive a(val)
 b <- a
-a <- call square,(b,int;b,int)
+a <- main,(b,int)
 print b
 c <- b / b
 return c
 end
-square: begin
-receive x(val)
-receive y(val)
-return x
-end
-$ lower copies
-0: start to 1
-1: b <- a to 2
-2: a <- call 1 a a to 3
-3: print b to 4
-4: c <- b / b to 5
-5: return c
+$ lower copies: changes
+2: a <- call 0 a to 3
+5 stay
 # the operands of a division and of a test are read anew, and a variable that is assigned to itself is a Skip
 main: begin
 receive a(val)
@@ -468,31 +345,12 @@ q <- q
 return q
 L1: return b
 end
-$ lower copies
-0: start to 1
-1: b <- a to 2
-2: e <- d to 3
+$ lower copies: changes
 3: q <- a / d to 4
 4: if a < d to 7 else 5
 5: skip to 6
-6: return q
 7: return a
-# an assignment that one way does not need sinks into the other
-main: begin
-receive a(val)
-receive b(val)
-x <- a + b
-if a goto L1
-return b
-L1: return x
-end
-$ lower split round
-0: start to 1
-1: skip to 2
-2: if a to 5 else 3
-3: return b
-4: return x
-5: x <- a + b to 4
+4 stay
 # what sinks to a node that assigns its variable is dead there
 main: begin
 receive n(val)
@@ -548,19 +406,16 @@ $ lower split round
 main: begin
 receive a(val)
 x <- a + 1
-y <- g,()
-a <- g,()
+y <- main,(a,int)
+a <- main,(a,int)
 print x
 return a
-end
-g: begin
-return 1
 end
 $ lower split round
 0: start to 1
 1: skip to 2
-2: y <- call 1 to 6
-3: a <- call 1 to 4
+2: y <- call 0 a to 6
+3: a <- call 0 a to 4
 4: print x to 5
 5: return a
 6: x <- a + 1 to 3

@@ -1,0 +1,310 @@
+// Examples of what the passes find out before they change a graph: the tables of `docs/PASSES.md`.
+
+/// Examples in the form of `EXAMPLES`. Where a bit holds is asked of one bit at a time: of a copy, which is born where it
+/// stands and stopped where a node assigns one of its variables; of a pattern, born where it occurs and stopped where a
+/// node blocks it; of a variable that is live, born where it is read and stopped where it is assigned.
+pub(crate) const ROW_EXAMPLES: &str = "\
+# a loop without exit: a bit that is born at a sum, and stopped at Start and at a copy
+main: begin
+L: a <- a + 1
+a <- a
+goto L
+end
+$ lower: before born 1 stop 0 2
+before 2
+$ lower: after born 1 stop 0 2
+after 1 3
+$ lower: ahead born 1 stop 0 2
+ahead 1 3
+$ lower: beyond born 1 stop 0 2
+beyond 0 2 3
+# no path from a jump to itself ends, so all that end have on them what is asked, and none has
+main: begin
+L: goto L
+print a
+end
+$ lower: before born stop 0
+before
+$ lower: after born stop 0
+after 1
+$ lower: ahead born stop 0
+ahead
+# states of constants: what is decided, and the nodes 11 and 12, to which no run comes
+main: begin
+receive a(val)
+d <- 0
+if d goto L2
+x <- 4
+if a goto L1
+x <- 2 * 2
+y <- 1
+L1: z <- x + y
+w <- a + d
+print z
+return w
+L2: q <- a / d
+return q
+end
+$ lower clean fold
+0: start to 1
+1: d <- 0 to 2
+2: skip to 3
+3: x <- 4 to 4
+4: if a to 7 else 5
+5: x <- 4 to 6
+6: y <- 1 to 7
+7: z <- 4 + y to 8
+8: w <- a to 9
+9: print z to 10
+10: return w
+# the same, with a call of all variables before each node: an argument is a constant where its variable is known to be
+main: begin
+receive a(val)
+call f,(a,int;d,int;x,int;y,int;z,int;w,int)
+d <- 0
+call f,(a,int;d,int;x,int;y,int;z,int;w,int)
+if d goto L2
+call f,(a,int;d,int;x,int;y,int;z,int;w,int)
+x <- 4
+call f,(a,int;d,int;x,int;y,int;z,int;w,int)
+if a goto L1
+call f,(a,int;d,int;x,int;y,int;z,int;w,int)
+x <- 2 * 2
+call f,(a,int;d,int;x,int;y,int;z,int;w,int)
+y <- 1
+L1: call f,(a,int;d,int;x,int;y,int;z,int;w,int)
+z <- x + y
+call f,(a,int;d,int;x,int;y,int;z,int;w,int)
+w <- a + d
+call f,(a,int;d,int;x,int;y,int;z,int;w,int)
+print z
+call f,(a,int;d,int;x,int;y,int;z,int;w,int)
+return w
+L2: call f,(a,int;d,int;x,int;y,int;z,int;w,int)
+q <- a / d
+return q
+end
+f: begin
+receive a(val)
+receive d(val)
+receive x(val)
+receive y(val)
+receive z(val)
+receive w(val)
+end
+$ lower fold
+0: start to 1
+1: call 1 a 0 0 0 0 0 to 2
+2: d <- 0 to 3
+3: call 1 a 0 0 0 0 0 to 4
+4: skip to 5
+5: call 1 a 0 0 0 0 0 to 6
+6: x <- 4 to 7
+7: call 1 a 0 4 0 0 0 to 8
+8: if a to 13 else 9
+9: call 1 a 0 4 0 0 0 to 10
+10: x <- 4 to 11
+11: call 1 a 0 4 0 0 0 to 12
+12: y <- 1 to 13
+13: call 1 a 0 4 y 0 0 to 14
+14: z <- 4 + y to 15
+15: call 1 a 0 4 y z 0 to 16
+16: w <- a to 17
+17: call 1 a 0 4 y z w to 18
+18: print z to 19
+19: call 1 a 0 4 y z w to 20
+20: return w
+# terms: the product of y and b is that of a and b, and after a is assigned the product of a and b is another
+main: begin
+receive a(val)
+receive b(val)
+x <- a * b
+y <- a
+z <- y * b
+a <- b
+w <- a * b
+return z
+end
+$ lower number: changes
+3: z <- x to 4
+6 stay
+# the same, where the terms that variables have are asked for after each node: those of y * a and b * b are x's and w's
+main: begin
+receive a(val)
+receive b(val)
+x <- a * b
+q <- a * b
+y <- a
+q <- y * b
+z <- y * b
+a <- b
+q <- y * a
+w <- a * b
+q <- b * b
+return z
+end
+$ lower number: changes
+2: q <- x to 3
+4: q <- x to 5
+5: z <- x to 6
+7: q <- x to 8
+9: q <- w to 10
+6 stay
+# copies: b of a, c of b, b of i and b of c in turn, and what becomes of the nodes
+main: begin
+receive a(val)
+b <- a
+i <- 0
+L1: c <- b
+i <- i + c
+print b
+b <- i
+b <- c
+if i < b goto L1
+return c
+end
+$ lower: before born 1 stop 1 6 7
+before 2
+$ lower: before born 3 stop 1 3 6 7
+before 4 5 6
+$ lower: before born 6 stop 1 2 4 6 7
+before 7
+$ lower: before born 7 stop 1 3 6 7
+before 8 9
+$ lower copies: changes
+4: i <- i + b to 5
+8: if i < c to 3 else 9
+8 stay
+# the diamond: delayed from 1, the earliest, to the uses, of which 3 is latest; and needed beyond 3, 4, 8 and 9, the rest isolated
+main: begin
+receive a(val)
+receive b(val)
+if a goto L1
+print a
+goto L2
+L1: x <- a + b
+print x
+L2: y <- a + b
+print y
+return y
+end
+$ lower clean split: motion
+used 3 5
+killed 0
+available 4 6 7 9
+anticipatable 1 2 3 4 5 8 9
+earliest 1
+busy inserted 1
+busy replaced 3 5
+lazy inserted 3 8
+lazy replaced 3 5
+$ lower clean split: before born 1 stop 3 5
+before 2 3 8
+$ lower clean split: beyond born 5 stop 3 8
+beyond 3 4 8 9
+# the first use kills what it evaluates, so the second is evaluated anew, and both are isolated
+main: begin
+receive a(val)
+print a
+a <- a + 1
+x <- a + 1
+return x
+end
+$ lower: motion
+used 2 3
+killed 0 2
+available 4
+anticipatable 1 2 3
+earliest 1 3
+busy inserted 1 3
+busy replaced 2 3
+lazy inserted
+lazy replaced
+# what a loop evaluates each time around is evaluated once, before it
+main: begin
+receive a(val)
+goto L
+L: x <- a + 1
+if x goto M
+return x
+M: goto L
+end
+$ lower: motion
+used 2
+killed 0
+available 3 4 5
+anticipatable 1 2 5
+earliest 1
+busy inserted 1
+busy replaced 2
+lazy inserted 1
+lazy replaced 2
+# what is used only once stays as it is
+main: begin
+receive a(val)
+print a
+x <- a + 1
+return x
+end
+$ lower: motion
+used 2
+killed 0
+available 3
+anticipatable 1 2
+earliest 1
+busy inserted 1
+busy replaced 2
+lazy inserted
+lazy replaced
+# an assignment that one way does not need sinks into the other, where its variable is live
+main: begin
+receive a(val)
+receive b(val)
+x <- a + b
+if a goto L1
+return b
+L1: return x
+end
+$ lower split: before born 1 stop 0 1 4
+before 2 3 4
+$ lower split round
+0: start to 1
+1: skip to 2
+2: if a to 5 else 3
+3: return b
+4: return x
+5: x <- a + b to 4
+$ lower split round: beyond born 4 stop 5
+beyond 5
+# where n, i and x are live in turn: the first assignment is dead, and a division stays
+main: begin
+receive n(val)
+x <- 1
+x <- n + 1
+d <- 1 / n
+L1: print x
+i <- i + 1
+if i < n goto L1
+return 0
+end
+$ lower: ahead born 2 3 6 stop
+ahead 0 1 2 3 4 5 6
+$ lower: ahead born 5 6 stop 5
+ahead 0 1 2 3 4 5 6
+$ lower: ahead born 4 stop 1 2
+ahead 3 4 5 6
+$ lower split round
+0: start to 1
+1: skip to 10
+2: skip to 3
+3: d <- 1 / n to 12
+4: print x to 5
+5: skip to 11
+6: if i < n to 9 else 7
+7: return 0
+8: skip to 4
+9: skip to 4
+10: skip to 2
+11: i <- i + 1 to 6
+12: x <- n + 1 to 8
+";
