@@ -4,8 +4,8 @@
     bench/against_llvm.py [--mir PATH] [--programs N] [--repeat N] [--seed N]
 
 First the workloads of `run.py` under `optimise`, each beside `opt` on the same program as LLVM IR, in one run, as the
-ratio of the least times of some calls; both read a text and write one, but do not do the same work: a ratio says what
-a user waits for and no more. Then programs that are drawn at random, each as it is, after `optimise`, and compiled from
+ratio of the least processor times of some calls, which a busy machine changes little; both read a text and write one,
+but do not do the same work: a ratio says what a user pays and no more. Then programs that are drawn at random, each as it is, after `optimise`, and compiled from
 either (`tools/compile`): whatever ends or traps must print the same, and every difference is shown. Where `opt` or
 `clang` is not there it says so. It wants Python 3.9 and its standard library.
 """
@@ -13,11 +13,11 @@ either (`tools/compile`): whatever ends or traps must print the same, and every 
 import argparse
 import importlib.util
 import random
+import resource
 import shutil
 import subprocess
 import sys
 import tempfile
-import time
 from pathlib import Path
 from typing import Callable
 
@@ -40,13 +40,19 @@ def ran(words: list, text: bytes = b'') -> subprocess.CompletedProcess:
     return subprocess.run([str(word) for word in words], input=text, capture_output=True, timeout=600)
 
 
+def children_seconds() -> float:
+    """The processor seconds of all finished calls so far."""
+    used = resource.getrusage(resource.RUSAGE_CHILDREN)
+    return used.ru_utime + used.ru_stime
+
+
 def least_time(work: Callable[[], subprocess.CompletedProcess], repeat: int) -> float:
-    """The least seconds of some calls, each of which has to end with status 0."""
+    """The least processor seconds of some calls, each of which has to end with status 0."""
     times = []
     for _ in range(repeat):
-        begin = time.perf_counter()
+        begin = children_seconds()
         said = work()
-        times.append(time.perf_counter() - begin)
+        times.append(children_seconds() - begin)
         if said.returncode:
             sys.exit(f'against_llvm: {said.args[0]}: {said.stderr.decode()[:400]}')
     return min(times)
@@ -71,7 +77,7 @@ def compare_times(mir: str, repeat: int, folder: Path) -> None:
         source.write_bytes(made.stdout)
         ours = least_time(lambda: ran([mir, 'optimise'], text), repeat)
         theirs = least_time(lambda: ran([opt, '-S', f'-passes={PASSES}', source, '-o', '/dev/null']), repeat)
-        print(f'{workload.name:22} {case.size:9} {ours:8.3f} {theirs:8.3f} {ours / theirs:10.2f}')
+        print(f'{workload.name:22} {case.size:9} {ours:8.3f} {theirs:8.3f} {ours / theirs:10.2f}', flush=True)
 
 
 class Draw:
