@@ -6,9 +6,9 @@ use Rattle.std.proofs.lemmas.Bool.{cases_eq}
 use Rattle.std.proofs.lemmas.List.{ext_get_or, get_or-replicate, get_or-set_same, get_or-set_other, length-replicate, length-set}
 use Rattle.std.proofs.lemmas.List.FromFn.{length-map-range_with_len, get_or-map-range_with_len}
 use Rattle.std.specs.Int.{bit_not}
-use Rattle.bit_rows.specs.Bits.{AreEquallyLong, zip_with, not_bits, row_of}
-use Rattle.bit_rows.specs.Words.{bits_of, rows_of, used_bits, with_bit, words_at, FitsRows, FitsWords, Rewritten}
-use Rattle.bit_rows.proofs.Views.{Holds, IsBitwise, length_bits_of, rewritten_whole, joined_hold, flip_holds, set_holds, zeros_hold}
+use Rattle.bit_rows.specs.Bits.{AreEquallyLong, zip_with, minus_bits, not_bits, or_bits, row_of}
+use Rattle.bit_rows.specs.Words.{bits_of, rows_of, used_bits, with_bit, words_at, EachOrMinus, FitsRows, FitsWords, Rewritten}
+use Rattle.bit_rows.proofs.Views.{Holds, IsBitwise, length_bits_of, rewritten_whole, joined_hold, or_minus_hold, flip_holds, set_holds, zeros_hold}
 
 -- as many rows as are asked for, and each of them
 pub length_rows_of : (rows bits stride : ℕ) (words : List ℕ) → length (rows_of rows bits stride words) ≡ rows
@@ -104,6 +104,16 @@ module _ (rows bits stride : ℕ) (words : List ℕ) (all : List (List Bool)) (f
         pub joined_row : (op : ℕ → ℕ → ℕ) (f : Bool → Bool → Bool) → IsBitwise op f → ((k : ℕ) → k < stride → get_or (words_at stride words' row) k 0 ≡ op (get_or (words_at stride words row) k 0) (get_or ys k 0))
             → HoldRows rows bits stride (take len (words' ++ drop (length words') words)) (set all row (zip_with f (row_of all row) other))
         joined_row op f is each = put _ (rw (← row_view, ← view_n) (joined_hold op f is bits (words_at stride words row) ys (words_at stride words' row) row_fits fits_n new_long (λ k l. each k (rw words_long at l))))
+
+        -- and those of a third
+        pub or_minused_row : (m2 : ℕ) (ws : List ℕ) (less : List Bool) → FitsWords m2 ws → bits_of m2 ws ≡ less → length (row_of all row) ≡ length less
+            → EachOrMinus stride (words_at stride words row) ys ws (words_at stride words' row)
+            → HoldRows rows bits stride (take len (words' ++ drop (length words') words)) (set all row (or_bits (row_of all row) (minus_bits other less)))
+        or_minused_row m2 ws less fw view2 same2 each =
+            let e : m2 ≡ bits = sym (length_bits_of m2 ws) ∙ ap length view2 ∙ sym same2 ∙ row_long in
+            let fits3 : FitsWords bits ws = rw (← e) fw in
+            let view3 : bits_of bits ws ≡ less = rw (← e) view2 in
+            put _ (rw (← row_view, ← view_n, ← view3) (or_minus_hold bits (words_at stride words row) ys ws (words_at stride words' row) row_fits fits_n fits3 new_long (λ k l. each k (rw words_long at l))))
 
         pub copied_row : words_at stride words' row ≡ ys → HoldRows rows bits stride (take len (words' ++ drop (length words') words)) (set all row other)
         copied_row is = put other (rw is (record { fits = fits_n; view = view_n }))

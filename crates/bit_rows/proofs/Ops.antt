@@ -35,6 +35,10 @@ module _ (n len : ℕ) (xs zs : List ℕ) (row : List Bool) (fx : FitsWords n xs
         let held : Holds n ys other = as_wide n xs row fx view m ys other fy view' long in
         rw (rewritten_whole len xs zs len_is same) (rw (← view, ← held.view) (joined_hold op f is n xs ys zs fx held.fits same each))
 
+    -- which it becomes
+    pub copied : zs ≡ ys → Holds n (take len (zs ++ drop (length zs) xs)) other
+    copied e = rw (rewritten_whole len xs zs len_is same, e) (as_wide n xs row fx view m ys other fy view' long)
+
     -- and a third
     pub or_minused : (m2 : ℕ) (ws : List ℕ) (less : List Bool) → FitsWords m2 ws → bits_of m2 ws ≡ less → length row ≡ length less
         → ((k : ℕ) → k < length xs → get_or zs k 0 ≡ bit_or (get_or xs k 0) (minus_word (get_or ys k 0) (get_or ws k 0)))

@@ -1,10 +1,11 @@
 -- One row rewritten among others, in one list of words.
-use Rattle.std.proofs.Common.{◌≡◌, ℕ, ◌+◌, ◌-◌, ◌*◌, ◌<◌, ◌≤◌, List, length, take, drop, inl, inr, ap, sym, arith, length-append, length-drop, length-take, ◌∙◌}
+use Rattle.std.proofs.Common.{◌≡◌, ◌≢◌, ◌⊎◌, ℕ, ◌+◌, ◌-◌, ◌*◌, ◌<◌, ◌≤◌, List, length, take, drop, get_or, set, refl, inl, inr, ap, sym, arith, bit_or, length-append, length-drop, length-take, ◌∙◌}
 use Rattle.std.proofs.Math.Nat.{mul-le-mul_left}
-use Rattle.std.proofs.lemmas.Bool.{cases_lt}
+use Rattle.std.proofs.lemmas.Bool.{cases_eq, cases_lt}
+use Rattle.std.proofs.lemmas.List.{ext_get_or, get_or-drop, get_or-set_other, get_or-set_same, get_or-take}
 use Rattle.std.proofs.lemmas.Slice.{between-put_mid, between_is, drop-put_mid, take-put_mid_below}
 use borrow.Rule.Slice.PartMut.{put_mid}
-use Rattle.bit_rows.specs.Words.{Rewritten, words_at}
+use Rattle.bit_rows.specs.Words.{Rewritten, minus_word, words_at}
 
 -- a row before another ends where that one begins, or earlier
 pub rows_apart : (stride r row : ℕ) → r < row → stride * r + stride ≤ stride * row
@@ -32,3 +33,50 @@ module _ (stride row : ℕ) (xs ys : List ℕ) (within : stride * row + stride �
           ap (λ (zs : List ℕ). take (stride * r + stride - stride * r) zs) (drop-put_mid (stride * row) (stride * row + stride - stride * row) xs ys (stride * r) (omega arith) (omega arith) (omega arith))
     ];
   }
+
+-- ---- word by word
+
+-- a word of a row
+pub word_at : (stride row k : ℕ) (words : List ℕ) → k < stride → get_or (words_at stride words row) k 0 ≡ get_or words (stride * row + k) 0
+word_at stride row k words h = get_or-take {A = ℕ} (stride * row + stride - stride * row) (drop (stride * row) words) k 0 (omega arith) ∙ get_or-drop {A = ℕ} (stride * row) words k 0
+
+-- a word of another row stands before this row or after it
+beside : (stride row r k : ℕ) → r ≢ row → k < stride → (stride * r + k < stride * row) ⊎ (stride * row + stride ≤ stride * r + k)
+beside stride row r k d h = elim (cases_lt r row) as (λ _. (stride * r + k < stride * row) ⊎ (stride * row + stride ≤ stride * r + k)) [
+  | inl below ↦ let apart : stride * r + stride ≤ stride * row = rows_apart stride r row below in inl (omega arith)
+  | inr above ↦ let apart : stride * row + stride ≤ stride * r = rows_apart stride row r (omega arith) in inr (omega arith)
+]
+
+-- the words before a row and after it are as before
+pub rewrites_within : (stride row : ℕ) (xs ys : List ℕ) → length ys ≡ length xs → ((j : ℕ) → (j < stride * row) ⊎ (stride * row + stride ≤ j) → get_or ys j 0 ≡ get_or xs j 0) → Rewritten stride row xs ys
+rewrites_within stride row xs ys long rest = record {
+  len = long;
+  others = λ r d. ext_get_or 0 (words_at stride ys r) (words_at stride xs r) (let e : length ys ≡ length xs = long in grind (arith, length-drop, length-take))
+      (λ k l.
+      let l' : k < length (words_at stride ys r) = l in
+      let h : k < stride = grind (arith, length-drop, length-take) in
+      word_at stride r k ys h ∙ rest (stride * r + k) (beside stride row r k d h) ∙ sym (word_at stride r k xs h));
+}
+
+-- one word more of a row is made of the old one, of that of a second row, which may be the same, and of others
+module _ (stride row from i : ℕ) (less old words : List ℕ) (i_in : i < stride) (within : stride * row + stride ≤ length words)
+    (done : (k : ℕ) → k < i → get_or words (stride * row + k) 0 ≡ bit_or (get_or old (stride * row + k) 0) (minus_word (get_or old (stride * from + k) 0) (get_or less k 0)))
+    (rest : (j : ℕ) → (j < stride * row) ⊎ (stride * row + i ≤ j) → get_or words j 0 ≡ get_or old j 0) where
+  abbrev made : ℕ
+  made = bit_or (get_or words (stride * row + i) 0) (minus_word (get_or words (stride * from + i) 0) (get_or less i 0))
+
+  from_kept : get_or words (stride * from + i) 0 ≡ get_or old (stride * from + i) 0
+  from_kept = rest (stride * from + i) (elim (cases_lt from row) as (λ _. (stride * from + i < stride * row) ⊎ (stride * row + i ≤ stride * from + i)) [
+    | inl below ↦ let apart : stride * from + stride ≤ stride * row = rows_apart stride from row below in inl (omega arith)
+    | inr above ↦ let late : stride * row ≤ stride * from = mul-le-mul_left stride above in inr (omega arith)
+  ])
+
+  pub done_more : (k : ℕ) → k < i + 1 → get_or (set words (stride * row + i) made) (stride * row + k) 0 ≡ bit_or (get_or old (stride * row + k) 0) (minus_word (get_or old (stride * from + k) 0) (get_or less k 0))
+  done_more k h = elim (cases_eq k i) as (λ _. get_or (set words (stride * row + i) made) (stride * row + k) 0 ≡ bit_or (get_or old (stride * row + k) 0) (minus_word (get_or old (stride * from + k) 0) (get_or less k 0))) [
+    | inl last ↦ rw last (get_or-set_same words (stride * row + i) made 0 (omega arith) ∙ rw (from_kept, rest (stride * row + i) (inr (omega arith))) refl)
+    | inr d ↦ get_or-set_other words (stride * row + i) (stride * row + k) made 0 (λ e. d (omega (arith, e))) ∙ done k (omega arith)
+  ]
+
+  pub rest_more : (j : ℕ) → (j < stride * row) ⊎ (stride * row + (i + 1) ≤ j) → get_or (set words (stride * row + i) made) j 0 ≡ get_or old j 0
+  rest_more j (inl before) = get_or-set_other words (stride * row + i) j made 0 (λ e. absurd (omega (arith, e))) ∙ rest j (inl before)
+  rest_more j (inr after) = get_or-set_other words (stride * row + i) j made 0 (λ e. absurd (omega (arith, e))) ∙ rest j (inr (omega arith))

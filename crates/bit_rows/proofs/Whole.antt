@@ -1,16 +1,13 @@
 -- All rows at once: one pass over all words is the operation on each row.
-use Rattle.std.proofs.Common.{◌≡◌, ℕ, ◌+◌, ◌-◌, ◌*◌, ◌/◌, ◌<◌, ◌≤◌, Bool, false, List, [], ◌++◌, length, take, drop, get_or, refl, sym, ap, inl, inr, arith, ◌∙◌, length-drop, length-take}
+use Rattle.std.proofs.Common.{◌≡◌, ℕ, ◌+◌, ◌*◌, ◌/◌, ◌<◌, ◌≤◌, Bool, false, List, [], ◌++◌, length, take, drop, get_or, refl, sym, ap, inl, inr, arith, ◌∙◌, length-drop, length-take}
 use Rattle.std.proofs.lemmas.Bool.{cases_lt}
-use Rattle.std.proofs.lemmas.List.{get_or-drop, get_or-take, get_or_past}
+use Rattle.std.proofs.lemmas.List.{get_or_past}
 use Rattle.bit_rows.specs.Bits.{AreAlike, zip_with, row_of}
 use Rattle.bit_rows.specs.BitLaws.{zip_bit}
 use Rattle.bit_rows.specs.Words.{bits_of, rows_of, words_at, FitsRows, FitsWords}
 use Rattle.bit_rows.proofs.Views.{Holds, IsBitwise, length_bits_of, rewritten_whole, joined_hold}
+use Rattle.bit_rows.proofs.Splices.{word_at}
 use Rattle.bit_rows.proofs.Flat.{length_rows_of, row_rows_of, row_fits, row_long, row_view, row_within, rows_are, stride_is, words_long}
-
--- a word of a row
-word_at : (stride row k : ℕ) (words : List ℕ) → k < stride → get_or (words_at stride words row) k 0 ≡ get_or words (stride * row + k) 0
-word_at stride row k words h = get_or-take {A = ℕ} (stride * row + stride - stride * row) (drop (stride * row) words) k 0 (omega arith) ∙ get_or-drop {A = ℕ} (stride * row) words k 0
 
 -- words that hold rows made of others row by row
 pub record HoldEach (rows bits stride : ℕ) (f : Bool → Bool → Bool) (words : List ℕ) (all more : List (List Bool)) : Type 0 where

@@ -29,6 +29,10 @@ minus_word x y = bit_and x (bit_not w64 y)
 abbrev pub EachWord : (ℕ → ℕ → ℕ) → ℕ → List ℕ → List ℕ → List ℕ → Type 0
 EachWord op len old other new = (k : ℕ) → k < len → slice_index new k ≡ op (slice_index old k) (slice_index other k)
 
+-- each is made of the old one, and of what another list's has and a third one's has not
+abbrev pub EachOrMinus : ℕ → List ℕ → List ℕ → List ℕ → List ℕ → Type 0
+EachOrMinus len old other less new = (k : ℕ) → k < len → slice_index new k ≡ bit_or (slice_index old k) (minus_word (slice_index other k) (slice_index less k))
+
 -- a word with one bit set or cleared
 abbrev pub with_bit : ℕ → ℕ → Bool → ℕ
 with_bit word i value = if value then bit_or word (2 ^ i) else bit_and word (bit_not w64 (2 ^ i))

@@ -1,8 +1,9 @@
 // One row of truth values.
 ghost use Rattle.std.specs.Prelude.{◌≡◌, ◌<◌, ◌↔◌, false, IfOk, length, slice_index_or, replicate};
-ghost use Rattle.bit_rows.specs.Bits.{or_bits, minus_bits};
+ghost use Rattle.bit_rows.specs.Bits.{or_bits, minus_bits, not_bits};
 
-use crate::words::{or_minus_words, or_words, word_bit};
+use crate::joining::Joining;
+use crate::words::{flip_words, join_words, or_minus_words, or_words, word_bit};
 use crate::{Memory, RowView};
 use smallvec::SmallVec;
 use std::alloc::Global;
@@ -88,5 +89,28 @@ impl Row {
         ensures unchanged { (result ≡ false) ↔ (self.new ≡ self.old) }
     {
         or_minus_words(self.words.as_mut_slice(), other.words, less.words)
+    }
+
+    /// Keeps what is not in the other. It does not allocate.
+    pub fn minus_from(&mut self, other: &RowView<'_>)
+        requires { length self.old ≡ length other.now }
+        ensures { self.new ≡ minus_bits self.old other.now }
+    {
+        join_words(Joining::Minus, self.words.as_mut_slice(), other.words);
+    }
+
+    /// Becomes a copy of the other. It does not allocate.
+    pub fn copy_from(&mut self, other: &RowView<'_>)
+        requires { length self.old ≡ length other.now }
+        ensures { self.new ≡ other.now }
+    {
+        self.words.as_mut_slice().copy_from_slice(other.words);
+    }
+
+    /// Each bit becomes its opposite. It does not allocate.
+    pub fn flip(&mut self)
+        ensures { self.new ≡ not_bits self.old }
+    {
+        flip_words(self.bits, self.words.as_mut_slice());
     }
 }

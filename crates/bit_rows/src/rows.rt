@@ -4,7 +4,9 @@ ghost use Rattle.bit_rows.specs.Bits.{AreAlike, AreEquallyLong, EachBit, EachBit
 ghost use Rattle.bit_rows.specs.Joinings.{bit_join};
 
 use crate::joining::Joining;
-use crate::packed::{copy_row, flip_row, join_row, row_words, set_row_bit};
+use crate::packed::{
+    copy_row, flip_row, join_row, or_minus_row, or_minus_rows, row_words, set_row_bit,
+};
 use crate::words::join_words;
 use crate::{Memory, RowView};
 use std::alloc::{AllocError, Global};
@@ -181,6 +183,29 @@ impl Rows {
         ensures { self.new ≡ slice_set self.old row (and_bits (row_of self.old row) from.now) }
     {
         self.join_from(row, from, Joining::And);
+    }
+
+    /// The row becomes its disjunction with what another has and a third has not, in one pass. It does not allocate.
+    pub fn or_minus_from(&mut self, row: usize, from: &RowView<'_>, less: &RowView<'_>)
+        requires row { row < length self.old }
+        requires equally_long { length (row_of self.old row) ≡ length from.now }
+        requires less { length (row_of self.old row) ≡ length less.now }
+        ensures { self.new ≡ slice_set self.old row
+            (or_bits (row_of self.old row) (minus_bits from.now less.now)) }
+    {
+        or_minus_row(&mut self.words, self.stride, row, from.words, less.words);
+    }
+
+    /// The row becomes its disjunction with what a second row of these has and another row has not, in one pass. It does
+    /// not allocate.
+    pub fn or_minus_within(&mut self, row: usize, from: usize, less: &RowView<'_>)
+        requires row { row < length self.old }
+        requires from { from < length self.old }
+        requires less { length (row_of self.old row) ≡ length less.now }
+        ensures { self.new ≡ slice_set self.old row
+            (or_bits (row_of self.old row) (minus_bits (row_of self.old from) less.now)) }
+    {
+        or_minus_rows(&mut self.words, self.stride, row, from, less.words);
     }
 
     /// The row becomes its disjunction with a row of the other. It does not allocate.

@@ -1,9 +1,9 @@
 // The passes over words. Each clause says what becomes of one word, or of one bit.
-ghost use Rattle.std.specs.Prelude.{◌≡◌, ℕ, ◌+◌, ◌*◌, ◌^◌, ◌<◌, ◌≤◌, ◌↔◌, false, IfNone, IfSome, length, slice_index, bit_and, bit_or};
+ghost use Rattle.std.specs.Prelude.{◌≡◌, ℕ, ◌+◌, ◌*◌, ◌^◌, ◌<◌, ◌≤◌, ◌↔◌, false, IfNone, IfSome, length, bit_and, bit_or};
 ghost use Rattle.std.specs.Int.{bit_at};
 ghost use Rattle.bit_rows.specs.Bits.{IsTrueFrom, NoneTrue};
 ghost use Rattle.bit_rows.specs.Joinings.{word_join};
-ghost use Rattle.bit_rows.specs.Words.{AreFlipped, EachWord, bit_of, minus_word, used_bits, words_with_bit};
+ghost use Rattle.bit_rows.specs.Words.{AreFlipped, EachOrMinus, EachWord, bit_of, minus_word, used_bits, words_with_bit};
 
 use crate::joining::Joining;
 
@@ -28,8 +28,7 @@ pub fn or_minus_words(into: &mut [u64], from: &[u64], less: &[u64]) -> bool
     requires from { length into.old ≡ length from.now }
     requires less { length into.old ≡ length less.now }
     ensures len { length into.new ≡ length into.old }
-    ensures or_minus { (k : ℕ) → k < length into.old → slice_index into.new k ≡ bit_or
-        (slice_index into.old k) (minus_word (slice_index from.now k) (slice_index less.now k)) }
+    ensures or_minus { EachOrMinus (length into.old) into.old from.now less.now into.new }
     ensures unchanged { (result ≡ false) ↔ (into.new ≡ into.old) }
 {
     let mut changed = false;

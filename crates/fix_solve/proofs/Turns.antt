@@ -1,6 +1,6 @@
 -- One push, and the begin and the end of a visit, at the lists that the code holds.
-use Rattle.std.proofs.Common.{◌≡◌, ◌≢◌, ℕ, ◌+◌, ◌<◌, ◌≤◌, Bool, true, false, ◌||◌, ◌&&◌, not, eqb, List, ◌∷◌, length, refl, sym, inl, inr, ◌∙◌, get_or-set_other}
-use Rattle.std.proofs.lemmas.Bool.{cases_eq}
+use Rattle.std.proofs.Common.{◌≡◌, ◌≢◌, ℕ, ◌+◌, ◌<◌, ◌≤◌, Bool, true, false, ◌||◌, ◌&&◌, not, eqb, List, ◌∷◌, length, sym, inl, inr, ◌∙◌, get_or-set_other}
+use Rattle.std.proofs.lemmas.Bool.{cases_eq, or_parts}
 use Rattle.std.proofs.lemmas.List.{length-set}
 use Rattle.fix_solve.specs.Order.{OrderLaws}
 use Rattle.fix_solve.specs.Net.{Net, NetLaws, value_at, HoldsFirst}
@@ -9,18 +9,6 @@ use Rattle.fix_solve.proofs.Settle.{push_settles, visit_begins, visit_ends, star
 use Rattle.fix_solve.proofs.Loads.{load_push, load_take}
 use Rattle.fix_solve.proofs.Waiting.{first_waits, leaves_other, leaves_here}
 use Rattle.node_list.specs.Lists.{is_listed, list_at}
-
--- ---- disjunctions
-
--- with false nothing changes
-pub or_false : (a : Bool) → (a || false) ≡ a
-or_false true = refl
-or_false false = refl
-
--- neither is true where the disjunction is not
-pub or_off : (a b : Bool) → (a || b) ≡ false → (a ≡ false) × (b ≡ false)
-or_off true b h = absurd (cc)
-or_off false b h = (refl, h)
 
 -- without a node fewer pushes are left to do, and fewer visits
 pub record LessLeft {V : Type 0} (net : Net V) (rank : V → ℕ) (values : List V) (waits waits' : ℕ → Bool) (node : ℕ) : Type 0 where
@@ -48,7 +36,7 @@ module _ {V : Type 0} (below : V → V → Type 0) (size : V → ℕ) (rank : V 
               (λ n off. elim (cases_eq n t) as (λ _. (fl n ≡ false) × (value_at net values' n ≡ value_at net values n)) [
                 | inl e ↦
                     let off_t : (fl t || b) ≡ false = sym here ∙ (rw e at off) in
-                    let parts = or_off (fl t) b off_t in
+                    let parts = or_parts (fl t) b off_t in
                     rw e (parts.0, (let same = pushed.unchanged.0 parts.1 in rw t_is same))
                 | inr d ↦ (sym (others_fl n d) ∙ off, others_stay n (λ e. d (e ∙ sym t_is)))
               ])

@@ -1,7 +1,7 @@
 // The worklist: nodes are taken from the front, pushed along their edges, and targets that changed are put at the end.
 ghost use Rattle.std.specs.Prelude.{◌≡◌, ◌≢◌, ℕ, ◌+◌, ◌<◌, ◌≤◌, ◌||◌, true, length};
-ghost use Rattle.node_list.specs.Lists.{Lists, is_listed};
-ghost use Rattle.fix_solve.specs.Net.{AreOfSize, HoldsLeast, Net};
+ghost use Rattle.node_list.specs.Lists.{is_listed};
+ghost use Rattle.fix_solve.specs.Net.{AreOfSize, HoldsLeast};
 ghost use Rattle.fix_solve.specs.Walks.{AreNodes};
 ghost use Rattle.fix_solve.specs.Settling.{AllDone, AllDoneBut, IsOneList, Pushed, Working, degree, nodes_left, pushes_left};
 

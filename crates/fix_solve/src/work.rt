@@ -1,6 +1,6 @@
 // The values at the nodes, and the solver's call.
 ghost use Rattle.std.specs.Prelude.{◌≡◌, ◌+◌, ◌<◌, ◌≤◌, IfOk, length, slice_index_or};
-ghost use Rattle.fix_solve.specs.Net.{AreOfSize, HoldsFirst, HoldsLeast, Net, most_pushes};
+ghost use Rattle.fix_solve.specs.Net.{AreOfSize, HoldsFirst, HoldsLeast, most_pushes};
 
 use crate::order::order_of;
 use crate::pushes::{drain, enlist_all};

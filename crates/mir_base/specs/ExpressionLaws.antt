@@ -1,6 +1,7 @@
 -- An assignment by its trap, its value and its count, right sides that never trap, and the expression of a movable one. For
 -- proofs only.
 use Rattle.std.proofs.Common.{◌≡◌, ℕ, Bool, true, false, not, if◌then◌else◌, ◌&&◌, ◌++◌, Some, None, refl, ap}
+use Rattle.std.proofs.lemmas.Bool.{not-true}
 use Rattle.mir_base.specs.declared.operators.Trap.TheVariants.{ZeroDivisor}
 use Rattle.mir_base.specs.declared.instructions.Operand.TheVariants.{Var, Const}
 use Rattle.mir_base.specs.declared.instructions.Rhs.{Rhs}
@@ -25,11 +26,6 @@ only_false : (b : Bool) → b && true ≡ false → b ≡ false
 only_false true h = cc
 only_false false h = refl
 
--- a truth value is false where its negation is true
-pub not_true : (b : Bool) → not b ≡ true → b ≡ false
-not_true true h = cc
-not_true false h = refl
-
 -- a right side that does not divide never traps
 pub never_traps_where_undivided : (values : Values) (rhs : Rhs) → divides rhs ≡ false → rhs_traps values rhs ≡ false
 never_traps_where_undivided values (Plain a) h = refl
@@ -41,7 +37,7 @@ never_traps_where_undivided values (Binary op a (Const c)) h = h
 pub never_traps_where_movable : (values : Values) (rhs : Rhs) → is_movable rhs ≡ true → rhs_traps values rhs ≡ false
 never_traps_where_movable values (Plain a) h = refl
 never_traps_where_movable values (Unary op a) h = refl
-never_traps_where_movable values (Binary op a b) h = never_traps_where_undivided values (Binary op a b) (not_true (divides (Binary op a b)) h)
+never_traps_where_movable values (Binary op a b) h = never_traps_where_undivided values (Binary op a b) (not-true (divides (Binary op a b)) h)
 
 -- ---- the expression of a right side
 

@@ -1,7 +1,8 @@
 -- Where the link of a node in a list leads.
 use Rattle.std.proofs.Common.{◌≡◌, ℕ, zero, suc, ◌+◌, ◌<◌, ◌≤◌, cond, eqb, List, [], ◌∷◌, ◌++◌, length, get_or, slice_get, Option, Some, None, MatchOption, ◌⊎◌, inl, inr, refl, sym, ap, ◌∙◌, arith, eq-eqb}
 use Rattle.std.proofs.lemmas.Bool.{cases_eq, ne_eqb}
-use Rattle.node_list.specs.Lists.{list_at, times_in, times, after_in, first_some, node_after}
+use Rattle.std.specs.Option.{option_or}
+use Rattle.node_list.specs.Lists.{list_at, times_in, times, after_in, node_after}
 use Rattle.node_list.specs.Rings.{Along, HoldLinks}
 use Rattle.node_list.proofs.Counts.{times_in_cons_same, times_in_cons_other, times_in_le}
 use Rattle.node_list.proofs.Keeps.{find_list}
@@ -46,20 +47,20 @@ after_absent node (x ∷ xs) none = elim (cases_eq x node) [
 none_after : (lists : List (List ℕ)) (node : ℕ) → times lists node ≡ 0 → node_after lists node ≡ None
 none_after [] node none = refl
 none_after (xs ∷ lists) node none =
-    ap (λ o. first_some o (node_after lists node)) (after_absent node xs (omega (arith, none))) ∙ none_after lists node (omega (arith, none))
+    ap (λ o. option_or o (node_after lists node)) (after_absent node xs (omega (arith, none))) ∙ none_after lists node (omega (arith, none))
 
 -- it is enough to look in the list in which it stands
 after_there : (lists : List (List ℕ)) (node list : ℕ) → list < length lists → 0 < times_in node (list_at lists list) → times lists node ≤ 1 → node_after lists node ≡ after_in node (list_at lists list)
 after_there [] node list within there once = absurd (omega (arith, within))
 after_there (xs ∷ lists) node zero within there once =
-    ap (first_some (after_in node xs)) (none_after lists node (omega (arith, there, once))) ∙ or_none (after_in node xs)
+    ap (option_or (after_in node xs)) (none_after lists node (omega (arith, there, once))) ∙ or_none (after_in node xs)
   where
-    or_none : (o : Option ℕ) → first_some o None ≡ o
+    or_none : (o : Option ℕ) → option_or o None ≡ o
     or_none None = refl
     or_none (Some x) = refl
 after_there (xs ∷ lists) node (suc list) within there once =
     let le = times_in_le lists list node in
-    ap (λ o. first_some o (node_after lists node)) (after_absent node xs (omega (arith, there, once, le)))
+    ap (λ o. option_or o (node_after lists node)) (after_absent node xs (omega (arith, there, once, le)))
     ∙ after_there lists node list (omega (arith, within)) there (omega (arith, once))
 
 module _ (nodes count : ℕ) (next prev : List ℕ) (held : HoldLinks nodes count next prev) where

@@ -1,7 +1,8 @@
 -- At how many places a node stands: in one list, after each of the calls; then in all lists; then what that says of a list's
 -- length and of whether a node is listed.
-use Rattle.std.proofs.Common.{◌≡◌, ◌≢◌, ℕ, zero, suc, ◌+◌, ◌<◌, ◌≤◌, Bool, true, false, ◌||◌, ◌&&◌, not, cond, eqb, ltb, List, [], ◌∷◌, ◌++◌, length, map, set, refl, sym, ap, inl, inr, arith, ◌∙◌, eq-eqb}
-use Rattle.std.proofs.lemmas.Bool.{cases_eq, ne_eqb, lt-ltb, le-ltb, ltb-true, ltb-false}
+use Rattle.std.proofs.Common.{◌≡◌, ◌≢◌, ℕ, zero, suc, ◌+◌, ◌<◌, ◌≤◌, true, false, ◌||◌, ◌&&◌, not, cond, eqb, ltb, List, [], ◌∷◌, ◌++◌, length, map, set, refl, sym, ap, inl, inr, arith, ◌∙◌, eq-eqb}
+use Rattle.std.proofs.Math.Bool.{or-true, or-false, and-true, and-false}
+use Rattle.std.proofs.lemmas.Bool.{cases_eq, ne_eqb, lt-ltb, le-ltb}
 use Rattle.node_list.specs.Lists.{list_at, times_in, times, is_listed, inserted_before, without}
 
 -- one place more, or as many; in two lists the sum
@@ -200,41 +201,17 @@ listed_no lists n h = le-ltb 0 (times lists n) (omega arith)
 pub listed_joins : (lists lists' : List (List ℕ)) (new : ℕ) → 0 < times lists' new → ((n : ℕ) → n ≢ new → times lists' n ≡ times lists n)
     → (n : ℕ) → is_listed lists' n ≡ (is_listed lists n || eqb n new)
 listed_joins lists lists' new here others n = elim (cases_eq n new) as (λ _. is_listed lists' n ≡ (is_listed lists n || eqb n new)) [
-  | inl e ↦ rw (e, eq-eqb new new refl) (listed_yes lists' new here ∙ or_true (is_listed lists new))
-  | inr d ↦ rw (ne_eqb n new d) (ap (λ m. ltb 0 m) (others n d) ∙ or_false (is_listed lists n))
+  | inl e ↦ rw (e, eq-eqb new new refl) (listed_yes lists' new here ∙ sym (or-true (is_listed lists new)))
+  | inr d ↦ rw (ne_eqb n new d) (ap (λ m. ltb 0 m) (others n d) ∙ sym (or-false (is_listed lists n)))
 ]
-  where
-    or_true : (b : Bool) → true ≡ (b || true)
-    or_true true = refl
-    or_true false = refl
-
-    or_false : (b : Bool) → b ≡ (b || false)
-    or_false true = refl
-    or_false false = refl
 
 -- if only one number's count changes, and now it never comes, only that number leaves them
 pub listed_leaves : (lists lists' : List (List ℕ)) (old : ℕ) → times lists' old ≡ 0 → ((n : ℕ) → n ≢ old → times lists' n ≡ times lists n)
     → (n : ℕ) → is_listed lists' n ≡ (is_listed lists n && not (eqb n old))
 listed_leaves lists lists' old none others n = elim (cases_eq n old) as (λ _. is_listed lists' n ≡ (is_listed lists n && not (eqb n old))) [
-  | inl e ↦ rw (e, eq-eqb old old refl) (listed_no lists' old none ∙ and_false (is_listed lists old))
-  | inr d ↦ rw (ne_eqb n old d) (ap (λ m. ltb 0 m) (others n d) ∙ and_true (is_listed lists n))
+  | inl e ↦ rw (e, eq-eqb old old refl) (listed_no lists' old none ∙ sym (and-false (is_listed lists old)))
+  | inr d ↦ rw (ne_eqb n old d) (ap (λ m. ltb 0 m) (others n d) ∙ sym (and-true (is_listed lists n)))
 ]
-  where
-    and_false : (b : Bool) → false ≡ (b && false)
-    and_false true = refl
-    and_false false = refl
-
-    and_true : (b : Bool) → b ≡ (b && true)
-    and_true true = refl
-    and_true false = refl
-
--- and back: a number that is not listed never comes
-pub none_listed : (lists : List (List ℕ)) (n : ℕ) → is_listed lists n ≡ false → times lists n ≡ 0
-none_listed lists n h = let le : times lists n ≤ 0 = ltb-false 0 (times lists n) h in omega arith
-
--- one that is listed does come
-pub some_listed : (lists : List (List ℕ)) (n : ℕ) → is_listed lists n ≡ true → 0 < times lists n
-some_listed lists n h = ltb-true 0 (times lists n) h
 
 -- ---- what each call leaves listed
 

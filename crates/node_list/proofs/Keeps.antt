@@ -80,6 +80,37 @@ module _ (nodes : ℕ) (lists : List (List ℕ)) (next prev : ℕ → ℕ) (link
       let one : times_in n (list_at lists place.0) ≤ 1 = list_once place.0 n in
       absurd (omega arith)
 
+  -- ---- a node's links change, and with them one more link forward and one more back
+
+  -- the links then lead along other lists, in which each other node stands as often as before
+  module _ (next' prev' : ℕ → ℕ) (node before after : ℕ) (node_in : node < nodes)
+      (next_same : (k : ℕ) → k ≢ node → k ≢ before → next' k ≡ next k) (prev_same : (k : ℕ) → k ≢ node → k ≢ after → prev' k ≡ prev k)
+      (lists' : List (List ℕ)) (len : length lists' ≡ length lists) (few : times lists' node ≤ 1) (others : (n : ℕ) → n ≢ node → times lists' n ≡ times lists n) where
+    pub relinked : next' node < nodes + length lists → next' before < nodes + length lists → prev' node < nodes + length lists → prev' after < nodes + length lists
+        → next' (prev' node) ≡ node → next' (prev' after) ≡ after → ((k : ℕ) → k < nodes + length lists → k ≢ node → k ≢ after → next' (prev k) ≡ next (prev k))
+        → prev' (next' node) ≡ node → prev' (next' before) ≡ before → ((k : ℕ) → k < nodes + length lists → k ≢ node → k ≢ before → prev' (next k) ≡ prev (next k))
+        → ((list : ℕ) → list < length lists → Along next' prev' (nodes + list) (list_at lists' list ++ (nodes + list) ∷ []))
+        → (times lists' node ≡ 0 → next' node ≡ node) → ((n : ℕ) → n < nodes → n ≢ node → times lists n ≡ 0 → next n ≡ n → next' n ≡ n) → AreRings nodes lists' next' prev'
+    relinked node_on before_on node_back after_back node_forth after_forth onward node_home before_home homeward along alone stays = record {
+      next_in = λ k h. rw len (two_in next next' (nodes + length lists) node before node_on before_on next_same linked.next_in k (rw len at h));
+      prev_in = λ k h. rw len (two_in prev prev' (nodes + length lists) node after node_back after_back prev_same linked.prev_in k (rw len at h));
+      back = λ k h. two_back next next' prev prev' (nodes + length lists) node after node_forth after_forth prev_same onward linked.back k (rw len at h);
+      forth = λ k h. two_back prev prev' next next' (nodes + length lists) node before node_home before_home next_same homeward linked.forth k (rw len at h);
+      rings = λ list h. along list (rw len at h);
+      within = λ n h. elim (cases_eq n node) as (λ _. n < nodes) [
+        | inl e ↦ rw e node_in
+        | inr d ↦ let same : times lists' n ≡ times lists n = others n d in linked.within n (omega arith)
+      ];
+      once = λ n. elim (cases_eq n node) as (λ _. times lists' n ≤ 1) [
+        | inl e ↦ rw e few
+        | inr d ↦ rw (others n d) (linked.once n)
+      ];
+      loose = λ n h none. elim (cases_eq n node) as (λ _. next' n ≡ n) [
+        | inl e ↦ let none' : times lists' node ≡ 0 = ap (times lists') (sym e) ∙ none in rw e (alone none')
+        | inr d ↦ let none' : times lists n ≡ 0 = sym (others n d) ∙ none in stays n h d none' (linked.loose n h none')
+      ];
+    }
+
   -- ---- a new node is linked in before a place, and stands then in the lists before it
   module _ (next' prev' : ℕ → ℕ) (place new : ℕ) (place_in : place < nodes + length lists) (new_in : new < nodes) (fresh : times lists new ≡ 0) (apart : place ≢ new) (firm : place < nodes → 0 < times lists place)
       (at_new : next' new ≡ place) (at_before : next' (prev place) ≡ new) (next_same : (k : ℕ) → k ≢ new → k ≢ prev place → next' k ≡ next k)
@@ -99,20 +130,6 @@ module _ (nodes : ℕ) (lists : List (List ℕ)) (next prev : ℕ → ℕ) (link
     forward : next (prev place) ≡ place
     forward = linked.back place place_in
 
-    put_next_in : (k : ℕ) → k < nodes + length lists → next' k < nodes + length lists
-    put_next_in = two_in next next' (nodes + length lists) new (prev place) (rw at_new place_in) (rw at_before (omega arith)) next_same linked.next_in
-
-    put_prev_in : (k : ℕ) → k < nodes + length lists → prev' k < nodes + length lists
-    put_prev_in = two_in prev prev' (nodes + length lists) new place (rw from_new (linked.prev_in place place_in)) (rw from_place (omega arith)) prev_same linked.prev_in
-
-    put_back : (k : ℕ) → k < nodes + length lists → next' (prev' k) ≡ k
-    put_back = two_back next next' prev prev' (nodes + length lists) new place (rw from_new at_before) (rw from_place at_new) prev_same
-        (λ k h d d'. next_same (prev k) (λ s. d (sym (linked.back k h) ∙ ap next s ∙ self)) (λ s. d' (sym (linked.back k h) ∙ ap next s ∙ forward))) linked.back
-
-    put_forth : (k : ℕ) → k < nodes + length lists → prev' (next' k) ≡ k
-    put_forth = two_back prev prev' next next' (nodes + length lists) new (prev place) (rw at_new from_place) (rw at_before from_new) next_same
-        (λ k h d d'. prev_same (next k) (λ s. d (sym (linked.forth k h) ∙ ap prev s ∙ self_back)) (λ s. d' (sym (linked.forth k h) ∙ ap prev s))) linked.forth
-
     put_rings : (list : ℕ) → list < length lists → Along next' prev' (nodes + list) (list_at lists' list ++ (nodes + list) ∷ [])
     put_rings list h =
         let stop_apart : nodes + list ≢ new = λ s. let s' : nodes + list ≡ new = s in absurd (omega arith) in
@@ -124,32 +141,18 @@ module _ (nodes : ℕ) (lists : List (List ℕ)) (next prev : ℕ → ℕ) (link
         rw (put list h) at ring
 
     pub puts : AreRings nodes lists' next' prev'
-    puts = record {
-      next_in = λ k h. rw len (put_next_in k (rw len at h));
-      prev_in = λ k h. rw len (put_prev_in k (rw len at h));
-      back = λ k h. put_back k (rw len at h);
-      forth = λ k h. put_forth k (rw len at h);
-      rings = λ list h. put_rings list (rw len at h);
-      within = λ n h. elim (cases_eq n new) as (λ _. n < nodes) [
-        | inl e ↦ rw e new_in
-        | inr d ↦ let same : times lists' n ≡ times lists n = others n d in linked.within n (omega arith)
-      ];
-      once = λ n. elim (cases_eq n new) as (λ _. times lists' n ≤ 1) [
-        | inl e ↦ rw (e, here) (omega arith)
-        | inr d ↦ rw (others n d) (linked.once n)
-      ];
-      loose = λ n h none. elim (cases_eq n new) as (λ _. next' n ≡ n) [
-        | inl e ↦ let none' : times lists' new ≡ 0 = ap (times lists') (sym e) ∙ none in absurd (omega arith)
-        | inr d ↦
-            let none' : times lists n ≡ 0 = sym (others n d) ∙ none in
-            let stays : next n ≡ n = linked.loose n h none' in
-            next_same n d (λ s. loose_apart n h none' s) ∙ stays
-      ];
-    }
+    puts =
+        relinked next' prev' new (prev place) place new_in next_same prev_same lists' len (rw here (omega arith)) others
+        (rw at_new place_in) (rw at_before (omega arith)) (rw from_new (linked.prev_in place place_in)) (rw from_place (omega arith))
+        (rw from_new at_before) (rw from_place at_new)
+        (λ k h d d'. next_same (prev k) (λ s. d (sym (linked.back k h) ∙ ap next s ∙ self)) (λ s. d' (sym (linked.back k h) ∙ ap next s ∙ forward)))
+        (rw at_new from_place) (rw at_before from_new)
+        (λ k h d d'. prev_same (next k) (λ s. d (sym (linked.forth k h) ∙ ap prev s ∙ self_back)) (λ s. d' (sym (linked.forth k h) ∙ ap prev s)))
+        put_rings (λ none. absurd (omega (arith, here, none))) (λ n h d none stays. next_same n d (loose_apart n h none stays) ∙ stays)
       where
-        loose_apart : (n : ℕ) → n < nodes → times lists n ≡ 0 → n ≢ prev place
-        loose_apart n h none s =
-            let is : n ≡ place = sym (linked.loose n h none) ∙ ap next s ∙ forward in
+        loose_apart : (n : ℕ) → n < nodes → times lists n ≡ 0 → next n ≡ n → n ≢ prev place
+        loose_apart n h none stays s =
+            let is : n ≡ place = sym stays ∙ ap next s ∙ forward in
             let there : 0 < times lists place = firm (rw is at h) in
             let none' : times lists place ≡ 0 = rw is at none in
             omega arith
@@ -170,20 +173,6 @@ module _ (nodes : ℕ) (lists : List (List ℕ)) (next prev : ℕ → ℕ) (link
     off : prev (next node) ≡ node
     off = linked.forth node in_all
 
-    cut_next_in : (k : ℕ) → k < nodes + length lists → next' k < nodes + length lists
-    cut_next_in = two_in next next' (nodes + length lists) node (prev node) (rw at_node in_all) (rw at_before (linked.next_in node in_all)) next_same linked.next_in
-
-    cut_prev_in : (k : ℕ) → k < nodes + length lists → prev' k < nodes + length lists
-    cut_prev_in = two_in prev prev' (nodes + length lists) node (next node) (rw from_node in_all) (rw from_after (linked.prev_in node in_all)) prev_same linked.prev_in
-
-    cut_back : (k : ℕ) → k < nodes + length lists → next' (prev' k) ≡ k
-    cut_back = two_back next next' prev prev' (nodes + length lists) node (next node) (rw from_node at_node) (rw from_after at_before) prev_same
-        (λ k h d d'. next_same (prev k) (λ s. d' (sym (linked.back k h) ∙ ap next s)) (λ s. d (sym (linked.back k h) ∙ ap next s ∙ onto))) linked.back
-
-    cut_forth : (k : ℕ) → k < nodes + length lists → prev' (next' k) ≡ k
-    cut_forth = two_back prev prev' next next' (nodes + length lists) node (prev node) (rw at_node from_node) (rw at_before from_after) next_same
-        (λ k h d d'. prev_same (next k) (λ s. d' (sym (linked.forth k h) ∙ ap prev s)) (λ s. d (sym (linked.forth k h) ∙ ap prev s ∙ off))) linked.forth
-
     cut_rings : (list : ℕ) → list < length lists → Along next' prev' (nodes + list) (list_at (map (without node) lists) list ++ (nodes + list) ∷ [])
     cut_rings list h =
         let stop_apart : nodes + list ≢ node = λ s. let s' : nodes + list ≡ node = s in absurd (omega (arith, node_in)) in
@@ -194,29 +183,11 @@ module _ (nodes : ℕ) (lists : List (List ℕ)) (next prev : ℕ → ℕ) (link
 
     pub cuts : AreRings nodes (map (without node) lists) next' prev'
     cuts =
-        let len : length (map (without node) lists) ≡ length lists = length-map lists (without node) in
-        record {
-          next_in = λ k h. rw len (cut_next_in k (rw len at h));
-          prev_in = λ k h. rw len (cut_prev_in k (rw len at h));
-          back = λ k h. cut_back k (rw len at h);
-          forth = λ k h. cut_forth k (rw len at h);
-          rings = λ list h. cut_rings list (rw len at h);
-          within = λ n h. elim (cases_eq n node) as (λ _. n < nodes) [
-            | inl e ↦ rw e node_in
-            | inr d ↦ let same : times (map (without node) lists) n ≡ times lists n = cut_others n d in linked.within n (omega arith)
-          ];
-          once = λ n. elim (cases_eq n node) as (λ _. times (map (without node) lists) n ≤ 1) [
-            | inl e ↦ rw (e, times_map_without node lists) (omega arith)
-            | inr d ↦ rw (cut_others n d) (linked.once n)
-          ];
-          loose = λ n h none. elim (cases_eq n node) as (λ _. next' n ≡ n) [
-            | inl e ↦ rw e at_node
-            | inr d ↦
-                let none' : times lists n ≡ 0 = sym (cut_others n d) ∙ none in
-                let stays : next n ≡ n = linked.loose n h none' in
-                next_same n d (λ s. d (sym stays ∙ ap next s ∙ onto)) ∙ stays
-          ];
-        }
-      where
-        cut_others : (n : ℕ) → n ≢ node → times (map (without node) lists) n ≡ times lists n
-        cut_others n d = times_map (without node) n (λ xs. times_in_without_other n node xs d) lists
+        relinked next' prev' node (prev node) (next node) node_in next_same prev_same (map (without node) lists) (length-map lists (without node))
+        (rw (times_map_without node lists) (omega arith)) (λ n d. times_map (without node) n (λ xs. times_in_without_other n node xs d) lists)
+        (rw at_node in_all) (rw at_before (linked.next_in node in_all)) (rw from_node in_all) (rw from_after (linked.prev_in node in_all))
+        (rw from_node at_node) (rw from_after at_before)
+        (λ k h d d'. next_same (prev k) (λ s. d' (sym (linked.back k h) ∙ ap next s)) (λ s. d (sym (linked.back k h) ∙ ap next s ∙ onto)))
+        (rw at_node from_node) (rw at_before from_after)
+        (λ k h d d'. prev_same (next k) (λ s. d' (sym (linked.forth k h) ∙ ap prev s)) (λ s. d (sym (linked.forth k h) ∙ ap prev s ∙ off)))
+        cut_rings (λ _. at_node) (λ n h d none stays. next_same n d (λ s. d (sym stays ∙ ap next s ∙ onto)) ∙ stays)

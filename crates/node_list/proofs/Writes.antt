@@ -2,11 +2,12 @@
 -- lists hold these; what each call's writes are as changes of the links, which `Keeps` says keep the rings (`put_end`, `put_middle`,
 -- `cut_at`); the same of the vectors that hold the slices, for the proofs of the calls (`after_end`, `after_middle`, `after_cut`);
 -- and what is read of a link: its range, whether its node is listed, and whether a list is empty.
-use Rattle.std.proofs.Common.{◌≡◌, ◌≢◌, ℕ, zero, suc, ◌+◌, ◌^◌, ◌<◌, ◌≤◌, not, eqb, List, replicate, [], ◌∷◌, ◌++◌, length, map, take, drop, set, get_or, refl, sym, ap, inl, inr, arith, ◌∙◌, eq-eqb}
+use Rattle.std.proofs.Common.{◌≡◌, ◌≢◌, ℕ, ◌+◌, ◌^◌, ◌<◌, ◌≤◌, not, eqb, List, replicate, [], ◌∷◌, ◌++◌, length, map, take, drop, set, get_or, refl, sym, ap, inl, inr, arith, ◌∙◌, eq-eqb}
 use Rattle.std.proofs.lemmas.Bool.{cases_eq, cases_lt, ne_eqb}
 use Rattle.std.proofs.lemmas.List.{get_or-map, get_or-set_same, get_or-set_other, length-map, length-set, drop_all, take_all, append-nil, append_assoc, get_or-replicate, length-replicate}
 use Rattle.std.proofs.lemmas.List.FromFn.{length-map-range_with_len}
 use Rattle.node_list.specs.Lists.{Lists, list_at, times_in, times, is_listed, inserted_before, without}
+use Rattle.node_list.specs.ListedLaws.{times_none}
 use Rattle.node_list.specs.Rings.{linked_lists, walk, lists_along, AreRings, HoldLinks}
 use Rattle.node_list.proofs.Counts.{times_in_le, times_map, times_map_put_before, times_in_put_before_other, times_end_new, times_end_other, put_before_append, put_before_none, listed_yes, listed_no, without_first}
 use Rattle.node_list.proofs.Along.{first_link}
@@ -206,37 +207,44 @@ refilled nodes count lists next prev next' prev' next'' prev'' was next_is prev_
     })
 
 module _ (nodes count : ℕ) (next prev next' prev' : List ℕ) (nlen plen : ℕ) (held : HoldLinks nodes count next prev) (next_is : nlen ≡ length next) (prev_is : plen ≡ length prev) where
+  -- two writes to each slice, after which the links lead along these lists
+  written : (a x b y c u d v : ℕ) (lists : List (List ℕ)) → next' ≡ set (set next a x) b y → prev' ≡ set (set prev c u) d v → length lists ≡ length (lists_of nodes count next)
+      → AreRings nodes lists (λ k. get_or (set (set next a x) b y) k 0) (λ k. get_or (set (set prev c u) d v) k 0)
+      → Refilled nodes count lists (take nlen (next' ++ drop (length next') next)) (take plen (prev' ++ drop (length prev') prev))
+  written a x b y c u d v lists next_made prev_made len linked =
+      let next_same = length_writes next a x b y in
+      let prev_same = length_writes prev c u d v in
+      refilled nodes count lists next prev _ _ _ _ held
+      (all_written nlen next next' next_is (rw next_made next_same) ∙ next_made) (all_written plen prev prev' prev_is (rw prev_made prev_same) ∙ prev_made) next_same prev_same len linked
+
   -- the same three writes, as the calls' proofs see them
   pub after_end : (list new : ℕ) → list < count → new < nodes → times (lists_of nodes count next) new ≡ 0
       → next' ≡ set (set next (get_or prev (nodes + list) 0) new) new (nodes + list) → prev' ≡ set (set prev new (get_or prev (nodes + list) 0)) (nodes + list) new
       → Refilled nodes count (set (lists_of nodes count next) list (list_at (lists_of nodes count next) list ++ new ∷ [])) (take nlen (next' ++ drop (length next') next)) (take plen (prev' ++ drop (length prev') prev))
   after_end list new list_in new_in fresh next_made prev_made =
       let all = lists_of nodes count next in
-      let next_same = length_writes next (get_or prev (nodes + list) 0) new new (nodes + list) in
-      let prev_same = length_writes prev new (get_or prev (nodes + list) 0) (nodes + list) new in
-      refilled nodes count _ next prev _ _ _ _ held
-      (all_written nlen next next' next_is (rw next_made next_same) ∙ next_made) (all_written plen prev prev' prev_is (rw prev_made prev_same) ∙ prev_made) next_same prev_same
+      let last = get_or prev (nodes + list) 0 in
+      written last new new (nodes + list) new last (nodes + list) new (set all list (list_at all list ++ new ∷ [])) next_made prev_made
       (length-set all list (list_at all list ++ new ∷ [])) (put_end nodes count next prev held list new list_in new_in fresh)
 
   pub after_middle : (place new : ℕ) → 0 < times (lists_of nodes count next) place → new < nodes → times (lists_of nodes count next) new ≡ 0
       → next' ≡ set (set next (get_or prev place 0) new) new place → prev' ≡ set (set prev new (get_or prev place 0)) place new
       → Refilled nodes count (map (inserted_before place new) (lists_of nodes count next)) (take nlen (next' ++ drop (length next') next)) (take plen (prev' ++ drop (length prev') prev))
   after_middle place new listed new_in fresh next_made prev_made =
-      let next_same = length_writes next (get_or prev place 0) new new place in
-      let prev_same = length_writes prev new (get_or prev place 0) place new in
-      refilled nodes count _ next prev _ _ _ _ held
-      (all_written nlen next next' next_is (rw next_made next_same) ∙ next_made) (all_written plen prev prev' prev_is (rw prev_made prev_same) ∙ prev_made) next_same prev_same
-      (length-map (lists_of nodes count next) (inserted_before place new)) (put_middle nodes count next prev held place new listed new_in fresh)
+      let all = lists_of nodes count next in
+      let before = get_or prev place 0 in
+      written before new new place new before place new (map (inserted_before place new) all) next_made prev_made
+      (length-map all (inserted_before place new)) (put_middle nodes count next prev held place new listed new_in fresh)
 
   pub after_cut : (node : ℕ) → 0 < times (lists_of nodes count next) node
       → next' ≡ set (set next (get_or prev node 0) (get_or next node 0)) node node → prev' ≡ set (set prev (get_or next node 0) (get_or prev node 0)) node node
       → Refilled nodes count (map (without node) (lists_of nodes count next)) (take nlen (next' ++ drop (length next') next)) (take plen (prev' ++ drop (length prev') prev))
   after_cut node listed next_made prev_made =
-      let next_same = length_writes next (get_or prev node 0) (get_or next node 0) node node in
-      let prev_same = length_writes prev (get_or next node 0) (get_or prev node 0) node node in
-      refilled nodes count _ next prev _ _ _ _ held
-      (all_written nlen next next' next_is (rw next_made next_same) ∙ next_made) (all_written plen prev prev' prev_is (rw prev_made prev_same) ∙ prev_made) next_same prev_same
-      (length-map (lists_of nodes count next) (without node)) (cut_at nodes count next prev held node listed)
+      let all = lists_of nodes count next in
+      let before = get_or prev node 0 in
+      let after = get_or next node 0 in
+      written before after node node after before node node (map (without node) all) next_made prev_made
+      (length-map all (without node)) (cut_at nodes count next prev held node listed)
 
 -- ---- what is read of a link
 
@@ -304,11 +312,6 @@ pops_first lists list node rest h is once =
     record { first = is ∙ ap (λ xs. node ∷ xs) (sym at); others = rw at made }
 
 -- ---- empty lists: each number is linked to itself
-
--- empty lists contain nothing
-times_none : (count n : ℕ) → times (replicate count []) n ≡ 0
-times_none zero n = refl
-times_none (suc count) n = let ih : times (replicate count []) n ≡ 0 = times_none count n in omega arith
 
 -- `Links::new` makes such links
 pub starts : (nodes count : ℕ) (next prev : List ℕ) → length next ≡ nodes + count → length prev ≡ nodes + count

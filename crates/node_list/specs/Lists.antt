@@ -1,5 +1,6 @@
 -- What contracts see of `Links`: a fixed number of lists of node numbers, and what each call makes of them. Cited by contracts.
-use Rattle.std.specs.Prelude.{◌≡◌, ℕ, ◌+◌, Bool, not, ◌||◌, ◌&&◌, nat_eq, nat_lt, if◌then◌else◌, List, [], ◌∷◌, ◌++◌, replicate, slice_get, slice_index_or, slice_set, Option, Some, None}
+use Rattle.std.specs.Prelude.{◌≡◌, ℕ, ◌+◌, Bool, not, ◌||◌, ◌&&◌, nat_eq, nat_lt, if◌then◌else◌, List, [], ◌∷◌, ◌++◌, replicate, slice_get, slice_index_or, slice_set, Option, None}
+use Rattle.std.specs.Option.{option_or}
 
 -- lists of numbers below `nodes`
 pub record Lists : Type 0 where
@@ -59,12 +60,7 @@ abbrev pub after_in : ℕ → List ℕ → Option ℕ
 after_in node [] = None
 after_in node (x ∷ xs) = if nat_eq x node then slice_get xs 0 else after_in node xs
 
--- the first of two that is there
-abbrev pub first_some : Option ℕ → Option ℕ → Option ℕ
-first_some None other = other
-first_some (Some x) other = Some x
-
 -- the number after a node in the list in which it stands
 abbrev pub node_after : List (List ℕ) → ℕ → Option ℕ
 node_after [] node = None
-node_after (xs ∷ lists) node = first_some (after_in node xs) (node_after lists node)
+node_after (xs ∷ lists) node = option_or (after_in node xs) (node_after lists node)

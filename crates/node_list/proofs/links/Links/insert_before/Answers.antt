@@ -1,6 +1,7 @@
 use Rattle.std.proofs.Common.{◌≡◌, ◌<◌, ◌++◌, length, map, take, drop, ap}
 use Rattle.node_list.specs.Lists.{Lists, times, inserted_before}
-use Rattle.node_list.proofs.Counts.{none_listed, some_listed, listed_put}
+use Rattle.node_list.specs.ListedLaws.{none_listed, some_listed}
+use Rattle.node_list.proofs.Counts.{listed_put}
 use Rattle.node_list.proofs.Writes.{Refilled, after_middle, lists_of, link_in}
 use Rattle.node_list.proofs.links.Links.insert_before.Goals as goal
 use Rattle.node_list.proofs.links.Links.insert_before.Goals.{After-deref_mut, After-tie_before}

@@ -1,7 +1,7 @@
 use Rattle.std.proofs.Common.{◌≡◌, ℕ, ◌<◌, List, get_or, ap, ◌∙◌, subst, sym}
 use Rattle.node_list.specs.Lists.{Lists, times, node_after}
 use Rattle.node_list.proofs.Ahead.{leads_after, leads_out, read_is}
-use Rattle.node_list.proofs.Counts.{some_listed}
+use Rattle.node_list.specs.ListedLaws.{some_listed}
 use Rattle.node_list.proofs.Writes.{lists_of}
 use Rattle.node_list.proofs.links.Links.next.Goals as goal
 use Rattle.node_list.proofs.links.Links.next.Goals.{After-self}

@@ -1,6 +1,7 @@
 use Rattle.std.proofs.Common.{◌≡◌, ◌+◌, ◌<◌, ◌^◌, ◌++◌, ◌∷◌, [], length, set, take, drop, arith, ap}
 use Rattle.node_list.specs.Lists.{Lists, list_at}
-use Rattle.node_list.proofs.Counts.{none_listed, listed_end}
+use Rattle.node_list.specs.ListedLaws.{none_listed}
+use Rattle.node_list.proofs.Counts.{listed_end}
 use Rattle.node_list.proofs.Writes.{RingIn, index_fits, ring_in, Refilled, after_end, lists_of}
 use Rattle.node_list.proofs.links.Links.push_back.Goals as goal
 use Rattle.node_list.proofs.links.Links.push_back.Goals.{After-deref_mut, After-tie_before}

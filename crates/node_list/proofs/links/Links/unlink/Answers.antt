@@ -1,6 +1,7 @@
 use Rattle.std.proofs.Common.{◌≡◌, ◌<◌, ◌++◌, length, map, take, drop, ap}
 use Rattle.node_list.specs.Lists.{Lists, times, without}
-use Rattle.node_list.proofs.Counts.{some_listed, listed_cut}
+use Rattle.node_list.specs.ListedLaws.{some_listed}
+use Rattle.node_list.proofs.Counts.{listed_cut}
 use Rattle.node_list.proofs.Writes.{Refilled, InRange, after_cut, lists_of, link_in}
 use Rattle.node_list.proofs.links.Links.unlink.Goals as goal
 use Rattle.node_list.proofs.links.Links.unlink.Goals.{After-deref_mut, After-untie}
