@@ -96,12 +96,6 @@ value_of_rhs values (Plain a) = Ok (operand_value values a)
 value_of_rhs values (Unary op a) = Ok (value_of_un_op op (operand_value values a))
 value_of_rhs values (Binary op a b) = evaluation op (operand_value values a) (operand_value values b)
 
--- how many evaluations a right side counts
-abbrev pub evaluations_of : Rhs → ℕ
-evaluations_of (Plain a) = 0
-evaluations_of (Unary op a) = 1
-evaluations_of (Binary op a b) = 1
-
 -- ---- what is true of every machine
 
 -- the variables of the unit, and none where there is no unit

@@ -1,9 +1,10 @@
 // One step of a run.
 ghost use Rattle.std.specs.Prelude.{◌≡◌, ◌+◌, ◌<◌, ◌≤◌, ◌^◌, ◌⊎◌, length, Some, IfOk, IfErr};
+ghost use Rattle.mir_base.specs.Expressions.{rhs_count};
 ghost use Rattle.mir_base.specs.Frames.{Prints};
 ghost use Rattle.mir_base.specs.Shapes.{AllBelow, InstFits, body_at, inst_vars, rhs_vars, test_vars};
 ghost use Rattle.mir_base.specs.Units.{test_holds};
-ghost use Rattle.mir_interp.specs.Machines.{IsMachine, SameRoom, StaysMachine, StopsBefore, TakesMemory, at_next, evaluations_of, running_inst, running_vars, state_by, state_of, state_past, state_stepped, value_of_rhs, values_of};
+ghost use Rattle.mir_interp.specs.Machines.{IsMachine, SameRoom, StaysMachine, StopsBefore, TakesMemory, at_next, running_inst, running_vars, state_by, state_of, state_past, state_stepped, value_of_rhs, values_of};
 
 use crate::stack::{Stack, operand};
 use crate::{Finish, RunFault};
@@ -135,7 +136,7 @@ fn evaluate(variables: &[i64], rhs: Rhs) -> Result<i64, Trap>
 
 /// How many evaluations an assignment of this right side counts.
 fn evaluations(rhs: Rhs) -> u64
-    ensures { result ≡ evaluations_of rhs }
+    ensures { result ≡ rhs_count rhs }
 {
     match rhs {
         Rhs::Plain(_) => 0,

@@ -11,8 +11,8 @@ use Rattle.mir_lex.specs.declared.scan.Pending.{Pending}
 use Rattle.mir_lex.specs.declared.scan.Pending.TheVariants.{Idle, Word as PWord, Number as PNumber, Minus as PMinus, Less as PLess, Greater as PGreater, Bang as PBang}
 use Rattle.mir_lex.specs.declared.scan.Previous.{Previous}
 use Rattle.mir_lex.specs.declared.scan.Previous.TheVariants.{LineEnd as AfterLineEnd, Operand as AfterOperand, Other as AfterOther}
-use Rattle.std.proofs.Common.{◌≡◌, ℕ, ◌==◌, Bool, true, false, ◌||◌, List, [], ◌∷◌, ◌++◌, refl, sym, ◌∙◌, ap, subst, inl, inr, ◌⊎◌, arith}
-use Rattle.std.proofs.lemmas.Bool.{cases_Bool, eqb-true, and_from}
+use Rattle.std.proofs.Common.{◌≡◌, ℕ, ◌==◌, true, false, List, [], ◌∷◌, ◌++◌, refl, sym, ◌∙◌, ap, subst, inl, inr, arith}
+use Rattle.std.proofs.lemmas.Bool.{cases_Bool, eqb-true, and_from, or_cases}
 use Rattle.mir_base.specs.Words.{word_text}
 use Rattle.mir_lex.specs.Spelling.{mark_text, IsMark, IsWord, IsNumeral, IsSpelled, IsLongest, BeginsWith, IsToken}
 use Rattle.mir_lex.proofs.Pieces.{IsPieceToken, NotContinued, continues, idle_closed, minus_open, open_of_mark}
@@ -192,14 +192,9 @@ mark_more previous first after tail longest more = not_continued tail after (λ 
 spelled_two : (previous : Previous) (mark : Mark) (first byte second : ℕ) → first ∷ second ∷ [] ≡ mark_text mark → (byte == second) ≡ true → IsMark mark (mark_text mark) → IsSpelled previous (first ∷ byte ∷ [])
 spelled_two previous mark first byte second text is at = inr (inr (mark, subst (IsMark mark) (sym (ap (λ b. first ∷ b ∷ []) (eqb-true byte second is) ∙ text)) at))
 
--- one of two tests passed
-one_of_two : (a b : Bool) → (a || b) ≡ true → (a ≡ true) ⊎ (b ≡ true)
-one_of_two true b h = inl refl
-one_of_two false b h = inr h
-
 -- `<-` and `<=` are spelled
 less_more : (previous : Previous) (byte : ℕ) → continues PLess byte ≡ true → IsSpelled previous (60 ∷ byte ∷ [])
-less_more previous byte goes = elim (one_of_two (byte == 45) (byte == 61) goes) [
+less_more previous byte goes = elim (or_cases (byte == 45) (byte == 61) goes) [
   | inl is ↦ spelled_two previous Arrow 60 byte 45 refl is (inl refl)
   | inr is ↦ spelled_two previous LessEqual 60 byte 61 refl is refl
 ]

@@ -1,6 +1,6 @@
 -- What std reads as a number, and what the grammar does.
 use Rattle.std.proofs.Common.{◌≡◌, ℕ, ℤ, ◌^◌, ◌<◌, ◌==◌, Bool, true, false, cond, List, [], ◌∷◌, drop, length, None, Some, Result, Ok, Err, refl, sym, ◌∙◌, ap, subst, arith, not, ◌&&◌, nat_lt, slice_index, w64, inl, inr}
-use Rattle.std.proofs.lemmas.Bool.{cases_Bool, ltb-true, lt-ltb, eqb-true, and_from, and_parts, not-true}
+use Rattle.std.proofs.lemmas.Bool.{cases_Bool, ltb-true, lt-ltb, eqb-true, and_from, and_parts, and_right, not-true}
 use Rattle.std.specs.Result.{result_ok}
 use Rattle.std.proofs.lemmas.Str.{IsUtf8-from_ascii}
 use Rattle.std.proofs.lemmas.Str.Ascii.{IsAscii-nil, IsAscii-cons}
@@ -89,11 +89,7 @@ no_number_unless_text bytes not_text = elim (cases_Bool (is_number bytes)) [
 
 -- a list that begins with no digit is none of digits
 no_digits : (b : ℕ) (bytes : List ℕ) (n : ℕ) → (b == n) ≡ true → is_ascii_digit n ≡ false → is_digits (b ∷ bytes) ≡ false
-no_digits b bytes n is none = last_false (nat_lt 0 (length (b ∷ bytes))) _ (ap (λ (d : ℕ). is_ascii_digit d && all_ascii_digits bytes) (eqb-true b n is) ∙ ap (λ (t : Bool). t && all_ascii_digits bytes) none)
-  where
-    last_false : (t u : Bool) → u ≡ false → (t && u) ≡ false
-    last_false true u is = is
-    last_false false u is = refl
+no_digits b bytes n is none = and_right (nat_lt 0 (length (b ∷ bytes))) _ (ap (λ (d : ℕ). is_ascii_digit d && all_ascii_digits bytes) (eqb-true b n is) ∙ ap (λ (t : Bool). t && all_ascii_digits bytes) none)
 
 -- the scanner's test is that of digits behind a minus, and of the range
 same_number_test : (bytes : List ℕ) → is_number bytes ≡ (is_digits (without_minus bytes) && fits_signed (signed_digits_value 10 bytes))

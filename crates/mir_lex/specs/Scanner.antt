@@ -103,15 +103,18 @@ push state kind = record {
 abbrev pub skip : Scan → Scan
 skip state = record state { start = state.start + state.length; length = 0; pending = Idle }
 
+-- the bytes since the start are of this kind; where they are of none, the scan stops with this fault
+abbrev pub push_found : Scan → Option Kind → LexFault → Scanned
+push_found state None fault = Stopped fault
+push_found state (Some kind) fault = Going (push state kind)
+
 -- the bytes since the start are a word of this kind, or too long
 abbrev pub push_word : Scan → Option Kind → Scanned
-push_word state None = Stopped (LongName state.line)
-push_word state (Some kind) = Going (push state kind)
+push_word state found = push_found state found (LongName state.line)
 
 -- the bytes since the start are this number, or no number
 abbrev pub push_number : Scan → Option ℤ → Scanned
-push_number state None = Stopped (BadNumber state.line)
-push_number state (Some value) = Going (push state (NumberKind value))
+push_number state found = push_found state (option_map (λ value. NumberKind value) found) (BadNumber state.line)
 
 -- the bytes since the start
 abbrev pub pending_bytes : List ℕ → Scan → List ℕ

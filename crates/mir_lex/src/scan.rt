@@ -1,7 +1,7 @@
 // The scanner: one step for each byte, which never goes back. The public call is `scan_text`.
 ghost use Rattle.std.specs.Prelude.{◌≡◌, ◌≤◌, ◌+◌, length, IfOk, OnOk};
 ghost use Rattle.mir_lex.specs.Spelling.{previous_of};
-ghost use Rattle.mir_lex.specs.Scanner.{outcome, start, extend, push, skip, push_word, push_number, emit, end_line, line_feed, begin_minus, push_mark, begin, complete, extend_going, restart, step_equal, step_only, turn_number, turn_minus, turn, stays, byte_step, IsShort, HasRoom, HasLine, IsInText, IsAtEnd, IsSamePlace, IsNextPlace, scan, finish, scanned};
+ghost use Rattle.mir_lex.specs.Scanner.{outcome, start, extend, push, skip, push_found, emit, end_line, line_feed, begin_minus, push_mark, begin, complete, extend_going, restart, step_equal, step_only, turn_number, turn_minus, turn, stays, byte_step, IsShort, HasRoom, HasLine, IsInText, IsAtEnd, IsSamePlace, IsNextPlace, scan, finish, scanned};
 
 use crate::bytes::{is_blank, single_mark, word_kind};
 use crate::numbers::scanned_number;
@@ -360,11 +360,11 @@ impl Scan {
             }
             Pending::Word => {
                 let kind = word_kind(&text[self.start..self.start + self.length]);
-                self.push_word(kind)
+                self.push_found(kind, LexFault::LongName(self.line))
             }
             Pending::Number => {
                 let value = scanned_number(&text[self.start..self.start + self.length]);
-                self.push_number(value)
+                self.push_found(value.map(Kind::Number), LexFault::BadNumber(self.line))
             }
             Pending::Minus => self.push_going(Kind::Mark(Mark::Minus)),
             Pending::Less => self.push_going(Kind::Mark(Mark::Less)),
@@ -376,25 +376,18 @@ impl Scan {
         }
     }
 
-    // The pending bytes are a word of this kind, or too long.
-    fn push_word(&mut self, kind: Option<Kind>) -> Result<Option<LexFault>, Memory>
+    // The pending bytes are a token of this kind; where they are none, the scan stops with this fault.
+    fn push_found(
+        &mut self,
+        found: Option<Kind>,
+        fault: LexFault,
+    ) -> Result<Option<LexFault>, Memory>
         requires { HasRoom 0 self.old }
-        ensures { IfOk result (λ stop. outcome stop self.new ≡ push_word self.old kind) }
+        ensures { IfOk result (λ stop. outcome stop self.new ≡ push_found self.old found fault) }
     {
-        match kind {
-            None => Ok(Some(LexFault::LongName(self.line))),
+        match found {
+            None => Ok(Some(fault)),
             Some(kind) => self.push_going(kind),
-        }
-    }
-
-    // The pending bytes are this number, or no number.
-    fn push_number(&mut self, value: Option<i64>) -> Result<Option<LexFault>, Memory>
-        requires { HasRoom 0 self.old }
-        ensures { IfOk result (λ stop. outcome stop self.new ≡ push_number self.old value) }
-    {
-        match value {
-            None => Ok(Some(LexFault::BadNumber(self.line))),
-            Some(value) => self.push_going(Kind::Number(value)),
         }
     }
 

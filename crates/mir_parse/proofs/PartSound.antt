@@ -91,7 +91,7 @@ pub on_start : (ss start l : List Symbol) (s : Symbol) → ss ≡ start ++ l →
 on_start ss start l s h = on ss (start ++ l) s h ∙ append_assoc start l (s ∷ [])
 
 -- the part that follows a symbol says which symbols were read: at the start of an instruction
-fresh_keeps : (s : Symbol) → KeepsSymbols (fresh s) (s ∷ [])
+pub fresh_keeps : (s : Symbol) → KeepsSymbols (fresh s) (s ∷ [])
 fresh_keeps (NAME x) = refl
 fresh_keeps (WORD ReceiveWord) = refl
 fresh_keeps (WORD GotoWord) = refl

@@ -11,7 +11,6 @@ use Rattle.mir_parse.specs.declared.raw.RawInst.{RawInst}
 use Rattle.mir_parse.specs.declared.raw.RawLabel.{RawLabel}
 use Rattle.mir_parse.specs.RawUnit.{RawUnitShape}
 use Rattle.mir_parse.specs.declared.state.Part.{Part}
-use Rattle.mir_parse.specs.declared.state.Part.TheVariants.{Fresh}
 use Rattle.mir_parse.specs.declared.state.Next.{Next}
 use Rattle.mir_parse.specs.declared.state.Next.TheVariants.{No, Go, Done, Label}
 use Rattle.mir_parse.specs.declared.state.Spot.{Spot}
@@ -21,7 +20,7 @@ use Rattle.mir_parse.specs.declared.state.State.{State}
 use Rattle.mir_parse.specs.declared.state.State.TheVariants.{Outside, In, Dead}
 use Rattle.mir_parse.specs.Grammar.{symbols, StartsAt, Are, IsBreak, Body, IsHead, IsText, bare, label, inst, no_unit, more}
 use Rattle.mir_parse.specs.Reader.{fresh, part_step, begin_unit, with_inst, with_label, reading_after, outside, unit_named, headed, begun, inside, after_end, spot_step, read_step, reads}
-use Rattle.mir_parse.proofs.PartSound.{Read, KeepsSymbols, part_keeps}
+use Rattle.mir_parse.proofs.PartSound.{Read, KeepsSymbols, fresh_keeps, part_keeps}
 
 -- no label and no instruction yet
 abbrev pub Empty : Reading → Type 0
@@ -242,10 +241,6 @@ broken b at own h = record {
       (label h.last h.are_rows (record { «break» = NL ∷ []; is_break = inr refl; are = are_on h.us h.last.line (NAME h.last.name ∷ MARK Colon ∷ []) NL at h.are }) h.at);
   text = own_on own h.head h.rows h.us (token NL at ∷ []) h.text;
 }
-
--- as `part_keeps` says for no symbols before
-fresh_keeps : (s : Symbol) → KeepsSymbols (fresh s) (s ∷ [])
-fresh_keeps s = part_keeps Fresh s [] refl
 
 -- the state that follows a symbol says what was read: between two instructions
 inside_keeps : (b : Reading) (colon : Bool) (s : Symbol) (at : ℕ) (before own : List Terminal) → IsText before b.units → At b (Inside colon) own → IsStateOf (inside b colon s at) (before ++ (own ++ token s at ∷ []))

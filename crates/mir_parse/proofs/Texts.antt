@@ -4,7 +4,7 @@ use Rattle.mir_lex.specs.declared.tokens.Token.{Token}
 use Rattle.mir_lex.specs.declared.terminals.Terminal.{Terminal}
 use Rattle.mir_lex.specs.declared.faults.LexFault.{LexFault}
 use Rattle.mir_lex.specs.Terminals.{terminals}
-use Rattle.mir_lex.specs.Spelling.{IsTokens, IsRefusal, IsLexMemory}
+use Rattle.mir_lex.specs.Spelling.{IsTokens, IsRefusal, IsLexMemory, TokensAreUnique, RefusalIsUnique, HasNoTokensIfRefused}
 use Rattle.mir_parse.specs.declared.raw.Raw.{Raw}
 use Rattle.mir_parse.specs.declared.faults.ParseFault.{ParseFault}
 use Rattle.mir_parse.specs.declared.faults.ParseFault.TheVariants.{Unexpected, Unfinished, Memory}
@@ -27,7 +27,7 @@ pub raw_same : (one other : Raw) → one.units ≡ other.units → one ≡ other
 raw_same one other h = ap (λ (units : List RawUnitShape). record { units = units }) h
 
 -- no text spells two raw programs, where it has at most one list of tokens
-pub spells_same : (bytes : List ℕ) → ((one other : List Token) → IsTokens bytes one → IsTokens bytes other → one ≡ other) → (one other : Raw) → Spells bytes one → Spells bytes other → one ≡ other
+pub spells_same : (bytes : List ℕ) → TokensAreUnique bytes → (one other : Raw) → Spells bytes one → Spells bytes other → one ≡ other
 spells_same bytes unique one other is also =
     let items = unique is.items also.items is.tokens also.tokens in
     raw_same one other (text_same (terminals bytes is.items) one.units other.units is.text (moved (λ ts. IsText ts other.units) bytes bytes also.items is.items refl items also.text))
@@ -71,20 +71,8 @@ tokens_refused_none bytes items (Unexpected line) units is text = outside_unexpe
 tokens_refused_none bytes items Unfinished units is text = outside_unfinished _ units (sym (text_run (terminals bytes items) units text)) is
 tokens_refused_none bytes items (Memory refusal) units is text = is
 
--- the text has at most one list of tokens
-abbrev OneRow : List ℕ → Type 0
-OneRow bytes = (one other : List Token) → IsTokens bytes one → IsTokens bytes other → one ≡ other
-
--- the text is refused for at most one cause before it has tokens
-abbrev OneFault : List ℕ → Type 0
-OneFault bytes = (one other : LexFault) → IsRefusal bytes one → IsRefusal bytes other → one ≡ other
-
--- a text that is refused has no tokens
-abbrev NoFault : List ℕ → Type 0
-NoFault bytes = (fault : LexFault) → IsRefusal bytes fault → (items : List Token) → IsTokens bytes items → ⊥
-
 -- a text is refused for at most one cause, where this is so of its tokens
-pub refusals_same : (bytes : List ℕ) → OneRow bytes → OneFault bytes → NoFault bytes → (one other : TextFault) → IsTextRefusal bytes one → IsTextRefusal bytes other → one ≡ other
+pub refusals_same : (bytes : List ℕ) → TokensAreUnique bytes → RefusalIsUnique bytes → HasNoTokensIfRefused bytes → (one other : TextFault) → IsTextRefusal bytes one → IsTextRefusal bytes other → one ≡ other
 refusals_same bytes row fault none (Lex one) (Lex other) is also = ap Lex (fault one other is also)
 refusals_same bytes row fault none (Lex one) (Parse other) is also = absurd (none one is also.0 also.1)
 refusals_same bytes row fault none (Parse one) (Lex other) is also = absurd (none other also is.0 is.1)
@@ -92,7 +80,7 @@ refusals_same bytes row fault none (Parse one) (Parse other) is also =
     ap Parse (tokens_refused_same bytes is.0 one other is.2 (subst (λ (items : List Token). TokensRefused bytes items other) (row also.0 is.0 also.1 is.1) also.2))
 
 -- and one that spells a raw program is not refused
-pub refusal_spells : (bytes : List ℕ) → OneRow bytes → NoFault bytes → (fault : TextFault) → IsTextRefusal bytes fault → (raw : Raw) → Spells bytes raw → ⊥
+pub refusal_spells : (bytes : List ℕ) → TokensAreUnique bytes → HasNoTokensIfRefused bytes → (fault : TextFault) → IsTextRefusal bytes fault → (raw : Raw) → Spells bytes raw → ⊥
 refusal_spells bytes row none (Lex fault) is raw spells = none fault is spells.items spells.tokens
 refusal_spells bytes row none (Parse fault) is raw spells =
     tokens_refused_none bytes spells.items fault raw.units (subst (λ (items : List Token). TokensRefused bytes items fault) (row is.0 spells.items is.1 spells.tokens) is.2) spells.text

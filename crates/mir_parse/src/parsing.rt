@@ -15,8 +15,8 @@ use std::mem;
 /// The raw program that the tokens spell by the grammar of `specs/Grammar.antt`.
 ///
 /// It refuses with `Unexpected(line)` where some token makes the tokens up to it no prefix of a text of the grammar,
-/// with the line of the first such token, and with `Unfinished` where there is no such token and the tokens end inside a
-/// unit. It also fails when it runs out of memory.
+/// with the line of the first such token, and with `Unfinished` where there is no such token and the tokens end inside
+/// a unit. It also fails when it runs out of memory.
 pub fn parse(alloc: Global, tokens: &Tokens) -> Result<Raw, ParseFault>
     // The raw program is spelled by the tokens, and one that is spelled is not refused, unless memory runs out.
     ensures found { IfOk result (λ raw. IsText (terminals_of tokens.now) raw.units) }

@@ -1,5 +1,5 @@
-// What a token makes of a part of an instruction: `part_step` is called once for each token, and a function for each place
-// in an instruction says which tokens may stand there and what the part then is.
+// What a token makes of a part of an instruction: `part_step` is called once for each token, and a function for each
+// place in an instruction says which tokens may stand there and what the part then is.
 ghost use Rattle.std.specs.Prelude.{◌≡◌, IfOk};
 ghost use Rattle.mir_parse.specs.Reader.{relop_of_mark, op_of_mark, op_of_word, filled, wants, mark_then, name_then, fresh, receive_word, named, arrowed, binary_with, plain_name, plain_number, call_word, first_arg, typed, goto_word, if_word, rel_with, if_operand, tested, if_goto, return_word, full, part_step};
 

@@ -5,14 +5,15 @@ use Rattle.std.proofs.lemmas.Bool.{cases_Bool}
 use Rattle.std.proofs.lemmas.List.{append-nil}
 use Rattle.mir_parse.specs.declared.raw.RawForm.{RawForm}
 use Rattle.mir_parse.specs.declared.raw.RawInst.{RawInst}
-use Rattle.mir_valid.specs.Names.{is_same, has_name}
+use Rattle.mir_base.specs.Words.{is_text}
+use Rattle.mir_valid.specs.Names.{has_name}
 use Rattle.mir_valid.specs.NameLaws.{same_is}
 use Rattle.mir_valid.specs.Rules.{broken_after, lines_where}
 
 -- no name of the list
 pub name_absent : (names : List (List ℕ)) (x : List ℕ) → ((i : ℕ) → slice_get names i ≡ Some x → ⊥) → has_name names x ≡ false
 name_absent [] x absent = refl
-name_absent (y ∷ names) x absent = elim (cases_Bool (is_same x y)) [
+name_absent (y ∷ names) x absent = elim (cases_Bool (is_text x y)) [
   | inl same ↦ absurd (absent 0 (ap (λ (z : List ℕ). Some z) (sym (same_is x y same))))
   | inr differ ↦ ap (λ (b : Bool). b || has_name names x) differ ∙ name_absent names x (λ i at. absent (suc i) at)
 ]

@@ -13,7 +13,8 @@ use Rattle.mir_base.specs.Shapes.{UnitShape, AllDiffer, receives_in, body_or_emp
 use Rattle.mir_base.specs.Text.{Naming}
 use Rattle.mir_parse.specs.declared.raw.RawInst.{RawInst}
 use Rattle.mir_parse.specs.RawUnit.{RawUnitShape}
-use Rattle.mir_valid.specs.Names.{is_same, has_name, number_in}
+use Rattle.mir_base.specs.Words.{is_text}
+use Rattle.mir_valid.specs.Names.{has_name, number_in}
 use Rattle.mir_valid.specs.Rules.{unit_names, same_unit_lines, is_receive, misses_unit, no_unit_lines, receive_counts, differs_from, wrong_count_lines}
 use Rattle.mir_print.proofs.Raws.{raw_operand, raw_form, raw_insts, unit_naming, raw_units}
 use Rattle.mir_print.proofs.Standing.{names_of_raw}
@@ -128,7 +129,7 @@ record Counted (names : List (List ℕ)) (units : List UnitShape) (f : List ℕ)
 -- the receives counted under a name are those of some unit with that name
 receives_counted : (names : List (List ℕ)) (line : ℕ) (units : List UnitShape) (f : List ℕ) (count : ℕ) → number_in (receive_counts (raw_units names line units)) f ≡ Some count → Counted names units f count
 receives_counted names line [] f count found = absurd (cc)
-receives_counted names line (unit ∷ units) f count found = elim (cases_Bool (is_same f unit.name)) [
+receives_counted names line (unit ∷ units) f count found = elim (cases_Bool (is_text f unit.name)) [
   | inl same ↦
       let here : Some (count_by is_receive (raw_insts (unit_naming names unit) (line + 1) unit.body)) ≡ Some count =
       sym (ap (λ (b : Bool). cond b (Some (count_by is_receive (raw_insts (unit_naming names unit) (line + 1) unit.body))) (number_in (receive_counts (raw_units names (line + 1 + length unit.body + 1) units)) f)) same) ∙ found in

@@ -8,8 +8,9 @@ ghost use Rattle.mir_print.specs.Kept.{OperandKept, RhsKept, TestKept, InstKept,
 
 use mir_base::{Inst, Name, Operand, Program, Rhs, Test, Unit};
 
-/// Has no effect; carries the theorem of what the types of a program keep: its parts fit together, its names are spelled
-/// as names, and its constants are numbers of 64 bits. It does not allocate, and visits each part of the program once.
+/// Has no effect; carries the theorem of what the types of a program keep: its parts fit together, its names are
+/// spelled as names, and its constants are numbers of 64 bits. It does not allocate, and visits each part of the
+/// program once.
 pub fn keep_program(program: &Program)
     ensures { ProgramKept program.now }
 {

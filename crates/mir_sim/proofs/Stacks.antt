@@ -65,6 +65,10 @@ pub record Layer (E E' : ℕ) (Below : ℕ → ℕ → Type 0) (Here : ℕ → �
   pub here : Here own own'
   pub below : Below others others'
 
+-- what is above the frames below changes, and with it what the two frames on top counted
+above : {E E' F F' : ℕ} {Below Here Here' : ℕ → ℕ → Type 0} (m : Layer E E' Below Here) (own own' : ℕ) → F ≡ m.others + own → F' ≡ m.others' + own' → Here' own own' → Layer F F' Below Here'
+above m own own' sum sum' here = record { own = own; own' = own'; others = m.others; others' = m.others'; sum = sum; sum' = sum'; here = here; below = m.below }
+
 -- two frames of which the second follows the first
 pub record Standing (Q : Type 0) (c d : Code) (f g : Frame) (x y : ℕ) : Type 0 where
   pub pair : Pair Q c d x y f g
@@ -141,16 +145,7 @@ module _ (Q : Type 0) (codes codes' : ℕ → Code) (Callable : ℕ → CallEntr
   returns_alike answer is [] [] E E' m = (refl, m)
   returns_alike answer is [] (q ∷ qs) E E' m = absurd m
   returns_alike answer is (p ∷ ps) [] E E' m = absurd m
-  returns_alike answer is (p ∷ ps) (q ∷ qs) E E' m = record {
-    own = m.own;
-    own' = m.own';
-    others = m.others;
-    others' = m.others';
-    sum = m.sum;
-    sum' = m.sum';
-    here = record { pair = m.here.goes_on answer is; fits = resumed_fits p.into answer p.frame is m.here.fits };
-    below = m.below;
-  }
+  returns_alike answer is (p ∷ ps) (q ∷ qs) E E' m = above m m.own m.own' m.sum m.sum' (record { pair = m.here.goes_on answer is; fits = resumed_fits p.into answer p.frame is m.here.fits })
 
   -- where the second frame comes, after silent steps, to a transition that leads to a matching state, so does the second
   -- stack, with one step more
@@ -164,16 +159,7 @@ module _ (Q : Type 0) (codes codes' : ℕ → Code) (Callable : ℕ → CallEntr
         0,
         record {
           prints = refl;
-          control = record {
-            own = m.own + n;
-            own' = m.own';
-            others = m.others;
-            others' = m.others';
-            sum = omega (arith, m.sum);
-            sum' = m.sum';
-            here = record { pair = pair_on_left Q (codes u) (codes' u') m.own m.own' f next g n is m.here.pair; fits = kept };
-            below = m.below;
-          };
+          control = above m (m.own + n) m.own' (omega (arith, m.sum)) m.sum' (record { pair = pair_on_left Q (codes u) (codes' u') m.own m.own' f next g n is m.here.pair; fits = kept });
         },
       )
   one_transition printed u f ps u' g qs E E' D D' (Prints v next) is m =
@@ -184,16 +170,7 @@ module _ (Q : Type 0) (codes codes' : ℕ → Code) (Callable : ℕ → CallEntr
       matches_after (state_after u ps (Prints v next) (state printed (Running u f ps) E D)) printed u' c.k g c.h c.n qs E' D' (Prints v w.0) c.silent w.1 (
       record {
         prints = refl;
-        control = record {
-          own = m.own;
-          own' = m.own' + c.n;
-          others = m.others;
-          others' = m.others';
-          sum = m.sum;
-          sum' = omega (arith, m.sum');
-          here = record { pair = pair_after_prints Q (codes u) (codes' u') m.own (m.own' + c.n) f next c.h w.0 v is w.1 caught; fits = kept };
-          below = m.below;
-        };
+        control = above m m.own (m.own' + c.n) m.sum (omega (arith, m.sum')) (record { pair = pair_after_prints Q (codes u) (codes' u') m.own (m.own' + c.n) f next c.h w.0 v is w.1 caught; fits = kept });
       }
       )
   one_transition printed u f ps u' g qs E E' D D' (Calls called entry into next) is m =
@@ -212,19 +189,10 @@ module _ (Q : Type 0) (codes codes' : ℕ → Code) (Callable : ℕ → CallEntr
           sum = sym (add-zero E);
           sum' = sym (add-zero (E' + c.n));
           here = enters called entry kept.0;
-          below = record {
-            own = m.own;
-            own' = m.own' + c.n;
-            others = m.others;
-            others' = m.others';
-            sum = m.sum;
-            sum' = omega (arith, m.sum');
-            here = record {
-              goes_on = λ answer fits. pair_after_call Q (codes u) (codes' u') m.own (m.own' + c.n) f next c.h s.1 called entry into s.0 is s.2 caught answer fits;
-              fits = kept.1;
-            };
-            below = m.below;
-          };
+          below = above m m.own (m.own' + c.n) m.sum (omega (arith, m.sum')) (record {
+            goes_on = λ answer fits. pair_after_call Q (codes u) (codes' u') m.own (m.own' + c.n) f next c.h s.1 called entry into s.0 is s.2 caught answer fits;
+            fits = kept.1;
+          });
         };
       }
       )

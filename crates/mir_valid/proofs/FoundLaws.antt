@@ -3,7 +3,8 @@ use Rattle.std.proofs.Common.{◌≡◌, ℕ, suc, ◌+◌, Bool, true, false, c
 use Rattle.mir_base.specs.ItemLaws.{some_of}
 use Rattle.mir_parse.specs.declared.raw.RawLabel.{RawLabel}
 use Rattle.mir_parse.specs.RawUnit.{RawUnitShape}
-use Rattle.mir_valid.specs.Names.{is_same, has_name, number_in}
+use Rattle.mir_base.specs.Words.{is_text}
+use Rattle.mir_valid.specs.Names.{has_name, number_in}
 use Rattle.mir_valid.specs.Rules.{unit_names, label_names, is_receive, receive_counts}
 use Rattle.mir_valid.specs.Stands.{IsNumber, IsPlace}
 use Rattle.mir_valid.specs.Tables.{number_or_zero, numbered, table_of}
@@ -19,9 +20,9 @@ place_later first labels l place (k, label, low, at, is) = (suc k, label, omega 
 -- the place that a look-up finds is that of a label with the name
 place_is : (labels : List RawLabel) (l : List ℕ) (place : ℕ) → number_in (label_places labels) l ≡ Some place → IsPlace labels l place
 place_is [] l place e = absurd (cc)
-place_is (label ∷ labels) l place e = by (is_same l label.name) refl (place_is labels l place)
+place_is (label ∷ labels) l place e = by (is_text l label.name) refl (place_is labels l place)
   where
-    by : (b : Bool) → is_same l label.name ≡ b → (number_in (label_places labels) l ≡ Some place → IsPlace labels l place) → IsPlace (label ∷ labels) l place
+    by : (b : Bool) → is_text l label.name ≡ b → (number_in (label_places labels) l ≡ Some place → IsPlace labels l place) → IsPlace (label ∷ labels) l place
     by true same later =
         let e' = sym (ap (λ b. cond b (Some label.place) (number_in (label_places labels) l)) same) ∙ e in
         (0, label, omega arith, refl, (sym (same_is l label.name same), cc))
@@ -55,9 +56,9 @@ pub record IsCalled (units : List RawUnitShape) (f : List ℕ) (place : ℕ) : T
 -- the number that is found counts the units before the first of the name
 first_called : (k : ℕ) (units : List RawUnitShape) (f : List ℕ) (n : ℕ) → number_in (numbered k (unit_names units)) f ≡ Some n → (place : ℕ) × (n ≡ k + place) × IsCalled units f place
 first_called k [] f n e = absurd (cc)
-first_called k (unit ∷ units) f n e = by (is_same f unit.name) refl (first_called (suc k) units f n)
+first_called k (unit ∷ units) f n e = by (is_text f unit.name) refl (first_called (suc k) units f n)
   where
-    by : (b : Bool) → is_same f unit.name ≡ b → (number_in (numbered (suc k) (unit_names units)) f ≡ Some n → (place : ℕ) × (n ≡ suc k + place) × IsCalled units f place)
+    by : (b : Bool) → is_text f unit.name ≡ b → (number_in (numbered (suc k) (unit_names units)) f ≡ Some n → (place : ℕ) × (n ≡ suc k + place) × IsCalled units f place)
         → (place : ℕ) × (n ≡ k + place) × IsCalled (unit ∷ units) f place
     by true same later =
         let first : k ≡ n = cc (sym (ap (λ b. cond b (Some k) (number_in (numbered (suc k) (unit_names units)) f)) same) ∙ e) in (

@@ -1,8 +1,9 @@
 -- Names that are numbered in order: a name's number is a place at which it stands.
-use Rattle.std.proofs.Common.{◌≡◌, ℕ, suc, ◌+◌, Bool, true, false, cond, is_some, unwrap_or, List, [], ◌∷◌, ◌++◌, length, slice_get, Option, None, Some, refl, ap, sym, ◌∙◌, subst, add-zero, arith}
+use Rattle.std.proofs.Common.{◌≡◌, ℕ, suc, ◌+◌, Bool, true, false, cond, unwrap_or, List, [], ◌∷◌, ◌++◌, length, slice_get, Option, None, Some, refl, ap, sym, ◌∙◌, subst, add-zero, arith}
 use Rattle.std.specs.Option.{option_or}
 use Rattle.mir_base.specs.ItemLaws.{some_of, none_of}
-use Rattle.mir_valid.specs.Names.{is_same, has_name, number_in}
+use Rattle.mir_base.specs.Words.{is_text}
+use Rattle.mir_valid.specs.Names.{has_name, number_in}
 use Rattle.mir_valid.specs.NameLaws.{same_self, same_is}
 use Rattle.mir_valid.specs.Stands.{IsNumber}
 use Rattle.mir_valid.specs.Tables.{number_or_zero, numbered}
@@ -11,9 +12,9 @@ use Rattle.mir_valid.proofs.TableLaws.{has_number, number_in_append}
 -- the number of a name, counted from k, leads to its place
 pub number_place : (k : ℕ) (names : List (List ℕ)) (x : List ℕ) (n : ℕ) → number_in (numbered k names) x ≡ Some n → (place : ℕ) × (n ≡ k + place) × (slice_get names place ≡ Some x)
 number_place k [] x n e = absurd (cc)
-number_place k (y ∷ names) x n e = by (is_same x y) refl (number_place (suc k) names x n)
+number_place k (y ∷ names) x n e = by (is_text x y) refl (number_place (suc k) names x n)
   where
-    by : (b : Bool) → is_same x y ≡ b → (number_in (numbered (suc k) names) x ≡ Some n → (place : ℕ) × (n ≡ suc k + place) × (slice_get names place ≡ Some x))
+    by : (b : Bool) → is_text x y ≡ b → (number_in (numbered (suc k) names) x ≡ Some n → (place : ℕ) × (n ≡ suc k + place) × (slice_get names place ≡ Some x))
         → (place : ℕ) × (n ≡ k + place) × (slice_get (y ∷ names) place ≡ Some x)
     by true same later =
         let first : k ≡ n = cc (sym (ap (λ b. cond b (Some k) (number_in (numbered (suc k) names) x)) same) ∙ e) in

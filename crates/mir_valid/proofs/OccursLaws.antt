@@ -11,7 +11,8 @@ use Rattle.mir_base.specs.declared.instructions.Inst.TheVariants.{Receive}
 use Rattle.mir_parse.specs.declared.raw.RawForm.{RawForm}
 use Rattle.mir_parse.specs.declared.raw.RawForm.TheVariants.{Receive as RawReceive}
 use Rattle.mir_parse.specs.declared.raw.RawInst.{RawInst}
-use Rattle.mir_valid.specs.Names.{is_same, has_name}
+use Rattle.mir_base.specs.Words.{is_text}
+use Rattle.mir_valid.specs.Names.{has_name}
 use Rattle.mir_valid.specs.Variables.{form_names, body_names, FirstNames, none, again, first}
 use Rattle.mir_valid.specs.Rules.{broken, received_by, received, receives_again}
 use Rattle.mir_valid.specs.Tables.{number_or_zero, numbered}
@@ -27,11 +28,11 @@ Within vars names = (x : List ℕ) → has_name names x ≡ true → has_name va
 
 -- the first part of a joined list of names
 pub within_front : (vars xs ys : List (List ℕ)) → Within vars (xs ++ ys) → Within vars xs
-within_front vars xs ys within x has = within x (list_any-append (is_same x) xs ys ∙ ap (λ b. b || has_name ys x) has)
+within_front vars xs ys within x has = within x (list_any-append (is_text x) xs ys ∙ ap (λ b. b || has_name ys x) has)
 
 -- the second part
 pub within_back : (vars xs ys : List (List ℕ)) → Within vars (xs ++ ys) → Within vars ys
-within_back vars xs ys within x has = within x (list_any-append (is_same x) xs ys ∙ ap (λ b. has_name xs x || b) has ∙ or-true (has_name xs x))
+within_back vars xs ys within x has = within x (list_any-append (is_text x) xs ys ∙ ap (λ b. has_name xs x || b) has ∙ or-true (has_name xs x))
 
 -- a name alone
 pub within_one : (vars : List (List ℕ)) (x : List ℕ) → Within vars (x ∷ []) → has_name vars x ≡ true
@@ -40,25 +41,25 @@ within_one vars x within = within x (ap (λ b. b || false) (same_self x))
 -- ---- the names that one pass finds
 
 -- after a name joined, the list has that one and those that it had
-has_with : (vars : List (List ℕ)) (name x : List ℕ) → has_name (with_name vars name) x ≡ (has_name vars x || is_same x name)
+has_with : (vars : List (List ℕ)) (name x : List ℕ) → has_name (with_name vars name) x ≡ (has_name vars x || is_text x name)
 has_with vars name x = by (has_name vars name) refl
   where
-    there : has_name vars name ≡ true → (b : Bool) → is_same x name ≡ b → has_name vars x ≡ (has_name vars x || b)
+    there : has_name vars name ≡ true → (b : Bool) → is_text x name ≡ b → has_name vars x ≡ (has_name vars x || b)
     there has true same = let e : has_name vars x ≡ true = ap (has_name vars) (same_is x name same) ∙ has in e ∙ sym (ap (λ b. b || true) e)
     there has false same = sym (or-false (has_name vars x))
 
-    by : (b : Bool) → has_name vars name ≡ b → has_name (with_name vars name) x ≡ (has_name vars x || is_same x name)
-    by true e = ap (λ b. has_name (if b then vars else vars ++ name ∷ []) x) e ∙ there e (is_same x name) refl
+    by : (b : Bool) → has_name vars name ≡ b → has_name (with_name vars name) x ≡ (has_name vars x || is_text x name)
+    by true e = ap (λ b. has_name (if b then vars else vars ++ name ∷ []) x) e ∙ there e (is_text x name) refl
     by false e =
         ap (λ b. has_name (if b then vars else vars ++ name ∷ []) x) e
-        ∙ list_any-append (is_same x) vars (name ∷ [])
-        ∙ ap (λ b. has_name vars x || b) (or-false (is_same x name))
+        ∙ list_any-append (is_text x) vars (name ∷ [])
+        ∙ ap (λ b. has_name vars x || b) (or-false (is_text x name))
 
 -- after names joined, the list has those and the ones that it had
 has_fold : (names vars : List (List ℕ)) (x : List ℕ) → has_name (fold with_name vars names) x ≡ (has_name vars x || has_name names x)
 has_fold [] vars x = sym (or-false (has_name vars x))
 has_fold (name ∷ names) vars x =
-    has_fold names (with_name vars name) x ∙ ap (λ b. b || has_name names x) (has_with vars name x) ∙ or_assoc (has_name vars x) (is_same x name) (has_name names x)
+    has_fold names (with_name vars name) x ∙ ap (λ b. b || has_name names x) (has_with vars name x) ∙ or_assoc (has_name vars x) (is_text x name) (has_name names x)
 
 -- each name that occurs is a variable
 pub within_variables : (body : List RawInst) → Within (variables_of body) (body_names body)
@@ -79,10 +80,10 @@ first_step : (names vars : List (List ℕ)) (x : List ℕ) → FirstNames names 
 first_step names vars x before = by (has_name vars x) refl
   where
     by : (b : Bool) → has_name vars x ≡ b → FirstNames (names ++ x ∷ []) (with_name vars x)
-    by true e = subst (λ (b : Bool). FirstNames (names ++ x ∷ []) (if b then vars else vars ++ x ∷ [])) (sym e) (again x before (Contains-from_any {eq = is_same} same_is x vars e))
+    by true e = subst (λ (b : Bool). FirstNames (names ++ x ∷ []) (if b then vars else vars ++ x ∷ [])) (sym e) (again x before (Contains-from_any {eq = is_text} same_is x vars e))
     by false e =
         subst (λ (b : Bool). FirstNames (names ++ x ∷ []) (if b then vars else vars ++ x ∷ [])) (sym e)
-        (first x before (λ occurs. let e' = sym (list_any-from_Contains {eq = is_same} nat_list_eq_equiv x vars occurs) ∙ e in absurd (cc)))
+        (first x before (λ occurs. let e' = sym (list_any-from_Contains {eq = is_text} nat_list_eq_equiv x vars occurs) ∙ e in absurd (cc)))
 
 -- and so do more names
 first_fold : (rest names vars : List (List ℕ)) → FirstNames names vars → FirstNames (names ++ rest) (fold with_name vars rest)
@@ -105,7 +106,7 @@ receive_of numbers form x e = absurd (cc)
 -- a name among those received stays among them when one more instruction stands in front
 received_kept : (received_name : Option (List ℕ)) (names : List (List ℕ)) (name : List ℕ) → has_name names name ≡ true → has_name (cons_option received_name names) name ≡ true
 received_kept None names name has = has
-received_kept (Some x) names name has = ap (λ b. is_same name x || b) has ∙ or-true (is_same name x)
+received_kept (Some x) names name has = ap (λ b. is_text name x || b) has ∙ or-true (is_text name x)
 
 -- a receive at some place puts its variable among those received
 received_at : (body : List RawInst) (i : ℕ) (inst : RawInst) (name : List ℕ) → slice_get body i ≡ Some inst → inst.form ≡ RawReceive name → has_name (received body) name ≡ true

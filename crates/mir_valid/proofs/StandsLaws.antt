@@ -26,7 +26,8 @@ use Rattle.mir_parse.specs.declared.raw.RawForm.TheVariants.{Receive as RawRecei
 use Rattle.mir_parse.specs.declared.raw.RawInst.{RawInst}
 use Rattle.mir_parse.specs.declared.raw.RawLabel.{RawLabel}
 use Rattle.mir_parse.specs.RawUnit.{RawUnitShape}
-use Rattle.mir_valid.specs.Names.{is_same, has_name}
+use Rattle.mir_base.specs.Words.{is_text}
+use Rattle.mir_valid.specs.Names.{has_name}
 use Rattle.mir_valid.specs.Variables.{operand_names, rhs_names, test_names, into_names, returned_names, form_names, body_names, FirstNames, none, again, first}
 use Rattle.mir_valid.specs.Rules.{unit_names, label_names, misses_label, misses_unit, no_label_lines, no_unit_lines, same_label_lines}
 use Rattle.mir_valid.specs.Refusals.{AreValid}
@@ -142,12 +143,12 @@ first_only _ _ none = refl
 first_only _ _ (again {names} {vars} x before occurs) =
     fold-append with_name [] names (x ∷ [])
     ∙ ap (λ vs. with_name vs x) (first_only names vars before)
-    ∙ ap (λ b. if b then vars else vars ++ x ∷ []) (list_any-from_Contains {eq = is_same} nat_list_eq_equiv x vars occurs)
+    ∙ ap (λ b. if b then vars else vars ++ x ∷ []) (list_any-from_Contains {eq = is_text} nat_list_eq_equiv x vars occurs)
 first_only _ _ (first {names} {vars} x before fresh) =
     fold-append with_name [] names (x ∷ []) ∙ ap (λ vs. with_name vs x) (first_only names vars before) ∙ by (has_name vars x) refl
   where
     by : (b : Bool) → has_name vars x ≡ b → with_name vars x ≡ vars ++ x ∷ []
-    by true e = absurd (fresh (Contains-from_any {eq = is_same} same_is x vars e))
+    by true e = absurd (fresh (Contains-from_any {eq = is_text} same_is x vars e))
     by false e = ap (λ b. if b then vars else vars ++ x ∷ []) e
 
 module _ (vars : List (List ℕ)) (differ : AllDiffer vars) where

@@ -6,7 +6,8 @@ use Rattle.std.specs.Cmp.Lexicographic.{pointwise}
 use Rattle.std.specs.Option.{option_or}
 use Rattle.std.proofs.lemmas.List.Folds.{list_any-append}
 use Rattle.indexmap.specs.IndexMap.{insert_entry}
-use Rattle.mir_valid.specs.Names.{NameEntry, is_same, has_name, number_in}
+use Rattle.mir_base.specs.Words.{is_text}
+use Rattle.mir_valid.specs.Names.{NameEntry, has_name, number_in}
 use Rattle.mir_valid.specs.NameLaws.{same_is}
 use Rattle.mir_valid.specs.Tables.{with_entry, table_of, numbered}
 use Rattle.mir_valid.specs.Numbered.{with_name}
@@ -50,7 +51,7 @@ is_some_cond false n found = refl
 pub has_number : (n : ℕ) (names : List (List ℕ)) (x : List ℕ) → is_some (number_in (numbered n names) x) ≡ has_name names x
 has_number n [] x = refl
 has_number n (name ∷ names) x =
-    is_some_cond (is_same x name) n (number_in (numbered (suc n) names) x) ∙ ap (λ b. is_same x name || b) (has_number (suc n) names x)
+    is_some_cond (is_text x name) n (number_in (numbered (suc n) names) x) ∙ ap (λ b. is_text x name || b) (has_number (suc n) names x)
 
 -- one more name has the next number
 pub numbered_push : (n : ℕ) (names : List (List ℕ)) (x : List ℕ) → numbered n (names ++ x ∷ []) ≡ numbered n names ++ (x, n + length names) ∷ []
@@ -99,11 +100,11 @@ or_assoc (Some n) b c = refl
 
 -- what one entry gives
 abbrev at_entry : NameEntry → List ℕ → Option ℕ
-at_entry entry x = cond (is_same x entry.0) (Some entry.1) None
+at_entry entry x = cond (is_text x entry.0) (Some entry.1) None
 
 -- a look-up tries the first entry, then the others
 number_in_cons : (entry : NameEntry) (entries : List NameEntry) (x : List ℕ) → number_in (entry ∷ entries) x ≡ option_or (at_entry entry x) (number_in entries x)
-number_in_cons entry entries x = by (is_same x entry.0)
+number_in_cons entry entries x = by (is_text x entry.0)
   where
     by : (b : Bool) → cond b (Some entry.1) (number_in entries x) ≡ option_or (cond b (Some entry.1) None) (number_in entries x)
     by true = refl
@@ -122,13 +123,13 @@ number_in_append (first ∷ entries) others x =
 pub number_in_with_entry : (table : List NameEntry) (entry : NameEntry) (x : List ℕ) → number_in (with_entry table entry) x ≡ option_or (number_in table x) (at_entry entry x)
 number_in_with_entry table entry x = by (number_in table entry.0) refl
   where
-    there : (n : ℕ) → number_in table entry.0 ≡ Some n → (b : Bool) → is_same x entry.0 ≡ b → number_in table x ≡ option_or (number_in table x) (cond b (Some entry.1) None)
+    there : (n : ℕ) → number_in table entry.0 ≡ Some n → (b : Bool) → is_text x entry.0 ≡ b → number_in table x ≡ option_or (number_in table x) (cond b (Some entry.1) None)
     there n e true same = let e' : number_in table x ≡ Some n = ap (number_in table) (same_is x entry.0 same) ∙ e in e' ∙ ap (λ found. option_or found (Some entry.1)) (sym e')
     there n e false same = sym (or_none (number_in table x))
 
     by : (found : Option ℕ) → number_in table entry.0 ≡ found → number_in (with_entry table entry) x ≡ option_or (number_in table x) (at_entry entry x)
     by None e = ap (λ found. number_in (if is_some found then table else table ++ entry ∷ []) x) e ∙ number_in_append table (entry ∷ []) x
-    by (Some n) e = ap (λ found. number_in (if is_some found then table else table ++ entry ∷ []) x) e ∙ there n e (is_same x entry.0) refl
+    by (Some n) e = ap (λ found. number_in (if is_some found then table else table ++ entry ∷ []) x) e ∙ there n e (is_text x entry.0) refl
 
 -- after entries were added, a look-up tries the table as it was, then the entries
 number_in_fold : (entries table : List NameEntry) (x : List ℕ) → number_in (fold with_entry table entries) x ≡ option_or (number_in table x) (number_in entries x)
@@ -149,8 +150,8 @@ is_some_or None b = refl
 is_some_or (Some n) b = refl
 
 -- an entry is found under its own name alone
-is_some_at : (entry : NameEntry) (x : List ℕ) → is_some (at_entry entry x) ≡ is_same x entry.0
-is_some_at entry x = by (is_same x entry.0)
+is_some_at : (entry : NameEntry) (x : List ℕ) → is_some (at_entry entry x) ≡ is_text x entry.0
+is_some_at entry x = by (is_text x entry.0)
   where
     by : (b : Bool) → is_some (cond b (Some entry.1) None) ≡ b
     by true = refl
@@ -164,12 +165,12 @@ seen_next table table' names name n has is x =
     ∙ ap is_some (number_in_with_entry table (name, n) x)
     ∙ is_some_or (number_in table x) (at_entry (name, n) x)
     ∙ ap (λ b. b || is_some (at_entry (name, n) x)) (has x)
-    ∙ ap (λ b. has_name names x || b) (is_some_at (name, n) x ∙ sym (or-false (is_same x name)))
-    ∙ sym (list_any-append (is_same x) names (name ∷ []))
+    ∙ ap (λ b. has_name names x || b) (is_some_at (name, n) x ∙ sym (or-false (is_text x name)))
+    ∙ sym (list_any-append (is_text x) names (name ∷ []))
 
 -- the names of the entries are those that are found
 pub has_entry : {A : Type 0} (name : A → List ℕ) (number : A → ℕ) (xs : List A) (x : List ℕ) → is_some (number_in (map (λ a. (name a, number a)) xs) x) ≡ has_name (map name xs) x
 has_entry name number [] x = refl
 has_entry name number (a ∷ xs) x =
-    is_some_cond (is_same x (name a)) (number a) (number_in (map (λ a. (name a, number a)) xs) x)
-    ∙ ap (λ b. is_same x (name a) || b) (has_entry name number xs x)
+    is_some_cond (is_text x (name a)) (number a) (number_in (map (λ a. (name a, number a)) xs) x)
+    ∙ ap (λ b. is_text x (name a) || b) (has_entry name number xs x)
