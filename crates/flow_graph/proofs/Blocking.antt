@@ -1,6 +1,6 @@
 -- Blocks while they are made: the parts of a list, a block that is followed, and the blocks so far.
-use Rattle.std.proofs.Common.{◌≡◌, ◌≢◌, ℕ, zero, suc, ◌+◌, ◌-◌, ◌<◌, ◌≤◌, ◌⊎◌, inl, inr, true, false, cond, nat_eq, List, [], ◌∷◌, ◌++◌, length, get_or, set, take, drop, replicate, slice_get, slice_range, Some, refl, sym, ap, subst, arith, ◌∙◌, length-append, append_assoc, get_or-set_same, get_or-set_other}
-use Rattle.std.proofs.lemmas.Bool.{cases_eq, cases_Bool}
+use Rattle.std.proofs.Common.{◌≡◌, ◌≢◌, ℕ, zero, suc, ◌+◌, ◌-◌, ◌<◌, ◌≤◌, ◌⊎◌, inl, inr, true, false, cond, List, [], ◌∷◌, ◌++◌, length, get_or, set, take, drop, replicate, slice_get, slice_range, Some, refl, sym, ap, subst, arith, ◌∙◌, length-append, append_assoc, get_or-set_same, get_or-set_other}
+use Rattle.std.proofs.lemmas.Bool.{cases_eq, cases_Bool, eq-eqb, ne_eqb}
 use Rattle.std.proofs.lemmas.List.{drop-append-le, length-replicate, length-set, take-append-le, take_all, get_or_default}
 use Rattle.std.proofs.lemmas.Option.{slice_get_within}
 use Rattle.std.proofs.Math.Seq.{drop-append_seam}
@@ -77,13 +77,7 @@ part_bounds end (suc b) (s ∷ e ∷ starts) are h = part_bounds end b (e ∷ st
 pub unplaced_less : (none n block : ℕ) (block_of : List ℕ) → n < length block_of → get_or block_of n none ≡ none → block ≢ none → unplaced none (set block_of n block) + 1 ≡ unplaced none block_of
 unplaced_less none n block [] h is other = absurd (omega (arith, h))
 unplaced_less none zero block (b ∷ block_of) h is other =
-    omega (arith, ap {B = ℕ} (λ v. cond v 1 0) (same_eq b none is), ap {B = ℕ} (λ v. cond v 1 0) (other_eq block none other))
-  where
-    same_eq : (a b : ℕ) → a ≡ b → nat_eq a b ≡ true
-    same_eq a b e = search arith
-
-    other_eq : (a b : ℕ) → a ≢ b → nat_eq a b ≡ false
-    other_eq a b d = search arith
+    omega (arith, ap {B = ℕ} (λ v. cond v 1 0) (eq-eqb b none is), ap {B = ℕ} (λ v. cond v 1 0) (ne_eqb block none other))
 unplaced_less none (suc n) block (b ∷ block_of) h is other = omega (arith, unplaced_less none n block block_of (omega (arith, h)) is other)
 
 -- ---- a block that is followed

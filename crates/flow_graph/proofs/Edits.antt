@@ -1,13 +1,15 @@
 -- The nodes of an editor, with their edges: what each of its edits makes of them.
 use Rattle.std.proofs.Common.{◌≡◌, ℕ, zero, suc, ◌+◌, ◌<◌, ◌≤◌, Bool, true, false, ◌||◌, cond, eqb, ltb, nat_lt, List, [], ◌∷◌, ◌++◌, map, length, take, set, slice_get, replicate, Option, Some, None, option_map, ◌⊎◌, inl, inr, refl, sym, ap, ◌∙◌, subst, arith, eq-eqb, append_assoc}
-use Rattle.std.proofs.lemmas.Bool.{cases_eq, cases_lt, ne_eqb, lt-ltb, le-ltb, ltb-true, false≢true}
+use Rattle.std.proofs.lemmas.Bool.{cases_eq, cases_lt, ne_eqb, lt-ltb, le-ltb}
 use Rattle.std.proofs.lemmas.List.{length-map, length-set, length-take-le, set-set}
+use Rattle.std.specs.Option.{option_or}
 use Rattle.std.proofs.Math.Seq.{take-suc-set}
 use Rattle.flow_graph.specs.ListLaws.{get_take, set_here, set_elsewhere}
 use Rattle.std.proofs.lemmas.Option.{slice_get_within, same_Some}
 use Rattle.mir_base.specs.declared.instructions.Rhs.{Rhs}
 use Rattle.mir_base.specs.Shapes.{AllBelow, rhs_vars}
-use Rattle.node_list.specs.Lists.{Lists, inserted_before, list_at, times_in, times, is_listed, after_in, first_some, node_after}
+use Rattle.node_list.specs.Lists.{Lists, inserted_before, list_at, times_in, times, is_listed, after_in, node_after}
+use Rattle.node_list.specs.ListedLaws.{none_listed, some_listed, times_none}
 use Rattle.flow_graph.specs.declared.nodes.Node.{Node}
 use Rattle.flow_graph.specs.declared.nodes.Node.TheVariants.{Assign}
 use Rattle.flow_graph.specs.Edited.{number_or_none, leads, edited_from, HoldsEdits}
@@ -66,15 +68,15 @@ module _ (node new : ℕ) where
       chosen rest true = ap (λ b. cond b (slice_get (x ∷ put xs) 0) (after_in k (x ∷ put xs))) (ne_eqb new k differ) ∙ plain rest (eqb x k)
       chosen rest false = plain rest (eqb x k)
 
-  first_map : (a b : Option ℕ) → first_some (option_map (past node new) a) (option_map (past node new) b) ≡ option_map (past node new) (first_some a b)
+  first_map : (a b : Option ℕ) → option_or (option_map (past node new) a) (option_map (past node new) b) ≡ option_map (past node new) (option_or a b)
   first_map None b = refl
   first_map (Some x) b = refl
 
   after_puts : (k : ℕ) → (new ≡ k → ⊥) → (l : List (List ℕ)) → node_after (map put l) k ≡ option_map (past node new) (node_after l k)
   after_puts k differ [] = refl
   after_puts k differ (xs ∷ l) =
-      ap (λ o. first_some o (node_after (map put l) k)) (after_put k differ xs)
-      ∙ ap (first_some (option_map (past node new) (after_in k xs))) (after_puts k differ l)
+      ap (λ o. option_or o (node_after (map put l) k)) (after_put k differ xs)
+      ∙ ap (option_or (option_map (past node new) (after_in k xs))) (after_puts k differ l)
       ∙ first_map (after_in k xs) (node_after l k)
 
   -- after the new number comes the other
@@ -102,8 +104,8 @@ module _ (node new : ℕ) where
     after_news : (l : List (List ℕ)) → times l new ≡ 0 → 0 < times l node → node_after (map put l) new ≡ Some node
     after_news [] none there = absurd (omega (arith, there))
     after_news (xs ∷ l) none there = elim (after_new xs (omega (arith, none))) [
-      | inl some ↦ ap (λ o. first_some o (node_after (map put l) new)) some.1
-      | inr out ↦ ap (λ o. first_some o (node_after (map put l) new)) out.1 ∙ after_news l (omega (arith, none)) (omega (arith, there, out.0))
+      | inl some ↦ ap (λ o. option_or o (node_after (map put l) new)) some.1
+      | inr out ↦ ap (λ o. option_or o (node_after (map put l) new)) out.1 ∙ after_news l (omega (arith, none)) (omega (arith, there, out.0))
     ]
 
   ends_put : (s : ℕ) (xs : List ℕ) → Ends s xs → Ends s (put xs)
@@ -194,17 +196,6 @@ one_led l m led rest rest' whole node found is led_is all =
 
 -- ---- one put
 
--- a node that is listed stands there at least once
-is_there : (l : List (List ℕ)) (n : ℕ) → is_listed l n ≡ true → 0 < times l n
-is_there l n e = ltb-true 0 (times l n) e
-
--- a node that is not listed stands there no times
-is_absent : (l : List (List ℕ)) (n : ℕ) → is_listed l n ≡ false → times l n ≡ 0
-is_absent l n e = elim (cases_lt 0 (times l n)) [
-  | inl some ↦ absurd (false≢true (sym e ∙ lt-ltb 0 (times l n) some))
-  | inr none ↦ omega (arith, none)
-]
-
 -- a number is below used + 1 where it is below used or equal to it
 joined_lt : (n used : ℕ) → nat_lt n used || eqb n used ≡ nat_lt n (suc used)
 joined_lt n used = elim (cases_lt n used) [
@@ -253,7 +244,7 @@ module _ (vars : List (List ℕ)) (received : List ℕ) (nodes : List Node) (old
         ∙ ap (past node used) (sym (leads_new links.lists m s (omega (arith, ge, held.count))))
 
     own_next : node_after lists' used ≡ Some node
-    own_next = after_news node used (λ e. omega (arith, e, within)) links.lists (is_absent links.lists used unlisted) (is_there links.lists node (listed_below node within))
+    own_next = after_news node used (λ e. omega (arith, e, within)) links.lists (none_listed links.lists used unlisted) (some_listed links.lists node (listed_below node within))
 
     pub edited_put : edited_from (map (inserted_before node used) links.lists) 0 (take (suc used) (set nodes used (Assign x rhs node))) ≡ put_before node x rhs (edited_from links.lists 0 (take used nodes))
     edited_put =
@@ -334,14 +325,9 @@ empty_list zero s = refl
 empty_list (suc count) zero = refl
 empty_list (suc count) (suc s) = empty_list count s
 
--- in empty lists a node stands no times
-none_times : (count n : ℕ) → times (replicate count []) n ≡ 0
-none_times zero n = refl
-none_times (suc count) n = let rest = none_times count n in omega (arith, rest)
-
 -- and list no number
 pub none_in_empty : (count n : ℕ) → is_listed (replicate count []) n ≡ nat_lt n 0
-none_in_empty count n = ap (ltb 0) (none_times count n) ∙ sym (le-ltb n 0 (omega arith))
+none_in_empty count n = ap (ltb 0) (times_none count n) ∙ sym (le-ltb n 0 (omega arith))
 
 -- where each list has its own number alone, every edge leads where it led
 pub edited_open : (nodes : List Node) (l : List (List ℕ)) → AllWithin nodes → length l ≡ length nodes → ((s : ℕ) → s < length nodes → list_at l s ≡ s ∷ []) → edited_from l 0 nodes ≡ nodes

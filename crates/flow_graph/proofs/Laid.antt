@@ -14,7 +14,8 @@ use Rattle.flow_graph.specs.declared.nodes.Node.{Node}
 use Rattle.flow_graph.specs.declared.nodes.Node.TheVariants.{Start, Skip, Assign, Print, Call, Test, Return}
 use Rattle.flow_graph.specs.Graphs.{GraphShape, IsGraph, following, node_vars, succs_of}
 use Rattle.flow_graph.specs.Machines.{graph_machine, machine_of}
-use Rattle.flow_graph.specs.Plans.{IsPlan, after_node, first_open, is_placed, next_item, open_at, or_else, start_succ}
+use Rattle.std.specs.Option.{option_or}
+use Rattle.flow_graph.specs.Plans.{IsPlan, after_node, first_open, is_placed, next_item, open_at, start_succ}
 use Rattle.flow_graph.specs.Numbering.{position, renamed, renumbered, seen_in}
 use Rattle.flow_graph.specs.Layouts.{IsLaid, IsLayout, emitted, emitted_by, item_insts, place_in, plain_body}
 use Rattle.flow_graph.proofs.Places.{IsPlaceable, placed_same, placed_cheaper}
@@ -55,7 +56,7 @@ module _ (vars : List (List ℕ)) (received : List ℕ) (nodes : List Node) (gra
   first_inner plan [] s e = cc
   first_inner plan (Placed n ∷ older) s e = chosen (first_open nodes plan older) (first_inner plan older s) e
     where
-      chosen : (o : Option ℕ) → (o ≡ Some s → IsInner nodes s) → or_else o (open_at plan (slice_get nodes n)) ≡ Some s → IsInner nodes s
+      chosen : (o : Option ℕ) → (o ≡ Some s → IsInner nodes s) → option_or o (open_at plan (slice_get nodes n)) ≡ Some s → IsInner nodes s
       chosen None ih e' = open_inner plan n (slice_get nodes n) s refl e'
       chosen (Some t) ih e' = ih e'
   first_inner plan (Jump n ∷ older) s e = first_inner plan older s e

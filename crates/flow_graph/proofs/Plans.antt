@@ -10,7 +10,8 @@ use Rattle.flow_graph.specs.declared.plan.Item.TheVariants.{Placed, Jump}
 use Rattle.flow_graph.specs.declared.nodes.Node.{Node}
 use Rattle.flow_graph.specs.declared.nodes.Node.TheVariants.{Start, Skip, Assign, Print, Call, Test, Return}
 use Rattle.flow_graph.specs.Graphs.{following}
-use Rattle.flow_graph.specs.Plans.{IsPlan, after_node, first_open, is_placed, next_item, open_at, or_else}
+use Rattle.std.specs.Option.{option_or}
+use Rattle.flow_graph.specs.Plans.{IsPlan, after_node, first_open, is_placed, next_item, open_at}
 use Rattle.flow_graph.specs.Layouts.{emitted, emitted_by, item_insts, item_size, place_in, size}
 use Rattle.flow_graph.specs.ListLaws.{get_seam}
 use Rattle.std.proofs.Math.Bool.{or-true}
@@ -97,14 +98,14 @@ module _ (nodes : List Node) (first : ℕ) where
       chosen true is q = cc
       chosen false is q = let same : taken ≡ t = cc in subst (λ n. is_placed n plan ≡ false) same is
 
-  or_else_some : (a b : Option ℕ) (t : ℕ) → or_else a b ≡ Some t → (a ≡ Some t) ⊎ (b ≡ Some t)
-  or_else_some None b t e = inr e
-  or_else_some (Some n) b t e = inl e
+  option_or_some : (a b : Option ℕ) (t : ℕ) → option_or a b ≡ Some t → (a ≡ Some t) ⊎ (b ≡ Some t)
+  option_or_some None b t e = inr e
+  option_or_some (Some n) b t e = inl e
 
   open_fresh : (plan items : List Item) (t : ℕ) → first_open nodes plan items ≡ Some t → is_placed t plan ≡ false
   open_fresh plan [] t e = cc
   open_fresh plan (Placed n ∷ older) t e =
-      elim (or_else_some (first_open nodes plan older) (open_at plan (slice_get nodes n)) t e) [
+      elim (option_or_some (first_open nodes plan older) (open_at plan (slice_get nodes n)) t e) [
         | inl q ↦ open_fresh plan older t q
         | inr q ↦ open_at_fresh plan (slice_get nodes n) t q
       ]
@@ -176,19 +177,19 @@ module _ (nodes : List Node) (first : ℕ) where
   no_open (Placed n ∷ older) e = none_after (Placed n ∷ older) (following (slice_get nodes n)) e
   no_open (Jump n ∷ older) e = no_new (Jump n ∷ older) (first_open nodes (Jump n ∷ older) (Jump n ∷ older)) refl e
 
-  or_else_none : (a b : Option ℕ) → or_else a b ≡ None → (a ≡ None) × (b ≡ None)
-  or_else_none None b e = (refl, e)
-  or_else_none (Some n) b e = cc
+  option_or_none : (a b : Option ℕ) → option_or a b ≡ None → (a ≡ None) × (b ≡ None)
+  option_or_none None b e = (refl, e)
+  option_or_none (Some n) b e = cc
 
   taken_in : (plan items : List Item) (k n : ℕ) (older : List Item) (test : _) (taken other : ℕ) → first_open nodes plan items ≡ None → drop k items ≡ Placed n ∷ older → slice_get nodes n ≡ Some (Test test taken other) → is_placed taken plan ≡ true
   taken_in plan [] zero n older test taken other e here is = cc
   taken_in plan [] (suc k) n older test taken other e here is = cc
   taken_in plan (Jump m ∷ items) zero n older test taken other e here is = cc
   taken_in plan (Jump m ∷ items) (suc k) n older test taken other e here is = taken_in plan items k n older test taken other e here is
-  taken_in plan (Placed m ∷ items) (suc k) n older test taken other e here is = taken_in plan items k n older test taken other (or_else_none _ _ e).0 here is
+  taken_in plan (Placed m ∷ items) (suc k) n older test taken other e here is = taken_in plan items k n older test taken other (option_or_none _ _ e).0 here is
   taken_in plan (Placed m ∷ items) zero n older test taken other e here is =
       let same : m ≡ n = cc in
-      let none = (or_else_none (first_open nodes plan items) (open_at plan (slice_get nodes m)) e).1 in
+      let none = (option_or_none (first_open nodes plan items) (open_at plan (slice_get nodes m)) e).1 in
       chosen (is_placed taken plan) refl (sym (ap (open_at plan) (ap (slice_get nodes) same ∙ is)) ∙ none)
     where
       chosen : (b : Bool) → is_placed taken plan ≡ b → cond b None (Some taken) ≡ None → is_placed taken plan ≡ true

@@ -3,7 +3,7 @@ use Rattle.std.proofs.Common.{◌≡◌, ℕ, zero, suc, ◌+◌, ◌<◌, Bool,
 use Rattle.std.proofs.lemmas.Bool.{eq-eqb, lt-ltb, le-ltb, cases_lt}
 use Rattle.std.proofs.lemmas.Bool.Decides.{eqb_tells}
 use Rattle.std.proofs.lemmas.Option.{slice_get-map, slice_get-get_or, slice_get_within, get_or_from_slice_get}
-use Rattle.std.proofs.lemmas.List.{length-map, take_more}
+use Rattle.std.proofs.lemmas.List.{length-map, map-append, take_more}
 use Rattle.std.proofs.lemmas.Grind.{flat_map-append}
 use Rattle.mir_base.specs.declared.instructions.Operand.{Operand}
 use Rattle.mir_base.specs.declared.instructions.Operand.TheVariants.{Var, Const}
@@ -248,16 +248,11 @@ renamed_inst_vars to (Call (Some x) unit operands) = ap (λ l. to x ∷ l) (rena
 renamed_inst_vars to (Print a) = renamed_operand_vars to a
 renamed_inst_vars to (Return a) = renamed_operand_vars to a
 
--- a mapped join is the join of the mapped lists
-map_append : (f : ℕ → ℕ) (xs ys : List ℕ) → map f (xs ++ ys) ≡ map f xs ++ map f ys
-map_append f [] ys = refl
-map_append f (x ∷ xs) ys = ap (λ l. f x ∷ l) (map_append f xs ys)
-
 -- the variables of a renamed body are its variables renamed
 renamed_vars : (to : ℕ → ℕ) (body : List Inst) → flat_map inst_vars (map (renamed to) body) ≡ map to (flat_map inst_vars body)
 renamed_vars to [] = refl
 renamed_vars to (inst ∷ body) =
-    ap (λ l. l ++ flat_map inst_vars (map (renamed to) body)) (renamed_inst_vars to inst) ∙ ap (λ l. map to (inst_vars inst) ++ l) (renamed_vars to body) ∙ sym (map_append to (inst_vars inst) (flat_map inst_vars body))
+    ap (λ l. l ++ flat_map inst_vars (map (renamed to) body)) (renamed_inst_vars to inst) ∙ ap (λ l. map to (inst_vars inst) ++ l) (renamed_vars to body) ∙ sym (map-append to (inst_vars inst) (flat_map inst_vars body))
 
 -- one that stands in the front has its place there
 position_first : (s rest : List ℕ) (x : ℕ) → is_in x s ≡ true → position (s ++ rest) x < length s

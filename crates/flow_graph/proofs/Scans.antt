@@ -9,7 +9,8 @@ use Rattle.flow_graph.specs.declared.plan.Item.TheVariants.{Placed, Jump}
 use Rattle.flow_graph.specs.declared.nodes.Node.{Node}
 use Rattle.flow_graph.specs.declared.nodes.Node.TheVariants.{Start, Skip, Assign, Print, Call, Test, Return}
 use Rattle.flow_graph.specs.Graphs.{AllWithin, IsBelow, following, succs_of}
-use Rattle.flow_graph.specs.Plans.{after_node, first_open, is_placed, new_trace, next_item, open_at, or_else}
+use Rattle.std.specs.Option.{option_or}
+use Rattle.flow_graph.specs.Plans.{after_node, first_open, is_placed, new_trace, next_item, open_at}
 use Rattle.flow_graph.specs.Walks.{unmarked}
 use Rattle.flow_graph.specs.Placing.{ArePlaced, ItemsWithin, follower_of, open_by, open_by_item, open_if, open_item, AreClosed, FirstOpenIsAt, open_end, placed_after, plan_weight, taken_of}
 use Rattle.flow_graph.specs.MarkLaws.{unmarked_set}
@@ -80,7 +81,7 @@ reverse_take xs i x e = ap reverse (take_one xs i x e) ∙ reverse_more (take i 
 -- ---- the scan
 
 -- where the first choice is none, the second is taken
-or_none : (a b : Option ℕ) → a ≡ None → or_else a b ≡ b
+or_none : (a b : Option ℕ) → a ≡ None → option_or a b ≡ b
 or_none None b e = refl
 or_none (Some n) b e = cc
 
@@ -93,7 +94,7 @@ first_step nodes plan older (Jump n) e = e
 first_later : (nodes : List Node) (plan newer older : List Item) (t : ℕ) → first_open nodes plan older ≡ Some t → first_open nodes plan (newer ++ older) ≡ Some t
 first_later nodes plan [] older t e = e
 first_later nodes plan (Jump n ∷ newer) older t e = first_later nodes plan newer older t e
-first_later nodes plan (Placed n ∷ newer) older t e = ap (λ a. or_else a (open_at plan (slice_get nodes n))) (first_later nodes plan newer older t e)
+first_later nodes plan (Placed n ∷ newer) older t e = ap (λ a. option_or a (open_at plan (slice_get nodes n))) (first_later nodes plan newer older t e)
 
 -- an item that is closed leaves all closed
 pub scan_none : (nodes : List Node) (plan items : List Item) (i : ℕ) (item : Item) → slice_get items i ≡ Some item → first_open nodes plan (reverse (take i items)) ≡ None → open_item nodes plan item ≡ None → first_open nodes plan (reverse (take (i + 1) items)) ≡ None
@@ -169,8 +170,8 @@ still_closed nodes plan [] item e = refl
 still_closed nodes plan (Jump n ∷ older) item e = still_closed nodes plan older item e
 still_closed nodes plan (Placed n ∷ older) item e = chosen (first_open nodes plan older) refl (still_closed nodes plan older item) e
   where
-    chosen : (o : Option ℕ) → first_open nodes plan older ≡ o → (first_open nodes plan older ≡ None → first_open nodes (item ∷ plan) older ≡ None) → or_else o (open_at plan (slice_get nodes n)) ≡ None → or_else (first_open nodes (item ∷ plan) older) (open_at (item ∷ plan) (slice_get nodes n)) ≡ None
-    chosen None is ih h = ap (λ a. or_else a (open_at (item ∷ plan) (slice_get nodes n))) (ih is) ∙ still_closed_at plan item (slice_get nodes n) h
+    chosen : (o : Option ℕ) → first_open nodes plan older ≡ o → (first_open nodes plan older ≡ None → first_open nodes (item ∷ plan) older ≡ None) → option_or o (open_at plan (slice_get nodes n)) ≡ None → option_or (first_open nodes (item ∷ plan) older) (open_at (item ∷ plan) (slice_get nodes n)) ≡ None
+    chosen None is ih h = ap (λ a. option_or a (open_at (item ∷ plan) (slice_get nodes n))) (ih is) ∙ still_closed_at plan item (slice_get nodes n) h
     chosen (Some t) is ih h = cc
 
 -- what is closed stays closed when an item is added
@@ -231,7 +232,7 @@ first_within nodes plan [] t within e = cc
 first_within nodes plan (Jump n ∷ older) t within e = first_within nodes plan older t within e
 first_within nodes plan (Placed n ∷ older) t within e = chosen (first_open nodes plan older) (first_within nodes plan older t within) e
   where
-    chosen : (o : Option ℕ) → (o ≡ Some t → t < length nodes) → or_else o (open_at plan (slice_get nodes n)) ≡ Some t → t < length nodes
+    chosen : (o : Option ℕ) → (o ≡ Some t → t < length nodes) → option_or o (open_at plan (slice_get nodes n)) ≡ Some t → t < length nodes
     chosen None ih f = open_at_within nodes plan n t (slice_get nodes n) within refl f
     chosen (Some s) ih f = ih f
 

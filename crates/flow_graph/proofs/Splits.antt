@@ -1,11 +1,11 @@
 -- The test whether a graph is split.
-use Rattle.std.proofs.Common.{◌≡◌, ℕ, zero, suc, ◌+◌, ◌<◌, Bool, true, false, cond, ◌&&◌, IsTrue, inl, inr, drop, List, [], ◌∷◌, length, slice_get, Option, Some, None, refl, sym, ap, ◌∙◌, subst, arith}
+use Rattle.std.proofs.Common.{◌≡◌, ℕ, zero, suc, ◌+◌, ◌<◌, Bool, true, cond, ◌&&◌, IsTrue, inl, inr, drop, List, [], ◌∷◌, length, slice_get, Option, Some, None, refl, sym, ap, ◌∙◌, subst, arith}
 use Rattle.flow_graph.specs.declared.nodes.Node.{Node}
 use Rattle.flow_graph.specs.declared.nodes.Node.TheVariants.{Start, Skip, Assign, Print, Call, Test, Return}
 use Rattle.flow_graph.specs.Edges.{preds_of, IsSplit, is_skip_to, all_skips, enters_well}
 use Rattle.mir_base.specs.Shapes.{AllBelow}
 use Rattle.flow_graph.specs.ListLaws.{drop_at}
-use Rattle.std.proofs.lemmas.Bool.{eq-eqb, eqb-true, lt-ltb, le-ltb, cases_lt}
+use Rattle.std.proofs.lemmas.Bool.{and_parts, eq-eqb, eqb-true, lt-ltb, le-ltb, cases_lt}
 use Rattle.flow_graph.specs.PredLaws.{skip_once}
 
 -- ---- the test
@@ -21,16 +21,11 @@ skip_to to (Some (Call into unit operands next)) e = cc
 skip_to to (Some (Test test taken other)) e = cc
 skip_to to (Some (Return a)) e = cc
 
--- where both tests hold, each does
-both : (a b : Bool) → a && b ≡ true → (a ≡ true) × (b ≡ true)
-both true b e = (refl, e)
-both false b e = cc
-
 -- where all predecessors are tested to be Skips to the target, each is one
 all_at : (nodes : List Node) (to : ℕ) (preds : List ℕ) → all_skips nodes to preds ≡ true → (i n : ℕ) → slice_get preds i ≡ Some n → slice_get nodes n ≡ Some (Skip to)
 all_at nodes to [] e i n h = cc
-all_at nodes to (p ∷ preds) e zero n h = let same : p ≡ n = cc in ap (slice_get nodes) (sym same) ∙ skip_to to (slice_get nodes p) (both _ _ e).0
-all_at nodes to (p ∷ preds) e (suc i) n h = all_at nodes to preds (both (is_skip_to to (slice_get nodes p)) _ e).1 i n h
+all_at nodes to (p ∷ preds) e zero n h = let same : p ≡ n = cc in ap (slice_get nodes) (sym same) ∙ skip_to to (slice_get nodes p) (and_parts _ _ e).0
+all_at nodes to (p ∷ preds) e (suc i) n h = all_at nodes to preds (and_parts (is_skip_to to (slice_get nodes p)) _ e).1 i n h
 
 -- and the other way round
 at_all : (nodes : List Node) (to : ℕ) (preds : List ℕ) → ((i n : ℕ) → slice_get preds i ≡ Some n → slice_get nodes n ≡ Some (Skip to)) → all_skips nodes to preds ≡ true

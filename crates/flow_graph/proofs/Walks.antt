@@ -1,10 +1,8 @@
 -- What a walk keeps, and what it leaves.
 use Rattle.std.proofs.Common.{◌≡◌, ℕ, zero, suc, ◌<◌, ◌≤◌, Bool, true, false, cond, List, [], ◌∷◌, ◌++◌, length, slice_get, slice_set, slice_index_or, Option, Some, None, ◌⊎◌, inl, inr, refl, sym, ap, ◌∙◌, subst, arith, replicate, length-append}
-use Rattle.std.proofs.lemmas.Bool.{cases_eq}
 use Rattle.std.proofs.lemmas.List.{length-replicate, length-set}
-use Rattle.std.proofs.lemmas.Option.{slice_get_within}
-use Rattle.flow_graph.specs.ListLaws.{set_here, set_elsewhere}
-use Rattle.flow_graph.specs.MarkLaws.{unmarked_same, unmarked_set}
+use Rattle.flow_graph.specs.ListLaws.{set_here}
+use Rattle.flow_graph.specs.MarkLaws.{marked_before, set_keeps, unmarked_same, unmarked_set}
 use Rattle.flow_graph.specs.declared.nodes.Node.{Node}
 use Rattle.flow_graph.specs.BoundLaws.{slot_low}
 use Rattle.flow_graph.specs.Graphs.{IsEdge, Reached, at_start, along, node_succs, succs_of, succs_at, AllWithin, IsBelow}
@@ -12,19 +10,6 @@ use Rattle.flow_graph.specs.Kept.{MarkReached}
 use Rattle.flow_graph.specs.Numbering.{is_in}
 use Rattle.flow_graph.specs.Walks.{Walking, marks_after, stack_after, walk_weight}
 use Rattle.flow_graph.specs.NumberingLaws.{is_in_first, is_in_last, is_in_pushed}
-
--- ---- marks
-
--- a mark stays set
-pub set_keeps : (marks : List Bool) (s n : ℕ) → slice_get marks n ≡ Some true → slice_get (slice_set marks s true) n ≡ Some true
-set_keeps marks s n e = elim (cases_eq n s) [
-  | inl p ↦ subst (λ m. slice_get (slice_set marks m true) n ≡ Some true) p (set_here marks n true (slice_get_within marks n true e))
-  | inr other ↦ set_elsewhere marks s n true other ∙ e
-]
-
--- what is marked then was marked, or is the node
-pub marked_before : (marks : List Bool) (s n : ℕ) → slice_get (slice_set marks s true) n ≡ Some true → (n ≡ s) ⊎ (slice_get marks n ≡ Some true)
-marked_before marks s n e = elim (cases_eq n s) [ inl p ↦ inl p | inr other ↦ inr (sym (set_elsewhere marks s n true other) ∙ e) ]
 
 -- ---- one mark
 

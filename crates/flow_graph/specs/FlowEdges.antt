@@ -36,10 +36,6 @@ edge_at edges e = slice_index_or edges e (record { source = 0; target = 0 })
 abbrev pub IsFlowEdge : Bool → EdgesShape → ℕ → ℕ → ℕ → Type 0
 IsFlowEdge against edges number source target = slice_get (edges_along against edges) number ≡ Some (record { source = source; target = target })
 
--- each edge of the list leads from a node below this number to one
-abbrev pub HaveEndsBelow : ℕ → List Edge → Type 0
-HaveEndsBelow nodes edges = (e : ℕ) → e < length edges → ((edge_at edges e).source < nodes) × ((edge_at edges e).target < nodes)
-
 -- the edges of a flow lead from node to node, and those of one node stand together, from the first number of that node to
 -- the first one of the next
 pub record AreFlowEdges (nodes : ℕ) (edges : List Edge) (first : ℕ → ℕ) : Type 0 where

@@ -3,7 +3,7 @@
 -- result goes along the corresponding path of it. For proofs only, of motion_rewrite.
 use Rattle.std.proofs.Common.{◌≡◌, ℕ, zero, suc, ◌+◌, ◌<◌, ◌≤◌, Bool, true, false, not, ◌&&◌, if◌then◌else◌, nat_eq, List, [], ◌∷◌, ◌++◌, reverse, length, slice_get, ℤ, Option, Some, None, option_map, ◌⊎◌, inl, inr, refl, sym, ap, ◌∙◌, subst, arith, le_refl, append_assoc}
 use Rattle.std.proofs.lemmas.List.{reverse-append}
-use Rattle.std.proofs.lemmas.Bool.{cases_Bool, cases_lt, true≢false, false≢true}
+use Rattle.std.proofs.lemmas.Bool.{and_parts, cases_Bool, cases_lt, not-true, true≢false}
 use Rattle.mir_base.specs.declared.instructions.Operand.{Operand}
 use Rattle.mir_base.specs.declared.instructions.Rhs.{Rhs}
 use Rattle.mir_base.specs.declared.instructions.Test.{Test as MirTest}
@@ -40,16 +40,6 @@ use Rattle.flow_graph.specs.InsertionRuns.{values_after, none_traps, ValueRelati
 abbrev landed : ℕ → List Insertion → Frame → Frame
 landed n puts f = record { place = n; arguments = f.arguments; values = values_after puts f.values }
 
--- where both tests hold, each does
-both_true : (b c : Bool) → b && c ≡ true → (b ≡ true) × (c ≡ true)
-both_true true c e = (refl, e)
-both_true false c e = absurd (false≢true e)
-
--- what does not hold is false
-not_true : (b : Bool) → not b ≡ true → b ≡ false
-not_true true e = absurd (false≢true e)
-not_true false e = refl
-
 module _ (received : List ℕ) (nodes : List Node) where
   abbrev code_of : Code
   code_of = graph_code received nodes
@@ -71,8 +61,8 @@ module _ (received : List ℕ) (nodes : List Node) where
   chain_silent n k [] c f calm = (refl, refl)
   chain_silent n k (put ∷ puts) c f calm =
       let g = record f { values = with_value put.var (rhs_value f.values put.rhs) f.values } in
-      let both = both_true _ _ calm in
-      (at (entry_among n (suc k) puts) g, rhs_count put.rhs, weigh_all counts puts, one_calm k put.var (entry_among n (suc k) puts) put.rhs f c.0 (not_true _ both.0), chain_silent n (suc k) puts c.1 g both.1, refl)
+      let both = and_parts _ _ calm in
+      (at (entry_among n (suc k) puts) g, rhs_count put.rhs, weigh_all counts puts, one_calm k put.var (entry_among n (suc k) puts) put.rhs f c.0 (not-true _ both.0), chain_silent n (suc k) puts c.1 g both.1, refl)
 
   chain_traps : (n k : ℕ) (puts : List Insertion) → IsInsertionChain nodes n k puts → (f : Frame) → none_traps puts f.values ≡ false → (steps : ℕ) × TrapsAfter code_of steps (at (entry_among n k puts) f)
   chain_traps n k [] c f trap = absurd (true≢false trap)
@@ -414,8 +404,8 @@ module _ (r : Rewriting) (extra : List (List ℕ)) (graph : GraphShape) (Holds :
   along_chain n k (put ∷ puts) c rest g answers calm goes =
       let over = through (suc k) puts (n ∷ rest) in
       let h = record g { values = with_value put.var (rhs_value g.values put.rhs) g.values } in
-      let both = both_true _ _ calm in
-      (refl, subst (λ t. StepsAlong over (GoesAlong code' over) t answers) (sym (one_calm graph.received raw k put.var (entry_among n (suc k) puts) put.rhs g c.0 (not_true _ both.0))) (along_chain n (suc k) puts c.1 rest h answers both.1 goes))
+      let both = and_parts _ _ calm in
+      (refl, subst (λ t. StepsAlong over (GoesAlong code' over) t answers) (sym (one_calm graph.received raw k put.var (entry_among n (suc k) puts) put.rhs g c.0 (not-true _ both.0))) (along_chain n (suc k) puts c.1 rest h answers both.1 goes))
 
   -- no run that will trap goes along a path to a return
   trap_returns : (z : ℕ) (path : List ℕ) (f : Frame) (answers : List Answer) → TrapsAfter code z f → GoesAlong code path f answers → ⊥

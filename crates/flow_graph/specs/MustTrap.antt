@@ -15,7 +15,7 @@ use Rattle.mir_base.specs.EqualValues.{EqualOn, traps_equal}
 use Rattle.flow_graph.specs.Graphs.{GraphShape, node_succs, assigns}
 use Rattle.flow_graph.specs.InsertionRuns.{TrapsAfter}
 use Rattle.flow_graph.specs.Machines.{node_transition, graph_code}
-use Rattle.flow_graph.specs.Sinking.{NoneSet}
+use Rattle.flow_graph.specs.VarLaws.{NoneAssigned}
 
 -- the node shows nothing and goes on
 abbrev pub goes_silently : Node → Bool
@@ -28,13 +28,13 @@ goes_silently _ = false
 -- evaluates this right side
 pub data MustEvaluate (graph : GraphShape) (rhs : Rhs) : ℕ → ℕ → Type 0 where
   evaluates : (k n x next : ℕ) → slice_get graph.nodes n ≡ Some (Assign x rhs next) → MustEvaluate graph rhs k n
-  onward : (k n : ℕ) (node : Node) → slice_get graph.nodes n ≡ Some node → goes_silently node ≡ true → NoneSet graph node (rhs_vars rhs) → ((slot s : ℕ) → slice_get (node_succs node) slot ≡ Some s → MustEvaluate graph rhs k s) → MustEvaluate graph rhs (suc k) n
+  onward : (k n : ℕ) (node : Node) → slice_get graph.nodes n ≡ Some node → goes_silently node ≡ true → NoneAssigned graph node (rhs_vars rhs) → ((slot s : ℕ) → slice_get (node_succs node) slot ≡ Some s → MustEvaluate graph rhs k s) → MustEvaluate graph rhs (suc k) n
 
 module _ (graph : GraphShape) (rhs : Rhs) where
   abbrev code : Code
   code = graph_code graph.received graph.nodes
 
-  still_traps : (x : ℕ) (c : ℤ) (v : Values) (node : Node) (xs : List ℕ) → ((y : ℕ) → assigns graph y node ≡ nat_eq y x) → NoneSet graph node xs → EqualOn xs (with_value x c v) v
+  still_traps : (x : ℕ) (c : ℤ) (v : Values) (node : Node) (xs : List ℕ) → ((y : ℕ) → assigns graph y node ≡ nat_eq y x) → NoneAssigned graph node xs → EqualOn xs (with_value x c v) v
   still_traps x c v node [] is none = tt
   still_traps x c v node (y ∷ xs) is none = (ap (λ b. (if b then c else v y)) (sym (is y) ∙ none.0), still_traps x c v node xs is none.1)
 

@@ -1,6 +1,7 @@
 -- The order in which the nodes of a graph are laid out, in traces: each later trace begins at the `taken` of a Test,
 -- where that has no place yet, and ends in a Return or a jump. Cited by contracts of `layout`.
 use Rattle.std.specs.Prelude.{◌≡◌, ℕ, Bool, false, if◌then◌else◌, nat_eq, ◌||◌, List, [], ◌∷◌, slice_get, Option, Some, None, option_map}
+use Rattle.std.specs.Option.{option_or}
 use Rattle.flow_graph.specs.declared.plan.Item.{Item}
 use Rattle.flow_graph.specs.declared.plan.Item.TheVariants.{Placed, Jump}
 use Rattle.flow_graph.specs.declared.nodes.Node.{Node}
@@ -18,16 +19,11 @@ abbrev pub open_at : List Item → Option Node → Option ℕ
 open_at plan (Some (Test test taken other)) = if is_placed taken plan then None else Some taken
 open_at plan _ = None
 
--- the first of two numbers that is there
-abbrev pub or_else : Option ℕ → Option ℕ → Option ℕ
-or_else None second = second
-or_else (Some n) second = Some n
-
 -- of the Tests among these items, in the order of placing, the first whose `taken` successor the plan has not placed:
 -- that successor
 abbrev pub first_open : List Node → List Item → List Item → Option ℕ
 first_open nodes plan [] = None
-first_open nodes plan (Placed n ∷ older) = or_else (first_open nodes plan older) (open_at plan (slice_get nodes n))
+first_open nodes plan (Placed n ∷ older) = option_or (first_open nodes plan older) (open_at plan (slice_get nodes n))
 first_open nodes plan (Jump n ∷ older) = first_open nodes plan older
 
 -- a new trace begins there

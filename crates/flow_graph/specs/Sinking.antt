@@ -17,6 +17,7 @@ use Rattle.flow_graph.specs.InsertionRuns.{values_after, none_traps, BothAssign,
 use Rattle.flow_graph.specs.Insertions.{Insertion, Kept, Replaced, Removed, Rewriting, CanRewrite, rewritten_nodes}
 use Rattle.flow_graph.specs.Machines.{graph_machine}
 use Rattle.flow_graph.specs.Paths.{HasEdge}
+use Rattle.flow_graph.specs.VarLaws.{NoneAssigned}
 
 -- ---- insertions that leave each other alone
 
@@ -90,11 +91,6 @@ puts_never_trap (put ∷ puts) never w = ap (λ b. not b && none_traps puts (wit
 
 -- ---- what is delayed
 
--- the node assigns none of these
-abbrev pub NoneSet : GraphShape → Node → List ℕ → Type 0
-NoneSet graph node [] = Unit {0}
-NoneSet graph node (x ∷ xs) = (assigns graph x node ≡ false) × NoneSet graph node xs
-
 -- nothing is put for these
 abbrev pub NonePut : List Insertion → List ℕ → Type 0
 NonePut puts [] = Unit {0}
@@ -119,7 +115,7 @@ pub record Sinks (graph : GraphShape) (r : Rewriting) (late : ℕ → ℕ → Op
   pub lost : (n s x : ℕ) → HasEdge graph.nodes n s → late s x ≡ None → late n x ≡ put_for (r.inserts n) x
   pub back : (n s x : ℕ) (rhs : Rhs) (node : Node) → slice_get graph.nodes n ≡ Some node → HasEdge graph.nodes n s → late s x ≡ Some rhs
       → ((r.changes n ≡ Removed) × ((next : ℕ) × (node ≡ Assign x rhs next)))
-      ⊎ ((assigns graph x node ≡ false) × (NoneSet graph node (rhs_vars rhs) × ((late n x ≡ Some rhs) × NonePut (r.inserts n) (rhs_vars rhs))))
+      ⊎ ((assigns graph x node ≡ false) × (NoneAssigned graph node (rhs_vars rhs) × ((late n x ≡ Some rhs) × NonePut (r.inserts n) (rhs_vars rhs))))
   -- what is removed never traps, and is delayed from there
   pub removed : (n s x : ℕ) (rhs : Rhs) → slice_get graph.nodes n ≡ Some (Assign x rhs s) → r.changes n ≡ Removed → (late s x ≡ Some rhs) × ((v : Values) → rhs_traps v rhs ≡ false)
 
@@ -148,7 +144,7 @@ module _ (r : Rewriting) (extra : List (List ℕ)) (graph : GraphShape) (late : 
     delayed_equal : (x : ℕ) (rhs : Rhs) → late n x ≡ Some rhs → NonePut (r.inserts n) (rhs_vars rhs) → v x ≡ rhs_value w' rhs
     delayed_equal x rhs is none = delayed.each x ∙ ap (delayed_value w x) is ∙ sym (rhs_equal w' w rhs (none_equal (rhs_vars rhs) none))
 
-    set_equal : (node : Node) (v1 w1 : Values) → ((x : ℕ) → assigns graph x node ≡ false → w1 x ≡ w' x) → (xs : List ℕ) → NoneSet graph node xs → EqualOn xs w1 w'
+    set_equal : (node : Node) (v1 w1 : Values) → ((x : ℕ) → assigns graph x node ≡ false → w1 x ≡ w' x) → (xs : List ℕ) → NoneAssigned graph node xs → EqualOn xs w1 w'
     set_equal node v1 w1 keeps [] none = tt
     set_equal node v1 w1 keeps (x ∷ xs) none = (keeps x none.0, set_equal node v1 w1 keeps xs none.1)
 

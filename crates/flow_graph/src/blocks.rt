@@ -1,6 +1,6 @@
 // The blocks of a graph.
-ghost use Rattle.std.specs.Prelude.{◌≡◌, ◌≢◌, ℕ, ◌+◌, ◌<◌, ◌++◌, [], ◌∷◌, length, replicate, slice_get, slice_index_or, slice_set, Some, IfOk, OnOk};
-ghost use Rattle.flow_graph.specs.Blocks.{AreBlocksOf, AreOnlyBlocks, AreStored, IsFirst, IsBlockSoFar, IsGlued, IsLast, IsPlaced, StandsIn, is_first, next_of, only, IsUnplaced, GluedToPlaced, IsFollowedBlock};
+ghost use Rattle.std.specs.Prelude.{◌≡◌, ◌+◌, ◌<◌, ◌++◌, [], ◌∷◌, length, slice_get, slice_set, Some, IfOk, OnOk};
+ghost use Rattle.flow_graph.specs.Blocks.{AreBlocksOf, AreOnlyBlocks, AreStored, IsFirst, StandsIn, is_first, next_of, only, IsUnplaced, GluedToPlaced, IsFollowedBlock};
 ghost use Rattle.flow_graph.specs.Edges.{edges_of};
 ghost use Rattle.flow_graph.specs.Graphs.{succs_at};
 
@@ -11,9 +11,9 @@ use std::alloc::Global;
 use std::marker::Model;
 
 /// The blocks of a graph. A block is a longest list of nodes in which each but the last is no Test and has the next as
-/// its successor, and each but the first is entered by one edge. So a path that comes to a block's first node passes all
-/// its nodes in this order, or ends in it. Every node stands in exactly one block, and the blocks are numbered from 0 in
-/// order of their first nodes. Contracts see them as the number of nodes and the list of the blocks.
+/// its successor, and each but the first is entered by one edge. So a path that comes to a block's first node passes
+/// all its nodes in this order, or ends in it. Every node stands in exactly one block, and the blocks are numbered from
+/// 0 in order of their first nodes. Contracts see them as the number of nodes and the list of the blocks.
 #[derive(Drop)]
 pub struct Blocks {
     order: Items<usize>,

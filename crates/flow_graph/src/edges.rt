@@ -1,5 +1,5 @@
 // The edges of a graph, by source and by target.
-ghost use Rattle.std.specs.Prelude.{◌≡◌, ◌<◌, ◌≤◌, length, slice_get, slice_range, suc, IfOk, Some, ◌+◌};
+ghost use Rattle.std.specs.Prelude.{◌≡◌, ◌<◌, length, slice_get, suc, IfOk, Some};
 ghost use Rattle.flow_graph.specs.Edges.{by_target, edges_of, first_entering, first_leaving, preds_among};
 
 use crate::Graph;

@@ -1,8 +1,9 @@
-// Edits of a graph: new assignments before nodes, and changed assignments, with no memory but at the beginning and the end.
-ghost use Rattle.std.specs.Prelude.{◌≡◌, [], ◌∷◌, ◌++◌, ◌+◌, ◌<◌, ◌≤◌, ℕ, nat_lt, length, slice_get, slice_index_or, take, IfOk, IsTrue, OnOk, Some};
+// Edits of a graph: new assignments before nodes, and changed assignments, with no memory but at the beginning and the
+// end.
+ghost use Rattle.std.specs.Prelude.{◌≡◌, [], ◌∷◌, ◌++◌, ◌+◌, ◌<◌, ◌≤◌, ℕ, nat_lt, length, slice_get, take, IfOk, IsTrue, Some};
 ghost use Rattle.mir_base.specs.Shapes.{AllBelow, AllDiffer, rhs_vars};
-ghost use Rattle.node_list.specs.Lists.{is_listed, list_at, node_after};
-ghost use Rattle.flow_graph.specs.Edited.{edited_from, leads, number_or_none, AreFirsts, OldsLeadToOlds};
+ghost use Rattle.node_list.specs.Lists.{is_listed, list_at};
+ghost use Rattle.flow_graph.specs.Edited.{edited_from, leads, AreFirsts, OldsLeadToOlds};
 ghost use Rattle.flow_graph.specs.Editing.{change_to, graph_changed, graph_extended, graph_put, is_assignment, rhs_below};
 ghost use Rattle.flow_graph.specs.Graphs.{SuccsBelow};
 ghost use Rattle.flow_graph.specs.Insertions.{changed};
@@ -20,8 +21,9 @@ use std::mem;
 /// A graph that is being edited: `open` takes a graph, `put_before` and `change` edit it, and `close` gives the graph.
 /// Contracts see it as the graph as it stands and the number of assignments for which there is still room.
 ///
-/// Each old node has a list of nodes that ends with it: the new ones before it, in order, and then the node. An edge of an
-/// old node leads to the first node of its target's list; the edge of a new node leads to the next node of its own list.
+/// Each old node has a list of nodes that ends with it: the new ones before it, in order, and then the node. An edge of
+/// an old node leads to the first node of its target's list; the edge of a new node leads to the next node of its own
+/// list.
 #[derive(Drop)]
 pub struct Editor {
     name: Name,
@@ -58,8 +60,8 @@ impl Model for Editor {
 
 impl Editor {
     /// The graph with the variables `extra` after its own, and with room for `room` new assignments. The names of the
-    /// graph's variables and of `extra` together are distinct. All memory for the edits is allocated here. It fails only
-    /// with `Memory`.
+    /// graph's variables and of `extra` together are distinct. All memory for the edits is allocated here. It fails
+    /// only with `Memory`.
     pub fn open(
         alloc: Global,
         graph: &Graph,
@@ -90,9 +92,9 @@ impl Editor {
         })
     }
 
-    /// Puts the assignment of `rhs` to the variable `x` before `node`. It gets the next number, all edges that entered the
-    /// node enter it, and its successor is the node. There is room for it, `node` is a node of the graph and not Start,
-    /// and `x` and the variables of `rhs` are variables of the graph. It does not allocate.
+    /// Puts the assignment of `rhs` to the variable `x` before `node`. It gets the next number, all edges that entered
+    /// the node enter it, and its successor is the node. There is room for it, `node` is a node of the graph and not
+    /// Start, and `x` and the variables of `rhs` are variables of the graph. It does not allocate.
     pub fn put_before(&mut self, node: usize, x: usize, rhs: Rhs)
         requires spare { 1 ≤ self.old.spare }
         requires some { 1 ≤ node }
@@ -108,8 +110,8 @@ impl Editor {
         self.used = new + 1;
     }
 
-    /// Gives an assignment the right side `rhs`, or makes it a Skip where `rhs` is `None`. `node` is an assignment, and the
-    /// variables of `rhs` are variables of the graph. It does not allocate.
+    /// Gives an assignment the right side `rhs`, or makes it a Skip where `rhs` is `None`. `node` is an assignment, and
+    /// the variables of `rhs` are variables of the graph. It does not allocate.
     pub fn change(&mut self, node: usize, rhs: Option<Rhs>)
         requires node { IsTrue (is_assignment (slice_get self.old.graph.nodes node)) }
         requires rhs { rhs_below (length self.old.graph.vars) rhs }

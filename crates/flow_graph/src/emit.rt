@@ -1,5 +1,5 @@
 // The instructions that a plan emits.
-ghost use Rattle.std.specs.Prelude.{◌≡◌, ℕ, ◌+◌, ◌^◌, ◌<◌, ◌≤◌, [], ◌∷◌, ◌++◌, length, reverse, replicate, slice_index_or, IfOk, OnOk, Some};
+ghost use Rattle.std.specs.Prelude.{◌≡◌, ◌+◌, ◌^◌, ◌<◌, ◌≤◌, [], ◌∷◌, ◌++◌, length, reverse, IfOk, OnOk, Some};
 ghost use Rattle.std.specs.Option.{option_to_list};
 ghost use Rattle.flow_graph.specs.Graphs.{AllWithin, IsBelow};
 ghost use Rattle.flow_graph.specs.Layouts.{emitted_by, item_insts, item_size, plain_body};

@@ -1,7 +1,7 @@
 // Graphs from lists of nodes: the nodes that are reached are kept and renumbered.
-ghost use Rattle.std.specs.Prelude.{◌≡◌, ℕ, ◌<◌, [], ◌∷◌, ◌++◌, cond, length, map, IfOk, OnOk, if◌then◌else◌};
+ghost use Rattle.std.specs.Prelude.{◌≡◌, ◌<◌, [], ◌∷◌, ◌++◌, length, IfOk, OnOk, if◌then◌else◌};
 ghost use Rattle.flow_graph.specs.Graphs.{AllWithin, CanMake};
-ghost use Rattle.flow_graph.specs.Kept.{redirected, marked_below, marked, AreRanks, IsMade, kept_nodes};
+ghost use Rattle.flow_graph.specs.Kept.{marked, AreRanks, IsMade, kept_nodes};
 
 use crate::nodes::redirect;
 use crate::reach::reach;

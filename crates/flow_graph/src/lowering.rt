@@ -1,5 +1,5 @@
 // The graph of a unit.
-ghost use Rattle.std.specs.Prelude.{◌≡◌, ℕ, ◌+◌, ◌-◌, ◌^◌, ◌<◌, length, Some, All, IfOk};
+ghost use Rattle.std.specs.Prelude.{◌≡◌, ◌+◌, ◌-◌, ◌^◌, ◌<◌, length, Some, All, IfOk};
 ghost use Rattle.mir_base.specs.Shapes.{inst_vars, receives_in, AllBelow, IsTidy};
 ghost use Rattle.flow_graph.specs.Graphs.{IsBelow};
 ghost use Rattle.flow_graph.specs.Keeps.{AsGraph, AsUnit, Keeps};

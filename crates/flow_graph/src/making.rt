@@ -1,8 +1,8 @@
 // Graphs from other graphs: a pass writes a list of nodes, and the graph of those that are reached is made of it.
-ghost use Rattle.std.specs.Prelude.{◌≡◌, ◌<◌, ℕ, length, IfOk};
+ghost use Rattle.std.specs.Prelude.{◌≡◌, ◌<◌, IfOk};
 ghost use Rattle.mir_base.specs.UnitRuns.{UnitCheaper, UnitSame};
 ghost use Rattle.flow_graph.specs.Calls.{NodesCall, CallsAmong};
-ghost use Rattle.flow_graph.specs.Graphs.{CanMake, Reached, AllReached};
+ghost use Rattle.flow_graph.specs.Graphs.{CanMake, AllReached};
 ghost use Rattle.flow_graph.specs.Kept.{IsMade};
 ghost use Rattle.flow_graph.specs.Machines.{graph_machine, machine_of};
 

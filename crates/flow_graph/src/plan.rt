@@ -1,5 +1,5 @@
 // The order in which the nodes of a graph are laid out.
-ghost use Rattle.std.specs.Prelude.{◌≡◌, ℕ, ◌+◌, ◌<◌, ◌≤◌, [], ◌∷◌, ◌++◌, cond, false, length, reverse, slice_get, slice_index_or, IfOk, OnOk, Some, None};
+ghost use Rattle.std.specs.Prelude.{◌≡◌, ◌+◌, ◌<◌, [], ◌∷◌, ◌++◌, cond, false, length, reverse, slice_index_or, IfOk, OnOk, Some, None};
 ghost use Rattle.flow_graph.specs.Graphs.{AllWithin, IsBelow, following};
 ghost use Rattle.flow_graph.specs.Placing.{AreClosed, ArePlaced, ItemsWithin, FirstOpenIsAt, follower_of, open_by, open_by_item, placed_after, taken_of};
 ghost use Rattle.flow_graph.specs.declared.plan.Item.TheVariants.{Jump, Placed};

@@ -1,6 +1,6 @@
 // The variables that occur in a body, in the order of their first occurrence.
 ghost use Rattle.std.specs.Prelude.{◌≡◌, ◌<◌, [], ◌∷◌, ◌++◌, flat_map, length, IfOk, OnOk};
-ghost use Rattle.mir_base.specs.Shapes.{AllBelow, inst_vars, into_vars, operand_vars, rhs_vars, test_vars};
+ghost use Rattle.mir_base.specs.Shapes.{AllBelow, inst_vars, into_vars, operand_vars, rhs_vars};
 ghost use Rattle.flow_graph.specs.Numbering.{position, seen_after, seen_in};
 
 use mir_base::{Inst, Memory, Operand, Rhs, Test};
@@ -94,32 +94,6 @@ impl SeenVars {
         Ok(())
     }
 
-    /// Sees the variables of a right side.
-    fn see_rhs(&mut self, rhs: Rhs) -> Result<(), Memory>
-        requires { AllBelow self.old.vars (rhs_vars rhs) }
-        ensures vars { self.new.vars ≡ self.old.vars }
-        ensures seen { OnOk result (self.new.seen ≡ seen_after self.old.seen (rhs_vars rhs)) }
-    {
-        match rhs {
-            Rhs::Plain(a) => self.see_operand(a),
-            Rhs::Unary(_, a) => self.see_operand(a),
-            Rhs::Binary(_, a, b) => self.see_two(a, b),
-        }
-    }
-
-    /// Sees the variables of a test.
-    fn see_test(&mut self, test: Test) -> Result<(), Memory>
-        requires { AllBelow self.old.vars (test_vars test) }
-        ensures vars { self.new.vars ≡ self.old.vars }
-        ensures seen { OnOk result (self.new.seen ≡ seen_after self.old.seen (test_vars test)) }
-    {
-        match test {
-            Test::Rel(_, a, b) => self.see_two(a, b),
-            Test::Holds(a) => self.see_operand(a),
-            Test::Fails(a) => self.see_operand(a),
-        }
-    }
-
     /// Sees the variables of several operands.
     fn see_operands(&mut self, operands: &[Operand]) -> Result<(), Memory>
         requires { AllBelow self.old.vars (flat_map operand_vars operands.now) }
@@ -140,8 +114,11 @@ impl SeenVars {
         ensures seen { OnOk result (self.new.seen ≡ seen_after self.old.seen (x ∷ rhs_vars rhs)) }
     {
         self.see(x)?;
-        self.see_rhs(rhs)?;
-        Ok(())
+        match rhs {
+            Rhs::Plain(a) => self.see_operand(a),
+            Rhs::Unary(_, a) => self.see_operand(a),
+            Rhs::Binary(_, a, b) => self.see_two(a, b),
+        }
     }
 
     /// Sees the variables of a call: the one that gets the result first.
@@ -171,7 +148,9 @@ impl SeenVars {
             Inst::Receive(x) => self.see(*x),
             Inst::Assign(x, rhs) => self.see_assign(*x, *rhs),
             Inst::Goto(_) => Ok(()),
-            Inst::If(test, _) => self.see_test(*test),
+            Inst::If(Test::Rel(_, a, b), _) => self.see_two(*a, *b),
+            Inst::If(Test::Holds(a), _) => self.see_operand(*a),
+            Inst::If(Test::Fails(a), _) => self.see_operand(*a),
             Inst::Call(into, _, args) => self.see_call(*into, args.items()),
             Inst::Print(a) => self.see_operand(*a),
             Inst::Return(a) => self.see_operand(*a),

@@ -75,7 +75,7 @@ module _ (steps : ℕ → ℕ → Type 0) (seed block : ℕ → Bool) where
   ]
 
   -- and so it is with a run
-  pub run_sound : (path : List ℕ) (x : Bool) (i n : ℕ) → IsRun steps path → ((m : ℕ) → slice_get path 0 ≡ Some m → x ≡ true → block m ≡ false → Led m) → slice_get path i ≡ Some n → passed_all seed block x (take (suc i) path) ≡ true → Led n
+  run_sound : (path : List ℕ) (x : Bool) (i n : ℕ) → IsRun steps path → ((m : ℕ) → slice_get path 0 ≡ Some m → x ≡ true → block m ≡ false → Led m) → slice_get path i ≡ Some n → passed_all seed block x (take (suc i) path) ≡ true → Led n
   run_sound [] x i n is from e on = absurd is
   run_sound (p ∷ []) x zero n is from e on = let same : p ≡ n = cc in subst Led same (run_one p x (from p refl) on)
   run_sound (p ∷ []) x (suc i) n is from e on = cc
@@ -121,18 +121,8 @@ module _ (steps : ℕ → ℕ → Type 0) (seed block : ℕ → Bool) where
 
     -- the bits of blocks, and what comes to each
     module _ (w x : ℕ → Bool) (w_is : (c : ℕ) → c < count → (w c ≡ true) ↔ Leads between block_seed block_stop c) (x_sound : (c : ℕ) → c < count → x c ≡ true → (d : ℕ) × between c d × (w d ≡ true)) (x_complete : (c d : ℕ) → c < count → between c d → w d ≡ true → x c ≡ true) where
-      pub comes_sound : (c m : ℕ) → c < count → slice_get (paths c) 0 ≡ Some m → x c ≡ true → (k : ℕ) × steps m k × Led k
-      comes_sound c m h first on =
-          let come = x_sound c h on in
-          let s = are.sound c come.0 come.1 in
-          let both : Some s.2.0 ≡ Some m = sym s.2.3 ∙ first in
-          let same : s.2.0 ≡ m = cc in
-          (s.2.1, subst (λ j. steps j s.2.1) same s.2.6, last_leads come.0 s.1 ((w_is come.0 s.1).0 come.2) s.2.1 (s.2.2, s.2.4, s.2.5))
-
-      pub after_sound : (c i n : ℕ) → c < count → slice_get (paths c) i ≡ Some n → passed_all seed block (x c) (take (suc i) (paths c)) ≡ true → Led n
-      after_sound c i n h at on = run_sound (paths c) (x c) i n (are.runs c h) (λ m first came free. let s = comes_sound c m h first came in one_more m s.0 s.1 free s.2) at on
-
-      last_on : (d : ℕ) → d < count → passed_all seed block (x d) (paths d) ≡ true → w d ≡ true
+      -- what comes out of a block's nodes comes out of the block
+      pub last_on : (d : ℕ) → d < count → passed_all seed block (x d) (paths d) ≡ true → w d ≡ true
       last_on d h on = elim (or_cases (block_seed d) (x d && not (block_stop d)) (sym (passed_apart seed block (paths d) (x d)) ∙ on)) as (λ _. w d ≡ true) [
         | inl here ↦ (w_is d h).1 (at_seed d here)
         | inr came ↦
@@ -155,19 +145,3 @@ module _ (steps : ℕ → ℕ → Type 0) (seed block : ℕ → Bool) where
           let same : k ≡ back.0 = back.3 k step in
           let on = after_complete k rest c i h (back.1 ∙ ap Some (sym same)) in
           passed_next seed block (paths c) (suc i) n (x c) at ∙ or_right (seed n) (passed_all seed block (x c) (take (suc i) (paths c)) && not (block n)) (rw (on, free) refl)
-
-      -- before a node: what comes to it from where it steps back to
-      pub before_sound : (c i n : ℕ) → c < count → slice_get (paths c) i ≡ Some n → passed_all seed block (x c) (take i (paths c)) ≡ true → (k : ℕ) × steps n k × Led k
-      before_sound c zero n h at on = comes_sound c n h at on
-      before_sound c (suc i) n h at on = let back = run_back (paths c) i n (are.runs c h) at in (back.0, back.2, after_sound c i back.0 h back.1 on)
-
-      pub before_complete : (c i n k : ℕ) → c < count → slice_get (paths c) i ≡ Some n → steps n k → Led k → passed_all seed block (x c) (take i (paths c)) ≡ true
-      before_complete c zero n k h at step leads =
-          let out = are.complete c n k h at step in
-          let d_in = (are.sound c out.0 out.2).1 in
-          let on = after_complete k leads out.0 out.1 d_in out.3 in
-          x_complete c out.0 h out.2 (last_on out.0 d_in (ap (passed_all seed block (x out.0)) (sym (take_all (suc out.1) (paths out.0) (omega (arith, out.4)))) ∙ on))
-      before_complete c (suc i) n k h at step leads =
-          let back = run_back (paths c) i n (are.runs c h) at in
-          let same : k ≡ back.0 = back.3 k step in
-          after_complete k leads c i h (back.1 ∙ ap Some (sym same))

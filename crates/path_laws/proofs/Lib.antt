@@ -8,7 +8,7 @@ pub mod Joining
 pub mod RowBits
 pub mod Ways
 pub mod Places
-pub mod Filled
+pub mod Growing
 pub mod Handed
 pub mod Counting
 pub mod Told

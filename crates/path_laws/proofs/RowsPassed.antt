@@ -1,19 +1,24 @@
 -- Rows of blocks while their bits pass nodes.
-use Rattle.std.proofs.Common.{◌≡◌, ◌≢◌, ℕ, ◌<◌, ◌↔◌, Bool, true, false, not, ◌||◌, ◌&&◌, cond, List, [], ◌∷◌, ◌++◌, length, get_or, slice_get, refl, sym, ap, inl, inr, ◌∙◌}
-use Rattle.flow_graph.specs.ListLaws.{get_push}
-use Rattle.std.proofs.Math.Bool.{or-false, or_comm}
+use Rattle.std.proofs.Common.{◌≡◌, ℕ, suc, ◌+◌, ◌<◌, ◌≤◌, Bool, true, false, not, ◌||◌, ◌&&◌, cond, List, [], ◌∷◌, ◌++◌, length, length-append, get_or, replicate, set, slice_get, take, Some, refl, sym, ap, inl, inr, arith, ◌∙◌}
+use Rattle.std.proofs.Math.Bool.{or-false, or-true, or_comm}
+use Rattle.std.proofs.Math.Seq.{get_or-append_seam}
 use Rattle.std.proofs.lemmas.Bool.{cases_eq}
+use Rattle.std.proofs.lemmas.List.{get_or-map, get_or-replicate, get_or_append_left, length-map, length-replicate, take_all}
+use Rattle.std.proofs.lemmas.Option.{slice_get-get_or}
+use Rattle.flow_graph.specs.ListLaws.{take_next}
+use Rattle.node_list.specs.Lists.{list_at}
 use Rattle.bit_rows.specs.BitLaws.{length_minus, length_not, length_or, minus_bit, not_bit, or_bit}
 use Rattle.bit_rows.specs.Bits.{minus_bits, not_bits, or_bits, row_of}
 use Rattle.flow_graph.specs.declared.nodes.Node.{Node}
-use Rattle.path_laws.specs.Blockwise.{HasAnswer, AreAnswered, ArePassed, AreStopped, blocks_some, passed, passed_all}
+use Rattle.path_laws.specs.Blockwise.{AreStopped, blocks_some, flow_order, passed, passed_all}
 use Rattle.path_laws.specs.Paths.{AreRows, has_bit}
 use Rattle.path_laws.specs.declared.problems.Problem.{Problem}
-use Rattle.path_laws.specs.Problem.{IsProblem, is_blocked, is_seed, row_after}
-use Rattle.path_laws.specs.RowLaws.{Written, written_shape}
+use Rattle.path_laws.specs.Problem.{IsProblem, block_seeds, is_blocked, is_seed, orders, row_after, row_through}
+use Rattle.path_laws.specs.RowLaws.{Written, put, written_shape}
 use Rattle.path_laws.specs.Seeds.{blocks_of, is_end, passed_row, seeds_of}
-use Rattle.path_laws.proofs.Chains.{blocks_append, passed_append}
+use Rattle.path_laws.proofs.Chains.{blocks_append}
 use Rattle.path_laws.proofs.Complements.{seed_bit}
+use Rattle.path_laws.proofs.Places.{flow_within}
 
 -- ---- one node
 
@@ -28,14 +33,12 @@ stop_first false false k = refl
 
 -- and where they end: all but what is born
 at_end : (x s k : Bool) → not k ≡ (((s || true) && not k) || (x && not k))
-at_end true true true = refl
-at_end true true false = refl
-at_end true false true = refl
-at_end true false false = refl
-at_end false true true = refl
-at_end false true false = refl
-at_end false false true = refl
-at_end false false false = refl
+at_end x s k = absorbs x (not k) ∙ ap (λ e. (e && not k) || (x && not k)) (sym (or-true s))
+  where
+    absorbs : (x m : Bool) → m ≡ (m || (x && m))
+    absorbs x true = refl
+    absorbs true false = refl
+    absorbs false false = refl
 
 module _ (against : Bool) (nodes : List Node) (bits : ℕ) (born stop : List (List Bool)) (born_rows : AreRows (length nodes) bits born) (stop_rows : AreRows (length nodes) bits stop) (n : ℕ) (n_in : n < length nodes) (row : List Bool) (long : length row ≡ bits) where
   as_born : length row ≡ length (row_of born n)
@@ -81,59 +84,119 @@ length_after p is n h row long = length_passed p.against p.graph.now.nodes p.bit
 pub bit_after : (p : Problem) → IsProblem p → (n : ℕ) → n < length p.graph.now.nodes → (row : List Bool) → length row ≡ p.bits → (b : ℕ) → b < p.bits → get_or (row_after p n row) b false ≡ passed (is_seed p b) (is_blocked p b) n (get_or row b false)
 bit_after p is n h row long b l = passed_bit p.against p.graph.now.nodes p.bits p.born.now p.stop.now is.flow.born_rows is.flow.stop_rows n h row long p.every b l
 
+-- ---- along the nodes of a block
+
+-- a row goes along the first nodes, and then along the others
+pub through_append : (p : Problem) (xs ys : List ℕ) (row : List Bool) → row_through p (xs ++ ys) row ≡ row_through p ys (row_through p xs row)
+through_append p [] ys row = refl
+through_append p (n ∷ xs) ys row = through_append p xs ys (row_after p n row)
+
+-- and so along one node more
+pub through_next : (p : Problem) (xs : List ℕ) (i n : ℕ) (row : List Bool) → slice_get xs i ≡ Some n → row_through p (take (i + 1) xs) row ≡ row_after p n (row_through p (take i xs) row)
+through_next p xs i n row at =
+    let one : i + 1 ≡ suc i = omega arith in
+    ap (λ k. row_through p (take k xs) row) one ∙ ap (λ l. row_through p l row) (take_next xs i n at) ∙ through_append p (take i xs) (n ∷ []) row
+
+-- what comes out of a block where nothing comes to it
+pub seed_row_is : (p : Problem) (c : ℕ) → c < length p.blocks.now.lists → row_of (block_seeds p) c ≡ row_through p (orders p c) (replicate p.bits false)
+seed_row_is p c h = get_or-map (λ list. row_through p (flow_order p.against list) (replicate p.bits false)) p.blocks.now.lists c [] [] h
+
+-- in these rows of blocks each bit, false at first, has gone through these nodes
+pub record ArePassed (count bits : ℕ) (paths : ℕ → List ℕ) (seed stop : ℕ → ℕ → Bool) (rows : List (List Bool)) : Type 0 where
+  pub shape : AreRows count bits rows
+  pub are : (c b : ℕ) → c < count → b < bits → has_bit rows b c ≡ passed_all (seed b) (stop b) false (paths c)
+
+module _ (p : Problem) (is : IsProblem p) where
+  -- all these are nodes of the graph
+  abbrev Within : List ℕ → Type 0
+  Within path = (i n : ℕ) → slice_get path i ≡ Some n → n < length p.graph.now.nodes
+
+  -- the row keeps its length
+  length_through : (path : List ℕ) → Within path → (row : List Bool) → length row ≡ p.bits → length (row_through p path row) ≡ p.bits
+  length_through [] within row long = long
+  length_through (n ∷ path) within row long = length_through path (λ i m at. within (suc i) m at) (row_after p n row) (length_after p is n (within 0 n refl) row long)
+
+  -- and each bit of it passes the nodes
+  bit_through : (path : List ℕ) → Within path → (row : List Bool) → length row ≡ p.bits → (b : ℕ) → b < p.bits → get_or (row_through p path row) b false ≡ passed_all (is_seed p b) (is_blocked p b) (get_or row b false) path
+  bit_through [] within row long b l = refl
+  bit_through (n ∷ path) within row long b l =
+      bit_through path (λ i m at. within (suc i) m at) (row_after p n row) (length_after p is n (within 0 n refl) row long) b l
+      ∙ ap (λ x. passed_all (is_seed p b) (is_blocked p b) x path) (bit_after p is n (within 0 n refl) row long b l)
+
+  -- the nodes of a block are nodes of the graph
+  block_within : (c : ℕ) → c < length p.blocks.now.lists → Within (orders p c)
+  block_within c h i n at = flow_within p.against p.graph.now.nodes (list_at p.blocks.now.lists c) i n (is.blocks_are.are.blocks c (list_at p.blocks.now.lists c) (slice_get-get_or p.blocks.now.lists c [] h)).chain at
+
+  -- a bit comes out of a block where it comes out of its nodes
+  pub seeds_passed : ArePassed (length p.blocks.now.lists) p.bits (orders p) (is_seed p) (is_blocked p) (block_seeds p)
+  seeds_passed = record {
+    shape = record {
+      len = length-map p.blocks.now.lists (λ list. row_through p (flow_order p.against list) (replicate p.bits false));
+      each = λ c h. ap length (seed_row_is p c h) ∙ length_through (orders p c) (block_within c h) (replicate p.bits false) (length-replicate p.bits false);
+    };
+    are = λ c b h l.
+        ap (λ (r : List Bool). get_or r b false) (seed_row_is p c h)
+        ∙ bit_through (orders p c) (block_within c h) (replicate p.bits false) (length-replicate p.bits false) b l
+        ∙ ap (λ x. passed_all (is_seed p b) (is_blocked p b) x (orders p c)) (get_or-replicate p.bits b false false l);
+  }
+
 -- ---- rows of blocks
 
--- equal paths are passed alike
-pub passed_same : (count bits : ℕ) (paths other : ℕ → List ℕ) (seed stop x : ℕ → ℕ → Bool) (rows : List (List Bool)) → ((c : ℕ) → c < count → paths c ≡ other c) → ArePassed count bits paths seed stop x rows → ArePassed count bits other seed stop x rows
-passed_same count bits paths other seed stop x rows same are = record { shape = are.shape; are = λ c b h l. are.are c b h l ∙ ap (passed_all (seed b) (stop b) (x b c)) (same c h) }
+module _ (count bits : ℕ) (paths : ℕ → List ℕ) (stops : List (List Bool)) where
+  -- the last row of blocks says which bits so many nodes of its block block, and the others are whole
+  pub record AreStoppedTo (place : ℕ) (rows : List (List Bool)) : Type 0 where
+    pub shape : AreRows (count + 1) bits rows
+    pub whole : (c b : ℕ) → c < count → b < bits → has_bit rows b c ≡ blocks_some (has_bit stops b) (paths c)
+    pub part : (b : ℕ) → b < bits → has_bit rows b count ≡ blocks_some (has_bit stops b) (take place (paths count))
 
--- and block alike
-pub blocked_same : (count bits : ℕ) (paths other : ℕ → List ℕ) (stop : ℕ → ℕ → Bool) (rows : List (List Bool)) → ((c : ℕ) → c < count → paths c ≡ other c) → AreStopped count bits paths stop rows → AreStopped count bits other stop rows
-blocked_same count bits paths other stop rows same are = record { shape = are.shape; are = λ c b h l. are.are c b h l ∙ ap (blocks_some (stop b)) (same c h) }
+  -- a node more is blocked by
+  one_more_blocks : (b place n : ℕ) → slice_get (paths count) place ≡ Some n → (blocks_some (has_bit stops b) (take place (paths count)) || has_bit stops b n) ≡ blocks_some (has_bit stops b) (take (place + 1) (paths count))
+  one_more_blocks b place n at =
+      let one : place + 1 ≡ suc place = omega arith in
+      ap (λ v. blocks_some (has_bit stops b) (take place (paths count)) || v) (sym (or-false (has_bit stops b n)))
+      ∙ sym (blocks_append (has_bit stops b) (take place (paths count)) (n ∷ []))
+      ∙ sym (ap (blocks_some (has_bit stops b)) (ap (λ k. take k (paths count)) one ∙ take_next (paths count) place n at))
 
--- one row is taken through one node more
-pub passed_more : (count bits block n : ℕ) (paths other : ℕ → List ℕ) (seed stop x : ℕ → ℕ → Bool) (rows after : List (List Bool)) (row : List Bool) → ArePassed count bits paths seed stop x rows → block < count → Written rows after block row → length row ≡ bits
-    → ((b : ℕ) → b < bits → get_or row b false ≡ passed (seed b) (stop b) n (has_bit rows b block)) → ((c : ℕ) → c ≢ block → other c ≡ paths c) → other block ≡ paths block ++ n ∷ [] → ArePassed count bits other seed stop x after
-passed_more count bits block n paths other seed stop x rows after row are h made long bit same here = record {
-  shape = written_shape count bits block rows after row are.shape made long;
-  are = λ c b h' l. elim (cases_eq c block) as (λ _. has_bit after b c ≡ passed_all (seed b) (stop b) (x b c) (other c)) [
-    | inl e ↦ rw e (ap (λ (r : List Bool). get_or r b false) made.here ∙ bit b l ∙ ap (passed (seed b) (stop b) n) (are.are block b h l) ∙ sym (passed_append (seed b) (stop b) (paths block) (n ∷ []) (x b block)) ∙ ap (passed_all (seed b) (stop b) (x b block)) (sym here))
-    | inr d ↦ ap (λ (r : List Bool). get_or r b false) (made.others c d) ∙ are.are c b h' l ∙ ap (passed_all (seed b) (stop b) (x b c)) (sym (same c d))
-  ];
-}
+  -- the row of the first node is put at the end
+  module _ (n : ℕ) (rows after : List (List Bool)) (are : AreStopped count bits paths (has_bit stops) rows) (long : length (row_of stops n) ≡ bits) (is : after ≡ rows ++ row_of stops n ∷ []) where
+    last : row_of after count ≡ row_of stops n
+    last = ap (λ (r : List (List Bool)). row_of r count) is ∙ ap (row_of (rows ++ row_of stops n ∷ [])) (sym are.shape.len) ∙ get_or-append_seam rows (row_of stops n) [] []
 
--- and notes what that node blocks
-pub stopped_more : (count bits block n : ℕ) (paths other : ℕ → List ℕ) (stops rows after : List (List Bool)) → AreStopped count bits paths (has_bit stops) rows → block < count → length (row_of stops n) ≡ bits → Written rows after block (or_bits (row_of rows block) (row_of stops n))
-    → ((c : ℕ) → c ≢ block → other c ≡ paths c) → other block ≡ paths block ++ n ∷ [] → AreStopped count bits other (has_bit stops) after
-stopped_more count bits block n paths other stops rows after are h long made same here =
-    let alike : length (row_of rows block) ≡ length (row_of stops n) = are.shape.each block h ∙ sym long in
-    record {
-      shape = written_shape count bits block rows after (or_bits (row_of rows block) (row_of stops n)) are.shape made (length_or (row_of rows block) (row_of stops n) alike ∙ are.shape.each block h);
-      are = λ c b h' l. elim (cases_eq c block) as (λ _. has_bit after b c ≡ blocks_some (has_bit stops b) (other c)) [
-        | inl e ↦ rw e (ap (λ (r : List Bool). get_or r b false) made.here ∙ or_bit (row_of rows block) (row_of stops n) b alike ∙ ap (λ v. v || has_bit stops b n) (are.are block b h l) ∙ ap (λ v. blocks_some (has_bit stops b) (paths block) || v) (sym (or-false (has_bit stops b n))) ∙ sym (blocks_append (has_bit stops b) (paths block) (n ∷ [])) ∙ ap (blocks_some (has_bit stops b)) (sym here))
-        | inr d ↦ ap (λ (r : List Bool). get_or r b false) (made.others c d) ∙ are.are c b h' l ∙ ap (blocks_some (has_bit stops b)) (sym (same c d))
-      ];
+    earlier : (c : ℕ) → c < count → row_of after c ≡ row_of rows c
+    earlier c h = ap (λ (r : List (List Bool)). row_of r c) is ∙ get_or_append_left rows (row_of stops n ∷ []) [] c (rw are.shape.len h)
+
+    pub stopped_first : slice_get (paths count) 0 ≡ Some n → AreStoppedTo 1 after
+    stopped_first at = record {
+      shape = record {
+        len = ap length is ∙ length-append rows (row_of stops n ∷ []) ∙ ap (λ k. k + 1) are.shape.len;
+        each = λ c h. elim (cases_eq c count) as (λ _. length (row_of after c) ≡ bits) [
+          | inl e ↦ rw e (ap length last ∙ long)
+          | inr d ↦ ap length (earlier c (omega (arith, h, d))) ∙ are.shape.each c (omega (arith, h, d))
+        ];
+      };
+      whole = λ c b h l. ap (λ (r : List Bool). get_or r b false) (earlier c h) ∙ are.are c b h l;
+      part = λ b l. ap (λ (r : List Bool). get_or r b false) last ∙ one_more_blocks b 0 n at;
     }
 
--- ---- rows of nodes
+  -- and those of the others are joined to it
+  pub stopped_next : (place n : ℕ) (rows after : List (List Bool)) → AreStoppedTo place rows → length (row_of stops n) ≡ bits → slice_get (paths count) place ≡ Some n → after ≡ set rows count (or_bits (row_of rows count) (row_of stops n)) → AreStoppedTo (place + 1) after
+  stopped_next place n rows after are long at is =
+      let row = or_bits (row_of rows count) (row_of stops n) in
+      let here : length (row_of rows count) ≡ bits = are.shape.each count (omega arith) in
+      let alike : length (row_of rows count) ≡ length (row_of stops n) = here ∙ sym long in
+      let made : Written rows after count row = put rows after count row (rw are.shape.len (omega arith)) is in
+      record {
+        shape = written_shape (count + 1) bits count rows after row are.shape made (length_or (row_of rows count) (row_of stops n) alike ∙ here);
+        whole = λ c b h l. ap (λ (r : List Bool). get_or r b false) (made.others c (λ e. absurd (omega (arith, e, h)))) ∙ are.whole c b h l;
+        part = λ b l. ap (λ (r : List Bool). get_or r b false) made.here ∙ or_bit (row_of rows count) (row_of stops n) b alike ∙ ap (λ v. v || has_bit stops b n) (are.part b l) ∙ one_more_blocks b place n at;
+      }
 
--- equal paths have the same answers
-pub answered_same : (against : Bool) (nodes : List Node) (bits : ℕ) (paths other : ℕ → List ℕ) (seed stop : ℕ → ℕ → Bool) (rows : List (List Bool)) → ((c : ℕ) → paths c ≡ other c) → AreAnswered against nodes bits paths seed stop rows → AreAnswered against nodes bits other seed stop rows
-answered_same against nodes bits paths other seed stop rows same are = record { shape = are.shape; are = λ c i n b e l. are.are c i n b (ap (λ p. slice_get p i) (same c) ∙ e) l }
-
--- one row more is an answer
-pub answered_more : (against : Bool) (nodes : List Node) (bits block n : ℕ) (paths other : ℕ → List ℕ) (seed stop : ℕ → ℕ → Bool) (rows after : List (List Bool)) (row : List Bool) → AreAnswered against nodes bits paths seed stop rows → Written rows after n row → length row ≡ bits
-    → ((b : ℕ) → b < bits → (get_or row b false ≡ true) ↔ HasAnswer against nodes (seed b) (stop b) n) → ((c : ℕ) → c ≢ block → other c ≡ paths c) → other block ≡ paths block ++ n ∷ [] → AreAnswered against nodes bits other seed stop after
-answered_more against nodes bits block n paths other seed stop rows after row are made long answers same here = record {
-  shape = written_shape (length nodes) bits n rows after row are.shape made long;
-  are = λ c i k b e l. elim (cases_eq k n) as (λ _. (has_bit after b k ≡ true) ↔ HasAnswer against nodes (seed b) (stop b) k) [
-    | inl is ↦ rw (is, made.here) (answers b l)
-    | inr d ↦ rw (made.others k d) (elim (cases_eq c block) as (λ _. (has_bit rows b k ≡ true) ↔ HasAnswer against nodes (seed b) (stop b) k) [
-      | inl this ↦ elim (get_push (paths block) n k i (ap (λ p. slice_get p i) (sym here) ∙ ap (λ j. slice_get (other j) i) (sym this) ∙ e)) as (λ _. (has_bit rows b k ≡ true) ↔ HasAnswer against nodes (seed b) (stop b) k) [
-        | inl old ↦ are.are block i k b old l
-        | inr new ↦ absurd (d (sym new.1))
-      ]
-      | inr apart ↦ are.are c i k b (ap (λ p. slice_get p i) (sym (same c apart)) ∙ e) l
-    ])
-  ];
-}
+  -- once all its nodes have come the last row is whole
+  pub stopped_all : (place : ℕ) (rows : List (List Bool)) → AreStoppedTo place rows → length (paths count) ≤ place → AreStopped (count + 1) bits paths (has_bit stops) rows
+  stopped_all place rows are late = record {
+    shape = are.shape;
+    are = λ c b h l. elim (cases_eq c count) as (λ _. has_bit rows b c ≡ blocks_some (has_bit stops b) (paths c)) [
+      | inl e ↦ rw e (are.part b l ∙ ap (blocks_some (has_bit stops b)) (take_all place (paths count) late))
+      | inr d ↦ are.whole c b (omega (arith, h, d)) l
+    ];
+  }

@@ -63,7 +63,7 @@ against_run nodes (m ∷ n ∷ chain) is =
     (run_more (steps_of true nodes) (reverse chain) n m (subst (IsRun (steps_of true nodes)) backward rest) (glued_edge nodes m n is.0) (λ k edge. only_to nodes m n k is.0.leaves edge))
 
 -- so a block in the order of the flow is a run, whatever the direction
-block_run : (against : Bool) (nodes : List Node) (list : List ℕ) → IsChain nodes list → IsRun (steps_of against nodes) (flow_order against list)
+pub block_run : (against : Bool) (nodes : List Node) (list : List ℕ) → IsChain nodes list → IsRun (steps_of against nodes) (flow_order against list)
 block_run true nodes list is = against_run nodes list is
 block_run false nodes list is = along_run nodes list is
 

@@ -4,8 +4,12 @@ use Rattle.std.proofs.lemmas.Bool.{cases_eq}
 use Rattle.bit_rows.specs.Bits.{EachBitFlipped, row_of}
 use Rattle.flow_graph.specs.Graphs.{GraphShape, IsGraph}
 use Rattle.path_laws.specs.Blockwise.{HasAnswer}
-use Rattle.path_laws.specs.Paths.{AreBornAfter, AreBornAhead, AreBornBefore, BornBefore, HaveShape, Tell, has_bit, width}
+use Rattle.path_laws.specs.Paths.{AreRows, AreBornAfter, AreBornAhead, AreBornBefore, BornBefore, HaveShape, Tell, has_bit, width}
+use Rattle.path_laws.specs.RowLaws.{like_rows}
 use Rattle.path_laws.specs.Seeds.{blocks_of, seeds_of}
+use Rattle.path_laws.specs.Statements.{AreTold, AreTurned, goes_against, is_on_every}
+use Rattle.path_laws.specs.declared.calls.Statement.{Statement}
+use Rattle.path_laws.specs.declared.calls.Statement.TheVariants.{Before, After, Ahead}
 use Rattle.path_laws.proofs.Complements.{none_from_on, on_from_none, seed_bit}
 use Rattle.path_laws.proofs.Ways.{after_from_none, ahead_from_leads, before_from_none, leads_from_ahead, none_from_after, none_from_before, not_at_start}
 
@@ -52,3 +56,16 @@ module _ (graph : GraphShape) (is : IsGraph graph.vars graph.received graph.node
                 λ all. on_from_none _ _ (HasAnswer false graph.nodes seed (has_bit born b) n) opposite come.0 (λ pred. none_from_before graph.nodes (has_bit born b) (has_bit stop b) seed seeds is.reached n all pred.0 pred.1 pred.2),
               )
         ]
+
+-- the answers of a statement's problem, turned, tell where the statement holds
+pub told_of : (statement : Statement) (graph : GraphShape) (is : IsGraph graph.vars graph.received graph.nodes) (born stop old new : List (List Bool)) → HaveShape graph (width born) born → HaveShape graph (width born) stop → HaveShape graph (width born) old
+    → Answer graph is born stop (is_on_every statement) (goes_against statement) old → AreTurned statement old new → AreTold statement graph born stop new
+told_of Before graph is born stop old new born_rows stop_rows shape answers turned = before graph is born stop born_rows stop_rows old new shape answers turned.1 turned.2
+told_of After graph is born stop old new born_rows stop_rows shape answers turned = after graph is born stop born_rows stop_rows old new shape answers turned.1
+told_of Ahead graph is born stop old new born_rows stop_rows shape answers turned = subst (AreBornAhead graph born stop) (sym turned) (ahead graph is born stop old answers)
+
+-- and keep their shape
+pub turned_shape : (statement : Statement) (nodes bits : ℕ) (old new : List (List Bool)) → AreRows nodes bits old → AreTurned statement old new → AreRows nodes bits new
+turned_shape Before nodes bits old new shape turned = like_rows nodes bits old new shape turned.0
+turned_shape After nodes bits old new shape turned = like_rows nodes bits old new shape turned.0
+turned_shape Ahead nodes bits old new shape turned = subst (AreRows nodes bits) (sym turned) shape

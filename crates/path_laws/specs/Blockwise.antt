@@ -1,9 +1,8 @@
 -- A bit along the nodes of a block, in the order in which the flow passes them: what comes out of a node, of a block, and what
 -- a block does to it as a whole. Cited by contracts.
-use Rattle.std.specs.Prelude.{◌≡◌, ℕ, suc, ◌<◌, ◌≤◌, ◌↔◌, nat_lt, nat_eq, if◌then◌else◌, Bool, true, false, not, ◌||◌, ◌&&◌, List, [], ◌∷◌, length, reverse, take, slice_get, Some}
+use Rattle.std.specs.Prelude.{◌≡◌, ℕ, ◌<◌, Bool, true, false, not, ◌||◌, ◌&&◌, List, [], ◌∷◌, length, reverse}
 use Rattle.flow_graph.specs.declared.nodes.Node.{Node}
 use Rattle.flow_graph.specs.Paths.{HasEdge}
-use Rattle.node_list.specs.Lists.{list_at}
 use Rattle.path_laws.specs.Leads.{Leads, steps_of}
 use Rattle.path_laws.specs.Paths.{AreRows, has_bit}
 
@@ -31,32 +30,36 @@ abbrev pub HasAnswer : Bool → List Node → (ℕ → Bool) → (ℕ → Bool) 
 HasAnswer true nodes seed block n = Leads (steps_of true nodes) seed block n
 HasAnswer false nodes seed block n = (m : ℕ) × HasEdge nodes m n × Leads (steps_of false nodes) seed block m
 
--- so far: of the blocks before this one all nodes, of this one those before this place, and of the others none
-abbrev pub so_far : (ℕ → List ℕ) → ℕ → ℕ → ℕ → List ℕ
-so_far paths block place c = if nat_lt c block then paths c else (if nat_eq c block then take place (paths c) else [])
-
--- in the rows of blocks each bit has gone through these nodes, and began as x says
-pub record ArePassed (count bits : ℕ) (paths : ℕ → List ℕ) (seed stop x : ℕ → ℕ → Bool) (rows : List (List Bool)) : Type 0 where
-  pub shape : AreRows count bits rows
-  pub are : (c b : ℕ) → c < count → b < bits → has_bit rows b c ≡ passed_all (seed b) (stop b) (x b c) (paths c)
-
--- they say which bits some of these nodes stops
+-- the rows of blocks say which bits some of these nodes stops
 pub record AreStopped (count bits : ℕ) (paths : ℕ → List ℕ) (stop : ℕ → ℕ → Bool) (rows : List (List Bool)) : Type 0 where
   pub shape : AreRows count bits rows
   pub are : (c b : ℕ) → c < count → b < bits → has_bit rows b c ≡ blocks_some (stop b) (paths c)
 
--- the rows of these nodes are answers
-pub record AreAnswered (against : Bool) (nodes : List Node) (bits : ℕ) (paths : ℕ → List ℕ) (seed stop : ℕ → ℕ → Bool) (rows : List (List Bool)) : Type 0 where
+-- ---- answers
+
+-- what the row of a node begins with: against the edges its seeds, and along them nothing
+abbrev pub begun_bit : Bool → (ℕ → Bool) → ℕ → Bool
+begun_bit true seed n = seed n
+begun_bit false seed n = false
+
+-- what an edge between blocks brings to the answer at the first node of a block: what comes out of the other block, and against the
+-- edges only what the node does not block
+abbrev pub brought : Bool → (ℕ → Bool) → ℕ → Bool → Bool
+brought true block n x = x && not (block n)
+brought false block n x = x
+
+-- what the answer at a node brings to that at the next of its block: against the edges what that one does not block, and along them what
+-- comes out of the node itself
+abbrev pub handed_on : Bool → (ℕ → Bool) → (ℕ → Bool) → ℕ → ℕ → Bool → Bool
+handed_on true seed block before n x = x && not (block n)
+handed_on false seed block before n x = passed seed block before x
+
+-- the true bits of the rows are bits of the answers, and those that the rows begin with are true
+pub record AreGrowing (against : Bool) (nodes : List Node) (bits : ℕ) (seed stop : ℕ → ℕ → Bool) (rows : List (List Bool)) : Type 0 where
   pub shape : AreRows (length nodes) bits rows
-  pub are : (c i n b : ℕ) → slice_get (paths c) i ≡ Some n → b < bits → (has_bit rows b n ≡ true) ↔ HasAnswer against nodes (seed b) (stop b) n
+  pub sound : (n b : ℕ) → n < length nodes → b < bits → has_bit rows b n ≡ true → HasAnswer against nodes (seed b) (stop b) n
+  pub begun : (n b : ℕ) → n < length nodes → b < bits → begun_bit against (seed b) n ≡ true → has_bit rows b n ≡ true
 
--- what has come to the node at this place when its row is written: against the edges the node counts, along them not
-abbrev pub came : Bool → ℕ → List ℕ → List ℕ
-came true i path = take (suc i) path
-came false i path = take i path
-
--- what comes to the blocks from this number on, taken through their nodes, gives the answers at these
-pub record AreComing (against : Bool) (nodes : List Node) (lists : List (List ℕ)) (bits : ℕ) (seed stop : ℕ → ℕ → Bool) (from : ℕ) (rows : List (List Bool)) : Type 0 where
-  pub shape : AreRows (length lists) bits rows
-  pub are : (c i n b : ℕ) → from ≤ c → c < length lists → b < bits → slice_get (flow_order against (list_at lists c)) i ≡ Some n
-      → (passed_all (seed b) (stop b) (has_bit rows b c) (came against i (flow_order against (list_at lists c))) ≡ true) ↔ HasAnswer against nodes (seed b) (stop b) n
+-- no bit of the answer at node n is missing
+abbrev pub IsWhole : Bool → List Node → ℕ → (ℕ → ℕ → Bool) → (ℕ → ℕ → Bool) → List (List Bool) → ℕ → Type 0
+IsWhole against nodes bits seed stop rows n = (b : ℕ) → b < bits → HasAnswer against nodes (seed b) (stop b) n → has_bit rows b n ≡ true

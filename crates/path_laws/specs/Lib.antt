@@ -16,3 +16,5 @@ pub mod Statements
 pub mod Says
 pub mod KeyRows
 pub mod KeyRowLaws
+pub mod Gathered
+pub mod GatheredLaws

@@ -1,11 +1,11 @@
 -- The flow of bits over a list of edges that is in order of their sources. Cited by contracts.
-use Rattle.std.specs.Prelude.{◌≡◌, ℕ, suc, ◌<◌, ◌↔◌, Bool, true, List, length}
+use Rattle.std.specs.Prelude.{◌≡◌, ℕ, suc, Bool, List, length}
 use Rattle.fix_solve.specs.Net.{Net}
 use Rattle.bit_rows.specs.Bits.{minus_bits, row_of}
 use Rattle.flow_graph.specs.declared.edges.Edge.{Edge}
-use Rattle.flow_graph.specs.FlowEdges.{AreFlowEdges, StepAlong, edge_at}
+use Rattle.flow_graph.specs.FlowEdges.{AreFlowEdges, edge_at}
 use Rattle.flow_graph.specs.Tables.{number_at}
-use Rattle.path_laws.specs.Paths.{AreRows, has_bit}
+use Rattle.path_laws.specs.Paths.{AreRows}
 
 -- values are rows of so many bits; what is true at the source of an edge flows on to its target, where that one does not
 -- block it
@@ -28,10 +28,6 @@ pub record IsBitFlow (nodes : ℕ) (edges : List Edge) (out : ℕ → ℕ) (bits
   pub are : AreFlowEdges nodes edges out
   pub first_rows : AreRows nodes bits first
   pub block_rows : AreRows nodes bits block
-
--- the second rows have a bit at a node exactly where an edge of the list leads there from a node at which the first have it
-abbrev pub ComeAlong : ℕ → ℕ → List Edge → List (List Bool) → List (List Bool) → Type 0
-ComeAlong nodes bits edges rows all = (n b : ℕ) → n < nodes → b < bits → (has_bit all b n ≡ true) ↔ ((m : ℕ) × StepAlong edges n m × (has_bit rows b m ≡ true))
 
 -- the numbers are a table
 pub record IsListedFlow (nodes : ℕ) (edges : List Edge) (firsts : List ℕ) (bits : ℕ) (first block : List (List Bool)) : Type 0 where

@@ -1,18 +1,17 @@
 -- A path problem as its functions see it: what holds of it, and what the rows on the way to its answers say. Cited by contracts.
-use Rattle.std.specs.Prelude.{◌≡◌, ℕ, ◌+◌, ◌*◌, ◌<◌, ◌↔◌, Bool, true, false, if◌then◌else◌, List, length}
-use Rattle.bit_rows.specs.Bits.{row_of}
+use Rattle.std.specs.Prelude.{◌≡◌, ℕ, ◌+◌, ◌*◌, ◌<◌, ◌↔◌, Bool, true, false, List, [], ◌∷◌, length, map, replicate, slice_get, Some}
 use Rattle.flow_graph.specs.declared.edges.Edge.{Edge}
 use Rattle.flow_graph.specs.Graphs.{IsGraph}
 use Rattle.node_list.specs.Lists.{list_at}
 use Rattle.path_laws.specs.declared.between.BlockEdges.{BlockEdges}
 use Rattle.path_laws.specs.declared.problems.Problem.{Problem}
-use Rattle.path_laws.specs.Between.{AreBlockEdges}
-use Rattle.path_laws.specs.Blockwise.{AreAnswered, AreComing, ArePassed, AreStopped, HasAnswer, blocks_some, flow_order, passed_all, so_far}
+use Rattle.path_laws.specs.Between.{AreBetween, AreBlockEdges}
+use Rattle.path_laws.specs.Blockwise.{AreGrowing, AreStopped, HasAnswer, IsWhole, begun_bit, blocks_some, brought, flow_order, handed_on, passed_all}
 use Rattle.path_laws.specs.Crossings.{crossings, push_room}
 use Rattle.path_laws.specs.Leads.{Leads}
 use Rattle.flow_graph.specs.FlowEdges.{StepAlong}
 use Rattle.path_laws.specs.Paths.{AreRows, HaveShape, Tell, has_bit, width}
-use Rattle.path_laws.specs.RowLaws.{Written}
+use Rattle.path_laws.specs.RowLaws.{Joined}
 use Rattle.path_laws.specs.Seeds.{IsPathProblem, blocks_of, passed_row, seeds_of}
 
 -- its graph keeps the laws of graphs
@@ -26,10 +25,6 @@ IsProblem p = IsPathProblem p.graph.now.nodes p.edges.now p.blocks.now p.bits p.
 -- the nodes of the block of this number, in the order of the flow
 abbrev pub orders : Problem → ℕ → List ℕ
 orders p b = flow_order p.against (list_at p.blocks.now.lists b)
-
--- the same of the blocks below this number, and no nodes of the others
-abbrev pub orders_below : Problem → ℕ → ℕ → List ℕ
-orders_below p block = so_far (orders p) block 0
 
 -- at which nodes each bit is seeded
 abbrev pub is_seed : Problem → ℕ → ℕ → Bool
@@ -47,9 +42,14 @@ is_blocked p = has_bit (blocks_in p)
 abbrev pub row_after : Problem → ℕ → List Bool → List Bool
 row_after p = passed_row p.every p.against p.graph.now.nodes p.born.now p.stop.now
 
--- the row of the answer at a node to which this one comes: against the edges what leaves the node, along them what comes
-abbrev pub answer_row : Problem → ℕ → List Bool → List Bool
-answer_row p n row = if p.against then row_after p n row else row
+-- the row that leaves these nodes, one after the other, where this one comes to the first
+abbrev pub row_through : Problem → List ℕ → List Bool → List Bool
+row_through p [] row = row
+row_through p (n ∷ path) row = row_through p path (row_after p n row)
+
+-- what comes out of each block where nothing comes to it
+abbrev pub block_seeds : Problem → List (List Bool)
+block_seeds p = map (λ list. row_through p (flow_order p.against list) (replicate p.bits false)) p.blocks.now.lists
 
 -- ---- rows
 
@@ -61,29 +61,47 @@ HaveBlockShape p rows = AreRows (length p.blocks.now.lists) p.bits rows
 abbrev pub HaveBornShape : Problem → List (List Bool) → Type 0
 HaveBornShape p rows = HaveShape p.graph.now (width p.born.now) rows
 
--- one of the rows is now what leaves this node where it came to the node, and the others are as before
-abbrev pub PassesNode : Problem → ℕ → ℕ → List (List Bool) → List (List Bool) → Type 0
-PassesNode p node row old new = Written old new row (row_after p node (row_of old row))
-
--- in these rows of blocks each bit, false at first, has gone through the nodes of these paths
-abbrev pub HavePassed : Problem → (ℕ → List ℕ) → List (List Bool) → Type 0
-HavePassed p paths rows = ArePassed (length p.blocks.now.lists) p.bits paths (is_seed p) (is_blocked p) (λ b c. false) rows
-
--- these rows of blocks say which bits some node of these paths blocks
-abbrev pub HaveBlocked : Problem → (ℕ → List ℕ) → List (List Bool) → Type 0
-HaveBlocked p paths rows = AreStopped (length p.blocks.now.lists) p.bits paths (is_blocked p) rows
+-- one row for each of so many blocks says which bits some node of the block blocks
+abbrev pub HaveBlocked : Problem → ℕ → List (List Bool) → Type 0
+HaveBlocked p count rows = AreStopped count p.bits (orders p) (is_blocked p) rows
 
 -- these rows say to which blocks each bit comes over these edges from a block that seeds it
 abbrev pub AreLed : Problem → List Edge → List (List Bool) → Type 0
 AreLed p edges rows = (c b : ℕ) → c < length p.blocks.now.lists → b < p.bits → (has_bit rows b c ≡ true) ↔ Leads (StepAlong edges) (λ k. passed_all (is_seed p b) (is_blocked p b) false (orders p k)) (λ k. blocks_some (is_blocked p b) (orders p k)) c
 
--- these rows, of what comes to the blocks from this number on, give the answers at their nodes
-abbrev pub HaveIncoming : Problem → ℕ → List (List Bool) → Type 0
-HaveIncoming p from rows = AreComing p.against p.graph.now.nodes p.blocks.now.lists p.bits (is_seed p) (is_blocked p) from rows
+-- rows of nodes as the answers begin
+pub record AreBegun (p : Problem) (rows : List (List Bool)) : Type 0 where
+  pub shape : HaveShape p.graph.now p.bits rows
+  pub are : (n b : ℕ) → n < length p.graph.now.nodes → b < p.bits → has_bit rows b n ≡ begun_bit p.against (is_seed p b) n
 
--- the rows of the nodes on these paths are answers
-abbrev pub HaveAnswers : Problem → (ℕ → List ℕ) → List (List Bool) → Type 0
-HaveAnswers p paths rows = AreAnswered p.against p.graph.now.nodes p.bits paths (is_seed p) (is_blocked p) rows
+-- rows of nodes to which bits of the answers are joined
+abbrev pub GrowTo : Problem → List (List Bool) → Type 0
+GrowTo p rows = AreGrowing p.against p.graph.now.nodes p.bits (is_seed p) (is_blocked p) rows
+
+-- of the answer at this node no bit is missing
+abbrev pub HasWhole : Problem → List (List Bool) → ℕ → Type 0
+HasWhole p rows n = IsWhole p.against p.graph.now.nodes p.bits (is_seed p) (is_blocked p) rows n
+
+-- nor of that at the first node of each block
+abbrev pub HaveFirsts : Problem → List (List Bool) → Type 0
+HaveFirsts p rows = (c n : ℕ) → c < length p.blocks.now.lists → slice_get (orders p c) 0 ≡ Some n → HasWhole p rows n
+
+-- nor of those at the nodes of the blocks below this number
+abbrev pub HaveBlocks : Problem → ℕ → List (List Bool) → Type 0
+HaveBlocks p block rows = (c i n : ℕ) → c < block → slice_get (orders p c) i ≡ Some n → HasWhole p rows n
+
+-- what comes over this edge is joined to the row of the first node of the block to which it leads
+abbrev pub TakesIn : Problem → Edge → List (List Bool) → List (List Bool) → List (List Bool) → Type 0
+TakesIn p edge work rows after = (n : ℕ) × (slice_get (orders p edge.target) 0 ≡ Some n) × (n < length p.graph.now.nodes) × Joined p.bits rows after n (λ b. brought p.against (is_blocked p b) n (has_bit work b edge.source))
+
+-- what the row of a node brings to that of the next of its block is joined to that one
+abbrev pub HandsOn : Problem → ℕ → ℕ → List (List Bool) → List (List Bool) → Type 0
+HandsOn p before n rows after = Joined p.bits rows after n (λ b. handed_on p.against (is_seed p b) (is_blocked p b) before n (has_bit rows b before))
+
+-- the rows of all nodes are answers
+pub record HaveAnswers (p : Problem) (rows : List (List Bool)) : Type 0 where
+  pub shape : HaveShape p.graph.now p.bits rows
+  pub are : Tell p.graph.now p.bits rows (λ b n. HasAnswer p.against p.graph.now.nodes (is_seed p b) (is_blocked p b) n)
 
 -- the rows of all nodes are answers, for as many bits as the rows of births have
 abbrev pub AreSolved : Problem → List (List Bool) → Type 0
@@ -94,6 +112,10 @@ AreSolved p rows = Tell p.graph.now (width p.born.now) rows (λ b n. HasAnswer p
 -- these are all edges between the blocks of the problem
 abbrev pub HasBetween : Problem → BlockEdges → Type 0
 HasBetween p made = AreBlockEdges p.against p.graph.now.nodes p.blocks.now.lists made
+
+-- this list has all edges between the blocks of the problem, in order of their sources
+abbrev pub AreAllBetween : Problem → List Edge → Type 0
+AreAllBetween p edges = (firsts : List ℕ) × AreBetween p.against p.graph.now.nodes p.blocks.now.lists (length p.blocks.now.lists) edges firsts
 
 -- by how much the counter may rise by pushes along these edges
 abbrev pub room_along : Problem → BlockEdges → ℕ

@@ -1,14 +1,21 @@
--- Rows written one at a time, and their shape. `Written` is cited by contracts, the laws by proofs, also above this crate.
-use Rattle.std.proofs.Common.{◌≡◌, ◌≢◌, ℕ, ◌<◌, Bool, List, [], length, set, sym, ap, inl, inr, arith, ◌∙◌}
+-- Rows written one at a time, and their shape. `Written` and `Joined` are cited by contracts, the laws by proofs, also above this crate.
+use Rattle.std.proofs.Common.{◌≡◌, ◌≢◌, ◌||◌, ℕ, ◌<◌, Bool, List, [], length, set, sym, ap, inl, inr, arith, ◌∙◌}
 use Rattle.std.proofs.lemmas.Bool.{cases_eq}
 use Rattle.std.proofs.lemmas.List.{get_or-set_same, get_or-set_other, length-set}
 use Rattle.bit_rows.specs.Bits.{AreAlike, row_of}
-use Rattle.path_laws.specs.Paths.{AreRows, width}
+use Rattle.path_laws.specs.Paths.{AreRows, has_bit, width}
 
 -- one row is this, and the others are as before
 pub record Written (rows after : List (List Bool)) (node : ℕ) (row : List Bool) : Type 0 where
   pub len : length after ≡ length rows
   pub here : row_of after node ≡ row
+  pub others : (n : ℕ) → n ≢ node → row_of after n ≡ row_of rows n
+
+-- to one row these of so many bits are joined, and the others are as before
+pub record Joined (bits : ℕ) (rows after : List (List Bool)) (node : ℕ) (bit : ℕ → Bool) : Type 0 where
+  pub len : length after ≡ length rows
+  pub long : length (row_of after node) ≡ length (row_of rows node)
+  pub here : (b : ℕ) → b < bits → has_bit after b node ≡ (has_bit rows b node || bit b)
   pub others : (n : ℕ) → n ≢ node → row_of after n ≡ row_of rows n
 
 -- a row that was set was written

@@ -6,9 +6,9 @@ use Rattle.bit_rows.specs.Bits.{minus_bits, not_bits, or_bits, row_of}
 use Rattle.flow_graph.specs.Blocks.{AreBlocksOf, BlocksShape}
 use Rattle.flow_graph.specs.declared.nodes.Node.{Node}
 use Rattle.flow_graph.specs.Edges.{EdgesShape, edges_of}
-use Rattle.flow_graph.specs.Graphs.{AllWithin}
+use Rattle.flow_graph.specs.Graphs.{AllWithin, GraphShape}
 use Rattle.flow_graph.specs.Paths.{is_return}
-use Rattle.path_laws.specs.Paths.{AreRows}
+use Rattle.path_laws.specs.Paths.{AreRows, HaveShape, width}
 
 -- where paths end of themselves: at a Return those from a node, at Start, read against the edges, those to one
 abbrev pub is_end : Bool → List Node → ℕ → Bool
@@ -40,6 +40,12 @@ pub record IsPathFlow (nodes : List Node) (edges : EdgesShape) (bits : ℕ) (bor
   pub edges_are : edges ≡ edges_of nodes
   pub born_rows : AreRows (length nodes) bits born
   pub stop_rows : AreRows (length nodes) bits stop
+
+-- the same for as many bits as the rows of births have
+pub record AreFlowRows (graph : GraphShape) (edges : EdgesShape) (born stop : List (List Bool)) : Type 0 where
+  pub edges_are : edges ≡ edges_of graph.nodes
+  pub born_rows : HaveShape graph (width born) born
+  pub stop_rows : HaveShape graph (width born) stop
 
 -- and the blocks are those of the graph
 pub record IsPathProblem (nodes : List Node) (edges : EdgesShape) (blocks : BlocksShape) (bits : ℕ) (born stop : List (List Bool)) : Type 0 where

@@ -1,5 +1,6 @@
 -- What the rows of a path call tell, by its statement. Cited by contracts.
-use Rattle.std.specs.Prelude.{Bool, List}
+use Rattle.std.specs.Prelude.{◌≡◌, ℕ, ◌<◌, Bool, true, false, List}
+use Rattle.bit_rows.specs.Bits.{AreAlike, EachBitFlipped, row_of}
 use Rattle.flow_graph.specs.Graphs.{GraphShape}
 use Rattle.path_laws.specs.declared.calls.Statement.{Statement}
 use Rattle.path_laws.specs.declared.calls.Statement.TheVariants.{Before, After, Ahead}
@@ -10,3 +11,21 @@ abbrev pub AreTold : Statement → GraphShape → List (List Bool) → List (Lis
 AreTold Before = AreBornBefore
 AreTold After = AreBornAfter
 AreTold Ahead = AreBornAhead
+
+-- whether its problem goes against the edges
+abbrev pub goes_against : Statement → Bool
+goes_against Before = false
+goes_against After = true
+goes_against Ahead = true
+
+-- whether it is one of every path
+abbrev pub is_on_every : Statement → Bool
+is_on_every Before = true
+is_on_every After = true
+is_on_every Ahead = false
+
+-- the answers of its problem are turned into its own: for every path each bit is the opposite, but at Start it stays
+abbrev pub AreTurned : Statement → List (List Bool) → List (List Bool) → Type 0
+AreTurned Before old new = AreAlike old new × ((n : ℕ) → n < 1 → row_of new n ≡ row_of old n) × EachBitFlipped 1 old new
+AreTurned After old new = AreAlike old new × EachBitFlipped 0 old new
+AreTurned Ahead old new = new ≡ old

@@ -1,16 +1,15 @@
 // The answers of a problem of paths: solved over blocks, and filled in at their nodes.
-ghost use Rattle.std.specs.Prelude.{◌≡◌, ◌+◌, ◌≤◌, length, IfOk, OnOk};
+ghost use Rattle.std.specs.Prelude.{◌≡◌, ◌+◌, ◌≤◌, IfOk, OnOk};
 ghost use Rattle.bit_rows.specs.Bits.{AreEquallyLong};
 ghost use Rattle.flow_graph.specs.Blocks.{AreBlocksOf};
 ghost use Rattle.flow_graph.specs.Edges.{edges_of};
-ghost use Rattle.path_laws.specs.Problem.{AreLed, AreSolved, HasBetween, HasGraph, HaveBlockShape, HaveBornShape, HaveIncoming, IsProblem, born_room, room_along, room_in};
+ghost use Rattle.path_laws.specs.Problem.{AreLed, AreSolved, HasBetween, HasGraph, HaveBlockShape, HaveBornShape, IsProblem, born_room, room_along};
 
 use crate::between::{BlockEdges, between};
 use crate::bits::{BitFlow, Bits, least};
 use crate::filling::filled;
-use crate::joins::come_along;
 use crate::problems::Problem;
-use crate::summaries::summaries;
+use crate::summaries::stops_of;
 use bit_rows::Rows;
 use fix_solve::{Steps, Work};
 use mir_base::Memory;
@@ -36,23 +35,6 @@ pub(crate) fn answers<L: Ledger>(
     ensures counts { steps.old ≤ steps.new }
 {
     let _nodes = problem.graph.nodes();
-    let mut coming = coming(alloc, problem, steps)?;
-    let rows = filled(alloc, problem, &mut coming)?;
-    Ok(rows)
-}
-
-/// What comes to each block.
-fn coming<L: Ledger>(
-    alloc: Global,
-    problem: &Problem<'_>,
-    steps: &mut Steps<L>,
-) -> Result<Rows, Memory>
-    requires { IsProblem problem.now }
-    ensures coming { IfOk result (λ rows. HaveIncoming problem.now 0 rows) }
-    ensures pushes { OnOk result (steps.new ≤ steps.old + room_in problem.now) }
-    ensures counts { steps.old ≤ steps.new }
-{
-    let _nodes = problem.graph.nodes();
     let between = between(
         alloc,
         problem.graph,
@@ -61,8 +43,7 @@ fn coming<L: Ledger>(
         problem.against,
     )?;
     let work = led(alloc, problem, &between, steps)?;
-    let count = problem.blocks.len();
-    let rows = come_along(alloc, &between.edges, count, problem.bits, &work)?;
+    let rows = filled(alloc, problem, &between.edges, &work)?;
     Ok(rows)
 }
 
@@ -80,14 +61,14 @@ fn led<L: Ledger>(
     ensures pushes { OnOk result (steps.new ≤ steps.old + room_along problem.now between.now) }
     ensures counts { steps.old ≤ steps.new }
 {
-    let sums = summaries(alloc, problem)?;
+    let stops = stops_of(alloc, problem)?;
     let flow = BitFlow {
         nodes: problem.blocks.len(),
         edges: between.edges.as_slice(),
         firsts: between.firsts.as_slice(),
         bits: problem.bits,
-        seeds: &sums.seeds,
-        stops: &sums.stops,
+        problem,
+        stops: &stops,
         ledger: PhantomData::<L>,
     };
     let work = least(alloc, &flow, steps)?;

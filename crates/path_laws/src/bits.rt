@@ -6,6 +6,8 @@ ghost use Rattle.path_laws.specs.Order.{BelowBits, trues};
 ghost use Rattle.path_laws.specs.OrderLaws.{bits_laws};
 ghost use Rattle.path_laws.specs.Paths.{AreRows};
 
+use crate::problems::Problem;
+use crate::summaries::seed_of;
 use bit_rows::{Row, RowView, Rows};
 use fix_solve::{Flow, Lattice, Steps, Work, solve};
 use flow_graph::Edge;
@@ -51,15 +53,16 @@ impl Lattice for Bits {
     ghost laws = { bits_laws };
 }
 
-/// Bits flow along edges that are in order of their sources, from their seeds. What is true at a node comes on to the next,
-/// where that one does not stop it. `firsts` has the number of the first edge of each node, and the number of edges.
+/// Bits flow along edges that are in order of their sources, from what the blocks of a problem seed. What is true at a
+/// node comes on to the next, where that one does not stop it. `firsts` has the number of the first edge of each node,
+/// and the number of edges.
 #[derive(Drop)]
 pub struct BitFlow<'a, L: Ledger> {
     pub(crate) nodes: usize,
     pub(crate) edges: &'a [Edge],
     pub(crate) firsts: &'a [usize],
     pub(crate) bits: usize,
-    pub(crate) seeds: &'a Rows,
+    pub(crate) problem: &'a Problem<'a>,
     pub(crate) stops: &'a Rows,
     pub(crate) ledger: PhantomData<L>,
 }
@@ -95,7 +98,7 @@ impl<'a, L: Ledger> Flow for BitFlow<'a, L> {
     }
 
     fn first(&self, alloc: Global, node: usize) -> Result<Bits, Memory> {
-        let row = Row::of(alloc, &self.seeds.row(node))?;
+        let row = seed_of(alloc, self.problem, node)?;
         Ok(Bits { row })
     }
 

@@ -4,7 +4,8 @@ ghost use Rattle.flow_graph.specs.Blocks.{AreBlocksOf};
 ghost use Rattle.flow_graph.specs.Edges.{edges_of};
 ghost use Rattle.path_laws.specs.Crossings.{push_room};
 ghost use Rattle.path_laws.specs.Paths.{AreBornAfter, AreBornAhead, AreBornBefore, HaveShape, width};
-ghost use Rattle.path_laws.specs.Statements.{AreTold};
+ghost use Rattle.path_laws.specs.Seeds.{AreFlowRows};
+ghost use Rattle.path_laws.specs.Statements.{AreTold, AreTurned, goes_against, is_on_every};
 
 use crate::answers::answers;
 use crate::problems::Problem;
@@ -34,9 +35,7 @@ pub fn forward_all(
     ensures shape { IfOk result (HaveShape graph.now (width born.now)) }
     ensures paths { IfOk result (AreBornBefore graph.now born.now stop.now) }
 {
-    let blank = Blank::new(1);
-    let rows = told_from::<Brand>(alloc, graph, edges, born, stop, blank, Statement::Before)?;
-    Ok(rows)
+    told(alloc, graph, edges, born, stop, Statement::Before)
 }
 
 /// As `forward_all`, with the blocks of `graph` at hand, and counted: `steps` never falls, and rises by at most the number of
@@ -60,19 +59,8 @@ pub fn forward_all_in<L: Ledger>(
     ensures pushes { OnOk result (steps.new ≤ steps.old + push_room blocks.now edges.now born.now) }
     ensures counts { steps.old ≤ steps.new }
 {
-    let problem = Problem {
-        graph,
-        edges,
-        blocks,
-        against: false,
-        every: true,
-        bits: born.bits(),
-        born,
-        stop,
-    };
-    let mut rows = answers(alloc, &problem, steps)?;
-    rows.flip_rows(1);
-    Ok(rows)
+    let statement = Statement::Before;
+    told_in(alloc, graph, edges, blocks, born, stop, steps, statement)
 }
 
 /// Bit b at node n is true exactly where every path from n that ends at its first node that stops b, or at a Return
@@ -94,9 +82,7 @@ pub fn backward_all(
     ensures shape { IfOk result (HaveShape graph.now (width born.now)) }
     ensures paths { IfOk result (AreBornAfter graph.now born.now stop.now) }
 {
-    let blank = Blank::new(1);
-    let rows = told_from::<Brand>(alloc, graph, edges, born, stop, blank, Statement::After)?;
-    Ok(rows)
+    told(alloc, graph, edges, born, stop, Statement::After)
 }
 
 /// As `backward_all`, with the blocks of `graph` at hand, and counted: `steps` never falls, and rises by at most the number of
@@ -120,19 +106,8 @@ pub fn backward_all_in<L: Ledger>(
     ensures pushes { OnOk result (steps.new ≤ steps.old + push_room blocks.now edges.now born.now) }
     ensures counts { steps.old ≤ steps.new }
 {
-    let problem = Problem {
-        graph,
-        edges,
-        blocks,
-        against: true,
-        every: true,
-        bits: born.bits(),
-        born,
-        stop,
-    };
-    let mut rows = answers(alloc, &problem, steps)?;
-    rows.flip_rows(0);
-    Ok(rows)
+    let statement = Statement::After;
+    told_in(alloc, graph, edges, blocks, born, stop, steps, statement)
 }
 
 /// Bit b at node n is true exactly where some path from n ends at a node at which b is born, with no node that stops b
@@ -151,9 +126,7 @@ pub fn backward_some(
     ensures shape { IfOk result (HaveShape graph.now (width born.now)) }
     ensures paths { IfOk result (AreBornAhead graph.now born.now stop.now) }
 {
-    let blank = Blank::new(1);
-    let rows = told_from::<Brand>(alloc, graph, edges, born, stop, blank, Statement::Ahead)?;
-    Ok(rows)
+    told(alloc, graph, edges, born, stop, Statement::Ahead)
 }
 
 /// As `backward_some`, with the blocks of `graph` at hand, and counted: `steps` never falls, and rises by at most the number of
@@ -177,18 +150,8 @@ pub fn backward_some_in<L: Ledger>(
     ensures pushes { OnOk result (steps.new ≤ steps.old + push_room blocks.now edges.now born.now) }
     ensures counts { steps.old ≤ steps.new }
 {
-    let problem = Problem {
-        graph,
-        edges,
-        blocks,
-        against: true,
-        every: false,
-        bits: born.bits(),
-        born,
-        stop,
-    };
-    let rows = answers(alloc, &problem, steps)?;
-    Ok(rows)
+    let statement = Statement::Ahead;
+    told_in(alloc, graph, edges, blocks, born, stop, steps, statement)
 }
 
 /// What a call says of the paths of each node.
@@ -202,7 +165,25 @@ enum Statement {
     Ahead,
 }
 
-/// The rows that tell where a statement holds, with blocks of its own and the counter that this blank ledger gives.
+/// The rows that tell where a statement holds, with blocks and a counter of its own.
+fn told(
+    alloc: Global,
+    graph: &Graph,
+    edges: &Edges,
+    born: &Rows,
+    stop: &Rows,
+    statement: Statement,
+) -> Result<Rows, Memory>
+    requires { AreFlowRows graph.now edges.now born.now stop.now }
+    ensures shape { IfOk result (HaveShape graph.now (width born.now)) }
+    ensures told { IfOk result (AreTold statement graph.now born.now stop.now) }
+{
+    let blank = Blank::new(1);
+    let rows = told_from::<Brand>(alloc, graph, edges, born, stop, blank, statement)?;
+    Ok(rows)
+}
+
+/// The same, with the counter that this blank ledger gives.
 fn told_from<L: Ledger>(
     alloc: Global,
     graph: &Graph,
@@ -212,9 +193,7 @@ fn told_from<L: Ledger>(
     blank: Blank,
     statement: Statement,
 ) -> Result<Rows, Memory>
-    requires edges { edges.now ≡ edges_of graph.now.nodes }
-    requires born { HaveShape graph.now (width born.now) born.now }
-    requires stop { HaveShape graph.now (width born.now) stop.now }
+    requires rows { AreFlowRows graph.now edges.now born.now stop.now }
     requires name { blank.name ≡ L.name }
     requires parts { blank.parts ≡ L.parts }
     requires some { 0 < blank.parts }
@@ -223,9 +202,71 @@ fn told_from<L: Ledger>(
 {
     let blocks = Blocks::of(alloc, graph, edges)?;
     let mut steps = Steps::<L>::new(blank);
+    let steps = &mut steps;
+    told_in(alloc, graph, edges, &blocks, born, stop, steps, statement)
+}
+
+/// The same, with the blocks at hand, and counted. The answers of the statement's problem are turned where it is solved by
+/// its complement.
+fn told_in<L: Ledger>(
+    alloc: Global,
+    graph: &Graph,
+    edges: &Edges,
+    blocks: &Blocks,
+    born: &Rows,
+    stop: &Rows,
+    steps: &mut Steps<L>,
+    statement: Statement,
+) -> Result<Rows, Memory>
+    requires rows { AreFlowRows graph.now edges.now born.now stop.now }
+    requires blocks { AreBlocksOf graph.now.nodes blocks.now }
+    ensures shape { IfOk result (HaveShape graph.now (width born.now)) }
+    ensures told { IfOk result (AreTold statement graph.now born.now stop.now) }
+    ensures pushes { OnOk result (steps.new ≤ steps.old + push_room blocks.now edges.now born.now) }
+    ensures counts { steps.old ≤ steps.new }
+{
+    let problem = Problem {
+        graph,
+        edges,
+        blocks,
+        against: goes_against(statement),
+        every: is_on_every(statement),
+        bits: born.bits(),
+        born,
+        stop,
+    };
+    let mut rows = answers(alloc, &problem, steps)?;
+    turn(&mut rows, statement);
+    Ok(rows)
+}
+
+/// Whether the problem of a statement goes against the edges.
+fn goes_against(statement: Statement) -> bool
+    ensures { result ≡ goes_against statement }
+{
     match statement {
-        Statement::Before => forward_all_in(alloc, graph, edges, &blocks, born, stop, &mut steps),
-        Statement::After => backward_all_in(alloc, graph, edges, &blocks, born, stop, &mut steps),
-        Statement::Ahead => backward_some_in(alloc, graph, edges, &blocks, born, stop, &mut steps),
+        Statement::Before => false,
+        Statement::After | Statement::Ahead => true,
+    }
+}
+
+/// Whether it is one of every path.
+fn is_on_every(statement: Statement) -> bool
+    ensures { result ≡ is_on_every statement }
+{
+    match statement {
+        Statement::Before | Statement::After => true,
+        Statement::Ahead => false,
+    }
+}
+
+/// The answers of a problem become those of its statement: for every path the opposite, but at Start none.
+fn turn(rows: &mut Rows, statement: Statement)
+    ensures { AreTurned statement rows.old rows.new }
+{
+    match statement {
+        Statement::Before => rows.flip_rows(1),
+        Statement::After => rows.flip_rows(0),
+        Statement::Ahead => {}
     }
 }

@@ -1,65 +1,146 @@
-// The rows of nodes, from what comes to their blocks.
-ghost use Rattle.std.specs.Prelude.{◌≡◌, ◌+◌, ◌<◌, length, IfOk};
-ghost use Rattle.bit_rows.specs.Bits.{row_of};
+// The rows of nodes, from what comes out of the blocks.
+ghost use Rattle.std.specs.Prelude.{◌≡◌, ◌+◌, ◌<◌, length, slice_get, IfOk, Some, true};
 ghost use Rattle.path_laws.specs.Paths.{HaveShape};
-ghost use Rattle.path_laws.specs.Problem.{HaveAnswers, HaveIncoming, IsProblem, PassesNode, answer_row, orders, orders_below};
-ghost use Rattle.path_laws.specs.RowLaws.{Written};
+ghost use Rattle.path_laws.specs.Problem.{AreAllBetween, AreBegun, AreLed, GrowTo, HandsOn, HaveAnswers, HaveBlockShape, HaveBlocks, HaveFirsts, IsProblem, TakesIn, orders};
 
-use crate::passing::{node_at, pass};
+use crate::bits::Bits;
+use crate::passing::{join_seeds, node_at, stop_at};
 use crate::problems::Problem;
+use crate::seeds::is_end;
 use bit_rows::Rows;
+use fix_solve::Work;
+use flow_graph::Edge;
 use mir_base::Memory;
 use std::alloc::Global;
 
-/// The answers at all nodes. In go the rows that come to the blocks; they are used up.
+/// The answers at all nodes. Bits are joined to each row in place: at the first node of a block what the edges between
+/// blocks bring, and at each other node what the one before it hands on.
 pub(crate) fn filled(
     alloc: Global,
     problem: &Problem<'_>,
-    coming: &mut Rows,
+    edges: &[Edge],
+    work: &Work<Bits>,
 ) -> Result<Rows, Memory>
     requires problem { IsProblem problem.now }
-    requires coming { HaveIncoming problem.now 0 coming.old }
-    ensures { IfOk result (λ rows. HaveAnswers problem.now (orders problem.now) rows) }
+    requires edges { AreAllBetween problem.now edges.now }
+    requires shape { HaveBlockShape problem.now work.now }
+    requires leads { AreLed problem.now edges.now work.now }
+    ensures { IfOk result (HaveAnswers problem.now) }
 {
-    let mut rows = Rows::new(alloc, problem.graph.len(), problem.bits)?;
+    let mut rows = begun(alloc, problem)?;
+    come(problem, edges, work, &mut rows);
     for block in 0..problem.blocks.len() {
-        fill(problem, block, coming, &mut rows);
+        fill(problem, block, &mut rows);
     }
     Ok(rows)
 }
 
-/// The answers at the nodes of one block, in the order of the flow.
-fn fill(problem: &Problem<'_>, block: usize, coming: &mut Rows, rows: &mut Rows)
-    requires problem { IsProblem problem.now }
-    requires block { block < length problem.now.blocks.now.lists }
-    requires coming { HaveIncoming problem.now block coming.old }
-    requires rows { HaveAnswers problem.now (orders_below problem.now block) rows.old }
-    ensures coming { HaveIncoming problem.now (block + 1) coming.new }
-    ensures rows { HaveAnswers problem.now (orders_below problem.now (block + 1)) rows.new }
+/// The rows with which the answers begin: against the edges the seeds, and along them no bit.
+fn begun(alloc: Global, problem: &Problem<'_>) -> Result<Rows, Memory>
+    requires { IsProblem problem.now }
+    ensures { IfOk result (AreBegun problem.now) }
 {
-    let nodes = problem.blocks.nodes(block);
-    for place in 0..nodes.len() {
-        let node = node_at(nodes, problem.against, place);
-        fill_node(problem, block, node, coming, rows);
+    if !problem.against {
+        Rows::new(alloc, problem.graph.len(), problem.bits)
+    } else if !problem.every {
+        problem.born.copied(alloc)
+    } else {
+        seeds(alloc, problem)
     }
 }
 
-/// The answer at one node: against the edges what comes out of it, along them what comes to it.
-fn fill_node(problem: &Problem<'_>, block: usize, node: usize, coming: &mut Rows, rows: &mut Rows)
+/// The seeds of all nodes for every path against the edges: what is stopped and not born, and at a Return all that is
+/// not born.
+fn seeds(alloc: Global, problem: &Problem<'_>) -> Result<Rows, Memory>
     requires problem { IsProblem problem.now }
-    requires block { block < length coming.old }
-    requires node { node < length problem.now.graph.now.nodes }
-    requires coming_long { length (row_of coming.old block) ≡ problem.now.bits }
+    requires against { problem.now.against ≡ true }
+    requires every { problem.now.every ≡ true }
+    ensures { IfOk result (AreBegun problem.now) }
+{
+    let mut rows = problem.stop.copied(alloc)?;
+    rows.minus_rows(problem.born);
+    for node in 0..problem.graph.len() {
+        if is_end(problem.graph, problem.against, node) {
+            join_seeds(problem, &mut rows, node, node);
+        }
+    }
+    Ok(rows)
+}
+
+/// Joins what comes over the edges between blocks, so that the first node of each block has its answer.
+fn come(problem: &Problem<'_>, edges: &[Edge], work: &Work<Bits>, rows: &mut Rows)
+    requires problem { IsProblem problem.now }
+    requires edges { AreAllBetween problem.now edges.now }
+    requires shape { HaveBlockShape problem.now work.now }
+    requires leads { AreLed problem.now edges.now work.now }
+    requires rows { AreBegun problem.now rows.old }
+    ensures rows { GrowTo problem.now rows.new }
+    ensures firsts { HaveFirsts problem.now rows.new }
+{
+    for edge in edges {
+        take_in(problem, edge, work, rows);
+    }
+}
+
+/// Joins what comes over one edge: against the edges only what the first node of its target does not block.
+fn take_in(problem: &Problem<'_>, edge: &Edge, work: &Work<Bits>, rows: &mut Rows)
+    requires problem { IsProblem problem.now }
+    requires source { edge.now.source < length problem.now.blocks.now.lists }
+    requires target { edge.now.target < length problem.now.blocks.now.lists }
+    requires shape { HaveBlockShape problem.now work.now }
     requires rows { HaveShape problem.now.graph.now problem.now.bits rows.old }
-    ensures coming { PassesNode problem.now node block coming.old coming.new }
-    ensures rows { Written rows.old rows.new node (
-        answer_row problem.now node (row_of coming.old block)) }
+    ensures { TakesIn problem.now edge.now work.now rows.old rows.new }
+{
+    let node = first_of(problem, edge.target);
+    let value = work.value(edge.source).row();
+    if problem.against {
+        rows.or_minus_from(node, &value, &stop_at(problem, node));
+    } else {
+        rows.or_from(node, &value);
+    }
+}
+
+/// The first node of a block in the order of the flow.
+fn first_of(problem: &Problem<'_>, block: usize) -> usize
+    requires problem { IsProblem problem.now }
+    requires block { block < length problem.now.blocks.now.lists }
+    ensures first { slice_get (orders problem.now block) 0 ≡ Some result }
+    ensures node { result < length problem.now.graph.now.nodes }
+{
+    node_at(problem.blocks.nodes(block), problem.against, 0)
+}
+
+/// The answers at the other nodes of one block, in the order of the flow.
+fn fill(problem: &Problem<'_>, block: usize, rows: &mut Rows)
+    requires problem { IsProblem problem.now }
+    requires block { block < length problem.now.blocks.now.lists }
+    requires rows { GrowTo problem.now rows.old }
+    requires firsts { HaveFirsts problem.now rows.old }
+    requires blocks { HaveBlocks problem.now block rows.old }
+    ensures rows { GrowTo problem.now rows.new }
+    ensures firsts { HaveFirsts problem.now rows.new }
+    ensures blocks { HaveBlocks problem.now (block + 1) rows.new }
+{
+    let nodes = problem.blocks.nodes(block);
+    for place in 1..nodes.len() {
+        let before = node_at(nodes, problem.against, place - 1);
+        let node = node_at(nodes, problem.against, place);
+        hand_on(problem, before, node, rows);
+    }
+}
+
+/// Joins to the row of a node what the one before it in its block hands on.
+fn hand_on(problem: &Problem<'_>, before: usize, node: usize, rows: &mut Rows)
+    requires problem { IsProblem problem.now }
+    requires before { before < length problem.now.graph.now.nodes }
+    requires node { node < length problem.now.graph.now.nodes }
+    requires rows { HaveShape problem.now.graph.now problem.now.bits rows.old }
+    ensures { HandsOn problem.now before node rows.old rows.new }
 {
     if problem.against {
-        pass(problem, coming, block, node);
-        rows.copy_from(node, &coming.row(block));
+        rows.or_minus_within(node, before, &stop_at(problem, node));
     } else {
-        rows.copy_from(node, &coming.row(block));
-        pass(problem, coming, block, node);
+        rows.or_minus_within(node, before, &stop_at(problem, before));
+        join_seeds(problem, rows, node, before);
     }
 }

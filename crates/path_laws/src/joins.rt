@@ -3,37 +3,13 @@ ghost use Rattle.std.specs.Prelude.{◌≡◌, IfOk, OnOk};
 ghost use Rattle.flow_graph.specs.Edges.{edges_of};
 ghost use Rattle.flow_graph.specs.Graphs.{IsGraph};
 ghost use Rattle.path_laws.specs.Leads.{SomeStep};
-ghost use Rattle.flow_graph.specs.FlowEdges.{HaveEndsBelow};
-ghost use Rattle.path_laws.specs.Nets.{ComeAlong};
-ghost use Rattle.path_laws.specs.Paths.{AreRows, HaveShape, SomePred, SomeSucc, TellEach, width};
+ghost use Rattle.path_laws.specs.Paths.{HaveShape, SomePred, SomeSucc, TellEach, width};
 
-use crate::bits::Bits;
 use crate::graph_edges::flow_edge;
 use bit_rows::Rows;
-use fix_solve::Work;
-use flow_graph::{Edge, Edges, Graph};
+use flow_graph::{Edges, Graph};
 use mir_base::Memory;
 use std::alloc::Global;
-
-/// At which nodes of a flow some edge of this list brings each bit.
-pub(crate) fn come_along(
-    alloc: Global,
-    edges: &[Edge],
-    nodes: usize,
-    bits: usize,
-    work: &Work<Bits>,
-) -> Result<Rows, Memory>
-    requires ends { HaveEndsBelow nodes edges.now }
-    requires work { AreRows nodes bits work.now }
-    ensures shape { IfOk result (AreRows nodes bits) }
-    ensures joins { IfOk result (ComeAlong nodes bits edges.now work.now) }
-{
-    let mut all = Rows::new(alloc, nodes, bits)?;
-    for edge in edges {
-        all.or_from(edge.target, &work.value(edge.source).row());
-    }
-    Ok(all)
-}
 
 /// At which nodes each bit is true one step on, from a node to a successor, or, against the edges, to a predecessor.
 fn one_step_on(

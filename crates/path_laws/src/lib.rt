@@ -4,8 +4,8 @@
 //! The theorem that this crate carries is that each answer is exactly its statement on paths, for every graph, loops
 //! without exit included.
 //!
-//! The rows that go in are made here too: which key of a table each node has (`key_rows`), and what is said of the
-//! variable that a node assigns (`assigned_rows`).
+//! The rows that go in are made here too: the table of the keys that nodes have (`node_keys`), which key of a table each
+//! node has (`key_rows`), and what is said of the variable that a node assigns (`assigned_rows`).
 #![tactic(auto)]
 
 mod answers;
@@ -14,6 +14,7 @@ mod between;
 mod bits;
 mod calls;
 mod filling;
+mod gathering;
 mod graph_edges;
 mod joins;
 mod keyed;
@@ -26,5 +27,6 @@ pub use assigned::{assigned_rows, mark_operand, mark_var, push_true};
 pub use calls::{
     backward_all, backward_all_in, backward_some, backward_some_in, forward_all, forward_all_in,
 };
+pub use gathering::node_keys;
 pub use joins::{some_predecessor, some_successor};
 pub use keyed::{KeyOf, key_rows};

@@ -1,35 +1,66 @@
 // A row of bits through a node.
 ghost use Rattle.std.specs.Prelude.{◌≡◌, ◌<◌, length, slice_get, Some};
-ghost use Rattle.bit_rows.specs.Bits.{row_of};
+ghost use Rattle.bit_rows.specs.Bits.{and_bits, not_bits, row_of};
 ghost use Rattle.path_laws.specs.Blockwise.{flow_order};
-ghost use Rattle.path_laws.specs.Problem.{IsProblem, PassesNode, blocks_in};
+ghost use Rattle.path_laws.specs.Problem.{IsProblem, blocks_in, is_seed, row_after};
+ghost use Rattle.path_laws.specs.RowLaws.{Joined, Written};
 
 use crate::problems::Problem;
 use crate::seeds::is_end;
-use bit_rows::{RowView, Rows};
+use bit_rows::{Row, RowView, Rows};
 
 /// Takes a row through a node: in goes what comes to the node, and what comes out of it stays. For some path that is
 /// what the node does not stop, and what is born there; for every path what comes or is stopped there, or, where paths
 /// end, everything, without what is born there.
-pub(crate) fn pass(problem: &Problem<'_>, rows: &mut Rows, row: usize, node: usize)
+pub(crate) fn pass_row(problem: &Problem<'_>, row: &mut Row, node: usize)
     requires problem { IsProblem problem.now }
     requires node { node < length problem.now.graph.now.nodes }
-    requires row { row < length rows.old }
-    requires long { length (row_of rows.old row) ≡ problem.now.bits }
-    ensures { PassesNode problem.now node row rows.old rows.new }
+    requires long { length row.old ≡ problem.now.bits }
+    ensures { row.new ≡ row_after problem.now node row.old }
 {
     let born = problem.born.row(node);
     let stop = problem.stop.row(node);
     if !problem.every {
-        rows.minus_from(row, &stop);
-        rows.or_from(row, &born);
+        row.minus_from(&stop);
+        let _changed = row.or_from(&born);
     } else if is_end(problem.graph, problem.against, node) {
-        rows.copy_from(row, &born);
-        rows.flip(row);
+        row.copy_from(&born);
+        row.flip();
     } else {
-        rows.or_from(row, &stop);
-        rows.minus_from(row, &born);
+        let _changed = row.or_from(&stop);
+        row.minus_from(&born);
     }
+}
+
+/// Joins the seeds of a node to a row: for some path what is born there; for every path what is stopped there, or, where
+/// paths end, everything, without what is born there.
+pub(crate) fn join_seeds(problem: &Problem<'_>, rows: &mut Rows, row: usize, node: usize)
+    requires problem { IsProblem problem.now }
+    requires node { node < length problem.now.graph.now.nodes }
+    requires row { row < length rows.old }
+    requires long { length (row_of rows.old row) ≡ problem.now.bits }
+    ensures { Joined problem.now.bits rows.old rows.new row (λ b. is_seed problem.now b node) }
+{
+    let births = problem.born.row(node);
+    if !problem.every {
+        rows.or_from(row, &births);
+    } else if is_end(problem.graph, problem.against, node) {
+        or_opposite(rows, row, &births);
+    } else {
+        rows.or_minus_from(row, &problem.stop.row(node), &births);
+    }
+}
+
+/// The row becomes its disjunction with the opposite of another.
+fn or_opposite(rows: &mut Rows, row: usize, from: &RowView<'_>)
+    requires row { row < length rows.old }
+    requires equally_long { length (row_of rows.old row) ≡ length from.now }
+    ensures { Written rows.old rows.new row
+        (not_bits (and_bits (not_bits (row_of rows.old row)) from.now)) }
+{
+    rows.flip(row);
+    rows.and_from(row, from);
+    rows.flip(row);
 }
 
 /// Which bits do not come through a node.

@@ -1,48 +1,55 @@
 // What a block does to the bits that come to it.
-ghost use Rattle.std.specs.Prelude.{◌+◌, ◌<◌, length, IfOk};
-ghost use Rattle.path_laws.specs.Problem.{HaveBlocked, HavePassed, IsProblem, orders, orders_below};
+ghost use Rattle.std.specs.Prelude.{◌≡◌, ◌+◌, ◌<◌, length, IfOk, OnOk};
+ghost use Rattle.bit_rows.specs.Bits.{row_of};
+ghost use Rattle.path_laws.specs.Problem.{HaveBlocked, IsProblem, block_seeds};
 
-use crate::passing::{node_at, pass, stop_at};
+use crate::passing::{node_at, pass_row, stop_at};
 use crate::problems::Problem;
-use bit_rows::Rows;
+use bit_rows::{Row, Rows};
 use mir_base::Memory;
 use std::alloc::Global;
 
-/// For each block what comes out of it where nothing comes to it, and which bits do not come through it.
-#[derive(Drop)]
-pub(crate) struct Sums {
-    pub(crate) seeds: Rows,
-    pub(crate) stops: Rows,
-}
-
-/// The summary of each block.
-pub(crate) fn summaries(alloc: Global, problem: &Problem<'_>) -> Result<Sums, Memory>
-    requires { IsProblem problem.now }
-    ensures seeds { IfOk result (λ made. HavePassed problem.now (orders problem.now) made.seeds) }
-    ensures stops { IfOk result (λ made. HaveBlocked problem.now (orders problem.now) made.stops) }
-{
-    let count = problem.blocks.len();
-    let mut seeds = Rows::new(alloc, count, problem.bits)?;
-    let mut stops = Rows::new(alloc, count, problem.bits)?;
-    for block in 0..count {
-        sum(problem, block, &mut seeds, &mut stops);
-    }
-    Ok(Sums { seeds, stops })
-}
-
-/// The summary of one block: its nodes in the order of the flow.
-fn sum(problem: &Problem<'_>, block: usize, seeds: &mut Rows, stops: &mut Rows)
+/// What comes out of a block where nothing comes to it: a row of no bit, taken through its nodes.
+pub(crate) fn seed_of(alloc: Global, problem: &Problem<'_>, block: usize) -> Result<Row, Memory>
     requires problem { IsProblem problem.now }
     requires block { block < length problem.now.blocks.now.lists }
-    requires seeds { HavePassed problem.now (orders_below problem.now block) seeds.old }
-    requires stops { HaveBlocked problem.now (orders_below problem.now block) stops.old }
-    ensures seeds { HavePassed problem.now (orders_below problem.now (block + 1)) seeds.new }
-    ensures stops { HaveBlocked problem.now (orders_below problem.now (block + 1)) stops.new }
+    ensures { IfOk result (λ row. row ≡ row_of (block_seeds problem.now) block) }
 {
     let nodes = problem.blocks.nodes(block);
+    let mut row = Row::new(alloc, problem.bits)?;
     for place in 0..nodes.len() {
         let node = node_at(nodes, problem.against, place);
-        pass(problem, seeds, block, node);
+        pass_row(problem, &mut row, node);
+    }
+    Ok(row)
+}
+
+/// Which bits do not come through each block.
+pub(crate) fn stops_of(alloc: Global, problem: &Problem<'_>) -> Result<Rows, Memory>
+    requires { IsProblem problem.now }
+    ensures { IfOk result (HaveBlocked problem.now (length problem.now.blocks.now.lists)) }
+{
+    let count = problem.blocks.len();
+    let mut stops = Rows::with_room(alloc, count, problem.bits)?;
+    for block in 0..count {
+        push_stops(problem, block, &mut stops)?;
+    }
+    Ok(stops)
+}
+
+/// Puts the row of a block at the end: the bits that some node of the block blocks.
+fn push_stops(problem: &Problem<'_>, block: usize, stops: &mut Rows) -> Result<(), Memory>
+    requires problem { IsProblem problem.now }
+    requires block { block < length problem.now.blocks.now.lists }
+    requires stops { HaveBlocked problem.now block stops.old }
+    ensures { OnOk result (HaveBlocked problem.now (block + 1) stops.new) }
+{
+    let nodes = problem.blocks.nodes(block);
+    let first = node_at(nodes, problem.against, 0);
+    stops.push(&stop_at(problem, first))?;
+    for place in 1..nodes.len() {
+        let node = node_at(nodes, problem.against, place);
         stops.or_from(block, &stop_at(problem, node));
     }
+    Ok(())
 }

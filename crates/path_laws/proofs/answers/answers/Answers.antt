@@ -1,7 +1,10 @@
+use Rattle.std.proofs.Common.{◌≤◌, length, arith}
+use Rattle.flow_graph.specs.Edges.{edges_from}
 use Rattle.flow_graph.specs.Graphs.{AllWithin}
-use Rattle.path_laws.specs.Problem.{HasGraph, IsProblem, is_blocked, is_seed}
-use Rattle.path_laws.proofs.Coming.{answer_at}
-use Rattle.path_laws.proofs.Handed.{as_born, in_width, problem, pushes_born}
+use Rattle.path_laws.specs.Crossings.{crossings}
+use Rattle.path_laws.specs.Problem.{HasGraph, IsProblem}
+use Rattle.path_laws.proofs.Counting.{few_between}
+use Rattle.path_laws.proofs.Handed.{as_born, in_width, problem, pushes_born, pushes_few}
 use Rattle.path_laws.proofs.answers.answers.Goals as goal
 use Rattle.path_laws.proofs.answers.answers.Goals.{After-nodes-nodes}
 
@@ -13,11 +16,17 @@ is_problem g c =
     let within : AllWithin c.args.problem.now.graph.now.nodes = λ m slot s edge. (graph.can.succs m slot s edge).1 in
     problem p.graph.now.nodes p.bits p.born.now c.requires.born c.requires.bits p.edges.now p.blocks.now p.stop.now within c.requires.edges c.requires.blocks c.requires.stop
 
-pub coming-requires : goal.coming-requires
-coming-requires g c = is_problem g (goal.at.coming-requires g c).After-nodes-nodes
+pub led-requires-clause-problem : goal.led-requires-clause-problem
+led-requires-clause-problem g c = is_problem g (goal.at.led-requires-clause-problem g c).After-nodes-nodes
 
 pub filled-requires-clause-problem : goal.filled-requires-clause-problem
 filled-requires-clause-problem g c = is_problem g (goal.at.filled-requires-clause-problem g c).After-nodes-nodes
+
+pub filled-requires-clause-edges : goal.filled-requires-clause-edges
+filled-requires-clause-edges g c = (c.in_ok-between.between.firsts.items, rw c.deref.ensures.value c.in_ok-between.ensures)
+
+pub filled-requires-clause-leads : goal.filled-requires-clause-leads
+filled-requires-clause-leads g c = rw c.deref.ensures.value c.in_ok-work.ensures.leads
 
 pub returns-clause-graph : goal.returns-clause-graph
 returns-clause-graph g c = rw c.nodes-nodes.ensures.value at c.nodes-nodes.ensures.graph
@@ -26,11 +35,13 @@ pub returns-clause-shape : goal.returns-clause-shape
 returns-clause-shape g c = let p = c.args.problem.now in as_born p.graph.now.nodes p.bits p.born.now c.requires.born c.requires.bits c.in_ok-rows.rows c.in_ok-rows.ensures.shape
 
 pub returns-clause-answers : goal.returns-clause-answers
-returns-clause-answers g c = λ n b h l.
-    let p = c.args.problem.now in
-    answer_at p.against p.graph.now.nodes p.blocks.now.lists p.bits (is_seed p) (is_blocked p) c.in_ok-rows.rows c.requires.blocks.are c.in_ok-rows.ensures n b h (in_width p.graph.now.nodes p.bits p.born.now c.requires.born c.requires.bits n b h l)
+returns-clause-answers g c = λ n b h l. let p = c.args.problem.now in c.in_ok-rows.ensures.are n b h (in_width p.graph.now.nodes p.bits p.born.now c.requires.born c.requires.bits n b h l)
 
 pub returns-clause-pushes : goal.returns-clause-pushes
 returns-clause-pushes g c =
     let p = c.args.problem.now in
-    pushes_born p.graph.now.nodes p.bits p.born.now c.requires.born c.requires.bits p.blocks.now.lists p.edges.now c.args.steps.now c.coming.new.steps c.requires.edges c.in_ok-coming.ensures.pushes
+    let is = is_problem g (goal.at.returns-clause-pushes g c).After-nodes-nodes in
+    let most = few_between p.against p.graph.now.nodes p.blocks.now.lists is.blocks_are.are is.flow.within in
+    let few : length c.in_ok-between.between.edges.items ≤ crossings p.blocks.now.lists (edges_from 0 p.graph.now.nodes) = omega (arith, c.in_ok-between.ensures.few, most) in
+    pushes_born p.graph.now.nodes p.bits p.born.now c.requires.born c.requires.bits p.blocks.now.lists p.edges.now c.args.steps.now c.led.new.steps c.requires.edges
+    (pushes_few c.args.steps.now c.led.new.steps (length c.in_ok-between.between.edges.items) (crossings p.blocks.now.lists p.edges.now.edges) p.bits c.in_ok-work.ensures.pushes (rw c.requires.edges few))

@@ -1,4 +1,0 @@
-use Rattle.path_laws.proofs.calls.backward_all.Given as goal
-
-abbrev pub ghosts-told_from : goal.ghosts-told_from
-ghosts-told_from a = record { name = a.blank.name; parts = a.blank.parts }

@@ -1,0 +1,5 @@
+use Rattle.path_laws.specs.Problem.{HaveBlocked}
+use Rattle.path_laws.proofs.summaries.stops_of.Given as goal
+
+abbrev pub invariant-loop-block : goal.invariant-loop-block
+invariant-loop-block l = HaveBlocked l.problem l.block l.stops
