@@ -1,5 +1,5 @@
 -- Folding by states of a graph changes nothing: both step alike, and what is known before a node holds there.
-use Rattle.std.proofs.Common.{◌≡◌, ℕ, zero, suc, ◌+◌, ◌≤◌, Bool, true, false, if◌then◌else◌, nat_eq, List, [], ◌∷◌, length, slice_get, ℤ, pos, Option, Some, None, option_map, refl, sym, ap, ◌∙◌, subst, arith, add-zero, zero-add, replicate, FitsSigned, w64}
+use Rattle.std.proofs.Common.{◌≡◌, ℕ, zero, suc, ◌+◌, ◌≤◌, Bool, true, false, if◌then◌else◌, nat_eq, List, [], ◌∷◌, length, slice_get, ℤ, pos, Option, Some, None, option_map, refl, sym, ap, ◌∙◌, subst, arith, add-zero, zero-add, replicate}
 use Rattle.mir_base.specs.declared.instructions.Rhs.{Rhs}
 use Rattle.mir_base.specs.declared.instructions.Test as tests
 use Rattle.mir_base.specs.declared.operators.Trap.TheVariants.{ZeroDivisor}
@@ -7,10 +7,10 @@ use Rattle.mir_base.specs.Frames.{Values, Answer, all_zero, with_value, Frame, r
 use Rattle.mir_base.specs.Units.{test_holds, at, assigned}
 use Rattle.mir_base.specs.Expressions.{rhs_traps, rhs_value, rhs_count}
 use Rattle.mir_base.specs.ExpressionLaws.{assign_is}
-use Rattle.mir_base.specs.Runs.{AreNumbers}
 use Rattle.mir_base.specs.UnitRuns.{UnitSame, UnitCheaper}
 use Rattle.mir_base.specs.Locksteps.{Alike, Lockstep}
 use Rattle.mir_base.specs.LockstepLaws.{lockstep_same, lockstep_cheaper}
+use Rattle.mir_base.specs.FrameLaws.{FrameFits, rhs_fits, first_fits, at_fits, assigned_fits, resumed_fits}
 use Rattle.flow_graph.specs.declared.nodes.Node.{Node}
 use Rattle.flow_graph.specs.declared.nodes.Node.TheVariants.{Start, Skip, Assign, Print, Call, Test, Return}
 use Rattle.flow_graph.specs.Graphs.{IsEdge, node_succs, succs_of}
@@ -21,7 +21,7 @@ use Rattle.cond_const.specs.declared.known.Known.TheVariants.{Fixed, Varying}
 use Rattle.cond_const.specs.States.{NodeState, Unreached, Knows, BelowState}
 use Rattle.cond_const.specs.Folding.{resolved_test, folded_rhs, known_rhs, decided_test, after_call, known_after, slot_of, passes_by, passes, passed_along, folded_test, folded_node, folded_at, folded_from, folded_nodes}
 use Rattle.cond_const.specs.Folded.{AreStates}
-use Rattle.cond_const.proofs.Sound.{AllFit, Agrees, HoldsAt, holds_up, rhs_fits, rhs_folds, known_value, resolved_holds, test_decided, agrees_set, agrees_zeros, agrees_start, fits_set, fits_start, zeros_fit, resolved_value, resolved_values}
+use Rattle.cond_const.proofs.Sound.{Agrees, HoldsAt, holds_up, rhs_folds, known_value, resolved_holds, test_decided, agrees_set, agrees_zeros, agrees_start, fits_start, resolved_value, resolved_values}
 
 -- the same, counted from a number on
 folded_get_from : (k : ℕ) (states : ℕ → NodeState) (nodes : List Node) (n : ℕ) → slice_get (folded_from k states nodes) n ≡ option_map (folded_at (states (k + n))) (slice_get nodes n)
@@ -47,8 +47,7 @@ slot_leads test taken other false = refl
 record Together (states : ℕ → NodeState) (f g : Frame) : Type 0 where
   same : g ≡ f
   holds : HoldsAt (states f.place) f.values
-  fits : AllFit f.values
-  numbers : AreNumbers f.arguments
+  fits : FrameFits f
 
 module _ (received : List ℕ) (nodes : List Node) (size : ℕ) (states : ℕ → NodeState) (are : AreStates received nodes size states) where
   abbrev after : List Node
@@ -69,9 +68,9 @@ module _ (received : List ℕ) (nodes : List Node) (size : ℕ) (states : ℕ �
   takes false None says = refl
   takes b (Some d) says = subst (λ e. nat_eq (slot_of b) (slot_of e) ≡ true) (says d refl) (slot_itself b)
 
-  module _ (f : Frame) (ks : List Known) (known : states f.place ≡ Knows ks) (agrees : Agrees ks f.values) (fits : AllFit f.values) (numbers : AreNumbers f.arguments) where
-    together : (g : Frame) → HoldsAt (states g.place) g.values → AllFit g.values → AreNumbers g.arguments → Together states g g
-    together g h l k = record { same = refl; holds = h; fits = l; numbers = k }
+  module _ (f : Frame) (ks : List Known) (known : states f.place ≡ Knows ks) (agrees : Agrees ks f.values) (fits : FrameFits f) where
+    together : (g : Frame) → HoldsAt (states g.place) g.values → FrameFits g → Together states g g
+    together g h l = record { same = refl; holds = h; fits = l }
 
     assigned_alike : (v : ℕ) (rhs : Rhs) (next : ℕ) → slice_get nodes f.place ≡ Some (Assign v rhs next) → (t t' : Bool) (w : ℤ) (count : ℕ) → t' ≡ t → w ≡ rhs_value f.values rhs → count ≤ rhs_count rhs
         → Alike (Together states) (if t then Traps ZeroDivisor 1 else Continues (rhs_count rhs) (assigned v (rhs_value f.values rhs) next f)) (if t' then Traps ZeroDivisor 1 else Continues count (assigned v w next f))
@@ -83,9 +82,8 @@ module _ (received : List ℕ) (nodes : List Node) (size : ℕ) (states : ℕ �
       record {
         same = ap (λ z. assigned v z next f) value;
         holds = after_edge f.place 0 next ks (Assign v rhs next) (with_value v (rhs_value f.values rhs) f.values) known here refl refl
-            (agrees_set ks f.values v (known_rhs ks rhs) (rhs_value f.values rhs) agrees (λ c e. known_value ks f.values rhs c agrees fits e));
-        fits = fits_set f.values v (rhs_value f.values rhs) fits (rhs_fits f.values rhs fits);
-        numbers = numbers;
+            (agrees_set ks f.values v (known_rhs ks rhs) (rhs_value f.values rhs) agrees (λ c e. known_value ks f.values rhs c agrees fits.values e));
+        fits = assigned_fits v (rhs_value f.values rhs) next f (rhs_fits f.values rhs fits.values) fits;
       },
     )
 
@@ -93,60 +91,52 @@ module _ (received : List ℕ) (nodes : List Node) (size : ℕ) (states : ℕ �
     resumed_agrees None a s = agrees
     resumed_agrees (Some v) a s = agrees_set ks f.values v Varying a.value agrees (λ c e. cc)
 
-    resumed_fits : (into : Option ℕ) (a : Answer) (s : ℕ) → FitsSigned w64 a.value → AllFit (resumed into a (at s f)).values
-    resumed_fits None a s one = fits
-    resumed_fits (Some v) a s one = fits_set f.values v a.value fits one
-
-    resumed_numbers : (into : Option ℕ) (a : Answer) (s : ℕ) → AreNumbers (resumed into a (at s f)).arguments
-    resumed_numbers None a s = numbers
-    resumed_numbers (Some v) a s = numbers
-
     test_alike : (test : tests.Test) (taken other : ℕ) (o : Option Bool) → ((d : Bool) → o ≡ Some d → test_holds f.values test ≡ d) → Together states (at (if test_holds f.values test then taken else other) f) (at (if test_holds f.values test then taken else other) f)
         → Alike (Together states) (Continues 0 (at (if test_holds f.values test then taken else other) f)) (node_transition received (Some (folded_test (resolved_test ks test) taken other o)) f)
-    test_alike test taken other None says both = (omega arith, subst (λ b. Together states (at (if test_holds f.values test then taken else other) f) (at (if b then taken else other) f)) (sym (resolved_holds ks f.values test agrees fits)) both)
+    test_alike test taken other None says both = (omega arith, subst (λ b. Together states (at (if test_holds f.values test then taken else other) f) (at (if b then taken else other) f)) (sym (resolved_holds ks f.values test agrees fits.values)) both)
     test_alike test taken other (Some d) says both = (omega arith, subst (λ b. Together states (at (if test_holds f.values test then taken else other) f) (at (if b then taken else other) f)) (says d refl) both)
 
     at_node : (node : Node) → slice_get nodes f.place ≡ Some node → Alike (Together states) (node_transition received (Some node) f) (node_transition received (Some (folded_node ks node)) f)
     at_node (Start next) here = (
       omega arith,
       together (record { place = next; arguments = f.arguments; values = received_from 0 received f.arguments all_zero })
-          (after_edge f.place 0 next ks (Start next) (received_from 0 received f.arguments all_zero) known here refl refl (agrees_start received f.arguments (length ks))) (fits_start received f.arguments numbers) numbers,
+          (after_edge f.place 0 next ks (Start next) (received_from 0 received f.arguments all_zero) known here refl refl (agrees_start received f.arguments (length ks))) (record { values = fits_start received f.arguments fits.arguments; arguments = fits.arguments }),
     )
-    at_node (Skip next) here = (omega arith, together (at next f) (after_edge f.place 0 next ks (Skip next) f.values known here refl refl agrees) fits numbers)
+    at_node (Skip next) here = (omega arith, together (at next f) (after_edge f.place 0 next ks (Skip next) f.values known here refl refl agrees) (at_fits next f fits))
     at_node (Assign v rhs next) here =
-        let folds = rhs_folds ks f.values rhs agrees fits in
+        let folds = rhs_folds ks f.values rhs agrees fits.values in
         let alike = assigned_alike v rhs next here (rhs_traps f.values rhs) (rhs_traps f.values (folded_rhs ks rhs)) (rhs_value f.values (folded_rhs ks rhs)) (rhs_count (folded_rhs ks rhs)) folds.traps folds.value folds.count in
         let left = subst (λ t. Alike (Together states) t (if rhs_traps f.values (folded_rhs ks rhs) then Traps ZeroDivisor 1 else Continues (rhs_count (folded_rhs ks rhs)) (assigned v (rhs_value f.values (folded_rhs ks rhs)) next f))) (sym (assign_is v rhs next f)) alike in
         subst (Alike (Together states) (node_transition received (Some (Assign v rhs next)) f)) (sym (assign_is v (folded_rhs ks rhs) next f)) left
-    at_node (Print a next) here = (sym (resolved_value ks f.values a agrees fits), together (at next f) (after_edge f.place 0 next ks (Print a next) f.values known here refl refl agrees) fits numbers)
+    at_node (Print a next) here = (sym (resolved_value ks f.values a agrees fits.values), together (at next f) (after_edge f.place 0 next ks (Print a next) f.values known here refl refl agrees) (at_fits next f fits))
     at_node (Call into unit operands next) here = (
       refl,
-      ap (λ vs. record { arguments = vs }) (sym (resolved_values ks f.values operands agrees fits)),
+      ap (λ vs. record { arguments = vs }) (sym (resolved_values ks f.values operands agrees fits.values)),
       λ a one. together (resumed into a (at next f))
           (subst (λ p. HoldsAt (states p) (resumed into a (at next f)).values) (sym (resumed_place into a (at next f)))
           (after_edge f.place 0 next ks (Call into unit operands next) (resumed into a (at next f)).values known here refl refl (resumed_agrees into a next)))
-          (resumed_fits into a next one) (resumed_numbers into a next),
+          (resumed_fits into a (at next f) one (at_fits next f fits)),
     )
     at_node (Test test taken other) here =
-        let says : (d : Bool) → decided_test ks test ≡ Some d → test_holds f.values test ≡ d = λ d e. test_decided ks f.values test d agrees fits e in
+        let says : (d : Bool) → decided_test ks test ≡ Some d → test_holds f.values test ≡ d = λ d e. test_decided ks f.values test d agrees fits.values e in
         test_alike test taken other (decided_test ks test) says
         (together (at (if test_holds f.values test then taken else other) f)
         (after_edge f.place (slot_of (test_holds f.values test)) (if test_holds f.values test then taken else other) ks (Test test taken other) f.values known here
         (slot_leads test taken other (test_holds f.values test)) (takes (test_holds f.values test) (decided_test ks test) says) agrees)
-        fits numbers)
-    at_node (Return a) here = ap (λ v. record { value = v }) (sym (resolved_value ks f.values a agrees fits))
+        (at_fits (if test_holds f.values test then taken else other) f fits))
+    at_node (Return a) here = ap (λ v. record { value = v }) (sym (resolved_value ks f.values a agrees fits.values))
 
     at_place : (o : Option Node) → slice_get nodes f.place ≡ o → Alike (Together states) (node_transition received o f) (node_transition received (option_map (folded_node ks) o) f)
     at_place None here = refl
     at_place (Some node) here = at_node node here
 
-  stepping : (f : Frame) (s : NodeState) → states f.place ≡ s → HoldsAt s f.values → AllFit f.values → AreNumbers f.arguments → Alike (Together states) (node_transition received (slice_get nodes f.place) f) (node_transition received (option_map (folded_at s) (slice_get nodes f.place)) f)
-  stepping f (Unreached n) known holds fits numbers = absurd holds
-  stepping f (Knows ks) known holds fits numbers = at_place f ks known holds fits numbers (slice_get nodes f.place) refl
+  stepping : (f : Frame) (s : NodeState) → states f.place ≡ s → HoldsAt s f.values → FrameFits f → Alike (Together states) (node_transition received (slice_get nodes f.place) f) (node_transition received (option_map (folded_at s) (slice_get nodes f.place)) f)
+  stepping f (Unreached n) known holds fits = absurd holds
+  stepping f (Knows ks) known holds fits = at_place f ks known holds fits (slice_get nodes f.place) refl
 
   steps : (f g : Frame) → Together states f g → Alike (Together states) (graph_code received nodes f) (graph_code received after g)
   steps f g r =
-      let alike = stepping f (states f.place) refl r.holds r.fits r.numbers in
+      let alike = stepping f (states f.place) refl r.holds r.fits in
       let there = subst (λ o. Alike (Together states) (node_transition received (slice_get nodes f.place) f) (node_transition received o f)) (sym (folded_get states nodes f.place)) alike in
       subst (λ h. Alike (Together states) (graph_code received nodes f) (graph_code received after h)) (sym r.same) there
 
@@ -156,8 +146,7 @@ module _ (received : List ℕ) (nodes : List Node) (size : ℕ) (states : ℕ �
     starts = λ entry is. record {
       same = refl;
       holds = holds_up (Knows (replicate size (Fixed (pos 0)))) (states 0) all_zero are.start (agrees_zeros size);
-      fits = zeros_fit;
-      numbers = is.numbers;
+      fits = first_fits entry is.numbers;
     };
     steps = steps;
   }

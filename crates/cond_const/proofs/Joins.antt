@@ -1,7 +1,7 @@
 -- A join that was made place by place.
 use Rattle.std.proofs.Common.{◌≡◌, ◌≢◌, inl, inr, ◌↔◌, ℕ, zero, suc, ◌+◌, ◌<◌, ◌≤◌, Bool, true, false, ◌||◌, slice_set, length-set, List, [], ◌∷◌, length, get_or, refl, sym, ap, arith, ◌∙◌}
 use Rattle.std.proofs.lemmas.List.{ext_get_or, get_or-set_same, get_or-set_other, get_or_default}
-use Rattle.std.proofs.lemmas.Bool.{cases_eq}
+use Rattle.std.proofs.lemmas.Bool.{cases_eq, or_parts}
 use Rattle.cond_const.specs.declared.known.Known.{Known}
 use Rattle.cond_const.specs.declared.known.Known.TheVariants.{Varying}
 use Rattle.cond_const.specs.States.{joined_known, joined_each}
@@ -32,16 +32,6 @@ pub record JoinedTo (xs ys zs : List Known) (changed : Bool) (i : ℕ) : Type 0 
   pub same : changed ≡ false → (k : ℕ) → known_at zs k ≡ known_at xs k
   pub moved : changed ≡ true → (k : ℕ) × (known_at zs k ≢ known_at xs k)
 
--- neither has changed
-or_off_left : (a b : Bool) → (a || b) ≡ false → a ≡ false
-or_off_left true b h = h
-or_off_left false b h = refl
-
--- where a disjunction is off, so is its second part
-or_off_right : (a b : Bool) → (a || b) ≡ false → b ≡ false
-or_off_right true b h = absurd (cc)
-or_off_right false b h = h
-
 -- one place more
 pub join_step : (xs ys zs : List Known) (changed : Bool) (i : ℕ) (v : Known) (moves : Bool) (d : Known) → JoinedTo xs ys zs changed i → i < length xs → length xs ≡ length ys
     → v ≡ joined_known (get_or zs i d) (get_or ys i d) → ((moves ≡ false) ↔ (v ≡ get_or zs i d)) → JoinedTo xs ys (slice_set zs i v) (changed || moves) (i + 1)
@@ -60,8 +50,8 @@ join_step xs ys zs changed i v moves d before within len is tells =
       ];
       rest = λ k h. get_or-set_other zs i k v Varying (λ e. omega (arith, h, e)) ∙ before.rest k (omega (arith, h));
       same = λ off k. elim (cases_eq k i) as (λ _. known_at (slice_set zs i v) k ≡ known_at xs k) [
-        | inl e ↦ rw e (at_i ∙ tells.0 (or_off_right changed moves off) ∙ z_is ∙ before.rest i (omega arith))
-        | inr apart ↦ get_or-set_other zs i k v Varying apart ∙ before.same (or_off_left changed moves off) k
+        | inl e ↦ rw e (at_i ∙ tells.0 (or_parts changed moves off).1 ∙ z_is ∙ before.rest i (omega arith))
+        | inr apart ↦ get_or-set_other zs i k v Varying apart ∙ before.same (or_parts changed moves off).0 k
       ];
       moved = λ on. moved_at changed moves before tells z_is at_i on;
     }

@@ -18,6 +18,7 @@ use Rattle.mir_base.specs.Frames.{Values, all_zero, with_value}
 use Rattle.mir_base.specs.Units.{operand_value, test_holds}
 use Rattle.mir_base.specs.Expressions.{rhs_traps, rhs_value, rhs_count}
 use Rattle.mir_base.specs.Runs.{AreNumbers}
+use Rattle.mir_base.specs.FrameLaws.{ValuesFit, operand_fits, argument_fits}
 use Rattle.flow_graph.specs.ListLaws.{cons_same}
 use Rattle.flow_graph.specs.Machines.{received_from}
 use Rattle.cond_const.specs.declared.known.Known.{Known}
@@ -30,10 +31,6 @@ use Rattle.cond_const.specs.Folding.{known_at, resolved_as, resolved, resolved_r
 use Rattle.cond_const.specs.IdentityLaws.{same_keeps, right_keeps, left_keeps}
 use Rattle.cond_const.specs.RelationLaws.{relation_same}
 use Rattle.cond_const.specs.PassingLaws.{below_at}
-
--- all values are signed 64-bit numbers
-pub record AllFit (values : Values) : Type 0 where
-  pub fit : (x : ℕ) → FitsSigned w64 (values x)
 
 -- each variable of which a constant is known has it
 pub record Agrees (ks : List Known) (values : Values) : Type 0 where
@@ -62,13 +59,8 @@ holds_up (Knows xs) (Knows ys) values p h = agrees_up xs ys values p h
 
 -- ---- values
 
--- the value of an operand is a signed 64-bit number
-operand_fits : (values : Values) (a : Operand) → AllFit values → FitsSigned w64 (operand_value values a)
-operand_fits values (Var x) fits = fits.fit x
-operand_fits values (Const c) fits = SFits-int_wrap w64 c
-
 -- a resolved operand has the value
-pub resolved_value : (ks : List Known) (values : Values) (a : Operand) → Agrees ks values → AllFit values → operand_value values (resolved ks a) ≡ operand_value values a
+pub resolved_value : (ks : List Known) (values : Values) (a : Operand) → Agrees ks values → ValuesFit values → operand_value values (resolved ks a) ≡ operand_value values a
 resolved_value ks values (Const c) agrees fits = refl
 resolved_value ks values (Var x) agrees fits = cases (known_at ks x) refl
   where
@@ -77,15 +69,9 @@ resolved_value ks values (Var x) agrees fits = cases (known_at ks x) refl
     cases Varying e = refl
 
 -- and so have the arguments of a call
-pub resolved_values : (ks : List Known) (values : Values) (operands : List Operand) → Agrees ks values → AllFit values → map (operand_value values) (map (resolved ks) operands) ≡ map (operand_value values) operands
+pub resolved_values : (ks : List Known) (values : Values) (operands : List Operand) → Agrees ks values → ValuesFit values → map (operand_value values) (map (resolved ks) operands) ≡ map (operand_value values) operands
 resolved_values ks values [] agrees fits = refl
 resolved_values ks values (a ∷ operands) agrees fits = cons_same (resolved_value ks values a agrees fits) (resolved_values ks values operands agrees fits)
-
--- the value of a right side is a signed 64-bit number
-pub rhs_fits : (values : Values) (rhs : Rhs) → AllFit values → FitsSigned w64 (rhs_value values rhs)
-rhs_fits values (Plain a) fits = operand_fits values a fits
-rhs_fits values (Unary op a) fits = un_value_fits op _
-rhs_fits values (Binary op a b) fits = value_fits op _ _ (operand_fits values a fits) (operand_fits values b fits)
 
 -- the second right side does what the first does, and counts no more
 pub record FoldsTo (values : Values) (rhs rhs' : Rhs) : Type 0 where
@@ -98,7 +84,7 @@ stays : (values : Values) (rhs : Rhs) → FoldsTo values rhs rhs
 stays values rhs = record { traps = refl; value = refl; count = omega arith }
 
 -- by an identity
-by_identity_folds : (values : Values) (r : Identity) (o : Operand) (op : Op) (a b : Operand) → AllFit values → IsIdentity r (operand_value values o) op (operand_value values a) (operand_value values b) → FoldsTo values (Binary op a b) (by_identity r o (Binary op a b))
+by_identity_folds : (values : Values) (r : Identity) (o : Operand) (op : Op) (a b : Operand) → ValuesFit values → IsIdentity r (operand_value values o) op (operand_value values a) (operand_value values b) → FoldsTo values (Binary op a b) (by_identity r o (Binary op a b))
 by_identity_folds values Absent o op a b fits keeps = stays values (Binary op a b)
 by_identity_folds values Itself o op a b fits keeps = record { traps = sym keeps.0; value = sym keeps.1; count = omega arith }
 by_identity_folds values (Always c) o op a b fits keeps =
@@ -114,7 +100,7 @@ constants_fold values op a b true is = stays values (Binary op (Const a) (Const 
 constants_fold values op a b false is = record { traps = sym is; value = int_wrap_fits w64 _ (value_fits op _ _ (SFits-int_wrap w64 a) (SFits-int_wrap w64 b)); count = omega arith }
 
 -- on any two operands
-binary_folds : (values : Values) (op : Op) (a b : Operand) → AllFit values → FoldsTo values (Binary op a b) (folded_binary op a b)
+binary_folds : (values : Values) (op : Op) (a b : Operand) → ValuesFit values → FoldsTo values (Binary op a b) (folded_binary op a b)
 binary_folds values op (Const a) (Const b) fits = constants_fold values op a b (traps op (wrapped b)) refl
 binary_folds values op (Var x) (Const b) fits = by_identity_folds values (identity_right op (wrapped b)) (Var x) op (Var x) (Const b) fits (right_keeps op (values x) (wrapped b) (fits.fit x) (SFits-int_wrap w64 b))
 binary_folds values op (Const a) (Var y) fits = by_identity_folds values (identity_left op (wrapped a)) (Var y) op (Const a) (Var y) fits (left_keeps op (values y) (wrapped a) (fits.fit y) (SFits-int_wrap w64 a))
@@ -127,14 +113,14 @@ binary_folds values op (Var x) (Var y) fits = cases (nat_eq x y) refl
     cases false is = stays values (Binary op (Var x) (Var y))
 
 -- any right side
-folded_folds : (values : Values) (rhs : Rhs) → AllFit values → FoldsTo values rhs (folded rhs)
+folded_folds : (values : Values) (rhs : Rhs) → ValuesFit values → FoldsTo values rhs (folded rhs)
 folded_folds values (Plain a) fits = stays values (Plain a)
 folded_folds values (Unary op (Var x)) fits = stays values (Unary op (Var x))
 folded_folds values (Unary op (Const c)) fits = record { traps = refl; value = int_wrap_fits w64 _ (un_value_fits op _); count = omega arith }
 folded_folds values (Binary op a b) fits = binary_folds values op a b fits
 
 -- with its operands resolved
-resolved_folds : (ks : List Known) (values : Values) (rhs : Rhs) → Agrees ks values → AllFit values → FoldsTo values rhs (resolved_rhs ks rhs)
+resolved_folds : (ks : List Known) (values : Values) (rhs : Rhs) → Agrees ks values → ValuesFit values → FoldsTo values rhs (resolved_rhs ks rhs)
 resolved_folds ks values (Plain a) agrees fits = record { traps = refl; value = resolved_value ks values a agrees fits; count = omega arith }
 resolved_folds ks values (Unary op a) agrees fits = record { traps = refl; value = ap (value_of_un_op op) (resolved_value ks values a agrees fits); count = omega arith }
 resolved_folds ks values (Binary op a b) agrees fits =
@@ -147,7 +133,7 @@ resolved_folds ks values (Binary op a b) agrees fits =
     }
 
 -- both
-pub rhs_folds : (ks : List Known) (values : Values) (rhs : Rhs) → Agrees ks values → AllFit values → FoldsTo values rhs (folded_rhs ks rhs)
+pub rhs_folds : (ks : List Known) (values : Values) (rhs : Rhs) → Agrees ks values → ValuesFit values → FoldsTo values rhs (folded_rhs ks rhs)
 rhs_folds ks values rhs agrees fits =
     let one = resolved_folds ks values rhs agrees fits in
     let two = folded_folds values (resolved_rhs ks rhs) fits in
@@ -161,7 +147,7 @@ known_is values (Unary op a) c e = cc
 known_is values (Binary op a b) c e = cc
 
 -- so what is known of a right side is its value
-pub known_value : (ks : List Known) (values : Values) (rhs : Rhs) (c : ℤ) → Agrees ks values → AllFit values → known_rhs ks rhs ≡ Fixed c → rhs_value values rhs ≡ c
+pub known_value : (ks : List Known) (values : Values) (rhs : Rhs) (c : ℤ) → Agrees ks values → ValuesFit values → known_rhs ks rhs ≡ Fixed c → rhs_value values rhs ≡ c
 known_value ks values rhs c agrees fits e = sym (rhs_folds ks values rhs agrees fits).value ∙ known_is values (folded_rhs ks rhs) c e
 
 -- ---- tests
@@ -189,14 +175,14 @@ decided_holds values (Fails (Var x)) d e = cc
 decided_holds values (Fails (Const a)) d e = cc
 
 -- a test with its operands resolved holds where it does
-pub resolved_holds : (ks : List Known) (values : Values) (test : tests.Test) → Agrees ks values → AllFit values → test_holds values (resolved_test ks test) ≡ test_holds values test
+pub resolved_holds : (ks : List Known) (values : Values) (test : tests.Test) → Agrees ks values → ValuesFit values → test_holds values (resolved_test ks test) ≡ test_holds values test
 resolved_holds ks values (Rel op a b) agrees fits =
     ap (λ v. relation_holds op v (operand_value values (resolved ks b))) (resolved_value ks values a agrees fits) ∙ ap (relation_holds op (operand_value values a)) (resolved_value ks values b agrees fits)
 resolved_holds ks values (Holds a) agrees fits = ap (λ v. not (int_eq v (pos 0))) (resolved_value ks values a agrees fits)
 resolved_holds ks values (Fails a) agrees fits = ap (λ v. int_eq v (pos 0)) (resolved_value ks values a agrees fits)
 
 -- so a test that is decided holds as it says
-pub test_decided : (ks : List Known) (values : Values) (test : tests.Test) (d : Bool) → Agrees ks values → AllFit values → decided_test ks test ≡ Some d → test_holds values test ≡ d
+pub test_decided : (ks : List Known) (values : Values) (test : tests.Test) (d : Bool) → Agrees ks values → ValuesFit values → decided_test ks test ≡ Some d → test_holds values test ≡ d
 test_decided ks values test d agrees fits e = sym (resolved_holds ks values test agrees fits) ∙ decided_holds values (resolved_test ks test) d e
 
 -- ---- what is known after a node
@@ -236,7 +222,7 @@ pub agrees_start : (received : List ℕ) (arguments : List ℤ) (n : ℕ) → Ag
 agrees_start received arguments n = agrees_varying received arguments 0 (replicate n (Fixed (pos 0))) all_zero (agrees_zeros n)
 
 -- values stay signed 64-bit numbers
-pub fits_set : (values : Values) (x : ℕ) (v : ℤ) → AllFit values → FitsSigned w64 v → AllFit (with_value x v values)
+fits_set : (values : Values) (x : ℕ) (v : ℤ) → ValuesFit values → FitsSigned w64 v → ValuesFit (with_value x v values)
 fits_set values x v fits one = record { fit = λ y. cases y (nat_eq y x) }
   where
     cases : (y : ℕ) (t : Bool) → FitsSigned w64 (if t then v else values y)
@@ -244,22 +230,15 @@ fits_set values x v fits one = record { fit = λ y. cases y (nat_eq y x) }
     cases y false = fits.fit y
 
 -- 0 is one
-pub zeros_fit : AllFit all_zero
+zeros_fit : ValuesFit all_zero
 zeros_fit = record { fit = λ x. zero_fits }
 
--- and so is each argument
-argument_fits : (arguments : List ℤ) (i : ℕ) → AreNumbers arguments → FitsSigned w64 (slice_index_or arguments i (pos 0))
-argument_fits arguments i numbers = elim (cases_lt i (length arguments)) as (λ _. FitsSigned w64 (slice_index_or arguments i (pos 0))) [
-  | inl within ↦ numbers i (pos 0) within
-  | inr past ↦ (let none : slice_index_or arguments i (pos 0) ≡ pos 0 = get_or_past arguments i (pos 0) (omega (arith, past)) in subst (FitsSigned w64) (sym none) zero_fits)
-]
-
 -- so after Start they are
-fits_received : (received : List ℕ) (arguments : List ℤ) (i : ℕ) (values : Values) → AreNumbers arguments → AllFit values → AllFit (received_from i received arguments values)
+fits_received : (received : List ℕ) (arguments : List ℤ) (i : ℕ) (values : Values) → AreNumbers arguments → ValuesFit values → ValuesFit (received_from i received arguments values)
 fits_received [] arguments i values numbers fits = fits
 fits_received (x ∷ xs) arguments i values numbers fits =
     fits_received xs arguments (suc i) (with_value x (slice_index_or arguments i (pos 0)) values) numbers (fits_set values x (slice_index_or arguments i (pos 0)) fits (argument_fits arguments i numbers))
 
 -- for all arguments
-pub fits_start : (received : List ℕ) (arguments : List ℤ) → AreNumbers arguments → AllFit (received_from 0 received arguments all_zero)
+pub fits_start : (received : List ℕ) (arguments : List ℤ) → AreNumbers arguments → ValuesFit (received_from 0 received arguments all_zero)
 fits_start received arguments numbers = fits_received received arguments 0 all_zero numbers zeros_fit

@@ -4,8 +4,7 @@ use Rattle.std.proofs.lemmas.Int.{int_wrap_fits}
 use Rattle.std.proofs.lemmas.Option.{slice_get-get_or, get_or_from_slice_get}
 use Rattle.mir_base.specs.declared.operators.Op.{Op}
 use Rattle.mir_base.specs.declared.operators.Trap.TheVariants.{ZeroDivisor}
-use Rattle.mir_base.specs.declared.instructions.Operand.TheVariants.{Var, Const}
-use Rattle.mir_base.specs.declared.instructions.Rhs.{Rhs}
+use Rattle.mir_base.specs.declared.instructions.Operand.TheVariants.{Const}
 use Rattle.mir_base.specs.declared.instructions.Rhs.TheVariants.{Plain, Binary}
 use Rattle.mir_base.specs.Numbers.{evaluation, wrapped, traps, value_of_op}
 use Rattle.mir_base.specs.NumberLaws.{value_fits}
@@ -14,10 +13,8 @@ use Rattle.flow_graph.specs.Blocks.{IsChain}
 use Rattle.flow_graph.specs.BlockLaws.{chain_within}
 use Rattle.flow_graph.specs.BoundLaws.{edge_within}
 use Rattle.flow_graph.specs.ListLaws.{some_at, take_next}
-use Rattle.cond_const.specs.declared.identities.Identity.{Identity}
-use Rattle.cond_const.specs.Identities.{identity_left, identity_right}
 use Rattle.cond_const.specs.States.{NodeState}
-use Rattle.cond_const.specs.Folding.{passed_along, by_identity, folded_binary}
+use Rattle.cond_const.specs.Folding.{passed_along, folded_binary}
 use Rattle.cond_const.specs.Blockwise.{along_at, through_nodes}
 use Rattle.cond_const.proofs.Nodewise.{through_more}
 
@@ -56,15 +53,3 @@ constants_are op c d v fits_c fits_d e = by_trap (traps op (wrapped d)) (e ∙ a
         let fits : FitsSigned w64 (value_of_op op (wrapped c) (wrapped d)) =
         value_fits op (wrapped c) (wrapped d) (subst (FitsSigned w64) (sym (int_wrap_fits w64 c fits_c)) fits_c) (subst (FitsSigned w64) (sym (int_wrap_fits w64 d fits_d)) fits_d) in
         ap (λ z. Plain (Const (to_z w64 (of_z w64 z)))) is ∙ ap (λ z. Plain (Const z)) (to_z-of_z fits)
-
--- an identity of a constant and a variable
-pub left_is : (op : Op) (c : ℤ) (y : ℕ) (identity : Identity) (r : Rhs) → FitsSigned w64 c → identity ≡ identity_left op (to_z w64 (of_z w64 c)) → r ≡ by_identity identity (Var y) (Binary op (Const (to_z w64 (of_z w64 c))) (Var y)) → r ≡ folded_binary op (Const c) (Var y)
-left_is op c y identity r fits is made =
-    made ∙ ap (λ i. by_identity i (Var y) (Binary op (Const (to_z w64 (of_z w64 c))) (Var y))) is
-    ∙ ap (λ z. by_identity (identity_left op z) (Var y) (Binary op (Const (to_z w64 (of_z w64 c))) (Var y))) (wraps_back c fits) ∙ ap (λ z. by_identity (identity_left op (wrapped c)) (Var y) (Binary op (Const z) (Var y))) (to_z-of_z fits)
-
--- and of a variable and a constant
-pub right_is : (op : Op) (x : ℕ) (d : ℤ) (identity : Identity) (r : Rhs) → FitsSigned w64 d → identity ≡ identity_right op (to_z w64 (of_z w64 d)) → r ≡ by_identity identity (Var x) (Binary op (Var x) (Const (to_z w64 (of_z w64 d)))) → r ≡ folded_binary op (Var x) (Const d)
-right_is op x d identity r fits is made =
-    made ∙ ap (λ i. by_identity i (Var x) (Binary op (Var x) (Const (to_z w64 (of_z w64 d))))) is
-    ∙ ap (λ z. by_identity (identity_right op z) (Var x) (Binary op (Var x) (Const (to_z w64 (of_z w64 d))))) (wraps_back d fits) ∙ ap (λ z. by_identity (identity_right op (wrapped d)) (Var x) (Binary op (Var x) (Const z))) (to_z-of_z fits)

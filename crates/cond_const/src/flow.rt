@@ -1,5 +1,5 @@
-// The states as a flow over blocks: they are kept only where blocks begin, and pass through a block on the way along an edge
-// of its last node.
+// The states as a flow over blocks: they are kept only where blocks begin, and pass through a block on the way along an
+// edge of its last node.
 ghost use Rattle.std.specs.Prelude.{◌≡◌, ◌<◌, ◌-◌, length, take};
 ghost use Rattle.flow_graph.specs.Blocks.{IsChain};
 ghost use Rattle.cond_const.specs.Blockwise.{IsStateFlow, last_of, fold_net, out_of, through_nodes};
@@ -111,7 +111,8 @@ impl<'a, L: Ledger> StateFlow<'a, L> {
     }
 }
 
-/// Leaves what passes through a block and along the edge at this slot of its last node, and answers whether anything does.
+/// Leaves what passes through a block and along the edge at this slot of its last node, and answers whether anything
+/// does.
 fn leave(graph: &Graph, list: &[usize], slot: usize, reached: bool, known: &mut [Known]) -> bool
     requires { IsChain graph.now.nodes list.now }
     ensures passes { state_where result known.new

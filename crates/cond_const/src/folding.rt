@@ -1,7 +1,6 @@
 // The graph with what is known in the place of what is computed.
-ghost use Rattle.std.specs.Prelude.{◌≡◌, IfOk};
+ghost use Rattle.std.specs.Prelude.{IfOk};
 ghost use Rattle.flow_graph.specs.Blocks.{AreBlocksOf};
-ghost use Rattle.flow_graph.specs.Graphs.{IsGraph};
 ghost use Rattle.flow_graph.specs.Passes.{GraphKeeps};
 ghost use Rattle.cond_const.specs.Folded.{AreFolded, IsFolded, IsOnlyFolded, KeepsDivisions};
 
@@ -12,13 +11,14 @@ use mir_base::Memory;
 use std::alloc::Global;
 
 /// The folded graph. Each node has a state: no run comes to it, or each variable has there one constant value or is
-/// varying. After Start the received variables are varying and the others 0; an assignment gives its variable the constant
-/// that its right side becomes, if it becomes one, and a call makes its variable varying; a test that is decided passes
-/// its state along the edge that it takes alone; where edges meet, equal constants stay. The least such states are meant.
+/// varying. After Start the received variables are varying and the others 0; an assignment gives its variable the
+/// constant that its right side becomes, if it becomes one, and a call makes its variable varying; a test that is
+/// decided passes its state along the edge that it takes alone; where edges meet, equal constants stay. The least such
+/// states are meant.
 ///
 /// By them each variable operand with a constant value becomes the constant, a right side whose value is then known
-/// becomes that value, or, by an identity, its operand; a decided test becomes a Skip to the successor that it takes; and
-/// the nodes that are not reached are dropped. A division by the constant 0 stays, with its operands replaced.
+/// becomes that value, or, by an identity, its operand; a decided test becomes a Skip to the successor that it takes;
+/// and the nodes that are not reached are dropped. A division by the constant 0 stays, with its operands replaced.
 ///
 /// The graph does the same and evaluates no more operators. It fails only with `Memory`.
 pub fn fold(alloc: Global, graph: &Graph) -> Result<Graph, Memory>
@@ -33,20 +33,20 @@ pub fn fold(alloc: Global, graph: &Graph) -> Result<Graph, Memory>
     // each division that is reached keeps its variable, and unless its divisor is known and not 0 its operator
     ensures divides { IfOk result (KeepsDivisions graph.now) }
 {
-    let nodes = folded(alloc, graph)?;
+    let _nodes = graph.nodes();
+    let blocks = blocks(alloc, graph)?;
+    let nodes = folded(alloc, graph, &blocks)?;
     let folded = graph.with_nodes(alloc, nodes)?;
     Ok(folded)
 }
 
 /// What the nodes of the graph become by its least states.
-fn folded(alloc: Global, graph: &Graph) -> Result<Vec<Node>, Memory>
-    ensures are { IfOk result (λ folded. AreFolded graph.now folded.items) }
-    ensures graph { IsGraph graph.now.vars graph.now.received graph.now.nodes }
+fn folded(alloc: Global, graph: &Graph, blocks: &Blocks) -> Result<Vec<Node>, Memory>
+    requires { AreBlocksOf graph.now.nodes blocks.now }
+    ensures { IfOk result (λ folded. AreFolded graph.now folded.items) }
 {
-    let _nodes = graph.nodes();
-    let blocks = blocks(alloc, graph)?;
-    let states = least(alloc, graph, &blocks)?;
-    let folded = rewrite(alloc, graph, &blocks, &states)?;
+    let states = least(alloc, graph, blocks)?;
+    let folded = rewrite(alloc, graph, blocks, &states)?;
     Ok(folded)
 }
 

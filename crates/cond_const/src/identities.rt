@@ -1,6 +1,5 @@
 // The identities, as tables: what an operator gives whatever the value of its variable is.
 ghost use Rattle.std.specs.Prelude.{◌≡◌, ℤ, FitsSigned};
-ghost use Rattle.mir_base.specs.Numbers.{distance};
 ghost use Rattle.mir_base.specs.declared.operators.Op.{Op};
 ghost use Rattle.cond_const.specs.Identities.{IsIdentity, identity_left, identity_right, identity_same, shifts_nowhere, where_clear_or_set, where_equal};
 ghost use mir.Syntax.{w64};

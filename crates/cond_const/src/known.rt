@@ -1,6 +1,6 @@
 // What is known of variables, and what operands, right sides and tests become by it.
 ghost use Rattle.std.specs.Prelude.{◌≡◌, ◌↔◌, false};
-ghost use Rattle.mir_base.specs.declared.instructions.Operand.TheVariants.{Const, Var};
+ghost use Rattle.mir_base.specs.declared.instructions.Operand.TheVariants.{Const};
 ghost use Rattle.cond_const.specs.Folding.{by_identity, decided_relation, decided_test, folded_binary, folded_rhs, known_at, known_rhs, relates_itself, resolved, resolved_test};
 ghost use Rattle.cond_const.specs.States.{joined_known};
 
@@ -46,14 +46,21 @@ pub(crate) fn folded_rhs(known: &[Known], rhs: Rhs) -> Rhs
 fn folded_binary(op: Op, a: Operand, b: Operand) -> Rhs
     ensures { result ≡ folded_binary op a b }
 {
+    let whole = Rhs::Binary(op, a, b);
     match a {
         Operand::Const(c) => match b {
             Operand::Const(d) => folded_constants(op, c, d),
-            Operand::Var(y) => folded_left(op, c, y),
+            Operand::Var(_) => by_identity(identity_left(op, c), b, whole),
         },
         Operand::Var(x) => match b {
-            Operand::Const(d) => folded_right(op, x, d),
-            Operand::Var(y) => folded_variables(op, x, y),
+            Operand::Const(d) => by_identity(identity_right(op, d), a, whole),
+            Operand::Var(y) => {
+                if x == y {
+                    by_identity(identity_same(op), a, whole)
+                } else {
+                    whole
+                }
+            }
         },
     }
 }
@@ -65,44 +72,6 @@ fn folded_constants(op: Op, c: i64, d: i64) -> Rhs
     match eval(op, c, d) {
         Err(_) => Rhs::Binary(op, Operand::Const(c), Operand::Const(d)),
         Ok(v) => Rhs::Plain(Operand::Const(v)),
-    }
-}
-
-/// What an operator on a constant and a variable becomes.
-fn folded_left(op: Op, c: i64, y: usize) -> Rhs
-    ensures { result ≡ folded_binary op (Const c) (Var y) }
-{
-    let identity = identity_left(op, c);
-    let variable = Operand::Var(y);
-    by_identity(
-        identity,
-        variable,
-        Rhs::Binary(op, Operand::Const(c), variable),
-    )
-}
-
-/// What an operator on a variable and a constant becomes.
-fn folded_right(op: Op, x: usize, d: i64) -> Rhs
-    ensures { result ≡ folded_binary op (Var x) (Const d) }
-{
-    let identity = identity_right(op, d);
-    let variable = Operand::Var(x);
-    by_identity(
-        identity,
-        variable,
-        Rhs::Binary(op, variable, Operand::Const(d)),
-    )
-}
-
-/// What an operator on two variables becomes.
-fn folded_variables(op: Op, x: usize, y: usize) -> Rhs
-    ensures { result ≡ folded_binary op (Var x) (Var y) }
-{
-    let whole = Rhs::Binary(op, Operand::Var(x), Operand::Var(y));
-    if x == y {
-        by_identity(identity_same(op), Operand::Var(x), whole)
-    } else {
-        whole
     }
 }
 

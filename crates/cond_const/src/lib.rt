@@ -1,6 +1,7 @@
-//! Conditional constants and identities. In goes a graph; out comes the graph with what is known in the place of what is
-//! computed: variables with constant values are replaced by the constants, right sides by their values or by an operand
-//! that has their value, decided tests by the way that they take, and nodes that are then not reached are dropped.
+//! Conditional constants and identities. In goes a graph; out comes the graph with what is known in the place of what
+//! is computed: variables with constant values are replaced by the constants, right sides by their values or by an
+//! operand that has their value, decided tests by the way that they take, and nodes that are then not reached are
+//! dropped.
 //!
 //! The theorem that this crate carries is the contract of `fold`: the answer is the exact graph, made from the least
 //! states of the nodes, it does the same as the graph that goes in, and it evaluates no more operators.

@@ -76,8 +76,8 @@ fn rewrite_block(
     Ok(())
 }
 
-/// Puts what these nodes become in their places, where `reached` says whether the first of them is reached and `known` what
-/// is known before it.
+/// Puts what these nodes become in their places, where `reached` says whether the first of them is reached and `known`
+/// what is known before it.
 fn rewrite_list(
     alloc: Global,
     graph: &Graph,

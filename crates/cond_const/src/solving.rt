@@ -1,5 +1,5 @@
 // The least states of the blocks.
-ghost use Rattle.std.specs.Prelude.{◌≡◌, ◌+◌, ◌*◌, ◌<◌, length, pos, replicate, IfOk};
+ghost use Rattle.std.specs.Prelude.{◌≡◌, ◌*◌, ◌<◌, length, pos, replicate, IfOk};
 ghost use Rattle.flow_graph.specs.Blocks.{AreBlocksOf};
 ghost use Rattle.cond_const.specs.declared.known.Known.TheVariants.{Fixed};
 ghost use Rattle.cond_const.specs.Blockwise.{AreLeastOver, AreTargets, IsTargetOf};

@@ -1,15 +1,15 @@
 // States of nodes, as they are kept where blocks begin.
 ghost use Rattle.std.specs.Prelude.{◌≡◌, ◌↔◌, ◌||◌, false, true, length};
 ghost use Rattle.fix_solve.specs.Order.{IsLeastUpper};
-ghost use Rattle.cond_const.specs.States.{BelowState, Knows, joined_each, is_reached, state_rank, size_of, state_where};
+ghost use Rattle.cond_const.specs.States.{BelowState, joined_each, is_reached, state_rank, size_of, state_where};
 ghost use Rattle.cond_const.specs.StateLaws.{state_laws};
 
 use crate::known::{Known, differ, joined_known};
 use fix_solve::Lattice;
 use std::marker::Model;
 
-/// Whether a block is reached, what is known of each variable before it, and room for as much, so that what passes along
-/// an edge needs no memory. Contracts see it as the state.
+/// Whether a block is reached, what is known of each variable before it, and room for as much, so that what passes
+/// along an edge needs no memory. Contracts see it as the state.
 #[derive(Drop)]
 pub struct BlockState {
     pub(crate) reached: bool,

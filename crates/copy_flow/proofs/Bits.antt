@@ -1,11 +1,10 @@
 -- The bits of the rows of copies: what the variable that a node assigns says of a copy, and rows as functions of their number.
-use Rattle.std.proofs.Common.{◌≡◌, inl, inr, ℕ, ◌≤◌, Bool, false, List, [], length, get_or, slice_get, Option, None, Some, refl, sym, ap, ◌∙◌, arith}
+use Rattle.std.proofs.Common.{rules, ◌≡◌, inl, inr, ℕ, ◌≤◌, Bool, false, List, [], length, get_or, slice_get, Option, Some, sym, ap, ◌∙◌, arith}
 use Rattle.std.proofs.Math.Path.{fun_ext}
 use Rattle.std.proofs.lemmas.Bool.{cases_lt}
 use Rattle.std.proofs.lemmas.List.{get_or_past}
 use Rattle.bit_rows.specs.Bits.{row_of}
 use Rattle.flow_graph.specs.declared.nodes.Node.{Node}
-use Rattle.flow_graph.specs.declared.nodes.Node.TheVariants.{Start, Skip, Assign, Print, Call, Test, Return}
 use Rattle.flow_graph.specs.Graphs.{GraphShape}
 use Rattle.path_laws.specs.KeyRows.{AreKeyRows, of_assigned}
 use Rattle.path_laws.specs.Paths.{has_bit}
@@ -15,15 +14,7 @@ use Rattle.copy_flow.specs.Rows.{is_on_either}
 
 -- a node assigns a variable of the copy where the variable that it assigns is one
 pub ends_copy : (graph : GraphShape) (c : VarCopy) (node : Option Node) → of_assigned false false (is_on_either c) node ≡ assigns_either graph c.target c.source node
-ends_copy graph c None = refl
-ends_copy graph c (Some (Start next)) = refl
-ends_copy graph c (Some (Skip next)) = refl
-ends_copy graph c (Some (Assign x rhs next)) = refl
-ends_copy graph c (Some (Print a next)) = refl
-ends_copy graph c (Some (Call None unit arguments next)) = refl
-ends_copy graph c (Some (Call (Some x) unit arguments next)) = refl
-ends_copy graph c (Some (Test test taken other)) = refl
-ends_copy graph c (Some (Return a)) = refl
+ends_copy graph c o = search rules
 
 -- ---- rows as functions of the number of the row
 

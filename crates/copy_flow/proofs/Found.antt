@@ -1,6 +1,7 @@
 -- A copy that holds somewhere is a node of the graph, so it stands in the table, and the variable that is read is found by
 -- its row.
 use Rattle.std.proofs.Common.{◌≡◌, ◌≢◌, ℕ, zero, suc, ◌<◌, ◌⊎◌, inl, inr, Bool, true, false, if◌then◌else◌, nat_eq, ◌&&◌, eqb-true, eq-eqb, Contains, List, [], ◌∷◌, length, slice_get, Option, Some, None, refl, sym, ap, ◌∙◌, subst, true≢false, arith}
+use Rattle.std.proofs.lemmas.Bool.{and_parts, ne_eqb}
 use Rattle.std.proofs.lemmas.Option.{slice_get-get_or}
 use Rattle.mir_base.specs.declared.instructions.Operand.TheVariants.{Var, Const}
 use Rattle.mir_base.specs.declared.instructions.Rhs.{Rhs}
@@ -17,7 +18,6 @@ use Rattle.copy_flow.specs.declared.table.VarCopy.{VarCopy}
 use Rattle.copy_flow.specs.Copies.{IsCopyOf, IsReadFor, copies_at, ends_at, is_copy, is_var}
 use Rattle.copy_flow.specs.Tables.{HasCopies, copy_of}
 use Rattle.copy_flow.specs.Rows.{AreHeldRows, read_in}
-use Rattle.copy_flow.proofs.Values.{both_true, differ}
 
 -- ---- the node that is a copy
 
@@ -34,7 +34,7 @@ copy_is v w None is = absurd (true≢false (sym is))
 copy_is v w (Some (Start next)) is = absurd (true≢false (sym is))
 copy_is v w (Some (Skip next)) is = absurd (true≢false (sym is))
 copy_is v w (Some (Assign x rhs next)) is =
-    let parts = both_true (nat_eq v x) (is_var w rhs) is in
+    let parts = and_parts (nat_eq v x) (is_var w rhs) is in
     (next, ap (λ y. Some (Assign y rhs next)) (sym (eqb-true v x parts.0)) ∙ ap (λ r. Some (Assign v r next)) (var_is w rhs parts.1))
 copy_is v w (Some (Print a next)) is = absurd (true≢false (sym is))
 copy_is v w (Some (Call into unit operands next)) is = absurd (true≢false (sym is))
@@ -67,7 +67,7 @@ read_below graph can v w n (inr none) low = subst (λ x. x < length graph.vars) 
 
 -- an assignment of another variable is a copy
 copy_of_assign : (v w next : ℕ) → w ≢ v → copy_of (Assign v (Plain (Var w)) next) ≡ Some (record { target = v; source = w })
-copy_of_assign v w next apart = let off : nat_eq v w ≡ false = differ v w (λ same. apart (sym same)) in rw off refl
+copy_of_assign v w next apart = let off : nat_eq v w ≡ false = ne_eqb v w (λ same. apart (sym same)) in rw off refl
 
 -- a copy that holds somewhere stands in the table
 pub in_table : (graph : GraphShape) (table : List VarCopy) → HasCopies graph.nodes table → (v w n : ℕ) → IsCopyOf graph v w n → Contains table (record { target = v; source = w })

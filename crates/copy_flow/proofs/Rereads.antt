@@ -1,7 +1,7 @@
 -- What is read by the bits that the row of a variable and the row of a node have in common, and the nodes that have been read
 -- anew.
-use Rattle.std.proofs.Common.{◌≡◌, ℕ, ◌+◌, ◌<◌, ◌≤◌, inl, inr, Bool, true, false, nat_eq, ◌&&◌, eqb-true, List, [], ◌∷◌, ◌++◌, length, slice_get, Some, option_map, sym, ap, ◌∙◌, true≢false, arith}
-use Rattle.std.proofs.lemmas.Bool.{cases_eq, cases_lt}
+use Rattle.std.proofs.Common.{◌≡◌, ℕ, ◌+◌, ◌<◌, ◌≤◌, inl, inr, Bool, true, false, nat_eq, eqb-true, List, [], ◌∷◌, ◌++◌, length, slice_get, Some, option_map, sym, ap, ◌∙◌, true≢false, arith}
+use Rattle.std.proofs.lemmas.Bool.{and_from, and_parts, cases_eq, cases_lt}
 use Rattle.std.proofs.lemmas.Option.{slice_get_past}
 use Rattle.std.proofs.lemmas.List.{length-append}
 use Rattle.bit_rows.specs.Bits.{row_bit, row_of}
@@ -13,12 +13,6 @@ use Rattle.copy_flow.specs.Copied.{reread_node}
 use Rattle.copy_flow.specs.Tables.{AreCopies}
 use Rattle.copy_flow.specs.Rows.{AreTargetRows, HaveNoneInBoth, IsFirstInBoth, in_both, read_by, read_in}
 use Rattle.copy_flow.proofs.Found.{HasBitIn, read_first, read_none}
-use Rattle.copy_flow.proofs.Values.{both_true}
-
--- a conjunction of truths
-both_on : (a b : Bool) → a ≡ true → b ≡ true → (a && b) ≡ true
-both_on true b on on' = on'
-both_on false b on on' = absurd (true≢false (sym on))
 
 module _ (vars : ℕ) (table : List VarCopy) (targets : List (List Bool)) (row : List Bool) (v : ℕ) (v_in : v < vars) (are : AreTargetRows vars table targets) where
   -- the bit in the row of v tells that the copy is in v
@@ -27,11 +21,11 @@ module _ (vars : ℕ) (table : List VarCopy) (targets : List (List Bool)) (row :
 
   -- so a copy in v that has its bit has it in both rows
   in_both_where : (i : ℕ) (c : VarCopy) → HasBitIn table row v i c → in_both (row_of targets v) row i ≡ true
-  in_both_where i c has = both_on (row_bit (row_of targets v) i) (row_bit row i) (target_bit i c has.here ∙ has.in_var) has.bit
+  in_both_where i c has = and_from (row_bit (row_of targets v) i) (row_bit row i) (target_bit i c has.here ∙ has.in_var) has.bit
 
   pub read_found : (i : ℕ) (c : VarCopy) → slice_get table i ≡ Some c → IsFirstInBoth (row_of targets v) row i → read_in table row v ≡ c.source
   read_found i c at found =
-      let bits = both_true (row_bit (row_of targets v) i) (row_bit row i) found.both in
+      let bits = and_parts (row_bit (row_of targets v) i) (row_bit row i) found.both in
       read_first table row v i c (record { here = at; bit = bits.1; in_var = sym (target_bit i c at) ∙ bits.0 })
       (λ k d lt has. true≢false (sym (in_both_where k d has) ∙ found.first k lt))
 

@@ -1,5 +1,5 @@
 -- The copied graph has the shape of the graph: the same edges, no other variables and calls, and each division in its place.
-use Rattle.std.proofs.Common.{◌≡◌, ℕ, suc, ◌<◌, Bool, true, false, ◌&&◌, if◌then◌else◌, List, [], ◌∷◌, ◌++◌, length, map, flat_map, slice_get, Option, Some, None, option_map, refl, sym, ap, ◌∙◌, subst, arith}
+use Rattle.std.proofs.Common.{◌≡◌, ℕ, suc, ◌<◌, Bool, true, false, ◌&&◌, if◌then◌else◌, List, [], ◌∷◌, ◌++◌, length, map, flat_map, slice_get, Option, Some, None, option_map, refl, sym, ap, ◌∙◌, subst}
 use Rattle.std.proofs.lemmas.List.{length-map}
 use Rattle.mir_base.specs.declared.operators.Op.{Op}
 use Rattle.mir_base.specs.declared.instructions.Operand.{Operand}
@@ -16,7 +16,8 @@ use Rattle.flow_graph.specs.declared.nodes.Node.{Node}
 use Rattle.flow_graph.specs.declared.nodes.Node.TheVariants.{Start, Skip, Assign, Print, Call, Test, Return}
 use Rattle.flow_graph.specs.Calls.{NodesCall, node_call}
 use Rattle.flow_graph.specs.Dividing.{DividesAt, DividesStay}
-use Rattle.flow_graph.specs.Edges.{IsSplit, edges_from, leaving, preds_among, preds_of}
+use Rattle.flow_graph.specs.Edges.{IsSplit, edges_from, preds_among, preds_of}
+use Rattle.flow_graph.specs.EdgeLaws.{edges_alike}
 use Rattle.flow_graph.specs.Graphs.{GraphShape, IsEdge, Reached, at_start, along, node_succs, node_vars, succs_at, succs_of}
 use Rattle.flow_graph.specs.NodeLaws.{mapped_from}
 use Rattle.copy_flow.specs.Copies.{is_var}
@@ -121,16 +122,6 @@ same_length [] (y ∷ ys) f are = let e : None ≡ Some (f 0 y) = are 0 in cc
 same_length (x ∷ xs) [] f are = let e : Some x ≡ None = are 0 in cc
 same_length (x ∷ xs) (y ∷ ys) f are = ap suc (same_length xs ys (λ n. f (suc n)) (λ n. are (suc n)))
 
--- the edges of equally long lists with the same successors are the same
-same_edges : (k : ℕ) (xs ys : List Node) → length xs ≡ length ys → ((n : ℕ) → succs_at xs n ≡ succs_at ys n) → edges_from k xs ≡ edges_from k ys
-same_edges k [] [] long same = refl
-same_edges k [] (y ∷ ys) long same = absurd (omega (arith, long))
-same_edges k (x ∷ xs) [] long same = absurd (omega (arith, long))
-same_edges k (x ∷ xs) (y ∷ ys) long same =
-    let here : node_succs x ≡ node_succs y = same 0 in
-    ap (λ succs. leaving k succs ++ edges_from (suc k) xs) here
-    ∙ ap (λ edges. leaving k (node_succs y) ++ edges) (same_edges (suc k) xs ys (omega (arith, long)) (λ n. same (suc n)))
-
 -- ---- the copied nodes
 
 module _ (graph : GraphShape) (nodes : List Node) (are : AreCopied graph nodes) where
@@ -169,7 +160,7 @@ module _ (graph : GraphShape) (nodes : List Node) (are : AreCopied graph nodes) 
   -- ---- splitness: the edges are the same, and Skips stay
 
   copied_edges : edges_from 0 nodes ≡ edges_from 0 graph.nodes
-  copied_edges = same_edges 0 nodes graph.nodes copied_length copied_succs
+  copied_edges = edges_alike 0 nodes graph.nodes copied_length copied_succs
 
   copied_preds : (s : ℕ) → preds_of nodes s ≡ preds_of graph.nodes s
   copied_preds s = ap (preds_among s) copied_edges

@@ -1,22 +1,22 @@
--- The table of copies while the nodes are gone through.
-use Rattle.std.proofs.Common.{◌≡◌, ◌≢◌, ◌↔◌, inl, inr, ℕ, ◌+◌, ◌<◌, ◌≤◌, Bool, true, false, if◌then◌else◌, nat_eq, eq-eqb, List, [], length, slice_get, Contains, Option, None, Some, refl, sym, ap, ◌∙◌, subst, true≢false, arith}
-use Rattle.std.proofs.lemmas.Bool.{cases_eq}
-use Rattle.std.proofs.lemmas.Option.{slice_get_within, same_Some}
+-- The table of copies: what nodes add to it.
+use Rattle.std.proofs.Common.{◌≡◌, ◌≢◌, ◌↔◌, inl, inr, ℕ, zero, suc, ◌∷◌, ◌<◌, Bool, true, false, if◌then◌else◌, nat_eq, eq-eqb, List, [], slice_get, Contains, Option, None, Some, refl, sym, ap, ◌∙◌, subst, true≢false}
+use Rattle.std.proofs.lemmas.Option.{same_Some}
+use Rattle.std.proofs.lemmas.Bool.{ne_eqb}
 use Rattle.key_table.specs.Keys.{IsWithSome}
-use Rattle.key_table.specs.KeyLaws.{put_differs, put_keeps, put_only, put_there}
+use Rattle.key_table.specs.KeyLaws.{put_keeps, put_only, put_there}
+use Rattle.path_laws.specs.Gathered.{TakesKeys}
 use Rattle.path_laws.specs.KeyRows.{HasKey, key_in}
 use Rattle.mir_base.specs.declared.instructions.Operand.TheVariants.{Var, Const}
 use Rattle.mir_base.specs.declared.instructions.Rhs.TheVariants.{Plain, Unary, Binary}
-use Rattle.mir_base.specs.Shapes.{AllBelow, AllDiffer}
+use Rattle.mir_base.specs.Shapes.{AllBelow}
 use Rattle.flow_graph.specs.declared.nodes.Node.{Node}
 use Rattle.flow_graph.specs.declared.nodes.Node.TheVariants.{Start, Skip, Assign, Print, Call, Test, Return}
-use Rattle.flow_graph.specs.Graphs.{node_vars}
+use Rattle.flow_graph.specs.Graphs.{HaveVarsBelow, node_vars}
 use Rattle.copy_flow.specs.declared.table.VarCopy.{VarCopy}
 use Rattle.copy_flow.specs.Copies.{is_copy}
 use Rattle.copy_flow.specs.Rows.{is_born}
 use Rattle.copy_flow.specs.Tables.{AreCopies, HasCopies, copy_of}
 use Rattle.copy_flow.proofs.Found.{copy_is}
-use Rattle.copy_flow.proofs.Values.{differ}
 
 -- ---- one node
 
@@ -57,7 +57,7 @@ is_copy_copy : (node : Node) (c : VarCopy) → c.source ≢ c.target → is_copy
 is_copy_copy node c apart is =
     let at = copy_is c.target c.source (Some node) is in
     let same : node ≡ Assign c.target (Plain (Var c.source)) at.0 = same_Some node (Assign c.target (Plain (Var c.source)) at.0) at.1 in
-    let off : nat_eq c.target c.source ≡ false = differ c.target c.source (λ one. apart (sym one)) in
+    let off : nat_eq c.target c.source ≡ false = ne_eqb c.target c.source (λ one. apart (sym one)) in
     ap copy_of same ∙ rw off refl
 
 -- a node of a graph is the copy
@@ -70,56 +70,37 @@ born_copy nodes n c apart = by (slice_get nodes n)
 
 -- ---- the table
 
--- the table of the first nodes
-pub record IsTaken (vars : ℕ) (nodes : List Node) (count : ℕ) (keys : List VarCopy) : Type 0 where
-  pub differ : AllDiffer keys
-  pub are : AreCopies vars keys
-  pub all : (n : ℕ) (c : VarCopy) → n < count → HasKey copy_of nodes c n → Contains keys c
+-- a node more adds a copy of another variable, in one that is below the number
+one_more : (vars : ℕ) (node : Node) (found : Option VarCopy) (old new : List VarCopy) → AllBelow vars (node_vars node) → found ≡ copy_of node → IsWithSome old found new → AreCopies vars old → AreCopies vars new
+one_more vars node None old new below is same are = subst (AreCopies vars) (sym same) are
+one_more vars node (Some k) old new below is with_key are =
+    let is_node = copy_node node k (sym is) in
+    let low : AllBelow vars (node_vars (Assign k.target (Plain (Var k.source)) is_node.next)) = subst (λ n. AllBelow vars (node_vars n)) is_node.is below in
+    record {
+      apart = λ j c e. elim (put_only old k new with_key j c e) [ inl before ↦ are.apart j c before | inr same ↦ subst (λ (d : VarCopy). d.source ≢ d.target) (sym same) is_node.apart ];
+      below = λ j c e. elim (put_only old k new with_key j c e) [ inl before ↦ are.below j c before | inr same ↦ subst (λ (d : VarCopy). d.target < vars) (sym same) low.0 ];
+    }
 
--- of no nodes
-pub taken_none : (vars : ℕ) (nodes : List Node) (keys : List VarCopy) → keys ≡ [] → IsTaken vars nodes 0 keys
-taken_none vars nodes keys is = rw is (record {
-  differ = λ i j i_in. absurd (omega (arith, i_in));
-  are = record { apart = λ i c here. cc; below = λ i c here. cc };
-  all = λ n c lt. absurd (omega (arith, lt));
-})
+-- so do all nodes
+taken_on : (vars : ℕ) (nodes : List Node) (old new : List VarCopy) → HaveVarsBelow vars nodes → TakesKeys copy_of nodes old new → AreCopies vars old → AreCopies vars new
+taken_on vars [] old new below same are = subst (AreCopies vars) (sym same) are
+taken_on vars (node ∷ nodes) old new below taken are = taken_on vars nodes taken.0 new (λ n m at. below (suc n) m at) taken.2 (one_more vars node (copy_of node) old taken.0 (below 0 node refl) refl taken.1 are)
 
--- one node more
-pub taken_more : (vars : ℕ) (nodes : List Node) (i : ℕ) (node : Node) (found : Option VarCopy) (keys new : List VarCopy) → slice_get nodes i ≡ Some node → AllBelow vars (node_vars node) → found ≡ copy_of node → IsWithSome keys found new
-    → IsTaken vars nodes i keys → IsTaken vars nodes (i + 1) new
-taken_more vars nodes i node found keys new at below is put before = by found is put
+-- from the empty table on
+pub taken_are : (vars : ℕ) (nodes : List Node) (new : List VarCopy) → HaveVarsBelow vars nodes → TakesKeys copy_of nodes [] new → AreCopies vars new
+taken_are vars nodes new below taken = taken_on vars nodes [] new below taken (record { apart = λ i c here. cc; below = λ i c here. cc })
+
+-- what is there stays
+taken_keeps : (nodes : List Node) (old new : List VarCopy) (c : VarCopy) → TakesKeys copy_of nodes old new → Contains old c → Contains new c
+taken_keeps [] old new c same there = subst (λ l. Contains l c) (sym same) there
+taken_keeps (node ∷ nodes) old new c taken there = taken_keeps nodes taken.0 new c taken.2 (by (copy_of node) taken.1)
   where
-    here : (c : VarCopy) → HasKey copy_of nodes c i → copy_of node ≡ Some c
-    here c e = sym (ap (key_in copy_of) at) ∙ e
+    by : (o : Option VarCopy) → IsWithSome old o taken.0 → Contains taken.0 c
+    by None same = subst (λ l. Contains l c) (sym same) there
+    by (Some k) with_key = put_keeps old k taken.0 with_key c there
 
-    by : (o : Option VarCopy) → o ≡ copy_of node → IsWithSome keys o new → IsTaken vars nodes (i + 1) new
-    by None none same = subst (IsTaken vars nodes (i + 1)) (sym same) (record {
-      differ = before.differ;
-      are = before.are;
-      all = λ n c lt e. elim (cases_eq n i) as (λ _. Contains keys c) [
-        | inl same ↦ (let no : None ≡ Some c = none ∙ here c (subst (λ m. HasKey copy_of nodes c m) same e) in cc)
-        | inr other ↦ before.all n c (omega (arith, lt, other)) e
-      ];
-    })
-    by (Some k) some is_with =
-        let is_node = copy_node node k (sym some) in
-        let low : AllBelow vars (node_vars (Assign k.target (Plain (Var k.source)) is_node.next)) = subst (λ n. AllBelow vars (node_vars n)) is_node.is below in
-        record {
-          differ = put_differs keys k new is_with before.differ;
-          are = record {
-            apart = λ j c e. elim (put_only keys k new is_with j c e) [ inl old ↦ before.are.apart j c old | inr new ↦ subst (λ (d : VarCopy). d.source ≢ d.target) (sym new) is_node.apart ];
-            below = λ j c e. elim (put_only keys k new is_with j c e) [ inl old ↦ before.are.below j c old | inr new ↦ subst (λ (d : VarCopy). d.target < vars) (sym new) low.0 ];
-          };
-          all = λ n c lt e. elim (cases_eq n i) as (λ _. Contains new c) [
-            | inl same ↦ (let one : k ≡ c = same_Some k c (some ∙ here c (subst (λ m. HasKey copy_of nodes c m) same e)) in subst (λ d. Contains new d) one (put_there keys k new is_with))
-            | inr other ↦ put_keeps keys k new is_with c (before.all n c (omega (arith, lt, other)) e)
-          ];
-        }
-
--- of all nodes
-pub taken_all : (vars : ℕ) (nodes : List Node) (count : ℕ) (keys : List VarCopy) → length nodes ≤ count → IsTaken vars nodes count keys → HasCopies nodes keys
-taken_all vars nodes count keys late is n c e = by (slice_get nodes n) refl e
-  where
-    by : (o : Option Node) → slice_get nodes n ≡ o → key_in copy_of o ≡ Some c → Contains keys c
-    by None at e' = cc
-    by (Some node) at e' = is.all n c (omega (arith, slice_get_within nodes n node at, late)) e
+-- and what a node is comes to it
+pub taken_all : (nodes : List Node) (old new : List VarCopy) → TakesKeys copy_of nodes old new → HasCopies nodes new
+taken_all [] old new taken n c has = cc
+taken_all (node ∷ nodes) old new taken zero c has = taken_keeps nodes taken.0 new c taken.2 (put_there old c taken.0 (subst (λ o. IsWithSome old o taken.0) has taken.1))
+taken_all (node ∷ nodes) old new taken (suc n) c has = taken_all nodes taken.0 new taken.2 n c has

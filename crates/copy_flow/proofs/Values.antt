@@ -1,6 +1,7 @@
 -- What is read in the place of a copy has its value, so what reads the one does the same as what reads the other.
-use Rattle.std.proofs.Common.{◌≡◌, ◌≢◌, ℕ, Bool, true, false, not, if◌then◌else◌, nat_eq, ◌&&◌, ◌||◌, inl, inr, eqb-true, eq-eqb, List, [], ◌∷◌, map, slice_get, ℤ, pos, Some, refl, sym, ap, ◌∙◌, true≢false, arith}
+use Rattle.std.proofs.Common.{◌≡◌, ◌≢◌, ℕ, Bool, true, false, not, if◌then◌else◌, nat_eq, ◌||◌, inl, inr, eqb-true, eq-eqb, List, [], ◌∷◌, map, slice_get, ℤ, pos, Some, refl, sym, ap, ◌∙◌, true≢false, arith}
 use Rattle.std.proofs.Math.Path.{fun_ext}
+use Rattle.std.proofs.lemmas.Bool.{and_parts, ne_eqb, or_parts}
 use Rattle.std.specs.Ordering.{int_eq}
 use Rattle.mir_base.specs.declared.instructions.Operand.{Operand}
 use Rattle.mir_base.specs.declared.instructions.Operand.TheVariants.{Var, Const}
@@ -38,14 +39,6 @@ own_value x values = fun_ext (λ y. by y (nat_eq y x) refl)
     by y true is = ap values (sym (eqb-true y x is))
     by y false is = refl
 
--- different numbers do not compare equal
-pub differ : (x y : ℕ) → x ≢ y → nat_eq x y ≡ false
-differ x y apart = by (nat_eq x y) refl
-  where
-    by : (b : Bool) → nat_eq x y ≡ b → b ≡ false
-    by true is = absurd (apart (eqb-true x y is))
-    by false is = refl
-
 -- a right side that is a variable alone has its value, traps nowhere and counts nothing
 pub var_value : (w : ℕ) (rhs : Rhs) (values : Values) → is_var w rhs ≡ true → rhs_value values rhs ≡ values w
 var_value w (Plain (Var x)) values is = ap values (sym (eqb-true w x is))
@@ -58,18 +51,6 @@ pub var_traps : (w : ℕ) (rhs : Rhs) (values : Values) → is_var w rhs ≡ tru
 var_traps w (Plain a) values is = refl
 var_traps w (Unary op a) values is = refl
 var_traps w (Binary op a b) values is = absurd (true≢false (sym is))
-
--- ---- both halves
-
--- of a conjunction that is true
-pub both_true : (a b : Bool) → (a && b) ≡ true → (a ≡ true) × (b ≡ true)
-both_true true b h = (refl, h)
-both_true false b h = absurd (true≢false (sym h))
-
--- of a disjunction that is false
-pub both_false : (a b : Bool) → (a || b) ≡ false → (a ≡ false) × (b ≡ false)
-both_false true b h = absurd (true≢false h)
-both_false false b h = (refl, h)
 
 -- ---- copies on a path
 
@@ -94,16 +75,16 @@ module _ (graph : GraphShape) (m : ℕ) (before : List ℕ) (values : Values) wh
       by : (v w : ℕ) → w ≢ v → Since (copies_at graph.nodes v w) (ends_at graph v w) (m ∷ before) → with_value x y values v ≡ with_value x y values w
       by v w apart (inl copy) =
           let is = copies v w copy in
-          new_value x v y values (eq-eqb v x is.0) ∙ is.1 ∙ sym (other_value x w y values (differ w x (λ same. apart (same ∙ sym is.0))))
+          new_value x v y values (eq-eqb v x is.0) ∙ is.1 ∙ sym (other_value x w y values (ne_eqb w x (λ same. apart (same ∙ sym is.0))))
       by v w apart (inr later) =
-          let off = both_false (nat_eq v x) (nat_eq w x) (sym (ends v w) ∙ later.0) in
+          let off = or_parts (nat_eq v x) (nat_eq w x) (sym (ends v w) ∙ later.0) in
           other_value x v y values off.0 ∙ agree.is v w apart later.1 ∙ sym (other_value x w y values off.1)
 
   -- an assignment
   pub agree_assign : (x : ℕ) (rhs : Rhs) (next : ℕ) → slice_get graph.nodes m ≡ Some (Assign x rhs next) → CopiesAgree graph before values → CopiesAgree graph (m ∷ before) (with_value x (rhs_value values rhs) values)
   agree_assign x rhs next here agree = agree_set x (rhs_value values rhs)
       (λ v w. ap (assigns_either graph v w) here)
-      (λ v w copy. let parts = both_true (nat_eq v x) (is_var w rhs) (sym (ap (is_copy v w) here) ∙ copy) in (eqb-true v x parts.0, var_value w rhs values parts.1))
+      (λ v w copy. let parts = and_parts (nat_eq v x) (is_var w rhs) (sym (ap (is_copy v w) here) ∙ copy) in (eqb-true v x parts.0, var_value w rhs values parts.1))
       agree
 
   -- the result of a call

@@ -1,6 +1,7 @@
 -- Laws: a variable is a copy of one variable at most, and a graph has one copied graph. For proofs only, of mir_opt too.
-use Rattle.std.proofs.Common.{◌≡◌, ℕ, ◌<◌, Bool, true, false, nat_eq, ◌&&◌, inl, inr, List, [], ◌∷◌, length, slice_get, Option, Some, None, option_map, refl, sym, ap, ◌∙◌, eqb-true, true≢false}
+use Rattle.std.proofs.Common.{◌≡◌, ℕ, ◌<◌, true, false, nat_eq, inl, inr, List, [], ◌∷◌, length, slice_get, Option, Some, None, option_map, refl, sym, ap, ◌∙◌, eqb-true, true≢false}
 use Rattle.std.proofs.Math.Path.{fun_ext}
+use Rattle.std.proofs.lemmas.Bool.{and_parts}
 use Rattle.std.proofs.lemmas.Option.{slice_get_within}
 use Rattle.mir_base.specs.declared.instructions.Operand.TheVariants.{Var, Const}
 use Rattle.mir_base.specs.declared.instructions.Rhs.{Rhs}
@@ -16,11 +17,6 @@ use Rattle.copy_flow.specs.Copied.{AreCopied, IsCopied, reread_node}
 
 -- ---- one node
 
--- both halves of a conjunction that is true
-both : (a b : Bool) → (a && b) ≡ true → (a ≡ true) × (b ≡ true)
-both true b h = (refl, h)
-both false b h = absurd (true≢false (sym h))
-
 -- a right side that is two variables alone is one
 one_var : (w u : ℕ) (rhs : Rhs) → is_var w rhs ≡ true → is_var u rhs ≡ true → w ≡ u
 one_var w u (Plain (Var x)) is is' = eqb-true w x is ∙ sym (eqb-true u x is')
@@ -33,7 +29,7 @@ one_copied : (v w u : ℕ) (o : Option Node) → is_copy v w o ≡ true → is_c
 one_copied v w u None is is' = absurd (true≢false (sym is))
 one_copied v w u (Some (Start next)) is is' = absurd (true≢false (sym is))
 one_copied v w u (Some (Skip next)) is is' = absurd (true≢false (sym is))
-one_copied v w u (Some (Assign x rhs next)) is is' = one_var w u rhs (both (nat_eq v x) (is_var w rhs) is).1 (both (nat_eq v x) (is_var u rhs) is').1
+one_copied v w u (Some (Assign x rhs next)) is is' = one_var w u rhs (and_parts (nat_eq v x) (is_var w rhs) is).1 (and_parts (nat_eq v x) (is_var u rhs) is').1
 one_copied v w u (Some (Print a next)) is is' = absurd (true≢false (sym is))
 one_copied v w u (Some (Call into unit operands next)) is is' = absurd (true≢false (sym is))
 one_copied v w u (Some (Test test taken other)) is is' = absurd (true≢false (sym is))
@@ -44,7 +40,7 @@ pub copy_ends : (graph : GraphShape) (v w u : ℕ) (o : Option Node) → is_copy
 copy_ends graph v w u None is = absurd (true≢false (sym is))
 copy_ends graph v w u (Some (Start next)) is = absurd (true≢false (sym is))
 copy_ends graph v w u (Some (Skip next)) is = absurd (true≢false (sym is))
-copy_ends graph v w u (Some (Assign x rhs next)) is = rw ((both (nat_eq v x) (is_var w rhs) is).0) refl
+copy_ends graph v w u (Some (Assign x rhs next)) is = rw ((and_parts (nat_eq v x) (is_var w rhs) is).0) refl
 copy_ends graph v w u (Some (Print a next)) is = absurd (true≢false (sym is))
 copy_ends graph v w u (Some (Call into unit operands next)) is = absurd (true≢false (sym is))
 copy_ends graph v w u (Some (Test test taken other)) is = absurd (true≢false (sym is))

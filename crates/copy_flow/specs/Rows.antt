@@ -1,4 +1,4 @@
--- Rows with a bit for each copy of a table, and what is read at a node by such a row. Cited by contracts of private functions.
+-- Rows with a bit for each copy of a table, and what is read at a node by such a row. Cited by contracts.
 use Rattle.std.specs.Prelude.{◌≡◌, ℕ, ◌<◌, Bool, true, false, nat_eq, ◌&&◌, ◌||◌, if◌then◌else◌, List, [], ◌∷◌, length, slice_get, option_map}
 use Rattle.bit_rows.specs.Bits.{row_bit, row_of}
 use Rattle.flow_graph.specs.declared.nodes.Node.{Node}

@@ -1,4 +1,4 @@
--- Copies that compare as equal are one. For proofs only.
+-- Copies that compare as equal are one. Cited by the impl of `Key`.
 use Rattle.std.proofs.Common.{◌≡◌, ℕ, true, eqb-true, ap, ◌∙◌}
 use Rattle.std.proofs.lemmas.Bool.{and_parts}
 use Rattle.copy_flow.specs.declared.table.VarCopy.{VarCopy}

@@ -1,4 +1,4 @@
--- Tables of the distinct copies of a graph. Cited by contracts of private functions.
+-- Tables of the distinct copies of a graph. Cited by contracts.
 use Rattle.std.specs.Prelude.{◌≡◌, ◌≢◌, ℕ, ◌<◌, nat_eq, if◌then◌else◌, Contains, List, slice_get, Option, Some, None}
 use Rattle.mir_base.specs.declared.instructions.Operand.TheVariants.{Var, Const}
 use Rattle.mir_base.specs.declared.instructions.Rhs.{Rhs}

@@ -1,19 +1,19 @@
 // The copied graph.
-ghost use Rattle.std.specs.Prelude.{◌≡◌, IfOk};
-ghost use Rattle.flow_graph.specs.Graphs.{IsGraph};
+ghost use Rattle.std.specs.Prelude.{IfOk};
 ghost use Rattle.flow_graph.specs.Passes.{GraphDivides, GraphKeeps};
-ghost use Rattle.copy_flow.specs.Copied.{AreCopied, HaveSameSuccs, IsCopied, IsOnlyCopied, StaysSplit};
+ghost use Rattle.copy_flow.specs.Copied.{HaveSameSuccs, IsCopied, IsOnlyCopied, StaysSplit};
 
 use crate::held::HeldCopies;
 use crate::rereading::reread_nodes;
-use flow_graph::{Graph, Node};
+use flow_graph::Graph;
 use mir_base::Memory;
 use std::alloc::Global;
 
-/// The graph in which copies give way to what they copy. `v <- w` with w a variable other than v is a copy. Each operand v
-/// of a node becomes w exactly where on every path from Start to the node there is, before the node, a node `v <- w` after
-/// which, before the node, no node assigns v or w; there is at most one such w. All is decided on the graph as it was, in
-/// one step. Then each assignment of a variable to itself becomes a Skip with the same successor. No other node changes.
+/// The graph in which copies give way to what they copy. `v <- w` with w a variable other than v is a copy. Each
+/// operand v of a node becomes w exactly where on every path from Start to the node there is, before the node, a node
+/// `v <- w` after which, before the node, no node assigns v or w; there is at most one such w. All is decided on the
+/// graph as it was, in one step. Then each assignment of a variable to itself becomes a Skip with the same successor.
+/// No other node changes.
 ///
 /// The graph does the same and evaluates no more operators. It fails only with `Memory`.
 pub fn copies(alloc: Global, graph: &Graph) -> Result<Graph, Memory>
@@ -32,18 +32,9 @@ pub fn copies(alloc: Global, graph: &Graph) -> Result<Graph, Memory>
     ensures succs { IfOk result (HaveSameSuccs graph.now) }
     ensures split { IfOk result (StaysSplit graph.now) }
 {
-    let nodes = copied_nodes(alloc, graph)?;
-    let copied = graph.with_nodes(alloc, nodes)?;
-    Ok(copied)
-}
-
-/// The nodes of the copied graph.
-fn copied_nodes(alloc: Global, graph: &Graph) -> Result<Vec<Node>, Memory>
-    ensures are { IfOk result (λ nodes. AreCopied graph.now nodes.items) }
-    ensures graph { IsGraph graph.now.vars graph.now.received graph.now.nodes }
-{
     let _nodes = graph.nodes();
     let copies = HeldCopies::of(alloc, graph)?;
     let nodes = reread_nodes(alloc, graph, &copies)?;
-    Ok(nodes)
+    let copied = graph.with_nodes(alloc, nodes)?;
+    Ok(copied)
 }

@@ -1,6 +1,5 @@
 // At which nodes each copy holds.
-ghost use Rattle.std.specs.Prelude.{◌≡◌, length, IfOk};
-ghost use Rattle.flow_graph.specs.Graphs.{IsGraph};
+ghost use Rattle.std.specs.Prelude.{length, IfOk};
 ghost use Rattle.copy_flow.specs.Tables.{AreCopies, HasCopies};
 ghost use Rattle.path_laws.specs.KeyRows.{AreKeyRows};
 ghost use Rattle.copy_flow.specs.Rows.{AreHeldRows, AreTargetRows, IsLookup, is_born, is_ended};
@@ -16,18 +15,18 @@ use std::alloc::Global;
 
 /// The distinct copies of a graph, and where they hold.
 #[derive(Drop)]
-pub(crate) struct HeldCopies {
+pub struct HeldCopies {
     /// The copies.
-    pub(crate) table: KeyTable<VarCopy>,
-    /// For each variable, which copies have it as target.
-    pub(crate) targets: Rows,
-    /// For each node, which copies hold before it.
-    pub(crate) held: Rows,
+    pub table: KeyTable<VarCopy>,
+    /// For each variable, which copies have it as target: one row for each variable, one bit for each copy.
+    pub targets: Rows,
+    /// Where a copy holds, before the node: one row for each node, one bit for each copy.
+    pub held: Rows,
 }
 
 impl HeldCopies {
-    /// The copies of a graph, and where they hold.
-    pub(crate) fn of(alloc: Global, graph: &Graph) -> Result<HeldCopies, Memory>
+    /// The distinct copies of a graph, and where they hold. It fails only with `Memory`.
+    pub fn of(alloc: Global, graph: &Graph) -> Result<HeldCopies, Memory>
         ensures lookup { IfOk result (IsLookup (length graph.now.vars) (length graph.now.nodes)) }
         ensures held { IfOk result (λ copies. AreHeldRows graph.now copies.table copies.held) }
         ensures all { IfOk result (λ copies. HasCopies graph.now.nodes copies.table) }
@@ -43,8 +42,8 @@ impl HeldCopies {
     }
 }
 
-/// Which copies of the table hold before each node. Each variable has its row of the copies with this target. Where there
-/// is no copy, nothing is solved.
+/// Which copies of the table hold before each node. Each variable has its row of the copies with this target. Where
+/// there is no copy, nothing is solved.
 fn held_rows(
     alloc: Global,
     graph: &Graph,

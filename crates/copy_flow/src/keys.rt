@@ -1,5 +1,4 @@
 // Copies as keys of a table, which are read off nodes.
-ghost use Rattle.std.specs.Prelude.{◌≡◌};
 ghost use Rattle.copy_flow.specs.SameCopies.{same_copies};
 ghost use Rattle.copy_flow.specs.Tables.{copy_of};
 

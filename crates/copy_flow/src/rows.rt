@@ -48,7 +48,8 @@ fn on_side(side: Side, copy: VarCopy) -> usize
     }
 }
 
-/// For each variable, which copies of the table have it on either side, where `targets` has those that have it as target.
+/// For each variable, which copies of the table have it on either side, where `targets` has those that have it as
+/// target.
 fn touched_rows(alloc: Global, table: &KeyTable<VarCopy>, targets: &Rows) -> Result<Rows, Memory>
     requires { AreTargetRows (length targets.now) table.now targets.now }
     ensures { IfOk result (AreKeyRows (length targets.now) table.now is_on_either) }
@@ -75,8 +76,8 @@ pub(crate) fn born_rows(
     Ok(rows)
 }
 
-/// Which copies of the table each node ends, since it assigns one of their variables: one row for each node, one bit for
-/// each copy. Each variable has its row of the copies with this target.
+/// Which copies of the table each node ends, since it assigns one of their variables: one row for each node, one bit
+/// for each copy. Each variable has its row of the copies with this target.
 pub(crate) fn ended_rows(
     alloc: Global,
     graph: &Graph,

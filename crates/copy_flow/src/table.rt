@@ -2,16 +2,20 @@
 ghost use Rattle.std.specs.Prelude.{◌≡◌, length, IfOk};
 ghost use Rattle.copy_flow.specs.Tables.{AreCopies, HasCopies, copy_between, copy_of};
 
+use crate::keys::AsCopy;
 use flow_graph::{Graph, Node};
 use key_table::KeyTable;
 use mir_base::{Memory, Operand, Rhs};
+use path_laws::node_keys;
 use std::alloc::Global;
 
 /// The copy `target <- source` of a variable in another, both by number.
 #[derive(Clone, Copy, Debug, PartialEq, Eq, Hash)]
-pub(crate) struct VarCopy {
-    pub(crate) target: usize,
-    pub(crate) source: usize,
+pub struct VarCopy {
+    /// The variable that is assigned.
+    pub target: usize,
+    /// The variable that it is a copy of.
+    pub source: usize,
 }
 
 /// The copies that the nodes of a graph are, in order of the first node that is each.
@@ -19,12 +23,8 @@ pub(crate) fn table_of(alloc: Global, graph: &Graph) -> Result<KeyTable<VarCopy>
     ensures copies { IfOk result (AreCopies (length graph.now.vars)) }
     ensures all { IfOk result (HasCopies graph.now.nodes) }
 {
-    let mut table = KeyTable::new(alloc);
-    for node in graph.nodes() {
-        if let Some(copy) = copy_of(node) {
-            table.number(copy)?;
-        }
-    }
+    let nodes = graph.nodes();
+    let table = node_keys(alloc, nodes, &AsCopy)?;
     Ok(table)
 }
 

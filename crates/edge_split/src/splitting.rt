@@ -2,10 +2,10 @@
 ghost use Rattle.std.specs.Prelude.{◌≡◌, ◌^◌, ◌<◌, [], ◌∷◌, length, IfOk, OnOk};
 ghost use Rattle.mir_base.specs.Shapes.{AllBelow};
 ghost use Rattle.flow_graph.specs.Edges.{IsSplit};
-ghost use Rattle.flow_graph.specs.Graphs.{IsGraph, node_succs};
+ghost use Rattle.flow_graph.specs.Graphs.{AllWithin, node_succs};
 ghost use Rattle.flow_graph.specs.Passes.{GraphDivides, GraphKeeps};
 ghost use Rattle.edge_split.specs.NewSkips.{MakesSkips, node_through, succs_through};
-ghost use Rattle.edge_split.specs.Split.{IsEdgeSplit, split_nodes};
+ghost use Rattle.edge_split.specs.Split.{CountEntries, IsEdgeSplit, split_nodes};
 
 use crate::entries::entries;
 use flow_graph::{Graph, Node};
@@ -25,19 +25,22 @@ pub fn split(alloc: Global, graph: &Graph) -> Result<Graph, Memory>
     // each dividing assignment stays
     ensures divides { IfOk result (GraphDivides graph.now) }
 {
-    let nodes = all_nodes(alloc, graph)?;
+    let entries = entries(alloc, graph)?;
+    let nodes = all_nodes(alloc, graph.nodes(), entries)?;
     let made = graph.with_nodes(alloc, nodes)?;
     Ok(made)
 }
 
-/// The nodes of the split graph: the old ones, and after them the new Skips.
-fn all_nodes(alloc: Global, graph: &Graph) -> Result<Vec<Node>, Memory>
-    ensures are { IfOk result (λ nodes. nodes.items ≡ split_nodes graph.now.nodes) }
-    ensures graph { IsGraph graph.now.vars graph.now.received graph.now.nodes }
+/// The nodes of the split graph: the old ones, and after them the new Skips. `entries` are how many edges enter each
+/// node, counted up to two.
+fn all_nodes(alloc: Global, old: &[Node], entries: Vec<usize>) -> Result<Vec<Node>, Memory>
+    requires within { AllWithin old.now }
+    requires long { length entries.items ≡ length old.now }
+    requires counts { CountEntries old.now entries.items }
+    ensures { IfOk result (λ nodes. nodes.items ≡ split_nodes old.now) }
 {
-    let old = graph.nodes();
     let mut skips = NewSkips {
-        entries: entries(alloc, graph)?,
+        entries,
         first: old.len(),
         made: Vec::new(alloc),
     };

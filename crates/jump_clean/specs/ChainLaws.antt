@@ -3,6 +3,7 @@ use Rattle.std.proofs.Common.{◌≡◌, ℕ, zero, suc, ◌+◌, ◌-◌, ◌<�
 use Rattle.std.proofs.lemmas.Bool.{cases_lt}
 use Rattle.flow_graph.specs.declared.nodes.Node.{Node}
 use Rattle.flow_graph.specs.declared.nodes.Node.TheVariants.{Start, Skip, Assign, Print, Call, Test, Return}
+use Rattle.flow_graph.specs.Walks.{unmarked}
 use Rattle.jump_clean.specs.Chains.{Skips, SkipsTo, EndsChains, IsEnd}
 
 -- ---- Skips one after the other
@@ -164,12 +165,6 @@ split_at x [] h = absurd h
 split_at x (y ∷ ys) (inl e) = ([], ys, ap (λ z. z ∷ ys) e)
 split_at x (y ∷ ys) (inr h) = let r = split_at x ys h in (y ∷ r.0, r.1, ap (λ l. y ∷ l) r.2)
 
--- how many are not marked
-unmarked : List Bool → ℕ
-unmarked [] = 0
-unmarked (true ∷ marks) = unmarked marks
-unmarked (false ∷ marks) = suc (unmarked marks)
-
 -- marks one more place
 mark : List Bool → ℕ → List Bool
 mark [] n = []
@@ -185,7 +180,7 @@ mark_long (b ∷ marks) (suc n) = ap suc (mark_long marks n)
 
 -- marking a place that was unmarked leaves one unmarked place fewer, so marking ends
 mark_less : (marks : List Bool) (n : ℕ) → slice_get marks n ≡ Some false → suc (unmarked (mark marks n)) ≡ unmarked marks
-unfolding mark unmarked
+unfolding mark
 mark_less [] n e = cc
 mark_less (true ∷ marks) zero e = cc
 mark_less (false ∷ marks) zero e = refl

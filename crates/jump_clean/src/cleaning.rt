@@ -14,8 +14,8 @@ use std::alloc::Global;
 /// The graph with clean jumps. The end of a chain is found by following Skips from a node: the first node that is no
 /// Skip, or, where the Skips run in a circle, the least-numbered Skip of that circle. While there is a Test whose two
 /// successors have the same end of chain, it becomes a Skip to its `taken`; the order of these changes does not matter
-/// (`specs/CleanLaws.antt`). Then each successor is replaced by its end of chain, and the nodes that are not reached are
-/// dropped. So each Skip that is left is its own successor: a circle of Skips stays as its least-numbered one.
+/// (`specs/CleanLaws.antt`). Then each successor is replaced by its end of chain, and the nodes that are not reached
+/// are dropped. So each Skip that is left is its own successor: a circle of Skips stays as its least-numbered one.
 ///
 /// The graph does the same and evaluates no more operators. The time is that of the nodes times the logarithm of their
 /// number: a node moves from one class to another at most that often. It fails only with `Memory`.

@@ -83,8 +83,8 @@ fn push_skip(skips: &mut Vec<usize>, node: &Node, n: usize) -> Result<(), Memory
     Ok(())
 }
 
-/// Joins the class of a Skip with that of its successor, and answers the nodes that lead to one that was moved: no other
-/// Test can have got both successors into one class by it.
+/// Joins the class of a Skip with that of its successor, and answers the nodes that lead to one that was moved: no
+/// other Test can have got both successors into one class by it.
 fn join_skip(
     alloc: Global,
     edges: &Edges,

@@ -1,23 +1,19 @@
 -- Expressions that are put into a list of different ones where they are new, and the table of those that nodes evaluate.
-use Rattle.std.proofs.Common.{◌≡◌, ◌⊎◌, inl, inr, ℕ, suc, ◌<◌, Bool, true, false, not, ◌||◌, cond, if◌then◌else◌, List, [], ◌∷◌, ◌++◌, length, filter, take, get_or, slice_get, append-nil, position, Contains, Option, None, Some, refl, sym, ap, ◌∙◌, subst, true≢false, ◌+◌, append_assoc, arith}
+use Rattle.std.proofs.Common.{◌≡◌, inl, inr, ℕ, suc, Bool, true, false, not, ◌||◌, cond, if◌then◌else◌, List, [], ◌∷◌, ◌++◌, filter, slice_get, append-nil, Option, None, Some, refl, sym, ap, ◌∙◌, subst, true≢false, ◌+◌, append_assoc}
 use Rattle.std.specs.List.{list_any}
-use Rattle.std.proofs.lemmas.List.{take_more}
-use Rattle.std.proofs.lemmas.List.Folds.{list_any_at}
-use Rattle.std.proofs.lemmas.List.Quantifiers.{position-Some}
 use Rattle.std.proofs.lemmas.List.Elements.{filter-append}
-use Rattle.std.proofs.lemmas.Option.{slice_get_within, slice_get-get_or, get_or_from_slice_get}
 use Rattle.mir_base.specs.declared.instructions.Expr.{Expr}
-use Rattle.mir_base.specs.Shapes.{AllBelow, AllDiffer}
+use Rattle.mir_base.specs.Shapes.{AllBelow}
 use Rattle.mir_base.specs.ExpressionLaws.{expr_of_vars}
 use Rattle.mir_base.specs.ExpressionVars.{expr_vars, rhs_of}
 use Rattle.mir_base.specs.SameExpressions.{expr_is, expr_itself, same_expr}
 use Rattle.key_table.specs.Keys.{IsWithKey, IsWithSome}
-use Rattle.key_table.specs.KeyLaws.{is_inserted, put_differs, put_only}
+use Rattle.key_table.specs.KeyLaws.{is_inserted, put_only}
+use Rattle.path_laws.specs.Gathered.{TakesKeys}
 use Rattle.mir_base.specs.Expressions.{is_movable}
 use Rattle.flow_graph.specs.declared.nodes.Node.{Node}
 use Rattle.flow_graph.specs.declared.nodes.Node.TheVariants.{Start, Skip, Assign, Print, Call, Test, Return}
-use Rattle.flow_graph.specs.Graphs.{node_vars}
-use Rattle.flow_graph.specs.ListLaws.{get_left, get_push, get_seam}
+use Rattle.flow_graph.specs.Graphs.{HaveVarsBelow, node_vars}
 use Rattle.motion_rewrite.specs.Tables.{AreMovable, firsts, evaluated, expr_at, listed, movable_exprs}
 
 -- ---- put in
@@ -85,16 +81,14 @@ evaluated_append [] ys = refl
 evaluated_append (x ∷ xs) ys = ap (λ l. listed (expr_at x) ++ l) (evaluated_append xs ys) ∙ sym (append_assoc (listed (expr_at x)) (evaluated xs) (evaluated ys))
 
 -- the movable expressions of one node more
-pub movable_more : (nodes : List Node) (i : ℕ) (node : Node) (found : Option Expr) → i < length nodes → node ≡ get_or nodes i node → found ≡ expr_at node
-    → movable_exprs (take (i + 1) nodes) ≡ put_in (movable_exprs (take i nodes)) found
-movable_more nodes i node found i_in is f =
-    ap movable_exprs (take_more nodes i node i_in ∙ ap (λ n. take i nodes ++ n ∷ []) (sym is))
-    ∙ ap firsts (evaluated_append (take i nodes) (node ∷ []) ∙ ap (λ l. evaluated (take i nodes) ++ l) (append-nil (listed (expr_at node)) ∙ ap listed (sym f)))
+movable_more : (nodes : List Node) (node : Node) (found : Option Expr) → found ≡ expr_at node → movable_exprs (nodes ++ node ∷ []) ≡ put_in (movable_exprs nodes) found
+movable_more nodes node found is =
+    ap firsts (evaluated_append nodes (node ∷ []) ∙ ap (λ l. evaluated nodes ++ l) (append-nil (listed (expr_at node)) ∙ ap listed (sym is)))
     ∙ put found
   where
-    put : (o : Option Expr) → firsts (evaluated (take i nodes) ++ listed o) ≡ put_in (movable_exprs (take i nodes)) o
-    put None = ap firsts (append-nil (evaluated (take i nodes)))
-    put (Some e) = firsts_more (evaluated (take i nodes)) e
+    put : (o : Option Expr) → firsts (evaluated nodes ++ listed o) ≡ put_in (movable_exprs nodes) o
+    put None = ap firsts (append-nil (evaluated nodes))
+    put (Some e) = firsts_more (evaluated nodes) e
 
 -- ---- movable expressions
 
@@ -124,33 +118,33 @@ put_movable vars keys e new put are one = record { movable = λ i d at. (each i 
 pub record IsTableOf (vars : ℕ) (nodes : List Node) (keys : List Expr) : Type 0 where
   pub are : keys ≡ movable_exprs nodes
   pub movable : AreMovable vars keys
-  pub differ : AllDiffer keys
 
 -- of no nodes
-pub table_none : (vars : ℕ) (keys : List Expr) → keys ≡ [] → IsTableOf vars [] keys
-table_none vars keys is = rw is (record {
-  are = refl;
-  movable = record { movable = λ i e at. cc; below = λ i e at. cc };
-  differ = λ i j i_in. omega (arith, i_in);
-})
+table_none : (vars : ℕ) → IsTableOf vars [] []
+table_none vars = record { are = refl; movable = record { movable = λ i e at. cc; below = λ i e at. cc } }
 
 -- of one node more
-pub table_more : (vars : ℕ) (nodes : List Node) (i : ℕ) (node : Node) (found : Option Expr) (keys new : List Expr)
-    → i < length nodes → node ≡ get_or nodes i node → AllBelow vars (node_vars node) → found ≡ expr_at node → IsWithSome keys found new
-    → IsTableOf vars (take i nodes) keys → IsTableOf vars (take (i + 1) nodes) new
-table_more vars nodes i node found keys new i_in is below f put before = by found f put
+table_more : (vars : ℕ) (nodes : List Node) (node : Node) (found : Option Expr) (keys new : List Expr)
+    → AllBelow vars (node_vars node) → found ≡ expr_at node → IsWithSome keys found new → IsTableOf vars nodes keys → IsTableOf vars (nodes ++ node ∷ []) new
+table_more vars nodes node found keys new below f put before = by found f put
   where
-    more : (o : Option Expr) → o ≡ expr_at node → new ≡ put_in keys o → new ≡ movable_exprs (take (i + 1) nodes)
-    more o h same = same ∙ ap (λ k. put_in k o) before.are ∙ sym (movable_more nodes i node o i_in is h)
+    more : (o : Option Expr) → o ≡ expr_at node → new ≡ put_in keys o → new ≡ movable_exprs (nodes ++ node ∷ [])
+    more o h same = same ∙ ap (λ k. put_in k o) before.are ∙ sym (movable_more nodes node o h)
 
-    by : (o : Option Expr) → o ≡ expr_at node → IsWithSome keys o new → IsTableOf vars (take (i + 1) nodes) new
-    by None h same = record {
-      are = more None h same;
-      movable = subst (AreMovable vars) (sym same) before.movable;
-      differ = subst AllDiffer (sym same) before.differ;
-    }
+    by : (o : Option Expr) → o ≡ expr_at node → IsWithSome keys o new → IsTableOf vars (nodes ++ node ∷ []) new
+    by None h same = record { are = more None h same; movable = subst (AreMovable vars) (sym same) before.movable }
     by (Some e) h with_key = record {
       are = more (Some e) h (is_inserted same_expr expr_is expr_itself keys e new with_key);
       movable = put_movable vars keys e new with_key before.movable (node_movable vars node e below (sym h));
-      differ = put_differs keys e new with_key before.differ;
     }
+
+-- of the nodes that follow
+table_on : (vars : ℕ) (done nodes : List Node) (keys new : List Expr) → HaveVarsBelow vars nodes → TakesKeys expr_at nodes keys new → IsTableOf vars done keys → IsTableOf vars (done ++ nodes) new
+table_on vars done [] keys new below same before = subst (λ l. IsTableOf vars l new) (sym (append-nil done)) (subst (IsTableOf vars done) (sym same) before)
+table_on vars done (node ∷ nodes) keys new below taken before =
+    subst (λ l. IsTableOf vars l new) (append_assoc done (node ∷ []) nodes)
+    (table_on vars (done ++ node ∷ []) nodes taken.0 new (λ n m at. below (suc n) m at) taken.2 (table_more vars done node (expr_at node) keys taken.0 (below 0 node refl) refl taken.1 before))
+
+-- so of all nodes
+pub table_taken : (vars : ℕ) (nodes : List Node) (new : List Expr) → HaveVarsBelow vars nodes → TakesKeys expr_at nodes [] new → IsTableOf vars nodes new
+table_taken vars nodes new below taken = table_on vars [] nodes [] new below taken (table_none vars)

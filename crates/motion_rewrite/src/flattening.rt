@@ -19,17 +19,17 @@ use flow_graph::{Editor, Graph};
 use std::alloc::Global;
 
 /// The graph rewritten by a placement. Each expression with an insertion gets a temporary: a new variable with the next
-/// number, in the order of the table, whose name is `h` and the least number from 1 on that makes a name which no variable
-/// of the graph and no earlier temporary has. For each node in order of number, and for each expression inserted there in
-/// order of the table, a new node that assigns the expression to its temporary is put before the node: all edges that
-/// entered the node enter the first of the new nodes, and these lead on to the node in order. A replaced use becomes a
-/// plain assignment of the temporary. Old nodes keep their numbers.
+/// number, in the order of the table, whose name is `h` and the least number from 1 on that makes a name which no
+/// variable of the graph and no earlier temporary has. For each node in order of number, and for each expression
+/// inserted there in order of the table, a new node that assigns the expression to its temporary is put before the
+/// node: all edges that entered the node enter the first of the new nodes, and these lead on to the node in order. A
+/// replaced use becomes a plain assignment of the temporary. Old nodes keep their numbers.
 ///
-/// The expressions are movable and over the graph's variables; the placement has one row for each node and one bit for each
-/// expression, and for each no insertion stands before Start, and each replaced node uses the expression, which an insertion
-/// makes available there on every path to it. So it is with every placement that is admissible by some down rule. It fails
-/// only with `Memory`. The rewriting is that of Knoop, Ruething and Steffen, *Optimal Code Motion: Theory and Practice*, TOPLAS 1994,
-/// for nodes of one instruction.
+/// The expressions are movable and over the graph's variables; the placement has one row for each node and one bit for
+/// each expression, and for each no insertion stands before Start, and each replaced node uses the expression, which an
+/// insertion makes available there on every path to it. So it is with every placement that is admissible by some down
+/// rule. It fails only with `Memory`. The rewriting is that of Knoop, Ruething and Steffen, *Optimal Code Motion:
+/// Theory and Practice*, TOPLAS 1994, for nodes of one instruction.
 pub fn flatten(
     alloc: Global,
     graph: &Graph,

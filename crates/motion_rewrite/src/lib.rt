@@ -1,9 +1,9 @@
 //! Rewriting a graph by a placement of evaluations.
 //!
-//! In go a graph, a table of expressions, and a placement, which says before which nodes each expression is evaluated into
-//! its temporary and which of its uses read the temporary; out comes the rewritten graph. `specs/` defines what a node
-//! does with an expression, where an expression is available and anticipatable, and which placements are admissible and
-//! optimal.
+//! In go a graph, a table of expressions, and a placement, which says before which nodes each expression is evaluated
+//! into its temporary and which of its uses read the temporary; out comes the rewritten graph. `specs/` defines what a
+//! node does with an expression, where an expression is available and anticipatable, and which placements are
+//! admissible and optimal.
 //!
 //! The theorem that this crate carries is the contract of `flatten`: for every admissible placement of movable
 //! expressions, by whatever down rule and whoever made it, the result does the same as the graph, and on the

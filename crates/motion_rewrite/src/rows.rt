@@ -1,5 +1,5 @@
 // Which nodes use and kill which expressions.
-ghost use Rattle.std.specs.Prelude.{◌≡◌, ℕ, ◌<◌, length, IfOk};
+ghost use Rattle.std.specs.Prelude.{ℕ, ◌<◌, length, IfOk};
 ghost use Rattle.mir_base.specs.ExpressionVars.{expr_vars};
 ghost use Rattle.bit_rows.specs.Bits.{row_of};
 ghost use Rattle.path_laws.specs.KeyRows.{SetsBitAt};

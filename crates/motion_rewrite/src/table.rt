@@ -9,7 +9,7 @@ use crate::Memory;
 use flow_graph::{Graph, Node};
 use key_table::KeyTable;
 use mir_base::{Expr, Rhs, expr_of};
-use path_laws::KeyOf;
+use path_laws::{KeyOf, node_keys};
 use std::alloc::Global;
 
 /// A table of distinct expressions, numbered from 0. Contracts see it as the list of them.
@@ -22,13 +22,20 @@ pub fn exprs(alloc: Global, graph: &Graph) -> Result<ExprTable, Memory>
     ensures movable { IfOk result (AreMovable (length graph.now.vars)) }
     ensures differ { IfOk result AllDiffer }
 {
-    let mut exprs = KeyTable::new(alloc);
-    for node in graph.nodes() {
-        if let Some(expr) = expr_at(node) {
-            exprs.number(expr)?;
-        }
-    }
+    let nodes = graph.nodes();
+    let exprs = node_keys(alloc, nodes, &Evaluated)?;
     Ok(exprs)
+}
+
+/// Reads off a node the movable expression that it evaluates.
+struct Evaluated;
+
+impl KeyOf<Expr> for Evaluated {
+    ghost key_of = { λ of node. expr_at node };
+
+    fn key_of(&self, node: &Node) -> Option<Expr> {
+        expr_at(node)
+    }
 }
 
 /// The movable expression that a node evaluates, where there is one.

@@ -1,6 +1,5 @@
 // Which expressions have a temporary, and the numbers of the temporaries.
 ghost use Rattle.std.specs.Prelude.{◌≡◌, ◌+◌, length, IfOk};
-ghost use Rattle.bit_rows.specs.Bits.{row_of};
 ghost use Rattle.path_laws.specs.Paths.{AreRows};
 ghost use Rattle.motion_rewrite.specs.Temporaries.{AreTemporaries, IsInsertionRow, temporaries_before};
 

@@ -17,6 +17,7 @@ use Rattle.flow_graph.specs.declared.nodes.Node.TheVariants.{Start, Skip, Assign
 use Rattle.flow_graph.specs.Graphs.{node_succs, succs_of}
 use Rattle.flow_graph.specs.Machines.{received_from, node_transition, graph_code, graph_machine}
 use Rattle.flow_graph.specs.Paths.{HasEdge}
+use Rattle.flow_graph.specs.RedirectLaws.{resumed_place}
 use Rattle.value_number.specs.Terms.{Term, Opaque, Terms, rhs_term, movable_term, movable_rhs_term, with_term, called_terms, node_terms, terms_after}
 use Rattle.value_number.specs.Roots.{FromRoot, terms_before}
 use Rattle.value_number.specs.Numbered.{IsHolder, numbered_node, AreNumbered}
@@ -60,11 +61,6 @@ module _ (nodes : List Node) where
           has = subst (λ o. HaveTerms (terms_after n o (terms_before nodes root before)) after.first after.given values) (sym here) after.has;
         }
       ]
-
--- a call's answer leaves the place
-resumed_place : (into : Option ℕ) (a : Answer) (f : Frame) → (resumed into a f).place ≡ f.place
-resumed_place None a f = refl
-resumed_place (Some x) a f = refl
 
 -- the successor that a test takes
 abbrev slot_of : Bool → ℕ

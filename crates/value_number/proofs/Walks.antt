@@ -8,7 +8,8 @@ use Rattle.flow_graph.specs.declared.nodes.Node.{Node}
 use Rattle.flow_graph.specs.declared.nodes.Node.TheVariants.{Start, Skip, Assign, Print, Call, Test, Return}
 use Rattle.flow_graph.specs.BoundLaws.{all_below}
 use Rattle.flow_graph.specs.Graphs.{GraphShape, IsGraph, Reached, at_start, along, is_start, succs_at}
-use Rattle.flow_graph.specs.ListLaws.{get_left_some, get_push, get_seam, set_here, set_elsewhere}
+use Rattle.flow_graph.specs.ListLaws.{get_left_some, get_push, get_seam, set_here}
+use Rattle.flow_graph.specs.MarkLaws.{marked_before, set_keeps}
 use Rattle.flow_graph.specs.Paths.{HasEdge}
 use Rattle.value_number.specs.declared.finding.Change.{Change}
 use Rattle.value_number.specs.declared.finding.Found.{Found}
@@ -125,17 +126,6 @@ no_visit n v old steps h = elim (get_push steps (Restore v old) (Visit n h.1) h.
     differs e = cc
 
 -- ---- marks
-
--- a mark stays set
-mark_stays : (listed : List Bool) (s n : ℕ) → slice_get listed n ≡ Some true → slice_get (slice_set listed s true) n ≡ Some true
-mark_stays listed s n e = elim (cases_eq n s) [
-  | inl p ↦ subst (λ m. slice_get (slice_set listed m true) n ≡ Some true) p (set_here listed n true (slice_get_within listed n true e))
-  | inr other ↦ set_elsewhere listed s n true other ∙ e
-]
-
--- what is set then was set, or is the node
-mark_before : (listed : List Bool) (s n : ℕ) → slice_get (slice_set listed s true) n ≡ Some true → (n ≡ s) ⊎ (slice_get listed n ≡ Some true)
-mark_before listed s n e = elim (cases_eq n s) [ inl p ↦ inl p | inr other ↦ inr (sym (set_elsewhere listed s n true other) ∙ e) ]
 
 -- setting what is set changes nothing
 set_again : (listed : List Bool) (s : ℕ) → slice_index_or listed s false ≡ true → slice_set listed s true ≡ listed
@@ -262,7 +252,7 @@ module _ (graph : GraphShape) where
       numbers_long = walk.numbers_long;
       listed_long = length-set listed s true ∙ walk.listed_long;
       holders_long = walk.holders_long;
-      roots = λ k k_lt is. mark_stays listed s k (walk.roots k k_lt is);
+      roots = λ k k_lt is. set_keeps listed s k (walk.roots k k_lt is);
       ready = put_visit graph.nodes table steps s root numbers walk.ready (record { within = within; before = n ∷ before; path = (no_root, only_enters graph.nodes n s no_root edge, path); represent = represent });
       all = all;
     }
@@ -279,11 +269,11 @@ module _ (graph : GraphShape) where
         earlier : (k : ℕ) → IsToVisit k steps ⊎ (Some n ≡ Some k) ⊎ IsVisited graph listed holders k → Where k
         earlier k h = elim h as (λ _. Where k) [
           | inl v ↦ inl (visit_stays k steps _ v)
-          | inr rest ↦ elim rest as (λ _. Where k) [ inl e ↦ inr (inl e) | inr v ↦ inr (inr (visited_on listed (slice_set listed s true) holders k (mark_stays listed s) v)) ]
+          | inr rest ↦ elim rest as (λ _. Where k) [ inl e ↦ inr (inl e) | inr v ↦ inr (inr (visited_on listed (slice_set listed s true) holders k (set_keeps listed s) v)) ]
         ]
 
         all : (k : ℕ) → slice_get (slice_set listed s true) k ≡ Some true → Where k
-        all k at = elim (mark_before listed s k at) as (λ _. Where k) [
+        all k at = elim (marked_before listed s k at) as (λ _. Where k) [
           | inl same ↦ inl (subst (λ j. IsToVisit j (steps ++ Visit s root ∷ [])) (sym same) (visit_put s root steps))
           | inr was ↦ earlier k (walk.all k was)
         ]
@@ -304,7 +294,7 @@ module _ (graph : GraphShape) where
 -- marks stay set while nodes are listed
 listed_stay : (succs : List ℕ) (listed : List Bool) (k : ℕ) → slice_get listed k ≡ Some true → slice_get (listed_after succs listed) k ≡ Some true
 listed_stay [] listed k at = at
-listed_stay (s ∷ succs) listed k at = listed_stay succs (slice_set listed s true) k (mark_stays listed s k at)
+listed_stay (s ∷ succs) listed k at = listed_stay succs (slice_set listed s true) k (set_keeps listed s k at)
 
 -- and those of the listed nodes are set
 listed_all : (succs : List ℕ) (listed : List Bool) (i s : ℕ) → slice_get succs i ≡ Some s → s < length listed → slice_get (listed_after succs listed) s ≡ Some true

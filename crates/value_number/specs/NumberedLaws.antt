@@ -1,6 +1,6 @@
 -- Laws of the numbered graph: a graph has one, each node keeps its successors, and dividing assignments stay. For proofs
 -- only; mir_opt cites the first.
-use Rattle.std.proofs.Common.{◌≡◌, ℕ, suc, ◌<◌, true, not, if◌then◌else◌, List, [], ◌∷◌, ◌++◌, length, slice_get, Option, Some, None, inl, inr, refl, sym, ap, ◌∙◌, subst, arith}
+use Rattle.std.proofs.Common.{◌≡◌, ℕ, ◌<◌, true, not, if◌then◌else◌, List, length, slice_get, Option, Some, None, inl, inr, refl, sym, ap, ◌∙◌, subst, arith}
 use Rattle.std.proofs.lemmas.Bool.{cases_lt}
 use Rattle.std.proofs.lemmas.Option.{slice_get_cases, slice_get_past}
 use Rattle.mir_base.specs.declared.instructions.Operand.{Operand}
@@ -13,7 +13,8 @@ use Rattle.flow_graph.specs.declared.nodes.Node.{Node}
 use Rattle.flow_graph.specs.declared.nodes.Node.TheVariants.{Start, Skip, Assign, Print, Call, Test, Return}
 use Rattle.flow_graph.specs.Dividing.{DividesStay}
 use Rattle.flow_graph.specs.DividingLaws.{stay_in_place}
-use Rattle.flow_graph.specs.Edges.{edges_from, leaving, preds_among, preds_of, IsSplit}
+use Rattle.flow_graph.specs.Edges.{edges_from, preds_among, preds_of, IsSplit}
+use Rattle.flow_graph.specs.EdgeLaws.{edges_alike}
 use Rattle.flow_graph.specs.Graphs.{GraphShape, node_succs, succs_of, succs_at}
 use Rattle.flow_graph.specs.ListLaws.{some_at}
 use Rattle.flow_graph.specs.OneLaws.{same_graphs, same_places}
@@ -126,14 +127,6 @@ module _ (count : ℕ) (nodes result : List Node) (numbered : AreNumbered count 
       let terms = terms_before nodes to.holds.root to.holds.before in
       let none : to.holder ≡ None = subst (λ o. IsHolder count terms o to.holder) (dividing_term terms x op left right next may_trap) to.holds.is in
       (next, to.is ∙ ap (λ h. Some (numbered_node (Assign x (Binary op left right) next) h)) none))
-
--- lists of nodes with the same successors have the same edges
-edges_alike : (k : ℕ) (xs ys : List Node) → length xs ≡ length ys → ((n : ℕ) → succs_at xs n ≡ succs_at ys n) → edges_from k xs ≡ edges_from k ys
-edges_alike k [] [] long same = refl
-edges_alike k [] (y ∷ ys) long same = absurd (omega (arith, long))
-edges_alike k (x ∷ xs) [] long same = absurd (omega (arith, long))
-edges_alike k (x ∷ xs) (y ∷ ys) long same =
-    ap (λ l. leaving k l ++ edges_from (suc k) xs) (same 0) ∙ ap (λ l. leaving k (node_succs y) ++ l) (edges_alike (suc k) xs ys (omega (arith, long)) (λ n. same (suc n)))
 
 -- so the edges stay, and a split graph stays split
 pub numbered_edges : (graph result : GraphShape) → IsNumbered graph result → KeepsEdges graph result

@@ -1,4 +1,4 @@
--- Terms of the table that compare as equal are one term. For the code's proof only.
+-- Terms of the table that compare as equal are one term. Cited by the impl of `Key`.
 use Rattle.std.proofs.Common.{rules, ◌≡◌, ◌&&◌, true, nat_eq, refl}
 use Rattle.std.proofs.lemmas.Bool.{and_parts, eqb-true}
 use Rattle.mir_base.specs.contracts.operators.OpPartialEq.TheImpl.{ghosts as op_ghosts}

@@ -125,8 +125,8 @@ fn assigned(
     }
 }
 
-/// The first variable whose number is that of the term of a right side, which does not divide; none for a plain one. Before
-/// it the table had so many terms, so a number that is not below has been given to no variable yet.
+/// The first variable whose number is that of the term of a right side, which does not divide; none for a plain one.
+/// Before it the table had so many terms, so a number that is not below has been given to no variable yet.
 fn holder(numbers: &mut Numbers, rhs: Rhs, number: usize, known: usize) -> Option<usize>
     requires { divides rhs ≡ false }
     ensures holder { (old new : List TermKey) (root : ℕ) (terms : Terms)

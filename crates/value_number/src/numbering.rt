@@ -1,8 +1,7 @@
 // The graph in which a variable is read in the place of a right side whose value it has.
 ghost use Rattle.std.specs.Prelude.{◌≡◌, length, IfOk};
-ghost use Rattle.flow_graph.specs.Graphs.{IsGraph};
 ghost use Rattle.flow_graph.specs.Passes.{GraphDivides, GraphKeeps};
-ghost use Rattle.value_number.specs.Numbered.{AreNumbered, BecomeNumbered, IsNumbered, IsOnlyNumbered, KeepsEdges, numbered_node};
+ghost use Rattle.value_number.specs.Numbered.{BecomeNumbered, IsNumbered, IsOnlyNumbered, KeepsEdges, numbered_node};
 
 use crate::walk::holders;
 use flow_graph::{Graph, Node};
@@ -10,13 +9,13 @@ use mir_base::{Memory, Operand, Rhs};
 use std::alloc::Global;
 
 /// The numbered graph. Before each node each variable has a term: a tree of operators, whose leaves are constants, the
-/// values that variables have before the last root (Start, or a node that more than one edge enters), and the values that
-/// divisions and calls give. An assignment gives its variable the term of its right side, and a division or a call a leaf
-/// of its own. Each movable right side whose term some variable has before the node becomes the least-numbered such
-/// variable. All of this is decided on the graph as it was.
+/// values that variables have before the last root (Start, or a node that more than one edge enters), and the values
+/// that divisions and calls give. An assignment gives its variable the term of its right side, and a division or a call
+/// a leaf of its own. Each movable right side whose term some variable has before the node becomes the least-numbered
+/// such variable. All of this is decided on the graph as it was.
 ///
-/// Nodes, variables and successors keep their numbers; nothing but such right sides changes. The graph does the same and
-/// evaluates no more operators. It fails only with `Memory`.
+/// Nodes, variables and successors keep their numbers; nothing but such right sides changes. The graph does the same
+/// and evaluates no more operators. It fails only with `Memory`.
 pub fn number(alloc: Global, graph: &Graph) -> Result<Graph, Memory>
     ensures numbered { IfOk result (IsNumbered graph.now) }
 
@@ -32,20 +31,9 @@ pub fn number(alloc: Global, graph: &Graph) -> Result<Graph, Memory>
     // each node has the successors that it had, and a split graph stays split
     ensures edges { IfOk result (KeepsEdges graph.now) }
 {
-    let nodes = numbered(alloc, graph)?;
-    let numbered = graph.with_nodes(alloc, nodes)?;
-    Ok(numbered)
-}
-
-/// What the nodes of the graph become.
-fn numbered(alloc: Global, graph: &Graph) -> Result<Vec<Node>, Memory>
-    ensures are { IfOk result (λ numbered.
-        AreNumbered (length graph.now.vars) graph.now.nodes numbered.items) }
-    ensures graph { IsGraph graph.now.vars graph.now.received graph.now.nodes }
-{
-    let nodes = graph.nodes();
     let holders = holders(alloc, graph)?;
-    let numbered = numbered_nodes(alloc, nodes, holders.as_slice())?;
+    let nodes = numbered_nodes(alloc, graph.nodes(), holders.as_slice())?;
+    let numbered = graph.with_nodes(alloc, nodes)?;
     Ok(numbered)
 }
 

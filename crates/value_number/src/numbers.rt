@@ -66,8 +66,8 @@ impl Numbers {
         }
     }
 
-    /// The first variable with this number. Variables that lost the number are dropped here, each as often as it was given
-    /// it, so that all searches together cost a logarithm for each number that is given.
+    /// The first variable with this number. Variables that lost the number are dropped here, each as often as it was
+    /// given it, so that all searches together cost a logarithm for each number that is given.
     pub(crate) fn first_with(&mut self, number: usize) -> Option<usize>
         ensures same { self.new ≡ self.old }
         ensures within { IfSome result (λ v. v < length self.old) }

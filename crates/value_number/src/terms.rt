@@ -1,5 +1,5 @@
 // Terms in a table: a term is a number, and no tree is built.
-ghost use Rattle.std.specs.Prelude.{◌≡◌, ℕ, ◌<◌, List, length, slice_get, IfOk, OnOk, Some};
+ghost use Rattle.std.specs.Prelude.{◌≡◌, ◌<◌, length, slice_get, IfOk, OnOk, Some};
 ghost use Rattle.mir_base.specs.Shapes.{AllBelow, operand_vars, rhs_vars};
 ghost use Rattle.value_number.specs.Table.{Represent, Stands, Stay};
 ghost use Rattle.value_number.specs.Terms.{Terms, operand_term, rhs_term};

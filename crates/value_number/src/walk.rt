@@ -1,8 +1,7 @@
 // The walk over the graph, which finds at each node the variable that has the term of its right side.
-ghost use Rattle.std.specs.Prelude.{◌≡◌, ℕ, ◌<◌, ◌≤◌, ◌++◌, [], ◌∷◌, List, None, Some, IfOk, OnOk, length, replicate, slice_get, slice_set};
+ghost use Rattle.std.specs.Prelude.{◌≡◌, ◌<◌, ◌++◌, [], ◌∷◌, None, Some, IfOk, OnOk, length, replicate, slice_set};
 ghost use Rattle.mir_base.specs.Shapes.{AllBelow};
 ghost use Rattle.flow_graph.specs.Edges.{edges_of};
-ghost use Rattle.flow_graph.specs.Graphs.{node_succs};
 ghost use Rattle.value_number.specs.declared.walk.Step.TheVariants.{Visit};
 ghost use Rattle.value_number.specs.Roots.{is_root};
 ghost use Rattle.value_number.specs.Walks.{AreHolders, AreRoots, ChangeWithin, VisitRoots, GoesOver, changed_numbers, listed_after, steps_after, undoing, weight_left, where_any, with_root};
@@ -39,8 +38,9 @@ pub(crate) struct Walk {
     pub(crate) holders: Vec<Option<usize>>,
 }
 
-/// For each node the first variable that has the term of its movable right side before it, where there is one. The time is
-/// linear in nodes and edges, but for a logarithm where variables that had a term lose it. It fails only with `Memory`.
+/// For each node the first variable that has the term of its movable right side before it, where there is one. The time
+/// is linear in nodes and edges, but for a logarithm where variables that had a term lose it. It fails only with
+/// `Memory`.
 pub(crate) fn holders(alloc: Global, graph: &Graph) -> Result<Vec<Option<usize>>, Memory>
     ensures { IfOk result (λ holders. AreHolders graph.now holders.items) }
 {

@@ -6,7 +6,7 @@ use Rattle.mir_base.specs.Shapes.{AllBelow}
 use Rattle.flow_graph.specs.declared.nodes.Node.TheVariants.{Skip}
 use Rattle.flow_graph.specs.Graphs.{node_succs}
 use Rattle.flow_graph.specs.Edges.{preds_of}
-use Rattle.edge_split.specs.Split.{has_more, is_join, joins_among, split_nodes, rerouted, through_skips, with_succs}
+use Rattle.edge_split.specs.Split.{has_more, is_join, joins_among, rerouted, through_skips, with_succs}
 use Rattle.edge_split.proofs.Targets.{more_of_two, same_joins, same_through, targets}
 use Rattle.edge_split.proofs.Through.{one_rerouted, one_made}
 use Rattle.edge_split.proofs.Splits.{all_split}
@@ -14,13 +14,13 @@ use Rattle.edge_split.proofs.splitting.all_nodes.Goals as goal
 
 pub reroute-requires-clause-within : goal.reroute-requires-clause-within
 reroute-requires-clause-within c =
-    let old = c.nodes-old.result.now in
+    let old = c.args.old.now in
     let here = slice_get_read old (length old) c.loop-node.node-index c.node-item.result refl c.loop-node-test.true c.node-item.is in
-    subst (λ n. AllBelow n (node_succs c.node-item.result)) (sym c.loop-node.invariant.long) (succs_all_below old c.loop-node.node-index c.node-item.result (λ m slot s edge. (c.nodes-old.ensures.graph.can.succs m slot s edge).1) here)
+    subst (λ n. AllBelow n (node_succs c.node-item.result)) (sym c.loop-node.invariant.long) (succs_all_below old c.loop-node.node-index c.node-item.result c.requires.within here)
 
 pub loop-node-preserved : goal.loop-node-preserved
 loop-node-preserved c =
-    let old = c.nodes-old.result.now in
+    let old = c.args.old.now in
     let inv = c.loop-node.invariant in
     let i = c.loop-node.node-index in
     let node = c.node-item.result in
@@ -42,12 +42,11 @@ loop-node-preserved c =
       made = one_made (is_join old) (drop i old) (drop (i + 1) old) node before.made.items made _ taken skips inv.made;
     }
 
-pub returns-clause-are : goal.returns-clause-are
-returns-clause-are c =
-    let old = c.nodes-old.result.now in
+pub returns : goal.returns
+returns c =
+    let old = c.args.old.now in
     let skips = c.loop-node.skips in
     let none : drop c.loop-node.node-index old ≡ [] = drop_all c.loop-node.node-index old c.loop-node-test.false in
     all_split old c.loop-node.nodes.items skips.made.items c.append.new.self.items c.in_ok-append.ensures.items
     (ap (λ l. c.loop-node.nodes.items ++ rerouted (is_join old) (skips.first + length skips.made.items) l) (sym none) ∙ c.loop-node.invariant.nodes)
     (ap (λ l. skips.made.items ++ map Skip (joins_among (is_join old) (targets l))) (sym none) ∙ c.loop-node.invariant.made)
-    ∙ ap split_nodes c.nodes-old.ensures.value

@@ -16,7 +16,7 @@ use Rattle.motion_rewrite.proofs.Rewritable.{IsRewritable, first_bit, replaced_u
 use Rattle.motion_rewrite.proofs.Rewriting.{insertions_alike, reading_alike, flattened_alike}
 use Rattle.motion_rewrite.proofs.RowNumbers.{inserted_within}
 use Rattle.motion_rewrite.proofs.flattening.rewritten.Goals as goal
-use Rattle.motion_rewrite.proofs.flattening.rewritten.Goals.{In_ok-room, In_ok-editor, After-read_temporaries}
+use Rattle.motion_rewrite.proofs.flattening.rewritten.Goals.{In_ok-room}
 
 rewritable_here : (c : In_ok-room) → IsRewritable c.args.graph.now c.args.table.now c.args.placement.now
 rewritable_here c = rewritable _ _ _ _ c.nodes-nodes.ensures.value c.nodes-nodes.ensures.graph c.requires.movable c.requires.insert c.requires.replace c.requires.placed

@@ -2,7 +2,7 @@ use Rattle.std.proofs.Common.{◌≡◌, ◌∙◌, ◌<◌, ℕ, Bool, List, le
 use Rattle.mir_base.specs.declared.instructions.Expr.{Expr}
 use Rattle.mir_base.specs.ExpressionVars.{expr_vars}
 use Rattle.flow_graph.specs.declared.nodes.Node.{Node}
-use Rattle.flow_graph.specs.Graphs.{GraphShape, HaveVarsBelow}
+use Rattle.flow_graph.specs.Graphs.{HaveVarsBelow}
 use Rattle.flow_graph.specs.Numbering.{is_in}
 use Rattle.path_laws.specs.KeyRows.{AreAssignedRows, AreKeyRows, of_assigned}
 use Rattle.path_laws.specs.KeyRowLaws.{assigned_keys, same_test}

@@ -1,53 +1,66 @@
 use Rattle.std.proofs.Common.{sym, subst, length}
-use Rattle.flow_graph.specs.Keeps.{AsGraph, Keeps}
+use Rattle.flow_graph.specs.Graphs.{IsGraph}
 use Rattle.flow_graph.specs.KeepsLaws.{made_keeps}
-use Rattle.value_number.specs.Numbered.{AreNumbered, IsNumbered}
+use Rattle.value_number.specs.Numbered.{AreNumbered, BecomeNumbered, IsNumbered}
 use Rattle.value_number.specs.NumberedLaws.{numbered_edges, numbered_is_one, numbered_stay}
 use Rattle.value_number.proofs.Lockstep.{numbered_same, numbered_cheaper}
+use Rattle.value_number.proofs.Pushes.{become_numbered}
 use Rattle.value_number.proofs.Whole.{numbered_calls, numbered_can_make, numbered_reached}
 use Rattle.value_number.proofs.numbering.number.Goals as goal
-use Rattle.value_number.proofs.numbering.number.Goals.{In_ok-numbered}
+use Rattle.value_number.proofs.numbering.number.Goals.{In_ok-nodes, In_ok-numbered}
+
+-- what holds of every graph
+is_graph : (c : In_ok-nodes) → IsGraph c.args.graph.now.vars c.args.graph.now.received c.args.graph.now.nodes
+is_graph c = rw (← c.nodes.ensures.value) c.nodes.ensures.graph
+
+-- the nodes are what those of the graph become
+are : (c : In_ok-nodes) → AreNumbered (length c.args.graph.now.vars) c.args.graph.now.nodes c.in_ok-nodes.nodes.items
+are c =
+    let holders = c.in_ok-holders.holders.items in
+    let nodes = c.in_ok-nodes.nodes.items in
+    become_numbered c.args.graph.now holders nodes c.in_ok-holders.ensures
+    (subst (λ l. BecomeNumbered l holders nodes) c.nodes.ensures.value (subst (λ l. BecomeNumbered c.nodes.result.now l nodes) c.as_slice.ensures.value c.in_ok-nodes.ensures))
 
 pub with_nodes-requires : goal.with_nodes-requires
 with_nodes-requires c =
     let graph = c.args.graph.now in
-    numbered_can_make graph.vars graph.received graph.nodes c.in_ok-nodes.nodes.items c.in_ok-nodes.ensures.graph.can c.in_ok-nodes.ensures.are
+    let known = (goal.at.with_nodes-requires c).In_ok-nodes in
+    numbered_can_make graph.vars graph.received graph.nodes c.in_ok-nodes.nodes.items (is_graph known).can (are known)
 
 -- the answer is the exact graph
 exact : (c : In_ok-numbered) → IsNumbered c.args.graph.now c.in_ok-numbered.numbered
 exact c =
     let graph = c.args.graph.now in
-    let are = c.in_ok-nodes.ensures.are in
     let made = c.in_ok-numbered.ensures.made in
-    let whole = c.in_ok-numbered.ensures.whole (numbered_reached (length graph.vars) graph.nodes c.in_ok-nodes.nodes.items are c.in_ok-nodes.ensures.graph.reached) in
+    let known = (goal.at.In_ok-numbered c).In_ok-nodes in
+    let whole = c.in_ok-numbered.ensures.whole (numbered_reached (length graph.vars) graph.nodes c.in_ok-nodes.nodes.items (are known) (is_graph known).reached) in
     record {
       name_is = made.name_is;
       vars_are = made.vars_are;
       received_are = made.received_are;
-      nodes_are = subst (AreNumbered (length graph.vars) graph.nodes) (sym whole) are;
+      nodes_are = subst (AreNumbered (length graph.vars) graph.nodes) (sym whole) (are known);
     }
 
--- it keeps the graph
-kept : (c : In_ok-numbered) → Keeps (AsGraph c.args.graph.now) (AsGraph c.in_ok-numbered.numbered)
-kept c =
+pub returns-clause-keeps : goal.returns-clause-keeps
+returns-clause-keeps c =
     let graph = c.args.graph.now in
+    let vars = length graph.vars in
     let nodes = c.in_ok-nodes.nodes.items in
-    let are = c.in_ok-nodes.ensures.are in
+    let numbered = are (goal.at.returns-clause-keeps c).In_ok-nodes in
     made_keeps graph c.in_ok-numbered.numbered nodes c.in_ok-numbered.ensures.made.name_is
-    (numbered_same graph.received (length graph.vars) graph.nodes nodes are) (numbered_cheaper graph.received (length graph.vars) graph.nodes nodes are) (numbered_calls (length graph.vars) graph.nodes nodes are)
+    (numbered_same graph.received vars graph.nodes nodes numbered) (numbered_cheaper graph.received vars graph.nodes nodes numbered) (numbered_calls vars graph.nodes nodes numbered)
     c.in_ok-numbered.ensures.same c.in_ok-numbered.ensures.cheaper c.in_ok-numbered.ensures.calls
 
 pub returns-clause-numbered : goal.returns-clause-numbered
-returns-clause-numbered c = exact c
-
-pub returns-clause-only : goal.returns-clause-only
-returns-clause-only c = λ other is. numbered_is_one c.args.graph.now other c.in_ok-numbered.numbered is (exact c)
-
-pub returns-clause-keeps : goal.returns-clause-keeps
-returns-clause-keeps c = kept c
+returns-clause-numbered c = exact (goal.at.returns-clause-numbered c).In_ok-numbered
 
 pub returns-clause-divides : goal.returns-clause-divides
-returns-clause-divides c = let e = exact c in numbered_stay (length c.args.graph.now.vars) c.args.graph.now.nodes c.in_ok-numbered.numbered.nodes e.nodes_are
+returns-clause-divides c =
+    let e = exact (goal.at.returns-clause-divides c).In_ok-numbered in
+    numbered_stay (length c.args.graph.now.vars) c.args.graph.now.nodes c.in_ok-numbered.numbered.nodes e.nodes_are
+
+pub returns-clause-only : goal.returns-clause-only
+returns-clause-only c = λ other is. numbered_is_one c.args.graph.now other c.in_ok-numbered.numbered is (exact (goal.at.returns-clause-only c).In_ok-numbered)
 
 pub returns-clause-edges : goal.returns-clause-edges
-returns-clause-edges c = numbered_edges c.args.graph.now c.in_ok-numbered.numbered (exact c)
+returns-clause-edges c = numbered_edges c.args.graph.now c.in_ok-numbered.numbered (exact (goal.at.returns-clause-edges c).In_ok-numbered)
