@@ -1,6 +1,7 @@
 -- The earliest nodes, and the busy placement, which inserts there. Cited by contracts.
 use Rattle.std.specs.Prelude.{◌≡◌, ◌⊎◌, ◌↔◌, ◌<◌, ℕ, true, List, length}
 use Rattle.mir_base.specs.declared.instructions.Expr.{Expr}
+use Rattle.flow_graph.specs.Edges.{IsSplit, edges_of}
 use Rattle.flow_graph.specs.Graphs.{GraphShape}
 use Rattle.flow_graph.specs.Paths.{HasEdge}
 use Rattle.motion_rewrite.specs.declared.placement.Placement.{Placement}
@@ -9,6 +10,14 @@ use Rattle.motion_rewrite.specs.Placements.{IsAvailable, IsSafe, Places, places_
 use Rattle.motion_rewrite.specs.Rows.{AreRowsOf, AreRowsWhere}
 use Rattle.motion_rewrite.specs.Tables.{ForEachExpr}
 use Rattle.down_safe.specs.declared.safety.Busy.{Busy}
+use Rattle.down_safe.specs.declared.safety.Sites.{Sites}
+
+-- the graph is split, and the rows say where each expression of the table is used and killed
+pub record AreSitesOf (sites : Sites) (table : List Expr) : Type 0 where
+  pub split : IsSplit sites.graph.now.nodes
+  pub edges_are : sites.edges.now ≡ edges_of sites.graph.now.nodes
+  pub uses_are : AreRowsOf sites.graph.now table (uses sites.graph.now) sites.uses.now
+  pub kills_are : AreRowsOf sites.graph.now table (kills sites.graph.now) sites.kills.now
 
 -- n is down, and some predecessor kills e or is not safe
 abbrev pub IsEarliest : GraphShape → Expr → (ℕ → Type 0) → ℕ → Type 0

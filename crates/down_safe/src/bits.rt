@@ -4,20 +4,11 @@ ghost use Rattle.flow_graph.specs.Edges.{edges_of};
 ghost use Rattle.path_laws.specs.Paths.{AreRows, HaveShape, width};
 ghost use Rattle.down_safe.specs.Bits.{AreAvailableRows, AreBlockingRows, AreEarliestRows};
 
+use crate::Sites;
 use bit_rows::Rows;
-use flow_graph::{Edges, Graph};
 use mir_base::Memory;
 use path_laws::{forward_all, some_predecessor};
 use std::alloc::Global;
-
-/// Where the nodes of a graph use and kill each bit.
-#[derive(Clone, Copy)]
-pub(crate) struct Sites<'a> {
-    pub(crate) graph: &'a Graph,
-    pub(crate) edges: &'a Edges,
-    pub(crate) uses: &'a Rows,
-    pub(crate) kills: &'a Rows,
-}
 
 /// At which nodes each bit is available: on every path from Start it was used, and killed neither by that node nor by a
 /// later one.

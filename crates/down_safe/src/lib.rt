@@ -4,8 +4,8 @@
 //! evaluated since it will be used; out come the rows of the nodes at which each expression is available, down, and
 //! earliest, and the placement that inserts at the earliest nodes.
 //!
-//! The theorem that this crate carries is that each row is exactly its statement on paths, and that the busy placement is
-//! admissible for every rule with the laws of a down rule.
+//! The theorem that this crate carries is that each row is exactly its statement on paths, and that the busy placement
+//! is admissible for every rule with the laws of a down rule.
 #![tactic(auto)]
 
 mod bits;
@@ -17,4 +17,4 @@ mod safety;
 pub use nodes::busy;
 pub use placement::busy_placement;
 pub use rule::{DownRule, EveryPath};
-pub use safety::Busy;
+pub use safety::{Busy, Sites};

@@ -3,8 +3,8 @@ ghost use Rattle.std.specs.Prelude.{◌≡◌, IfOk};
 ghost use Rattle.flow_graph.specs.Edges.{IsSplit, edges_of};
 ghost use Rattle.down_safe.specs.Busy.{AreBusyRows};
 
-use crate::bits::{Sites, available_rows, early_rows};
-use crate::{Busy, DownRule};
+use crate::bits::{available_rows, early_rows};
+use crate::{Busy, DownRule, Sites};
 use flow_graph::{Edges, Graph};
 use mir_base::Memory;
 use motion_rewrite::{ExprTable, kill_rows, use_rows};
@@ -34,7 +34,7 @@ pub fn busy<R: DownRule>(
         kills: &kills,
     };
     let up = available_rows(alloc, &sites)?;
-    let down = rule.down(alloc, graph, edges, table, &uses, &kills)?;
+    let down = rule.down(alloc, &sites, table)?;
     let early = early_rows(alloc, &sites, &up, &down)?;
     Ok(Busy {
         uses,

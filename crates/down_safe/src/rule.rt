@@ -1,43 +1,31 @@
 // Down rules.
-ghost use Rattle.std.specs.Prelude.{◌≡◌, ℕ, IfOk};
+ghost use Rattle.std.specs.Prelude.{ℕ, IfOk};
 ghost use Rattle.mir_base.specs.declared.instructions.Expr.{Expr};
-ghost use Rattle.flow_graph.specs.Edges.{IsSplit, edges_of};
 ghost use Rattle.flow_graph.specs.Graphs.{GraphShape};
-ghost use Rattle.motion_rewrite.specs.Expressions.{kills, uses};
-ghost use Rattle.motion_rewrite.specs.Rows.{AreRowsOf, AreRowsWhere};
+ghost use Rattle.motion_rewrite.specs.Rows.{AreRowsWhere};
 ghost use Rattle.motion_rewrite.specs.Placements.{IsAnticipatable};
+ghost use Rattle.down_safe.specs.Busy.{AreSitesOf};
 ghost use Rattle.down_safe.specs.EveryPathLaws.{every_path_laws};
 ghost use Rattle.down_safe.specs.Rules.{HasDownLaws};
 
+use crate::Sites;
 use bit_rows::Rows;
-use flow_graph::{Edges, Graph};
 use mir_base::Memory;
 use motion_rewrite::ExprTable;
 use path_laws::backward_all;
 use std::alloc::Global;
 
-/// A down rule: at which nodes an expression may be evaluated since what follows uses it. Its meaning, `is_down`, says of
-/// a graph and an expression which nodes are down, and keeps the laws of a down rule on every split graph.
+/// A down rule: at which nodes an expression may be evaluated since what follows uses it. Its meaning, `is_down`, says
+/// of a graph and an expression which nodes are down, and keeps the laws of a down rule on every split graph.
 pub trait DownRule {
     ghost is_down: { Self → GraphShape → Expr → ℕ → Type 0 };
 
     /// At which nodes each expression of the table is down: one row for each node, one bit for each expression. The
-    /// graph is split, `edges` are those of `graph`, and `used` and `killed` are the rows of where each expression is
-    /// used and killed. It fails only with `Memory`.
-    fn down(
-        &self,
-        alloc: Global,
-        graph: &Graph,
-        edges: &Edges,
-        table: &ExprTable,
-        used: &Rows,
-        killed: &Rows,
-    ) -> Result<Rows, Memory>
-        requires split { IsSplit graph.now.nodes }
-        requires edges { edges.now ≡ edges_of graph.now.nodes }
-        requires used { AreRowsOf graph.now table.now (uses graph.now) used.now }
-        requires killed { AreRowsOf graph.now table.now (kills graph.now) killed.now }
-        ensures { IfOk result (AreRowsWhere graph.now table.now (is_down self.now graph.now)) };
+    /// graph is split, and `sites` say where each expression is used and killed. It fails only with `Memory`.
+    fn down(&self, alloc: Global, sites: &Sites<'_>, table: &ExprTable) -> Result<Rows, Memory>
+        requires { AreSitesOf sites.now table.now }
+        ensures { IfOk result
+            (AreRowsWhere sites.now.graph.now table.now (is_down self.now sites.now.graph.now)) };
 
     ghost laws: { (rule : Self) → HasDownLaws (is_down rule) };
 }
@@ -51,16 +39,8 @@ pub struct EveryPath;
 impl DownRule for EveryPath {
     ghost is_down = { λ rule graph e n. IsAnticipatable graph e n };
 
-    fn down(
-        &self,
-        alloc: Global,
-        graph: &Graph,
-        edges: &Edges,
-        _table: &ExprTable,
-        used: &Rows,
-        killed: &Rows,
-    ) -> Result<Rows, Memory> {
-        let rows = backward_all(alloc, graph, edges, used, killed)?;
+    fn down(&self, alloc: Global, sites: &Sites<'_>, _table: &ExprTable) -> Result<Rows, Memory> {
+        let rows = backward_all(alloc, sites.graph, sites.edges, sites.uses, sites.kills)?;
         Ok(rows)
     }
 

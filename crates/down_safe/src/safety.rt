@@ -1,5 +1,20 @@
 // Where expressions may be evaluated.
 use bit_rows::Rows;
+use flow_graph::{Edges, Graph};
+
+/// Where the nodes of a graph use and kill expressions: each has one row for each node, and one bit for each
+/// expression.
+#[derive(Clone, Copy)]
+pub struct Sites<'a> {
+    /// The graph.
+    pub graph: &'a Graph,
+    /// Its edges.
+    pub edges: &'a Edges,
+    /// Which expressions each node uses.
+    pub uses: &'a Rows,
+    /// Which expressions each node kills.
+    pub kills: &'a Rows,
+}
 
 /// Where expressions may be evaluated: each has one row for each node of a graph, and one bit for each expression.
 #[derive(Drop)]

@@ -1,4 +1,4 @@
--- The rows give the lazy placement: the bits of one expression say where it is delayed, latest and needed, one after the
+-- The rows give the lazy placement: the bits of one expression say where it is delayed, latest and isolated, one after the
 -- other, and the placement that is made of them is the lazy one.
 use Rattle.std.proofs.Common.{◌≡◌, ◌<◌, ◌↔◌, ◌&&◌, not, ℕ, Bool, true, false, refl, sym, subst, ◌∙◌, inl, inr, List, [], ◌∷◌, length}
 use Rattle.mir_base.specs.declared.instructions.Expr.{Expr}
@@ -16,17 +16,23 @@ use Rattle.latest_place.proofs.Admissible.{IsNeeded}
 use Rattle.path_laws.specs.Says.{both_say, not_says, off_says}
 
 -- the bits of one expression, by node, each read from those before it
-pub record AreLazyBits (graph : GraphShape) (e : Expr) (Down : ℕ → Type 0) (early used delayed latest needed : ℕ → Bool) (p : Places) : Type 0 where
+pub record AreLateBits (graph : GraphShape) (e : Expr) (Down : ℕ → Type 0) (early used delayed latest isolated : ℕ → Bool) : Type 0 where
   pub early_is : (n : ℕ) → n < length graph.nodes → (early n ≡ true) ↔ IsEarliest graph e Down n
   pub used_is : (n : ℕ) → n < length graph.nodes → used n ≡ uses graph e n
   pub delayed_is : (n : ℕ) → n < length graph.nodes → (delayed n ≡ true) ↔ IsDelayedBit graph.nodes early used n
   pub latest_is : (n : ℕ) → n < length graph.nodes → (latest n ≡ true) ↔ IsLatestBit graph.nodes delayed used n
-  pub needed_is : (n : ℕ) → n < length graph.nodes → (needed n ≡ true) ↔ IsNeededBit graph.nodes latest used n
-  pub inserts_is : (n : ℕ) → p.inserts n ≡ (latest n && needed n)
-  pub replaces_is : (n : ℕ) → p.replaces n ≡ (used n && not (latest n && not (needed n)))
+  pub isolated_is : (n : ℕ) → n < length graph.nodes → (isolated n ≡ true) ↔ (IsNeededBit graph.nodes latest used n → ⊥)
 
-module _ (graph : GraphShape) (walks : Walks graph) (e : Expr) (Down : ℕ → Type 0) (early used delayed latest needed : ℕ → Bool) (p : Places)
-    (rows : AreLazyBits graph e Down early used delayed latest needed p) where
+-- the bits of one expression, by node, and the placement made of them
+pub record AreLazyBits (graph : GraphShape) (e : Expr) (Down : ℕ → Type 0) (used latest isolated : ℕ → Bool) (p : Places) : Type 0 where
+  pub used_is : (n : ℕ) → n < length graph.nodes → used n ≡ uses graph e n
+  pub latest_is : (n : ℕ) → n < length graph.nodes → (latest n ≡ true) ↔ IsLatest graph e Down n
+  pub isolated_is : (n : ℕ) → n < length graph.nodes → (isolated n ≡ true) ↔ IsIsolated graph e Down n
+  pub inserts_is : (n : ℕ) → p.inserts n ≡ (latest n && not (isolated n))
+  pub replaces_is : (n : ℕ) → p.replaces n ≡ (used n && not (latest n && isolated n))
+
+module _ (graph : GraphShape) (walks : Walks graph) (e : Expr) (Down : ℕ → Type 0) (early used delayed latest isolated : ℕ → Bool)
+    (rows : AreLateBits graph e Down early used delayed latest isolated) where
   -- ---- delayed
 
   reaches_from_since : (n : ℕ) (before : List ℕ) → Trace graph.nodes n before → Since (λ m. early m && not (used m)) used before → ReachesAlong (IsEarliest graph e Down) (uses graph e) before
@@ -49,7 +55,7 @@ module _ (graph : GraphShape) (walks : Walks graph) (e : Expr) (Down : ℕ → T
         | inr more ↦ inr (off, since_from_reaches m before t more)
       ]
 
-  delayed_says : (n : ℕ) → n < length graph.nodes → (delayed n ≡ true) ↔ IsDelayed graph e Down n
+  pub delayed_says : (n : ℕ) → n < length graph.nodes → (delayed n ≡ true) ↔ IsDelayed graph e Down n
   delayed_says n below = (to, from)
     where
       to : delayed n ≡ true → IsDelayed graph e Down n
@@ -74,7 +80,7 @@ module _ (graph : GraphShape) (walks : Walks graph) (e : Expr) (Down : ℕ → T
 
   -- ---- latest
 
-  latest_says : (n : ℕ) → n < length graph.nodes → (latest n ≡ true) ↔ IsLatest graph e Down n
+  pub latest_says : (n : ℕ) → n < length graph.nodes → (latest n ≡ true) ↔ IsLatest graph e Down n
   latest_says n below = (
     λ on. let l = (rows.latest_is n below).0 on in (
       (delayed_says n below).0 l.0,
@@ -98,7 +104,7 @@ module _ (graph : GraphShape) (walks : Walks graph) (e : Expr) (Down : ℕ → T
     λ nl. (off_says (latest n)).1 (λ on. nl ((latest_says n below).0 on)),
   )
 
-  -- ---- needed
+  -- ---- isolated
 
   ends_comes : (path : List ℕ) → IsPath graph.nodes path → EndsBorn (λ m. used m && not (latest m)) latest path → ComesToUse graph e Down path
   ends_comes [] is ends = absurd is
@@ -124,36 +130,38 @@ module _ (graph : GraphShape) (walks : Walks graph) (e : Expr) (Down : ℕ → T
   from_needed n [] is comes = absurd comes
   from_needed n (s ∷ path) is comes = (s, is.0, record { path = s ∷ path; is_path = is.1; begins = refl; ends = comes_ends (s ∷ path) is.1 comes })
 
-  -- ---- the placement
+  pub isolated_says : (n : ℕ) → n < length graph.nodes → (isolated n ≡ true) ↔ IsIsolated graph e Down n
+  isolated_says n below = (
+    λ on path is comes. (rows.isolated_is n below).0 on (from_needed n path is comes),
+    λ alone. (rows.isolated_is n below).1 (λ needed. let more = to_needed n needed in alone more.0 more.1 more.2),
+  )
 
-  not_isolated : (n : ℕ) → n < length graph.nodes → needed n ≡ true → ¬ (IsIsolated graph e Down n)
-  not_isolated n below on isolated = let more = to_needed n ((rows.needed_is n below).0 on) in isolated more.0 more.1 more.2
+-- ---- the placement
 
-  isolated : (n : ℕ) → n < length graph.nodes → needed n ≡ false → IsIsolated graph e Down n
-  isolated n below off path is comes = not_both ((rows.needed_is n below).1 (from_needed n path is comes)) off
-
+module _ (graph : GraphShape) (e : Expr) (Down : ℕ → Type 0) (used latest isolated : ℕ → Bool) (p : Places) (rows : AreLazyBits graph e Down used latest isolated p) where
   pub rows_are_lazy : IsLazy graph e Down p
   rows_are_lazy = record { inserts_at = λ n below. (inserted n below, inserts n below); replaces_at = λ n below. (replaced n below, replaces n below) }
     where
       inserted : (n : ℕ) → n < length graph.nodes → p.inserts n ≡ true → IsLatest graph e Down n × (IsIsolated graph e Down n → ⊥)
       inserted n below on =
-          let both = (both_say (latest n) (needed n)).0 (sym (rows.inserts_is n) ∙ on) in
-          ((latest_says n below).0 both.0, not_isolated n below both.1)
+          let both = (both_say (latest n) (not (isolated n))).0 (sym (rows.inserts_is n) ∙ on) in
+          ((rows.latest_is n below).0 both.0, λ alone. not_both ((rows.isolated_is n below).1 alone) ((not_says (isolated n)).0 both.1))
 
       inserts : (n : ℕ) → n < length graph.nodes → IsLatest graph e Down n × (IsIsolated graph e Down n → ⊥) → p.inserts n ≡ true
       inserts n below h =
-          rows.inserts_is n ∙ (both_say (latest n) (needed n)).1 ((latest_says n below).1 h.0, split_bit (needed n) (λ on. on) (λ off. absurd (h.1 (isolated n below off))))
+          let off : isolated n ≡ false = (off_says (isolated n)).1 (λ on. h.1 ((rows.isolated_is n below).0 on)) in
+          rows.inserts_is n ∙ (both_say (latest n) (not (isolated n))).1 ((rows.latest_is n below).1 h.0, (not_says (isolated n)).1 off)
 
       replaced : (n : ℕ) → n < length graph.nodes → p.replaces n ≡ true → (uses graph e n ≡ true) × (IsLatest graph e Down n × IsIsolated graph e Down n → ⊥)
       replaced n below on =
-          let both = (both_say (used n) (not (latest n && not (needed n)))).0 (sym (rows.replaces_is n) ∙ on) in (
+          let both = (both_say (used n) (not (latest n && isolated n))).0 (sym (rows.replaces_is n) ∙ on) in (
             sym (rows.used_is n below) ∙ both.0,
-            λ h. not_both ((both_say (latest n) (not (needed n))).1 ((latest_says n below).1 h.0, (not_says (needed n)).1 ((off_says (needed n)).1 (λ needs. not_isolated n below needs h.1)))) ((not_says (latest n && not (needed n))).0 both.1),
+            λ h. not_both ((both_say (latest n) (isolated n)).1 ((rows.latest_is n below).1 h.0, (rows.isolated_is n below).1 h.1)) ((not_says (latest n && isolated n)).0 both.1),
           )
 
       replaces : (n : ℕ) → n < length graph.nodes → (uses graph e n ≡ true) × (IsLatest graph e Down n × IsIsolated graph e Down n → ⊥) → p.replaces n ≡ true
       replaces n below h =
-          let off : (latest n && not (needed n)) ≡ false = (off_says (latest n && not (needed n))).1 (λ on.
-          let both = (both_say (latest n) (not (needed n))).0 on in
-          h.1 ((latest_says n below).0 both.0, isolated n below ((not_says (needed n)).0 both.1))) in
-          rows.replaces_is n ∙ (both_say (used n) (not (latest n && not (needed n)))).1 (rows.used_is n below ∙ h.0, (not_says (latest n && not (needed n))).1 off)
+          let off : (latest n && isolated n) ≡ false = (off_says (latest n && isolated n)).1 (λ on.
+          let both = (both_say (latest n) (isolated n)).0 on in
+          h.1 ((rows.latest_is n below).0 both.0, (rows.isolated_is n below).0 both.1)) in
+          rows.replaces_is n ∙ (both_say (used n) (not (latest n && isolated n))).1 (rows.used_is n below ∙ h.0, (not_says (latest n && isolated n)).1 off)

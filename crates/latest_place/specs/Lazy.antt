@@ -1,5 +1,5 @@
--- The lazy placement: as late as the earliest insertions can be delayed, and only where a use needs them. Cited by
--- contracts.
+-- How far the earliest insertions can be delayed, and the lazy placement: as late as they can, and only where a use needs
+-- them. Cited by contracts.
 use Rattle.std.specs.Prelude.{◌≡◌, ◌⊎◌, ◌↔◌, ◌<◌, ℕ, true, List, [], ◌∷◌, length}
 use Rattle.mir_base.specs.declared.instructions.Expr.{Expr}
 use Rattle.flow_graph.specs.Graphs.{GraphShape}
@@ -7,8 +7,10 @@ use Rattle.flow_graph.specs.Paths.{HasEdge, IsPath, Trace}
 use Rattle.motion_rewrite.specs.declared.placement.Placement.{Placement}
 use Rattle.motion_rewrite.specs.Expressions.{uses}
 use Rattle.motion_rewrite.specs.Placements.{Places, ReachesAlong, places_of}
+use Rattle.motion_rewrite.specs.Rows.{AreRowsOf, AreRowsWhere}
 use Rattle.motion_rewrite.specs.Tables.{ForEachExpr}
 use Rattle.down_safe.specs.Busy.{IsEarliest}
+use Rattle.latest_place.specs.declared.delays.Late.{Late}
 
 -- every path from Start to n has a node, which may be n, that is earliest, such that no node from it up to the one before
 -- n uses e
@@ -28,6 +30,13 @@ ComesToUse graph e Down (m ∷ n ∷ path) = (IsLatest graph e Down m → ⊥) �
 -- no path that leaves n comes so to a use
 abbrev pub IsIsolated : GraphShape → Expr → (ℕ → Type 0) → ℕ → Type 0
 IsIsolated graph e Down n = (path : List ℕ) → IsPath graph.nodes (n ∷ path) → ComesToUse graph e Down path → ⊥
+
+-- the rows say where each expression of the table is used, delayed, latest and isolated
+pub record AreLateRows (graph : GraphShape) (table : List Expr) (Down : Expr → ℕ → Type 0) (late : Late) : Type 0 where
+  pub uses : AreRowsOf graph table (uses graph) late.uses
+  pub delayed : AreRowsWhere graph table (λ e. IsDelayed graph e (Down e)) late.delayed
+  pub latest : AreRowsWhere graph table (λ e. IsLatest graph e (Down e)) late.latest
+  pub isolated : AreRowsWhere graph table (λ e. IsIsolated graph e (Down e)) late.isolated
 
 -- it inserts at the latest nodes that are not isolated, and replaces the uses that are not both latest and isolated
 pub record IsLazy (graph : GraphShape) (e : Expr) (Down : ℕ → Type 0) (p : Places) : Type 0 where

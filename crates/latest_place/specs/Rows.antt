@@ -1,5 +1,5 @@
 -- What rows of bits say from which the lazy placement is read, of one bit and of all. A bit stands for an expression, and
--- says by node where it is earliest, used, delayed or latest. Cited by contracts of private functions.
+-- says by node where it is earliest, used, delayed, latest or isolated. Cited by contracts of private functions.
 use Rattle.std.specs.Prelude.{◌≡◌, ◌⊎◌, ◌&&◌, ℕ, Bool, true, false, not, List}
 use Rattle.flow_graph.specs.declared.nodes.Node.{Node}
 use Rattle.flow_graph.specs.Edges.{edges_of}
@@ -42,10 +42,14 @@ AreLatestRows graph delayed uses rows = Tell graph (width delayed) rows (λ b. I
 abbrev pub AreNeededRows : GraphShape → List (List Bool) → List (List Bool) → List (List Bool) → Type 0
 AreNeededRows graph latest uses rows = Tell graph (width latest) rows (λ b. IsNeededBit graph.nodes (has_bit latest b) (has_bit uses b))
 
--- the rows have the latest bits that are needed
-abbrev pub AreInsertedRows : List (List Bool) → List (List Bool) → List (List Bool) → Type 0
-AreInsertedRows latest needed rows = (n b : ℕ) → has_bit rows b n ≡ (has_bit latest b n && has_bit needed b n)
+-- the rows say where each bit is isolated, which is where it is not needed
+abbrev pub AreIsolatedRows : GraphShape → List (List Bool) → List (List Bool) → List (List Bool) → Type 0
+AreIsolatedRows graph latest uses rows = Tell graph (width latest) rows (λ b n. IsNeededBit graph.nodes (has_bit latest b) (has_bit uses b) n → ⊥)
 
--- the rows have the used bits that are not both latest and not needed
+-- the rows have the latest bits that are not isolated
+abbrev pub AreInsertedRows : List (List Bool) → List (List Bool) → List (List Bool) → Type 0
+AreInsertedRows latest isolated rows = (n b : ℕ) → has_bit rows b n ≡ (has_bit latest b n && not (has_bit isolated b n))
+
+-- the rows have the used bits that are not both latest and isolated
 abbrev pub AreReplacedRows : List (List Bool) → List (List Bool) → List (List Bool) → List (List Bool) → Type 0
-AreReplacedRows uses latest needed rows = (n b : ℕ) → has_bit rows b n ≡ (has_bit uses b n && not (has_bit latest b n && not (has_bit needed b n)))
+AreReplacedRows uses latest isolated rows = (n b : ℕ) → has_bit rows b n ≡ (has_bit uses b n && not (has_bit latest b n && has_bit isolated b n))

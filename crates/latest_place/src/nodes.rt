@@ -1,9 +1,9 @@
-// Where evaluations are delayed, latest and needed, and what is placed from that.
+// Where evaluations are delayed, latest and isolated, and what is placed from that.
 ghost use Rattle.std.specs.Prelude.{IfOk, OnOk};
 ghost use Rattle.bit_rows.specs.Bits.{AreAlike};
 ghost use Rattle.flow_graph.specs.Graphs.{IsGraph};
 ghost use Rattle.path_laws.specs.Paths.{HaveShape, width};
-ghost use Rattle.latest_place.specs.Rows.{AreDelayedRows, AreInsertedRows, AreLatestRows, AreLikeUses, AreNeededRows, AreReplacedRows};
+ghost use Rattle.latest_place.specs.Rows.{AreDelayedRows, AreInsertedRows, AreIsolatedRows, AreLatestRows, AreLikeUses, AreNeededRows, AreReplacedRows};
 
 use bit_rows::Rows;
 use flow_graph::{Edges, Graph};
@@ -19,8 +19,8 @@ pub(crate) struct Uses<'a> {
     pub(crate) rows: &'a Rows,
 }
 
-/// Where an evaluation at the earliest nodes can be delayed to: on every path to the node stands an earliest node, from which
-/// on no node before it uses the expression.
+/// Where an evaluation at the earliest nodes can be delayed to: on every path to the node stands an earliest node, from
+/// which on no node before it uses the expression.
 pub(crate) fn delayed_rows(alloc: Global, uses: &Uses<'_>, early: &Rows) -> Result<Rows, Memory>
     requires { AreLikeUses uses.now early.now }
     ensures shape { IfOk result (HaveShape uses.now.graph.now (width early.now)) }
@@ -48,7 +48,7 @@ pub(crate) fn latest_rows(alloc: Global, uses: &Uses<'_>, delayed: &Rows) -> Res
 }
 
 /// Where what is evaluated is still used after the node.
-pub(crate) fn needed_rows(alloc: Global, uses: &Uses<'_>, latest: &Rows) -> Result<Rows, Memory>
+fn needed_rows(alloc: Global, uses: &Uses<'_>, latest: &Rows) -> Result<Rows, Memory>
     requires { AreLikeUses uses.now latest.now }
     ensures graph { OnOk result
         (IsGraph uses.now.graph.now.vars uses.now.graph.now.received uses.now.graph.now.nodes) }
@@ -62,27 +62,40 @@ pub(crate) fn needed_rows(alloc: Global, uses: &Uses<'_>, latest: &Rows) -> Resu
     Ok(needed)
 }
 
-/// The evaluations at the latest nodes that are needed.
-pub(crate) fn inserted_rows(alloc: Global, latest: &Rows, needed: &Rows) -> Result<Rows, Memory>
-    requires { AreAlike latest.now needed.now }
-    ensures alike { IfOk result (AreAlike latest.now) }
-    ensures bits { IfOk result (AreInsertedRows latest.now needed.now) }
+/// Where nothing after the node uses what is evaluated.
+pub(crate) fn isolated_rows(alloc: Global, uses: &Uses<'_>, latest: &Rows) -> Result<Rows, Memory>
+    requires { AreLikeUses uses.now latest.now }
+    ensures graph { OnOk result
+        (IsGraph uses.now.graph.now.vars uses.now.graph.now.received uses.now.graph.now.nodes) }
+    ensures shape { IfOk result (HaveShape uses.now.graph.now (width latest.now)) }
+    ensures bits { IfOk result (AreIsolatedRows uses.now.graph.now latest.now uses.now.rows.now) }
 {
-    let mut rows = latest.copied(alloc)?;
-    rows.and_rows(needed);
+    let mut rows = needed_rows(alloc, uses, latest)?;
+    rows.flip_rows(0);
     Ok(rows)
 }
 
-/// The uses, without those at latest nodes that are not needed further on.
-pub(crate) fn replaced_rows(uses: Rows, latest: Rows, needed: &Rows) -> Rows
-    requires latest { AreAlike uses latest }
-    requires needed { AreAlike latest needed.now }
-    ensures alike { AreAlike uses result }
-    ensures bits { AreReplacedRows uses latest needed.now result }
+/// The evaluations at the latest nodes that are not isolated.
+pub(crate) fn inserted_rows(alloc: Global, latest: &Rows, isolated: &Rows) -> Result<Rows, Memory>
+    requires { AreAlike latest.now isolated.now }
+    ensures alike { IfOk result (AreAlike latest.now) }
+    ensures bits { IfOk result (AreInsertedRows latest.now isolated.now) }
 {
-    let mut isolated = latest;
-    isolated.minus_rows(needed);
+    let mut rows = latest.copied(alloc)?;
+    rows.minus_rows(isolated);
+    Ok(rows)
+}
+
+/// The uses, without those that are both latest and isolated.
+pub(crate) fn replaced_rows(uses: Rows, latest: Rows, isolated: &Rows) -> Rows
+    requires latest { AreAlike uses latest }
+    requires isolated { AreAlike latest isolated.now }
+    ensures alike { AreAlike uses result }
+    ensures bits { AreReplacedRows uses latest isolated.now result }
+{
+    let mut kept = latest;
+    kept.and_rows(isolated);
     let mut replaced = uses;
-    replaced.minus_rows(&isolated);
+    replaced.minus_rows(&kept);
     replaced
 }

@@ -1,16 +1,49 @@
-// The lazy placement of a table of expressions.
+// How far the expressions of a table can be delayed, and their lazy placement.
 ghost use Rattle.std.specs.Prelude.{◌≡◌, length, IfOk};
 ghost use Rattle.flow_graph.specs.Edges.{IsSplit, edges_of};
 ghost use Rattle.path_laws.specs.Paths.{HaveShape};
 ghost use Rattle.motion_rewrite.specs.Placements.{AreOptimal, CanFlattenBy};
-ghost use Rattle.latest_place.specs.Lazy.{AreLazy};
+ghost use Rattle.latest_place.specs.Lazy.{AreLateRows, AreLazy};
 
-use crate::nodes::{Uses, delayed_rows, inserted_rows, latest_rows, needed_rows, replaced_rows};
+use crate::Late;
+use crate::nodes::{Uses, delayed_rows, inserted_rows, isolated_rows, latest_rows, replaced_rows};
 use down_safe::{DownRule, busy};
 use flow_graph::{Edges, Graph};
 use mir_base::Memory;
 use motion_rewrite::{ExprTable, Placement};
 use std::alloc::Global;
+
+/// At which nodes each expression of the table is used, delayed, latest and isolated, each as rows with one row for each
+/// node and one bit for each expression. The graph is split, and `edges` are those of `graph`. It fails only with
+/// `Memory`. The rules are those of Knoop, Ruething and Steffen, *Optimal Code Motion: Theory and Practice*, TOPLAS 1994,
+/// for nodes of one instruction.
+pub fn late<R: DownRule>(
+    alloc: Global,
+    rule: &R,
+    graph: &Graph,
+    edges: &Edges,
+    table: &ExprTable,
+) -> Result<Late, Memory>
+    requires split { IsSplit graph.now.nodes }
+    requires edges { edges.now ≡ edges_of graph.now.nodes }
+    ensures { IfOk result (AreLateRows graph.now table.now (R.is_down rule.now graph.now)) }
+{
+    let busy = busy(alloc, rule, graph, edges, table)?;
+    let uses = Uses {
+        graph,
+        edges,
+        rows: &busy.uses,
+    };
+    let delayed = delayed_rows(alloc, &uses, &busy.early)?;
+    let latest = latest_rows(alloc, &uses, &delayed)?;
+    let isolated = isolated_rows(alloc, &uses, &latest)?;
+    Ok(Late {
+        uses: busy.uses,
+        delayed,
+        latest,
+        isolated,
+    })
+}
 
 /// The lazy placement of each expression of the table, with one row for each node and one bit for each expression: it
 /// inserts at the latest nodes that are not isolated, and replaces the uses that are not both latest and isolated. The
@@ -35,18 +68,12 @@ pub fn lazy<R: DownRule>(
     // so the graph can be flattened by it
     ensures flattens { IfOk result (CanFlattenBy graph.now table.now) }
 {
-    let busy = busy(alloc, rule, graph, edges, table)?;
-    let uses = Uses {
-        graph,
-        edges,
-        rows: &busy.uses,
-    };
-    let delayed = delayed_rows(alloc, &uses, &busy.early)?;
-    let latest = latest_rows(alloc, &uses, &delayed)?;
-    let needed = needed_rows(alloc, &uses, &latest)?;
-    let insert = inserted_rows(alloc, &latest, &needed)?;
+    let late = late(alloc, rule, graph, edges, table)?;
+    // The proof needs what holds of every graph: that each node is reached.
+    let _ = graph.nodes();
+    let insert = inserted_rows(alloc, &late.latest, &late.isolated)?;
     Ok(Placement {
         insert,
-        replace: replaced_rows(busy.uses, latest, &needed),
+        replace: replaced_rows(late.uses, late.latest, &late.isolated),
     })
 }

@@ -43,6 +43,14 @@ early_is g c n i e h there =
       λ is. early.1 (bit_from_earliest c.args.graph.now e Down killed up down kill_is up_at down_at n h is),
     )
 
+pub down-requires : goal.down-requires
+down-requires g c = record {
+  split = c.requires.split;
+  edges_are = c.requires.edges;
+  uses_are = c.in_ok-uses.ensures;
+  kills_are = c.in_ok-kills.ensures;
+}
+
 pub returns : goal.returns
 returns g c = record {
   uses = c.in_ok-uses.ensures;
