@@ -13,7 +13,7 @@ use Rattle.flow_graph.specs.Insertions.{Insertion, changed}
 use Rattle.flow_graph.specs.Over.{weigh, weigh_all, weight_at}
 use Rattle.flow_graph.specs.Paths.{HasEdge, IsReturnAt, is_return}
 use Rattle.flow_graph.specs.Sinking.{put_for}
-use Rattle.sink_dead.specs.Accesses.{is_calm, occurs_at}
+use Rattle.sink_dead.specs.Accesses.{is_sinkable, occurs_at}
 use Rattle.sink_dead.specs.SunkGraphs.{AreInsertions, emptied, sinking}
 use Rattle.sink_dead.specs.Delaying.{IsDelayedTo}
 use Rattle.sink_dead.proofs.Delays.{back_to, none_at_start, put_delayed, source_within, trace_of}
@@ -53,11 +53,11 @@ module _ (graph : GraphShape) (is_graph : IsGraph graph.vars graph.received grap
   lost_of b o x = 0
 
   abbrev lost : ℕ → ℕ → ℕ
-  lost n x = lost_of (is_calm (slice_get graph.nodes n)) (slice_get graph.nodes n) x
+  lost n x = lost_of (is_sinkable (slice_get graph.nodes n)) (slice_get graph.nodes n) x
 
   -- the node weighs what goes of it and what stays
-  node_weighs : (n : ℕ) → n < length graph.nodes → weigh weight (option_map (changed (emptied (is_calm (slice_get graph.nodes n)))) (slice_get graph.nodes n)) + sum_vars (lost n) 0 vars ≡ weight_at weight graph.nodes n
-  node_weighs n lt = by (slice_get graph.nodes n) (is_calm (slice_get graph.nodes n)) refl refl
+  node_weighs : (n : ℕ) → n < length graph.nodes → weigh weight (option_map (changed (emptied (is_sinkable (slice_get graph.nodes n)))) (slice_get graph.nodes n)) + sum_vars (lost n) 0 vars ≡ weight_at weight graph.nodes n
+  node_weighs n lt = by (slice_get graph.nodes n) (is_sinkable (slice_get graph.nodes n)) refl refl
     where
       none : sum_vars (λ x. 0) 0 vars ≡ 0
       none = sum_none (λ x. 0) 0 vars (λ y le. refl)
@@ -72,20 +72,20 @@ module _ (graph : GraphShape) (is_graph : IsGraph graph.vars graph.received grap
       kept (Some (Test test taken other)) = refl
       kept (Some (Return a)) = refl
 
-      by : (o : Option Node) (b : Bool) → slice_get graph.nodes n ≡ o → is_calm o ≡ b → weigh weight (option_map (changed (emptied b)) o) + sum_vars (lost_of b o) 0 vars ≡ weigh weight o
-      by o false is calm = omega (arith, none, kept o)
-      by None true is calm = absurd (true≢false (sym calm))
-      by (Some (Start next)) true is calm = absurd (true≢false (sym calm))
-      by (Some (Skip next)) true is calm = absurd (true≢false (sym calm))
-      by (Some (Assign y t next)) true is calm =
+      by : (o : Option Node) (b : Bool) → slice_get graph.nodes n ≡ o → is_sinkable o ≡ b → weigh weight (option_map (changed (emptied b)) o) + sum_vars (lost_of b o) 0 vars ≡ weigh weight o
+      by o false is sinkable = omega (arith, none, kept o)
+      by None true is sinkable = absurd (true≢false (sym sinkable))
+      by (Some (Start next)) true is sinkable = absurd (true≢false (sym sinkable))
+      by (Some (Skip next)) true is sinkable = absurd (true≢false (sym sinkable))
+      by (Some (Assign y t next)) true is sinkable =
           let below : y < 0 + vars = omega (arith, (is_graph.can.below n (Assign y t next) is).0) in
           let one = sum_one (λ x. (if nat_eq x y then weight y t else 0)) 0 vars y (omega arith) below (λ z differ. ap (λ b. (if b then weight y t else 0)) (ne_eqb z y differ)) in
           let own = ap {B = ℕ} (λ b. (if b then weight y t else 0)) (eq-eqb y y refl) in
           omega (arith, one, own)
-      by (Some (Print a next)) true is calm = absurd (true≢false (sym calm))
-      by (Some (Call into unit operands next)) true is calm = absurd (true≢false (sym calm))
-      by (Some (Test test taken other)) true is calm = absurd (true≢false (sym calm))
-      by (Some (Return a)) true is calm = absurd (true≢false (sym calm))
+      by (Some (Print a next)) true is sinkable = absurd (true≢false (sym sinkable))
+      by (Some (Call into unit operands next)) true is sinkable = absurd (true≢false (sym sinkable))
+      by (Some (Test test taken other)) true is sinkable = absurd (true≢false (sym sinkable))
+      by (Some (Return a)) true is sinkable = absurd (true≢false (sym sinkable))
 
   -- what is put weighs at most what is delayed
   put_light : (n x : ℕ) → n < length graph.nodes → weight_of weight x (put_for (inserts n) x) ≤ weight_of weight x (late n x)
@@ -99,7 +99,7 @@ module _ (graph : GraphShape) (is_graph : IsGraph graph.vars graph.received grap
   lost_here : (n x : ℕ) (t : Rhs) → occurs_at x t graph n ≡ true → lost n x ≡ weight x t
   lost_here n x t o =
       let w = occurrence_is x t (slice_get graph.nodes n) o in
-      ap (λ (found : Option Node). lost_of (is_calm found) found x) w.1
+      ap (λ (found : Option Node). lost_of (is_sinkable found) found x) w.1
       ∙ ap (λ b. lost_of (not b) (Some (Assign x t w.0)) x) w.2
       ∙ ap (λ b. (if b then weight x t else 0)) (eq-eqb x x refl)
 

@@ -2,7 +2,6 @@
 use Rattle.std.proofs.Common.{◌≡◌, ◌⊎◌, ◌<◌, ℕ, suc, Bool, true, false, ◌||◌, nat_eq, List, [], ◌∷◌, length, slice_get, Option, Some, None, inl, inr, refl, sym, ap, ◌∙◌, subst, arith}
 use Rattle.std.proofs.lemmas.Bool.{cases_Bool, cases_eq, cases_lt, true≢false, eq-eqb, ne_eqb}
 use Rattle.std.proofs.lemmas.Option.{same_Some, none-some, slice_get_within}
-use Rattle.std.specs.List.{list_any}
 use Rattle.mir_base.specs.declared.instructions.Rhs.{Rhs}
 use Rattle.mir_base.specs.ExpressionLaws.{never_traps_where_undivided}
 use Rattle.mir_base.specs.Expressions.{divides, rhs_traps}
@@ -18,23 +17,19 @@ use Rattle.flow_graph.specs.JoinLaws.{joins, one_or_skips, skip_leads}
 use Rattle.flow_graph.specs.Numbering.{is_in}
 use Rattle.flow_graph.specs.PathLaws.{reached_trace}
 use Rattle.flow_graph.specs.Paths.{HasEdge, Trace, from_start, goes_on}
-use Rattle.flow_graph.specs.Sinking.{put_for, AllOthers, AllPut, AreApart, LeaveAlone, NeverTrap, NonePut, NoneSet, Sinks}
-use Rattle.sink_dead.specs.Accesses.{blocks_at, blocks_pattern, is_calm, is_occurrence, occurs_at}
+use Rattle.flow_graph.specs.Sinking.{put_for, AllOthers, AllPut, AreApart, LeaveAlone, NeverTrap, NonePut, Sinks}
+use Rattle.flow_graph.specs.VarLaws.{NoneAssigned, none_assigned}
+use Rattle.sink_dead.specs.Accesses.{blocks_at, blocks_pattern, is_sinkable, is_occurrence, occurs_at}
 use Rattle.sink_dead.specs.Delaying.{IsDelayedTo, IsInsertedAt}
 use Rattle.sink_dead.specs.SunkGraphs.{AreInsertions, RisesFrom, emptied, sinking}
-use Rattle.sink_dead.proofs.Occurring.{calm_is, is_occurrence_of, lets_pass, neither, occurrence_blocks, occurrence_calm, occurrence_is, reading_blocks}
+use Rattle.sink_dead.proofs.Occurring.{sinkable_is, is_occurrence_of, lets_pass, neither, occurrence_blocks, occurrence_sinkable, occurrence_is, reading_blocks}
 use Rattle.sink_dead.proofs.Ordered.{EachPut, each_put}
-use Rattle.sink_dead.proofs.Waiting.{Waits, one_waits, waits_apart, waits_calm}
+use Rattle.sink_dead.proofs.Waiting.{Waits, one_waits, waits_apart, waits_sinkable}
 
 -- none of the list is this variable, where it is not in the list
 all_others : (x : ℕ) (ys : List ℕ) → is_in x ys ≡ false → AllOthers x ys
 all_others x [] none = tt
 all_others x (y ∷ ys) none = let both = neither (nat_eq y x) (is_in x ys) none in (both.0, all_others x ys both.1)
-
--- the node assigns none of these, where it assigns not any
-none_set : (graph : GraphShape) (node : Node) (xs : List ℕ) → list_any (λ y. assigns graph y node) xs ≡ false → NoneSet graph node xs
-none_set graph node [] none = tt
-none_set graph node (x ∷ xs) none = let both = neither (assigns graph x node) (list_any (λ y. assigns graph y node) xs) none in (both.0, none_set graph node xs both.1)
 
 -- different numbers, as a test
 differ_test : (x y : ℕ) → (x ≡ y → ⊥) → nat_eq x y ≡ false
@@ -71,8 +66,8 @@ module _ (graph : GraphShape) (is_graph : IsGraph graph.vars graph.received grap
   delayed_apart n x y t u lt d d' differ = let tr = trace_of n lt in waits_apart graph x y t u tr.0 (d tr.0 tr.1) (d' tr.0 tr.1) (differ_test x y differ)
 
   -- none of them divides
-  pub delayed_calm : (n x : ℕ) (t : Rhs) → n < length graph.nodes → IsDelayedTo graph x t n → divides t ≡ false
-  delayed_calm n x t lt d = let tr = trace_of n lt in waits_calm graph x t tr.0 (d tr.0 tr.1)
+  pub delayed_sinkable : (n x : ℕ) (t : Rhs) → n < length graph.nodes → IsDelayedTo graph x t n → divides t ≡ false
+  delayed_sinkable n x t lt d = let tr = trace_of n lt in waits_sinkable graph x t tr.0 (d tr.0 tr.1)
 
   -- nothing is delayed after Start
   pub none_at_first : (s x : ℕ) (t : Rhs) → HasEdge graph.nodes 0 s → IsDelayedTo graph x t s → ⊥
@@ -187,7 +182,7 @@ module _ (graph : GraphShape) (is_graph : IsGraph graph.vars graph.received grap
 
   never : (n : ℕ) (puts : List Insertion) → n < length graph.nodes → EachPut (λ y u. IsDelayedTo graph y u n) puts → NeverTrap puts
   never n [] lt each = tt
-  never n (put ∷ puts) lt each = (λ v. never_traps_where_undivided v put.rhs (delayed_calm graph is_graph n put.var put.rhs lt each.0), never n puts lt each.1)
+  never n (put ∷ puts) lt each = (λ v. never_traps_where_undivided v put.rhs (delayed_sinkable graph is_graph n put.var put.rhs lt each.0), never n puts lt each.1)
 
   inserts_never_trap : (n : ℕ) → NeverTrap (inserts n)
   inserts_never_trap n = elim (cases_lt n (length graph.nodes)) [
@@ -268,36 +263,36 @@ module _ (graph : GraphShape) (is_graph : IsGraph graph.vars graph.received grap
       ]
 
   back : (n s x : ℕ) (t : Rhs) (node : Node) → slice_get graph.nodes n ≡ Some node → HasEdge graph.nodes n s → late s x ≡ Some t
-      → ((emptied (is_calm (slice_get graph.nodes n)) ≡ Removed) × ((next : ℕ) × (node ≡ Assign x t next)))
-      ⊎ ((assigns graph x node ≡ false) × (NoneSet graph node (rhs_vars t) × ((late n x ≡ Some t) × NonePut (inserts n) (rhs_vars t))))
+      → ((emptied (is_sinkable (slice_get graph.nodes n)) ≡ Removed) × ((next : ℕ) × (node ≡ Assign x t next)))
+      ⊎ ((assigns graph x node ≡ false) × (NoneAssigned graph node (rhs_vars t) × ((late n x ≡ Some t) × NonePut (inserts n) (rhs_vars t))))
   back n s x t node is edge later = elim (back_to n s x t edge later) [
     | inl o ↦
         let w = occurrence_is x t (slice_get graph.nodes n) o in
-        inl (ap emptied (occurrence_calm x t (slice_get graph.nodes n) o), (w.0, same_Some node (Assign x t w.0) (sym is ∙ w.1)))
+        inl (ap emptied (occurrence_sinkable x t (slice_get graph.nodes n) o), (w.0, same_Some node (Assign x t w.0) (sym is ∙ w.1)))
     | inr on ↦
         let free = lets_pass graph x t node (sym (ap (blocks_pattern graph x t) is) ∙ on.free) in
-        inr (free.sets, (none_set graph node (rhs_vars t) free.operands, (on.late_there, operands_none n x t (slice_get_within graph.nodes n node is) on (rhs_vars t) (λ y h. h))))
+        inr (free.sets, (none_assigned graph node (rhs_vars t) free.operands, (on.late_there, operands_none n x t (slice_get_within graph.nodes n node is) on (rhs_vars t) (λ y h. h))))
   ]
 
   -- what becomes of a node
-  only : (n : ℕ) (node : Node) → slice_get graph.nodes n ≡ Some node → (emptied (is_calm (slice_get graph.nodes n)) ≡ Kept) ⊎ ((emptied (is_calm (slice_get graph.nodes n)) ≡ Removed) × ((x : ℕ) × (t : Rhs) × (next : ℕ) × (node ≡ Assign x t next)))
-  only n node is = elim (cases_Bool (is_calm (slice_get graph.nodes n))) [
-    | inl calm ↦
-        let w = calm_is (slice_get graph.nodes n) calm in
-        inr (ap emptied calm, (w.0, w.1, w.2, same_Some node (Assign w.0 w.1 w.2) (sym is ∙ w.3)))
+  only : (n : ℕ) (node : Node) → slice_get graph.nodes n ≡ Some node → (emptied (is_sinkable (slice_get graph.nodes n)) ≡ Kept) ⊎ ((emptied (is_sinkable (slice_get graph.nodes n)) ≡ Removed) × ((x : ℕ) × (t : Rhs) × (next : ℕ) × (node ≡ Assign x t next)))
+  only n node is = elim (cases_Bool (is_sinkable (slice_get graph.nodes n))) [
+    | inl sinkable ↦
+        let w = sinkable_is (slice_get graph.nodes n) sinkable in
+        inr (ap emptied sinkable, (w.0, w.1, w.2, same_Some node (Assign w.0 w.1 w.2) (sym is ∙ w.3)))
     | inr kept ↦ inl (ap emptied kept)
   ]
 
-  removed_calm : (b : Bool) → emptied b ≡ Removed → b ≡ true
-  removed_calm true e = refl
-  removed_calm false e = cc
+  removed_sinkable : (b : Bool) → emptied b ≡ Removed → b ≡ true
+  removed_sinkable true e = refl
+  removed_sinkable false e = cc
 
-  removed : (n s x : ℕ) (t : Rhs) → slice_get graph.nodes n ≡ Some (Assign x t s) → emptied (is_calm (slice_get graph.nodes n)) ≡ Removed → (late s x ≡ Some t) × ((v : Values) → rhs_traps v t ≡ false)
+  removed : (n s x : ℕ) (t : Rhs) → slice_get graph.nodes n ≡ Some (Assign x t s) → emptied (is_sinkable (slice_get graph.nodes n)) ≡ Removed → (late s x ≡ Some t) × ((v : Values) → rhs_traps v t ≡ false)
   removed n s x t is gone =
-      let calm = calm_is (slice_get graph.nodes n) (removed_calm (is_calm (slice_get graph.nodes n)) gone) in
-      let same : Assign calm.0 calm.1 calm.2 ≡ Assign x t s = same_Some (Assign calm.0 calm.1 calm.2) (Assign x t s) (sym calm.3 ∙ is) in
-      let rhs : calm.1 ≡ t = cc in
-      let stays : divides t ≡ false = ap divides (sym rhs) ∙ calm.4 in
+      let sinkable = sinkable_is (slice_get graph.nodes n) (removed_sinkable (is_sinkable (slice_get graph.nodes n)) gone) in
+      let same : Assign sinkable.0 sinkable.1 sinkable.2 ≡ Assign x t s = same_Some (Assign sinkable.0 sinkable.1 sinkable.2) (Assign x t s) (sym sinkable.3 ∙ is) in
+      let rhs : sinkable.1 ≡ t = cc in
+      let stays : divides t ≡ false = ap divides (sym rhs) ∙ sinkable.4 in
       let edge : HasEdge graph.nodes n s = (0, ap (λ (o : Option Node). slice_get (succs_of o) 0) is) in (
         (are.delayed_are s x t (target_within graph is_graph n s edge)).1 (occurs_on graph is_graph split n s x t edge (ap (is_occurrence x t) is ∙ is_occurrence_of x t s stays)),
         λ v. never_traps_where_undivided v t stays,

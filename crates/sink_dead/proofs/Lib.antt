@@ -9,7 +9,6 @@ pub mod Chosen
 pub mod Telling
 pub mod Listing
 pub mod SiteBits
-pub mod PatternEqual
 pub mod Found
 pub mod Emptied
 pub mod RowsTell
@@ -23,3 +22,4 @@ pub mod Merged
 pub mod Skipping
 pub mod Settles
 pub mod Noting
+pub mod Edited

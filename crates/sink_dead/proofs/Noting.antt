@@ -1,7 +1,7 @@
 -- What is noted for the nodes as far as a loop has come.
-use Rattle.std.proofs.Common.{◌≡◌, ◌⊎◌, ◌<◌, ◌≤◌, ◌+◌, ℕ, zero, suc, false, if◌then◌else◌, List, length, get_or, replicate, set, slice_get, Option, Some, None, inl, inr, refl, sym, ap, ◌∙◌, subst, arith, get_or-set_same, get_or-set_other}
+use Rattle.std.proofs.Common.{◌≡◌, ◌⊎◌, ◌<◌, ◌≤◌, ◌+◌, ℕ, zero, suc, false, if◌then◌else◌, List, length, get_or, set, slice_get, Option, Some, None, inl, inr, refl, sym, ap, ◌∙◌, subst, arith, get_or-set_same, get_or-set_other}
 use Rattle.std.proofs.lemmas.Bool.{cases_eq, cases_lt}
-use Rattle.std.proofs.lemmas.List.{length-replicate, length-set}
+use Rattle.std.proofs.lemmas.List.{length-set}
 use Rattle.std.proofs.lemmas.Option.{none-some, same_Some}
 use Rattle.mir_base.specs.declared.instructions.Rhs.{Rhs}
 use Rattle.mir_base.specs.Expressions.{divides}
@@ -13,24 +13,9 @@ use Rattle.sink_dead.specs.Skips.{LeadsBy, skip_on}
 use Rattle.sink_dead.specs.Tables.{pattern_of}
 use Rattle.sink_dead.proofs.Skipping.{leads_same, steps_after}
 
--- a row of nothing
-nothing_at : (n k : ℕ) (nothing : Option Pattern) → nothing ≡ None → get_or (replicate n nothing) k None ≡ None
-nothing_at zero zero nothing is = refl
-nothing_at zero (suc k) nothing is = refl
-nothing_at (suc n) zero nothing is = is
-nothing_at (suc n) (suc k) nothing is = nothing_at n k nothing is
-
--- at the start
-pub settled_none : (nodes : List Node) (table : List Pattern) (settled : List (Option Pattern)) → settled ≡ replicate (length nodes) None → AreSettledTo nodes table 0 settled
-settled_none nodes table settled is = record {
-  long = ap length is ∙ length-replicate (length nodes) None;
-  found = λ n p at. absurd (none-some p (sym (ap (λ (l : List (Option Pattern)). get_or l n None) is ∙ nothing_at (length nodes) n None refl) ∙ at));
-  noted = λ m skips n x t lt. absurd (omega (arith, lt));
-}
-
 -- the pattern of an assignment that does not divide
-calm_of : (x n : ℕ) (t : Rhs) → divides t ≡ false → pattern_of (Assign x t n) ≡ Some (record { var = x; rhs = t })
-calm_of x n t calm = ap (λ b. if b then None else Some (record { var = x; rhs = t })) calm
+sinkable_of : (x n : ℕ) (t : Rhs) → divides t ≡ false → pattern_of (Assign x t n) ≡ Some (record { var = x; rhs = t })
+sinkable_of x n t sinkable = ap (λ b. if b then None else Some (record { var = x; rhs = t })) sinkable
 
 -- ---- one pattern, along Skips
 
@@ -84,10 +69,6 @@ noted_to_end nodes first p i at old new leads none before = record {
   ];
 }
 
--- or once as many Skips are passed as there are nodes
-pub noted_many : (nodes : List Node) (first : ℕ) (p : Pattern) (i : ℕ) (old new : List (Option Pattern)) → length nodes ≤ i → AreNotedTo nodes first p i old new → AreNotedOn nodes first p old new
-noted_many nodes first p i old new late before = record { long = before.long; each = before.each; noted = λ skips n few led. before.noted skips n (omega (arith, few, late)) led }
-
 -- so it is from before the first was noted
 pub noted_from : (nodes : List Node) (first : ℕ) (p : Pattern) (old new : List (Option Pattern)) → AreNotedOn nodes first p (set old first (Some p)) new → AreNotedOn nodes first p old new
 noted_from nodes first p old new on = record {
@@ -109,7 +90,7 @@ settled_more nodes table i node old new at (inl same) before = record {
   noted = λ m skips n x t lt few settles. elim (cases_eq m i) [
     | inl here ↦
         let is : node ≡ Assign x t settles.next = same_Some node (Assign x t settles.next) (sym at ∙ ap (slice_get nodes) (sym here) ∙ settles.is) in
-        absurd (same.1 (record { var = x; rhs = t }) (ap pattern_of is ∙ calm_of x settles.next t settles.calm) settles.absent)
+        absurd (same.1 (record { var = x; rhs = t }) (ap pattern_of is ∙ sinkable_of x settles.next t settles.sinkable) settles.absent)
     | inr other ↦ (let w = before.noted m skips n x t (omega (arith, lt, other)) few settles in (w.0, ap (λ l. get_or l n None) same.0 ∙ w.1))
   ];
 }
@@ -124,7 +105,7 @@ settled_more nodes table i node old new at (inr one) before =
         | inl stays ↦ before.found n q (sym stays ∙ is)
         | inr led ↦
             let pattern : p ≡ q = same_Some p q (sym led.0 ∙ is) in
-            subst (λ (r : Pattern). (m skips : ℕ) × SettlesAt nodes table m skips n r.var r.rhs) pattern (i, led.1.0, record { next = next; is = here; leads = led.1.1; calm = one.3; absent = one.4 })
+            subst (λ (r : Pattern). (m skips : ℕ) × SettlesAt nodes table m skips n r.var r.rhs) pattern (i, led.1.0, record { next = next; is = here; leads = led.1.1; sinkable = one.3; absent = one.4 })
       ];
       noted = λ m skips n x t lt few settles. elim (cases_eq m i) [
         | inl this ↦

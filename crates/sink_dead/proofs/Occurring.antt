@@ -9,7 +9,7 @@ use Rattle.flow_graph.specs.declared.nodes.Node.{Node}
 use Rattle.flow_graph.specs.declared.nodes.Node.TheVariants.{Start, Skip, Assign, Print, Call, Test, Return}
 use Rattle.flow_graph.specs.Graphs.{GraphShape, assigns, is_start, node_reads}
 use Rattle.flow_graph.specs.Numbering.{is_in}
-use Rattle.sink_dead.specs.Accesses.{same_rhs, is_occurrence, blocks_pattern, is_calm}
+use Rattle.sink_dead.specs.Accesses.{same_rhs, is_occurrence, blocks_pattern, is_sinkable}
 use Rattle.sink_dead.proofs.SameRhs.{same_rhs_is, same_rhs_itself}
 
 -- ---- truth values
@@ -54,22 +54,22 @@ occurrence_is x t (Some (Return a)) is = absurd (false≢true is)
 
 -- and back
 pub is_occurrence_of : (x : ℕ) (t : Rhs) (next : ℕ) → divides t ≡ false → is_occurrence x t (Some (Assign x t next)) ≡ true
-is_occurrence_of x t next calm = and_from (nat_eq x x && same_rhs t t) (not (divides t)) (and_from (nat_eq x x) (same_rhs t t) (eq-eqb x x refl) (same_rhs_itself t)) (ap not calm)
+is_occurrence_of x t next sinkable = and_from (nat_eq x x && same_rhs t t) (not (divides t)) (and_from (nat_eq x x) (same_rhs t t) (eq-eqb x x refl) (same_rhs_itself t)) (ap not sinkable)
 
 -- an occurrence never divides
-pub occurrence_calm : (x : ℕ) (t : Rhs) (o : Option Node) → is_occurrence x t o ≡ true → is_calm o ≡ true
-occurrence_calm x t o is = let w = occurrence_is x t o is in ap is_calm w.1 ∙ ap not w.2
+pub occurrence_sinkable : (x : ℕ) (t : Rhs) (o : Option Node) → is_occurrence x t o ≡ true → is_sinkable o ≡ true
+occurrence_sinkable x t o is = let w = occurrence_is x t o is in ap is_sinkable w.1 ∙ ap not w.2
 
 -- what never divides is an occurrence
-pub calm_is : (o : Option Node) → is_calm o ≡ true → (x : ℕ) × (t : Rhs) × (next : ℕ) × (o ≡ Some (Assign x t next)) × (divides t ≡ false)
-calm_is None is = absurd (false≢true is)
-calm_is (Some (Start next)) is = absurd (false≢true is)
-calm_is (Some (Skip next)) is = absurd (false≢true is)
-calm_is (Some (Assign x rhs next)) is = (x, rhs, next, refl, not_of_true (divides rhs) is)
-calm_is (Some (Print a next)) is = absurd (false≢true is)
-calm_is (Some (Call into unit operands next)) is = absurd (false≢true is)
-calm_is (Some (Test test taken other)) is = absurd (false≢true is)
-calm_is (Some (Return a)) is = absurd (false≢true is)
+pub sinkable_is : (o : Option Node) → is_sinkable o ≡ true → (x : ℕ) × (t : Rhs) × (next : ℕ) × (o ≡ Some (Assign x t next)) × (divides t ≡ false)
+sinkable_is None is = absurd (false≢true is)
+sinkable_is (Some (Start next)) is = absurd (false≢true is)
+sinkable_is (Some (Skip next)) is = absurd (false≢true is)
+sinkable_is (Some (Assign x rhs next)) is = (x, rhs, next, refl, not_of_true (divides rhs) is)
+sinkable_is (Some (Print a next)) is = absurd (false≢true is)
+sinkable_is (Some (Call into unit operands next)) is = absurd (false≢true is)
+sinkable_is (Some (Test test taken other)) is = absurd (false≢true is)
+sinkable_is (Some (Return a)) is = absurd (false≢true is)
 
 -- ---- nodes that do not block
 

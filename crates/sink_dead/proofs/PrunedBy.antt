@@ -1,6 +1,6 @@
 -- The rows of what is live tell the dead assignments.
 use Rattle.std.proofs.Common.{◌≡◌, ◌↔◌, ℕ, zero, suc, ◌+◌, ◌&&◌, not, Bool, true, false, List, [], ◌∷◌, ◌++◌, drop, take, length, slice_get, Option, Some, None, inl, inr, refl, sym, ap, ◌∙◌, subst, arith}
-use Rattle.std.proofs.lemmas.Bool.{cases_Bool, and_parts, and_from, true≢false}
+use Rattle.std.proofs.lemmas.Bool.{cases_Bool, and_parts, and_from, not-true, true≢false}
 use Rattle.std.proofs.lemmas.Option.{same_Some}
 use Rattle.mir_base.specs.declared.instructions.Rhs.{Rhs}
 use Rattle.mir_base.specs.Expressions.{divides}
@@ -23,11 +23,6 @@ use Rattle.sink_dead.specs.PrunedLaws.{pruned_alike}
 not_false : (b : Bool) → b ≡ false → not b ≡ true
 not_false true h = absurd (true≢false h)
 not_false false h = refl
-
--- what is false where its negation is true
-not_true : (b : Bool) → not b ≡ true → b ≡ false
-not_true true h = cc
-not_true false h = refl
 
 -- an assignment has one successor
 only_succ : (nodes : List Node) (n s x next : ℕ) (rhs : Rhs) → slice_get nodes n ≡ Some (Assign x rhs next) → HasEdge nodes n s → s ≡ next
@@ -53,10 +48,10 @@ module _ (graph : GraphShape) (live : List (List Bool)) (is_graph : IsGraph grap
         rhs = rhs;
         next = next;
         is = is;
-        calm = not_true (divides rhs) parts.0;
+        sinkable = not-true (divides rhs) parts.0;
         unread = λ after.
             let lives : IsLiveBefore graph x next = subst (IsLiveBefore graph x) (only_succ graph.nodes n after.0 x next rhs is after.1) after.2 in
-            true≢false (sym ((bit_told n x next rhs is).1 lives) ∙ not_true (has_bit live x next) parts.1);
+            true≢false (sym ((bit_told n x next rhs is).1 lives) ∙ not-true (has_bit live x next) parts.1);
       }
 
   dead_from : (n : ℕ) (o : Option Node) → slice_get graph.nodes n ≡ o → is_dead_node live o ≡ true → IsDeadAt graph n
@@ -79,7 +74,7 @@ module _ (graph : GraphShape) (live : List (List Bool)) (is_graph : IsGraph grap
             | inl set ↦ absurd (d.unread (d.next, next_edge n d.var d.next d.rhs d.is, (bit_told n d.var d.next d.rhs d.is).0 set))
             | inr unset ↦ unset
           ] in
-          ap (is_dead_node live) d.is ∙ and_from (not (divides d.rhs)) (not (has_bit live d.var d.next)) (not_false (divides d.rhs) d.calm) (not_false (has_bit live d.var d.next) unset)
+          ap (is_dead_node live) d.is ∙ and_from (not (divides d.rhs)) (not (has_bit live d.var d.next)) (not_false (divides d.rhs) d.sinkable) (not_false (has_bit live d.var d.next) unset)
 
   -- so the graph that is made by them is the exact one
   pub pruned_by : IsPruned graph (graph_pruned live graph)

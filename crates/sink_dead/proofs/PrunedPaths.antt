@@ -91,5 +91,5 @@ module _ (graph pruned : GraphShape) (is_graph : IsGraph graph.vars graph.receiv
         over = has.over;
         is_over = record { full = full_stays has.over has.is_over.full; same = has.is_over.same };
         alone = λ other is. has.alone other (record { full = full_stood other is.full; same = is.same });
-        no_more = λ x t calm. omega (arith, has.no_more x t calm, counts_less x t has.over);
+        no_more = λ x t sinkable. omega (arith, has.no_more x t sinkable, counts_less x t has.over);
       }

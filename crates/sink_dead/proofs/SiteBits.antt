@@ -1,23 +1,24 @@
 -- The bits of the rows of sites: of one node, and of the nodes as far as a loop has come.
-use Rattle.std.proofs.Common.{◌≡◌, ◌≢◌, inl, inr, ℕ, ◌+◌, ◌<◌, ◌≤◌, ◌↔◌, Bool, true, false, ◌||◌, nat_eq, if◌then◌else◌, List, [], ◌∷◌, ◌++◌, length, get_or, map, replicate, subst, set, slice_get, Contains, Option, None, Some, refl, sym, ap, ◌∙◌, true≢false, arith, get_or-set_same, get_or-set_other}
+use Rattle.std.proofs.Common.{◌≡◌, inl, inr, ℕ, ◌+◌, ◌<◌, ◌↔◌, Bool, true, false, ◌||◌, nat_eq, if◌then◌else◌, List, [], ◌∷◌, ◌++◌, length, get_or, map, replicate, subst, Option, None, Some, refl, sym, ap, ◌∙◌}
 use Rattle.std.proofs.lemmas.Bool.{cases_eq, eq-eqb, ne_eqb}
-use Rattle.std.proofs.lemmas.List.{get_or-replicate, length-replicate, length-set}
-use Rattle.std.proofs.lemmas.Option.{slice_get_within, get_or_from_slice_get, same_Some}
+use Rattle.std.proofs.lemmas.List.{get_or-replicate, length-replicate}
+use Rattle.std.proofs.lemmas.Option.{same_Some}
 use Rattle.std.specs.List.{list_any}
 use Rattle.mir_base.specs.Expressions.{divides}
-use Rattle.mir_base.specs.Shapes.{AllBelow, AllDiffer, operand_vars, rhs_vars, test_vars}
+use Rattle.mir_base.specs.Shapes.{AllBelow, operand_vars, rhs_vars, test_vars}
 use Rattle.bit_rows.specs.BitLaws.{length_or, or_bit}
 use Rattle.bit_rows.specs.Bits.{or_bits, row_of}
 use Rattle.flow_graph.specs.declared.nodes.Node.{Node}
 use Rattle.flow_graph.specs.declared.nodes.Node.TheVariants.{Start, Skip, Assign, Print, Call, Test, Return}
 use Rattle.flow_graph.specs.Graphs.{GraphShape, node_reads, node_vars}
 use Rattle.flow_graph.specs.Numbering.{is_in}
-use Rattle.path_laws.specs.KeyRowLaws.{false_bit, false_rows, row_at}
+use Rattle.path_laws.specs.KeyRowLaws.{false_bit, row_at}
+use Rattle.path_laws.specs.KeyRows.{key_in}
 use Rattle.path_laws.specs.Paths.{AreRows, has_bit}
 use Rattle.sink_dead.specs.declared.patterns.Pattern.{Pattern}
 use Rattle.sink_dead.specs.Accesses.{blocks_pattern, is_occurrence}
 use Rattle.sink_dead.specs.SiteRows.{AreBlockedRows, blocked_row, joined_rows, pattern_vars}
-use Rattle.sink_dead.specs.Tables.{calm_pattern, pattern_of}
+use Rattle.sink_dead.specs.Tables.{sinkable_pattern, pattern_of}
 use Rattle.sink_dead.proofs.Occurring.{is_occurrence_of, occurrence_is}
 use Rattle.flow_graph.specs.NumberingLaws.{in_any}
 use Rattle.flow_graph.specs.VarLaws.{assigns_none}
@@ -25,20 +26,20 @@ use Rattle.flow_graph.specs.VarLaws.{assigns_none}
 -- ---- occurrences
 
 -- a node is an occurrence of the pattern that occurs at it, and of no other
-pub occurs_pattern : (p : Pattern) (node : Node) → (is_occurrence p.var p.rhs (Some node) ≡ true) ↔ (pattern_of node ≡ Some p)
+occurs_pattern : (p : Pattern) (node : Node) → (is_occurrence p.var p.rhs (Some node) ≡ true) ↔ (pattern_of node ≡ Some p)
 occurs_pattern p (Start next) = (λ h. cc, λ h. cc)
 occurs_pattern p (Skip next) = (λ h. cc, λ h. cc)
 occurs_pattern p (Assign x rhs next) = (there, back)
   where
-    there : is_occurrence p.var p.rhs (Some (Assign x rhs next)) ≡ true → calm_pattern x rhs ≡ Some p
+    there : is_occurrence p.var p.rhs (Some (Assign x rhs next)) ≡ true → sinkable_pattern x rhs ≡ Some p
     there h =
         let w = occurrence_is p.var p.rhs (Some (Assign x rhs next)) h in
         let same : Assign x rhs next ≡ Assign p.var p.rhs w.0 = same_Some (Assign x rhs next) (Assign p.var p.rhs w.0) w.1 in
         let var : x ≡ p.var = cc in
         let right : rhs ≡ p.rhs = cc in
-        ap (λ y. calm_pattern y rhs) var ∙ ap (calm_pattern p.var) right ∙ ap (λ b. if b then None else Some (record { var = p.var; rhs = p.rhs })) w.2
+        ap (λ y. sinkable_pattern y rhs) var ∙ ap (sinkable_pattern p.var) right ∙ ap (λ b. if b then None else Some (record { var = p.var; rhs = p.rhs })) w.2
 
-    back : calm_pattern x rhs ≡ Some p → is_occurrence p.var p.rhs (Some (Assign x rhs next)) ≡ true
+    back : sinkable_pattern x rhs ≡ Some p → is_occurrence p.var p.rhs (Some (Assign x rhs next)) ≡ true
     back h = by (divides rhs) refl h
       where
         by : (b : Bool) → divides rhs ≡ b → (if b then None else Some (record { var = x; rhs = rhs })) ≡ Some p → is_occurrence p.var p.rhs (Some (Assign x rhs next)) ≡ true
@@ -51,106 +52,10 @@ occurs_pattern p (Call into unit operands next) = (λ h. cc, λ h. cc)
 occurs_pattern p (Test test taken other) = (λ h. cc, λ h. cc)
 occurs_pattern p (Return a) = (λ h. cc, λ h. cc)
 
--- the rows below n are those of the occurrences, and the others are false
-pub record AreOccurring (table : List Pattern) (nodes : List Node) (n : ℕ) (rows : List (List Bool)) : Type 0 where
-  pub shape : AreRows (length nodes) (length table) rows
-  pub done : (m i : ℕ) (p : Pattern) → m < n → slice_get table i ≡ Some p → has_bit rows i m ≡ is_occurrence p.var p.rhs (slice_get nodes m)
-  pub later : (m i : ℕ) → n ≤ m → m < length nodes → has_bit rows i m ≡ false
-
--- at the start
-pub occurring_none : (table : List Pattern) (nodes : List Node) (rows : List (List Bool)) → rows ≡ replicate (length nodes) (replicate (length table) false) → AreOccurring table nodes 0 rows
-occurring_none table nodes rows is =
-    let all = false_rows (length nodes) (length table) rows is in
-    record { shape = all.0; done = λ m i p m_in. absurd (omega (arith, m_in)); later = λ m i late m_in. all.1 m i m_in }
-
--- `Some` is injective
-some_number : (k i : ℕ) → Some k ≡ Some i → k ≡ i
-some_number k i h = cc
-
--- the row with one bit set
-abbrev pub row_with_bit : List (List Bool) → ℕ → Option ℕ → List (List Bool)
-row_with_bit rows n None = rows
-row_with_bit rows n (Some k) = set rows n (set (row_of rows n) k true)
-
--- truth values that follow from each other are equal
-by_truth : (a b : Bool) → (a ≡ true → b ≡ true) → (b ≡ true → a ≡ true) → a ≡ b
-by_truth true b f g = sym (f refl)
-by_truth false true f g = g refl
-by_truth false false f g = refl
-
--- one node more
-pub occurring_more : (table : List Pattern) (nodes : List Node) (n : ℕ) (node : Node) (found : Option ℕ) (rows new : List (List Bool)) → slice_get nodes n ≡ Some node
-    → ((k : ℕ) → found ≡ Some k → k < length table)
-    → ((i : ℕ) (p : Pattern) → slice_get table i ≡ Some p → (is_occurrence p.var p.rhs (Some node) ≡ true) ↔ (found ≡ Some i))
-    → new ≡ row_with_bit rows n found → AreOccurring table nodes n rows → AreOccurring table nodes (n + 1) new
-occurring_more table nodes n node found rows new at within exact is before = rw is (by found refl)
-  where
-    n_in : n < length rows
-    n_in = rw before.shape.len (slice_get_within nodes n node at)
-
-    long : length (row_of rows n) ≡ length table
-    long = before.shape.each n (slice_get_within nodes n node at)
-
-    here : (i : ℕ) (p : Pattern) → slice_get table i ≡ Some p → is_occurrence p.var p.rhs (slice_get nodes n) ≡ is_occurrence p.var p.rhs (Some node)
-    here i p p_at = ap (is_occurrence p.var p.rhs) at
-
-    bit : (k : ℕ) → k < length (row_of rows n) → found ≡ Some k → (i : ℕ) (p : Pattern) → slice_get table i ≡ Some p → get_or (set (row_of rows n) k true) i false ≡ is_occurrence p.var p.rhs (slice_get nodes n)
-    bit k k_in f i p p_at = elim (cases_eq i k) as (λ _. get_or (set (row_of rows n) k true) i false ≡ is_occurrence p.var p.rhs (slice_get nodes n)) [
-      | inl same ↦ rw same (get_or-set_same (row_of rows n) k true false k_in) ∙ sym (here i p p_at ∙ (exact i p p_at).1 (f ∙ ap Some (sym same)))
-      | inr other ↦ get_or-set_other (row_of rows n) k i true false other ∙ before.later n i (omega arith) (slice_get_within nodes n node at)
-          ∙ by_truth false (is_occurrence p.var p.rhs (slice_get nodes n)) (λ h. cc) (λ u. let one : found ≡ Some i = (exact i p p_at).0 (sym (here i p p_at) ∙ u) in let same : k ≡ i = some_number k i (sym f ∙ one) in absurd (other (sym same)))
-    ]
-
-    by : (o : Option ℕ) → found ≡ o → AreOccurring table nodes (n + 1) (row_with_bit rows n o)
-    by None f = record {
-      shape = before.shape;
-      done = λ m i p m_in p_at. elim (cases_eq m n) as (λ _. has_bit rows i m ≡ is_occurrence p.var p.rhs (slice_get nodes m)) [
-        | inl same ↦ rw same (by_truth (has_bit rows i n) (is_occurrence p.var p.rhs (slice_get nodes n)) (λ t. absurd (true≢false (sym t ∙ before.later n i (omega arith) (slice_get_within nodes n node at))))
-            (λ u. let no : found ≡ Some i = (exact i p p_at).0 (sym (here i p p_at) ∙ u) in cc))
-        | inr other ↦ before.done m i p (omega (arith, m_in, other)) p_at
-      ];
-      later = λ m i late m_in. before.later m i (omega (arith, late)) m_in;
-    }
-    by (Some k) f =
-        let k_in : k < length (row_of rows n) = rw long (within k f) in
-        let row = set (row_of rows n) k true in
-        let at_n : row_of (set rows n row) n ≡ row = get_or-set_same rows n row [] n_in in
-        let at_m : (m : ℕ) → m ≢ n → row_of (set rows n row) m ≡ row_of rows m = λ m d. get_or-set_other rows n m row [] d in
-        record {
-          shape = record {
-            len = length-set rows n row ∙ before.shape.len;
-            each = λ m m_in. elim (cases_eq m n) as (λ _. length (row_of (set rows n row) m) ≡ length table) [
-              | inl same ↦ rw (same, at_n) (length-set (row_of rows n) k true ∙ long)
-              | inr other ↦ rw (at_m m other) (before.shape.each m m_in)
-            ];
-          };
-          done = λ m i p m_in p_at. elim (cases_eq m n) as (λ _. has_bit (set rows n row) i m ≡ is_occurrence p.var p.rhs (slice_get nodes m)) [
-            | inl same ↦ rw (same, at_n) (bit k k_in f i p p_at)
-            | inr other ↦ rw (at_m m other) (before.done m i p (omega (arith, m_in, other)) p_at)
-          ];
-          later = λ m i late m_in. rw (at_m m (λ same. let same' : m ≡ n = same in omega (arith, late, same'))) (before.later m i (omega (arith, late)) m_in);
-        }
-
--- the number that was found is that of the pattern that occurs
-pub found_number : (table : List Pattern) (here : Option Pattern) (found : Option ℕ) → AllDiffer table
-    → ((p : Pattern) (k : ℕ) → here ≡ Some p → found ≡ Some k → slice_get table k ≡ Some p)
-    → ((p : Pattern) → here ≡ Some p → found ≡ None → Contains table p → ⊥)
-    → (here ≡ None → found ≡ None)
-    → (i : ℕ) (p : Pattern) → slice_get table i ≡ Some p → (here ≡ Some p) ↔ (found ≡ Some i)
-found_number table here found differ at absent nothing i p there = (by found refl, by' here refl found refl)
-  where
-    listed : Contains table p
-    listed = (i, slice_get_within table i p there, get_or_from_slice_get table i p p there)
-
-    by : (o : Option ℕ) → found ≡ o → here ≡ Some p → o ≡ Some i
-    by None f h = absurd (absent p h f listed)
-    by (Some k) f h =
-        let k_at = at p k h f in
-        ap Some (differ k i (slice_get_within table k p k_at) (slice_get_within table i p there) (k_at ∙ sym there))
-
-    by' : (w : Option Pattern) → here ≡ w → (o : Option ℕ) → found ≡ o → o ≡ Some i → w ≡ Some p
-    by' None w o f h = let none : found ≡ None = nothing w in cc
-    by' (Some q) w o f h = let q_at = at q i w (f ∙ h) in sym q_at ∙ there
+-- the same of a node that may be absent
+pub occurs_at_node : (p : Pattern) (node : Option Node) → (is_occurrence p.var p.rhs node ≡ true) ↔ (key_in pattern_of node ≡ Some p)
+occurs_at_node p None = (λ h. cc, λ h. cc)
+occurs_at_node p (Some node) = occurs_pattern p node
 
 -- ---- rows of what is blocked
 

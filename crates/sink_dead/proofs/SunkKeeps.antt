@@ -27,7 +27,7 @@ use Rattle.flow_graph.specs.Over.{over_path, weigh, weight_at}
 use Rattle.flow_graph.specs.Paths.{IsFullPath}
 use Rattle.flow_graph.specs.Sinking.{put_for, sinking_same, sinking_cheaper}
 use Rattle.flow_graph.specs.Sums.{count_sums, one_if, on_same, sum_on}
-use Rattle.sink_dead.specs.Accesses.{is_calm, is_occurrence, occurs_at, same_rhs}
+use Rattle.sink_dead.specs.Accesses.{is_sinkable, is_occurrence, occurs_at, same_rhs}
 use Rattle.sink_dead.specs.NoMore.{HasNoMoreOver}
 use Rattle.sink_dead.specs.RoundsKept.{RoundKeeps}
 use Rattle.sink_dead.specs.SunkGraphs.{AreInsertions, IsSunk, emptied, sinking}
@@ -41,22 +41,22 @@ one_at x t y u = one_if (nat_eq x y && same_rhs t u)
 
 -- a node weighs 1 where x <- t occurs, and else nothing
 weighs_one : (x : ℕ) (t : Rhs) → divides t ≡ false → (o : Option Node) → one_if (is_occurrence x t o) ≡ weigh (one_at x t) o
-weighs_one x t calm None = refl
-weighs_one x t calm (Some (Start next)) = refl
-weighs_one x t calm (Some (Skip next)) = refl
-weighs_one x t calm (Some (Assign y u next)) = ap (λ b. one_if (nat_eq x y && same_rhs t u && not b)) calm ∙ ap one_if (both (nat_eq x y && same_rhs t u))
+weighs_one x t sinkable None = refl
+weighs_one x t sinkable (Some (Start next)) = refl
+weighs_one x t sinkable (Some (Skip next)) = refl
+weighs_one x t sinkable (Some (Assign y u next)) = ap (λ b. one_if (nat_eq x y && same_rhs t u && not b)) sinkable ∙ ap one_if (both (nat_eq x y && same_rhs t u))
   where
     both : (a : Bool) → (a && true) ≡ a
     both true = refl
     both false = refl
-weighs_one x t calm (Some (Print a next)) = refl
-weighs_one x t calm (Some (Call into unit operands next)) = refl
-weighs_one x t calm (Some (Test test taken other)) = refl
-weighs_one x t calm (Some (Return a)) = refl
+weighs_one x t sinkable (Some (Print a next)) = refl
+weighs_one x t sinkable (Some (Call into unit operands next)) = refl
+weighs_one x t sinkable (Some (Test test taken other)) = refl
+weighs_one x t sinkable (Some (Return a)) = refl
 
 -- so the weight of a path is their number on it
 pub count_weighs : (graph : GraphShape) (x : ℕ) (t : Rhs) → divides t ≡ false → (path : List ℕ) → count_by (occurs_at x t graph) path ≡ sum_on (weight_at (one_at x t) graph.nodes) path
-count_weighs graph x t calm path = count_sums (occurs_at x t graph) path ∙ on_same (λ n. one_if (occurs_at x t graph n)) (weight_at (one_at x t) graph.nodes) path (λ n. weighs_one x t calm (slice_get graph.nodes n))
+count_weighs graph x t sinkable path = count_sums (occurs_at x t graph) path ∙ on_same (λ n. one_if (occurs_at x t graph n)) (weight_at (one_at x t) graph.nodes) path (λ n. weighs_one x t sinkable (slice_get graph.nodes n))
 
 module _ (graph : GraphShape) (is_graph : IsGraph graph.vars graph.received graph.nodes) (split : IsSplit graph.nodes) (late : ℕ → ℕ → Option Rhs) (inserts : ℕ → List Insertion) (are : AreInsertions graph late inserts) where
   -- there are no new variables
@@ -87,7 +87,7 @@ module _ (graph : GraphShape) (is_graph : IsGraph graph.vars graph.received grap
   inserts_fit = record {
     at_start = start_free;
     put = λ n lt. subst (λ k. InsertionsBelow k (inserts n)) (sym no_more_vars) (inserts_below n lt);
-    change = λ n lt. emptied_below (is_calm (slice_get graph.nodes n));
+    change = λ n lt. emptied_below (is_sinkable (slice_get graph.nodes n));
     names = subst AllDiffer (sym (append-nil graph.vars)) is_graph.can.names;
   }
     where
@@ -139,7 +139,7 @@ module _ (graph : GraphShape) (is_graph : IsGraph graph.vars graph.received grap
   sunk_divides = subst (DividesStay graph.nodes) (sym nodes_are) (stay_in_place graph.nodes nodes' (λ n x op left right next may_trap is. (
     _,
     old_get way graph.nodes n (Assign x (Binary op left right) next) is
-        ∙ ap (λ b. Some (redirected (entry sunk.inserts (length graph.nodes)) (changed (emptied b) (Assign x (Binary op left right) next)))) (ap is_calm is ∙ ap not may_trap),
+        ∙ ap (λ b. Some (redirected (entry sunk.inserts (length graph.nodes)) (changed (emptied b) (Assign x (Binary op left right) next)))) (ap is_sinkable is ∙ ap not may_trap),
   )))
 
   -- ---- paths
@@ -149,9 +149,9 @@ module _ (graph : GraphShape) (is_graph : IsGraph graph.vars graph.received grap
     over = over_path sunk.inserts (length graph.nodes) path;
     is_over = rewritten_over way [] graph sunk_fits is_graph path full;
     alone = rewritten_alone way [] graph sunk_fits is_graph path;
-    no_more = λ x t calm.
-        let now = count_weighs (record result { nodes = nodes' }) x t calm (over_path sunk.inserts (length graph.nodes) path) in
-        let was = count_weighs graph x t calm path in
+    no_more = λ x t sinkable.
+        let now = count_weighs (record result { nodes = nodes' }) x t sinkable (over_path sunk.inserts (length graph.nodes) path) in
+        let was = count_weighs graph x t sinkable path in
         let sum = over_weight way graph.nodes (one_at x t) path (path_within way graph.nodes path full.is_path) in
         let less = weighs_no_more (one_at x t) way graph.nodes (credit graph is_graph split sunk.delayed sunk.inserts sunk.insertions (one_at x t)) (is_credit graph is_graph split sunk.delayed sunk.inserts sunk.insertions (one_at x t)) path full in
         omega (arith, now, was, sum, less);

@@ -2,7 +2,7 @@
 use Rattle.std.proofs.Common.{◌≡◌, ◌⊎◌, ◌↔◌, ◌<◌, ◌≤◌, ℕ, zero, suc, Bool, true, if◌then◌else◌, Contains, List, [], ◌∷◌, length, get_or, slice_get, Option, Some, None, inl, inr, refl, sym, ap, ◌∙◌, subst, arith}
 use Rattle.std.specs.List.{list_any}
 use Rattle.std.proofs.lemmas.Bool.{cases_Bool, cases_eq, true≢false}
-use Rattle.std.proofs.lemmas.Option.{get_or_from_slice_get, none-some, same_Some, slice_get-get_or, slice_get_past, slice_get_within}
+use Rattle.std.proofs.lemmas.Option.{get_or_from_slice_get, none-some, same_Some, slice_get_past, slice_get_within}
 use Rattle.indexmap.proofs.CallerLemmas.{Contains-list_any}
 use Rattle.mir_base.specs.declared.instructions.Rhs.{Rhs}
 use Rattle.bit_rows.specs.Bits.{row_of}
@@ -23,23 +23,20 @@ use Rattle.sink_dead.specs.SunkGraphs.{AreInsertions, RisesFrom}
 use Rattle.sink_dead.specs.Moving.{AreMoving, IsStopped}
 use Rattle.sink_dead.proofs.Chosen.{RiseStrictly, chosen_from, chosen_none, chosen_put, chosen_rises}
 use Rattle.sink_dead.proofs.Delays.{one_delayed}
-use Rattle.sink_dead.proofs.Found.{contained_any}
+use Rattle.key_table.specs.KeyLaws.{contained_any, place_of}
 use Rattle.sink_dead.proofs.Merged.{merged_other, merged_own, merged_rises}
 use Rattle.sink_dead.proofs.Occurring.{is_occurrence_of, occurrence_is}
-use Rattle.sink_dead.proofs.PatternEqual.{equal, equal_same}
+use Rattle.sink_dead.specs.contracts.patterns.PatternPartialEq.TheImpl.{ghosts}
+use Rattle.sink_dead.specs.SamePatterns.{pattern_self, same_patterns}
 use Rattle.sink_dead.proofs.Skipping.{one_source}
 use Rattle.sink_dead.proofs.Settles.{delayed_comes, delayed_inserted, inserted_no_skip, leads_delayed}
 
 -- a table has a pattern, or not
 has_or_not : (table : List Pattern) (p : Pattern) → Contains table p ⊎ (Contains table p → ⊥)
-has_or_not table p = elim (cases_Bool (list_any (equal p) table)) [
-  | inl there ↦ inl (Contains-list_any equal equal_same table p there)
-  | inr absent ↦ inr (λ there. true≢false (sym (contained_any table p there) ∙ absent))
+has_or_not table p = elim (cases_Bool (list_any (ghosts.eq p) table)) [
+  | inl there ↦ inl (Contains-list_any ghosts.eq same_patterns table p there)
+  | inr absent ↦ inr (λ there. true≢false (sym (contained_any ghosts.eq same_patterns pattern_self table p there) ∙ absent))
 ]
-
--- an item that a list has stands at some place
-contained_at : (table : List Pattern) (p : Pattern) → Contains table p → (k : ℕ) × (slice_get table k ≡ Some p)
-contained_at table p there = (there.0, slice_get-get_or table there.0 p there.1 ∙ ap Some there.2)
 
 -- what is equal to one of two equal patterns is equal to the other
 some_one : (o : Option Pattern) (p q : Pattern) → o ≡ Some p → p ≡ q → o ≡ Some q
@@ -82,7 +79,7 @@ module _ (graph : GraphShape) (is_graph : IsGraph graph.vars graph.received grap
   noted_delayed n p is =
       let w = notes.found n p is in
       let edge : HasEdge graph.nodes w.0 w.2.next = (0, ap (λ (found : Option Node). slice_get (succs_of found) 0) w.2.is) in
-      (leads_delayed graph is_graph split p.var p.rhs (stops p.var p.rhs w.2.absent) w.1 w.0 w.2.next n (ap (is_occurrence p.var p.rhs) w.2.is ∙ is_occurrence_of p.var p.rhs w.2.next w.2.calm) edge w.2.leads, w.2.absent)
+      (leads_delayed graph is_graph split p.var p.rhs (stops p.var p.rhs w.2.absent) w.1 w.0 w.2.next n (ap (is_occurrence p.var p.rhs) w.2.is ∙ is_occurrence_of p.var p.rhs w.2.next w.2.sinkable) edge w.2.leads, w.2.absent)
 
   -- what is delayed and not in the table is noted
   delayed_noted : (n x : ℕ) (t : Rhs) → n < length graph.nodes → IsDelayedTo graph x t n → (Contains table (record { var = x; rhs = t }) → ⊥) → settled_at settled n ≡ Some (record { var = x; rhs = t })
@@ -91,7 +88,7 @@ module _ (graph : GraphShape) (is_graph : IsGraph graph.vars graph.received grap
       let w = occurrence_is x t (slice_get graph.nodes c.from) c.occurs in
       let leads : w.0 ≡ c.next = only_succ graph.nodes c.from x w.0 c.next t w.1 c.edge in
       let here : slice_get graph.nodes c.from ≡ Some (Assign x t c.next) = w.1 ∙ ap (λ k. Some (Assign x t k)) leads in
-      let noted = notes.noted c.from c.skips n x t (slice_get_within graph.nodes c.from (Assign x t c.next) here) c.few (record { next = c.next; is = here; leads = c.leads; calm = w.2; absent = absent }) in
+      let noted = notes.noted c.from c.skips n x t (slice_get_within graph.nodes c.from (Assign x t c.next) here) c.few (record { next = c.next; is = here; leads = c.leads; sinkable = w.2; absent = absent }) in
       let other = notes.found n noted.0 noted.1 in
       let back : HasEdge graph.nodes other.0 other.2.next = (0, ap (λ (found : Option Node). slice_get (succs_of found) 0) other.2.is) in
       let same = one_source graph.nodes (λ m slot s edge. (is_graph.can.succs m slot s edge).1) split c.skips other.1 c.from other.0 c.next other.2.next n (no_skip c.from x c.next t here) (no_skip other.0 noted.0.var other.2.next noted.0.rhs other.2.is) c.edge back c.leads other.2.leads in
@@ -152,7 +149,7 @@ module _ (graph : GraphShape) (is_graph : IsGraph graph.vars graph.received grap
         by None e = (
           λ put. (chosen_holds n x t lt put).1,
           λ holds. elim (has_or_not table (record { var = x; rhs = t })) [
-            | inl there ↦ (let k = contained_at table (record { var = x; rhs = t }) there in chosen_of k.0 k.1 holds)
+            | inl there ↦ (let k = place_of table (record { var = x; rhs = t }) there in chosen_of k.0 k.1 holds)
             | inr absent ↦ absurd (none-some (record { var = x; rhs = t }) (sym e ∙ holds_noted n x t lt holds absent))
           ],
         )
@@ -171,7 +168,7 @@ module _ (graph : GraphShape) (is_graph : IsGraph graph.vars graph.received grap
           | inr differ ↦ (
             λ put. (chosen_holds n x t lt (sym (merged_other p (chosen_at table rows n) x differ) ∙ put)).1,
             λ holds. merged_other p (chosen_at table rows n) x differ ∙ elim (has_or_not table (record { var = x; rhs = t })) [
-              | inl there ↦ (let k = contained_at table (record { var = x; rhs = t }) there in chosen_of k.0 k.1 holds)
+              | inl there ↦ (let k = place_of table (record { var = x; rhs = t }) there in chosen_of k.0 k.1 holds)
               | inr absent ↦
                   let one : p ≡ record { var = x; rhs = t } = same_Some p (record { var = x; rhs = t }) (sym e ∙ holds_noted n x t lt holds absent) in
                   absurd (differ (ap (λ (q : Pattern). q.var) (sym one)))

@@ -55,7 +55,7 @@ module _ (graph : GraphShape) where
   waits_apart x y t u (m ∷ before) (inr s) (inr s') differ = waits_apart x y t u before s.1 s'.1 differ
 
   -- and no pattern that waits divides
-  pub waits_calm : (x : ℕ) (t : Rhs) (before : List ℕ) → Waits graph x t before → divides t ≡ false
-  waits_calm x t [] s = absurd s
-  waits_calm x t (m ∷ before) (inl o) = (at_occurrence x t m o).2
-  waits_calm x t (m ∷ before) (inr s) = waits_calm x t before s.1
+  pub waits_sinkable : (x : ℕ) (t : Rhs) (before : List ℕ) → Waits graph x t before → divides t ≡ false
+  waits_sinkable x t [] s = absurd s
+  waits_sinkable x t (m ∷ before) (inl o) = (at_occurrence x t m o).2
+  waits_sinkable x t (m ∷ before) (inr s) = waits_sinkable x t before s.1

@@ -72,12 +72,12 @@ abbrev pub blocks_at : ℕ → Rhs → GraphShape → ℕ → Bool
 blocks_at x t graph n = blocks_pattern graph x t (slice_get graph.nodes n)
 
 -- the node is an assignment whose right side does not divide: it is an occurrence of its pattern
-abbrev pub is_calm : Option Node → Bool
-is_calm None = false
-is_calm (Some (Start next)) = false
-is_calm (Some (Skip next)) = false
-is_calm (Some (Assign x rhs next)) = not (divides rhs)
-is_calm (Some (Print a next)) = false
-is_calm (Some (Call into unit operands next)) = false
-is_calm (Some (Test test taken other)) = false
-is_calm (Some (Return a)) = false
+abbrev pub is_sinkable : Option Node → Bool
+is_sinkable None = false
+is_sinkable (Some (Start next)) = false
+is_sinkable (Some (Skip next)) = false
+is_sinkable (Some (Assign x rhs next)) = not (divides rhs)
+is_sinkable (Some (Print a next)) = false
+is_sinkable (Some (Call into unit operands next)) = false
+is_sinkable (Some (Test test taken other)) = false
+is_sinkable (Some (Return a)) = false

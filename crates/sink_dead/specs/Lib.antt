@@ -18,3 +18,5 @@ pub mod PrunedLaws
 pub mod RoundsKept
 pub mod RoundsMade
 pub mod RoundLaws
+pub mod Sinkings
+pub mod SamePatterns

@@ -6,7 +6,7 @@ use Rattle.flow_graph.specs.Graphs.{GraphShape}
 use Rattle.sink_dead.specs.declared.patterns.Pattern.{Pattern}
 use Rattle.sink_dead.specs.Accesses.{blocks_at}
 use Rattle.sink_dead.specs.Skips.{LeadsOn}
-use Rattle.sink_dead.specs.Tables.{AreCalmBelow, AreOrdered, pattern_of}
+use Rattle.sink_dead.specs.Tables.{AreSinkableBelow, AreOrdered, pattern_of}
 
 -- node s leads over Skips to a node that blocks the pattern
 pub record IsStopped (graph : GraphShape) (p : Pattern) (s : ℕ) : Type 0 where
@@ -29,4 +29,4 @@ MovesOn graph node next None = (p : Pattern) → pattern_of node ≡ Some p → 
 pub record AreMoving (graph : GraphShape) (table : List Pattern) : Type 0 where
   pub ordered : AreOrdered table
   pub all : (n next : ℕ) (p : Pattern) → slice_get graph.nodes n ≡ Some (Assign p.var p.rhs next) → pattern_of (Assign p.var p.rhs next) ≡ Some p → Contains table p ⊎ IsStopped graph p next
-  pub each : AreCalmBelow (length graph.vars) table
+  pub each : AreSinkableBelow (length graph.vars) table

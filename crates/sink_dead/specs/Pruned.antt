@@ -14,7 +14,7 @@ pub record IsDeadAt (graph : GraphShape) (n : ℕ) : Type 0 where
   pub rhs : Rhs
   pub next : ℕ
   pub is : slice_get graph.nodes n ≡ Some (Assign var rhs next)
-  pub calm : divides rhs ≡ false
+  pub sinkable : divides rhs ≡ false
   pub unread : ¬ (IsLiveAfter graph var n)
 
 -- what becomes of a node that is dead, or is not

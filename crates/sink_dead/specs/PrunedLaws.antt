@@ -155,7 +155,7 @@ module _ (graph pruned : GraphShape) (is_graph : IsGraph graph.vars graph.receiv
         let same_rhs : d.rhs ≡ rhs = cc in
         let same_next : d.next ≡ s = cc in (
           λ live. d.unread (s, edge_to n s x rhs is, subst (λ y. IsLiveBefore graph y s) (sym same_var) live),
-          λ v. never_traps_where_undivided v rhs (ap divides (sym same_rhs) ∙ d.calm),
+          λ v. never_traps_where_undivided v rhs (ap divides (sym same_rhs) ∙ d.sinkable),
         );
   }
     where
@@ -207,7 +207,7 @@ module _ (graph pruned : GraphShape) (is_graph : IsGraph graph.vars graph.receiv
             let d = (p.dead_are n (slice_get_within graph.nodes n _ is)).0 gone in
             let same : Assign d.var d.rhs d.next ≡ Assign x (Binary op left right) next = same_Some (Assign d.var d.rhs d.next) (Assign x (Binary op left right) next) (sym d.is ∙ is) in
             let same_rhs : d.rhs ≡ Binary op left right = cc in
-            absurd (true≢false (sym may ∙ ap divides (sym same_rhs) ∙ d.calm))
+            absurd (true≢false (sym may ∙ ap divides (sym same_rhs) ∙ d.sinkable))
         | inr left ↦ left
       ]
 

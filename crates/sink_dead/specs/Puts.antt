@@ -9,7 +9,7 @@ use Rattle.flow_graph.specs.Graphs.{GraphShape}
 use Rattle.flow_graph.specs.Insertions.{Insertion}
 use Rattle.sink_dead.specs.declared.inserting.Put.{Put}
 use Rattle.sink_dead.specs.declared.patterns.Pattern.{Pattern}
-use Rattle.sink_dead.specs.Accesses.{is_calm}
+use Rattle.sink_dead.specs.Accesses.{is_sinkable}
 use Rattle.sink_dead.specs.SunkGraphs.{AreInsertions, emptied}
 
 -- the pattern as an insertion
@@ -58,7 +58,7 @@ CanPut graph (put ∷ puts) = (((1 ≤ put.node) × (put.node < length graph.nod
 
 -- the graph in which each of these nodes that is an occurrence of a pattern became Skip
 abbrev pub graph_emptied : List Node → GraphShape → GraphShape
-graph_emptied nodes graph = graph_change_each (λ n. emptied (is_calm (slice_get nodes n))) (length nodes) graph
+graph_emptied nodes graph = graph_change_each (λ n. emptied (is_sinkable (slice_get nodes n))) (length nodes) graph
 
 -- the list has the insertions of the graph, in order of the nodes
 pub record ArePutsOf (graph : GraphShape) (puts : List Put) : Type 0 where

@@ -5,7 +5,7 @@ use Rattle.std.specs.Prelude.{◌≡◌, ◌⊎◌, ◌<◌, ◌≤◌, ◌++◌
 use Rattle.mir_base.specs.declared.instructions.Rhs.{Rhs}
 use Rattle.mir_base.specs.Expressions.{divides}
 use Rattle.flow_graph.specs.declared.nodes.Node.{Node}
-use Rattle.flow_graph.specs.declared.nodes.Node.TheVariants.{Start, Skip, Assign, Print, Call, Test, Return}
+use Rattle.flow_graph.specs.declared.nodes.Node.TheVariants.{Assign, Skip}
 use Rattle.flow_graph.specs.Insertions.{Insertion}
 use Rattle.sink_dead.specs.declared.patterns.Pattern.{Pattern}
 use Rattle.sink_dead.specs.declared.inserting.Put.{Put}
@@ -19,7 +19,7 @@ pub record SettlesAt (nodes : List Node) (table : List Pattern) (m skips n x : �
   pub next : ℕ
   pub is : slice_get nodes m ≡ Some (Assign x t next)
   pub leads : LeadsBy nodes skips next n
-  pub calm : divides t ≡ false
+  pub sinkable : divides t ≡ false
   pub absent : Contains table (record { var = x; rhs = t }) → ⊥
 
 -- of the nodes up to a number: what is noted for a node is a pattern that comes to it over Skips alone and is not in the table,
@@ -71,13 +71,8 @@ delayed_by table settled rows n = merged (slice_index_or settled n None) (chosen
 -- what is noted for the node, where it is no Skip: the node blocks it
 abbrev pub held : Option Node → Option Pattern → Option Pattern
 held None noted = None
-held (Some (Start next)) noted = noted
 held (Some (Skip next)) noted = None
-held (Some (Assign x rhs next)) noted = noted
-held (Some (Print a next)) noted = noted
-held (Some (Call into unit operands next)) noted = noted
-held (Some (Test test taken other)) noted = noted
-held (Some (Return a)) noted = noted
+held _ noted = noted
 
 -- the same of node n
 abbrev pub held_at : List Node → List (Option Pattern) → ℕ → Option Pattern

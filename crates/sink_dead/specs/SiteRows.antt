@@ -1,6 +1,6 @@
 -- Rows by nodes of a graph and patterns of a table: where each pattern occurs, is blocked, is delayed and is inserted. Cited by
 -- contracts.
-use Rattle.std.specs.Prelude.{◌≡◌, ◌↔◌, ◌<◌, ℕ, Bool, true, false, List, [], ◌∷◌, length, flat_map, replicate, slice_get, Option, Some}
+use Rattle.std.specs.Prelude.{◌≡◌, ◌<◌, ℕ, Bool, true, false, List, [], ◌∷◌, length, flat_map, replicate, slice_get, Some}
 use Rattle.mir_base.specs.declared.instructions.Rhs.{Rhs}
 use Rattle.mir_base.specs.Shapes.{into_vars, operand_vars, rhs_vars, test_vars}
 use Rattle.bit_rows.specs.Bits.{or_bits, row_of}
@@ -8,32 +8,24 @@ use Rattle.flow_graph.specs.declared.nodes.Node.{Node}
 use Rattle.flow_graph.specs.declared.nodes.Node.TheVariants.{Start, Skip, Assign, Print, Call, Test, Return}
 use Rattle.flow_graph.specs.Graphs.{GraphShape}
 use Rattle.flow_graph.specs.Numbering.{is_in}
-use Rattle.path_laws.specs.Paths.{HaveShape, has_bit}
+use Rattle.path_laws.specs.KeyRows.{AreKeyRows, AreKeyRowsWhere}
+use Rattle.path_laws.specs.Paths.{has_bit}
 use Rattle.sink_dead.specs.declared.patterns.Pattern.{Pattern}
 use Rattle.sink_dead.specs.Delaying.{IsDelayedTo, IsInsertedAt}
-use Rattle.sink_dead.specs.Tables.{pattern_of}
 
 -- one row for each node and one bit for each pattern: whether the test holds of the pattern at the node
-pub record AreSiteRows (graph : GraphShape) (table : List Pattern) (holds : ℕ → Rhs → ℕ → Bool) (rows : List (List Bool)) : Type 0 where
-  pub shape : HaveShape graph (length table) rows
-  pub bits : (n k : ℕ) (p : Pattern) → n < length graph.nodes → slice_get table k ≡ Some p → has_bit rows k n ≡ holds p.var p.rhs n
+abbrev pub AreSiteRows : GraphShape → List Pattern → (ℕ → Rhs → ℕ → Bool) → List (List Bool) → Type 0
+AreSiteRows graph table holds rows = AreKeyRows (length graph.nodes) table (λ p. holds p.var p.rhs) rows
 
 -- the same of a statement in place of a test
-pub record AreRowsTelling (graph : GraphShape) (table : List Pattern) (Holds : ℕ → Rhs → ℕ → Type 0) (rows : List (List Bool)) : Type 0 where
-  pub shape : HaveShape graph (length table) rows
-  pub bits : (n k : ℕ) (p : Pattern) → n < length graph.nodes → slice_get table k ≡ Some p → (has_bit rows k n ≡ true) ↔ Holds p.var p.rhs n
+abbrev pub AreRowsTelling : GraphShape → List Pattern → (ℕ → Rhs → ℕ → Type 0) → List (List Bool) → Type 0
+AreRowsTelling graph table Holds rows = AreKeyRowsWhere (length graph.nodes) table (λ p. Holds p.var p.rhs) rows
 
 -- the rows tell where each pattern is inserted; and some rows tell where it is delayed
 pub record AreInsertionRows (graph : GraphShape) (table : List Pattern) (rows : List (List Bool)) : Type 0 where
   pub delayed : List (List Bool)
   pub delayed_are : AreRowsTelling graph table (IsDelayedTo graph) delayed
   pub inserted_are : AreRowsTelling graph table (IsInsertedAt graph) rows
-
--- ---- occurrences
-
--- the number is that of the pattern that occurs at the node, where the table has it
-abbrev pub FindsPattern : List Pattern → Node → Option ℕ → Type 0
-FindsPattern table node number = (k : ℕ) (p : Pattern) → slice_get table k ≡ Some p → (pattern_of node ≡ Some p) ↔ (number ≡ Some k)
 
 -- ---- blocked patterns, by variable
 
@@ -49,6 +41,11 @@ AreBitsByVariable vars table of_pattern rows = (x k : ℕ) (p : Pattern) → x <
 abbrev pub joined_rows : List (List Bool) → List ℕ → List Bool → List Bool
 joined_rows rows [] row = row
 joined_rows rows (x ∷ xs) row = joined_rows rows xs (or_bits row (row_of rows x))
+
+-- the new row is that, and has as many bits as before
+pub record JoinsRows (rows : List (List Bool)) (vars : List ℕ) (old new : List Bool) : Type 0 where
+  pub row : new ≡ joined_rows rows vars old
+  pub len : length new ≡ length old
 
 -- where each variable has a row of the patterns that assign it, and one of those that name it: the row of the patterns that
 -- the node blocks

@@ -5,7 +5,7 @@ use Rattle.mir_base.specs.declared.instructions.Rhs.{Rhs}
 use Rattle.flow_graph.specs.Graphs.{GraphShape}
 use Rattle.flow_graph.specs.Insertions.{Insertion, Change, Kept, Removed, Rewriting, rewritten}
 use Rattle.flow_graph.specs.Sinking.{put_for}
-use Rattle.sink_dead.specs.Accesses.{is_calm}
+use Rattle.sink_dead.specs.Accesses.{is_sinkable}
 use Rattle.sink_dead.specs.Delaying.{IsDelayedTo, IsInsertedAt}
 
 -- ---- what is inserted
@@ -31,11 +31,11 @@ pub record AreInsertions (graph : GraphShape) (delayed : ℕ → ℕ → Option 
 
 -- every occurrence becomes Skip
 abbrev pub emptied : Bool → Change
-emptied calm = if calm then Removed else Kept
+emptied sinkable = if sinkable then Removed else Kept
 
 -- occurrences become Skips, and these stand before each node
 abbrev pub sinking : GraphShape → (ℕ → List Insertion) → Rewriting
-sinking graph inserts = record { inserts = inserts; changes = λ n. emptied (is_calm (slice_get graph.nodes n)) }
+sinking graph inserts = record { inserts = inserts; changes = λ n. emptied (is_sinkable (slice_get graph.nodes n)) }
 
 -- the graph in which the assignments have sunk
 pub record IsSunk (graph sunk : GraphShape) : Type 0 where

@@ -6,7 +6,7 @@ use Rattle.mir_base.specs.declared.instructions.Rhs.{Rhs}
 use Rattle.mir_base.specs.Expressions.{divides}
 use Rattle.mir_base.specs.Shapes.{AllBelow, AllDiffer, rhs_vars}
 use Rattle.flow_graph.specs.declared.nodes.Node.{Node}
-use Rattle.flow_graph.specs.declared.nodes.Node.TheVariants.{Start, Skip, Assign, Print, Call, Test, Return}
+use Rattle.flow_graph.specs.declared.nodes.Node.TheVariants.{Assign}
 use Rattle.flow_graph.specs.Graphs.{GraphShape, assigns}
 use Rattle.sink_dead.specs.declared.patterns.Pattern.{Pattern}
 
@@ -16,23 +16,18 @@ pub record AreOrdered (table : List Pattern) : Type 0 where
   pub in_order : IsNonDecreasingBy (λ p. p.var) table
 
 -- the pattern of an assignment, where its right side does not divide
-abbrev pub calm_pattern : ℕ → Rhs → Option Pattern
-calm_pattern x rhs = if divides rhs then None else Some (record { var = x; rhs = rhs })
+abbrev pub sinkable_pattern : ℕ → Rhs → Option Pattern
+sinkable_pattern x rhs = if divides rhs then None else Some (record { var = x; rhs = rhs })
 
 -- the pattern that occurs at a node
 abbrev pub pattern_of : Node → Option Pattern
-pattern_of (Start next) = None
-pattern_of (Skip next) = None
-pattern_of (Assign x rhs next) = calm_pattern x rhs
-pattern_of (Print a next) = None
-pattern_of (Call into unit operands next) = None
-pattern_of (Test test taken other) = None
-pattern_of (Return a) = None
+pattern_of (Assign x rhs next) = sinkable_pattern x rhs
+pattern_of _ = None
 
 -- the node assigns the variable of the pattern or one of its right side
 abbrev pub touches_pattern : GraphShape → Node → Pattern → Bool
 touches_pattern graph node p = assigns graph p.var node || list_any (λ y. assigns graph y node) (rhs_vars p.rhs)
 
 -- the patterns do not divide, and their variables are below this number
-abbrev pub AreCalmBelow : ℕ → List Pattern → Type 0
-AreCalmBelow vars table = (k : ℕ) (p : Pattern) → slice_get table k ≡ Some p → (divides p.rhs ≡ false) × ((p.var < vars) × AllBelow vars (rhs_vars p.rhs))
+abbrev pub AreSinkableBelow : ℕ → List Pattern → Type 0
+AreSinkableBelow vars table = (k : ℕ) (p : Pattern) → slice_get table k ≡ Some p → (divides p.rhs ≡ false) × ((p.var < vars) × AllBelow vars (rhs_vars p.rhs))

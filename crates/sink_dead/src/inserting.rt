@@ -2,7 +2,7 @@
 ghost use Rattle.std.specs.Prelude.{◌≡◌, ◌<◌, ◌≤◌, ◌++◌, [], length, slice_get, IfOk, OnOk, Some};
 ghost use Rattle.flow_graph.specs.Editing.{graph_changed};
 ghost use Rattle.path_laws.specs.Paths.{AreRows};
-ghost use Rattle.sink_dead.specs.Accesses.{is_calm};
+ghost use Rattle.sink_dead.specs.Accesses.{is_sinkable};
 ghost use Rattle.sink_dead.specs.Puts.{CanPut, all_puts, chosen, graph_emptied, graph_with, put_at, puts_at};
 ghost use Rattle.sink_dead.specs.Settled.{PushesEarlier, held_at, inserted_by, merged};
 ghost use Rattle.sink_dead.specs.SunkGraphs.{emptied};
@@ -21,8 +21,8 @@ pub(crate) struct Put {
     pub(crate) rhs: Rhs,
 }
 
-/// The insertions that the rows and the settled patterns tell, in order of the nodes and then of the patterns' variables.
-/// It fails only with `Memory`.
+/// The insertions that the rows and the settled patterns tell, in order of the nodes and then of the patterns'
+/// variables. It fails only with `Memory`.
 pub(crate) fn puts_of(
     alloc: Global,
     nodes: &[Node],
@@ -147,25 +147,25 @@ pub(crate) fn empty_occurrences(editor: &mut Editor, nodes: &[Node])
     ensures spare { editor.new.spare ≡ editor.old.spare }
 {
     for n in 0..nodes.len() {
-        empty_if_calm(editor, n, &nodes[n]);
+        empty_if_sinkable(editor, n, &nodes[n]);
     }
 }
 
 /// Lets the node of this number become a Skip, where it is an occurrence.
-fn empty_if_calm(editor: &mut Editor, n: usize, node: &Node)
+fn empty_if_sinkable(editor: &mut Editor, n: usize, node: &Node)
     requires { slice_get editor.old.graph.nodes n ≡ Some node.now }
     ensures graph { editor.new.graph ≡
-        graph_changed n (emptied (is_calm (Some node.now))) editor.old.graph }
+        graph_changed n (emptied (is_sinkable (Some node.now))) editor.old.graph }
     ensures spare { editor.new.spare ≡ editor.old.spare }
 {
-    if is_calm(node) {
+    if is_sinkable(node) {
         editor.change(n, None);
     }
 }
 
 /// Whether a node is an assignment whose right side does not divide.
-fn is_calm(node: &Node) -> bool
-    ensures { result ≡ is_calm (Some node.now) }
+fn is_sinkable(node: &Node) -> bool
+    ensures { result ≡ is_sinkable (Some node.now) }
 {
     match node {
         Node::Assign(_, rhs, _) => !divides(rhs),

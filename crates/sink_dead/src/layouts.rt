@@ -7,42 +7,45 @@ use mir_base::{Args, Inst, Name, Operand, Rhs, Test, Unit as MirUnit};
 pub(crate) fn same_unit(a: &MirUnit, b: &MirUnit) -> bool
     ensures { IsTrue result ↔ (a.now ≡ b.now) }
 {
-    same_insts(a.insts(), b.insts())
-        && same_names(a.vars.items(), b.vars.items())
-        && same_name(&a.name, &b.name)
+    same_items(a.insts(), b.insts())
+        && same_items(a.vars.items(), b.vars.items())
+        && a.name.is_same(&b.name)
 }
 
-/// Whether two lists of names are equal.
-fn same_names(a: &[Name], b: &[Name]) -> bool
+/// What can be compared with another of its type.
+trait Same {
+    /// Whether the two are equal. It does not allocate.
+    fn is_same(&self, other: &Self) -> bool
+        ensures { IsTrue result ↔ (self.now ≡ other.now) };
+}
+
+impl Same for Name {
+    fn is_same(&self, other: &Name) -> bool {
+        self.bytes() == other.bytes()
+    }
+}
+
+impl Same for Inst {
+    fn is_same(&self, other: &Inst) -> bool {
+        same_inst(self, other)
+    }
+}
+
+impl Same for Operand {
+    fn is_same(&self, other: &Operand) -> bool {
+        same_operand(*self, *other)
+    }
+}
+
+/// Whether two lists are equal, item by item.
+fn same_items<T: Same>(a: &[T], b: &[T]) -> bool
     ensures { IsTrue result ↔ (a.now ≡ b.now) }
 {
     if a.len() != b.len() {
         return false;
     }
     for n in 0..a.len() {
-        if !same_name(&a[n], &b[n]) {
-            return false;
-        }
-    }
-    true
-}
-
-/// Whether two names are equal.
-fn same_name(a: &Name, b: &Name) -> bool
-    ensures { IsTrue result ↔ (a.now ≡ b.now) }
-{
-    a.bytes() == b.bytes()
-}
-
-/// Whether two lists of instructions are equal.
-fn same_insts(a: &[Inst], b: &[Inst]) -> bool
-    ensures { IsTrue result ↔ (a.now ≡ b.now) }
-{
-    if a.len() != b.len() {
-        return false;
-    }
-    for n in 0..a.len() {
-        if !same_inst(&a[n], &b[n]) {
+        if !a[n].is_same(&b[n]) {
             return false;
         }
     }
@@ -110,9 +113,7 @@ fn is_call(inst: &Inst, into: Option<usize>, unit: usize, args: &Args) -> bool
 {
     match inst {
         Inst::Call(other, called, operands) => {
-            unit == *called
-                && same_into(into, *other)
-                && same_operands(args.items(), operands.items())
+            unit == *called && same_into(into, *other) && same_items(args.items(), operands.items())
         }
         _ => false,
     }
@@ -136,21 +137,6 @@ fn is_return(inst: &Inst, operand: Operand) -> bool
         Inst::Return(other) => same_operand(operand, *other),
         _ => false,
     }
-}
-
-/// Whether two lists of operands are equal.
-fn same_operands(a: &[Operand], b: &[Operand]) -> bool
-    ensures { IsTrue result ↔ (a.now ≡ b.now) }
-{
-    if a.len() != b.len() {
-        return false;
-    }
-    for n in 0..a.len() {
-        if !same_operand(a[n], b[n]) {
-            return false;
-        }
-    }
-    true
 }
 
 /// Whether both calls give their results to the same variable, or both to none.

@@ -1,6 +1,6 @@
 // Which variables are live before each node.
-ghost use Rattle.std.specs.Prelude.{◌≡◌, ◌<◌, ◌++◌, flat_map, length, IfOk};
-ghost use Rattle.mir_base.specs.Shapes.{AllBelow, operand_vars, rhs_vars, test_vars, into_vars};
+ghost use Rattle.std.specs.Prelude.{◌<◌, ◌++◌, flat_map, length, IfOk};
+ghost use Rattle.mir_base.specs.Shapes.{AllBelow, operand_vars, rhs_vars, test_vars};
 ghost use Rattle.bit_rows.specs.Bits.{row_of};
 ghost use Rattle.flow_graph.specs.Graphs.{node_reads, node_vars};
 ghost use Rattle.path_laws.specs.Paths.{HaveShape};

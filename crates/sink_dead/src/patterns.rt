@@ -1,6 +1,5 @@
 // The patterns of assignments: a variable and a right side that does not divide.
-ghost use Rattle.std.specs.Prelude.{◌≡◌, ◌<◌, ◌||◌, Contains, IsPermutation, flat_map, length, nat_eq, slice_get, IfNone, IfOk, IfSome, OnOk, Some};
-ghost use Rattle.std.specs.List.Sorted.{IsNonDecreasingBy};
+ghost use Rattle.std.specs.Prelude.{◌≡◌, ◌<◌, ◌||◌, IsPermutation, flat_map, length, nat_eq, IfOk, Some};
 ghost use Rattle.mir_base.specs.Shapes.{AllDiffer, operand_vars, rhs_vars, test_vars};
 ghost use Rattle.flow_graph.specs.Edges.{edges_of};
 ghost use Rattle.flow_graph.specs.Graphs.{AllWithin, GraphShape, SuccsBelow, is_start, node_reads};
@@ -8,14 +7,13 @@ ghost use Rattle.std.specs.List.{list_any};
 ghost use Rattle.flow_graph.specs.Numbering.{is_in};
 ghost use Rattle.sink_dead.specs.Accesses.{blocks_pattern};
 ghost use Rattle.sink_dead.specs.Moving.{AreMoving, MovesFrom, MovesOn};
-ghost use Rattle.sink_dead.specs.Tables.{AreOrdered, calm_pattern, pattern_of, touches_pattern};
+ghost use Rattle.sink_dead.specs.Tables.{AreOrdered, sinkable_pattern, pattern_of, touches_pattern};
 
 use crate::skips::stop_after;
 use flow_graph::{Edges, Graph, Node};
-use indexmap::IndexSet;
+use key_table::KeyTable;
 use mir_base::{Memory, Operand, Rhs, Test, divides};
 use std::alloc::Global;
-use std::marker::Model;
 
 /// A pattern of assignments. Its occurrences are the nodes that assign this right side, which does not divide, to this
 /// variable.
@@ -25,53 +23,11 @@ pub(crate) struct Pattern {
     pub(crate) rhs: Rhs,
 }
 
-/// Distinct patterns in order of their variables, numbered from 0. Contracts see them as the list of them.
-#[derive(Drop)]
-pub(crate) struct Patterns {
-    set: IndexSet<Pattern>,
-}
+/// A table of distinct patterns, numbered from 0. Contracts see it as the list of them.
+pub(crate) type Patterns = KeyTable<Pattern>;
 
-impl Model for Patterns {
-    ghost use Rattle.std.specs.Prelude.{List};
-    ghost use Rattle.sink_dead.specs.declared.patterns.Pattern.{Pattern};
-    ghost use Rattle.sink_dead.specs.Tables.{AreOrdered};
-
-    ghost Value = { List Pattern };
-
-    ghost view = { λ patterns. patterns.set.keys };
-
-    ghost invariant = { λ patterns. AreOrdered patterns.set.keys };
-}
-
-impl Patterns {
-    /// How many patterns there are. It does not allocate.
-    pub(crate) fn len(&self) -> usize
-        ensures len { result ≡ length self.now }
-        ensures ordered { AreOrdered self.now }
-    {
-        self.set.len()
-    }
-
-    /// The pattern of a number, counted from 0 and below `len`. It does not allocate.
-    pub(crate) fn get(&self, number: usize) -> &Pattern
-        requires { number < length self.now }
-        ensures { slice_get self.now number ≡ Some result.now }
-    {
-        &self.set.as_slice()[number]
-    }
-
-    /// The number of a pattern, and `None` exactly where there is no such pattern. It does not allocate.
-    pub(crate) fn find(&self, pattern: &Pattern) -> Option<usize>
-        ensures found { IfSome result (λ number. slice_get self.now number ≡ Some pattern.now) }
-        ensures absent { IfNone result (Contains self.now pattern.now → ⊥) }
-        ensures differ { AllDiffer self.now }
-    {
-        self.set.get_index_of(pattern)
-    }
-}
-
-/// The patterns that can still move: those with an occurrence from which Skips lead to no node that blocks them. `edges` are
-/// those of the graph. It fails only with `Memory`.
+/// The patterns that can still move, in order of their variables: those with an occurrence from which Skips lead to no
+/// node that blocks them. `edges` are those of the graph. It fails only with `Memory`.
 pub(crate) fn moving_patterns(
     alloc: Global,
     graph: &Graph,
@@ -80,25 +36,38 @@ pub(crate) fn moving_patterns(
     requires { edges.now ≡ edges_of graph.now.nodes }
     ensures { IfOk result (AreMoving graph.now) }
 {
-    let mut set = IndexSet::new(alloc);
+    let mut found = KeyTable::new(alloc);
     let nodes = graph.nodes();
     for node in nodes {
         if let Some(pattern) = moving_at(nodes, edges, node) {
-            set.insert(pattern)?;
+            found.number(pattern)?;
         }
     }
-    sort_by_variable(&mut set)?;
-    Ok(Patterns { set })
+    let table = in_order(alloc, &found)?;
+    Ok(table)
 }
 
-/// Sorts patterns by their variables. It fails only with `Memory`.
-fn sort_by_variable(set: &mut IndexSet<Pattern>) -> Result<(), Memory>
-    ensures sorted { OnOk result (IsNonDecreasingBy (λ p. p.var) set.new.keys) }
-    ensures same { OnOk result (IsPermutation set.old.keys set.new.keys) }
-    ensures differ { OnOk result (AllDiffer set.new.keys) }
+/// The same patterns in order of their variables. It fails only with `Memory`.
+fn in_order(alloc: Global, found: &Patterns) -> Result<Patterns, Memory>
+    ensures ordered { IfOk result AreOrdered }
+    ensures same { IfOk result (IsPermutation found.now) }
 {
-    set.sort_by_key(|pattern| pattern.var)?;
-    Ok(())
+    let mut patterns = listed(alloc, found)?;
+    patterns.sort_by_key(|pattern| pattern.var)?;
+    let table = KeyTable::of(alloc, patterns)?;
+    Ok(table)
+}
+
+/// The list of the patterns of a table.
+fn listed(alloc: Global, table: &Patterns) -> Result<Vec<Pattern>, Memory>
+    ensures all { IfOk result (λ patterns. patterns.items ≡ table.now) }
+    ensures differ { AllDiffer table.now }
+{
+    let mut patterns = Vec::new(alloc);
+    for number in 0..table.len() {
+        patterns.push(*table.get(number))?;
+    }
+    Ok(patterns)
 }
 
 /// The pattern that occurs at a node, where Skips do not lead from there to a node that blocks it.
@@ -135,14 +104,14 @@ pub(crate) fn pattern_at(node: &Node) -> Option<Pattern>
     ensures { result ≡ pattern_of node.now }
 {
     match node {
-        Node::Assign(x, rhs, _) => calm_pattern(*x, *rhs),
+        Node::Assign(x, rhs, _) => sinkable_pattern(*x, *rhs),
         _ => None,
     }
 }
 
 /// The pattern of an assignment, where its right side does not divide.
-fn calm_pattern(var: usize, rhs: Rhs) -> Option<Pattern>
-    ensures { result ≡ calm_pattern var rhs }
+fn sinkable_pattern(var: usize, rhs: Rhs) -> Option<Pattern>
+    ensures { result ≡ sinkable_pattern var rhs }
 {
     if divides(&rhs) {
         None

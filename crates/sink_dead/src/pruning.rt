@@ -13,10 +13,10 @@ use flow_graph::{Editor, Graph, Node};
 use mir_base::{Memory, divides};
 use std::alloc::Global;
 
-/// The graph in which each dead assignment is a Skip with the same successor: one whose right side is plain or movable and
-/// whose variable is not live after it. A variable is live after a node where some path from a successor of the node comes
-/// to a node that reads it, with no node before that one assigning it. All else is as it was. A graph with no dead
-/// assignment is given back as it is. It fails only with `Memory`.
+/// The graph in which each dead assignment is a Skip with the same successor: one whose right side is plain or movable
+/// and whose variable is not live after it. A variable is live after a node where some path from a successor of the
+/// node comes to a node that reads it, with no node before that one assigning it. All else is as it was. A graph with
+/// no dead assignment is given back as it is. It fails only with `Memory`.
 pub(crate) fn pruned(alloc: Global, graph: Graph) -> Result<Graph, Memory>
     ensures exact { IfOk result (IsPruned graph) }
     ensures keeps { IfOk result (GraphKeeps graph) }

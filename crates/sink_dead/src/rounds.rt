@@ -18,8 +18,8 @@ use std::mem;
 /// The most rounds that `sink` makes.
 pub const MOST_ROUNDS: usize = 16;
 
-/// One round on a split graph: its assignments sink, and then the dead ones become Skips. `changed` is false exactly where
-/// the old and the new graph have one layout. It fails only with `Memory`.
+/// One round on a split graph: its assignments sink, and then the dead ones become Skips. `changed` is false exactly
+/// where the old and the new graph have one layout. It fails only with `Memory`.
 pub fn round(alloc: Global, graph: &Graph) -> Result<Round, Memory>
     requires { IsSplit graph.now.nodes }
     ensures exact { IfOk result (λ round. IsRound graph.now round.graph) }

@@ -1,4 +1,5 @@
-// The assignments that cannot move: Skips alone part them from a node that blocks them. Each is put right before that node.
+// The assignments that cannot move: Skips alone part them from a node that blocks them. Each is put right before that
+// node.
 ghost use Rattle.std.specs.Prelude.{◌≡◌, ◌<◌, length, IfOk};
 ghost use Rattle.flow_graph.specs.Edges.{edges_of};
 ghost use Rattle.flow_graph.specs.Graphs.{AllWithin, SuccsBelow};
@@ -10,8 +11,8 @@ use flow_graph::{Edges, Node};
 use mir_base::Memory;
 use std::alloc::Global;
 
-/// For each node the pattern that comes to it over Skips alone, where there is one that cannot move: `moving` does not have
-/// it. `edges` are those of the nodes. It fails only with `Memory`.
+/// For each node the pattern that comes to it over Skips alone, where there is one that cannot move: `moving` does not
+/// have it. `edges` are those of the nodes. It fails only with `Memory`.
 pub(crate) fn settled(
     alloc: Global,
     nodes: &[Node],

@@ -1,12 +1,12 @@
 // The graph in which the assignments have sunk.
-ghost use Rattle.std.specs.Prelude.{◌≡◌, length, IfOk, OnOk};
+ghost use Rattle.std.specs.Prelude.{IfOk, OnOk};
 ghost use Rattle.flow_graph.specs.Edges.{IsSplit};
 ghost use Rattle.flow_graph.specs.Graphs.{IsGraph};
 ghost use Rattle.sink_dead.specs.Puts.{ArePutsOf};
 ghost use Rattle.sink_dead.specs.RoundsKept.{RoundKeeps};
 ghost use Rattle.sink_dead.specs.SunkGraphs.{IsSunk};
 
-use crate::delaying::insertion_rows;
+use crate::delaying::{Sinking, insertion_rows};
 use crate::inserting::{Put, empty_occurrences, put_each, puts_of};
 use crate::patterns::moving_patterns;
 use crate::settling::settled;
@@ -14,10 +14,10 @@ use flow_graph::{Edges, Editor, Graph};
 use mir_base::Memory;
 use std::alloc::Global;
 
-/// The graph in which the plain and movable assignments have sunk. Each occurrence of a pattern becomes a Skip, and before
-/// each node, in order of the nodes, stand the patterns that are inserted there, in order of their variables: those that
-/// are delayed at the node, and that it blocks or that are not delayed at some successor. The graph is split. It fails
-/// only with `Memory`.
+/// The graph in which the plain and movable assignments have sunk. Each occurrence of a pattern becomes a Skip, and
+/// before each node, in order of the nodes, stand the patterns that are inserted there, in order of their variables:
+/// those that are delayed at the node, and that it blocks or that are not delayed at some successor. The graph is
+/// split. It fails only with `Memory`.
 pub(crate) fn sunk(alloc: Global, graph: &Graph) -> Result<Graph, Memory>
     requires { IsSplit graph.now.nodes }
     ensures exact { IfOk result (IsSunk graph.now) }
@@ -44,8 +44,8 @@ fn sunk_graph(alloc: Global, graph: &Graph) -> Result<Graph, Memory>
     Ok(sunk)
 }
 
-/// What is inserted before the nodes of a graph. Rows have a bit for each pattern that can still move; the others are put
-/// back where they stood.
+/// What is inserted before the nodes of a graph. Rows have a bit for each pattern that can still move; the others are
+/// put back where they stood.
 fn insertions(alloc: Global, graph: &Graph) -> Result<Vec<Put>, Memory>
     requires { IsSplit graph.now.nodes }
     ensures graph { OnOk result (IsGraph graph.now.vars graph.now.received graph.now.nodes) }
@@ -55,7 +55,12 @@ fn insertions(alloc: Global, graph: &Graph) -> Result<Vec<Put>, Memory>
     let table = moving_patterns(alloc, graph, &edges)?;
     let nodes = graph.nodes();
     let settled = settled(alloc, nodes, &edges, &table)?;
-    let insert = insertion_rows(alloc, graph, &edges, &table)?;
+    let sinking = Sinking {
+        graph,
+        edges: &edges,
+        table: &table,
+    };
+    let insert = insertion_rows(alloc, &sinking)?;
     let puts = puts_of(alloc, nodes, &table, settled.as_slice(), &insert)?;
     Ok(puts)
 }

@@ -1,22 +1,33 @@
 // Where the patterns of a table occur, and where they are blocked: rows by nodes, with one bit for each pattern.
-ghost use Rattle.std.specs.Prelude.{◌≡◌, ℕ, ◌<◌, ◌∷◌, ◌++◌, [], Some, length, flat_map, replicate, slice_get, true, IfOk, OnOk, IfSome};
+ghost use Rattle.std.specs.Prelude.{◌≡◌, ℕ, ◌<◌, ◌∷◌, ◌++◌, [], Some, length, flat_map, IfOk, OnOk};
 ghost use Rattle.mir_base.specs.Shapes.{AllBelow, operand_vars, rhs_vars, test_vars};
 ghost use Rattle.bit_rows.specs.Bits.{AreEquallyLong, row_of};
 ghost use Rattle.flow_graph.specs.Graphs.{HaveVarsBelow, node_vars};
 ghost use Rattle.path_laws.specs.KeyRows.{SetsBitAt};
 ghost use Rattle.path_laws.specs.Paths.{AreRows};
 ghost use Rattle.sink_dead.specs.Accesses.{blocks_at, occurs_at};
-ghost use Rattle.sink_dead.specs.SiteRows.{AreBitsByVariable, AreBlockedRows, AreSiteRows, FindsPattern, blocked_row, joined_rows, pattern_vars};
-ghost use Rattle.sink_dead.specs.Tables.{AreCalmBelow};
+ghost use Rattle.sink_dead.specs.SiteRows.{AreBitsByVariable, AreBlockedRows, AreSiteRows, JoinsRows, blocked_row, pattern_vars};
+ghost use Rattle.sink_dead.specs.Tables.{AreSinkableBelow, pattern_of};
 
-use crate::patterns::{Patterns, pattern_at};
+use crate::patterns::{Pattern, Patterns, pattern_at};
 use bit_rows::{Row, Rows};
 use flow_graph::{Graph, Node};
 use mir_base::{Memory, Operand, Rhs, Test};
-use path_laws::{mark_operand, mark_var, push_true};
+use path_laws::{KeyOf, key_rows, mark_operand, mark_var, push_true};
 use std::alloc::Global;
 
 // ---- occurrences
+
+/// Reads off a node the pattern that occurs at it.
+struct Occurring;
+
+impl KeyOf<Pattern> for Occurring {
+    ghost key_of = { λ of node. pattern_of node };
+
+    fn key_of(&self, node: &Node) -> Option<Pattern> {
+        pattern_at(node)
+    }
+}
 
 /// At which nodes each pattern of the table occurs. It fails only with `Memory`.
 pub(crate) fn occurrence_rows(
@@ -24,26 +35,12 @@ pub(crate) fn occurrence_rows(
     graph: &Graph,
     table: &Patterns,
 ) -> Result<Rows, Memory>
-    requires { AreCalmBelow (length graph.now.vars) table.now }
+    requires { AreSinkableBelow (length graph.now.vars) table.now }
     ensures { IfOk result (AreSiteRows graph.now table.now (λ x t. occurs_at x t graph.now)) }
 {
     let nodes = graph.nodes();
-    let mut rows = Rows::new(alloc, nodes.len(), table.len())?;
-    for n in 0..nodes.len() {
-        if let Some(number) = occurring(&nodes[n], table) {
-            rows.set(n, number, true);
-        }
-    }
+    let rows = key_rows(alloc, nodes, table, &Occurring)?;
     Ok(rows)
-}
-
-/// The number of the pattern that occurs at a node, where the table has it.
-fn occurring(node: &Node, table: &Patterns) -> Option<usize>
-    ensures within { IfSome result (λ number. number < length table.now) }
-    ensures pattern { FindsPattern table.now node.now result }
-{
-    let pattern = pattern_at(node)?;
-    table.find(&pattern)
 }
 
 // ---- blocked patterns
@@ -59,7 +56,7 @@ struct ByVariable {
 
 /// At which nodes each pattern of the table is blocked. It fails only with `Memory`.
 pub(crate) fn blocking_rows(alloc: Global, graph: &Graph, table: &Patterns) -> Result<Rows, Memory>
-    requires { AreCalmBelow (length graph.now.vars) table.now }
+    requires { AreSinkableBelow (length graph.now.vars) table.now }
     ensures { IfOk result (AreSiteRows graph.now table.now (λ x t. blocks_at x t graph.now)) }
 {
     let by_variable = by_variable(alloc, graph.vars().len(), table)?;
@@ -69,7 +66,7 @@ pub(crate) fn blocking_rows(alloc: Global, graph: &Graph, table: &Patterns) -> R
 
 /// For each variable below this number, the patterns that it has to do with.
 fn by_variable(alloc: Global, vars: usize, table: &Patterns) -> Result<ByVariable, Memory>
-    requires { AreCalmBelow vars table.now }
+    requires { AreSinkableBelow vars table.now }
     ensures assigning_shape { IfOk result (λ made. AreRows vars (length table.now) made.assigning) }
     ensures naming_shape { IfOk result (λ made. AreRows vars (length table.now) made.naming) }
     ensures assigning { IfOk result (λ made.
@@ -164,8 +161,7 @@ fn push_blocked(
 fn join_var(row: &mut Row, x: usize, rows: &Rows)
     requires shape { AreRows (length rows.now) (length row.old) rows.now }
     requires x { x < length rows.now }
-    ensures row { row.new ≡ joined_rows rows.now (x ∷ []) row.old }
-    ensures len { length row.new ≡ length row.old }
+    ensures { JoinsRows rows.now (x ∷ []) row.old row.new }
 {
     let _changed = row.or_from(&rows.row(x));
 }
@@ -174,8 +170,7 @@ fn join_var(row: &mut Row, x: usize, rows: &Rows)
 fn join_operand(row: &mut Row, operand: Operand, rows: &Rows)
     requires shape { AreRows (length rows.now) (length row.old) rows.now }
     requires below { AllBelow (length rows.now) (operand_vars operand) }
-    ensures row { row.new ≡ joined_rows rows.now (operand_vars operand) row.old }
-    ensures len { length row.new ≡ length row.old }
+    ensures { JoinsRows rows.now (operand_vars operand) row.old row.new }
 {
     match operand {
         Operand::Var(x) => join_var(row, x, rows),
@@ -183,24 +178,11 @@ fn join_operand(row: &mut Row, operand: Operand, rows: &Rows)
     }
 }
 
-/// Joins the rows of the operands to a row.
-fn join_operands(row: &mut Row, operands: &[Operand], rows: &Rows)
-    requires shape { AreRows (length rows.now) (length row.old) rows.now }
-    requires below { AllBelow (length rows.now) (flat_map operand_vars operands.now) }
-    ensures row { row.new ≡ joined_rows rows.now (flat_map operand_vars operands.now) row.old }
-    ensures len { length row.new ≡ length row.old }
-{
-    for operand in operands {
-        join_operand(row, *operand, rows);
-    }
-}
-
 /// Joins the rows of the variables of a right side to a row.
 fn join_rhs(row: &mut Row, rhs: &Rhs, rows: &Rows)
     requires shape { AreRows (length rows.now) (length row.old) rows.now }
     requires below { AllBelow (length rows.now) (rhs_vars rhs.now) }
-    ensures row { row.new ≡ joined_rows rows.now (rhs_vars rhs.now) row.old }
-    ensures len { length row.new ≡ length row.old }
+    ensures { JoinsRows rows.now (rhs_vars rhs.now) row.old row.new }
 {
     match rhs {
         Rhs::Plain(a) => join_operand(row, *a, rows),
@@ -216,8 +198,7 @@ fn join_rhs(row: &mut Row, rhs: &Rhs, rows: &Rows)
 fn join_test(row: &mut Row, test: &Test, rows: &Rows)
     requires shape { AreRows (length rows.now) (length row.old) rows.now }
     requires below { AllBelow (length rows.now) (test_vars test.now) }
-    ensures row { row.new ≡ joined_rows rows.now (test_vars test.now) row.old }
-    ensures len { length row.new ≡ length row.old }
+    ensures { JoinsRows rows.now (test_vars test.now) row.old row.new }
 {
     match test {
         Test::Rel(_, a, b) => {
@@ -226,5 +207,16 @@ fn join_test(row: &mut Row, test: &Test, rows: &Rows)
         }
         Test::Holds(a) => join_operand(row, *a, rows),
         Test::Fails(a) => join_operand(row, *a, rows),
+    }
+}
+
+/// Joins the rows of the operands to a row.
+fn join_operands(row: &mut Row, operands: &[Operand], rows: &Rows)
+    requires shape { AreRows (length rows.now) (length row.old) rows.now }
+    requires below { AllBelow (length rows.now) (flat_map operand_vars operands.now) }
+    ensures { JoinsRows rows.now (flat_map operand_vars operands.now) row.old row.new }
+{
+    for operand in operands {
+        join_operand(row, *operand, rows);
     }
 }

@@ -7,8 +7,8 @@ ghost use Rattle.sink_dead.specs.Skips.{LeadsOn, entered_once, skip_on, skip_ove
 
 use flow_graph::{Edges, Node};
 
-/// The node to which Skips lead from this one: it is no Skip, or its successor is entered by other edges too. `edges` are
-/// those of the nodes.
+/// The node to which Skips lead from this one: it is no Skip, or its successor is entered by other edges too. `edges`
+/// are those of the nodes.
 pub(crate) fn stop_after(nodes: &[Node], edges: &Edges, first: usize) -> usize
     requires edges { edges.now ≡ edges_of nodes.now }
     requires within { AllWithin nodes.now }

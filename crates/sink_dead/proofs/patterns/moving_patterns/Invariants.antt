@@ -3,4 +3,4 @@ use Rattle.sink_dead.proofs.Found.{AreFound}
 use Rattle.sink_dead.proofs.patterns.moving_patterns.Given as goal
 
 abbrev pub invariant-loop-node : goal.invariant-loop-node
-invariant-loop-node l = AreFound l.graph (length l.graph.vars) l.nodes l.node-index l.set.keys
+invariant-loop-node l = AreFound l.graph (length l.graph.vars) l.nodes l.node-index l.found

@@ -8,6 +8,7 @@ use Rattle.flow_graph.specs.ListLaws.{get_right_at}
 use Rattle.sink_dead.specs.LiveRows.{is_dead_at, is_dead_node}
 use Rattle.sink_dead.specs.Pruned.{pruned_from, removed_if}
 use Rattle.sink_dead.proofs.PrunedBy.{pruned_length, removed_next}
+use Rattle.sink_dead.proofs.Edited.{only_nodes_on}
 use Rattle.sink_dead.proofs.pruning.remove_dead.Goals as goal
 
 pub remove_if_dead-requires-clause-node : goal.remove_if_dead-requires-clause-node
@@ -31,9 +32,7 @@ loop-n-preserved c =
     let graph = c.remove_if_dead.ensures in
     let one : suc n ≡ n + 1 = omega arith in
     record {
-      name = ap (λ (g : GraphShape). g.name) graph ∙ inv.name;
-      vars = ap (λ (g : GraphShape). g.vars) graph ∙ inv.vars;
-      received = ap (λ (g : GraphShape). g.received) graph ∙ inv.received;
+      only = only_nodes_on c.args.editor.now.graph c.loop-n.editor.graph c.remove_if_dead.new.editor.graph _ graph inv.only;
       nodes = ap (λ (g : GraphShape). g.nodes) graph
           ∙ ap (change_at n (removed_if (is_dead_node live (Some node)))) inv.nodes
           ∙ removed_next (is_dead_at live nodes) 0 nodes n node (is_dead_node live (Some node)) at (ap (is_dead_node live) (sym at) ∙ ap (is_dead_at live nodes) (omega arith))

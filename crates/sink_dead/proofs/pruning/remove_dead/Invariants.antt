@@ -1,12 +1,11 @@
 use Rattle.std.proofs.Common.{◌≡◌, ◌++◌, drop, take}
 use Rattle.sink_dead.specs.LiveRows.{is_dead_at}
 use Rattle.sink_dead.specs.Pruned.{pruned_from}
+use Rattle.sink_dead.proofs.Edited.{OnlyNodes}
 use Rattle.sink_dead.proofs.pruning.remove_dead.Given as goal
 
 abbrev pub invariant-loop-n : goal.invariant-loop-n
 invariant-loop-n l = record {
-  name : l.editor.graph.name ≡ l.initial.editor.graph.name;
-  vars : l.editor.graph.vars ≡ l.initial.editor.graph.vars;
-  received : l.editor.graph.received ≡ l.initial.editor.graph.received;
+  only : OnlyNodes l.initial.editor.graph l.editor.graph;
   nodes : l.editor.graph.nodes ≡ pruned_from (is_dead_at l.live l.nodes) 0 (take l.n l.nodes) ++ drop l.n l.nodes;
 }

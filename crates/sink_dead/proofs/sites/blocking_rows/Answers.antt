@@ -7,13 +7,13 @@ use Rattle.flow_graph.specs.ListLaws.{some_at}
 use Rattle.path_laws.specs.Paths.{AreRows, has_bit}
 use Rattle.sink_dead.specs.declared.patterns.Pattern.{Pattern}
 use Rattle.sink_dead.specs.Accesses.{blocks_at, blocks_pattern}
-use Rattle.sink_dead.specs.Tables.{AreCalmBelow}
+use Rattle.sink_dead.specs.Tables.{AreSinkableBelow}
 use Rattle.sink_dead.proofs.SiteBits.{blocked_bit}
 use Rattle.sink_dead.proofs.sites.blocking_rows.Goals as goal
 use Rattle.sink_dead.proofs.sites.blocking_rows.Goals.{In_ok-rows}
 
 pub by_variable-requires : goal.by_variable-requires
-by_variable-requires c = subst (λ (l : List (List ℕ)). AreCalmBelow (length l) c.args.table.now) (sym c.vars.ensures) c.requires
+by_variable-requires c = subst (λ (l : List (List ℕ)). AreSinkableBelow (length l) c.args.table.now) (sym c.vars.ensures) c.requires
 
 bits : (c : In_ok-rows) (n k : ℕ) (p : Pattern) → n < length c.args.graph.now.nodes → slice_get c.args.table.now k ≡ Some p → has_bit c.in_ok-rows.rows k n ≡ blocks_at p.var p.rhs c.args.graph.now n
 bits c n k p h at =

@@ -1,0 +1,15 @@
+use Rattle.std.proofs.Common.{rules, sym, subst}
+use Rattle.std.proofs.lemmas.List.Sorted.{IsNonDecreasingBy-from_sort_by_key}
+use Rattle.sink_dead.specs.Tables.{AreOrdered}
+use Rattle.mir_base.specs.Shapes.{AllDiffer}
+use Rattle.sink_dead.proofs.Found.{moved_differ}
+use Rattle.sink_dead.proofs.patterns.in_order.Goals as goal
+
+pub of-requires : goal.of-requires
+of-requires c = moved_differ c.in_ok-patterns.patterns.items c.sort_by_key.new.self.items c.sort_by_key.ensures.permutation (subst AllDiffer (sym c.in_ok-patterns.ensures.all) c.in_ok-patterns.ensures.differ)
+
+pub returns-clause-ordered : goal.returns-clause-ordered
+returns-clause-ordered c = subst AreOrdered (sym c.in_ok-table.ensures) (record {
+  differ = moved_differ c.in_ok-patterns.patterns.items c.sort_by_key.new.self.items c.sort_by_key.ensures.permutation (subst AllDiffer (sym c.in_ok-patterns.ensures.all) c.in_ok-patterns.ensures.differ);
+  in_order = IsNonDecreasingBy-from_sort_by_key (λ p. p.var) c.sort_by_key.new.self.items c.in_ok-sort_by_key.ensures.sorted (λ a r f' called. search rules);
+})
