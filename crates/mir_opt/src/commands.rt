@@ -10,9 +10,9 @@ use crate::{Memory, MoveStage, MoveTrail, Stage, Trail};
 use mir_base::Program;
 use std::alloc::Global;
 
-/// What the passes make of the program: for each unit its graph, what each pass makes of it in turn, and the unit that is
-/// the layout of the last graph. Source and target are the same program. The passes have no limits of their own: it fails
-/// only with `Memory`.
+/// What the passes make of the program: for each unit its graph, what each pass makes of it in turn, and the unit that
+/// is the layout of the last graph. Source and target are the same program. The passes have no limits of their own: it
+/// fails only with `Memory`.
 pub fn optimise(alloc: Global, program: &Program) -> Result<Trail, Memory>
     // The trail of this program: each part is the exact result of its pass, and there is no other such trail.
     ensures source { IfOk result (λ trail. trail.source ≡ program.now) }
@@ -27,8 +27,8 @@ pub fn optimise(alloc: Global, program: &Program) -> Result<Trail, Memory>
     // In each unit no admissible placement evaluates an expression less often on any full path.
     ensures best { IfOk result (λ trail. All MovesBest trail.units) }
 
-    // In each unit each dividing assignment that is reached stays through all passes, with its variable and its operator,
-    // unless its divisor is known and not 0.
+    // In each unit each dividing assignment that is reached stays through all passes, with its variable and its
+    // operator, unless its divisor is known and not 0.
     ensures divisions { IfOk result (λ trail. All DivisionsStay trail.units) }
 {
     let walked = walk(alloc, program, &Stage::Result)?;
@@ -40,8 +40,8 @@ pub fn optimise(alloc: Global, program: &Program) -> Result<Trail, Memory>
 }
 
 /// What code motion alone makes of the program: for each unit its graph, this graph with clean jumps, the steps of code
-/// motion on it, and the unit that is the layout of the last graph. Source and target are the same program. There are no
-/// limits: it fails only with `Memory`.
+/// motion on it, and the unit that is the layout of the last graph. Source and target are the same program. There are
+/// no limits: it fails only with `Memory`.
 pub fn motion(alloc: Global, program: &Program) -> Result<MoveTrail, Memory>
     // The move trail of this program: each part is the exact result of its pass, and there is no other such trail.
     ensures source { IfOk result (λ trail. trail.source ≡ program.now) }
@@ -65,8 +65,8 @@ pub fn motion(alloc: Global, program: &Program) -> Result<MoveTrail, Memory>
 }
 
 /// The program whose units are the layouts of the graphs at a stage. It is the same as the source, unit by unit,
-/// evaluates no more operators, and calls no units but those that the source calls. At each stage the graph of each unit
-/// keeps the unit of the source, as in every trail that `optimise` makes. It fails only with `Memory`.
+/// evaluates no more operators, and calls no units but those that the source calls. At each stage the graph of each
+/// unit keeps the unit of the source, as in every trail that `optimise` makes. It fails only with `Memory`.
 pub fn stage_program(alloc: Global, trail: &Trail, stage: Stage) -> Result<Program, Memory>
     requires { AllKeep graph_at trail.now.source.units trail.now.units }
     ensures laid { IfOk result (λ program. AreLaid graph_at stage trail.now.units program.units) }

@@ -12,13 +12,6 @@ use mir_base::Unit as MirUnit;
 use std::alloc::Global;
 use value_number::number;
 
-/// The graphs of a unit up to code motion.
-#[derive(Drop)]
-pub(crate) struct Front {
-    pub(crate) start: Lowered,
-    pub(crate) values: Valued,
-}
-
 /// Makes the graph of a unit, cleans it, and replaces what is known. It fails only with `Memory`.
 pub(crate) fn make_front(alloc: Global, source: &MirUnit) -> Result<Front, Memory>
     requires { CanLower source.now.body }
@@ -27,13 +20,6 @@ pub(crate) fn make_front(alloc: Global, source: &MirUnit) -> Result<Front, Memor
     let start = lower_clean(alloc, source)?;
     let values = make_values(alloc, &start.cleaned)?;
     Ok(Front { start, values })
-}
-
-/// The graph of a unit, and the same with clean jumps.
-#[derive(Drop)]
-pub(crate) struct Lowered {
-    pub(crate) lowered: Graph,
-    pub(crate) cleaned: Graph,
 }
 
 /// Makes the graph of a unit and cleans it. It fails only with `Memory`.
@@ -45,14 +31,6 @@ pub(crate) fn lower_clean(alloc: Global, source: &MirUnit) -> Result<Lowered, Me
     let cleaned = clean(alloc, &lowered)?;
     let _nodes = lowered.nodes();
     Ok(Lowered { lowered, cleaned })
-}
-
-/// What the passes on values make of a clean graph, one after the other.
-#[derive(Drop)]
-pub(crate) struct Valued {
-    pub(crate) folded: Graph,
-    pub(crate) numbered: Graph,
-    pub(crate) copied: Graph,
 }
 
 /// Folds what is known, numbers values, and replaces copies. It fails only with `Memory`.
@@ -67,4 +45,26 @@ fn make_values(alloc: Global, cleaned: &Graph) -> Result<Valued, Memory>
         numbered,
         copied,
     })
+}
+
+/// The graphs of a unit up to code motion.
+#[derive(Drop)]
+pub(crate) struct Front {
+    pub(crate) start: Lowered,
+    pub(crate) values: Valued,
+}
+
+/// The graph of a unit, and the same with clean jumps.
+#[derive(Drop)]
+pub(crate) struct Lowered {
+    pub(crate) lowered: Graph,
+    pub(crate) cleaned: Graph,
+}
+
+/// What the passes on values make of a clean graph, one after the other.
+#[derive(Drop)]
+pub(crate) struct Valued {
+    pub(crate) folded: Graph,
+    pub(crate) numbered: Graph,
+    pub(crate) copied: Graph,
 }

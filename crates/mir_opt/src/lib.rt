@@ -1,15 +1,15 @@
 //! The order of the passes.
 //!
 //! In goes a program; out comes its trail: what each pass made of each unit, and the target program. `specs/Links.antt`
-//! says when a trail is linked: each part is the exact result of its pass on the part before. `specs/Best.antt` says when
-//! its code motion is the best, `specs/Divisions.antt` that its divisions stay, and `specs/Stages.antt` that each of its
-//! graphs keeps the unit of the source.
+//! says when a trail is linked: each part is the exact result of its pass on the part before. `specs/Best.antt` says
+//! when its code motion is the best, `specs/Divisions.antt` that its divisions stay, and `specs/Stages.antt` that each
+//! of its graphs keeps the unit of the source.
 //!
 //! The theorem that this crate carries is the contract of `optimise`, and that of `motion` alike: the trail is linked
 //! and is the only linked trail of its source, source and target are the same program, unit by unit and as a whole, the
 //! target evaluates no more operators, and in each unit no admissible placement evaluates an expression less often on
-//! any full path than the one that was taken; of `optimise` also that dividing assignments that are reached stay. What is
-//! said of the target holds of the program of each stage, which `stage_program` makes.
+//! any full path than the one that was taken; of `optimise` also that dividing assignments that are reached stay. What
+//! is said of the target holds of the program of each stage, which `stage_program` makes.
 #![tactic(auto)]
 
 mod back;

@@ -1,9 +1,7 @@
 // Code motion on one graph.
 ghost use Rattle.std.specs.Prelude.{length, IfOk};
 ghost use Rattle.flow_graph.specs.Edges.{IsSplit};
-ghost use Rattle.motion_rewrite.specs.Placements.{AreOptimal, CanFlattenBy};
 ghost use Rattle.motion_rewrite.specs.Tables.{AreMovable};
-ghost use Rattle.mir_opt.specs.Links.{IsLazyPlacement};
 ghost use Rattle.mir_opt.specs.Made.{CodeMade, MotionMade};
 
 use crate::Memory;
@@ -65,24 +63,8 @@ fn place_code<R: DownRule>(
     requires movable { AreMovable (length split.now.vars) table.now }
     ensures { IfOk result (CodeMade (R.is_down rule.now) split.now table.now) }
 {
-    let placement = place(alloc, rule, split, table)?;
-    let moved = flatten(alloc, split, table, &placement)?;
-    Ok(Placed { placement, moved })
-}
-
-/// The lazy placement of the expressions of a table.
-fn place<R: DownRule>(
-    alloc: Global,
-    rule: &R,
-    split: &Graph,
-    table: &ExprTable,
-) -> Result<Placement, Memory>
-    requires { IsSplit split.now.nodes }
-    ensures placed { IfOk result (IsLazyPlacement (R.is_down rule.now) split.now table.now) }
-    ensures optimal { IfOk result (AreOptimal split.now table.now (R.is_down rule.now split.now)) }
-    ensures flattens { IfOk result (CanFlattenBy split.now table.now) }
-{
     let edges = Edges::of(alloc, split)?;
     let placement = lazy(alloc, rule, split, &edges, table)?;
-    Ok(placement)
+    let moved = flatten(alloc, split, table, &placement)?;
+    Ok(Placed { placement, moved })
 }

@@ -11,9 +11,9 @@ use flow_graph::Graph;
 use mir_base::Unit as MirUnit;
 use std::alloc::Global;
 
-/// The steps that a command makes of one unit, with a graph at each stage. `linked` says when steps are those of a unit,
-/// and then they are the only ones, where the graphs that are cleaned lead to nodes (`within`); `best` says when their code
-/// motion is the best, and what else the command says of its steps.
+/// The steps that a command makes of one unit, with a graph at each stage. `linked` says when steps are those of a
+/// unit, and then they are the only ones, where the graphs that are cleaned lead to nodes (`within`); `best` says when
+/// their code motion is the best, and what else the command says of its steps.
 pub(crate) trait UnitSteps: Drop {
     /// Names a stage of the command.
     type Stage;

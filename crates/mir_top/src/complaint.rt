@@ -1,5 +1,5 @@
 // The status of each cause, and its line on the error output. Writing it does not allocate.
-ghost use Rattle.std.specs.Prelude.{◌≡◌, ◌++◌, OnOk, OnErr, Some, decimal};
+ghost use Rattle.std.specs.Prelude.{◌≡◌, ◌++◌, OnOk, OnErr, Some};
 ghost use Rattle.std.specs.Io.KnownBytes.{Appends};
 ghost use Rattle.mir_outside.specs.Causes.{HasCause};
 ghost use Rattle.mir_outside.specs.Transfer.{AppendsPart};

@@ -120,17 +120,17 @@ evals 0
 # where ways meet: an equal constant, a different one, and what a call answers
 main: begin
 receive a(val)
+x <- 2 * 2
+if a goto L1
+x <- 4
+y <- 1
+L1: v <- main,(0,int)
+print v
+z <- x + y
+print z
 d <- 0
 if d goto L2
-x <- 4
-if a goto L1
-x <- 2 * 2
-y <- 1
-L1: z <- x + y
 w <- a + d
-v <- main,(0,int)
-print v
-print z
 return w
 L2: q <- a / d
 return q
@@ -233,22 +233,14 @@ wrong inputs: 2 wanted
 # two tests that lead to one place
 main: begin
 receive a(val)
-if a goto OUT
-if ! a goto OUT
-return a
-OUT: print a
-return 0
-end
-$ optimise
-@ 0
-main: begin
-receive a(val)
 if a goto L1
 if ! a goto L1
 return a
 L1: print a
 return 0
 end
+$ optimise
+@ same
 # a jump to the end, and a goto to itself
 main: begin
 receive a(val)
@@ -267,22 +259,14 @@ end
 # a loop whose test stands first
 main: begin
 receive n(val)
-AGAIN: if n <= 0 goto OUT
-print n
-n <- n - 1
-goto AGAIN
-OUT: return n
-end
-$ optimise
-@ 0
-main: begin
-receive n(val)
 L1: if n <= 0 goto L2
 print n
 n <- n - 1
 goto L1
 L2: return n
 end
+$ optimise
+@ same
 # a diamond
 main: begin
 receive a(val)
@@ -382,19 +366,19 @@ return y
 end
 # the same value under another name is computed once, and what only hands it on goes
 main: begin
-receive a(val)
-receive b(val)
-x <- a * b
-y <- a
-z <- y * b
+receive n(val)
+receive m(val)
+x <- n * m
+y <- n
+z <- y * m
 return z
 end
 $ optimise
 @ 0
 main: begin
-receive a(val)
-receive b(val)
-x <- a * b
+receive n(val)
+receive m(val)
+x <- n * m
 return x
 end
 # squares of squares: terms that double with each line
@@ -418,21 +402,19 @@ end
 # what one way alone needs is evaluated on it alone
 main: begin
 receive a(val)
-receive b(val)
-x <- a + b
-if a goto L1
-return b
-L1: return x
+x <- a * 2
+if ! a goto L1
+return x
+L1: return 7
 end
 $ optimise
 @ 0
 main: begin
 receive a(val)
-receive b(val)
-if a goto L1
-return b
-L1: x <- a + b
+if ! a goto L1
+x <- a * 2
 return x
+L1: return 7
 end
 # an expression of its own variable stays
 main: begin
@@ -443,31 +425,4 @@ return i
 end
 $ optimise
 @ same
-# a diamond, one side of which evaluates what comes after it
-main: begin
-receive a(val)
-receive b(val)
-if a goto L1
-print a
-goto L2
-L1: x <- a + b
-print x
-L2: y <- a + b
-print y
-return y
-end
-$ optimise
-@ 0
-main: begin
-receive a(val)
-receive b(val)
-if a goto L2
-print a
-h1 <- a + b
-L1: print h1
-return h1
-L2: h1 <- a + b
-print h1
-goto L1
-end
 ";

@@ -4,14 +4,18 @@ use crate::devices::{
     Devices, NO_FAULT, SMALLEST, SMALLEST_OUTPUT, Seen, call, owned, repeated, sink, source,
     status_of,
 };
+use crate::hostile::Given::{
+    Bytes, Calm, Front, InterruptedRead, InterruptedWrite, Lines, Name, Reads, Text, Units, Writes,
+};
+use crate::hostile::Left::{All, Bad, Line, Output, Part, Refused, Same};
 use mir_outside::{CalmSink, CalmSource, MemSink, StdSink, StdSource};
 use std::alloc::{AllocError, Global};
 use std::io;
 use std::io::{ErrorKind, Read, Write};
 use std::test::Fail;
 
-/// A case: the words, what is given, and what is left.
-type Case = (&'static str, Given, Left);
+/// A case: what is given, and what is left.
+type Case = (Given, Left);
 
 /// What a case is given. Where it has two numbers, it is tried for each number from the one to the other.
 #[derive(Clone, Copy)]
@@ -24,8 +28,8 @@ enum Given {
     Units(usize),
     /// A program that receives a variable with a name of so many bytes.
     Name(usize),
-    /// So many of the first bytes of the diamond.
-    Diamond(u64, u64),
+    /// So many of the first bytes of this text.
+    Front(&'static [u8], u64, u64),
     /// The smallest program, five bytes a call; the source fails at this call.
     Reads(u64, u64),
     /// The smallest program; the output takes a byte a call, and fails at this call.
@@ -50,6 +54,8 @@ enum Left {
     Output(&'static [u8]),
     /// This status, nothing on the output, and this line on the error output.
     Line(u8, &'static [u8]),
+    /// Status 2, nothing on the output, and this line on the error output.
+    Bad(&'static [u8]),
     /// Status 2, nothing on the output, and some line on the error output.
     Refused,
     /// Status 7 with its line, and of this output one byte less than the number of the call that fails.
@@ -58,176 +64,79 @@ enum Left {
     All(u8, &'static [u8], &'static [u8]),
 }
 
-/// The cases.
-const CASES: [Case; 28] = [
-    // Each proper prefix of the diamond, of which the longest lacks the last line feed alone, and the diamond.
-    ("optimise", Given::Diamond(0, 128), Left::Refused),
-    (
-        "optimise",
-        Given::Diamond(129, 130),
-        Left::Output(DIAMOND_OUTPUT),
-    ),
+/// The cases of `optimise`.
+const CASES: [Case; 24] = [
+    // Each proper prefix of a text, of which the longest lacks the last line feed alone, and the text.
+    (Front(ALL_FORMS, 0, 152), Refused),
+    (Front(ALL_FORMS, 153, 154), Output(ALL_FORMS)),
     // As many bytes as a text may have, and one more.
-    (
-        "optimise",
-        Given::Bytes(1_048_576, b'\xff'),
-        Left::Line(2, b"line 1: bad byte\n"),
-    ),
-    (
-        "optimise",
-        Given::Bytes(1_048_576, b'('),
-        Left::Line(2, b"line 1: unexpected\n"),
-    ),
-    (
-        "optimise",
-        Given::Bytes(1_048_576, b' '),
-        Left::Line(2, b"no unit\n"),
-    ),
-    (
-        "optimise",
-        Given::Bytes(1_048_577, b' '),
-        Left::Line(2, TOO_LONG),
-    ),
+    (Bytes(1_048_576, b'\xff'), Bad(b"line 1: bad byte\n")),
+    (Bytes(1_048_576, b'('), Bad(b"line 1: unexpected\n")),
+    (Bytes(1_048_576, b' '), Bad(b"no unit\n")),
+    (Bytes(1_048_577, b' '), Bad(TOO_LONG)),
     // Bytes that no token has, and the same in a comment.
-    (
-        "optimise",
-        Given::Text(b"main: begin\n\x00\nend\n"),
-        Left::Line(2, b"line 2: bad byte\n"),
-    ),
-    (
-        "optimise",
-        Given::Text(b"|| \xff \x00 || ?\nmain: begin\nend\n"),
-        Left::Output(SMALLEST_OUTPUT),
-    ),
+    (Text(b"f: begin\n\x00\n"), Bad(b"line 2: bad byte\n")),
+    (Text(ODD_COMMENT), Output(SMALLEST_OUTPUT)),
     // A text that ends with an arrow of three bytes, and inside of it.
-    (
-        "optimise",
-        Given::Text(b"f: begin\nx \xe2\x86\x90"),
-        Left::Line(2, b"line 2: unexpected\n"),
-    ),
-    (
-        "optimise",
-        Given::Text(b"f: begin\nx \xe2\x86"),
-        Left::Line(2, b"line 2: bad byte\n"),
-    ),
-    (
-        "optimise",
-        Given::Text(b"f: begin\nx \xe2"),
-        Left::Line(2, b"line 2: bad byte\n"),
-    ),
+    (Front(ARROW, 14, 14), Bad(b"line 2: unexpected\n")),
+    (Front(ARROW, 12, 13), Bad(b"line 2: bad byte\n")),
     // As many bytes as a name may have, and one more.
-    ("optimise", Given::Name(64), Left::Same),
-    (
-        "optimise",
-        Given::Name(65),
-        Left::Line(2, b"line 2: long name\n"),
-    ),
+    (Name(64), Same),
+    (Name(65), Bad(b"line 2: long name\n")),
     // One more unit than a program may have.
-    (
-        "optimise",
-        Given::Units(257),
-        Left::Line(2, b"too many units\n"),
-    ),
-    // A loop of one test, and a loop that is entered at two places.
-    ("optimise", Given::Text(SELF_LOOP), Left::Same),
-    (
-        "move",
-        Given::Text(IRREDUCIBLE),
-        Left::Output(IRREDUCIBLE_OUTPUT),
-    ),
-    // A read that fails, and the call after the last one. A trial reads nothing.
-    (
-        "optimise",
-        Given::Reads(1, 5),
-        Left::Line(6, b"read fault\n"),
-    ),
-    (
-        "optimise",
-        Given::Reads(6, 6),
-        Left::Output(SMALLEST_OUTPUT),
-    ),
-    (
-        "trial 0018446744073709551615 1",
-        Given::Reads(1, 1),
-        Left::Output(TRIAL_OUTPUT),
-    ),
+    (Units(257), Bad(b"too many units\n")),
+    // A loop of one test.
+    (Text(SELF_LOOP), Same),
+    // A read that fails, and the call after the last one.
+    (Reads(1, 5), Line(6, b"read fault\n")),
+    (Reads(6, 6), Output(SMALLEST_OUTPUT)),
     // A write that fails, and the call after the last one.
-    (
-        "optimise",
-        Given::Writes(1, 25),
-        Left::Part(SMALLEST_OUTPUT),
-    ),
-    (
-        "optimise",
-        Given::Writes(26, 26),
-        Left::Output(SMALLEST_OUTPUT),
-    ),
-    (
-        "trial 0018446744073709551615 1",
-        Given::Writes(1, 3),
-        Left::Part(TRIAL_OUTPUT),
-    ),
+    (Writes(1, 25), Part(SMALLEST_OUTPUT)),
+    (Writes(26, 26), Output(SMALLEST_OUTPUT)),
     // A fault of the error output changes neither the status nor the output, and cuts the line.
-    ("optimise", Given::Lines(b"", 0, 1), Left::All(2, b"", b"")),
-    (
-        "optimise",
-        Given::Lines(SMALLEST, 0, 1),
-        Left::Output(SMALLEST_OUTPUT),
-    ),
-    (
-        "optimise",
-        Given::Lines(SMALLEST, 11, 2),
-        Left::All(7, b"main: begi", b"writ"),
-    ),
+    (Lines(b"", 0, 1), All(2, b"", b"")),
+    (Lines(SMALLEST, 0, 1), Output(SMALLEST_OUTPUT)),
+    (Lines(SMALLEST, 11, 2), All(7, b"main: begi", b"writ")),
     // A call that a signal interrupts has failed.
-    (
-        "optimise",
-        Given::InterruptedRead,
-        Left::Line(6, b"read fault\n"),
-    ),
-    (
-        "optimise",
-        Given::InterruptedWrite,
-        Left::Line(7, b"write fault\n"),
-    ),
+    (InterruptedRead, Line(6, b"read fault\n")),
+    (InterruptedWrite, Line(7, b"write fault\n")),
     // Devices that never fail.
-    ("optimise", Given::Calm(DIAMOND), Left::Output(b"")),
+    (Calm(ALL_FORMS), Output(b"")),
+];
+
+/// Cases of other commands: a loop that is entered at two places, and a trial, which reads nothing, and whose writes
+/// fail.
+const OTHERS: [(&str, Case); 3] = [
+    ("move", (Text(IRREDUCIBLE), Output(IRREDUCIBLE_OUTPUT))),
+    (TRIAL, (Reads(1, 1), Output(TRIAL_OUTPUT))),
+    (TRIAL, (Writes(1, 3), Part(TRIAL_OUTPUT))),
 ];
 
 /// The line of a text that is too long.
 const TOO_LONG: &[u8] = b"text longer than 1048576 bytes\n";
 
-/// A diamond, one side of which evaluates what comes after it.
-const DIAMOND: &[u8] = b"\
+/// A program with most forms, of which the passes change nothing.
+const ALL_FORMS: &[u8] = b"\
 main: begin
 receive a(val)
-receive b(val)
-if a goto L1
-print a
-goto L2
-L1: x <- a + b
+L1: x <- f,(a,int;-1,int)
 print x
-L2: y <- a + b
-print y
-return y
+if x < 3 goto L1
+return x
+end
+f: begin
+receive b(val)
+receive c(val)
+d <- b / c
+return d
 end
 ";
 
-/// What `optimise` makes of it.
-const DIAMOND_OUTPUT: &[u8] = b"\
-main: begin
-receive a(val)
-receive b(val)
-if a goto L2
-print a
-h1 <- a + b
-L1: print h1
-return h1
-L2: h1 <- a + b
-print h1
-goto L1
-end
-";
+/// A text that ends with an arrow of three bytes.
+const ARROW: &[u8] = b"f: begin\nx \xe2\x86\x90";
+
+/// The smallest program behind a comment.
+const ODD_COMMENT: &[u8] = b"|| \xff \x00 || ?\nmain: begin\nend\n";
 
 /// A loop of one test.
 const SELF_LOOP: &[u8] = b"main: begin\nreceive a(val)\nL1: if a goto L1\nreturn a\nend\n";
@@ -261,8 +170,11 @@ goto L2
 end
 ";
 
-/// The summary of the trial of one unit.
-const TRIAL_OUTPUT: &[u8] = b"\
+/// The trial of one unit.
+pub const TRIAL: &str = "trial 0018446744073709551615 1";
+
+/// Its summary.
+pub const TRIAL_OUTPUT: &[u8] = b"\
 source instructions 147
 result instructions 90
 source evals 194
@@ -274,14 +186,17 @@ printed 14
 #[test]
 fn hostile_calls(rt: HostRuntime) -> Result<(), Fail> {
     for (number, case) in CASES.into_iter().enumerate() {
-        assert!(rt; is_right(rt.alloc(), case)?, "case {number}");
+        assert!(rt; is_right(rt.alloc(), "optimise", case)?, "case {number}");
+    }
+    for (words, case) in OTHERS {
+        assert!(rt; is_right(rt.alloc(), words, case)?, "{words}");
     }
     Ok(())
 }
 
 /// Whether a case leaves what it says, for each of its numbers.
-fn is_right(alloc: Global, case: Case) -> Result<bool, AllocError> {
-    let (words, given, left) = case;
+fn is_right(alloc: Global, words: &str, case: Case) -> Result<bool, AllocError> {
+    let (given, left) = case;
     let (first, last) = given.numbers();
     for number in first..=last {
         let text = given.text(alloc, number)?;
@@ -297,7 +212,7 @@ impl Given {
     /// The first and the last number for which a case is tried.
     fn numbers(self) -> (u64, u64) {
         match self {
-            Given::Diamond(first, last) => (first, last),
+            Given::Front(_, first, last) => (first, last),
             Given::Reads(first, last) => (first, last),
             Given::Writes(first, last) => (first, last),
             _ => (1, 1),
@@ -314,10 +229,7 @@ impl Given {
                 let (start, end) = (b"f: begin\nreceive ", b"(val)\nreturn 0\nend\n");
                 repeated(alloc, start, b"n", bytes, end)
             }
-            Given::Diamond(..) => DIAMOND
-                .get(..number as usize)
-                .unwrap_or(DIAMOND)
-                .to_vec(alloc),
+            Given::Front(text, ..) => text.get(..number as usize).unwrap_or(text).to_vec(alloc),
             Given::Lines(text, ..) => text.to_vec(alloc),
             Given::Calm(text) => text.to_vec(alloc),
             _ => SMALLEST.to_vec(alloc),
@@ -366,6 +278,7 @@ impl Left {
             Left::Same => seen.left(0, text, b""),
             Left::Output(output) => seen.left(0, output, b""),
             Left::Line(status, line) => seen.left(status, b"", line),
+            Left::Bad(line) => seen.left(2, b"", line),
             Left::Refused => seen.left(2, b"", seen.err.written()) && is_line(seen.err.written()),
             Left::Part(output) => {
                 seen.left(7, out, b"write fault\n")
@@ -382,7 +295,8 @@ fn is_line(bytes: &[u8]) -> bool {
     !bytes.is_empty() && bytes.iter().position(|byte| *byte == b'\n') == bytes.len().checked_sub(1)
 }
 
-/// A reader and a writer whose first call a signal interrupts. Each later one succeeds, so that one more try would show.
+/// A reader and a writer whose first call a signal interrupts. Each later one succeeds, so that one more try would
+/// show.
 #[derive(Drop)]
 struct Interrupted {
     tried: bool,
@@ -429,8 +343,8 @@ fn seen_at_interrupted_read(alloc: Global, words: &str) -> Result<Seen, AllocErr
 fn seen_at_interrupted_write(alloc: Global, words: &str, text: &[u8]) -> Result<Seen, AllocError> {
     let words = owned(alloc, words)?;
     let mut source = source(alloc, text, NO_FAULT)?;
-    let out = sink(alloc, 1, 0, 0)?;
     let mut err = sink(alloc, 1, 0, 100)?;
+    let out = sink(alloc, 1, 0, 0)?;
     let mut interrupted = StdSink::new(Interrupted { tried: false });
     let status = status_of(alloc, &words, &mut source, &mut interrupted, &mut err);
     Ok(Seen { status, out, err })

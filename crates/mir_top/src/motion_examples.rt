@@ -6,30 +6,38 @@ pub const MOTION_EXAMPLES: &str = "\
 # an expression that one side of a diamond evaluates
 main: begin
 receive a(val)
-receive b(val)
-if a goto L1
-print a
-goto L2
-L1: x <- a + b
+if ! a goto L1
+x <- a * 3
 print x
-L2: y <- a + b
-print y
+goto L2
+L1: print a
+L2: y <- a * 3
 return y
 end
 $ move
 @ 0
 main: begin
 receive a(val)
-receive b(val)
-if a goto L2
-print a
-h1 <- a + b
-L1: y <- h1
-print y
-return y
-L2: h1 <- a + b
+if ! a goto L2
+h1 <- a * 3
 x <- h1
 print x
+L1: y <- h1
+return y
+L2: print a
+h1 <- a * 3
+goto L1
+end
+$ optimise
+@ 0
+main: begin
+receive a(val)
+if ! a goto L2
+h1 <- a * 3
+print h1
+L1: return h1
+L2: print a
+h1 <- a * 3
 goto L1
 end
 # a loop whose test stands first keeps its expression
@@ -83,25 +91,23 @@ goto L1
 end
 $ move
 @ same
-# a name in use
+# names in use
 main: begin
-receive a(val)
-receive b(val)
-L1: h1 <- a + b
-i <- i + 1
-if i < h1 goto L1
-return i
+receive h1(val)
+h2 <- h1 * h1
+print h2
+h3 <- h1 * h1
+return h3
 end
 $ move
 @ 0
 main: begin
-receive a(val)
-receive b(val)
-h2 <- a + b
-L1: h1 <- h2
-i <- i + 1
-if i < h1 goto L1
-return i
+receive h1(val)
+h4 <- h1 * h1
+h2 <- h4
+print h2
+h3 <- h4
+return h3
 end
 # three expressions before one loop, in the order of their first uses, where two names are taken
 main: begin
@@ -110,9 +116,7 @@ receive h3(val)
 L1: x <- h1 + h3
 y <- h1 * h3
 z <- - h1
-i <- i + 1
-if i < x goto L1
-return i
+if z goto L1
 end
 $ move
 @ 0
@@ -125,9 +129,8 @@ h5 <- - h1
 L1: x <- h2
 y <- h4
 z <- h5
-i <- i + 1
-if i < x goto L1
-return i
+if z goto L1
+return 0
 end
 # an expression that is evaluated once
 main: begin
@@ -142,25 +145,27 @@ $ move
 
 /// A text of a thousand diamonds, each of which evaluates the same expression.
 pub fn diamonds(alloc: Global) -> Result<Vec<u8>, AllocError> {
-    let mut text = b"main: begin\nreceive a(val)\nreceive b(val)\n"
-        .as_slice()
-        .to_vec(alloc)?;
-    for k in 1..1001 {
-        let diamond = format!(in alloc; "if a goto L{k}\nprint a\nL{k}: x <- a + b\nprint x\n")?;
-        text.extend_from_slice(diamond.as_bytes())?;
-    }
-    text.extend_from_slice(b"return x\nend\n")?;
-    Ok(text)
+    let start = b"main: begin\nreceive a(val)\nreceive b(val)\n";
+    with_diamonds(alloc, start, 1, "a + b")
 }
 
 /// The text that `move` makes of it: the first diamond alone evaluates the expression.
 pub fn moved_diamonds(alloc: Global) -> Result<Vec<u8>, AllocError> {
-    let mut text = b"main: begin\nreceive a(val)\nreceive b(val)\n\
-        if a goto L1\nprint a\nL1: h1 <- a + b\nx <- h1\nprint x\n"
-        .as_slice()
-        .to_vec(alloc)?;
-    for k in 2..1001 {
-        let diamond = format!(in alloc; "if a goto L{k}\nprint a\nL{k}: x <- h1\nprint x\n")?;
+    let start = b"main: begin\nreceive a(val)\nreceive b(val)\n\
+        if a goto L1\nprint a\nL1: h1 <- a + b\nx <- h1\nprint x\n";
+    with_diamonds(alloc, start, 2, "h1")
+}
+
+/// A text that begins so, and has the diamonds from this one to the thousandth, which assign the right side.
+fn with_diamonds(
+    alloc: Global,
+    start: &[u8],
+    first: usize,
+    side: &str,
+) -> Result<Vec<u8>, AllocError> {
+    let mut text = start.to_vec(alloc)?;
+    for k in first..1001 {
+        let diamond = format!(in alloc; "if a goto L{k}\nprint a\nL{k}: x <- {side}\nprint x\n")?;
         text.extend_from_slice(diamond.as_bytes())?;
     }
     text.extend_from_slice(b"return x\nend\n")?;

@@ -1,274 +1,112 @@
-// Worked examples of `stages`, byte for byte. `tests.rt` says how an example is written.
+// Worked examples of `stages`, byte for byte.
+use std::alloc::{AllocError, Global};
 
-pub const STAGE_EXAMPLES: &str = "\
-# one round, and each stage is the same
-main: begin
-receive a(val)
-return a
-end
-$ stages
-@ 0
-|| source
-main: begin
-receive a(val)
-return a
-end
-|| lower
-main: begin
-receive a(val)
-return a
-end
-|| clean
-main: begin
-receive a(val)
-return a
-end
-|| fold
-main: begin
-receive a(val)
-return a
-end
-|| number
-main: begin
-receive a(val)
-return a
-end
-|| copies
-main: begin
-receive a(val)
-return a
-end
-|| split
-main: begin
-receive a(val)
-return a
-end
-|| motion
-main: begin
-receive a(val)
-return a
-end
-|| copies after motion
-main: begin
-receive a(val)
-return a
-end
-|| round 1
-main: begin
-receive a(val)
-return a
-end
-|| result
-main: begin
-receive a(val)
-return a
-end
-# three rounds of one unit, and one of the other, which shows it in each
-main: begin
-receive a(val)
-x <- a * 2
-y <- x + 1
-if a goto L
-return a
-L: z <- f,(y,int)
-return z
-end
-f: begin
-receive b(val)
-c <- b
-return c
-end
-$ stages
-@ 0
-|| source
+/// An example: a text, and what is written of it in three parts, each the titles of some stages and the program at each
+/// of them.
+type StageExample = (&'static str, [(&'static str, &'static str); 3]);
+
+/// The smallest program, which is the same from the first stage on; a copy, which two stages remove; and three rounds
+/// of one unit, and one of the other, which shows it in each.
+pub const STAGE_EXAMPLES: [StageExample; 3] = [
+    (
+        "f: begin\nL: end\n",
+        [
+            ("source", "f: begin\nend\n"),
+            (THROUGH_MOTION, "f: begin\nreturn 0\nend\n"),
+            ("round 1, result", "f: begin\nreturn 0\nend\n"),
+        ],
+    ),
+    (
+        COPY,
+        [
+            ("source, lower, clean, fold, number", COPY),
+            (
+                FROM_COPIES,
+                "f: begin\nreceive b(val)\nc <- b\nreturn b\nend\n",
+            ),
+            (
+                "round 1, round 2, result",
+                "f: begin\nreceive b(val)\nreturn b\nend\n",
+            ),
+        ],
+    ),
+    (
+        CHAIN,
+        [
+            (BEFORE_ROUNDS, CHAIN),
+            ("round 1", CHAIN_AFTER_ONE),
+            ("round 2, round 3, result", CHAIN_AFTER_TWO),
+        ],
+    ),
+];
+
+/// The stages from the first after the source to the last before the rounds.
+const THROUGH_MOTION: &str =
+    "lower, clean, fold, number, copies, split, motion, copies after motion";
+
+/// Those from copies on.
+const FROM_COPIES: &str = "copies, split, motion, copies after motion";
+
+/// All before the rounds.
+const BEFORE_ROUNDS: &str =
+    "source, lower, clean, fold, number, copies, split, motion, copies after motion";
+
+/// A copy.
+const COPY: &str = "f: begin\nreceive b(val)\nc <- b\nreturn c\nend\n";
+
+/// A sum of a product, of which one way alone has need.
+const CHAIN: &str = "\
 main: begin
 receive a(val)
 x <- a * 2
 y <- x + 1
 if a goto L1
 return a
-L1: z <- f,(y,int)
-return z
+L1: return y
 end
 f: begin
-receive b(val)
-c <- b
-return c
+return 1
 end
-|| lower
-main: begin
-receive a(val)
-x <- a * 2
-y <- x + 1
-if a goto L1
-return a
-L1: z <- f,(y,int)
-return z
-end
-f: begin
-receive b(val)
-c <- b
-return c
-end
-|| clean
-main: begin
-receive a(val)
-x <- a * 2
-y <- x + 1
-if a goto L1
-return a
-L1: z <- f,(y,int)
-return z
-end
-f: begin
-receive b(val)
-c <- b
-return c
-end
-|| fold
-main: begin
-receive a(val)
-x <- a * 2
-y <- x + 1
-if a goto L1
-return a
-L1: z <- f,(y,int)
-return z
-end
-f: begin
-receive b(val)
-c <- b
-return c
-end
-|| number
-main: begin
-receive a(val)
-x <- a * 2
-y <- x + 1
-if a goto L1
-return a
-L1: z <- f,(y,int)
-return z
-end
-f: begin
-receive b(val)
-c <- b
-return c
-end
-|| copies
-main: begin
-receive a(val)
-x <- a * 2
-y <- x + 1
-if a goto L1
-return a
-L1: z <- f,(y,int)
-return z
-end
-f: begin
-receive b(val)
-c <- b
-return b
-end
-|| split
-main: begin
-receive a(val)
-x <- a * 2
-y <- x + 1
-if a goto L1
-return a
-L1: z <- f,(y,int)
-return z
-end
-f: begin
-receive b(val)
-c <- b
-return b
-end
-|| motion
-main: begin
-receive a(val)
-x <- a * 2
-y <- x + 1
-if a goto L1
-return a
-L1: z <- f,(y,int)
-return z
-end
-f: begin
-receive b(val)
-c <- b
-return b
-end
-|| copies after motion
-main: begin
-receive a(val)
-x <- a * 2
-y <- x + 1
-if a goto L1
-return a
-L1: z <- f,(y,int)
-return z
-end
-f: begin
-receive b(val)
-c <- b
-return b
-end
-|| round 1
+";
+
+/// The same after one round: the sum has sunk.
+const CHAIN_AFTER_ONE: &str = "\
 main: begin
 receive a(val)
 x <- a * 2
 if a goto L1
 return a
 L1: y <- x + 1
-z <- f,(y,int)
-return z
+return y
 end
 f: begin
-receive b(val)
-return b
-end
-|| round 2
-main: begin
-receive a(val)
-if a goto L1
-return a
-L1: x <- a * 2
-y <- x + 1
-z <- f,(y,int)
-return z
-end
-f: begin
-receive b(val)
-return b
-end
-|| round 3
-main: begin
-receive a(val)
-if a goto L1
-return a
-L1: x <- a * 2
-y <- x + 1
-z <- f,(y,int)
-return z
-end
-f: begin
-receive b(val)
-return b
-end
-|| result
-main: begin
-receive a(val)
-if a goto L1
-return a
-L1: x <- a * 2
-y <- x + 1
-z <- f,(y,int)
-return z
-end
-f: begin
-receive b(val)
-return b
+return 1
 end
 ";
+
+/// The same after two: so has the product.
+const CHAIN_AFTER_TWO: &str = "\
+main: begin
+receive a(val)
+if a goto L1
+return a
+L1: x <- a * 2
+y <- x + 1
+return y
+end
+f: begin
+return 1
+end
+";
+
+/// What is written in these parts.
+pub fn stages_written(alloc: Global, parts: [(&str, &str); 3]) -> Result<Vec<u8>, AllocError> {
+    let mut text = Vec::new(alloc);
+    for (titles, program) in parts {
+        for title in titles.split(", ") {
+            let stage = format!(in alloc; "|| {title}\n{program}")?;
+            text.extend_from_slice(stage.as_bytes())?;
+        }
+    }
+    Ok(text)
+}

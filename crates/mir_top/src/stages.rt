@@ -1,5 +1,5 @@
 // The texts of the stages.
-ghost use Rattle.std.specs.Prelude.{◌≡◌, ◌++◌, codes, IfOk, OnOk};
+ghost use Rattle.std.specs.Prelude.{◌++◌, codes, IfOk, OnOk};
 ghost use Rattle.mir_base.specs.Appending.{AppendsOnOk};
 ghost use Rattle.mir_base.specs.Shapes.{IsProgram};
 ghost use Rattle.mir_base.specs.Text.{canonical_text};

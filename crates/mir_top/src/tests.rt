@@ -1,10 +1,11 @@
 // Worked examples, byte for byte, and calls whose memory runs out.
 use crate::devices::{NO_FAULT, call, repeated};
 use crate::examples::EXAMPLES;
+use crate::hostile::{TRIAL, TRIAL_OUTPUT};
 use crate::motion_examples::{MOTION_EXAMPLES, diamonds, moved_diamonds};
 use crate::refusals::{OTHER_WORDS, REFUSALS};
 use crate::run_examples::RUN_EXAMPLES;
-use crate::stage_examples::STAGE_EXAMPLES;
+use crate::stage_examples::{STAGE_EXAMPLES, stages_written};
 use std::alloc::{AllocError, Global};
 use std::process::Abort;
 use std::test::Fail;
@@ -67,14 +68,21 @@ fn leaves(
 /// Programs and texts, each with the calls that show what becomes of them.
 #[test]
 fn worked_examples(rt: HostRuntime) -> Result<(), Fail> {
-    for examples in [
-        EXAMPLES,
-        RUN_EXAMPLES,
-        MOTION_EXAMPLES,
-        STAGE_EXAMPLES,
-        REFUSALS,
-    ] {
+    for examples in [EXAMPLES, RUN_EXAMPLES, MOTION_EXAMPLES, REFUSALS] {
         assert_eq!(rt; first_wrong(rt.alloc(), examples)?, None);
+    }
+    Ok(())
+}
+
+/// The programs of the stages.
+#[test]
+fn stages_of_programs(rt: HostRuntime) -> Result<(), Fail> {
+    for (text, parts) in STAGE_EXAMPLES {
+        let written = stages_written(rt.alloc(), parts)?;
+        assert!(rt;
+            leaves(rt.alloc(), "stages", text.as_bytes(), 0, &written)?,
+            "{text}"
+        );
     }
     Ok(())
 }
@@ -129,14 +137,26 @@ fn memory_that_is_refused(rt: HostRuntime) {
     let text = b"main: begin\nreceive a(val)\nif a goto L\nx <- 1\nL: goto M\nM: print x\nend\n";
     let cleaned =
         b"main: begin\nreceive a(val)\nif a goto L1\nx <- 1\nL1: print x\nreturn 0\nend\n";
-    let outputs: [(&str, &[u8]); 3] = [
+    let outputs: [(&str, &[u8]); 4] = [
         ("optimise", cleaned),
         ("move", cleaned),
         ("run 9 0", b"1\nresult 0\nevals 0\n"),
+        (TRIAL, TRIAL_OUTPUT),
     ];
     for (words, output) in outputs {
-        if let Ok(seen) = call(rt.alloc(), words, text, NO_FAULT) {
-            assert!(rt; seen.left(0, output, b"") || seen.left(8, b"", b"out of memory\n"));
+        assert!(rt; leaves_or_refuses(rt.alloc(), words, text, output));
+    }
+    for (text, parts) in STAGE_EXAMPLES {
+        if let Ok(output) = stages_written(rt.alloc(), parts) {
+            assert!(rt; leaves_or_refuses(rt.alloc(), "stages", text.as_bytes(), &output));
         }
+    }
+}
+
+/// Whether a call leaves this output or tells that memory ran out, where it comes to the call.
+fn leaves_or_refuses(alloc: Global, words: &str, text: &[u8], output: &[u8]) -> bool {
+    match call(alloc, words, text, NO_FAULT) {
+        Ok(seen) => seen.left(0, output, b"") || seen.left(8, b"", b"out of memory\n"),
+        Err(_) => true,
     }
 }

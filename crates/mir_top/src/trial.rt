@@ -1,5 +1,5 @@
 // The summary of a trial.
-ghost use Rattle.std.specs.Prelude.{◌≡◌, ◌≤◌, ℕ, length, IfOk};
+ghost use Rattle.std.specs.Prelude.{◌≡◌, ◌≤◌, length, IfOk};
 ghost use Rattle.mir_base.specs.Appending.{AppendsOnOk};
 ghost use Rattle.mir_base.specs.Limits.{most_units};
 ghost use Rattle.mir_base.specs.Runs.{inputs_of};
@@ -28,8 +28,8 @@ pub fn trial(alloc: Global, program: &Program) -> Result<Vec<u8>, Memory>
     Ok(output)
 }
 
-/// The summary of a trail. Neither run has more frames than the program has units, since each unit calls units of higher
-/// numbers alone, and the target's units call no others.
+/// The summary of a trail. Neither run has more frames than the program has units, since each unit calls units of
+/// higher numbers alone, and the target's units call no others.
 fn summary_of(alloc: Global, trail: &Trail) -> Result<Vec<u8>, Memory>
     requires source { CanBeTried trail.now.source }
     requires keeps { KeepsProgram trail.now.source trail.now.target }

@@ -1,5 +1,5 @@
 // From the words and the source to the output.
-ghost use Rattle.std.specs.Prelude.{◌≡◌, ◌+◌, IfOk, IfErr, IsTrue, Some};
+ghost use Rattle.std.specs.Prelude.{◌≡◌, ◌+◌, IfOk, IfErr, IfNone, IfSome, IsTrue, Some};
 ghost use Rattle.mir_base.specs.Limits.{most_bytes};
 ghost use Rattle.mir_outside.specs.Transfer.{TakesAtMost};
 ghost use Rattle.mir_top.specs.Calls.{IsSubject, MakesOutput, Prevents};
@@ -58,46 +58,38 @@ fn subject<S: Source>(
     ensures prevented { IfErr result (Prevents (word_bytes words.now)
         (stream_of S.left S.faults source.old source.new)) }
 {
-    match command {
-        Command::Optimise => program_of_text(alloc, command, words, source),
-        Command::Stages => program_of_text(alloc, command, words, source),
-        Command::Move => program_of_text(alloc, command, words, source),
-        Command::Run(_) => program_of_text(alloc, command, words, source),
-        Command::Trial(number, units) => match trial_program(alloc, number, units) {
+    match trial_numbers(command) {
+        Some((number, units)) => match trial_program(alloc, number, units) {
             Ok(program) => Ok(program),
             Err(refusal) => Err(Cause::Making(RunFault::Memory(refusal))),
         },
+        None => {
+            let text = match read_all(alloc, source, MOST_BYTES) {
+                Ok(text) => text,
+                Err(fault) => return Err(Cause::Reading(fault)),
+            };
+            let raw = match read_text(alloc, &text) {
+                Ok(raw) => raw,
+                Err(fault) => return Err(Cause::Text(fault)),
+            };
+            match check(alloc, &raw) {
+                Ok(program) => Ok(program),
+                Err(fault) => Err(Cause::Program(fault)),
+            }
+        }
     }
 }
 
-/// The program of the text that the source gives. The command of these words is one that reads the text.
-fn program_of_text<S: Source>(
-    alloc: Global,
-    command: Command,
-    words: &[String],
-    source: &mut S,
-) -> Result<Program, Cause>
-    requires asked { command_of (word_bytes words.now) ≡ Some command }
-    requires reads { IsTrue (reads_text command) }
-    ensures most { TakesAtMost (S.left source.old) (S.left source.new) (most_bytes + 1) }
-    ensures unread { ¬ Reads (word_bytes words.now) →
-        Untouched (stream_of S.left S.faults source.old source.new) }
-    ensures subject { IfOk result (IsSubject (word_bytes words.now)
-        (stream_of S.left S.faults source.old source.new) command) }
-    ensures needs { IfOk result (Needs command) }
-    ensures prevented { IfErr result (Prevents (word_bytes words.now)
-        (stream_of S.left S.faults source.old source.new)) }
+/// The numbers of a trial; each other command reads the text.
+fn trial_numbers(command: Command) -> Option<(u64, usize)>
+    ensures trial { IfSome result (λ numbers. command ≡ Command.Trial numbers.0 numbers.1) }
+    ensures text { IfNone result (IsTrue (reads_text command)) }
 {
-    let text = match read_all(alloc, source, MOST_BYTES) {
-        Ok(text) => text,
-        Err(fault) => return Err(Cause::Reading(fault)),
-    };
-    let raw = match read_text(alloc, &text) {
-        Ok(raw) => raw,
-        Err(fault) => return Err(Cause::Text(fault)),
-    };
-    match check(alloc, &raw) {
-        Ok(program) => Ok(program),
-        Err(fault) => Err(Cause::Program(fault)),
+    match command {
+        Command::Optimise => None,
+        Command::Stages => None,
+        Command::Move => None,
+        Command::Run(_) => None,
+        Command::Trial(number, units) => Some((number, units)),
     }
 }

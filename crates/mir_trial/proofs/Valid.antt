@@ -1,16 +1,16 @@
 -- The trial program is valid, its units are short, and each calls the next one alone.
-use Rattle.std.proofs.Common.{◌≡◌, ◌<◌, ◌≤◌, ◌+◌, ◌*◌, ◌/◌, ◌^◌, ◌==◌, ℕ, zero, suc, Bool, true, false, cond, List, [], ◌∷◌, ◌++◌, length, map, flat_map, slice_get, Option, Some, None, if◌then◌else◌, refl, sym, ◌∙◌, ap, subst, arith, length-append}
+use Rattle.std.proofs.Common.{◌≡◌, ◌<◌, ◌≤◌, ◌+◌, ◌*◌, ◌/◌, ◌^◌, ◌==◌, ℕ, zero, suc, Bool, true, false, List, [], ◌∷◌, ◌++◌, length, map, flat_map, slice_get, Option, Some, None, if◌then◌else◌, refl, sym, ◌∙◌, ap, subst, arith, length-append}
 use Rattle.std.proofs.lemmas.Bool.Decides.{nat_tests}
 use Rattle.std.proofs.lemmas.Nat.{mod_below}
-use Rattle.std.proofs.lemmas.List.{append-nil, length-map}
-use Rattle.std.proofs.Common.{append_assoc}
+use Rattle.std.proofs.lemmas.List.{length-map}
 use Rattle.mir_base.specs.declared.instructions.Inst.{Inst}
 use Rattle.mir_base.specs.declared.instructions.Inst.TheVariants.{Receive, Assign, Goto, If, Call, Print, Return}
 use Rattle.mir_base.specs.declared.instructions.Operand.TheVariants.{Var}
 use Rattle.mir_base.specs.Limits.{most_units}
 use Rattle.mir_base.specs.Shapes.{UnitShape, AllBelow, AllDiffer, inst_vars, receives_in, body_or_empty, body_at, names_of, InstFits, BodyFits, IsProgram}
 use Rattle.mir_base.specs.BelowLaws.{all_below_append, all_below_left, all_below_right}
-use Rattle.flow_graph.specs.Numbering.{is_in, position, renamed, renamed_operand, seen_after, seen_in}
+use Rattle.flow_graph.specs.Numbering.{position, renamed, renamed_operand, seen_in}
+use Rattle.flow_graph.specs.NumberingLaws.{seen_grows}
 use Rattle.mir_sim.specs.Calls.{CallsHigher}
 use Rattle.mir_trial.specs.Draws.{next, drawn}
 use Rattle.mir_trial.specs.Trial.{variable, Group, plain_group, branch_group, loop_group, print_group, group_of, group, groups, call_of, body_of, name_of, unit_of, units_from, trial_program}
@@ -181,19 +181,10 @@ two_receives j last z = ap (λ (n : ℕ). suc (suc n)) (inner_receives _ (suc j)
 unit_long : (j : ℕ) (last : Bool) (z : ℕ) → length (unit_of j last z).body ≡ length (body_of j last z)
 unit_long j last z = length-map (body_of j last z) (renamed (to_of j last z))
 
--- the list of variables grows at its end alone
-seen_grown : (seen xs : List ℕ) → (more : List ℕ) × (seen_after seen xs ≡ seen ++ more)
-seen_grown seen [] = ([], sym (append-nil seen))
-seen_grown seen (x ∷ xs) = chosen (is_in x seen) (seen_grown seen xs) (seen_grown (seen ++ x ∷ []) xs)
-  where
-    chosen : (b : Bool) → (more : List ℕ) × (seen_after seen xs ≡ seen ++ more) → (more : List ℕ) × (seen_after (seen ++ x ∷ []) xs ≡ (seen ++ x ∷ []) ++ more) → (more : List ℕ) × (cond b (seen_after seen xs) (seen_after (seen ++ x ∷ []) xs) ≡ seen ++ more)
-    chosen true p q = p
-    chosen false p q = (x ∷ q.0, q.1 ∙ append_assoc seen (x ∷ []) q.0)
-
 -- the parameters keep their numbers
 parameters : (j : ℕ) (last : Bool) (z : ℕ) → (to_of j last z 0 ≡ 0) × (to_of j last z 1 ≡ 1)
 parameters j last z =
-    let more = seen_grown (0 ∷ 1 ∷ []) (flat_map inst_vars (rest_of j last z)) in
+    let more = seen_grows (0 ∷ 1 ∷ []) (flat_map inst_vars (rest_of j last z)) in
     (ap (λ (seen : List ℕ). position seen 0) more.1, ap (λ (seen : List ℕ). position seen 1) more.1)
 
 -- ---- the units of the program

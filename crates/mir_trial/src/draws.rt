@@ -1,5 +1,5 @@
 // The numbers that are drawn.
-ghost use Rattle.std.specs.Prelude.{◌≡◌, ◌+◌, ◌<◌, ◌^◌};
+ghost use Rattle.std.specs.Prelude.{◌≡◌, ◌<◌};
 ghost use Rattle.mir_trial.specs.Draws.{drawn, next};
 
 /// The state that the numbers are drawn from.

@@ -1,5 +1,5 @@
 // Groups of instructions.
-ghost use Rattle.std.specs.Prelude.{◌≡◌, ◌+◌, ◌*◌, ◌<◌, ◌≤◌, ◌++◌, length, OnOk};
+ghost use Rattle.std.specs.Prelude.{◌≡◌, ◌+◌, ◌<◌, ◌++◌, length, OnOk};
 ghost use Rattle.mir_trial.specs.Trial.{branch_group, group, group_of, groups, loop_group, operation, operator_of, plain_group, print_group, parameter, variable, sum};
 ghost use Rattle.mir_trial.specs.Draws.{next};
 

@@ -6,14 +6,14 @@ use Rattle.mir_opt.proofs.commands.optimise.Goals as goal
 pub returns-clause-linked : goal.returns-clause-linked
 returns-clause-linked c = walked_linked c.in_ok-walked.ensures
 
-pub returns-clause-only : goal.returns-clause-only
-returns-clause-only c = λ other. walked_only c.in_ok-walked.ensures {Trail = Trail} (λ source units targets. record { source = source; units = units; target = record { units = targets } }) unit_is_one other.source other.units other.target.units
-
-pub returns-clause-stages : goal.returns-clause-stages
-returns-clause-stages c = walked_keeps c.in_ok-walked.ensures
-
 pub returns-clause-best : goal.returns-clause-best
 returns-clause-best c = λ n other lt. (walked_best c.in_ok-walked.ensures n other lt).moves
 
 pub returns-clause-divisions : goal.returns-clause-divisions
 returns-clause-divisions c = λ n other lt. (walked_best c.in_ok-walked.ensures n other lt).divisions
+
+pub returns-clause-only : goal.returns-clause-only
+returns-clause-only c = λ other. walked_only c.in_ok-walked.ensures {Trail = Trail} (λ source units targets. record { source = source; units = units; target = record { units = targets } }) unit_is_one other.source other.units other.target.units
+
+pub returns-clause-stages : goal.returns-clause-stages
+returns-clause-stages c = walked_keeps c.in_ok-walked.ensures

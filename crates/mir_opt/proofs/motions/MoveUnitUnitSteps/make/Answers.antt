@@ -19,12 +19,6 @@ returns c =
     record {
       linked = record { start = made.start; motion = c.in_ok-code.ensures.motion; sweeps = c.in_ok-swept.ensures.clean };
       best = c.in_ok-code.ensures.best;
-      keeps = elim [
-        | Lower ↦ keep 0 source (omega arith)
-        | Clean ↦ keep 1 source (omega arith)
-        | Split ↦ keep 2 source (omega arith)
-        | Motion ↦ keep 3 source (omega arith)
-        | Result ↦ keep 4 source (omega arith)
-      ];
+      keeps = elim [ Lower ↦ keep 0 source (omega arith) | Clean ↦ keep 1 source (omega arith) | Split ↦ keep 2 source (omega arith) | Motion ↦ keep 3 source (omega arith) | Result ↦ keep 4 source (omega arith) ];
       within = (made.within, subst AllWithin c.nodes-nodes.ensures.value (λ m slot s edge. (c.nodes-nodes.ensures.graph.can.succs m slot s edge).1));
     }
