@@ -1,3 +1,4 @@
 pub mod Ladder
+pub mod Levels
 pub mod Slope
 pub mod Squares

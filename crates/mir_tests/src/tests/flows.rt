@@ -1,8 +1,7 @@
 // Flows that count their own pushes: on a chain of joins, down a line, and on the graph of a loop.
-ghost use Rattle.std.specs.Prelude.{◌≡◌, ◌<◌, ◌-◌, ◌+◌, false, nat_eq, if◌then◌else◌, IfOk, length};
-ghost use Rattle.fix_solve.specs.Net.{Net};
-ghost use Rattle.mir_tests.specs.Ladder.{Under, ladder, ladder_laws, level, level_laws, level_size};
-ghost use Rattle.mir_tests.specs.Slope.{slope, slope_laws};
+ghost use Rattle.std.specs.Prelude.{◌≡◌, ◌<◌, ◌-◌, ◌+◌, false, IfOk, length};
+ghost use Rattle.mir_tests.specs.Ladder.{Under, level, level_laws, level_size};
+ghost use Rattle.mir_tests.specs.Levels.{levels, levels_laws};
 ghost use Rattle.mir_tests.specs.Squares.{EachImplies, size_of_three, squares, squares_laws, three_laws, trues_of};
 
 use fix_solve::{Flow, Lattice, Memory, Steps, Work, solve};
@@ -44,42 +43,53 @@ impl Lattice for Level {
     ghost laws = { level_laws };
 }
 
-/// Levels that run along a chain of joins, from the first on: each join begins with a lower one than that before it.
+/// Levels that run down a line of nodes from the last one, which begins with the highest; or along a chain of joins,
+/// from the first on, where each join begins with a lower one than that before it.
 #[derive(Drop)]
-struct Ladder<L: Ledger> {
-    joins: usize,
+struct Levels<L: Ledger> {
+    is_line: bool,
+    length: usize,
     pushes: Cell<u64>,
     ledger: PhantomData<L>,
 }
 
-impl<L: Ledger> Flow for Ladder<L> {
+impl<L: Ledger> Flow for Levels<L> {
     type Value = Level;
 
     type Ledger = L;
 
-    ghost valid = { λ l. l.joins < 256 };
+    ghost valid = { λ l. l.length < 256 };
 
-    ghost net = { λ l. ladder l.joins };
+    ghost net = { λ l. levels l.is_line l.length };
 
     fn nodes(&self) -> usize {
-        2 * self.joins + 1
+        self.edges() + 1
     }
 
     fn edges(&self) -> usize {
-        2 * self.joins
+        if self.is_line {
+            self.length
+        } else {
+            2 * self.length
+        }
     }
 
     fn edge(&self, number: usize) -> (usize, usize) {
-        if number < self.joins {
-            (number, self.joins + 1 + number)
+        if self.is_line {
+            (number + 1, number)
+        } else if number < self.length {
+            (number, self.length + 1 + number)
         } else {
-            (number + 1, number - self.joins + 1)
+            (number + 1, number - self.length + 1)
         }
     }
 
     fn out(&self, node: usize) -> (usize, usize) {
-        let start = if self.joins < node { node - 1 } else { node };
-        let stop = if node < self.joins { node + 1 } else { node };
+        if self.is_line {
+            return (node.saturating_sub(1), node);
+        }
+        let start = if self.length < node { node - 1 } else { node };
+        let stop = if node < self.length { node + 1 } else { node };
         (start, stop)
     }
 
@@ -88,8 +98,14 @@ impl<L: Ledger> Flow for Ladder<L> {
     }
 
     fn first(&self, _alloc: Global, node: usize) -> Result<Level, Memory> {
-        let level = self.joins.saturating_sub(node) as u64;
-        Ok(Level { level })
+        let level = if self.is_line {
+            node
+        } else {
+            self.length.saturating_sub(node)
+        };
+        Ok(Level {
+            level: level as u64,
+        })
     }
 
     fn push(
@@ -109,69 +125,7 @@ impl<L: Ledger> Flow for Ladder<L> {
         false
     }
 
-    ghost laws = { λ l v. ladder_laws l.joins v };
-}
-
-/// Levels that run down a line of nodes from the last one, which begins with the highest.
-#[derive(Drop)]
-struct Slope<L: Ledger> {
-    edges: usize,
-    pushes: Cell<u64>,
-    ledger: PhantomData<L>,
-}
-
-impl<L: Ledger> Flow for Slope<L> {
-    type Value = Level;
-
-    type Ledger = L;
-
-    ghost valid = { λ s. s.edges < 256 };
-
-    ghost net = { λ s. slope s.edges };
-
-    fn nodes(&self) -> usize {
-        self.edges + 1
-    }
-
-    fn edges(&self) -> usize {
-        self.edges
-    }
-
-    fn edge(&self, number: usize) -> (usize, usize) {
-        (number + 1, number)
-    }
-
-    fn out(&self, node: usize) -> (usize, usize) {
-        (node.saturating_sub(1), node)
-    }
-
-    fn height(&self) -> u64 {
-        255
-    }
-
-    fn first(&self, _alloc: Global, node: usize) -> Result<Level, Memory> {
-        let level = node as u64;
-        Ok(Level { level })
-    }
-
-    fn push(
-        &self,
-        _number: usize,
-        _target: usize,
-        from: &Level,
-        into: &mut Level,
-        steps: &mut Steps<L>,
-    ) -> bool {
-        count(&self.pushes, steps);
-        into.join_from(from)
-    }
-
-    fn push_self(&self, _number: usize, _value: &mut Level, steps: &mut Steps<L>) -> bool {
-        count(&self.pushes, steps);
-        false
-    }
-
-    ghost laws = { λ s v. slope_laws s.edges v };
+    ghost laws = { λ l v. levels_laws l.is_line l.length v };
 }
 
 /// Three truth values.
@@ -183,7 +137,6 @@ struct Marks {
 }
 
 impl Model for Marks {
-    ghost use Rattle.mir_tests.specs.Slope.{slope, slope_laws};
     ghost use Rattle.mir_tests.specs.Squares.{Three};
 
     ghost Value = { Three };
@@ -321,15 +274,21 @@ fn solved<F: Flow>(alloc: Global, flow: &F, blank: Blank) -> Result<Work<F::Valu
     Ok(work)
 }
 
-/// How many pushes solve the chain of joins.
-fn climbed<L: Ledger>(alloc: Global, joins: usize, blank: Blank) -> Result<u64, Memory>
-    requires few { joins < 256 }
+/// How many pushes solve the line or the chain of joins.
+fn pushes_of<L: Ledger>(
+    alloc: Global,
+    is_line: bool,
+    length: usize,
+    blank: Blank,
+) -> Result<u64, Memory>
+    requires few { length < 256 }
     requires name { blank.name ≡ L.name }
     requires parts { blank.parts ≡ L.parts }
     requires some { 0 < blank.parts }
 {
-    let flow = Ladder {
-        joins,
+    let flow = Levels {
+        is_line,
+        length,
         pushes: Cell::new(0),
         ledger: PhantomData::<L>,
     };
@@ -337,33 +296,16 @@ fn climbed<L: Ledger>(alloc: Global, joins: usize, blank: Blank) -> Result<u64, 
     Ok(flow.pushes.get())
 }
 
-/// Each edge is pushed along once, although half of the edges lead down.
+/// Each edge is pushed along once: of the chain, of which half of the edges lead down, and of the line, of which all
+/// do; in the order of the numbers that would be 20,100 pushes.
 #[test]
-fn a_chain_of_joins_is_pushed_once(rt: HostRuntime) -> Result<(), Fail> {
-    assert_eq!(rt; climbed::<Brand>(rt.alloc(), 200, Blank::new(1))?, 400);
-    Ok(())
-}
-
-/// How many pushes solve the line.
-fn descended<L: Ledger>(alloc: Global, edges: usize, blank: Blank) -> Result<u64, Memory>
-    requires few { edges < 256 }
-    requires name { blank.name ≡ L.name }
-    requires parts { blank.parts ≡ L.parts }
-    requires some { 0 < blank.parts }
-{
-    let flow = Slope {
-        edges,
-        pushes: Cell::new(0),
-        ledger: PhantomData::<L>,
-    };
-    let _work = solved(alloc, &flow, blank)?;
-    Ok(flow.pushes.get())
-}
-
-/// Each edge is pushed along once, where all edges lead down; in the order of the numbers it would be 20,100 pushes.
-#[test]
-fn a_line_that_leads_down_is_pushed_once(rt: HostRuntime) -> Result<(), Fail> {
-    assert_eq!(rt; descended::<Brand>(rt.alloc(), 200, Blank::new(1))?, 200);
+fn each_edge_is_pushed_along_once(rt: HostRuntime) -> Result<(), Fail> {
+    for (is_line, pushes) in [(false, 400), (true, 200)] {
+        assert_eq!(rt;
+            pushes_of::<Brand>(rt.alloc(), is_line, 200, Blank::new(1))?,
+            pushes
+        );
+    }
     Ok(())
 }
 

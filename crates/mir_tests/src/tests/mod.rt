@@ -1,5 +1,6 @@
 // One file for each layer.
 mod blocks;
+mod copied;
 mod examples;
 mod flows;
 mod language;

@@ -1,5 +1,6 @@
 // What the passes make of small programs, and what they find out: the examples of `examples.rt`, `value_examples.rt` and
 // `row_examples.rt`.
+use crate::tests::copied::copies_text;
 use crate::tests::examples::EXAMPLES;
 use crate::tests::paths::held_text;
 use crate::tests::placing::motion_text;
@@ -31,7 +32,8 @@ fn examples_of_passes(rt: HostRuntime) -> Result<(), Fail> {
     Ok(())
 }
 
-/// The first passes that make something else than an example says, with what they make; no text where all is as it says.
+/// The first passes that make something else than an example says, with what they make; no text where all is as it
+/// says.
 fn other_than(alloc: Global, example: &str) -> Result<String, Fail> {
     let (_, example) = example.split_once('\n').ok_or("no remark")?;
     let (text, shown) = example.split_once("$ ").ok_or("nothing shown")?;
@@ -91,14 +93,16 @@ fn round_of(alloc: Global, graph: &Graph) -> Result<Graph, Fail> {
     Ok(round(alloc, graph)?.graph)
 }
 
-/// What is shown of the graph that was made of a text: its nodes, or those that the passes changed; its blocks; what code
-/// motion finds out of its first expression; or where a bit holds.
+/// What is shown of the graph that was made of a text: its nodes, or those that the passes changed; its blocks; where
+/// its copies hold; what code motion finds out of its first expression, or of its second; or where a bit holds.
 fn shown_of(alloc: Global, text: &str, shown: &str, graph: &Graph) -> Result<String, Fail> {
     match shown {
         "graph" => Ok(graph_text(alloc, graph)?),
         "changes" => changes_text(alloc, text, graph),
         "blocks" => Ok(blocks_text(alloc, graph)?),
-        "motion" => motion_text(alloc, graph),
+        "copies" => Ok(copies_text(alloc, graph)?),
+        "motion" => motion_text(alloc, graph, 0),
+        "motion of the second" => motion_text(alloc, graph, 1),
         _ => held_text(alloc, shown, graph),
     }
 }

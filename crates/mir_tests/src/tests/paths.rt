@@ -3,7 +3,7 @@ ghost use Rattle.std.specs.Prelude.{◌≡◌, IfOk};
 ghost use Rattle.flow_graph.specs.Edges.{edges_of};
 ghost use Rattle.path_laws.specs.Paths.{HaveShape};
 
-use crate::tests::shown::put_first_bit;
+use crate::tests::shown::put_bit;
 use bit_rows::Rows;
 use flow_graph::{Edges, Graph};
 use mir_base::Memory;
@@ -17,9 +17,9 @@ use std::test::Fail;
 /// `ahead` on some path from it, and `beyond` it on some path from a successor.
 pub(crate) fn held_text(alloc: Global, words: &str, graph: &Graph) -> Result<String, Fail> {
     let (statement, sites) = words.split_once(" born").ok_or("no births")?;
-    let (born, stop) = sites.split_once(" stop").ok_or("no stops")?;
+    let sites = sites.split_once(" stop").ok_or("no stops")?;
     let edges = Edges::of(alloc, graph)?;
-    let text = text_along(alloc, statement, graph, &edges, born, stop);
+    let text = text_along(alloc, statement, graph, &edges, sites);
     mem::drop(edges);
     Ok(text?)
 }
@@ -30,39 +30,44 @@ fn text_along(
     statement: &str,
     graph: &Graph,
     edges: &Edges,
-    born: &str,
-    stop: &str,
+    sites: (&str, &str),
 ) -> Result<String, Memory>
     requires { edges.now ≡ edges_of graph.now.nodes }
 {
-    let born = rows_at(alloc, graph, born)?;
-    let stop = rows_at(alloc, graph, stop)?;
-    let held = held(alloc, statement, graph, edges, &born, &stop)?;
+    let (born, stop) = sites;
+    let sites = Sites {
+        born: rows_at(alloc, graph, born)?,
+        stop: rows_at(alloc, graph, stop)?,
+    };
+    let held = sites.held(alloc, statement, graph, edges)?;
     let mut text = String::new(alloc);
-    put_first_bit(&mut text, statement, &held)?;
+    put_bit(&mut text, statement, &held, 0)?;
     Ok(text)
 }
 
-/// Where a bit of these rows holds by the statement of this name.
-fn held(
-    alloc: Global,
-    statement: &str,
-    graph: &Graph,
-    edges: &Edges,
-    born: &Rows,
-    stop: &Rows,
-) -> Result<Rows, Memory>
-    requires edges { edges.now ≡ edges_of graph.now.nodes }
-    requires born { HaveShape graph.now 1 born.now }
-    requires stop { HaveShape graph.now 1 stop.now }
-{
-    match statement {
-        "before" => forward_all(alloc, graph, edges, born, stop),
-        "after" => backward_all(alloc, graph, edges, born, stop),
-        "ahead" => backward_some(alloc, graph, edges, born, stop),
-        _ => {
-            let ahead = backward_some(alloc, graph, edges, born, stop)?;
-            some_successor(alloc, graph, edges, &ahead)
+/// Where a bit is born, and where it is stopped.
+#[derive(Drop)]
+struct Sites {
+    born: Rows,
+    stop: Rows,
+}
+
+impl Sites {
+    /// Where the bit holds by the statement of this name.
+    fn held(&self, alloc: Global, name: &str, graph: &Graph, edges: &Edges) -> Result<Rows, Memory>
+        requires edges { edges.now ≡ edges_of graph.now.nodes }
+        requires born { HaveShape graph.now 1 self.now.born }
+        requires stop { HaveShape graph.now 1 self.now.stop }
+    {
+        let Sites { born, stop } = self;
+        match name {
+            "before" => forward_all(alloc, graph, edges, born, stop),
+            "after" => backward_all(alloc, graph, edges, born, stop),
+            "ahead" => backward_some(alloc, graph, edges, born, stop),
+            _ => {
+                let ahead = backward_some(alloc, graph, edges, born, stop)?;
+                some_successor(alloc, graph, edges, &ahead)
+            }
         }
     }
 }

@@ -1,23 +1,24 @@
-// What code motion finds out of the first expression of a split graph.
+// What code motion finds out of an expression of a split graph.
 ghost use Rattle.std.specs.Prelude.{◌≡◌, IfOk, OnOk};
 ghost use Rattle.flow_graph.specs.Edges.{IsSplit, edges_of};
 
-use crate::tests::shown::put_first_bit;
+use crate::tests::shown::put_bit;
 use bit_rows::Rows;
 use down_safe::{Busy, EveryPath, busy, busy_placement};
 use flow_graph::{Edges, Graph, is_split};
-use latest_place::lazy;
+use latest_place::{Late, late, lazy};
 use mir_base::Memory;
 use motion_rewrite::{ExprTable, Placement, exprs, kill_rows, use_rows};
 use std::alloc::Global;
 use std::mem;
 use std::test::Fail;
 
-/// Where the first expression of a graph, which has to be split, is used, killed, available, anticipatable and earliest,
-/// and where the busy placement and the lazy one insert and replace it.
-pub(crate) fn motion_text(alloc: Global, graph: &Graph) -> Result<String, Fail> {
+/// Where an expression of a graph, which has to be split, is used, killed, available, anticipatable, earliest, delayed,
+/// latest and isolated, and where the busy placement and the lazy one insert and replace it. The expression is the one
+/// of this number in the table.
+pub(crate) fn motion_text(alloc: Global, graph: &Graph, number: usize) -> Result<String, Fail> {
     let edges = split_edges(alloc, graph)?;
-    let text = text_over(alloc, graph, &edges);
+    let text = text_over(alloc, graph, &edges, number);
     mem::drop(edges);
     Ok(text?)
 }
@@ -35,22 +36,39 @@ fn split_edges(alloc: Global, graph: &Graph) -> Result<Edges, Fail>
 }
 
 /// The same, over the edges of a graph that is split.
-fn text_over(alloc: Global, graph: &Graph, edges: &Edges) -> Result<String, Memory>
+fn text_over(alloc: Global, graph: &Graph, edges: &Edges, number: usize) -> Result<String, Memory>
     requires split { IsSplit graph.now.nodes }
     requires edges { edges.now ≡ edges_of graph.now.nodes }
 {
     let table = exprs(alloc, graph)?;
-    let mut text = String::new(alloc);
-    let put = put_motion(alloc, &mut text, graph, edges, &table);
+    let mut shown = Shown {
+        text: String::new(alloc),
+        number,
+    };
+    let put = put_motion(alloc, &mut shown, graph, edges, &table);
     mem::drop(table);
     put?;
-    Ok(text)
+    Ok(shown.text)
+}
+
+/// What is shown of the expression of this number.
+#[derive(Drop)]
+struct Shown {
+    text: String,
+    number: usize,
+}
+
+impl Shown {
+    /// Appends a line with a name and the nodes whose row has the bit of the expression.
+    fn put(&mut self, name: &str, rows: &Rows) -> Result<(), Memory> {
+        put_bit(&mut self.text, name, rows, self.number)
+    }
 }
 
 /// Appends a line for each of these.
 fn put_motion(
     alloc: Global,
-    text: &mut String,
+    shown: &mut Shown,
     graph: &Graph,
     edges: &Edges,
     table: &ExprTable,
@@ -58,51 +76,67 @@ fn put_motion(
     requires split { IsSplit graph.now.nodes }
     requires edges { edges.now ≡ edges_of graph.now.nodes }
 {
-    put_rows(text, "used", use_rows(alloc, graph, table))?;
-    put_rows(text, "killed", kill_rows(alloc, graph, table))?;
-    put_busy(text, busy(alloc, &EveryPath, graph, edges, table))?;
+    put_rows(shown, "used", use_rows(alloc, graph, table))?;
+    put_rows(shown, "killed", kill_rows(alloc, graph, table))?;
+    put_busy(shown, busy(alloc, &EveryPath, graph, edges, table))?;
+    put_late(shown, late(alloc, &EveryPath, graph, edges, table))?;
     let placement = busy_placement(alloc, &EveryPath, graph, edges, table);
-    put_placement(text, "busy", placement)?;
+    put_placement(shown, "busy", placement)?;
     let placement = lazy(alloc, &EveryPath, graph, edges, table);
-    put_placement(text, "lazy", placement)
+    put_placement(shown, "lazy", placement)
 }
 
 /// Appends a line for rows that a call answers.
-fn put_rows(text: &mut String, name: &str, rows: Result<Rows, Memory>) -> Result<(), Memory> {
-    put_first_bit(text, name, &rows?)
+fn put_rows(shown: &mut Shown, name: &str, rows: Result<Rows, Memory>) -> Result<(), Memory> {
+    shown.put(name, &rows?)
 }
 
 /// Appends a line each for where it is available, anticipatable and earliest.
-fn put_busy(text: &mut String, busy: Result<Busy, Memory>) -> Result<(), Memory> {
+fn put_busy(shown: &mut Shown, busy: Result<Busy, Memory>) -> Result<(), Memory> {
     let busy = busy?;
-    let put = put_rows_of(text, &busy);
+    let put = put_busy_rows(shown, &busy);
     mem::drop(busy);
     put
 }
 
 /// The same.
-fn put_rows_of(text: &mut String, busy: &Busy) -> Result<(), Memory> {
-    put_first_bit(text, "available", &busy.up)?;
-    put_first_bit(text, "anticipatable", &busy.down)?;
-    put_first_bit(text, "earliest", &busy.early)
+fn put_busy_rows(shown: &mut Shown, busy: &Busy) -> Result<(), Memory> {
+    shown.put("available", &busy.up)?;
+    shown.put("anticipatable", &busy.down)?;
+    shown.put("earliest", &busy.early)
+}
+
+/// Appends a line each for where it is delayed, latest and isolated.
+fn put_late(shown: &mut Shown, late: Result<Late, Memory>) -> Result<(), Memory> {
+    let late = late?;
+    let put = put_late_rows(shown, &late);
+    mem::drop(late);
+    put
+}
+
+/// The same.
+fn put_late_rows(shown: &mut Shown, late: &Late) -> Result<(), Memory> {
+    shown.put("delayed", &late.delayed)?;
+    shown.put("latest", &late.latest)?;
+    shown.put("isolated", &late.isolated)
 }
 
 /// Appends a line for the insertions of the placement of this name, and one for its replacements.
 fn put_placement(
-    text: &mut String,
+    shown: &mut Shown,
     name: &str,
     placement: Result<Placement, Memory>,
 ) -> Result<(), Memory> {
     let placement = placement?;
-    let put = put_places(text, name, &placement);
+    let put = put_places(shown, name, &placement);
     mem::drop(placement);
     put
 }
 
 /// The same.
-fn put_places(text: &mut String, name: &str, placement: &Placement) -> Result<(), Memory> {
-    text.push_str(name)?;
-    put_first_bit(text, " inserted", &placement.insert)?;
-    text.push_str(name)?;
-    put_first_bit(text, " replaced", &placement.replace)
+fn put_places(shown: &mut Shown, name: &str, placement: &Placement) -> Result<(), Memory> {
+    shown.text.push_str(name)?;
+    shown.put(" inserted", &placement.insert)?;
+    shown.text.push_str(name)?;
+    shown.put(" replaced", &placement.replace)
 }

@@ -1,8 +1,8 @@
 // Examples of what the passes find out before they change a graph: the tables of `docs/PASSES.md`.
 
-/// Examples in the form of `EXAMPLES`. Where a bit holds is asked of one bit at a time: of a copy, which is born where it
-/// stands and stopped where a node assigns one of its variables; of a pattern, born where it occurs and stopped where a
-/// node blocks it; of a variable that is live, born where it is read and stopped where it is assigned.
+/// Examples in the form of `EXAMPLES`. Where a bit holds is asked of one bit at a time: of a pattern, which is born
+/// where it occurs and stopped where a node blocks it; of a variable that is live, born where it is read and stopped
+/// where it is assigned.
 pub(crate) const ROW_EXAMPLES: &str = "\
 # a loop without exit: a bit that is born at a sum, and stopped at Start and at a copy
 main: begin
@@ -163,19 +163,16 @@ b <- c
 if i < b goto L1
 return c
 end
-$ lower: before born 1 stop 1 6 7
-before 2
-$ lower: before born 3 stop 1 3 6 7
-before 4 5 6
-$ lower: before born 6 stop 1 2 4 6 7
-before 7
-$ lower: before born 7 stop 1 3 6 7
-before 8 9
+$ lower: copies
+b <- a 2
+c <- b 4 5 6
+b <- i 7
+b <- c 8 9
 $ lower copies: changes
 4: i <- i + b to 5
 8: if i < c to 3 else 9
 8 stay
-# the diamond: delayed from 1, the earliest, to the uses, of which 3 is latest; and needed beyond 3, 4, 8 and 9, the rest isolated
+# the diamond: delayed from 1, the earliest, to the use at 3 and to 8; needed beyond 3, 4, 8 and 9, the rest isolated
 main: begin
 receive a(val)
 receive b(val)
@@ -194,14 +191,40 @@ killed 0
 available 4 6 7 9
 anticipatable 1 2 3 4 5 8 9
 earliest 1
+delayed 1 2 3 8
+latest 3 8
+isolated 0 1 2 5 6 7
 busy inserted 1
 busy replaced 3 5
 lazy inserted 3 8
 lazy replaced 3 5
-$ lower clean split: before born 1 stop 3 5
-before 2 3 8
-$ lower clean split: beyond born 5 stop 3 8
-beyond 3 4 8 9
+# a loop before the diamond: the busy placement inserts before the loop, at 9, and the lazy one at the use at 4 and at 12
+main: begin
+receive a(val)
+receive b(val)
+L1: i <- i + 1
+if i < a goto L1
+if b goto L2
+x <- a + b
+print x
+goto L3
+L2: print b
+L3: y <- a + b
+return y
+end
+$ lower clean split: motion of the second
+used 4 7
+killed 0
+available 5 8 11
+anticipatable 1 2 3 4 5 6 7 9 10 11 12
+earliest 9
+delayed 1 2 3 4 6 9 10 12
+latest 4 12
+isolated 0 1 2 3 6 7 8 9 10
+busy inserted 9
+busy replaced 4 7
+lazy inserted 4 12
+lazy replaced 4 7
 # the first use kills what it evaluates, so the second is evaluated anew, and both are isolated
 main: begin
 receive a(val)
@@ -216,6 +239,9 @@ killed 0 2
 available 4
 anticipatable 1 2 3
 earliest 1 3
+delayed 1 2 3
+latest 2 3
+isolated 0 1 2 3 4
 busy inserted 1 3
 busy replaced 2 3
 lazy inserted
@@ -235,6 +261,9 @@ killed 0
 available 3 4 5
 anticipatable 1 2 5
 earliest 1
+delayed 1
+latest 1
+isolated 0 4
 busy inserted 1
 busy replaced 2
 lazy inserted 1
@@ -252,6 +281,9 @@ killed 0
 available 3
 anticipatable 1 2
 earliest 1
+delayed 1 2
+latest 2
+isolated 0 1 2 3
 busy inserted 1
 busy replaced 2
 lazy inserted

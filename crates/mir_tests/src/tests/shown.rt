@@ -117,7 +117,7 @@ fn put_operand(text: &mut String, vars: &[Name], operand: &Operand) -> Result<()
 }
 
 /// Appends the name of a variable.
-fn put_var(text: &mut String, vars: &[Name], x: usize) -> Result<(), Memory> {
+pub(crate) fn put_var(text: &mut String, vars: &[Name], x: usize) -> Result<(), Memory> {
     match vars.get(x) {
         Some(name) => put_bytes(text, name.bytes()),
         None => text.push('?'),
@@ -132,11 +132,16 @@ fn put_bytes(text: &mut String, bytes: &[u8]) -> Result<(), Memory> {
     Ok(())
 }
 
-/// Appends a line with a name and the nodes whose row has the first bit.
-pub(crate) fn put_first_bit(text: &mut String, name: &str, rows: &Rows) -> Result<(), Memory> {
+/// Appends a line with a name and the nodes whose row has the bit of this number.
+pub(crate) fn put_bit(
+    text: &mut String,
+    name: &str,
+    rows: &Rows,
+    bit: usize,
+) -> Result<(), Memory> {
     text.push_str(name)?;
     for node in 0..rows.len() {
-        if rows.bits() > 0 && rows.get(node, 0) {
+        if bit < rows.bits() && rows.get(node, bit) {
             write!(text, " {node}")?;
         }
     }

@@ -32,8 +32,8 @@ print 8
 end
 ";
 
-/// The stages in turn: the lines of the program at each that the program before it does not have, and how many it has. The
-/// program before the first is the text.
+/// The stages in turn: the lines of the program at each that the program before it does not have, and how many it has.
+/// The program before the first is the text.
 const STAGES: &str = "\
 $ Lower
 if a goto L1

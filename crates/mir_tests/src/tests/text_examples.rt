@@ -1,8 +1,8 @@
 // Examples of texts that are read.
 
 /// An example is `---` with a remark, a text, and after `$` the canonical text of its program, `same` where that is the
-/// text itself; or the word `changes`, the lines of the canonical text that the text does not have, and how many it has; or
-/// why it has none. Most refusals stand in the examples of `mir_top`.
+/// text itself; or the word `changes`, the lines of the canonical text that the text does not have, and how many it
+/// has; or why it has none. Most refusals stand in the examples of `mir_top`.
 pub(crate) const TEXTS: &str = "\
 --- the smallest program
 main: begin
@@ -116,16 +116,11 @@ b: begin
 receive a(val)
 a <- call b,(a,int)
 end
-$ a: begin
-receive int(val)
+$ changes
 L1: val <- b,(int,int)
-call a,(val,int)
 goto L1
-end
-b: begin
-receive a(val)
 a <- b,(a,int)
-end
+7 stay
 --- names that are met in another order than their numbers say
 main: begin
 receive b(val)
@@ -135,18 +130,6 @@ end
 $ same
 --- ten labels, so that one has two digits
 main: begin
-a: goto b
-b: goto c
-c: goto d
-d: goto e
-e: goto f
-f: goto g
-g: goto h
-h: goto i
-i: goto j
-j: goto a
-end
-$ main: begin
 L1: goto L2
 L2: goto L3
 L3: goto L4
@@ -158,6 +141,7 @@ L8: goto L9
 L9: goto L10
 L10: goto L1
 end
+$ same
 --- a unit that is called before it is written, without arguments and with six
 main: begin
 call g,()

@@ -1,7 +1,7 @@
 // Examples of the passes that change what is computed.
 
-/// Examples of constants and identities, of numbering, of copies, and of sinking with the removal of dead assignments, in
-/// the form of `EXAMPLES`.
+/// Examples of constants and identities, of numbering, of copies, and of sinking with the removal of dead assignments,
+/// in the form of `EXAMPLES`.
 pub(crate) const VALUE_EXAMPLES: &str = "\
 # each identity that gives its variable
 main: begin
@@ -63,14 +63,14 @@ x <- a mod -1
 x <- 0 shl a
 x <- 0 shr a
 x <- 0 shra a
-x <- a or -1
-x <- -1 or a
 x <- a = a
 x <- a <= a
 x <- a >= a
 x <- a != a
 x <- a < a
 x <- a > a
+x <- a or -1
+x <- -1 or a
 return a
 end
 $ lower fold clean
@@ -86,14 +86,14 @@ $ lower fold clean
 9: x <- 0 to 10
 10: x <- 0 to 11
 11: x <- 0 to 12
-12: x <- -1 to 13
-13: x <- -1 to 14
+12: x <- 1 to 13
+13: x <- 1 to 14
 14: x <- 1 to 15
-15: x <- 1 to 16
-16: x <- 1 to 17
+15: x <- 0 to 16
+16: x <- 0 to 17
 17: x <- 0 to 18
-18: x <- 0 to 19
-19: x <- 0 to 20
+18: x <- -1 to 19
+19: x <- -1 to 20
 20: return a
 # right sides that stay, whatever is alike in them
 main: begin
@@ -152,7 +152,6 @@ y <- a + 1
 z <- a + 1
 x <- 5
 w <- a + 1
-return w
 end
 $ lower number: changes
 2: y <- x to 3
@@ -197,7 +196,6 @@ x <- a / 2
 call main,(a,int)
 y <- a / 2
 y <- a / 2
-return y
 end
 $ lower number: changes
 3: y <- x to 4
