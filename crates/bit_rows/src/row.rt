@@ -94,7 +94,8 @@ impl Row {
     /// Keeps what is not in the other. It does not allocate.
     pub fn minus_from(&mut self, other: &RowView<'_>)
         requires { length self.old ≡ length other.now }
-        ensures { self.new ≡ minus_bits self.old other.now }
+        ensures minus { self.new ≡ minus_bits self.old other.now }
+        ensures len { length self.new ≡ length self.old }
     {
         join_words(Joining::Minus, self.words.as_mut_slice(), other.words);
     }
@@ -102,14 +103,16 @@ impl Row {
     /// Becomes a copy of the other. It does not allocate.
     pub fn copy_from(&mut self, other: &RowView<'_>)
         requires { length self.old ≡ length other.now }
-        ensures { self.new ≡ other.now }
+        ensures copy { self.new ≡ other.now }
+        ensures len { length self.new ≡ length self.old }
     {
         self.words.as_mut_slice().copy_from_slice(other.words);
     }
 
     /// Each bit becomes its opposite. It does not allocate.
     pub fn flip(&mut self)
-        ensures { self.new ≡ not_bits self.old }
+        ensures flipped { self.new ≡ not_bits self.old }
+        ensures len { length self.new ≡ length self.old }
     {
         flip_words(self.bits, self.words.as_mut_slice());
     }

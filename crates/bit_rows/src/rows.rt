@@ -196,8 +196,8 @@ impl Rows {
         or_minus_row(&mut self.words, self.stride, row, from.words, less.words);
     }
 
-    /// The row becomes its disjunction with what a second row of these has and another row has not, in one pass. It does
-    /// not allocate.
+    /// The row becomes its disjunction with what a second row of these has and another row has not, in one pass. It
+    /// does not allocate.
     pub fn or_minus_within(&mut self, row: usize, from: usize, less: &RowView<'_>)
         requires row { row < length self.old }
         requires from { from < length self.old }

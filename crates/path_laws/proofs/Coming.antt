@@ -9,7 +9,7 @@ use Rattle.flow_graph.specs.Blocks.{IsBlocks}
 use Rattle.flow_graph.specs.Graphs.{AllWithin}
 use Rattle.path_laws.specs.Between.{AreBetween}
 use Rattle.node_list.specs.Lists.{list_at}
-use Rattle.path_laws.specs.Blockwise.{HasAnswer, AreGrowing, AreStopped, begun_bit, blocks_some, brought, flow_order, handed_on, passed_all}
+use Rattle.path_laws.specs.Blockwise.{HasAnswer, AreGrowing, AreBlockedByPaths, begun_bit, blocks_some, brought, flow_order, handed_on, passed_all}
 use Rattle.path_laws.specs.Leads.{Leads, at_seed, one_more, steps_of}
 use Rattle.flow_graph.specs.FlowEdges.{StepAlong, edge_at}
 use Rattle.path_laws.specs.Paths.{AreRows, has_bit}
@@ -114,7 +114,7 @@ module _ (against : Bool) (nodes : List Node) (lists : List (List ℕ)) (edges :
 
 -- the least rows over the edges between blocks, as a slice has them
 pub led_blocks : (against : Bool) (nodes : List Node) (lists : List (List ℕ)) (bits count : ℕ) (edges slice : List Edge) (firsts : List ℕ) (path : ℕ → List ℕ) (seed stop : ℕ → ℕ → Bool) (seeds stops work : List (List Bool))
-    → AreBetween against nodes lists (length lists) edges firsts → ArePassed (length lists) bits path seed stop seeds → AreStopped (length lists) bits path stop stops → count ≡ length lists → slice ≡ edges
+    → AreBetween against nodes lists (length lists) edges firsts → ArePassed (length lists) bits path seed stop seeds → AreBlockedByPaths (length lists) bits path stop stops → count ≡ length lists → slice ≡ edges
     → ((n b : ℕ) → n < count → b < bits → (has_bit work b n ≡ true) ↔ Leads (StepAlong slice) (has_bit seeds b) (has_bit stops b) n)
     → (c b : ℕ) → c < length lists → b < bits → (has_bit work b c ≡ true) ↔ Leads (StepAlong edges) (λ k. passed_all (seed b) (stop b) false (path k)) (λ k. blocks_some (stop b) (path k)) c
 led_blocks against nodes lists bits count edges slice firsts path seed stop seeds stops work between passed stopped count_is slice_is leads c b h l =

@@ -1,16 +1,15 @@
 -- Rows of blocks while their bits pass nodes.
-use Rattle.std.proofs.Common.{◌≡◌, ℕ, suc, ◌+◌, ◌<◌, ◌≤◌, Bool, true, false, not, ◌||◌, ◌&&◌, cond, List, [], ◌∷◌, ◌++◌, length, length-append, get_or, replicate, set, slice_get, take, Some, refl, sym, ap, inl, inr, arith, ◌∙◌}
+use Rattle.std.proofs.Common.{◌≡◌, ℕ, suc, ◌+◌, ◌<◌, ◌≤◌, Bool, true, false, not, ◌||◌, ◌&&◌, cond, List, [], ◌∷◌, ◌++◌, length, get_or, replicate, set, slice_get, take, Some, refl, sym, ap, inl, inr, arith, ◌∙◌}
 use Rattle.std.proofs.Math.Bool.{or-false, or-true, or_comm}
-use Rattle.std.proofs.Math.Seq.{get_or-append_seam}
 use Rattle.std.proofs.lemmas.Bool.{cases_eq}
-use Rattle.std.proofs.lemmas.List.{get_or-map, get_or-replicate, get_or_append_left, length-map, length-replicate, take_all}
+use Rattle.std.proofs.lemmas.List.{get_or-map, get_or-replicate, length-map, length-replicate, take_all}
 use Rattle.std.proofs.lemmas.Option.{slice_get-get_or}
 use Rattle.flow_graph.specs.ListLaws.{take_next}
 use Rattle.node_list.specs.Lists.{list_at}
 use Rattle.bit_rows.specs.BitLaws.{length_minus, length_not, length_or, minus_bit, not_bit, or_bit}
 use Rattle.bit_rows.specs.Bits.{minus_bits, not_bits, or_bits, row_of}
 use Rattle.flow_graph.specs.declared.nodes.Node.{Node}
-use Rattle.path_laws.specs.Blockwise.{AreStopped, blocks_some, flow_order, passed, passed_all}
+use Rattle.path_laws.specs.Blockwise.{AreBlockedByPaths, blocks_some, flow_order, passed, passed_all}
 use Rattle.path_laws.specs.Paths.{AreRows, has_bit}
 use Rattle.path_laws.specs.declared.problems.Problem.{Problem}
 use Rattle.path_laws.specs.Problem.{IsProblem, block_seeds, is_blocked, is_seed, orders, row_after, row_through}
@@ -19,10 +18,11 @@ use Rattle.path_laws.specs.Seeds.{blocks_of, is_end, passed_row, seeds_of}
 use Rattle.path_laws.proofs.Chains.{blocks_append}
 use Rattle.path_laws.proofs.Complements.{seed_bit}
 use Rattle.path_laws.proofs.Places.{flow_within}
+use Rattle.path_laws.proofs.Pushing.{pushed_before, pushed_last, pushed_shape}
 
 -- ---- one node
 
--- what `pass` does to a bit is what the flow asks, here where paths do not end
+-- what `pass_row` does to a bit is what the flow asks, here where paths do not end
 stop_first : (x s k : Bool) → ((x || s) && not k) ≡ (((s || false) && not k) || (x && not k))
 stop_first true true true = refl
 stop_first true true false = refl
@@ -74,6 +74,49 @@ module _ (against : Bool) (nodes : List Node) (bits : ℕ) (born stop : List (Li
       ∙ ap (λ v. v || has_bit born b n) (minus_bit row (row_of stop n) b as_stop)
       ∙ or_comm (get_or row b false && not (has_bit stop b n)) (has_bit born b n)
 
+-- from a row of no bit nothing is taken
+none_minus : (row : List Bool) → minus_bits (replicate (length row) false) row ≡ replicate (length row) false
+none_minus [] = refl
+none_minus (x ∷ row) = ap (λ r. false ∷ r) (none_minus row)
+
+-- and joined with another it is that one
+none_or : (row : List Bool) → or_bits (replicate (length row) false) row ≡ row
+none_or [] = refl
+none_or (x ∷ row) = ap (λ r. x ∷ r) (none_or row)
+
+-- where no bit comes to a node, its seeds leave it
+module _ (p : Problem) (is : IsProblem p) (n : ℕ) (n_in : n < length p.graph.now.nodes) where
+  -- the row of what is born there
+  abbrev born : List Bool
+  born = row_of p.born.now n
+
+  -- and that of what is stopped there
+  abbrev stop : List Bool
+  stop = row_of p.stop.now n
+
+  -- both are as long as the others
+  born_long : length (row_of p.born.now n) ≡ p.bits
+  born_long = is.flow.born_rows.each n n_in
+
+  stop_long : length (row_of p.stop.now n) ≡ p.bits
+  stop_long = is.flow.stop_rows.each n n_in
+
+  -- for some path what is born there
+  pub seeds_some : p.every ≡ false → born ≡ row_after p n (replicate p.bits false)
+  seeds_some some =
+      sym (ap (λ k. or_bits (minus_bits (replicate k false) stop) born) (sym stop_long)
+      ∙ ap (λ r. or_bits r born) (none_minus stop)
+      ∙ ap (λ k. or_bits (replicate k false) born) (stop_long ∙ sym born_long)
+      ∙ none_or born)
+      ∙ ap (λ way. passed_row way p.against p.graph.now.nodes p.born.now p.stop.now n (replicate p.bits false)) (sym some)
+
+  -- for every path, where none ends, what is stopped and not born there
+  pub seeds_inside : p.every ≡ true → is_end p.against p.graph.now.nodes n ≡ false → minus_bits stop born ≡ row_after p n (replicate p.bits false)
+  seeds_inside every inside =
+      ap (λ r. minus_bits r born) (sym (ap (λ k. or_bits (replicate k false) stop) (sym stop_long) ∙ none_or stop))
+      ∙ ap (λ e. cond e (not_bits born) (minus_bits (or_bits (replicate p.bits false) stop) born)) (sym inside)
+      ∙ ap (λ way. passed_row way p.against p.graph.now.nodes p.born.now p.stop.now n (replicate p.bits false)) (sym every)
+
 -- ---- the same for a problem
 
 -- the row that leaves a node is as long as the others
@@ -96,6 +139,22 @@ pub through_next : (p : Problem) (xs : List ℕ) (i n : ℕ) (row : List Bool) �
 through_next p xs i n row at =
     let one : i + 1 ≡ suc i = omega arith in
     ap (λ k. row_through p (take k xs) row) one ∙ ap (λ l. row_through p l row) (take_next xs i n at) ∙ through_append p (take i xs) (n ∷ []) row
+
+-- a row of no bit that has gone along so many nodes
+pub record IsThrough (p : Problem) (path : List ℕ) (place : ℕ) (row : List Bool) : Type 0 where
+  pub row_is : row ≡ row_through p (take place path) (replicate p.bits false)
+  pub long : length row ≡ p.bits
+
+-- it goes along one node more
+pub through_more : (p : Problem) → IsProblem p → (path : List ℕ) (place n : ℕ) (row after : List Bool) → IsThrough p path place row → (slice_get path place ≡ Some n) × (n < length p.graph.now.nodes) → after ≡ row_after p n row → IsThrough p path (place + 1) after
+through_more p is path place n row after through at after_is = record {
+  row_is = after_is ∙ ap (row_after p n) through.row_is ∙ sym (through_next p path place n (replicate p.bits false) at.0);
+  long = ap length after_is ∙ length_after p is n at.1 row through.long;
+}
+
+-- and it begins with the first
+pub through_first : (p : Problem) → IsProblem p → (path : List ℕ) (n : ℕ) (after : List Bool) → (slice_get path 0 ≡ Some n) × (n < length p.graph.now.nodes) → after ≡ row_after p n (replicate p.bits false) → IsThrough p path 1 after
+through_first p is path n after at after_is = through_more p is path 0 n (replicate p.bits false) after (record { row_is = refl; long = length-replicate p.bits false }) at after_is
 
 -- what comes out of a block where nothing comes to it
 pub seed_row_is : (p : Problem) (c : ℕ) → c < length p.blocks.now.lists → row_of (block_seeds p) c ≡ row_through p (orders p c) (replicate p.bits false)
@@ -149,7 +208,7 @@ module _ (count bits : ℕ) (paths : ℕ → List ℕ) (stops : List (List Bool)
     pub whole : (c b : ℕ) → c < count → b < bits → has_bit rows b c ≡ blocks_some (has_bit stops b) (paths c)
     pub part : (b : ℕ) → b < bits → has_bit rows b count ≡ blocks_some (has_bit stops b) (take place (paths count))
 
-  -- a node more is blocked by
+  -- what the nodes up to a place block, and the one there, the nodes up to the next place block
   one_more_blocks : (b place n : ℕ) → slice_get (paths count) place ≡ Some n → (blocks_some (has_bit stops b) (take place (paths count)) || has_bit stops b n) ≡ blocks_some (has_bit stops b) (take (place + 1) (paths count))
   one_more_blocks b place n at =
       let one : place + 1 ≡ suc place = omega arith in
@@ -158,23 +217,14 @@ module _ (count bits : ℕ) (paths : ℕ → List ℕ) (stops : List (List Bool)
       ∙ sym (ap (blocks_some (has_bit stops b)) (ap (λ k. take k (paths count)) one ∙ take_next (paths count) place n at))
 
   -- the row of the first node is put at the end
-  module _ (n : ℕ) (rows after : List (List Bool)) (are : AreStopped count bits paths (has_bit stops) rows) (long : length (row_of stops n) ≡ bits) (is : after ≡ rows ++ row_of stops n ∷ []) where
+  module _ (n : ℕ) (rows after : List (List Bool)) (are : AreBlockedByPaths count bits paths (has_bit stops) rows) (long : length (row_of stops n) ≡ bits) (is : after ≡ rows ++ row_of stops n ∷ []) where
     last : row_of after count ≡ row_of stops n
-    last = ap (λ (r : List (List Bool)). row_of r count) is ∙ ap (row_of (rows ++ row_of stops n ∷ [])) (sym are.shape.len) ∙ get_or-append_seam rows (row_of stops n) [] []
-
-    earlier : (c : ℕ) → c < count → row_of after c ≡ row_of rows c
-    earlier c h = ap (λ (r : List (List Bool)). row_of r c) is ∙ get_or_append_left rows (row_of stops n ∷ []) [] c (rw are.shape.len h)
+    last = pushed_last count bits rows after (row_of stops n) are.shape is
 
     pub stopped_first : slice_get (paths count) 0 ≡ Some n → AreStoppedTo 1 after
     stopped_first at = record {
-      shape = record {
-        len = ap length is ∙ length-append rows (row_of stops n ∷ []) ∙ ap (λ k. k + 1) are.shape.len;
-        each = λ c h. elim (cases_eq c count) as (λ _. length (row_of after c) ≡ bits) [
-          | inl e ↦ rw e (ap length last ∙ long)
-          | inr d ↦ ap length (earlier c (omega (arith, h, d))) ∙ are.shape.each c (omega (arith, h, d))
-        ];
-      };
-      whole = λ c b h l. ap (λ (r : List Bool). get_or r b false) (earlier c h) ∙ are.are c b h l;
+      shape = pushed_shape count bits rows after (row_of stops n) are.shape is long;
+      whole = λ c b h l. ap (λ (r : List Bool). get_or r b false) (pushed_before count bits rows after (row_of stops n) are.shape is c h) ∙ are.are c b h l;
       part = λ b l. ap (λ (r : List Bool). get_or r b false) last ∙ one_more_blocks b 0 n at;
     }
 
@@ -192,7 +242,7 @@ module _ (count bits : ℕ) (paths : ℕ → List ℕ) (stops : List (List Bool)
       }
 
   -- once all its nodes have come the last row is whole
-  pub stopped_all : (place : ℕ) (rows : List (List Bool)) → AreStoppedTo place rows → length (paths count) ≤ place → AreStopped (count + 1) bits paths (has_bit stops) rows
+  pub stopped_all : (place : ℕ) (rows : List (List Bool)) → AreStoppedTo place rows → length (paths count) ≤ place → AreBlockedByPaths (count + 1) bits paths (has_bit stops) rows
   stopped_all place rows are late = record {
     shape = are.shape;
     are = λ c b h l. elim (cases_eq c count) as (λ _. has_bit rows b c ≡ blocks_some (has_bit stops b) (paths c)) [

@@ -30,8 +30,8 @@ abbrev pub HasAnswer : Bool → List Node → (ℕ → Bool) → (ℕ → Bool) 
 HasAnswer true nodes seed block n = Leads (steps_of true nodes) seed block n
 HasAnswer false nodes seed block n = (m : ℕ) × HasEdge nodes m n × Leads (steps_of false nodes) seed block m
 
--- the rows of blocks say which bits some of these nodes stops
-pub record AreStopped (count bits : ℕ) (paths : ℕ → List ℕ) (stop : ℕ → ℕ → Bool) (rows : List (List Bool)) : Type 0 where
+-- the row of each block says which bits some of these nodes blocks
+pub record AreBlockedByPaths (count bits : ℕ) (paths : ℕ → List ℕ) (stop : ℕ → ℕ → Bool) (rows : List (List Bool)) : Type 0 where
   pub shape : AreRows count bits rows
   pub are : (c b : ℕ) → c < count → b < bits → has_bit rows b c ≡ blocks_some (stop b) (paths c)
 

@@ -1,8 +1,8 @@
 -- Where a bit flows from, as a relation on nodes alone. Cited by contracts.
-use Rattle.std.specs.Prelude.{◌≡◌, ℕ, Bool, true, false, List}
+use Rattle.std.specs.Prelude.{◌≡◌, ℕ, ◌<◌, ◌↔◌, Bool, true, false, List}
 use Rattle.flow_graph.specs.declared.nodes.Node.{Node}
 use Rattle.flow_graph.specs.Paths.{HasEdge}
-use Rattle.path_laws.specs.Paths.{has_bit}
+use Rattle.path_laws.specs.Paths.{AreRows, has_bit}
 
 -- from node n a way along these steps comes to a seed, and none of its nodes before that one blocks
 pub data Leads (steps : ℕ → ℕ → Type 0) (seed block : ℕ → Bool) : ℕ → Type 0 where
@@ -17,3 +17,8 @@ steps_of false nodes m n = HasEdge nodes n m
 -- some node one step on from node n has the bit
 abbrev pub SomeStep : Bool → List Node → List (List Bool) → ℕ → ℕ → Type 0
 SomeStep against nodes rows bit n = (m : ℕ) × steps_of against nodes n m × (has_bit rows bit m ≡ true)
+
+-- so many rows, each of so many bits, tell at which nodes each bit is true one step on
+pub record TellSteps (against : Bool) (nodes : List Node) (bits : ℕ) (rows : List (List Bool)) (count : ℕ) (all : List (List Bool)) : Type 0 where
+  pub shape : AreRows count bits all
+  pub are : (n b : ℕ) → n < count → (has_bit all b n ≡ true) ↔ SomeStep against nodes rows b n

@@ -6,9 +6,6 @@ use Rattle.fix_solve.specs.Net.{NetLaws}
 use Rattle.bit_rows.specs.BitLaws.{length_minus}
 use Rattle.bit_rows.specs.Bits.{row_of}
 use Rattle.flow_graph.specs.declared.edges.Edge.{Edge}
-use Rattle.flow_graph.specs.declared.nodes.Node.{Node}
-use Rattle.flow_graph.specs.BoundLaws.{slot_within}
-use Rattle.flow_graph.specs.Graphs.{IsEdge}
 use Rattle.flow_graph.specs.FlowEdges.{edge_at}
 use Rattle.path_laws.specs.Nets.{IsBitFlow, bit_flow}
 use Rattle.path_laws.specs.Order.{BelowBits, trues}
@@ -32,7 +29,3 @@ bit_laws nodes edges out bits first block valid =
       monotone = λ e x y h s b. minus_mono x y (row_of block (edge_at edges e).target) b;
       ranks = λ x s. let a : trues x ≤ length x = trues_le x in omega arith;
     }
-
--- what has a successor is a node
-pub node_within : (nodes : List Node) (m slot s : ℕ) → IsEdge nodes m slot s → m < length nodes
-node_within nodes m slot s edge = slot_within nodes m slot s edge

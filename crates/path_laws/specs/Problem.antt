@@ -6,8 +6,8 @@ use Rattle.node_list.specs.Lists.{list_at}
 use Rattle.path_laws.specs.declared.between.BlockEdges.{BlockEdges}
 use Rattle.path_laws.specs.declared.problems.Problem.{Problem}
 use Rattle.path_laws.specs.Between.{AreBetween, AreBlockEdges}
-use Rattle.path_laws.specs.Blockwise.{AreGrowing, AreStopped, HasAnswer, IsWhole, begun_bit, blocks_some, brought, flow_order, handed_on, passed_all}
-use Rattle.path_laws.specs.Crossings.{crossings, push_room}
+use Rattle.path_laws.specs.Blockwise.{AreGrowing, AreBlockedByPaths, HasAnswer, IsWhole, begun_bit, blocks_some, brought, flow_order, handed_on, passed_all}
+use Rattle.path_laws.specs.Crossings.{push_room}
 use Rattle.path_laws.specs.Leads.{Leads}
 use Rattle.flow_graph.specs.FlowEdges.{StepAlong}
 use Rattle.path_laws.specs.Paths.{AreRows, HaveShape, Tell, has_bit, width}
@@ -63,7 +63,7 @@ HaveBornShape p rows = HaveShape p.graph.now (width p.born.now) rows
 
 -- one row for each of so many blocks says which bits some node of the block blocks
 abbrev pub HaveBlocked : Problem → ℕ → List (List Bool) → Type 0
-HaveBlocked p count rows = AreStopped count p.bits (orders p) (is_blocked p) rows
+HaveBlocked p count rows = AreBlockedByPaths count p.bits (orders p) (is_blocked p) rows
 
 -- these rows say to which blocks each bit comes over these edges from a block that seeds it
 abbrev pub AreLed : Problem → List Edge → List (List Bool) → Type 0
@@ -121,10 +121,6 @@ AreAllBetween p edges = (firsts : List ℕ) × AreBetween p.against p.graph.now.
 abbrev pub room_along : Problem → BlockEdges → ℕ
 room_along p made = length made.edges.items * (p.bits + 1)
 
--- by how much it may rise in all
-abbrev pub room_in : Problem → ℕ
-room_in p = crossings p.blocks.now.lists p.edges.now.edges * (p.bits + 1)
-
--- the same for as many bits as the rows of births have
+-- by how much it may rise in all, for as many bits as the rows of births have
 abbrev pub born_room : Problem → ℕ
 born_room p = push_room p.blocks.now p.edges.now p.born.now

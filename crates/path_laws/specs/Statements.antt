@@ -6,7 +6,8 @@ use Rattle.path_laws.specs.declared.calls.Statement.{Statement}
 use Rattle.path_laws.specs.declared.calls.Statement.TheVariants.{Before, After, Ahead}
 use Rattle.path_laws.specs.Paths.{AreBornAfter, AreBornAhead, AreBornBefore}
 
--- the rows tell at which nodes the statement holds for each bit, for the bits that these rows bear and stop
+-- the rows tell at which nodes the statement holds for each bit, where these rows say at which nodes bits are born
+-- and stopped
 abbrev pub AreTold : Statement → GraphShape → List (List Bool) → List (List Bool) → List (List Bool) → Type 0
 AreTold Before = AreBornBefore
 AreTold After = AreBornAfter
@@ -24,7 +25,8 @@ is_on_every Before = true
 is_on_every After = true
 is_on_every Ahead = false
 
--- the answers of its problem are turned into its own: for every path each bit is the opposite, but at Start it stays
+-- the answers of its problem are turned into its own: before a node each bit is the opposite but at Start, where it
+-- stays; after a node each is; ahead none is
 abbrev pub AreTurned : Statement → List (List Bool) → List (List Bool) → Type 0
 AreTurned Before old new = AreAlike old new × ((n : ℕ) → n < 1 → row_of new n ≡ row_of old n) × EachBitFlipped 1 old new
 AreTurned After old new = AreAlike old new × EachBitFlipped 0 old new

@@ -9,7 +9,7 @@ use crate::between::{BlockEdges, between};
 use crate::bits::{BitFlow, Bits, least};
 use crate::filling::filled;
 use crate::problems::Problem;
-use crate::summaries::stops_of;
+use crate::summaries::blocked_by_blocks;
 use bit_rows::Rows;
 use fix_solve::{Steps, Work};
 use mir_base::Memory;
@@ -61,7 +61,7 @@ fn led<L: Ledger>(
     ensures pushes { OnOk result (steps.new ≤ steps.old + room_along problem.now between.now) }
     ensures counts { steps.old ≤ steps.new }
 {
-    let stops = stops_of(alloc, problem)?;
+    let stops = blocked_by_blocks(alloc, problem)?;
     let flow = BitFlow {
         nodes: problem.blocks.len(),
         edges: between.edges.as_slice(),

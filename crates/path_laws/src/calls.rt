@@ -38,9 +38,9 @@ pub fn forward_all(
     told(alloc, graph, edges, born, stop, Statement::Before)
 }
 
-/// As `forward_all`, with the blocks of `graph` at hand, and counted: `steps` never falls, and rises by at most the number of
-/// edges from the last node of a block to the first of one, times one more than the number of bits. It fails only with
-/// `Memory`.
+/// As `forward_all`, with the blocks of `graph` at hand, and counted: `steps` never falls, and rises by at most the
+/// number of edges from the last node of a block to the first of one, times one more than the number of bits. It fails
+/// only with `Memory`.
 pub fn forward_all_in<L: Ledger>(
     alloc: Global,
     graph: &Graph,
@@ -85,9 +85,9 @@ pub fn backward_all(
     told(alloc, graph, edges, born, stop, Statement::After)
 }
 
-/// As `backward_all`, with the blocks of `graph` at hand, and counted: `steps` never falls, and rises by at most the number of
-/// edges from the last node of a block to the first of one, times one more than the number of bits. It fails only with
-/// `Memory`.
+/// As `backward_all`, with the blocks of `graph` at hand, and counted: `steps` never falls, and rises by at most the
+/// number of edges from the last node of a block to the first of one, times one more than the number of bits. It fails
+/// only with `Memory`.
 pub fn backward_all_in<L: Ledger>(
     alloc: Global,
     graph: &Graph,
@@ -129,9 +129,9 @@ pub fn backward_some(
     told(alloc, graph, edges, born, stop, Statement::Ahead)
 }
 
-/// As `backward_some`, with the blocks of `graph` at hand, and counted: `steps` never falls, and rises by at most the number of
-/// edges from the last node of a block to the first of one, times one more than the number of bits. It fails only with
-/// `Memory`.
+/// As `backward_some`, with the blocks of `graph` at hand, and counted: `steps` never falls, and rises by at most the
+/// number of edges from the last node of a block to the first of one, times one more than the number of bits. It fails
+/// only with `Memory`.
 pub fn backward_some_in<L: Ledger>(
     alloc: Global,
     graph: &Graph,
@@ -206,8 +206,8 @@ fn told_from<L: Ledger>(
     told_in(alloc, graph, edges, &blocks, born, stop, steps, statement)
 }
 
-/// The same, with the blocks at hand, and counted. The answers of the statement's problem are turned where it is solved by
-/// its complement.
+/// The same, with the blocks at hand, and counted. The answers of the statement's problem are turned where it is solved
+/// by its complement.
 fn told_in<L: Ledger>(
     alloc: Global,
     graph: &Graph,
@@ -260,7 +260,8 @@ fn is_on_every(statement: Statement) -> bool
     }
 }
 
-/// The answers of a problem become those of its statement: for every path the opposite, but at Start none.
+/// The answers of a problem become those of its statement: before a node each bit is the opposite but at Start, where
+/// it stays; after a node each is; ahead none is.
 fn turn(rows: &mut Rows, statement: Statement)
     ensures { AreTurned statement rows.old rows.new }
 {

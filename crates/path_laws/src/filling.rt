@@ -4,7 +4,7 @@ ghost use Rattle.path_laws.specs.Paths.{HaveShape};
 ghost use Rattle.path_laws.specs.Problem.{AreAllBetween, AreBegun, AreLed, GrowTo, HandsOn, HaveAnswers, HaveBlockShape, HaveBlocks, HaveFirsts, IsProblem, TakesIn, orders};
 
 use crate::bits::Bits;
-use crate::passing::{join_seeds, node_at, stop_at};
+use crate::passing::{blocked_at, join_seeds, node_at};
 use crate::problems::Problem;
 use crate::seeds::is_end;
 use bit_rows::Rows;
@@ -94,7 +94,7 @@ fn take_in(problem: &Problem<'_>, edge: &Edge, work: &Work<Bits>, rows: &mut Row
     let node = first_of(problem, edge.target);
     let value = work.value(edge.source).row();
     if problem.against {
-        rows.or_minus_from(node, &value, &stop_at(problem, node));
+        rows.or_minus_from(node, &value, &blocked_at(problem, node));
     } else {
         rows.or_from(node, &value);
     }
@@ -138,9 +138,9 @@ fn hand_on(problem: &Problem<'_>, before: usize, node: usize, rows: &mut Rows)
     ensures { HandsOn problem.now before node rows.old rows.new }
 {
     if problem.against {
-        rows.or_minus_within(node, before, &stop_at(problem, node));
+        rows.or_minus_within(node, before, &blocked_at(problem, node));
     } else {
-        rows.or_minus_within(node, before, &stop_at(problem, before));
+        rows.or_minus_within(node, before, &blocked_at(problem, before));
         join_seeds(problem, rows, node, before);
     }
 }

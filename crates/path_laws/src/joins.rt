@@ -1,11 +1,11 @@
 // The disjunction of the rows of each node's neighbours.
-ghost use Rattle.std.specs.Prelude.{◌≡◌, IfOk, OnOk};
+ghost use Rattle.std.specs.Prelude.{◌≡◌, ◌+◌, ◌<◌, length, IfOk, OnOk};
 ghost use Rattle.flow_graph.specs.Edges.{edges_of};
 ghost use Rattle.flow_graph.specs.Graphs.{IsGraph};
-ghost use Rattle.path_laws.specs.Leads.{SomeStep};
+ghost use Rattle.path_laws.specs.Leads.{SomeStep, TellSteps};
 ghost use Rattle.path_laws.specs.Paths.{HaveShape, SomePred, SomeSucc, TellEach, width};
 
-use crate::graph_edges::flow_edge;
+use crate::graph_edges::{flow_edge, leaving};
 use bit_rows::Rows;
 use flow_graph::{Edges, Graph};
 use mir_base::Memory;
@@ -26,13 +26,44 @@ fn one_step_on(
     ensures shape { IfOk result (HaveShape graph.now bits) }
     ensures joins { IfOk result (TellEach graph.now (SomeStep against graph.now.nodes rows.now)) }
 {
-    let nodes = graph.nodes().len();
-    let mut all = Rows::new(alloc, nodes, bits)?;
-    for number in 0..edges.len() {
-        let (source, target) = flow_edge(edges, against, number);
-        all.or_from(target, &rows.row(source));
+    let count = graph.nodes().len();
+    let mut all = Rows::with_room(alloc, count, bits)?;
+    for node in 0..count {
+        push_step(graph, edges, against, bits, rows, node, &mut all)?;
     }
     Ok(all)
+}
+
+/// Puts the row of a node at the end: the disjunction of the rows of its neighbours one step on.
+fn push_step(
+    graph: &Graph,
+    edges: &Edges,
+    against: bool,
+    bits: usize,
+    rows: &Rows,
+    node: usize,
+    all: &mut Rows,
+) -> Result<(), Memory>
+    requires edges { edges.now ≡ edges_of graph.now.nodes }
+    requires rows { HaveShape graph.now bits rows.now }
+    requires node { node < length graph.now.nodes }
+    requires all { TellSteps against graph.now.nodes bits rows.now node all.old }
+    ensures { OnOk result
+        (TellSteps against graph.now.nodes bits rows.now (node + 1) all.new) }
+{
+    let _nodes = graph.nodes();
+    let (first, end) = leaving(edges, !against, node);
+    if first < end {
+        let (_, start) = flow_edge(edges, !against, first);
+        all.push(&rows.row(start))?;
+        for number in first + 1..end {
+            let (_, next) = flow_edge(edges, !against, number);
+            all.or_from(node, &rows.row(next));
+        }
+        Ok(())
+    } else {
+        all.push_false(bits)
+    }
 }
 
 /// Bit b at node n is true exactly where some predecessor of n has it. Rows go by nodes, and have equally many bits;

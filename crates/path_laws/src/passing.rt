@@ -1,5 +1,5 @@
 // A row of bits through a node.
-ghost use Rattle.std.specs.Prelude.{◌≡◌, ◌<◌, length, slice_get, Some};
+ghost use Rattle.std.specs.Prelude.{◌≡◌, ◌<◌, false, length, replicate, slice_get, IfOk, Some};
 ghost use Rattle.bit_rows.specs.Bits.{and_bits, not_bits, row_of};
 ghost use Rattle.path_laws.specs.Blockwise.{flow_order};
 ghost use Rattle.path_laws.specs.Problem.{IsProblem, blocks_in, is_seed, row_after};
@@ -8,6 +8,30 @@ ghost use Rattle.path_laws.specs.RowLaws.{Joined, Written};
 use crate::problems::Problem;
 use crate::seeds::is_end;
 use bit_rows::{Row, RowView, Rows};
+use mir_base::Memory;
+use std::alloc::Global;
+
+/// The row that leaves a node to which no bit comes: its seeds.
+pub(crate) fn seeds_at(alloc: Global, problem: &Problem<'_>, node: usize) -> Result<Row, Memory>
+    requires problem { IsProblem problem.now }
+    requires node { node < length problem.now.graph.now.nodes }
+    ensures { IfOk result
+        (λ row. row ≡ row_after problem.now node (replicate problem.now.bits false)) }
+{
+    let born = problem.born.row(node);
+    if !problem.every {
+        let row = Row::of(alloc, &born)?;
+        Ok(row)
+    } else if is_end(problem.graph, problem.against, node) {
+        let mut row = Row::of(alloc, &born)?;
+        row.flip();
+        Ok(row)
+    } else {
+        let mut row = Row::of(alloc, &problem.stop.row(node))?;
+        row.minus_from(&born);
+        Ok(row)
+    }
+}
 
 /// Takes a row through a node: in goes what comes to the node, and what comes out of it stays. For some path that is
 /// what the node does not stop, and what is born there; for every path what comes or is stopped there, or, where paths
@@ -64,7 +88,7 @@ fn or_opposite(rows: &mut Rows, row: usize, from: &RowView<'_>)
 }
 
 /// Which bits do not come through a node.
-pub(crate) fn stop_at<'a>(problem: &Problem<'a>, node: usize) -> RowView<'a>
+pub(crate) fn blocked_at<'a>(problem: &Problem<'a>, node: usize) -> RowView<'a>
     requires born { node < length problem.now.born.now }
     requires stop { node < length problem.now.stop.now }
     ensures { result ≡ row_of (blocks_in problem.now) node }

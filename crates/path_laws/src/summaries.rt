@@ -3,21 +3,22 @@ ghost use Rattle.std.specs.Prelude.{◌≡◌, ◌+◌, ◌<◌, length, IfOk, O
 ghost use Rattle.bit_rows.specs.Bits.{row_of};
 ghost use Rattle.path_laws.specs.Problem.{HaveBlocked, IsProblem, block_seeds};
 
-use crate::passing::{node_at, pass_row, stop_at};
+use crate::passing::{blocked_at, node_at, pass_row, seeds_at};
 use crate::problems::Problem;
 use bit_rows::{Row, Rows};
 use mir_base::Memory;
 use std::alloc::Global;
 
-/// What comes out of a block where nothing comes to it: a row of no bit, taken through its nodes.
+/// What comes out of a block where nothing comes to it: the seeds of its first node, taken through the others.
 pub(crate) fn seed_of(alloc: Global, problem: &Problem<'_>, block: usize) -> Result<Row, Memory>
     requires problem { IsProblem problem.now }
     requires block { block < length problem.now.blocks.now.lists }
     ensures { IfOk result (λ row. row ≡ row_of (block_seeds problem.now) block) }
 {
     let nodes = problem.blocks.nodes(block);
-    let mut row = Row::new(alloc, problem.bits)?;
-    for place in 0..nodes.len() {
+    let first = node_at(nodes, problem.against, 0);
+    let mut row = seeds_at(alloc, problem, first)?;
+    for place in 1..nodes.len() {
         let node = node_at(nodes, problem.against, place);
         pass_row(problem, &mut row, node);
     }
@@ -25,20 +26,20 @@ pub(crate) fn seed_of(alloc: Global, problem: &Problem<'_>, block: usize) -> Res
 }
 
 /// Which bits do not come through each block.
-pub(crate) fn stops_of(alloc: Global, problem: &Problem<'_>) -> Result<Rows, Memory>
+pub(crate) fn blocked_by_blocks(alloc: Global, problem: &Problem<'_>) -> Result<Rows, Memory>
     requires { IsProblem problem.now }
     ensures { IfOk result (HaveBlocked problem.now (length problem.now.blocks.now.lists)) }
 {
     let count = problem.blocks.len();
     let mut stops = Rows::with_room(alloc, count, problem.bits)?;
     for block in 0..count {
-        push_stops(problem, block, &mut stops)?;
+        push_blocked_by(problem, block, &mut stops)?;
     }
     Ok(stops)
 }
 
 /// Puts the row of a block at the end: the bits that some node of the block blocks.
-fn push_stops(problem: &Problem<'_>, block: usize, stops: &mut Rows) -> Result<(), Memory>
+fn push_blocked_by(problem: &Problem<'_>, block: usize, stops: &mut Rows) -> Result<(), Memory>
     requires problem { IsProblem problem.now }
     requires block { block < length problem.now.blocks.now.lists }
     requires stops { HaveBlocked problem.now block stops.old }
@@ -46,10 +47,10 @@ fn push_stops(problem: &Problem<'_>, block: usize, stops: &mut Rows) -> Result<(
 {
     let nodes = problem.blocks.nodes(block);
     let first = node_at(nodes, problem.against, 0);
-    stops.push(&stop_at(problem, first))?;
+    stops.push(&blocked_at(problem, first))?;
     for place in 1..nodes.len() {
         let node = node_at(nodes, problem.against, place);
-        stops.or_from(block, &stop_at(problem, node));
+        stops.or_from(block, &blocked_at(problem, node));
     }
     Ok(())
 }

@@ -21,7 +21,7 @@ taken p is rows after before node by shape h g k e =
 along : (c : After-or_minus_within-else-problem) → Joined c.args.problem.now.bits c.args.rows.now c.or_minus_within-else-problem.new.self c.args.node (λ b. has_bit c.args.rows.now b c.args.before && not (is_blocked c.args.problem.now b c.args.before))
 along c =
     taken c.args.problem.now c.requires.problem c.args.rows.now c.or_minus_within-else-problem.new.self c.args.before c.args.node c.args.before c.requires.rows c.requires.before c.requires.node c.requires.before
-    (rw c.stop_at-else-problem.ensures at c.or_minus_within-else-problem.ensures)
+    (rw c.blocked_at-else-problem.ensures at c.or_minus_within-else-problem.ensures)
 
 pub join_seeds-requires-clause-long : goal.join_seeds-requires-clause-long
 join_seeds-requires-clause-long c = (along (goal.at.join_seeds-requires-clause-long c).After-or_minus_within-else-problem).long ∙ c.requires.rows.each c.args.node c.requires.node
@@ -31,7 +31,7 @@ returns-then-problem c =
     let p = c.args.problem.now in
     handed_against p.against p.bits (is_seed p) (is_blocked p) c.args.rows.now c.or_minus_within.new.self c.args.before c.args.node c.if-problem.true
     (taken p c.requires.problem c.args.rows.now c.or_minus_within.new.self c.args.before c.args.node c.args.node c.requires.rows c.requires.before c.requires.node c.requires.node
-    (rw c.stop_at.ensures at c.or_minus_within.ensures))
+    (rw c.blocked_at.ensures at c.or_minus_within.ensures))
 
 pub returns-else-problem : goal.returns-else-problem
 returns-else-problem c =

@@ -21,7 +21,7 @@ returns-then-problem c =
     let n = c.first_of-node.result in
     let blocks = block_rows p.against p.graph.now.nodes p.bits p.born.now p.stop.now c.requires.problem.flow.born_rows c.requires.problem.flow.stop_rows p.every in
     let is : c.or_minus_from.new.self ≡ set c.args.rows.now c.first_of-node.result (or_bits (row_of c.args.rows.now c.first_of-node.result) (minus_bits (row_of c.args.work.now c.args.edge.now.source) (row_of (blocks_in c.args.problem.now) c.first_of-node.result)))
-    = rw (from_is known, c.stop_at.ensures) at c.or_minus_from.ensures in (
+    = rw (from_is known, c.blocked_at.ensures) at c.or_minus_from.ensures in (
       n,
       c.first_of-node.ensures.first,
       c.first_of-node.ensures.node,

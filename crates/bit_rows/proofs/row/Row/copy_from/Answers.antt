@@ -1,6 +1,6 @@
-use Rattle.std.proofs.Common.{◌≡◌, ◌++◌, length, take, drop, refl}
-use Rattle.bit_rows.proofs.Views.{Holds}
-use Rattle.bit_rows.proofs.Ops.{copied, words_long}
+use Rattle.std.proofs.Common.{◌≡◌, ◌++◌, length, take, drop, refl, sym, ◌∙◌}
+use Rattle.bit_rows.proofs.Views.{Holds, length_bits_of}
+use Rattle.bit_rows.proofs.Ops.{row_len, copied, words_long}
 use Rattle.bit_rows.proofs.row.Row.copy_from.Goals as goal
 use Rattle.bit_rows.proofs.row.Row.copy_from.Goals.{After-copy_from_slice, After-other}
 
@@ -20,5 +20,8 @@ done c =
 pub invariant_of-self : goal.invariant_of-self
 invariant_of-self c = (done (goal.at.invariant_of-self c).After-copy_from_slice).fits
 
-pub returns : goal.returns
-returns c = (done (goal.at.returns c).After-copy_from_slice).view
+pub returns-clause-copy : goal.returns-clause-copy
+returns-clause-copy c = (done (goal.at.returns-clause-copy c).After-copy_from_slice).view
+
+pub returns-clause-len : goal.returns-clause-len
+returns-clause-len c = length_bits_of c.self.inside.bits _ ∙ sym (row_len c.self.inside.bits c.self.inside.words.items c.args.self.now c.self.view_is)

@@ -1,6 +1,7 @@
-use Rattle.std.proofs.Common.{◌≡◌, ◌+◌, ◌/◌, ◌++◌, length, take, drop, refl, arith}
+use Rattle.std.proofs.Common.{◌≡◌, ◌+◌, ◌/◌, ◌++◌, length, take, drop, refl, sym, arith, ◌∙◌}
 use Rattle.bit_rows.specs.Bits.{not_bits}
-use Rattle.bit_rows.proofs.Views.{Holds, flip_holds, rewritten_whole}
+use Rattle.bit_rows.proofs.Views.{Holds, length_bits_of, flip_holds, rewritten_whole}
+use Rattle.bit_rows.proofs.Ops.{row_len}
 use Rattle.bit_rows.proofs.row.Row.flip.Goals as goal
 use Rattle.bit_rows.proofs.row.Row.flip.Goals.{After-flip_words}
 
@@ -18,5 +19,8 @@ done c =
 pub invariant_of-self : goal.invariant_of-self
 invariant_of-self c = (done (goal.at.invariant_of-self c).After-flip_words).fits
 
-pub returns : goal.returns
-returns c = (done (goal.at.returns c).After-flip_words).view
+pub returns-clause-flipped : goal.returns-clause-flipped
+returns-clause-flipped c = (done (goal.at.returns-clause-flipped c).After-flip_words).view
+
+pub returns-clause-len : goal.returns-clause-len
+returns-clause-len c = length_bits_of c.self.inside.bits _ ∙ sym (row_len c.self.inside.bits c.self.inside.words.items c.args.self.now c.self.view_is)

@@ -1,8 +1,8 @@
-use Rattle.std.proofs.Common.{◌≡◌, ◌++◌, length, take, drop, refl}
+use Rattle.std.proofs.Common.{◌≡◌, ◌++◌, length, take, drop, refl, sym, ◌∙◌}
 use Rattle.bit_rows.specs.Bits.{minus_bits}
 use Rattle.bit_rows.specs.declared.joining.Joining.TheVariants.{Minus}
-use Rattle.bit_rows.proofs.Views.{Holds, joining_bitwise}
-use Rattle.bit_rows.proofs.Ops.{joined, words_long}
+use Rattle.bit_rows.proofs.Views.{Holds, length_bits_of, joining_bitwise}
+use Rattle.bit_rows.proofs.Ops.{row_len, joined, words_long}
 use Rattle.bit_rows.proofs.row.Row.minus_from.Goals as goal
 use Rattle.bit_rows.proofs.row.Row.minus_from.Goals.{After-join_words}
 
@@ -21,5 +21,8 @@ done c =
 pub invariant_of-self : goal.invariant_of-self
 invariant_of-self c = (done (goal.at.invariant_of-self c).After-join_words).fits
 
-pub returns : goal.returns
-returns c = (done (goal.at.returns c).After-join_words).view
+pub returns-clause-minus : goal.returns-clause-minus
+returns-clause-minus c = (done (goal.at.returns-clause-minus c).After-join_words).view
+
+pub returns-clause-len : goal.returns-clause-len
+returns-clause-len c = length_bits_of c.self.inside.bits _ ∙ sym (row_len c.self.inside.bits c.self.inside.words.items c.args.self.now c.self.view_is)

@@ -6,8 +6,8 @@ use Rattle.path_laws.specs.Problem.{IsProblem, blocks_in, orders}
 use Rattle.path_laws.specs.SeedsLaws.{block_rows}
 use Rattle.path_laws.proofs.Places.{long_is, node_in}
 use Rattle.path_laws.proofs.RowsPassed.{stopped_all, stopped_first, stopped_next}
-use Rattle.path_laws.proofs.summaries.push_stops.Goals as goal
-use Rattle.path_laws.proofs.summaries.push_stops.Goals.{After-node_at-first, After-node_at-node}
+use Rattle.path_laws.proofs.summaries.push_blocked_by.Goals as goal
+use Rattle.path_laws.proofs.summaries.push_blocked_by.Goals.{After-node_at-first, After-node_at-node}
 
 first : (c : After-node_at-first) → (slice_get (orders c.args.problem.now c.args.block) 0 ≡ Some c.node_at-first.result) × (c.node_at-first.result < length c.args.problem.now.graph.now.nodes)
 first c = node_in c.args.problem.now c.args.block 0 c.node_at-first.result c.nodes-nodes.result.now c.requires.problem c.nodes-nodes.ensures c.node_at-first.ensures
@@ -22,40 +22,40 @@ stop_long p is n h = (block_rows p.against p.graph.now.nodes p.bits p.born.now p
 pub node_at-first-requires : goal.node_at-first-requires
 node_at-first-requires c = chain_some c.args.problem.now.graph.now.nodes c.nodes-nodes.result.now (c.requires.problem.blocks_are.are.blocks c.args.block c.nodes-nodes.result.now c.nodes-nodes.ensures).chain
 
-pub stop_at-requires-clause-born : goal.stop_at-requires-clause-born
-stop_at-requires-clause-born c = rw c.requires.problem.flow.born_rows.len (first (goal.at.stop_at-requires-clause-born c).After-node_at-first).1
+pub blocked_at-requires-clause-born : goal.blocked_at-requires-clause-born
+blocked_at-requires-clause-born c = rw c.requires.problem.flow.born_rows.len (first (goal.at.blocked_at-requires-clause-born c).After-node_at-first).1
 
-pub stop_at-requires-clause-stop : goal.stop_at-requires-clause-stop
-stop_at-requires-clause-stop c = rw c.requires.problem.flow.stop_rows.len (first (goal.at.stop_at-requires-clause-stop c).After-node_at-first).1
+pub blocked_at-requires-clause-stop : goal.blocked_at-requires-clause-stop
+blocked_at-requires-clause-stop c = rw c.requires.problem.flow.stop_rows.len (first (goal.at.blocked_at-requires-clause-stop c).After-node_at-first).1
 
 pub push-requires : goal.push-requires
 push-requires c =
     let at = first (goal.at.push-requires c).After-node_at-first in
-    let long = ap length c.stop_at.ensures ∙ stop_long c.args.problem.now c.requires.problem c.node_at-first.result at.1 in
+    let long = ap length c.blocked_at.ensures ∙ stop_long c.args.problem.now c.requires.problem c.node_at-first.result at.1 in
     record { each = λ k h. c.requires.stops.shape.each k (rw c.requires.stops.shape.len at h) ∙ sym long }
 
 pub loop-place-init : goal.loop-place-init
 loop-place-init c =
     let at = first (goal.at.loop-place-init c).After-node_at-first in
     let p = c.args.problem.now in
-    stopped_first c.args.block p.bits (orders p) (blocks_in p) c.node_at-first.result c.args.stops.now c.push.new.self c.requires.stops (stop_long p c.requires.problem c.node_at-first.result at.1) (rw c.stop_at.ensures at c.in_ok-push.ensures.ok) at.0
+    stopped_first c.args.block p.bits (orders p) (blocks_in p) c.node_at-first.result c.args.stops.now c.push.new.self c.requires.stops (stop_long p c.requires.problem c.node_at-first.result at.1) (rw c.blocked_at.ensures at c.in_ok-push.ensures.ok) at.0
 
-pub stop_at-requires-in-loop-place-clause-born : goal.stop_at-requires-in-loop-place-clause-born
-stop_at-requires-in-loop-place-clause-born c = rw c.requires.problem.flow.born_rows.len (item (goal.at.stop_at-requires-in-loop-place-clause-born c).After-node_at-node).1
+pub blocked_at-requires-in-loop-place-clause-born : goal.blocked_at-requires-in-loop-place-clause-born
+blocked_at-requires-in-loop-place-clause-born c = rw c.requires.problem.flow.born_rows.len (item (goal.at.blocked_at-requires-in-loop-place-clause-born c).After-node_at-node).1
 
-pub stop_at-requires-in-loop-place-clause-stop : goal.stop_at-requires-in-loop-place-clause-stop
-stop_at-requires-in-loop-place-clause-stop c = rw c.requires.problem.flow.stop_rows.len (item (goal.at.stop_at-requires-in-loop-place-clause-stop c).After-node_at-node).1
+pub blocked_at-requires-in-loop-place-clause-stop : goal.blocked_at-requires-in-loop-place-clause-stop
+blocked_at-requires-in-loop-place-clause-stop c = rw c.requires.problem.flow.stop_rows.len (item (goal.at.blocked_at-requires-in-loop-place-clause-stop c).After-node_at-node).1
 
 pub or_from-requires-clause-equally_long : goal.or_from-requires-clause-equally_long
 or_from-requires-clause-equally_long c =
     let at = item (goal.at.or_from-requires-clause-equally_long c).After-node_at-node in
-    c.loop-place.invariant.shape.each c.args.block (omega arith) ∙ sym (ap length c.stop_at-in-loop-place.ensures ∙ stop_long c.args.problem.now c.requires.problem c.node_at-node.result at.1)
+    c.loop-place.invariant.shape.each c.args.block (omega arith) ∙ sym (ap length c.blocked_at-in-loop-place.ensures ∙ stop_long c.args.problem.now c.requires.problem c.node_at-node.result at.1)
 
 pub loop-place-preserved : goal.loop-place-preserved
 loop-place-preserved c =
     let at = item (goal.at.loop-place-preserved c).After-node_at-node in
     let p = c.args.problem.now in
-    stopped_next c.args.block p.bits (orders p) (blocks_in p) c.loop-place.place c.node_at-node.result c.loop-place.stops c.or_from.new.self c.loop-place.invariant (stop_long p c.requires.problem c.node_at-node.result at.1) at.0 (rw c.stop_at-in-loop-place.ensures at c.or_from.ensures)
+    stopped_next c.args.block p.bits (orders p) (blocks_in p) c.loop-place.place c.node_at-node.result c.loop-place.stops c.or_from.new.self c.loop-place.invariant (stop_long p c.requires.problem c.node_at-node.result at.1) at.0 (rw c.blocked_at-in-loop-place.ensures at c.or_from.ensures)
 
 pub returns : goal.returns
 returns c =
