@@ -8,6 +8,7 @@ ghost use Rattle.latest_place.specs.Rows.{AreDelayedRows, AreInsertedRows, AreIs
 use bit_rows::Rows;
 use flow_graph::{Edges, Graph};
 use mir_base::Memory;
+use motion_rewrite::Placement;
 use path_laws::{backward_some, forward_all, some_successor};
 use std::alloc::Global;
 
@@ -75,27 +76,21 @@ pub(crate) fn isolated_rows(alloc: Global, uses: &Uses<'_>, latest: &Rows) -> Re
     Ok(rows)
 }
 
-/// The evaluations at the latest nodes that are not isolated.
-pub(crate) fn inserted_rows(alloc: Global, latest: &Rows, isolated: &Rows) -> Result<Rows, Memory>
-    requires { AreAlike latest.now isolated.now }
-    ensures alike { IfOk result (AreAlike latest.now) }
-    ensures bits { IfOk result (AreInsertedRows latest.now isolated.now) }
+/// The placement that inserts at the latest nodes that are not isolated, and replaces the uses that are not both latest
+/// and isolated.
+pub(crate) fn placement_of(uses: Rows, latest: Rows, isolated: Rows) -> Placement
+    requires uses { AreAlike uses latest }
+    requires isolated { AreAlike isolated latest }
+    ensures insert_alike { AreAlike latest result.insert }
+    ensures replace_alike { AreAlike uses result.replace }
+    ensures inserted { AreInsertedRows latest isolated result.insert }
+    ensures replaced { AreReplacedRows uses latest isolated result.replace }
 {
-    let mut rows = latest.copied(alloc)?;
-    rows.minus_rows(isolated);
-    Ok(rows)
-}
-
-/// The uses, without those that are both latest and isolated.
-pub(crate) fn replaced_rows(uses: Rows, latest: Rows, isolated: &Rows) -> Rows
-    requires latest { AreAlike uses latest }
-    requires isolated { AreAlike latest isolated.now }
-    ensures alike { AreAlike uses result }
-    ensures bits { AreReplacedRows uses latest isolated.now result }
-{
-    let mut kept = latest;
-    kept.and_rows(isolated);
-    let mut replaced = uses;
-    replaced.minus_rows(&kept);
-    replaced
+    let mut kept = isolated;
+    kept.and_rows(&latest);
+    let mut insert = latest;
+    insert.minus_rows(&kept);
+    let mut replace = uses;
+    replace.minus_rows(&kept);
+    Placement { insert, replace }
 }

@@ -6,7 +6,7 @@ ghost use Rattle.motion_rewrite.specs.Placements.{AreOptimal, CanFlattenBy};
 ghost use Rattle.latest_place.specs.Lazy.{AreLateRows, AreLazy};
 
 use crate::Late;
-use crate::nodes::{Uses, delayed_rows, inserted_rows, isolated_rows, latest_rows, replaced_rows};
+use crate::nodes::{Uses, delayed_rows, isolated_rows, latest_rows, placement_of};
 use down_safe::{DownRule, busy};
 use flow_graph::{Edges, Graph};
 use mir_base::Memory;
@@ -71,9 +71,6 @@ pub fn lazy<R: DownRule>(
     let late = late(alloc, rule, graph, edges, table)?;
     // The proof needs what holds of every graph: that each node is reached.
     let _ = graph.nodes();
-    let insert = inserted_rows(alloc, &late.latest, &late.isolated)?;
-    Ok(Placement {
-        insert,
-        replace: replaced_rows(late.uses, late.latest, &late.isolated),
-    })
+    let placement = placement_of(late.uses, late.latest, late.isolated);
+    Ok(placement)
 }

@@ -13,6 +13,7 @@ pub mod Found
 pub mod Emptied
 pub mod RowsTell
 pub mod BlockedLong
+pub mod JoinedLast
 pub mod PrunedMarks
 pub mod PrunedBy
 pub mod LayoutLists

@@ -3,13 +3,13 @@
 use Rattle.std.specs.Prelude.{◌≡◌, ◌<◌, ℕ, Bool, true, false, List, [], ◌∷◌, length, flat_map, replicate, slice_get, Some}
 use Rattle.mir_base.specs.declared.instructions.Rhs.{Rhs}
 use Rattle.mir_base.specs.Shapes.{into_vars, operand_vars, rhs_vars, test_vars}
-use Rattle.bit_rows.specs.Bits.{or_bits, row_of}
+use Rattle.bit_rows.specs.Bits.{or_bits, row_of, with_row_by}
 use Rattle.flow_graph.specs.declared.nodes.Node.{Node}
 use Rattle.flow_graph.specs.declared.nodes.Node.TheVariants.{Start, Skip, Assign, Print, Call, Test, Return}
 use Rattle.flow_graph.specs.Graphs.{GraphShape}
 use Rattle.flow_graph.specs.Numbering.{is_in}
 use Rattle.path_laws.specs.KeyRows.{AreKeyRows, AreKeyRowsWhere}
-use Rattle.path_laws.specs.Paths.{has_bit}
+use Rattle.path_laws.specs.Paths.{AreRows, has_bit}
 use Rattle.sink_dead.specs.declared.patterns.Pattern.{Pattern}
 use Rattle.sink_dead.specs.Delaying.{IsDelayedTo, IsInsertedAt}
 
@@ -42,10 +42,21 @@ abbrev pub joined_rows : List (List Bool) → List ℕ → List Bool → List Bo
 joined_rows rows [] row = row
 joined_rows rows (x ∷ xs) row = joined_rows rows xs (or_bits row (row_of rows x))
 
--- the new row is that, and has as many bits as before
-pub record JoinsRows (rows : List (List Bool)) (vars : List ℕ) (old new : List Bool) : Type 0 where
-  pub row : new ≡ joined_rows rows vars old
+-- the rows, where one has those of these variables joined to it
+abbrev pub joined_at : List (List Bool) → List ℕ → ℕ → List (List Bool) → List (List Bool)
+joined_at from [] row rows = rows
+joined_at from (x ∷ xs) row rows = joined_at from xs row (with_row_by or_bits rows row from x)
+
+-- the row is one of the rows, and as long as each of those that are joined to it
+pub record FitsRowsOf (from : List (List Bool)) (row : ℕ) (rows : List (List Bool)) : Type 0 where
+  pub within : row < length rows
+  pub long : AreRows (length from) (length (row_of rows row)) from
+
+-- the new rows are those, as many as before, and the row has as many bits as before
+pub record JoinsRows (from : List (List Bool)) (vars : List ℕ) (row : ℕ) (old new : List (List Bool)) : Type 0 where
+  pub rows : new ≡ joined_at from vars row old
   pub len : length new ≡ length old
+  pub long : length (row_of new row) ≡ length (row_of old row)
 
 -- where each variable has a row of the patterns that assign it, and one of those that name it: the row of the patterns that
 -- the node blocks

@@ -9,43 +9,43 @@ pub(crate) fn same_unit(a: &MirUnit, b: &MirUnit) -> bool
 {
     same_items(a.insts(), b.insts())
         && same_items(a.vars.items(), b.vars.items())
-        && a.name.is_same(&b.name)
+        && a.name.is_equal(&b.name)
 }
 
 /// What can be compared with another of its type.
-trait Same {
+trait Equal {
     /// Whether the two are equal. It does not allocate.
-    fn is_same(&self, other: &Self) -> bool
+    fn is_equal(&self, other: &Self) -> bool
         ensures { IsTrue result ↔ (self.now ≡ other.now) };
 }
 
-impl Same for Name {
-    fn is_same(&self, other: &Name) -> bool {
+impl Equal for Name {
+    fn is_equal(&self, other: &Name) -> bool {
         self.bytes() == other.bytes()
     }
 }
 
-impl Same for Inst {
-    fn is_same(&self, other: &Inst) -> bool {
+impl Equal for Inst {
+    fn is_equal(&self, other: &Inst) -> bool {
         same_inst(self, other)
     }
 }
 
-impl Same for Operand {
-    fn is_same(&self, other: &Operand) -> bool {
+impl Equal for Operand {
+    fn is_equal(&self, other: &Operand) -> bool {
         same_operand(*self, *other)
     }
 }
 
 /// Whether two lists are equal, item by item.
-fn same_items<T: Same>(a: &[T], b: &[T]) -> bool
+fn same_items<T: Equal>(a: &[T], b: &[T]) -> bool
     ensures { IsTrue result ↔ (a.now ≡ b.now) }
 {
     if a.len() != b.len() {
         return false;
     }
     for n in 0..a.len() {
-        if !a[n].is_same(&b[n]) {
+        if !a[n].is_equal(&b[n]) {
             return false;
         }
     }

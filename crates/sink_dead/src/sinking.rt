@@ -45,7 +45,7 @@ fn sunk_graph(alloc: Global, graph: &Graph) -> Result<Graph, Memory>
 }
 
 /// What is inserted before the nodes of a graph. Rows have a bit for each pattern that can still move; the others are
-/// put back where they stood.
+/// put before the node that blocks them.
 fn insertions(alloc: Global, graph: &Graph) -> Result<Vec<Put>, Memory>
     requires { IsSplit graph.now.nodes }
     ensures graph { OnOk result (IsGraph graph.now.vars graph.now.received graph.now.nodes) }

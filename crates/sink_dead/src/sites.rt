@@ -6,11 +6,11 @@ ghost use Rattle.flow_graph.specs.Graphs.{HaveVarsBelow, node_vars};
 ghost use Rattle.path_laws.specs.KeyRows.{SetsBitAt};
 ghost use Rattle.path_laws.specs.Paths.{AreRows};
 ghost use Rattle.sink_dead.specs.Accesses.{blocks_at, occurs_at};
-ghost use Rattle.sink_dead.specs.SiteRows.{AreBitsByVariable, AreBlockedRows, AreSiteRows, JoinsRows, blocked_row, pattern_vars};
+ghost use Rattle.sink_dead.specs.SiteRows.{AreBitsByVariable, AreBlockedRows, AreSiteRows, FitsRowsOf, JoinsRows, blocked_row, pattern_vars};
 ghost use Rattle.sink_dead.specs.Tables.{AreSinkableBelow, pattern_of};
 
 use crate::patterns::{Pattern, Patterns, pattern_at};
-use bit_rows::{Row, Rows};
+use bit_rows::Rows;
 use flow_graph::{Graph, Node};
 use mir_base::{Memory, Operand, Rhs, Test};
 use path_laws::{KeyOf, key_rows, mark_operand, mark_var, push_true};
@@ -116,14 +116,13 @@ fn blocked_rows(
 {
     let mut rows = Rows::with_room(alloc, nodes.len(), bits)?;
     for node in nodes {
-        push_blocked(alloc, &mut rows, node, by_variable, bits)?;
+        push_blocked(&mut rows, node, by_variable, bits)?;
     }
     Ok(rows)
 }
 
 /// Puts the row of what a node blocks at the end: all bits at Start. It fails only with `Memory`.
 fn push_blocked(
-    alloc: Global,
     rows: &mut Rows,
     node: &Node,
     by_variable: &ByVariable,
@@ -136,87 +135,90 @@ fn push_blocked(
     ensures { OnOk result (rows.new ≡ rows.old ++
         blocked_row by_variable.now.assigning by_variable.now.naming bits node.now ∷ []) }
 {
-    let mut row = Row::new(alloc, bits)?;
+    if let Node::Start(_) = node {
+        return push_true(rows, bits);
+    }
+    let last = rows.len();
+    rows.push_false(bits)?;
     match node {
-        Node::Start(_) => return push_true(rows, bits),
-        Node::Skip(_) => {}
+        Node::Start(_) | Node::Skip(_) => {}
         Node::Assign(x, rhs, _) => {
-            join_rhs(&mut row, rhs, &by_variable.assigning);
-            join_var(&mut row, *x, &by_variable.naming);
+            join_rhs(rows, last, rhs, &by_variable.assigning);
+            join_var(rows, last, *x, &by_variable.naming);
         }
-        Node::Print(a, _) => join_operand(&mut row, *a, &by_variable.assigning),
+        Node::Print(a, _) => join_operand(rows, last, *a, &by_variable.assigning),
         Node::Call(into, _, args, _) => {
-            join_operands(&mut row, args.items(), &by_variable.assigning);
+            join_operands(rows, last, args.items(), &by_variable.assigning);
             if let Some(x) = into {
-                join_var(&mut row, *x, &by_variable.naming);
+                join_var(rows, last, *x, &by_variable.naming);
             }
         }
-        Node::Test(test, _, _) => join_test(&mut row, test, &by_variable.assigning),
-        Node::Return(a) => join_operand(&mut row, *a, &by_variable.assigning),
+        Node::Test(test, _, _) => join_test(rows, last, test, &by_variable.assigning),
+        Node::Return(a) => join_operand(rows, last, *a, &by_variable.assigning),
     }
-    rows.push(&row.view())
+    Ok(())
 }
 
-/// Joins the row of a variable to a row.
-fn join_var(row: &mut Row, x: usize, rows: &Rows)
-    requires shape { AreRows (length rows.now) (length row.old) rows.now }
-    requires x { x < length rows.now }
-    ensures { JoinsRows rows.now (x ∷ []) row.old row.new }
+/// Joins the row of a variable to the last row.
+fn join_var(rows: &mut Rows, last: usize, x: usize, from: &Rows)
+    requires fits { FitsRowsOf from.now last rows.old }
+    requires x { x < length from.now }
+    ensures { JoinsRows from.now (x ∷ []) last rows.old rows.new }
 {
-    let _changed = row.or_from(&rows.row(x));
+    rows.or_into(last, from, x);
 }
 
-/// Joins the row of an operand to a row, where it is a variable.
-fn join_operand(row: &mut Row, operand: Operand, rows: &Rows)
-    requires shape { AreRows (length rows.now) (length row.old) rows.now }
-    requires below { AllBelow (length rows.now) (operand_vars operand) }
-    ensures { JoinsRows rows.now (operand_vars operand) row.old row.new }
+/// Joins the row of an operand to the last row, where it is a variable.
+fn join_operand(rows: &mut Rows, last: usize, operand: Operand, from: &Rows)
+    requires fits { FitsRowsOf from.now last rows.old }
+    requires below { AllBelow (length from.now) (operand_vars operand) }
+    ensures { JoinsRows from.now (operand_vars operand) last rows.old rows.new }
 {
     match operand {
-        Operand::Var(x) => join_var(row, x, rows),
+        Operand::Var(x) => join_var(rows, last, x, from),
         Operand::Const(_) => {}
     }
 }
 
-/// Joins the rows of the variables of a right side to a row.
-fn join_rhs(row: &mut Row, rhs: &Rhs, rows: &Rows)
-    requires shape { AreRows (length rows.now) (length row.old) rows.now }
-    requires below { AllBelow (length rows.now) (rhs_vars rhs.now) }
-    ensures { JoinsRows rows.now (rhs_vars rhs.now) row.old row.new }
+/// Joins the rows of the variables of a right side to the last row.
+fn join_rhs(rows: &mut Rows, last: usize, rhs: &Rhs, from: &Rows)
+    requires fits { FitsRowsOf from.now last rows.old }
+    requires below { AllBelow (length from.now) (rhs_vars rhs.now) }
+    ensures { JoinsRows from.now (rhs_vars rhs.now) last rows.old rows.new }
 {
     match rhs {
-        Rhs::Plain(a) => join_operand(row, *a, rows),
-        Rhs::Unary(_, a) => join_operand(row, *a, rows),
+        Rhs::Plain(a) => join_operand(rows, last, *a, from),
+        Rhs::Unary(_, a) => join_operand(rows, last, *a, from),
         Rhs::Binary(_, a, b) => {
-            join_operand(row, *a, rows);
-            join_operand(row, *b, rows);
+            join_operand(rows, last, *a, from);
+            join_operand(rows, last, *b, from);
         }
     }
 }
 
-/// Joins the rows of the variables of a test to a row.
-fn join_test(row: &mut Row, test: &Test, rows: &Rows)
-    requires shape { AreRows (length rows.now) (length row.old) rows.now }
-    requires below { AllBelow (length rows.now) (test_vars test.now) }
-    ensures { JoinsRows rows.now (test_vars test.now) row.old row.new }
+/// Joins the rows of the variables of a test to the last row.
+fn join_test(rows: &mut Rows, last: usize, test: &Test, from: &Rows)
+    requires fits { FitsRowsOf from.now last rows.old }
+    requires below { AllBelow (length from.now) (test_vars test.now) }
+    ensures { JoinsRows from.now (test_vars test.now) last rows.old rows.new }
 {
     match test {
         Test::Rel(_, a, b) => {
-            join_operand(row, *a, rows);
-            join_operand(row, *b, rows);
+            join_operand(rows, last, *a, from);
+            join_operand(rows, last, *b, from);
         }
-        Test::Holds(a) => join_operand(row, *a, rows),
-        Test::Fails(a) => join_operand(row, *a, rows),
+        Test::Holds(a) => join_operand(rows, last, *a, from),
+        Test::Fails(a) => join_operand(rows, last, *a, from),
     }
 }
 
-/// Joins the rows of the operands to a row.
-fn join_operands(row: &mut Row, operands: &[Operand], rows: &Rows)
-    requires shape { AreRows (length rows.now) (length row.old) rows.now }
-    requires below { AllBelow (length rows.now) (flat_map operand_vars operands.now) }
-    ensures { JoinsRows rows.now (flat_map operand_vars operands.now) row.old row.new }
+/// Joins the rows of the operands to the last row.
+fn join_operands(rows: &mut Rows, last: usize, operands: &[Operand], from: &Rows)
+    requires fits { FitsRowsOf from.now last rows.old }
+    requires below { AllBelow (length from.now) (flat_map operand_vars operands.now) }
+    ensures { JoinsRows from.now (flat_map operand_vars operands.now) last rows.old rows.new }
 {
     for operand in operands {
-        join_operand(row, *operand, rows);
+        join_operand(rows, last, *operand, from);
     }
 }

@@ -7,20 +7,17 @@ use Rattle.latest_place.proofs.Optimal.{lazy_optimal}
 use Rattle.latest_place.proofs.Reading.{rows_are_lazy}
 use Rattle.latest_place.proofs.placement.lazy.Goals as goal
 
-pub inserted_rows-requires : goal.inserted_rows-requires
-inserted_rows-requires g c = are_alike (length c.args.graph.now.nodes) (length c.args.table.now) c.in_ok-late.late.latest c.in_ok-late.late.isolated c.in_ok-late.ensures.latest.shape c.in_ok-late.ensures.isolated.shape
+pub placement_of-placement-requires-clause-uses : goal.placement_of-placement-requires-clause-uses
+placement_of-placement-requires-clause-uses g c = are_alike (length c.args.graph.now.nodes) (length c.args.table.now) c.in_ok-late.late.uses c.in_ok-late.late.latest c.in_ok-late.ensures.uses.shape c.in_ok-late.ensures.latest.shape
 
-pub replaced_rows-requires-clause-latest : goal.replaced_rows-requires-clause-latest
-replaced_rows-requires-clause-latest g c = are_alike (length c.args.graph.now.nodes) (length c.args.table.now) c.in_ok-late.late.uses c.in_ok-late.late.latest c.in_ok-late.ensures.uses.shape c.in_ok-late.ensures.latest.shape
-
-pub replaced_rows-requires-clause-isolated : goal.replaced_rows-requires-clause-isolated
-replaced_rows-requires-clause-isolated g c = are_alike (length c.args.graph.now.nodes) (length c.args.table.now) c.in_ok-late.late.latest c.in_ok-late.late.isolated c.in_ok-late.ensures.latest.shape c.in_ok-late.ensures.isolated.shape
+pub placement_of-placement-requires-clause-isolated : goal.placement_of-placement-requires-clause-isolated
+placement_of-placement-requires-clause-isolated g c = are_alike (length c.args.graph.now.nodes) (length c.args.table.now) c.in_ok-late.late.isolated c.in_ok-late.late.latest c.in_ok-late.ensures.isolated.shape c.in_ok-late.ensures.latest.shape
 
 pub returns-clause-insert : goal.returns-clause-insert
-returns-clause-insert g c = like_rows (length c.args.graph.now.nodes) (length c.args.table.now) c.in_ok-late.late.latest c.in_ok-insert.insert c.in_ok-late.ensures.latest.shape c.in_ok-insert.ensures.alike
+returns-clause-insert g c = like_rows (length c.args.graph.now.nodes) (length c.args.table.now) c.in_ok-late.late.latest c.placement_of-placement.result.insert c.in_ok-late.ensures.latest.shape c.placement_of-placement.ensures.insert_alike
 
 pub returns-clause-replace : goal.returns-clause-replace
-returns-clause-replace g c = like_rows (length c.args.graph.now.nodes) (length c.args.table.now) c.in_ok-late.late.uses c.replaced_rows.result c.in_ok-late.ensures.uses.shape c.replaced_rows.ensures.alike
+returns-clause-replace g c = like_rows (length c.args.graph.now.nodes) (length c.args.table.now) c.in_ok-late.late.uses c.placement_of-placement.result.replace c.in_ok-late.ensures.uses.shape c.placement_of-placement.ensures.replace_alike
 
 pub returns-clause-lazy : goal.returns-clause-lazy
 returns-clause-lazy g c = λ i e at.
@@ -30,8 +27,8 @@ returns-clause-lazy g c = λ i e at.
       used_is = λ n below. c.in_ok-late.ensures.uses.bits n i e below at;
       latest_is = λ n below. c.in_ok-late.ensures.latest.bits n i e below at;
       isolated_is = λ n below. c.in_ok-late.ensures.isolated.bits n i e below at;
-      inserts_is = λ n. c.in_ok-insert.ensures.bits n i;
-      replaces_is = λ n. c.replaced_rows.ensures.bits n i;
+      inserts_is = λ n. c.placement_of-placement.ensures.inserted n i;
+      replaces_is = λ n. c.placement_of-placement.ensures.replaced n i;
     })
 
 pub returns-clause-optimal : goal.returns-clause-optimal
