@@ -67,8 +67,8 @@ enum Left {
 /// The cases of `optimise`.
 const CASES: [Case; 24] = [
     // Each proper prefix of a text, of which the longest lacks the last line feed alone, and the text.
-    (Front(ALL_FORMS, 0, 152), Refused),
-    (Front(ALL_FORMS, 153, 154), Output(ALL_FORMS)),
+    (Front(MOST_FORMS, 0, 152), Refused),
+    (Front(MOST_FORMS, 153, 154), Output(MOST_FORMS)),
     // As many bytes as a text may have, and one more.
     (Bytes(1_048_576, b'\xff'), Bad(b"line 1: bad byte\n")),
     (Bytes(1_048_576, b'('), Bad(b"line 1: unexpected\n")),
@@ -101,7 +101,7 @@ const CASES: [Case; 24] = [
     (InterruptedRead, Line(6, b"read fault\n")),
     (InterruptedWrite, Line(7, b"write fault\n")),
     // Devices that never fail.
-    (Calm(ALL_FORMS), Output(b"")),
+    (Calm(MOST_FORMS), Output(b"")),
 ];
 
 /// Cases of other commands: a loop that is entered at two places, and a trial, which reads nothing, and whose writes
@@ -116,7 +116,7 @@ const OTHERS: [(&str, Case); 3] = [
 const TOO_LONG: &[u8] = b"text longer than 1048576 bytes\n";
 
 /// A program with most forms, of which the passes change nothing.
-const ALL_FORMS: &[u8] = b"\
+const MOST_FORMS: &[u8] = b"\
 main: begin
 receive a(val)
 L1: x <- f,(a,int;-1,int)

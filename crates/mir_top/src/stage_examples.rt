@@ -6,7 +6,7 @@ use std::alloc::{AllocError, Global};
 type StageExample = (&'static str, [(&'static str, &'static str); 3]);
 
 /// The smallest program, which is the same from the first stage on; a copy, which two stages remove; and three rounds
-/// of one unit, and one of the other, which shows it in each.
+/// of one unit, and two of the other, whose last shows in the third.
 pub const STAGE_EXAMPLES: [StageExample; 3] = [
     (
         "f: begin\nL: end\n",
@@ -33,7 +33,7 @@ pub const STAGE_EXAMPLES: [StageExample; 3] = [
     (
         CHAIN,
         [
-            (BEFORE_ROUNDS, CHAIN),
+            (UP_TO_ROUNDS, CHAIN),
             ("round 1", CHAIN_AFTER_ONE),
             ("round 2, round 3, result", CHAIN_AFTER_TWO),
         ],
@@ -48,7 +48,7 @@ const THROUGH_MOTION: &str =
 const FROM_COPIES: &str = "copies, split, motion, copies after motion";
 
 /// All before the rounds.
-const BEFORE_ROUNDS: &str =
+const UP_TO_ROUNDS: &str =
     "source, lower, clean, fold, number, copies, split, motion, copies after motion";
 
 /// A copy.
@@ -65,7 +65,8 @@ return a
 L1: return y
 end
 f: begin
-return 1
+c <- 1
+return 2
 end
 ";
 
@@ -80,7 +81,7 @@ L1: y <- x + 1
 return y
 end
 f: begin
-return 1
+return 2
 end
 ";
 
@@ -95,7 +96,7 @@ y <- x + 1
 return y
 end
 f: begin
-return 1
+return 2
 end
 ";
 

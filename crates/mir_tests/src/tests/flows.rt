@@ -297,7 +297,7 @@ fn pushes_of<L: Ledger>(
 }
 
 /// Each edge is pushed along once: of the chain, of which half of the edges lead down, and of the line, of which all
-/// do; in the order of the numbers that would be 20,100 pushes.
+/// do; in the order of the numbers the line would take 20,100 pushes.
 #[test]
 fn each_edge_is_pushed_along_once(rt: HostRuntime) -> Result<(), Fail> {
     for (is_line, pushes) in [(false, 400), (true, 200)] {

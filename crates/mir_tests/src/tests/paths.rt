@@ -35,7 +35,7 @@ fn text_along(
     requires { edges.now ≡ edges_of graph.now.nodes }
 {
     let (born, stop) = sites;
-    let sites = Sites {
+    let sites = BitRows {
         born: rows_at(alloc, graph, born)?,
         stop: rows_at(alloc, graph, stop)?,
     };
@@ -47,19 +47,19 @@ fn text_along(
 
 /// Where a bit is born, and where it is stopped.
 #[derive(Drop)]
-struct Sites {
+struct BitRows {
     born: Rows,
     stop: Rows,
 }
 
-impl Sites {
+impl BitRows {
     /// Where the bit holds by the statement of this name.
     fn held(&self, alloc: Global, name: &str, graph: &Graph, edges: &Edges) -> Result<Rows, Memory>
         requires edges { edges.now ≡ edges_of graph.now.nodes }
         requires born { HaveShape graph.now 1 self.now.born }
         requires stop { HaveShape graph.now 1 self.now.stop }
     {
-        let Sites { born, stop } = self;
+        let BitRows { born, stop } = self;
         match name {
             "before" => forward_all(alloc, graph, edges, born, stop),
             "after" => backward_all(alloc, graph, edges, born, stop),
