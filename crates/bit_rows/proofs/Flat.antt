@@ -1,5 +1,5 @@
--- Rows that stand one after the other in one list of words: what is known of each row, what rows stand after one of them got
--- other words, and rows that are all false.
+-- Rows that stand one after the other in one list of words: what is known of each row, what rows stand after one of
+-- them got other words, and rows that are all false.
 use Rattle.std.proofs.Common.{◌≡◌, ℕ, ◌+◌, ◌-◌, ◌*◌, ◌/◌, ◌%◌, ◌<◌, ◌≤◌, Bool, false, List, [], ◌++◌, length, take, drop, get_or, set, replicate, sym, ap, inl, inr, arith, ◌∙◌, bit_and, w64, length-drop, length-take, get_or-drop, get_or-take}
 use Rattle.std.proofs.Math.Nat.{mul-le-mul_left}
 use Rattle.std.proofs.lemmas.Bool.{cases_eq}
@@ -114,9 +114,6 @@ module _ (rows bits stride : ℕ) (words : List ℕ) (all : List (List Bool)) (f
             let fits3 : FitsWords bits ws = rw (← e) fw in
             let view3 : bits_of bits ws ≡ less = rw (← e) view2 in
             put _ (rw (← row_view, ← view_n, ← view3) (or_minus_hold bits (words_at stride words row) ys ws (words_at stride words' row) row_fits fits_n fits3 new_long (λ k l. each k (rw words_long at l))))
-
-        pub copied_row : words_at stride words' row ≡ ys → HoldRows rows bits stride (take len (words' ++ drop (length words') words)) (set all row other)
-        copied_row is = put other (rw is (record { fits = fits_n; view = view_n }))
 
     -- a second row has as many words
     pub as_many_words : (m : ℕ) (ys : List ℕ) (other : List Bool) → FitsWords m ys → bits_of m ys ≡ other → length (row_of all row) ≡ length other → length ys ≡ stride

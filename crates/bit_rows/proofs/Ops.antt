@@ -8,6 +8,10 @@ use Rattle.bit_rows.proofs.Views.{Holds, IsBitwise, length_bits_of, rewritten_wh
 pub row_len : (n : ℕ) (xs : List ℕ) (row : List Bool) → bits_of n xs ≡ row → length row ≡ n
 row_len n xs row view = rw view at (length_bits_of n xs)
 
+-- words of as many bits make a row that is as long
+pub as_long : (n : ℕ) (xs zs : List ℕ) (row : List Bool) → bits_of n xs ≡ row → length (bits_of n zs) ≡ length row
+as_long n xs zs row view = length_bits_of n zs ∙ sym (row_len n xs row view)
+
 -- words that hold a row hold it as a row of as many bits as another
 module _ (n : ℕ) (xs : List ℕ) (row : List Bool) (fx : FitsWords n xs) (view : bits_of n xs ≡ row) (m : ℕ) (ys : List ℕ) (other : List Bool) (fy : FitsWords m ys) (view' : bits_of m ys ≡ other) (long : length row ≡ length other) where
   same_bits : m ≡ n

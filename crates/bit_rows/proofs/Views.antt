@@ -1,5 +1,6 @@
--- One row of bits in words: what words hold which row, and what row they hold after an operator of words, a flip, or the write of
--- one bit. Each is proved bit by bit. At the end: rows that are seen alike have the same words.
+-- One row of bits in words: what words hold which row, and what row they hold after an operator of words, a flip, or
+-- the write of one bit. Each is proved bit by bit. At the end: rows that are seen alike have the same words.
+use Rattle.std.proofs.Math.Bool.{and-false, and-true}
 use Rattle.std.proofs.Common.{◌≡◌, ◌≢◌, ◌↔◌, ℕ, zero, suc, max, min, ◌+◌, ◌-◌, ◌*◌, ◌/◌, ◌%◌, ◌^◌, ◌<◌, ◌≤◌, Bool, true, false, not, ◌||◌, ◌&&◌, cond, eqb, ltb, List, ◌++◌, length, map, take, drop, get_or, refl, sym, ap, inl, inr, arith, ◌∙◌, bit_or, bit_and, replicate, w64, set, lit<}
 use Rattle.std.proofs.Math.Nat.{mod-eq_of_lt, one-mul}
 use Rattle.std.proofs.Math.Pow.{pow-lt}
@@ -176,7 +177,7 @@ flip_bit n xs zs small each k h =
     rw (each (k / 64) (omega arith)) (and_at (bit_not w64 (get_or xs (k / 64) 0)) (used_bits n (k / 64)) (k % 64)
     ∙ rw (not_at (get_or xs (k / 64) 0) (k % 64) (small (k / 64)) (omega arith), used_at n (k / 64) (k % 64) (omega arith), place) refl)
 
--- each bit turned
+-- each bit flipped
 pub flip_holds : (n : ℕ) (xs zs : List ℕ) (fx : FitsWords n xs) (len : length zs ≡ length xs)
     → ((k : ℕ) → k < length xs → get_or zs k 0 ≡ bit_and (bit_not w64 (get_or xs k 0)) (used_bits n k)) → Holds n zs (not_bits (bits_of n xs))
 flip_holds n xs zs fx len words =
@@ -184,16 +185,8 @@ flip_holds n xs zs fx len words =
     holds n zs (not_bits (bits_of n xs)) (len ∙ fx.len)
     (small_words xs zs len (λ k h. let le : bit_and (bit_not w64 (get_or xs k 0)) (used_bits n k) ≤ bit_not w64 (get_or xs k 0) = and_le_l _ _ in let top : bit_not w64 (get_or xs k 0) < 2 ^ 64 = omega arith in rw (words k h) (omega arith)))
     (length-map (bits_of n xs) not ∙ length_bits_of n xs)
-    (λ k h. each k (room n k xs fx h) ∙ rw (lt-ltb k n h) (and_true (not (bit_of xs k)) ∙ ap not (sym (get_or_bits_of n xs k h)) ∙ sym (get_or-map not (bits_of n xs) k false false (rw length_bits_of h))))
-    (λ k late within. each k (rw len at within) ∙ rw (le-ltb k n late) (and_false (not (bit_of xs k))))
-  where
-    and_true : (b : Bool) → (b && true) ≡ b
-    and_true true = refl
-    and_true false = refl
-
-    and_false : (b : Bool) → (b && false) ≡ false
-    and_false true = refl
-    and_false false = refl
+    (λ k h. each k (room n k xs fx h) ∙ rw (lt-ltb k n h) (and-true (not (bit_of xs k)) ∙ ap not (sym (get_or_bits_of n xs k h)) ∙ sym (get_or-map not (bits_of n xs) k false false (rw length_bits_of h))))
+    (λ k late within. each k (rw len at within) ∙ rw (le-ltb k n late) (and-false (not (bit_of xs k))))
 
 -- ---- rows that are seen alike have the same words
 

@@ -1,4 +1,5 @@
--- Laws of lists of truth values that are made place by place: how long they are, and each place of them. For proofs only.
+-- Laws of lists of truth values that are made place by place: how long they are, and each place of them. For proofs
+-- only.
 use Rattle.std.proofs.Common.{◌≡◌, ℕ, zero, suc, ◌<◌, Bool, false, not, ◌||◌, ◌&&◌, List, [], ◌∷◌, length, get_or, refl, sym, ap, arith}
 use Rattle.std.proofs.lemmas.List.{get_or-map, length-map}
 use Rattle.bit_rows.specs.Bits.{zip_with, or_bits, and_bits, minus_bits, not_bits}

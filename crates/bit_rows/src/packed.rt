@@ -70,18 +70,6 @@ pub fn flip_row(into: &mut [u64], stride: usize, row: usize, bits: usize)
     flip_words(bits, &mut into[at..at + stride]);
 }
 
-/// The words of a row become equal to others.
-#[tactic(auto, using(crate::proofs::Splices::rewrites, crate::proofs::Splices::rewritten_here))]
-pub fn copy_row(into: &mut [u64], stride: usize, row: usize, from: &[u64])
-    requires within { stride * row + stride ≤ length into.old }
-    requires from { length from.now ≡ stride }
-    ensures others { Rewritten stride row into.old into.new }
-    ensures copied { words_at stride into.new row ≡ from.now }
-{
-    let at = stride * row;
-    into[at..at + stride].copy_from_slice(from);
-}
-
 /// Sets or clears a bit of a row.
 #[tactic(auto, using(crate::proofs::Splices::rewrites, crate::proofs::Splices::rewritten_here))]
 pub fn set_row_bit(into: &mut [u64], stride: usize, row: usize, bit: usize, value: bool)

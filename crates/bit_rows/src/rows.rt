@@ -4,9 +4,7 @@ ghost use Rattle.bit_rows.specs.Bits.{AreAlike, AreEquallyLong, EachBit, EachBit
 ghost use Rattle.bit_rows.specs.Joinings.{bit_join};
 
 use crate::joining::Joining;
-use crate::packed::{
-    copy_row, flip_row, join_row, or_minus_row, or_minus_rows, row_words, set_row_bit,
-};
+use crate::packed::{flip_row, join_row, or_minus_row, or_minus_rows, row_words, set_row_bit};
 use crate::words::join_words;
 use crate::{Memory, RowView};
 use std::alloc::{AllocError, Global};
@@ -147,15 +145,6 @@ impl Rows {
         ensures { self.new ≡ slice_set self.old row (slice_set (row_of self.old row) bit value) }
     {
         set_row_bit(&mut self.words, self.stride, row, bit, value);
-    }
-
-    /// The row becomes a copy of another. It does not allocate.
-    pub fn copy_from(&mut self, row: usize, from: &RowView<'_>)
-        requires row { row < length self.old }
-        requires equally_long { length (row_of self.old row) ≡ length from.now }
-        ensures { self.new ≡ slice_set self.old row from.now }
-    {
-        copy_row(&mut self.words, self.stride, row, from.words);
     }
 
     /// The row becomes its disjunction with another. It does not allocate.

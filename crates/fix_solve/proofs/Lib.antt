@@ -1,5 +1,5 @@
 pub mod Settle
 pub mod Loads
-pub mod Turns
+pub mod Visits
 pub mod Parts
 pub mod Waiting

@@ -1,5 +1,5 @@
--- How many visits and pushes may still come: laws of sums; no more edges leave all nodes than there are; so the pushes are bounded
--- at the start, a push adds none, and a node that is taken leaves one visit less.
+-- How many visits and pushes may still come: laws of sums; no more edges leave all nodes than there are; so the pushes
+-- are bounded at the start, a push adds none, and a node that is taken leaves one visit less.
 use Rattle.std.proofs.Common.{◌≡◌, ◌≢◌, ℕ, zero, suc, ◌+◌, ◌-◌, ◌*◌, ◌<◌, ◌≤◌, ◌↔◌, Bool, true, false, ◌||◌, cond, eqb, eq-eqb, ne_eqb, add-suc, add-zero, refl, sym, ap, inl, inr, arith}
 use Rattle.std.proofs.Math.Nat.{mul-le-mul_left, mul-le-mul_right}
 use Rattle.std.proofs.lemmas.Bool.{cases_eq, cases_lt}

@@ -1,5 +1,5 @@
--- The induction over a least solution, for every lattice: what holds of the first values and goes over the edges holds of
--- what arises. For proofs only; path_laws cites it.
+-- The induction over a least solution, for every lattice: what holds of the first values and goes over the edges holds
+-- of what arises. For proofs only; path_laws cites it.
 use Rattle.std.proofs.Common.{◌≡◌, ℕ, ◌<◌, sym, ◌∙◌}
 use Rattle.fix_solve.specs.Order.{OrderLaws, IsLeastUpper}
 use Rattle.fix_solve.specs.Net.{Net, NetLaws, Solves, Arises, at_first, by_edge}

@@ -48,14 +48,14 @@ pub record Solves {V : Type 0} (below : V → V → Type 0) (net : Net V) (value
   pub above_first : (n : ℕ) → n < net.nodes → below (net.first n) (values n)
   pub above_edges : (e : ℕ) → e < net.edges → below (net.transfer e (values (net.source e))) (values (net.target e))
 
--- which values arise at a node: its first value, and the least upper bound of a value that arises there and of the transfer
--- along an edge of a value that arises at the edge's source
+-- which values arise at a node: its first value, and the least upper bound of a value that arises there and of the
+-- transfer along an edge of a value that arises at the edge's source
 pub data Arises {V : Type 0} (below : V → V → Type 0) (net : Net V) : ℕ → V → Type 0 where
   at_first : (n : ℕ) → Arises below net n (net.first n)
   by_edge : (e : ℕ) (from old new : V) → e < net.edges → Arises below net (net.source e) from → Arises below net (net.target e) old → IsLeastUpper below old (net.transfer e from) new → Arises below net (net.target e) new
 
--- a solution that lies below every solution; by antisymmetry there is one. Its values arise, so that what holds of the first
--- values and goes over the edges holds of them
+-- a solution that lies below every solution; by antisymmetry there is one. Its values arise, so that what holds of the
+-- first values and goes over the edges holds of them
 pub record IsLeastSolution {V : Type 0} (below : V → V → Type 0) (net : Net V) (values : ℕ → V) : Type 0 where
   pub solves : Solves below net values
   pub least : (others : ℕ → V) → Solves below net others → (n : ℕ) → n < net.nodes → below (values n) (others n)

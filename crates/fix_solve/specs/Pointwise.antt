@@ -1,5 +1,5 @@
--- Lists ordered place by place by an order of their items, and ranked by the sum of the ranks of the items. Cited by the ghost
--- members of lattices in the crates above, and the laws by proofs only.
+-- Lists ordered place by place by an order of their items, and ranked by the sum of the ranks of the items. Cited by
+-- the ghost members of lattices in the crates above, and the laws by proofs only.
 use Rattle.std.proofs.Common.{◌≡◌, ℕ, suc, ◌+◌, ◌<◌, ◌⊎◌, inl, inr, List, [], ◌∷◌, length, refl, ap, ◌∙◌, arith}
 
 -- the lists are equally long, and each item of the first is below that of the second

@@ -15,8 +15,8 @@ pub record CanWait {V : Type 0} (waiting : Lists) (values : List V) (order : Lis
   pub nodes : waiting.nodes ≡ length values
   pub in_range : AreNodes (length values) order
 
--- the values lie above the first ones and arise, and they lie above the transfer along each edge that is done and whose source
--- does not wait
+-- the values lie above the first ones and arise, and they lie above the transfer along each edge that is done and whose
+-- source does not wait
 pub record Settling {V : Type 0} (below : V → V → Type 0) (net : Net V) (values : ℕ → V) (waits : ℕ → Bool) (done : ℕ → Type 0) : Type 0 where
   pub above_first : (n : ℕ) → n < net.nodes → below (net.first n) (values n)
   pub arises : (n : ℕ) → n < net.nodes → Arises below net n (values n)

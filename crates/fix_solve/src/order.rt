@@ -23,21 +23,21 @@ pub(crate) fn order_of<F: Flow>(alloc: Global, flow: &F) -> Result<Vec<usize>, M
     ensures { IfOk result (λ order. AreNodes (F.net flow.now).nodes order.items) }
 {
     let nodes = flow.nodes();
-    let turned = leads_down(flow);
-    let mut walk = begun(alloc, flow, turned)?;
+    let reversed = leads_down(flow);
+    let mut walk = walk_over(alloc, flow, reversed)?;
     let mut root = 0;
-    // Each turn takes an edge, puts a node at the end of the order, or comes to a root.
-    let turns = flow.edges().saturating_add(nodes).saturating_add(nodes);
-    for _turn in 0..turns {
+    // Each step takes an edge, puts a node at the end of the order, or comes to a root.
+    let steps = flow.edges().saturating_add(nodes).saturating_add(nodes);
+    for _step in 0..steps {
         if let Some(node) = walk.stack.pop() {
-            go_on(&mut walk, flow, turned, node)?;
+            go_on(&mut walk, flow, reversed, node)?;
         } else if root < nodes {
             see(&mut walk, flow, root)?;
             root += 1;
         }
     }
     let mut order = walk.order;
-    if !turned {
+    if !reversed {
         order.reverse();
     }
     Ok(order)
@@ -59,7 +59,7 @@ fn leads_down<F: Flow>(flow: &F) -> bool
 }
 
 /// A walk in which nothing is seen yet. The edges are walked from source to target, or reversed.
-fn begun<F: Flow>(alloc: Global, flow: &F, turned: bool) -> Result<Walk, Memory>
+fn walk_over<F: Flow>(alloc: Global, flow: &F, reversed: bool) -> Result<Walk, Memory>
     requires { F.valid flow.now }
     ensures { IfOk result (λ walk. WalksOver (F.net flow.now) walk) }
 {
@@ -70,7 +70,7 @@ fn begun<F: Flow>(alloc: Global, flow: &F, turned: bool) -> Result<Walk, Memory>
     for count in 0..edges {
         let number = edges - 1 - count;
         let (source, target) = flow.edge(number);
-        let from = if turned { target } else { source };
+        let from = if reversed { target } else { source };
         nexts[number] = heads[from];
         heads[from] = number;
     }
@@ -85,7 +85,7 @@ fn begun<F: Flow>(alloc: Global, flow: &F, turned: bool) -> Result<Walk, Memory>
 
 /// Goes on from the node at the top of the stack: along its next edge, to a node that was not seen, or else back from
 /// the node, which is put at the end of the order.
-fn go_on<F: Flow>(walk: &mut Walk, flow: &F, turned: bool, node: usize) -> Result<(), Memory>
+fn go_on<F: Flow>(walk: &mut Walk, flow: &F, reversed: bool, node: usize) -> Result<(), Memory>
     requires valid { F.valid flow.now }
     requires in_range { node < (F.net flow.now).nodes }
     requires walk { WalksOver (F.net flow.now) walk.old }
@@ -94,7 +94,7 @@ fn go_on<F: Flow>(walk: &mut Walk, flow: &F, turned: bool, node: usize) -> Resul
     match next_edge(&mut walk.heads, &walk.nexts, node) {
         Some(number) => {
             walk.stack.push(node)?;
-            let next = end_of(flow, number, turned);
+            let next = end_of(flow, number, reversed);
             see(walk, flow, next)
         }
         None => {
@@ -120,13 +120,13 @@ fn next_edge(heads: &mut [usize], nexts: &[usize], node: usize) -> Option<usize>
 }
 
 /// The node that an edge leads to, or, reversed, that it comes from.
-fn end_of<F: Flow>(flow: &F, number: usize, turned: bool) -> usize
+fn end_of<F: Flow>(flow: &F, number: usize, reversed: bool) -> usize
     requires valid { F.valid flow.now }
     requires in_range { number < (F.net flow.now).edges }
     ensures { result < (F.net flow.now).nodes }
 {
     let (source, target) = flow.edge(number);
-    if turned { source } else { target }
+    if reversed { source } else { target }
 }
 
 /// Puts a node on the stack if it was not seen.

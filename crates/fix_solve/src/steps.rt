@@ -1,4 +1,4 @@
-// A counter that takes no memory and that only its own call can raise.
+// A counter that does not allocate and that only its own call can raise.
 ghost use Rattle.std.specs.Prelude.{◌≡◌, ℕ, ◌+◌, ◌<◌};
 
 use std::marker::Model;

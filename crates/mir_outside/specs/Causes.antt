@@ -1,4 +1,5 @@
--- What a count of faults does from call to call, and what stands behind the answer that a call failed. Cited by contracts.
+-- What a count of faults does from call to call, and what stands behind the answer that a call failed. Cited by
+-- contracts.
 use Rattle.std.specs.Prelude.{◌≡◌, ℕ, ◌+◌, ◌-◌, ◌^◌, ◌<◌, ◌≤◌, ◌⊎◌, min, Result, OnErr}
 
 -- the greatest value of a count, at which it saturates

@@ -2,13 +2,13 @@
 //!
 //! Bytes come in by a `Source` and go out by a `Sink`. A device outside may fail at any call, so each keeps a count of
 //! its faults: `Failed` is returned only where that count rose in the call, or has saturated. `StdSource` and `StdSink`
-//! are those over std's readers and writers, and `MemSource` and `MemSink` those in memory, which fail at the calls that
-//! are listed when they are made. `CalmSource` and `CalmSink` never fail.
+//! are those over std's readers and writers, and `MemSource` and `MemSink` those in memory, which fail at the calls
+//! that are listed when they are made. `CalmSource` and `CalmSink` never fail.
 //!
 //! The theorem is that `read_all` returns all bytes of its source to the end, and that `write_all` writes all of its
 //! piece, or that they say why not. `TooLong` comes exactly where one byte more than the limit came, and `Failed` where
-//! the device failed. Where the bytes of a source or a sink can be observed, those that were then taken or written are a
-//! prefix of those that there were, and no more than one byte beyond the limit is taken.
+//! the device failed. Where the bytes of a source or a sink can be observed, those that were then taken or written are
+//! a prefix of those that there were, and no more than one byte beyond the limit is taken.
 #![tactic(auto)]
 
 mod calm;

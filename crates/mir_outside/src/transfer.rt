@@ -80,8 +80,8 @@ pub fn read_all<S: Source>(
 
 /// Writes the whole piece. It does not allocate.
 ///
-/// `Failed` comes only where the sink's count of faults rose in this call or has saturated. A proper prefix of the piece
-/// was then appended.
+/// `Failed` comes only where the sink's count of faults rose in this call or has saturated. A proper prefix of the
+/// piece was then appended.
 pub fn write_all<K: Sink>(sink: &mut K, piece: &[u8]) -> Result<(), Failed>
     ensures whole { OnOk result (Appends (K.written sink.old) (K.written sink.new) piece.now) }
     ensures part { OnErr result (AppendsPart (K.written sink.old) (K.written sink.new) piece.now) }

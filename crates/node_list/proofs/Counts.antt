@@ -1,9 +1,10 @@
--- At how many places a node stands: in one list, after each of the calls; then in all lists; then what that says of a list's
--- length and of whether a node is listed.
+-- At how many places a node stands: in one list, after each of the calls; then in all lists; then what that says of a
+-- list's length and of whether a node is listed.
 use Rattle.std.proofs.Common.{◌≡◌, ◌≢◌, ℕ, zero, suc, ◌+◌, ◌<◌, ◌≤◌, true, false, ◌||◌, ◌&&◌, not, cond, eqb, ltb, List, [], ◌∷◌, ◌++◌, length, map, set, refl, sym, ap, inl, inr, arith, ◌∙◌, eq-eqb}
 use Rattle.std.proofs.Math.Bool.{or-true, or-false, and-true, and-false}
 use Rattle.std.proofs.lemmas.Bool.{cases_eq, ne_eqb, lt-ltb, le-ltb}
 use Rattle.node_list.specs.Lists.{list_at, times_in, times, is_listed, inserted_before, without}
+use Rattle.node_list.specs.ListedLaws.{times_in_append}
 
 -- one place more, or as many; in two lists the sum
 pub times_in_cons_same : (n : ℕ) (xs : List ℕ) → times_in n (n ∷ xs) ≡ 1 + times_in n xs
@@ -12,11 +13,6 @@ times_in_cons_same n xs = rw (eq-eqb n n refl) refl
 -- another element in front does not count
 pub times_in_cons_other : (n x : ℕ) (xs : List ℕ) → x ≢ n → times_in n (x ∷ xs) ≡ times_in n xs
 times_in_cons_other n x xs d = rw (ne_eqb x n d) (omega arith)
-
--- counts of joined lists add up
-pub times_in_append : (n : ℕ) (xs ys : List ℕ) → times_in n (xs ++ ys) ≡ times_in n xs + times_in n ys
-times_in_append n [] ys = omega arith
-times_in_append n (x ∷ xs) ys = let ih : times_in n (xs ++ ys) ≡ times_in n xs + times_in n ys = times_in_append n xs ys in omega arith
 
 -- ---- a list without a node
 

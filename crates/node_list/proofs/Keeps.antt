@@ -1,13 +1,14 @@
--- The links keep leading along lists, as a node is put in (`puts`) or taken out (`cuts`). Each changes the links of two numbers;
--- first what that leaves true of all links, then what the walk along them gives, then the two calls.
+-- The links keep leading along lists, as a node is put in (`puts`) or taken out (`cuts`). Each changes the links of two
+-- numbers; first what that leaves true of all links, then what the walk along them gives, then the two calls.
 use Rattle.std.proofs.Common.{◌≡◌, ◌≢◌, ℕ, suc, ◌+◌, ◌<◌, ◌≤◌, List, [], ◌∷◌, ◌++◌, length, map, refl, sym, ap, inl, inr, arith, ◌∙◌}
 use Rattle.std.proofs.lemmas.Bool.{cases_eq, cases_lt, ne_eqb}
 use Rattle.std.proofs.lemmas.List.{ext_get_or, get_or-map, length-map}
 use Rattle.std.proofs.lemmas.List.FromFn.{length-map-range_with_len, get_or-map-range_with_len}
 use Rattle.node_list.specs.Lists.{list_at, times_in, times, inserted_before, without}
 use Rattle.node_list.specs.Rings.{Along, walk, lists_along, AreRings}
-use Rattle.node_list.proofs.Counts.{times_in_le, times_in_append, times_map, times_map_without, times_in_without_other, without_append, without_none, length_le}
+use Rattle.node_list.proofs.Counts.{times_in_le, times_map, times_map_without, times_in_without_other, without_append, without_none, length_le}
 use Rattle.node_list.proofs.Along.{walk_along, along_moves, along_put, along_cut}
+use Rattle.node_list.specs.ListedLaws.{times_in_append}
 
 -- ---- links that change at two numbers
 

@@ -1,7 +1,8 @@
--- The calls' writes to the slices of links, in this order: what two writes to one slice leave; that slices whose links lead along
--- lists hold these; what each call's writes are as changes of the links, which `Keeps` says keep the rings (`put_end`, `put_middle`,
--- `cut_at`); the same of the vectors that hold the slices, for the proofs of the calls (`after_end`, `after_middle`, `after_cut`);
--- and what is read of a link: its range, whether its node is listed, and whether a list is empty.
+-- The calls' writes to the slices of links, in this order: what two writes to one slice leave; that slices whose links
+-- lead along lists hold these; what each call's writes are as changes of the links, which `Keeps` says keep the rings
+-- (`put_end`, `put_middle`, `cut_at`); the same of the vectors that hold the slices, for the proofs of the calls
+-- (`after_end`, `after_middle`, `after_cut`); and what is read of a link: its range, whether its node is listed, and
+-- whether a list is empty.
 use Rattle.std.proofs.Common.{◌≡◌, ◌≢◌, ℕ, ◌+◌, ◌^◌, ◌<◌, ◌≤◌, not, eqb, List, replicate, [], ◌∷◌, ◌++◌, length, map, take, drop, set, get_or, refl, sym, ap, inl, inr, arith, ◌∙◌, eq-eqb}
 use Rattle.std.proofs.lemmas.Bool.{cases_eq, cases_lt, ne_eqb}
 use Rattle.std.proofs.lemmas.List.{get_or-map, get_or-set_same, get_or-set_other, length-map, length-set, drop_all, take_all, append-nil, append_assoc, get_or-replicate, length-replicate}

@@ -1,4 +1,5 @@
--- What contracts see of `Links`: a fixed number of lists of node numbers, and what each call makes of them. Cited by contracts.
+-- What contracts see of `Links`: a fixed number of lists of node numbers, and what each call makes of them. Cited by
+-- contracts.
 use Rattle.std.specs.Prelude.{◌≡◌, ℕ, ◌+◌, Bool, not, ◌||◌, ◌&&◌, nat_eq, nat_lt, if◌then◌else◌, List, [], ◌∷◌, ◌++◌, replicate, slice_get, slice_index_or, slice_set, Option, None}
 use Rattle.std.specs.Option.{option_or}
 

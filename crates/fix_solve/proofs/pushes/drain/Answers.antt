@@ -2,7 +2,7 @@ use Rattle.std.proofs.Common.{◌<◌, arith, ◌∙◌}
 use Rattle.node_list.specs.Lists.{is_listed, list_at}
 use Rattle.fix_solve.specs.Net.{value_at}
 use Rattle.fix_solve.proofs.Settle.{end_settles}
-use Rattle.fix_solve.proofs.Turns.{LessLeft, load_taken}
+use Rattle.fix_solve.proofs.Visits.{LessLeft, load_taken}
 use Rattle.fix_solve.proofs.Waiting.{none_waits}
 use Rattle.fix_solve.proofs.pushes.drain.Goals as goal
 use Rattle.fix_solve.proofs.pushes.drain.Goals.{After-visit}

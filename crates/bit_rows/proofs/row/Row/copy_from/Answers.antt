@@ -1,6 +1,6 @@
-use Rattle.std.proofs.Common.{◌≡◌, ◌++◌, length, take, drop, refl, sym, ◌∙◌}
-use Rattle.bit_rows.proofs.Views.{Holds, length_bits_of}
-use Rattle.bit_rows.proofs.Ops.{row_len, copied, words_long}
+use Rattle.std.proofs.Common.{◌≡◌, ◌++◌, length, take, drop, refl}
+use Rattle.bit_rows.proofs.Views.{Holds}
+use Rattle.bit_rows.proofs.Ops.{as_long, copied, words_long}
 use Rattle.bit_rows.proofs.row.Row.copy_from.Goals as goal
 use Rattle.bit_rows.proofs.row.Row.copy_from.Goals.{After-copy_from_slice, After-other}
 
@@ -24,4 +24,4 @@ pub returns-clause-copy : goal.returns-clause-copy
 returns-clause-copy c = (done (goal.at.returns-clause-copy c).After-copy_from_slice).view
 
 pub returns-clause-len : goal.returns-clause-len
-returns-clause-len c = length_bits_of c.self.inside.bits _ ∙ sym (row_len c.self.inside.bits c.self.inside.words.items c.args.self.now c.self.view_is)
+returns-clause-len c = as_long c.self.inside.bits c.self.inside.words.items _ c.args.self.now c.self.view_is

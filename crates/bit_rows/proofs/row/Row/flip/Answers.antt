@@ -1,7 +1,7 @@
-use Rattle.std.proofs.Common.{◌≡◌, ◌+◌, ◌/◌, ◌++◌, length, take, drop, refl, sym, arith, ◌∙◌}
+use Rattle.std.proofs.Common.{◌≡◌, ◌+◌, ◌/◌, ◌++◌, length, take, drop, refl, arith}
 use Rattle.bit_rows.specs.Bits.{not_bits}
-use Rattle.bit_rows.proofs.Views.{Holds, length_bits_of, flip_holds, rewritten_whole}
-use Rattle.bit_rows.proofs.Ops.{row_len}
+use Rattle.bit_rows.proofs.Views.{Holds, flip_holds, rewritten_whole}
+use Rattle.bit_rows.proofs.Ops.{as_long}
 use Rattle.bit_rows.proofs.row.Row.flip.Goals as goal
 use Rattle.bit_rows.proofs.row.Row.flip.Goals.{After-flip_words}
 
@@ -23,4 +23,4 @@ pub returns-clause-flipped : goal.returns-clause-flipped
 returns-clause-flipped c = (done (goal.at.returns-clause-flipped c).After-flip_words).view
 
 pub returns-clause-len : goal.returns-clause-len
-returns-clause-len c = length_bits_of c.self.inside.bits _ ∙ sym (row_len c.self.inside.bits c.self.inside.words.items c.args.self.now c.self.view_is)
+returns-clause-len c = as_long c.self.inside.bits c.self.inside.words.items _ c.args.self.now c.self.view_is

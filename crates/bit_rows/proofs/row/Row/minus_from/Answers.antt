@@ -1,8 +1,8 @@
-use Rattle.std.proofs.Common.{◌≡◌, ◌++◌, length, take, drop, refl, sym, ◌∙◌}
+use Rattle.std.proofs.Common.{◌++◌, length, take, drop, refl}
 use Rattle.bit_rows.specs.Bits.{minus_bits}
 use Rattle.bit_rows.specs.declared.joining.Joining.TheVariants.{Minus}
-use Rattle.bit_rows.proofs.Views.{Holds, length_bits_of, joining_bitwise}
-use Rattle.bit_rows.proofs.Ops.{row_len, joined, words_long}
+use Rattle.bit_rows.proofs.Views.{Holds, joining_bitwise}
+use Rattle.bit_rows.proofs.Ops.{as_long, joined, words_long}
 use Rattle.bit_rows.proofs.row.Row.minus_from.Goals as goal
 use Rattle.bit_rows.proofs.row.Row.minus_from.Goals.{After-join_words}
 
@@ -25,4 +25,4 @@ pub returns-clause-minus : goal.returns-clause-minus
 returns-clause-minus c = (done (goal.at.returns-clause-minus c).After-join_words).view
 
 pub returns-clause-len : goal.returns-clause-len
-returns-clause-len c = length_bits_of c.self.inside.bits _ ∙ sym (row_len c.self.inside.bits c.self.inside.words.items c.args.self.now c.self.view_is)
+returns-clause-len c = as_long c.self.inside.bits c.self.inside.words.items _ c.args.self.now c.self.view_is

@@ -1,7 +1,7 @@
-use Rattle.std.proofs.Common.{◌≡◌, ◌++◌, length, take, drop, refl, sym, ◌∙◌}
+use Rattle.std.proofs.Common.{◌≡◌, ◌++◌, length, take, drop, refl}
 use Rattle.bit_rows.specs.Bits.{or_bits}
-use Rattle.bit_rows.proofs.Views.{Holds, length_bits_of, or_bitwise}
-use Rattle.bit_rows.proofs.Ops.{row_len, joined, words_long, changed_row}
+use Rattle.bit_rows.proofs.Views.{Holds, or_bitwise}
+use Rattle.bit_rows.proofs.Ops.{as_long, joined, words_long, changed_row}
 use Rattle.bit_rows.proofs.row.Row.or_from.Goals as goal
 use Rattle.bit_rows.proofs.row.Row.or_from.Goals.{After-or_words}
 
@@ -27,7 +27,7 @@ pub returns-clause-or : goal.returns-clause-or
 returns-clause-or c = (done (goal.at.returns-clause-or c).After-or_words).view
 
 pub returns-clause-len : goal.returns-clause-len
-returns-clause-len c = length_bits_of c.self.inside.bits _ ∙ sym (row_len c.self.inside.bits c.self.inside.words.items c.args.self.now c.self.view_is)
+returns-clause-len c = as_long c.self.inside.bits c.self.inside.words.items _ c.args.self.now c.self.view_is
 
 pub returns-clause-unchanged : goal.returns-clause-unchanged
 returns-clause-unchanged c =
