@@ -5,27 +5,19 @@ use Rattle.std.proofs.lemmas.Bool.{cases_lt}
 use Rattle.std.proofs.lemmas.List.Elements.{Contains-push}
 use Rattle.std.proofs.lemmas.List.Folds.{list_any_at}
 use Rattle.std.proofs.lemmas.List.Quantifiers.{position-Some}
-use Rattle.std.proofs.lemmas.Option.{slice_get_within, slice_get-get_or, get_or_from_slice_get}
+use Rattle.std.proofs.lemmas.Option.{slice_get_within, slice_get-get_or}
 use Rattle.indexmap.proofs.CallerLemmas.{Contains-list_any}
 use Rattle.indexmap.specs.IndexSet.{insert_key}
-use Rattle.mir_base.specs.ItemLaws.{get_last, get_left}
+use Rattle.mir_base.specs.ItemLaws.{get_last, get_left, contained_at, one_place}
 use Rattle.mir_base.specs.Shapes.{AllDiffer}
 use Rattle.key_table.specs.Keys.{FindsKey, FindsSome, IsWithKey}
 
 module _ {K : Type 0} where
   -- ---- places
 
-  -- what stands at a place is contained
-  pub contained_at : (keys : List K) (k : K) (i : ℕ) → slice_get keys i ≡ Some k → Contains keys k
-  contained_at keys k i here = (i, slice_get_within keys i k here, get_or_from_slice_get keys i k k here)
-
-  -- and back
+  -- what is contained stands at a place
   pub place_of : (keys : List K) (k : K) → Contains keys k → (i : ℕ) × (slice_get keys i ≡ Some k)
   place_of keys k there = (there.0, slice_get-get_or keys there.0 k there.1 ∙ ap Some there.2)
-
-  -- in a list of distinct keys a key has one place
-  pub one_place : (keys : List K) → AllDiffer keys → (i j : ℕ) (k : K) → slice_get keys i ≡ Some k → slice_get keys j ≡ Some k → i ≡ j
-  one_place keys differ i j k here there = differ i j (slice_get_within keys i k here) (slice_get_within keys j k there) (here ∙ sym there)
 
   -- ---- put in
 
@@ -100,10 +92,6 @@ module _ {K : Type 0} where
     (λ same. let one : k ≡ key = cc in (finds i).0 (here ∙ ap Some one)),
     (λ is. sym ((finds i).1 is) ∙ here),
   )
-
-  -- where there is none, none is found
-  pub finds_none : (keys : List K) → FindsSome keys None None
-  finds_none keys i k here = (λ same. cc, λ same. cc)
 
   -- ---- by an equality
 

@@ -1,8 +1,8 @@
-//! Tables of distinct keys. In go keys, one after the other; out comes the number of each, counted from 0 in the order in
-//! which they first came.
+//! Tables of distinct keys. In go keys, one after the other; out comes the number of each, counted from 0 in the order
+//! in which they first came.
 //!
-//! A key is a value that is equal to no other value (`Key`), so contracts see a table as the list of its keys, and speak
-//! of no equality but that of values. Finding a key takes a fixed number of steps on average.
+//! A key is a value that is equal to no other value (`Key`), so contracts see a table as the list of its keys, and
+//! speak of no equality but that of values. Finding a key takes a fixed number of steps on average.
 #![tactic(auto)]
 
 mod keys;

@@ -73,7 +73,8 @@ impl<K: Key> KeyTable<K> {
         self.keys.get_index_of(key)
     }
 
-    /// The number of a key, and `None` exactly where there is no key or the table does not have it. It does not allocate.
+    /// The number of a key, and `None` exactly where there is no key or the table does not have it. It does not
+    /// allocate.
     pub fn find_some(&self, key: Option<K>) -> Option<usize>
         ensures within { IfSome result (λ number. number < length self.now) }
         ensures finds { FindsSome self.now key result }

@@ -1,6 +1,7 @@
--- An assignment by its trap, its value and its count, right sides that never trap, and the expression of a movable one. For
--- proofs only.
-use Rattle.std.proofs.Common.{◌≡◌, ℕ, Bool, true, false, not, if◌then◌else◌, ◌&&◌, ◌++◌, Some, None, refl, ap}
+-- An assignment by its trap, its value and its count, right sides that never trap, and the expression of a movable one.
+-- For proofs only.
+use Rattle.std.proofs.Common.{◌≡◌, ℕ, Bool, true, false, not, if◌then◌else◌, ◌++◌, Some, None, refl, ap, sym, ◌∙◌}
+use Rattle.std.proofs.Math.Bool.{and-true}
 use Rattle.std.proofs.lemmas.Bool.{not-true}
 use Rattle.mir_base.specs.declared.operators.Trap.TheVariants.{ZeroDivisor}
 use Rattle.mir_base.specs.declared.instructions.Operand.TheVariants.{Var, Const}
@@ -21,16 +22,11 @@ assign_is x (Plain a) place frame = refl
 assign_is x (Unary op a) place frame = refl
 assign_is x (Binary op a b) place frame = refl
 
--- a conjunction with true is false only where its other half is
-only_false : (b : Bool) → b && true ≡ false → b ≡ false
-only_false true h = cc
-only_false false h = refl
-
 -- a right side that does not divide never traps
 pub never_traps_where_undivided : (values : Values) (rhs : Rhs) → divides rhs ≡ false → rhs_traps values rhs ≡ false
 never_traps_where_undivided values (Plain a) h = refl
 never_traps_where_undivided values (Unary op a) h = refl
-never_traps_where_undivided values (Binary op a (Var y)) h = let off : is_dividing op ≡ false = only_false (is_dividing op) h in rw off refl
+never_traps_where_undivided values (Binary op a (Var y)) h = let off : is_dividing op ≡ false = sym (and-true (is_dividing op)) ∙ h in rw off refl
 never_traps_where_undivided values (Binary op a (Const c)) h = h
 
 -- a movable right side never traps

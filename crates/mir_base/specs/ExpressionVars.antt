@@ -1,5 +1,5 @@
--- The variables that an expression reads, the right side that is this expression, and the expression that a right side is.
--- Cited by contracts.
+-- The variables that an expression reads, the right side that is this expression, and the expression that a right side
+-- is. Cited by contracts.
 use Rattle.std.specs.Prelude.{◌≡◌, ℕ, List, ◌++◌, Option, None, Some}
 use Rattle.std.proofs.Common.{refl}
 use Rattle.mir_base.specs.declared.instructions.Rhs.{Rhs}

@@ -49,7 +49,7 @@ argument_fits (z ∷ zs) (suc i) fits = argument_fits zs i (λ k d within. fits 
 -- ---- frames
 
 -- a variable set to a value in range leaves all variables in range
-with_value_fits : (x : ℕ) (v : ℤ) (values : Values) → FitsSigned w64 v → ValuesFit values → ValuesFit (with_value x v values)
+pub with_value_fits : (x : ℕ) (v : ℤ) (values : Values) → FitsSigned w64 v → ValuesFit values → ValuesFit (with_value x v values)
 with_value_fits x v values fits all = record { fit = λ y. elim (nat_eq y x) as (λ b. FitsSigned w64 (if b then v else values y)) [ true ↦ fits | false ↦ all.fit y ] }
 
 -- the first frame

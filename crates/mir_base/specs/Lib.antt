@@ -27,5 +27,6 @@ pub mod EqualValues
 pub mod RunLaws
 pub mod BelowLaws
 pub mod DecimalLaws
+pub mod NameLaws
 pub mod Appending
 pub mod ItemLaws

@@ -1,6 +1,6 @@
--- How a name is spelled: an ASCII letter and then ASCII letters, digits and `_`, at most 64 bytes, and no reserved word.
--- Cited by contracts.
-use Rattle.std.specs.Prelude.{ℕ, Bool, false, ◌&&◌, ◌||◌, not, nat_le, nat_eq, List, [], ◌∷◌, length, map, IsTrue}
+-- How a name is spelled: an ASCII letter and then ASCII letters, digits and `_`, at most 64 bytes, and no reserved
+-- word. Cited by contracts.
+use Rattle.std.specs.Prelude.{ℕ, Bool, false, ◌&&◌, ◌||◌, not, nat_le, nat_eq, List, [], ◌∷◌, ◌++◌, ◌+◌, length, map, decimal, IsTrue}
 use Rattle.std.specs.List.{list_all, list_any}
 use Rattle.mir_base.specs.Limits.{most_name_bytes}
 use Rattle.mir_base.specs.Words.{is_text, word_text, words}
@@ -37,3 +37,11 @@ is_name bytes = begins_as_name bytes && list_all is_name_byte bytes && nat_le (l
 -- the same, as a fact
 abbrev pub IsName : List ℕ → Type 0
 IsName bytes = IsTrue (is_name bytes)
+
+-- these bytes with a number in decimal behind them
+abbrev pub numbered_name : List ℕ → ℕ → List ℕ
+numbered_name front number = front ++ decimal number
+
+-- a name can begin with the bytes, and has room for the 20 digits that a number of 64 bits has at most
+abbrev pub CanBeNumbered : List ℕ → Type 0
+CanBeNumbered front = IsTrue (begins_as_name front && list_all is_name_byte front && nat_le (length front + 20) most_name_bytes)

@@ -14,10 +14,6 @@ follows_refl a = record { follows = λ entry answers is are n. (n, ([], sym (app
 pub same_refl : (a : Machine) → UnitSame a a
 same_refl a = record { receives = refl; forth = follows_refl a; back = follows_refl a }
 
--- the other way round
-pub same_sym : (a b : Machine) → UnitSame a b → UnitSame b a
-same_sym a b s = record { receives = sym s.receives; forth = s.back; back = s.forth }
-
 -- who receives as many arguments is entered with the same ones
 entered : (a b : Machine) → a.receives ≡ b.receives → (entry : CallEntry) → IsEntry a entry → IsEntry b entry
 entered a b same entry is = record { long = is.long ∙ same; numbers = is.numbers }

@@ -1,5 +1,5 @@
 -- The reserved words: how each is spelled, and which one bytes are. Cited by contracts.
-use Rattle.std.specs.Prelude.{ℕ, List, [], ◌∷◌, map, codes, Option, None, Some, if◌then◌else◌, Bool, nat_eq}
+use Rattle.std.specs.Prelude.{ℕ, List, [], ◌∷◌, codes, Option, None, Some, if◌then◌else◌, Bool, nat_eq}
 use Rattle.std.specs.Cmp.Lexicographic.{pointwise}
 use Rattle.mir_base.specs.declared.words.Word.{Word}
 use Rattle.mir_base.specs.declared.words.Word.TheVariants.{Begin, End, Receive, Goto, If, Call, Return, Print, Mod, Min, Max, Shl, Shr, Shra, And, Or, Xor, Trap, Global, Sequence}

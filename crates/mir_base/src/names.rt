@@ -1,10 +1,11 @@
 // Names of variables, labels and units, and what bytes may stand in one.
-ghost use Rattle.std.specs.Prelude.{◌≡◌, ◌↔◌, IfSome, IsSome};
+ghost use Rattle.std.specs.Prelude.{◌≡◌, ◌↔◌, IfOk, IfSome, IsSome};
 ghost use Rattle.std.specs.List.{list_all};
-ghost use Rattle.mir_base.specs.Names.{IsName, begins_as_name, is_letter, is_name, is_name_byte, is_reserved};
+ghost use Rattle.mir_base.specs.Names.{CanBeNumbered, IsName, begins_as_name, is_letter, is_name, is_name_byte, is_reserved, numbered_name};
 
-use crate::{MOST_NAME_BYTES, reserved_word};
-use std::alloc::AllocError;
+use crate::{MOST_NAME_BYTES, Memory, reserved_word};
+use itoa::Buffer;
+use std::alloc::{AllocError, Global};
 use std::marker::Model;
 
 /// A name: an ASCII letter and then ASCII letters, digits and `_`, at most 64 bytes, and no reserved word. Contracts
@@ -45,6 +46,18 @@ impl Name {
         ensures { result ≡ bytes.items }
     {
         Name { bytes }
+    }
+
+    /// The name of these bytes with the number in decimal behind them. A name can begin with the bytes, which are at
+    /// most 44. It fails only with `Memory`.
+    pub fn numbered(alloc: Global, front: &[u8], number: usize) -> Result<Name, Memory>
+        requires { CanBeNumbered front.now }
+        ensures { IfOk result (λ name. name ≡ numbered_name front.now number) }
+    {
+        let mut buffer = Buffer::new();
+        let mut bytes = Vec::from_slice(alloc, front)?;
+        bytes.extend_from_slice(buffer.format(number).as_bytes())?;
+        Ok(Name::of(bytes))
     }
 
     /// The bytes, which are spelled as a name. It does not allocate.

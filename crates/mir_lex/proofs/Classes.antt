@@ -2,10 +2,10 @@
 use Rattle.std.specs.List.{list_all}
 use Rattle.std.specs.Char.{is_ascii_digit}
 use Rattle.mir_base.specs.Names.{is_name_byte, is_letter, is_digit}
-use Rattle.std.proofs.Common.{◌≡◌, ℕ, ◌==◌, Bool, true, false, ◌||◌, ◌&&◌, not, List, [], ◌∷◌, ◌++◌, refl, ◌∙◌, ap, arith, nat_eq}
-use Rattle.std.proofs.lemmas.Bool.{and_from, and_parts}
+use Rattle.std.proofs.Common.{◌≡◌, ℕ, ◌==◌, Bool, true, false, ◌||◌, ◌&&◌, List, [], ◌∷◌, ◌++◌, refl, ◌∙◌, ap, arith, nat_eq}
+use Rattle.std.proofs.lemmas.Bool.{and_from}
 use Rattle.std.proofs.lemmas.List.Folds.{list_all-append}
-use Rattle.mir_lex.specs.Spelling.{is_blank, HasNoLineFeed}
+use Rattle.mir_lex.specs.Spelling.{is_blank}
 use Rattle.std.proofs.lemmas.Bool.Decides.{nat_tests}
 
 -- ---- what a byte of one class is not
@@ -22,10 +22,6 @@ letter_feed b h = grind (arith, nat_tests)
 pub letter_blank : (b : ℕ) → is_letter b ≡ true → is_blank b ≡ false
 letter_blank b h = grind (arith, nat_tests)
 
--- a digit is no line feed
-pub digit_feed : (b : ℕ) → is_ascii_digit b ≡ true → (b == 10) ≡ false
-digit_feed b h = grind (arith, nat_tests)
-
 -- a digit is no blank
 pub digit_blank : (b : ℕ) → is_ascii_digit b ≡ true → is_blank b ≡ false
 digit_blank b h = grind (arith, nat_tests)
@@ -33,10 +29,6 @@ digit_blank b h = grind (arith, nat_tests)
 -- a digit is no letter
 pub digit_no_letter : (byte : ℕ) → is_ascii_digit byte ≡ true → is_letter byte ≡ false
 digit_no_letter byte h = grind (arith, nat_tests)
-
--- a digit may stand in a name
-pub digit_is_name : (byte : ℕ) → is_ascii_digit byte ≡ true → is_name_byte byte ≡ true
-digit_is_name byte h = grind (arith, nat_tests)
 
 -- what may not stand in a name is no digit
 pub name_digit : (byte : ℕ) → is_name_byte byte ≡ false → is_ascii_digit byte ≡ false
@@ -58,17 +50,8 @@ digit_minus d h = grind (arith, nat_tests)
 pub letter_name : (b : ℕ) → is_letter b ≡ true → (is_name_byte b && true) ≡ true
 letter_name b h = ap (λ (t : Bool). (t || is_digit b || nat_eq b 95) && true) h
 
--- a line feed stands in no name
-pub name_feed : (byte : ℕ) → is_name_byte byte ≡ true → (byte == 10) ≡ false
-name_feed byte h = grind (arith, nat_tests)
-
 -- ---- lists of bytes that all pass a test
 
 -- one more byte that passes
 pub all_push : (test : ℕ → Bool) (bytes : List ℕ) (byte : ℕ) → list_all test bytes ≡ true → test byte ≡ true → list_all test (bytes ++ byte ∷ []) ≡ true
 all_push test bytes byte all is = list_all-append test bytes (byte ∷ []) ∙ and_from _ _ all (and_from _ _ is refl)
-
--- bytes that pass a test which a line feed fails lie on one line
-pub all_fed : (test : ℕ → Bool) → ((byte : ℕ) → test byte ≡ true → (byte == 10) ≡ false) → (bytes : List ℕ) → list_all test bytes ≡ true → HasNoLineFeed bytes
-all_fed test feed [] h = refl
-all_fed test feed (byte ∷ bytes) h = let parts = and_parts (test byte) (list_all test bytes) h in and_from _ _ (ap not (feed byte parts.0)) (all_fed test feed bytes parts.1)

@@ -116,12 +116,6 @@ lone_kind [] h = absurd (cc)
 lone_kind (byte ∷ []) h = sym (name_kind (byte ∷ []) (and_from _ _ (and_from _ _ (and_from _ _ h (letter_name byte h)) refl) (ap not (none_lone byte reserved_words refl))))
 lone_kind (byte ∷ next ∷ s) h = absurd (cc)
 
--- the bytes of a name begin with a letter, and are bytes of names
-pub name_shape : (s : List ℕ) → is_name s ≡ true → (begins_as_name s ≡ true) × (list_all is_name_byte s ≡ true)
-name_shape s h =
-    let three = and_parts _ (not (is_reserved s)) h in
-    let two = and_parts _ (nat_le (length s) 64) three.0 in and_parts (begins_as_name s) (list_all is_name_byte s) two.0
-
 -- no kind is found for a word of more than 64 bytes
 pub long_word : (s : List ℕ) → 64 < length s → word_kind s ≡ None
 unfolding word_kind
@@ -207,10 +201,3 @@ large_number previous s numeral large = cond-false (is_number s) (Some (signed_d
   where
     above : (a b : ℕ) → (a < b → ⊥) → nat_lt a b ≡ false
     above a b h = false_from_ne_true (nat_lt a b) (λ e. h (ltb-true a b e))
-
--- ---- words are not empty
-
--- a word is not empty
-pub named_some : (s : List ℕ) → begins_as_name s ≡ true → 0 < length s
-named_some [] h = absurd (cc)
-named_some (b ∷ s) h = omega arith

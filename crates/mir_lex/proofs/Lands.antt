@@ -18,7 +18,8 @@ use Rattle.mir_lex.specs.Spelling.{with_token, IsNumeral, with_line_end, is_blan
 use Rattle.mir_lex.specs.Scanner.{word_kind, extend, push, skip, push_word, push_number, emit_as, emit, line_feed, begin, scan_step, start, scan}
 use Rattle.mir_lex.proofs.Pieces.{IsPieceToken, NotContinued, begins_closed, continues, minus_open}
 use Rattle.mir_lex.proofs.Runs.{Lands, at_end, begin_blank, digits_run, goes_on, lands_as, lands_idle, number_out, pended, put_out, run_stays, signed_run, since, word_out, word_run}
-use Rattle.mir_lex.proofs.KindLemmas.{name_kind, name_shape, small_number, word_facts}
+use Rattle.mir_lex.proofs.KindLemmas.{name_kind, small_number, word_facts}
+use Rattle.mir_base.specs.NameLaws.{name_shape}
 
 -- ---- what is known of a row that was scanned
 

@@ -17,11 +17,12 @@ use Rattle.mir_base.specs.Words.{word_text}
 use Rattle.mir_lex.specs.Spelling.{mark_text, IsMark, IsWord, IsNumeral, IsSpelled, IsLongest, BeginsWith, IsToken}
 use Rattle.mir_lex.proofs.Pieces.{IsPieceToken, NotContinued, continues, idle_closed, minus_open, open_of_mark}
 use Rattle.mir_base.specs.DecimalLaws.{digit_at, passes_at}
-use Rattle.mir_lex.proofs.Classes.{all_push, digit_is_name, letter_is_name, name_digit}
+use Rattle.mir_lex.proofs.Classes.{all_push, letter_is_name, name_digit}
 use Rattle.mir_lex.proofs.Sound.{begins_snoc, numeral_snoc}
 use Rattle.mir_lex.proofs.Marks.{by_spelling, mark_no_name, mark_second, mark_third, numeral_first, numeral_no_letter, opens, spelled_first}
 use Rattle.mir_lex.specs.SpellingLaws.{numeral_some}
-use Rattle.mir_lex.proofs.KindLemmas.{name_shape, word_facts}
+use Rattle.mir_lex.proofs.KindLemmas.{word_facts}
+use Rattle.mir_base.specs.NameLaws.{digit_in_name, name_shape}
 
 -- ---- what the next byte does not continue is as long as it can be
 
@@ -53,7 +54,7 @@ numeral_at previous first bytes byte more (inr signed) = digit_at bytes byte mor
 -- a number with more behind it is no mark
 numeral_no_mark : (previous : Previous) (first : ℕ) (bytes : List ℕ) (byte : ℕ) (more : List ℕ) → IsNumeral previous (first ∷ bytes) → (mark : Mark) → IsMark mark (first ∷ (bytes ++ byte ∷ more)) → ⊥
 numeral_no_mark previous first bytes byte more numeral mark is = elim (numeral_first previous first bytes numeral) [
-  | inl digit ↦ let no = mark_no_name mark first (bytes ++ byte ∷ more) is in let name = digit_is_name first digit in absurd (cc)
+  | inl digit ↦ let no = mark_no_name mark first (bytes ++ byte ∷ more) is in let name = digit_in_name first digit in absurd (cc)
   | inr minus ↦ second bytes is minus
 ]
   where

@@ -9,15 +9,11 @@ use Rattle.std.proofs.lemmas.Bool.Decides.{nat_tests}
 use Rattle.std.specs.Int.Signed.{mag}
 use Rattle.std.specs.Str.{all_ascii_digits, IsAscii, IsUtf8}
 use Rattle.std.specs.Str.Parse.{ParsesSigned, ParsesUnsigned, without_leading_sign, without_leading_plus, signed_digits_value, digits_value}
-use Rattle.std.proofs.lemmas.Str.Parse.{IsNumeralModel, numerals_by_value, tells_all_ascii_digits}
 use Rattle.mir_lex.specs.Numbers.{is_digits, without_minus, fits_signed, signed_number, unsigned_number}
 use Rattle.mir_lex.specs.Scanner.{is_number, number_of}
+use Rattle.mir_base.specs.DecimalLaws.{digits_are_numerals}
 
 -- ---- an optional sign and digits
-
--- std's lemmas on digits, for the test that all bytes are digits
-own : IsNumeralModel (λ ds. all_ascii_digits ds ≡ true) (digits_value 10)
-own = numerals_by_value _ tells_all_ascii_digits
 
 -- what the scanner tests of a number, as facts
 pub record SpellsNumber (bytes : List ℕ) : Type 0 where
@@ -51,10 +47,10 @@ pub number_read : {E : Type 0} (bytes : List ℕ) (r : Result ℤ E) → (slice_
 unfolding number_of
 number_read bytes (Ok z) plus h =
     let v = signed_digits_value 10 bytes in
-    let holds : is_number bytes ≡ true = is_spelled bytes (record { plus = plus; some = h.0.0.0; digits = own.from _ h.0.0.1; fits = h.0.1.sfits }) in
+    let holds : is_number bytes ≡ true = is_spelled bytes (record { plus = plus; some = h.0.0.0; digits = digits_are_numerals.from _ h.0.0.1; fits = h.0.1.sfits }) in
     ap (λ (z : ℤ). Some z) h.1 ∙ sym (ap (λ (b : Bool). cond b (Some v) None) holds)
 number_read bytes (Err e) plus h = elim (cases_Bool (is_number bytes)) [
-  | inl holds ↦ absurd (let s = spells bytes holds in h ((s.some, own.to _ s.digits), record { sfits = s.fits }))
+  | inl holds ↦ absurd (let s = spells bytes holds in h ((s.some, digits_are_numerals.to _ s.digits), record { sfits = s.fits }))
   | inr fails ↦ sym (ap (λ (b : Bool). cond b (Some (signed_digits_value 10 bytes)) None) fails)
 ]
 
@@ -155,13 +151,13 @@ unsigned_read bytes (Ok n) is h =
     let same = plain bytes is in
     let spelled : SpellsUnsigned bytes = record {
       some = subst (λ (l : List ℕ). 0 < length l) same h.0.0.0;
-      digits = ap all_ascii_digits (sym same) ∙ own.from _ h.0.0.1;
+      digits = ap all_ascii_digits (sym same) ∙ digits_are_numerals.from _ h.0.0.1;
       fits = subst (λ (l : List ℕ). digits_value 10 l < 2 ^ 64) same h.0.1;
     } in
     ap (λ (n : ℕ). Some n) (h.1 ∙ ap (digits_value 10) same) ∙ sym (ap (λ (b : Bool). cond b (Some (digits_value 10 bytes)) None) (unsigned_is_spelled bytes spelled))
 unsigned_read bytes (Err e) is h = elim (cases_Bool (is_digits bytes && nat_lt (digits_value 10 bytes) (2 ^ 64))) [
   | inl holds ↦ absurd (let s = unsigned_spells bytes holds in let same = sym (plain bytes is) in
-      h ((subst (λ (l : List ℕ). 0 < length l) same s.some, own.to _ (ap all_ascii_digits (sym same) ∙ s.digits)), subst (λ (l : List ℕ). digits_value 10 l < 2 ^ 64) same s.fits))
+      h ((subst (λ (l : List ℕ). 0 < length l) same s.some, digits_are_numerals.to _ (ap all_ascii_digits (sym same) ∙ s.digits)), subst (λ (l : List ℕ). digits_value 10 l < 2 ^ 64) same s.fits))
   | inr fails ↦ sym (ap (λ (b : Bool). cond b (Some (digits_value 10 bytes)) None) fails)
 ]
 

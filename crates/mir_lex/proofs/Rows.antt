@@ -1,5 +1,4 @@
 -- The row of a text and the row as the scanner sees it are the same.
-use Rattle.std.specs.List.{list_all, count_by}
 use Rattle.std.specs.Char.{is_ascii_digit}
 use Rattle.mir_base.specs.Names.{is_name_byte, is_letter}
 use Rattle.mir_lex.specs.declared.words.Mark.{Mark}
@@ -13,68 +12,37 @@ use Rattle.mir_lex.specs.declared.scan.Previous.{Previous}
 use Rattle.mir_lex.specs.declared.scan.Previous.TheVariants.{LineEnd as AfterLineEnd}
 use Rattle.mir_lex.specs.declared.faults.LexFault.{LexFault}
 use Rattle.mir_lex.specs.declared.faults.LexFault.TheVariants.{BadByte, BadNumber, LongName, Memory}
-use Rattle.std.proofs.Common.{◌≡◌, ℕ, ◌+◌, ◌<◌, ◌==◌, Bool, true, false, not, List, [], ◌∷◌, ◌++◌, length, Option, None, Some, refl, sym, ◌∙◌, ap, subst, append_assoc, inl, inr, ◌⊎◌, cond, arith}
-use Rattle.std.proofs.lemmas.Bool.{cases_Bool, eqb-true, and_from, and_parts, false_from_ne_true, not-false, not-true}
+use Rattle.std.proofs.Common.{◌≡◌, ℕ, ◌+◌, ◌<◌, ◌==◌, true, false, not, List, [], ◌∷◌, ◌++◌, length, Option, None, Some, refl, sym, ◌∙◌, ap, subst, append_assoc, inl, inr, ◌⊎◌, arith}
+use Rattle.std.proofs.lemmas.Bool.{cases_Bool, eqb-true, and_from, false_from_ne_true, not-false}
 use Rattle.std.proofs.lemmas.List.{append-nil, append_cancel_left}
 use Rattle.mir_base.specs.Words.{word_text}
-use Rattle.mir_lex.specs.Spelling.{with_token, IsMark, IsNumeral, IsInRange, with_line_end, is_blank, previous_of, HasNoLineFeed, IsSpelled, BeginsWith, IsToken, comment_text, EndsLine, Row, start as row_start, token as row_token, blank as row_blank, comment as row_comment, line_feed as row_line_feed, IsTokens, BeginsNone, IsBadNumber, StopsLexing, IsRefusal}
+use Rattle.mir_lex.specs.Spelling.{with_token, IsMark, IsInRange, with_line_end, is_blank, previous_of, HasNoLineFeed, IsSpelled, BeginsWith, IsToken, comment_text, EndsLine, Row, start as row_start, token as row_token, blank as row_blank, comment as row_comment, line_feed as row_line_feed, IsTokens, BeginsNone, IsBadNumber, StopsLexing, IsRefusal}
 use Rattle.mir_lex.specs.Scanner.{single_mark}
 use Rattle.mir_lex.specs.Tokens.{line_after}
-use Rattle.std.proofs.lemmas.List.Sums.{sum_by-append}
 use Rattle.mir_lex.proofs.Pieces.{ByteBeginsNone, IsPieceToken, NotContinued, PieceBadNumber, PieceRefusal, PieceStops, Pieces, PiecesTokens, blank_piece, closed_before, comment_piece, ends_append, feed_piece, idle_closed, no_piece, token_piece}
 use Rattle.mir_lex.proofs.Sound.{MarkIs, single_is}
-use Rattle.mir_base.specs.DecimalLaws.{digits_all}
-use Rattle.mir_lex.proofs.Classes.{all_fed, blank_feed, digit_feed, letter_name, name_digit, name_feed}
+use Rattle.mir_lex.proofs.Classes.{blank_feed, letter_name, name_digit}
 use Rattle.mir_lex.proofs.Marks.{at_mark, every, mark_arrow, mark_no_bar, mark_some, no_mark_here, spelled_first, spelled_some}
-use Rattle.mir_lex.specs.SpellingLaws.{numeral_some}
-use Rattle.mir_lex.proofs.KindLemmas.{name_shape, named_some, word_facts}
+use Rattle.mir_lex.specs.SpellingLaws.{all_no_feed, line_begins, line_stays, name_feed, numeral_no_feed, numeral_some}
+use Rattle.mir_lex.proofs.KindLemmas.{word_facts}
+use Rattle.mir_base.specs.NameLaws.{name_shape, begins_some}
 use Rattle.mir_lex.proofs.Longest.{number_closed, number_longest, piece_token, token_piece_is, word_closed, word_longest}
 
 -- ---- lines
 
--- how many of the bytes are line feeds
-abbrev feeds : List ℕ → ℕ
-feeds bytes = count_by (λ byte. byte == 10) bytes
-
--- bytes of one line have none
-none_fed : (bytes : List ℕ) → HasNoLineFeed bytes → feeds bytes ≡ 0
-none_fed [] h = refl
-none_fed (byte ∷ bytes) h =
-    let parts = and_parts (not (byte == 10)) (list_all (λ byte. not (byte == 10)) bytes) h in
-    let here : 0 + cond (byte == 10) 1 0 ≡ 0 = ap (λ (t : Bool). 0 + cond t 1 0) (not-true (byte == 10) parts.0) in
-    let sum : feeds (byte ∷ bytes) ≡ (0 + cond (byte == 10) 1 0) + feeds bytes = sum_by-append (λ byte. cond (byte == 10) 1 0) (byte ∷ []) bytes in
-    omega (arith, sum, here, none_fed bytes parts.1)
-
--- what has no line feed leaves the line as it is
-pub same_line : (prefix bytes : List ℕ) → HasNoLineFeed bytes → line_after (prefix ++ bytes) ≡ line_after prefix
-same_line prefix bytes h =
-    let sum : feeds (prefix ++ bytes) ≡ feeds prefix + feeds bytes = sum_by-append (λ byte. cond (byte == 10) 1 0) prefix bytes in
-    omega (arith, sum, none_fed bytes h)
-
--- a line feed begins the next line
-next_line : (prefix : List ℕ) → line_after (prefix ++ 10 ∷ []) ≡ line_after prefix + 1
-next_line prefix =
-    let sum : feeds (prefix ++ 10 ∷ []) ≡ feeds prefix + 1 = sum_by-append (λ byte. cond (byte == 10) 1 0) prefix (10 ∷ []) in
-    omega (arith, sum)
-
--- a number lies on one line
-numeral_fed : (previous : Previous) (bytes : List ℕ) → IsNumeral previous bytes → HasNoLineFeed bytes
-numeral_fed previous bytes (inl h) = all_fed is_ascii_digit digit_feed bytes (sym (digits_all bytes) ∙ h.1)
-numeral_fed previous bytes (inr h) = subst HasNoLineFeed (sym h.1) (all_fed is_ascii_digit digit_feed h.0 (sym (digits_all h.0) ∙ h.2.1))
-
 -- a mark lies on one line
-mark_fed : (mark : Mark) (bytes : List ℕ) → IsMark mark bytes → HasNoLineFeed bytes
-mark_fed mark [] h = absurd (mark_some mark h)
-mark_fed mark (byte ∷ bytes) h =
+mark_no_feed : (mark : Mark) (bytes : List ℕ) → IsMark mark bytes → HasNoLineFeed bytes
+mark_no_feed mark [] h = absurd (mark_some mark h)
+mark_no_feed mark (byte ∷ bytes) h =
     at_mark (λ byte bytes. HasNoLineFeed (byte ∷ bytes)) (every (λ byte bytes. HasNoLineFeed (byte ∷ bytes)) refl refl refl refl refl refl refl refl refl refl refl refl refl refl refl refl refl refl) mark byte bytes h
 
 -- a token lies on one line
-token_fed : (previous : Previous) (bytes after : List ℕ) (kind : Kind) → IsToken previous bytes after kind → HasNoLineFeed bytes
-token_fed previous bytes after NameKind is = all_fed is_name_byte name_feed bytes (name_shape bytes is).1
-token_fed previous bytes after (WordKind word) is = subst HasNoLineFeed (sym is) (all_fed is_name_byte name_feed (word_text word) (word_facts word).all)
-token_fed previous bytes after (NumberKind value) is = numeral_fed previous bytes is.0
-token_fed previous bytes after (MarkKind mark) is = mark_fed mark bytes is
-token_fed previous bytes after LineEndKind is = absurd is
+token_no_feed : (previous : Previous) (bytes after : List ℕ) (kind : Kind) → IsToken previous bytes after kind → HasNoLineFeed bytes
+token_no_feed previous bytes after NameKind is = all_no_feed is_name_byte name_feed bytes (name_shape bytes is).1
+token_no_feed previous bytes after (WordKind word) is = subst HasNoLineFeed (sym is) (all_no_feed is_name_byte name_feed (word_text word) (word_facts word).all)
+token_no_feed previous bytes after (NumberKind value) is = numeral_no_feed previous bytes is.0
+token_no_feed previous bytes after (MarkKind mark) is = mark_no_feed mark bytes is
+token_no_feed previous bytes after LineEndKind is = absurd is
 
 -- ---- from the row of a text to the scanner's
 
@@ -103,7 +71,7 @@ row_pieces _ _ rest _ _ (row_token {text} {prefix} {items} {previous} bytes afte
     record {
       tail = piece.tail;
       pieces = subst (λ (n : ℕ). Pieces (prefix ++ bytes) (with_token items kind (length prefix) (length bytes) (line_after prefix)) (previous_of kind) n piece.tail)
-          (sym (same_line prefix bytes (token_fed previous bytes after kind token)))
+          (sym (line_stays prefix bytes (token_no_feed previous bytes after kind token)))
           (token_piece bytes kind piece.tail before.pieces (closed_before before.tail bytes rest before.closed) piece.token);
       closed = subst (NotContinued piece.tail) behind piece.closed;
     }
@@ -111,7 +79,7 @@ row_pieces _ _ rest _ _ (row_blank {text} {prefix} {items} {previous} byte after
     let before = row_pieces text prefix (byte ∷ rest) items previous row (is ∙ append_assoc prefix (byte ∷ []) rest) in
     record {
       tail = Idle;
-      pieces = subst (λ (n : ℕ). Pieces (prefix ++ byte ∷ []) items previous n Idle) (sym (same_line prefix (byte ∷ []) (and_from _ _ (ap not (blank_feed byte blank)) refl))) (blank_piece byte before.pieces before.closed blank);
+      pieces = subst (λ (n : ℕ). Pieces (prefix ++ byte ∷ []) items previous n Idle) (sym (line_stays prefix (byte ∷ []) (and_from _ _ (ap not (blank_feed byte blank)) refl))) (blank_piece byte before.pieces before.closed blank);
       closed = idle_closed rest;
     }
 row_pieces _ _ rest _ _ (row_comment {text} {prefix} {items} {previous} body after row split no_feed ends) is =
@@ -119,14 +87,14 @@ row_pieces _ _ rest _ _ (row_comment {text} {prefix} {items} {previous} body aft
     let before = row_pieces text prefix (comment_text body ++ rest) items previous row (is ∙ append_assoc prefix (comment_text body) rest) in
     record {
       tail = Comment;
-      pieces = subst (λ (n : ℕ). Pieces (prefix ++ comment_text body) items previous n Comment) (sym (same_line prefix (comment_text body) no_feed)) (comment_piece body before.pieces before.closed no_feed);
+      pieces = subst (λ (n : ℕ). Pieces (prefix ++ comment_text body) items previous n Comment) (sym (line_stays prefix (comment_text body) no_feed)) (comment_piece body before.pieces before.closed no_feed);
       closed = comment_closed rest (subst EndsLine behind ends);
     }
 row_pieces _ _ rest _ _ (row_line_feed {text} {prefix} {items} {previous} after row split) is =
     let before = row_pieces text prefix (10 ∷ rest) items previous row (is ∙ append_assoc prefix (10 ∷ []) rest) in
     record {
       tail = Idle;
-      pieces = subst (λ (n : ℕ). Pieces (prefix ++ 10 ∷ []) (with_line_end items previous (line_after prefix) (length prefix) 1) AfterLineEnd n Idle) (sym (next_line prefix)) (feed_piece before.pieces before.closed);
+      pieces = subst (λ (n : ℕ). Pieces (prefix ++ 10 ∷ []) (with_line_end items previous (line_after prefix) (length prefix) 1) AfterLineEnd n Idle) (sym (line_begins prefix)) (feed_piece before.pieces before.closed);
       closed = idle_closed rest;
     }
 
@@ -146,7 +114,7 @@ record Came (text prefix : List ℕ) (items : List Token) (previous : Previous) 
 -- no token is empty
 token_some : (previous : Previous) (bytes : List ℕ) (kind : Kind) (tail : Pending) (after : List ℕ) → IsToken previous bytes after kind → 0 < length bytes
 token_some previous [] NameKind tail after is = let begins = (name_shape [] is).0 in absurd (cc)
-token_some previous [] (WordKind word) tail after is = omega (arith, named_some (word_text word) (word_facts word).begins, ap length is)
+token_some previous [] (WordKind word) tail after is = omega (arith, begins_some (word_text word) (word_facts word).begins, ap length is)
 token_some previous [] (NumberKind value) tail after is = numeral_some previous [] is.0
 token_some previous [] (MarkKind mark) tail after is = absurd (mark_some mark is)
 token_some previous [] LineEndKind tail after is = absurd is
@@ -170,21 +138,21 @@ pieces_row text _ rest _ _ _ _ (token_piece {prefix} {items} {previous} {line} {
     record {
       row = subst (λ (n : ℕ). Row text (prefix ++ bytes) (with_token items kind (length prefix) (length bytes) n) (previous_of kind)) (sym before.at)
           (row_token bytes rest kind before.row is found.0 found.1);
-      at = before.at ∙ sym (same_line prefix bytes (token_fed previous bytes rest kind found.0));
+      at = before.at ∙ sym (line_stays prefix bytes (token_no_feed previous bytes rest kind found.0));
     }
 pieces_row text _ rest _ _ _ _ (blank_piece {prefix} {items} {previous} {line} {tail} byte pieces ends blank) is closed =
     let split : text ≡ prefix ++ byte ∷ rest = is ∙ append_assoc prefix (byte ∷ []) rest in
     let before = pieces_row text prefix (byte ∷ rest) items previous line tail pieces split ends in
-    record { row = row_blank byte rest before.row split blank; at = before.at ∙ sym (same_line prefix (byte ∷ []) (and_from _ _ (ap not (blank_feed byte blank)) refl)) }
+    record { row = row_blank byte rest before.row split blank; at = before.at ∙ sym (line_stays prefix (byte ∷ []) (and_from _ _ (ap not (blank_feed byte blank)) refl)) }
 pieces_row text _ rest _ _ _ _ (comment_piece {prefix} {items} {previous} {line} {tail} body pieces ends no_feed) is closed =
     let before = pieces_row text prefix (comment_text body ++ rest) items previous line tail pieces (is ∙ append_assoc prefix (comment_text body) rest) ends in
-    record { row = row_comment body rest before.row is no_feed (comment_ends rest closed); at = before.at ∙ sym (same_line prefix (comment_text body) no_feed) }
+    record { row = row_comment body rest before.row is no_feed (comment_ends rest closed); at = before.at ∙ sym (line_stays prefix (comment_text body) no_feed) }
 pieces_row text _ rest _ _ _ _ (feed_piece {prefix} {items} {previous} {line} {tail} pieces ends) is closed =
     let split : text ≡ prefix ++ 10 ∷ rest = is ∙ append_assoc prefix (10 ∷ []) rest in
     let before = pieces_row text prefix (10 ∷ rest) items previous line tail pieces split ends in
     record {
       row = subst (λ (n : ℕ). Row text (prefix ++ 10 ∷ []) (with_line_end items previous n (length prefix) 1) AfterLineEnd) (sym before.at) (row_line_feed rest before.row split);
-      at = ap (λ (n : ℕ). n + 1) before.at ∙ sym (next_line prefix);
+      at = ap (λ (n : ℕ). n + 1) before.at ∙ sym (line_begins prefix);
     }
 
 -- the tokens of a row of pieces are those of the text

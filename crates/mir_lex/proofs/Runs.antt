@@ -19,10 +19,11 @@ use Rattle.std.proofs.Common.{◌≡◌, ℕ, ◌+◌, ◌==◌, Bool, true, fal
 use Rattle.std.proofs.lemmas.Bool.{and_parts, cond-false, cond-true, or_parts}
 use Rattle.std.proofs.lemmas.List.{take_at, drop_at}
 use Rattle.mir_lex.specs.Spelling.{with_token, IsDigits, CanBeSigned, with_line_end, is_blank, previous_of}
-use Rattle.mir_lex.specs.Scanner.{number_of, word_kind, extend, push, skip, push_word, push_number, pending_bytes, emit_as, emit, end_line, minus_after, begin, begin_after, complete, turn_as, stays, step_as, scan_step, start, scan}
+use Rattle.mir_lex.specs.Scanner.{number_of, word_kind, extend, push, skip, push_word, push_number, pending_bytes, emit_as, emit, end_line, minus_after, begin, begin_after, complete, leave_as, stays, step_as, scan_step, start, scan}
 use Rattle.std.proofs.lemmas.List.Sums.{fold-append}
 use Rattle.mir_base.specs.DecimalLaws.{digits_all}
-use Rattle.mir_lex.proofs.Classes.{blank_feed, digit_blank, digit_feed, digit_no_letter, letter_blank, letter_feed, name_digit}
+use Rattle.mir_lex.specs.SpellingLaws.{digit_feed}
+use Rattle.mir_lex.proofs.Classes.{blank_feed, digit_blank, digit_no_letter, letter_blank, letter_feed, name_digit}
 use Rattle.mir_lex.proofs.Pieces.{continues}
 
 -- ---- scans, and what they hand over
@@ -110,7 +111,7 @@ run_stays text p [] st is h = ap (λ (q : Pending). Going (record st { pending =
 run_stays text p (b ∷ s) st is h =
     let parts = and_parts (stays p b) (list_all (stays p) s) h in
     ap (λ (p : Pending). fold (scan_step text) (step_as text st b p) s) is
-    ∙ ap (λ (t : Bool). fold (scan_step text) (if t then Going (extend st p) else turn_as text st b p) s) parts.0
+    ∙ ap (λ (t : Bool). fold (scan_step text) (if t then Going (extend st p) else leave_as text st b p) s) parts.0
     ∙ run_stays text p s (extend st p) refl parts.1
     ∙ ap (λ (n : ℕ). Going (record st { length = n; pending = p })) (omega arith)
 

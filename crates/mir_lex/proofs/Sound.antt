@@ -23,10 +23,11 @@ use Rattle.mir_lex.specs.Spelling.{with_token, IsDigits, CanBeSigned, IsNumeral,
 use Rattle.mir_lex.specs.Scanner.{number_of, word_kind, single_mark, extend, push, skip, push_word, push_number, pending_bytes, emit_as, emit, end_line, next_line, line_feed, minus_after, push_mark, begin, begin_after, complete, step_as, scan_step, start, scan, finish_with, finish, scanned}
 use Rattle.mir_lex.proofs.Pieces.{ByteBeginsNone, IsPieceToken, NotContinued, PieceRefusal, PieceStops, Pieces, PiecesTokens, begins_closed, blank_piece, comment_piece, continues, ends_append, feed_piece, minus_open, no_piece, token_piece}
 use Rattle.mir_lex.specs.SpellingLaws.{numeral_some}
-use Rattle.mir_lex.proofs.KindLemmas.{KindIs, NumberIs, kind_is, named_some, number_spelled, numeral_shape}
+use Rattle.mir_lex.proofs.KindLemmas.{KindIs, NumberIs, kind_is, number_spelled, numeral_shape}
 use Rattle.mir_base.specs.DecimalLaws.{digits_all}
 use Rattle.mir_lex.proofs.Classes.{all_push, letter_name}
 use Rattle.mir_lex.proofs.Runs.{last_line, since}
+use Rattle.mir_base.specs.NameLaws.{begins_some}
 
 -- ---- what was read
 
@@ -119,7 +120,7 @@ one s b h = omega (arith, ap length h)
 
 -- a word is handed over, or is too long
 word_emits : (text prefix rest : List ℕ) (st : Scan) (o : Option Kind) → text ≡ prefix ++ rest → (h : StandsAs prefix st PWord) → KindIs st.previous h.own o → NotContinued PWord rest → Emits text prefix PWord (push_word st o)
-word_emits text prefix rest st None is h kind ends = bad_at text prefix rest st PWord (LongName st.line) is h (named_some h.own h.reads.0) (refl, record { s = h.own; rest = rest; is = refl; begins = h.reads.0; all = h.reads.1; ends = ends; long = kind })
+word_emits text prefix rest st None is h kind ends = bad_at text prefix rest st PWord (LongName st.line) is h (begins_some h.own h.reads.0) (refl, record { s = h.own; rest = rest; is = refl; begins = h.reads.0; all = h.reads.1; ends = ends; long = kind })
 word_emits text prefix rest st (Some k) is h kind ends = put_fresh prefix st PWord PWord k h kind
 
 -- a number is handed over, or is out of range
@@ -333,7 +334,7 @@ begins_snoc (c ∷ s) b h = h
 step_as_keeps : (text prefix rest : List ℕ) (st : Scan) (b : ℕ) (p : Pending) → text ≡ prefix ++ b ∷ rest → StandsAs prefix st p → (continues p b ≡ false → Emits text prefix p (emit text st)) → KeepsBytes text (prefix ++ b ∷ []) (step_as text st b p)
 step_as_keeps text prefix rest st b Idle is h out = begin_keeps text prefix rest (skip st) Idle b is (drop_idle prefix st h) refl
 step_as_keeps text prefix rest st b PWord is h out = cond_both (is_name_byte b) (Going (extend st PWord)) (begin_after (emit text st) b) (KeepsBytes text (prefix ++ b ∷ []))
-    (λ e. grows prefix st PWord PWord b h (named_some h.own h.reads.0) (begins_snoc h.own b h.reads.0, all_push is_name_byte h.own b h.reads.1 e))
+    (λ e. grows prefix st PWord PWord b h (begins_some h.own h.reads.0) (begins_snoc h.own b h.reads.0, all_push is_name_byte h.own b h.reads.1 e))
     (λ e. begin_after_keeps text prefix rest (emit text st) PWord b is (out e) e)
 step_as_keeps text prefix rest st b PNumber is h out = cond_both (is_ascii_digit b) (Going (extend st PNumber)) _ (KeepsBytes text (prefix ++ b ∷ []))
     (λ e. grows prefix st PNumber PNumber b h (numeral_some st.previous h.own h.reads) (numeral_snoc st.previous h.own b h.reads e))

@@ -207,30 +207,30 @@ abbrev pub step_only : Scan → ℕ → ℕ → Pending → Scanned
 step_only state byte wanted pending = if byte == wanted then Going (extend state pending) else Stopped (BadByte state.line)
 
 -- a byte behind a number that is no digit
-abbrev pub turn_number : List ℕ → Scan → ℕ → Scanned
-turn_number text state byte = if is_name_byte byte then Stopped (BadNumber state.line) else restart text state byte
+abbrev pub leave_number : List ℕ → Scan → ℕ → Scanned
+leave_number text state byte = if is_name_byte byte then Stopped (BadNumber state.line) else restart text state byte
 
 -- a byte behind a `-` that may begin a number
-abbrev pub turn_minus : List ℕ → Scan → ℕ → Scanned
-turn_minus text state byte = if is_ascii_digit byte then Going (extend state PNumber) else restart text state byte
+abbrev pub leave_minus : List ℕ → Scan → ℕ → Scanned
+leave_minus text state byte = if is_ascii_digit byte then Going (extend state PNumber) else restart text state byte
 
 -- one more byte that does not stay in what is pending, where this is pending
-abbrev pub turn_as : List ℕ → Scan → ℕ → Pending → Scanned
-turn_as text state byte Idle = begin (skip state) byte
-turn_as text state byte PWord = restart text state byte
-turn_as text state byte PNumber = turn_number text state byte
-turn_as text state byte PMinus = turn_minus text state byte
-turn_as text state byte PLess = if byte == 45 then complete state Arrow else step_equal text state byte LessEqual
-turn_as text state byte PGreater = step_equal text state byte GreaterEqual
-turn_as text state byte PBang = step_equal text state byte NotEqual
-turn_as text state byte Bar = step_only state byte 124 Comment
-turn_as text state byte Comment = restart text state byte
-turn_as text state byte ArrowFirst = step_only state byte 134 ArrowSecond
-turn_as text state byte ArrowSecond = if byte == 144 then complete state Arrow else Stopped (BadByte state.line)
+abbrev pub leave_as : List ℕ → Scan → ℕ → Pending → Scanned
+leave_as text state byte Idle = begin (skip state) byte
+leave_as text state byte PWord = restart text state byte
+leave_as text state byte PNumber = leave_number text state byte
+leave_as text state byte PMinus = leave_minus text state byte
+leave_as text state byte PLess = if byte == 45 then complete state Arrow else step_equal text state byte LessEqual
+leave_as text state byte PGreater = step_equal text state byte GreaterEqual
+leave_as text state byte PBang = step_equal text state byte NotEqual
+leave_as text state byte Bar = step_only state byte 124 Comment
+leave_as text state byte Comment = restart text state byte
+leave_as text state byte ArrowFirst = step_only state byte 134 ArrowSecond
+leave_as text state byte ArrowSecond = if byte == 144 then complete state Arrow else Stopped (BadByte state.line)
 
 -- one more byte that does not stay in what is pending
-abbrev pub turn : List ℕ → Scan → ℕ → Scanned
-turn text state byte = turn_as text state byte state.pending
+abbrev pub leave : List ℕ → Scan → ℕ → Scanned
+leave text state byte = leave_as text state byte state.pending
 
 -- whether the byte belongs to what is pending, of which no other byte of the text has to be known
 abbrev pub stays : Pending → ℕ → Bool
@@ -241,7 +241,7 @@ stays pending byte = false
 
 -- one more byte, where this is pending
 abbrev pub step_as : List ℕ → Scan → ℕ → Pending → Scanned
-step_as text state byte pending = if stays pending byte then Going (extend state pending) else turn_as text state byte pending
+step_as text state byte pending = if stays pending byte then Going (extend state pending) else leave_as text state byte pending
 
 -- one more byte
 abbrev pub byte_step : List ℕ → Scan → ℕ → Scanned

@@ -1,5 +1,5 @@
--- How a text is spelled: from the left, a row of tokens, blanks, comments and line feeds, each token as long as it can be.
--- Cited by contracts.
+-- How a text is spelled: from the left, a row of tokens, blanks, comments and line feeds, each token as long as it can
+-- be. Cited by contracts.
 use Rattle.std.specs.Prelude.{ℕ, ◌≡◌, ◌≢◌, ◌<◌, ◌==◌, Bool, true, false, ◌||◌, not, ◌⊎◌, List, [], ◌∷◌, ◌++◌, length, codes, IsTrue, FitsSigned}
 use Rattle.std.specs.List.{list_all}
 use Rattle.std.specs.Str.{all_ascii_digits}
@@ -125,7 +125,8 @@ abbrev pub EndsLine : List ℕ → Type 0
 EndsLine [] = Unit {0}
 EndsLine (byte ∷ bytes) = byte ≡ 10
 
--- the prefix of the text is a row of tokens, blanks, comments and line feeds, with these tokens, the last of them as said
+-- the prefix of the text is a row of tokens, blanks, comments and line feeds, with these tokens, the last of them as
+-- said
 pub data Row : List ℕ → List ℕ → List Token → Previous → Type 0 where
   start : {text : List ℕ} → Row text [] [] AfterLineEnd
   token : {text prefix : List ℕ} {items : List Token} {previous : Previous} (bytes after : List ℕ) (kind : Kind)

@@ -11,9 +11,13 @@ pub record TokensShape : Type 0 where
   pub text : List ℕ
   pub items : List Token
 
+-- how many of the bytes are line feeds
+abbrev pub line_feeds : List ℕ → ℕ
+line_feeds bytes = count_by (λ byte. byte == 10) bytes
+
 -- the line of what stands after these bytes: 1 and the line feeds among them
 abbrev pub line_after : List ℕ → ℕ
-line_after prefix = 1 + count_by (λ byte. byte == 10) prefix
+line_after prefix = 1 + line_feeds prefix
 
 -- the bytes of a token
 abbrev pub token_bytes : List ℕ → Token → List ℕ

@@ -14,7 +14,8 @@ use std::alloc::Global;
 /// The tokens of a text, which has at most `mir_base::MOST_BYTES` bytes. `specs/Spelling.antt` says what they are.
 ///
 /// It refuses a text in which, from the left, a place comes where no token stands: with `BadByte`, `BadNumber` or
-/// `LongName`, by what stands there, and the line of that place. It also fails with `Memory`, where it runs out of memory.
+/// `LongName`, by what stands there, and the line of that place. It also fails with `Memory`, where it runs out of
+/// memory.
 pub fn lex(alloc: Global, text: &[u8]) -> Result<Tokens, LexFault>
     requires { length text.now ≤ most_bytes }
 

@@ -1,7 +1,7 @@
 // The scanner: one step for each byte, which never goes back. The public call is `scan_text`.
 ghost use Rattle.std.specs.Prelude.{◌≡◌, ◌≤◌, ◌+◌, length, IfOk, OnOk};
 ghost use Rattle.mir_lex.specs.Spelling.{previous_of};
-ghost use Rattle.mir_lex.specs.Scanner.{outcome, start, extend, push, skip, push_found, emit, end_line, line_feed, begin_minus, push_mark, begin, complete, extend_going, restart, step_equal, step_only, turn_number, turn_minus, turn, stays, byte_step, IsShort, HasRoom, HasLine, IsInText, IsAtEnd, IsSamePlace, IsNextPlace, scan, finish, scanned};
+ghost use Rattle.mir_lex.specs.Scanner.{outcome, start, extend, push, skip, push_found, emit, end_line, line_feed, begin_minus, push_mark, begin, complete, extend_going, restart, step_equal, step_only, leave_number, leave_minus, leave, stays, byte_step, IsShort, HasRoom, HasLine, IsInText, IsAtEnd, IsSamePlace, IsNextPlace, scan, finish, scanned};
 
 use crate::bytes::{is_blank, single_mark, word_kind};
 use crate::numbers::scanned_number;
@@ -142,21 +142,21 @@ impl Scan {
         if stays(self.pending, byte) {
             self.extend_going(self.pending)
         } else {
-            self.turn(text, byte)
+            self.leave(text, byte)
         }
     }
 
     // One more byte that does not stay in what is pending, by what that is.
-    fn turn(&mut self, text: &[u8], byte: u8) -> Result<Option<LexFault>, Memory>
+    fn leave(&mut self, text: &[u8], byte: u8) -> Result<Option<LexFault>, Memory>
         requires { IsInText text.now self.old }
-        ensures value { IfOk result (λ stop. outcome stop self.new ≡ turn text.now self.old byte) }
+        ensures value { IfOk result (λ stop. outcome stop self.new ≡ leave text.now self.old byte) }
         ensures next { IfOk result (λ stop. IsNextPlace self.old (outcome stop self.new)) }
     {
         match self.pending {
             Pending::Idle => self.begin_idle(byte),
             Pending::Word => self.restart(text, byte),
-            Pending::Number => self.turn_number(text, byte),
-            Pending::Minus => self.turn_minus(text, byte),
+            Pending::Number => self.leave_number(text, byte),
+            Pending::Minus => self.leave_minus(text, byte),
             Pending::Less if byte == b'-' => self.complete(Mark::Arrow),
             Pending::Less => self.step_equal(text, byte, Mark::LessEqual),
             Pending::Greater => self.step_equal(text, byte, Mark::GreaterEqual),
@@ -170,10 +170,10 @@ impl Scan {
     }
 
     // A byte behind a number that is no digit.
-    fn turn_number(&mut self, text: &[u8], byte: u8) -> Result<Option<LexFault>, Memory>
+    fn leave_number(&mut self, text: &[u8], byte: u8) -> Result<Option<LexFault>, Memory>
         requires { IsInText text.now self.old }
         ensures value { IfOk result (λ stop.
-            outcome stop self.new ≡ turn_number text.now self.old byte) }
+            outcome stop self.new ≡ leave_number text.now self.old byte) }
         ensures next { IfOk result (λ stop. IsNextPlace self.old (outcome stop self.new)) }
     {
         if is_name_byte(byte) {
@@ -184,10 +184,10 @@ impl Scan {
     }
 
     // A byte behind a `-` that may begin a number.
-    fn turn_minus(&mut self, text: &[u8], byte: u8) -> Result<Option<LexFault>, Memory>
+    fn leave_minus(&mut self, text: &[u8], byte: u8) -> Result<Option<LexFault>, Memory>
         requires { IsInText text.now self.old }
         ensures value { IfOk result (λ stop.
-            outcome stop self.new ≡ turn_minus text.now self.old byte) }
+            outcome stop self.new ≡ leave_minus text.now self.old byte) }
         ensures next { IfOk result (λ stop. IsNextPlace self.old (outcome stop self.new)) }
     {
         if byte.is_ascii_digit() {

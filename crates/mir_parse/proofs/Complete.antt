@@ -3,10 +3,10 @@ use Rattle.std.proofs.Common.{◌≡◌, ℕ, ℤ, Bool, true, false, List, [], 
 use Rattle.std.specs.List.{fold}
 use Rattle.std.proofs.lemmas.List.Sums.{fold-append}
 use Rattle.mir_base.specs.declared.operators.Op.{Op}
-use Rattle.mir_base.specs.declared.operators.Op.TheVariants.{Add, Sub, Mul, Div, Mod, Min, Max, Eq, Ne, Lt, Le, Gt, Ge, Shl, Shr, Shra, And, Or, Xor}
+use Rattle.mir_base.specs.declared.operators.Op.TheVariants.{Add}
 use Rattle.mir_base.specs.declared.operators.UnOp.TheVariants.{Neg, Not}
 use Rattle.mir_base.specs.declared.operators.RelOp.{RelOp}
-use Rattle.mir_base.specs.declared.operators.RelOp.TheVariants.{Eq as IsEq, Ne as IsNe, Lt as IsLt, Le as IsLe, Gt as IsGt, Ge as IsGe}
+use Rattle.mir_base.specs.declared.operators.RelOp.TheVariants.{Eq as IsEq}
 use Rattle.mir_lex.specs.declared.terminals.Symbol.{Symbol}
 use Rattle.mir_lex.specs.declared.terminals.Symbol.TheVariants.{Name as NAME, Word as WORD, Mark as MARK, LineEnd as NL}
 use Rattle.mir_lex.specs.declared.terminals.Terminal.{Terminal}

@@ -1,5 +1,5 @@
--- The grammar. Each rule stands above the definition that says it; `NL` is a line end, quoted words are reserved words or
--- marks, braces mean any number of times and brackets at most once. Cited by contracts.
+-- The grammar. Each rule stands above the definition that says it; `NL` is a line end, quoted words are reserved words
+-- or marks, braces mean any number of times and brackets at most once. Cited by contracts.
 use Rattle.std.specs.Prelude.{ℕ, ◌≡◌, ◌⊎◌, List, [], ◌∷◌, ◌++◌, length, map, codes, Option, None, Some}
 use Rattle.mir_base.specs.declared.operators.Op.{Op}
 use Rattle.mir_base.specs.declared.operators.Op.TheVariants.{Add, Sub, Mul, Div, Mod, Min, Max, Eq, Ne, Lt, Le, Gt, Ge, Shl, Shr, Shra, And, Or, Xor}

@@ -1,4 +1,5 @@
--- Texts and the raw programs that they spell: a text has tokens, and these are derived by the grammar. Cited by contracts.
+-- Texts and the raw programs that they spell: a text has tokens, and these are derived by the grammar. Cited by
+-- contracts.
 use Rattle.std.specs.Prelude.{ℕ, ◌≡◌, List}
 use Rattle.mir_lex.specs.declared.tokens.Token.{Token}
 use Rattle.mir_lex.specs.Terminals.{terminals}

@@ -1,5 +1,5 @@
-// What a token makes of the units that were read: `step` is called once for each token. `at` is the line of the token, and
-// `line` that of an instruction that began before it.
+// What a token makes of the units that were read: `step` is called once for each token. `at` is the line of the token,
+// and `line` that of an instruction that began before it.
 ghost use Rattle.std.specs.Prelude.{◌≡◌, OnOk};
 ghost use Rattle.mir_parse.specs.Reader.{Turns, TurnsEach, state_turned, reading_after, outside, unit_named, headed, begun, inside, after_end, spot_step, read_step};
 

@@ -6,7 +6,7 @@ use Rattle.std.proofs.lemmas.List.{length-map}
 use Rattle.std.proofs.lemmas.List.Elements.{All-head, All-tail, All-map}
 use Rattle.mir_base.specs.ItemLaws.{all_at}
 use Rattle.mir_base.specs.BelowLaws.{all_below_left, all_below_right}
-use Rattle.mir_base.specs.DecimalLaws.{numbered_is_name}
+use Rattle.mir_base.specs.NameLaws.{numbered_is_name}
 use Rattle.mir_base.specs.declared.instructions.Operand.{Operand}
 use Rattle.mir_base.specs.declared.instructions.Operand.TheVariants.{Var, Const}
 use Rattle.mir_base.specs.declared.instructions.Rhs.{Rhs}
@@ -37,7 +37,7 @@ label_small body place within few = omega (arith, targets_few body place)
 
 -- a label is `L` and a number, which is a name
 label_spelled : (body : List Inst) (place : ℕ) → place ≤ length body → length body + 1 < 2 ^ 64 → IsName (label body place)
-label_spelled body place within few = numbered_is_name (codes "L") (targets_below body place + 1) refl refl (omega arith) (label_small body place within few)
+label_spelled body place within few = numbered_is_name (codes "L") (targets_below body place + 1) refl (label_small body place within few)
 
 -- ---- instructions
 

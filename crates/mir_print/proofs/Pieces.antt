@@ -1,14 +1,10 @@
 -- Lines as rows of tokens and blanks: what their tokens are.
-use Rattle.std.proofs.Common.{◌≡◌, ◌≢◌, ℕ, ◌+◌, ◌<◌, ◌==◌, Bool, true, false, ◌&&◌, not, List, [], ◌∷◌, ◌++◌, length, map, take, drop, codes, FitsSigned, w64, refl, sym, ap, ◌∙◌, subst, inl, inr, append_assoc, arith, if◌then◌else◌, nat_le}
-use Rattle.std.specs.List.{list_all, count_by}
+use Rattle.std.proofs.Common.{◌≡◌, ◌≢◌, ℕ, ◌+◌, ◌<◌, true, false, List, [], ◌∷◌, ◌++◌, length, map, take, drop, codes, FitsSigned, w64, refl, sym, ap, ◌∙◌, subst, inl, append_assoc, arith}
 use Rattle.std.specs.Fmt.{signed_decimal}
-use Rattle.std.specs.Char.{is_ascii_digit}
-use Rattle.std.specs.Str.{all_ascii_digits}
 use Rattle.std.proofs.lemmas.Bool.Decides.{nat_tests}
 use Rattle.std.proofs.lemmas.List.{append-nil, map_push, take_at, drop_at}
-use Rattle.std.proofs.lemmas.List.Sums.{sum_by-append}
-use Rattle.std.proofs.lemmas.Bool.{and_parts}
-use Rattle.mir_base.specs.Names.{is_name_byte, IsName, begins_as_name, is_reserved}
+use Rattle.mir_base.specs.NameLaws.{name_shape, begins_some}
+use Rattle.mir_base.specs.Names.{is_name_byte, IsName}
 use Rattle.mir_base.specs.declared.words.Word.{Word}
 use Rattle.mir_base.specs.declared.words.Word.TheVariants.{Begin}
 use Rattle.mir_lex.specs.declared.words.Mark.{Mark}
@@ -24,8 +20,8 @@ use Rattle.mir_lex.specs.declared.scan.Previous.TheVariants.{LineEnd as AfterLin
 use Rattle.mir_lex.specs.Tokens.{line_after}
 use Rattle.mir_lex.specs.Terminals.{symbol_of, terminal_of, terminals}
 use Rattle.mir_base.specs.Words.{word_text}
-use Rattle.mir_lex.specs.Spelling.{mark_text, IsMark, CanBeSigned, IsNumeral, IsLongest, BeginsWith, IsToken, previous_of, with_line_end, Row, start as row_start, token as row_token, blank as row_blank, line_feed as row_line_feed}
-use Rattle.mir_lex.specs.SpellingLaws.{numeral_some}
+use Rattle.mir_lex.specs.Spelling.{HasNoLineFeed, mark_text, IsMark, CanBeSigned, IsLongest, BeginsWith, IsToken, previous_of, with_line_end, Row, start as row_start, token as row_token, blank as row_blank, line_feed as row_line_feed}
+use Rattle.mir_lex.specs.SpellingLaws.{all_no_feed, line_begins, line_stays, name_feed, numeral_no_feed, numeral_some}
 use Rattle.mir_print.proofs.Numerals.{signed_numeral, signed_value}
 use Rattle.mir_print.proofs.Ends.{is_separator, longest_before, longest_alone, left_alone, comma_alone, semicolon_alone}
 
@@ -120,11 +116,6 @@ token_is previous (NUMBER z) after fits ends = (signed_numeral previous z fits.0
 token_is previous (MARK mark) after fits ends = mark_is mark
 token_is previous NL after fits ends = absurd fits
 
--- a name has at least one byte
-name_some : (x : List ℕ) → IsName x → 0 < length x
-name_some [] name = absurd (cc)
-name_some (b ∷ x) name = omega arith
-
 -- no mark is longer with a byte that may follow it
 printed_mark_longest : (previous : Previous) (mark : Mark) (after : List ℕ) → EndsSymbol (MARK mark) after → IsLongest previous (mark_text mark) after
 printed_mark_longest previous Comma after ends = longest_alone previous 44 after comma_alone
@@ -139,7 +130,7 @@ word_some word = omega arith
 
 -- no symbol is longer with the bytes that may follow it
 is_longest : (previous : Previous) (symbol : Symbol) (after : List ℕ) → Fits previous symbol → EndsSymbol symbol after → IsLongest previous (symbol_text symbol) after
-is_longest previous (NAME x) after fits ends = longest_before previous x after (name_some x fits) ends
+is_longest previous (NAME x) after fits ends = longest_before previous x after (begins_some x (name_shape x fits).0) ends
 is_longest previous (WORD word) after fits ends = longest_before previous (word_text word) after (word_some word) ends
 is_longest previous (NUMBER z) after fits ends = longest_before previous (signed_decimal z) after (numeral_some previous (signed_decimal z) (signed_numeral previous z fits.0 fits.1)) ends
 is_longest previous (MARK mark) after fits ends = printed_mark_longest previous mark after ends
@@ -147,63 +138,19 @@ is_longest previous NL after fits ends = absurd fits
 
 -- ---- no token has a line feed
 
--- how many line feeds the bytes have
-abbrev feeds : List ℕ → ℕ
-feeds bytes = count_by (λ byte. byte == 10) bytes
-
--- the bytes have none
-abbrev NoFeed : List ℕ → Type 0
-NoFeed bytes = feeds bytes ≡ 0
-
--- two texts have together the line feeds of both
-feeds_append : (xs ys : List ℕ) → feeds (xs ++ ys) ≡ feeds xs + feeds ys
-feeds_append xs ys = sum_by-append (λ (b : ℕ). if b == 10 then 1 else 0) xs ys
-
--- a byte that is no line feed in front adds none
-cons_no_feed : (b : ℕ) (xs : List ℕ) → (b == 10) ≡ false → NoFeed xs → NoFeed (b ∷ xs)
-cons_no_feed b xs plain none = feeds_append (b ∷ []) xs ∙ ap (λ (t : Bool). 0 + (if t then 1 else 0) + feeds xs) plain ∙ ap (λ (n : ℕ). 0 + 0 + n) none
-
--- bytes of names are no line feeds
-name_no_feed : (x : List ℕ) → list_all is_name_byte x ≡ true → NoFeed x
-name_no_feed [] h = refl
-name_no_feed (b ∷ x) h =
-    let parts = and_parts (is_name_byte b) (list_all is_name_byte x) h in
-    let plain : (b == 10) ≡ false = grind (arith, nat_tests) in
-    cons_no_feed b x plain (name_no_feed x parts.1)
-
--- nor are digits
-digits_no_feed : (x : List ℕ) → all_ascii_digits x ≡ true → NoFeed x
-digits_no_feed [] h = refl
-digits_no_feed (b ∷ x) h =
-    let parts = and_parts (is_ascii_digit b) (all_ascii_digits x) h in
-    let plain : (b == 10) ≡ false = grind (arith, nat_tests) in
-    cons_no_feed b x plain (digits_no_feed x parts.1)
-
--- every byte of a name is a byte that names may have
-name_bytes : (x : List ℕ) → IsName x → list_all is_name_byte x ≡ true
-name_bytes x name =
-    let shape = and_parts (begins_as_name x && list_all is_name_byte x && nat_le (length x) 64) (not (is_reserved x)) name in
-    let long = and_parts (begins_as_name x && list_all is_name_byte x) (nat_le (length x) 64) shape.0 in
-    (and_parts (begins_as_name x) (list_all is_name_byte x) long.0).1
-
--- no number has a line feed, with a sign or without
-numeral_no_feed : (previous : Previous) (bytes : List ℕ) → IsNumeral previous bytes → NoFeed bytes
-numeral_no_feed previous bytes (inl digits) = digits_no_feed bytes digits.1
-numeral_no_feed previous bytes (inr signed) = ap feeds signed.1 ∙ cons_no_feed 45 signed.0 refl (digits_no_feed signed.0 signed.2.1)
-
--- no reserved word has one
-word_no_feed : (word : Word) → NoFeed (word_text word)
+-- no reserved word has a line feed
+word_no_feed : (word : Word) → HasNoLineFeed (word_text word)
 word_no_feed Begin = refl
 word_no_feed word = refl
 
 -- no mark has one
-mark_no_feed : (mark : Mark) → NoFeed (mark_text mark)
+mark_no_feed : (mark : Mark) → HasNoLineFeed (mark_text mark)
 mark_no_feed Colon = refl
 mark_no_feed mark = refl
 
 -- and so no symbol has one
-no_feed : (previous : Previous) (symbol : Symbol) → Fits previous symbol → NoFeed (symbol_text symbol)
-no_feed previous (NAME x) fits = name_no_feed x (name_bytes x fits)
+no_feed : (previous : Previous) (symbol : Symbol) → Fits previous symbol → HasNoLineFeed (symbol_text symbol)
+no_feed previous (NAME x) fits = all_no_feed is_name_byte name_feed x (name_shape x fits).1
 no_feed previous (WORD word) fits = word_no_feed word
 no_feed previous (NUMBER z) fits = numeral_no_feed previous (signed_decimal z) (signed_numeral previous z fits.0 fits.1)
 no_feed previous (MARK mark) fits = mark_no_feed mark
@@ -252,7 +199,7 @@ read_token text front line previous ts symbol after was split fits ends =
           map_push (terminal_of text) was.items token
           ∙ ap (λ (us : List Terminal). us ++ terminal_of text token ∷ []) was.tokens
           ∙ ap (λ (u : Terminal). ts ++ u ∷ []) (bytes_are text front bytes after (kind_of symbol) cut (line_after front) ∙ ap (λ (s : Symbol). record { symbol = s; line = line_after front }) (symbol_is symbol) ∙ ap (λ (n : ℕ). record { symbol = symbol; line = n }) was.on);
-      on = let many = feeds_append front bytes in let none = no_feed previous symbol fits in omega (arith, was.on, many, none);
+      on = line_stays front bytes (no_feed previous symbol fits) ∙ was.on;
     }
 
 -- a blank is passed over and adds no terminal
@@ -261,7 +208,7 @@ read_blank text front line previous ts after was split = record {
   items = was.items;
   row = row_blank 32 after was.row split refl;
   tokens = was.tokens;
-  on = let many = feeds_append front (32 ∷ []) in omega (arith, was.on, many);
+  on = line_stays front (32 ∷ []) refl ∙ was.on;
 }
 
 -- the same row, with its front and its terminals written in another way
@@ -323,7 +270,7 @@ read_feed text front line previous ts after other was split =
           ∙ map_push (terminal_of text) was.items token
           ∙ ap (λ (us : List Terminal). us ++ record { symbol = NL; line = line_after front } ∷ []) was.tokens
           ∙ ap (λ (n : ℕ). ts ++ record { symbol = NL; line = n } ∷ []) was.on;
-      on = let many = feeds_append front (10 ∷ []) in omega (arith, was.on, many);
+      on = line_begins front ∙ ap (λ (n : ℕ). n + 1) was.on;
     }
 
 -- a whole line is read as its symbols and a line end

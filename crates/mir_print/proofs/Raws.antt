@@ -1,4 +1,5 @@
--- The raw program that the canonical text of a program spells: names in place of numbers, and `L1`, `L2` in place of places.
+-- The raw program that the canonical text of a program spells: names in place of numbers, and `L1`, `L2` in place of
+-- places.
 use Rattle.std.proofs.Common.{ℕ, suc, ◌+◌, List, [], ◌∷◌, ◌++◌, map, length, Some, if◌then◌else◌}
 use Rattle.std.specs.Option.{option_map}
 use Rattle.mir_base.specs.declared.instructions.Operand.{Operand}

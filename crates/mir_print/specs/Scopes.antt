@@ -1,5 +1,5 @@
--- What the printer of a unit knows of it, as the canonical text's definition names it, and texts that it makes on the way.
--- Cited by the contracts of private functions.
+-- What the printer of a unit knows of it, as the canonical text's definition names it, and texts that it makes on the
+-- way. Cited by the contracts of private functions.
 use Rattle.std.specs.Prelude.{ℕ, List, [], ◌∷◌, ◌++◌, map, codes, ◌==◌, if◌then◌else◌}
 use Rattle.mir_base.specs.declared.instructions.Operand.{Operand}
 use Rattle.mir_base.specs.Shapes.{UnitShape}

@@ -1,12 +1,11 @@
 -- In a run of a program every value is a signed 64-bit number, and every call hands over what its unit receives.
-use Rattle.std.proofs.Common.{◌≡◌, ℕ, suc, ◌+◌, ◌<◌, true, false, cond, List, [], ◌∷◌, map, length, Option, Some, None, slice_get, refl, ap, ◌∙◌}
+use Rattle.std.proofs.Common.{◌≡◌, ℕ, ◌+◌, ◌<◌, true, false, cond, length, Option, Some, None, slice_get, refl, ◌∙◌}
 use Rattle.mir_base.specs.declared.operators.Trap.TheVariants.{ZeroDivisor}
-use Rattle.mir_base.specs.declared.instructions.Operand.{Operand}
 use Rattle.mir_base.specs.declared.instructions.Rhs.{Rhs}
 use Rattle.mir_base.specs.declared.instructions.Inst.{Inst}
 use Rattle.mir_base.specs.declared.instructions.Inst.TheVariants.{Receive, Assign, Goto, If, Call, Print, Return}
 use Rattle.mir_base.specs.Shapes.{UnitShape, ProgramShape, IsProgram, body_or_empty}
-use Rattle.mir_base.specs.Frames.{CallEntry, Values, Frame, Continues, Traps}
+use Rattle.mir_base.specs.Frames.{CallEntry, Frame, Continues, Traps}
 use Rattle.mir_base.specs.Units.{operand_value, assigned, assign_transition, inst_transition, body_code}
 use Rattle.mir_base.specs.Runs.{codes_of}
 use Rattle.mir_base.specs.UnitRuns.{machine_at, IsEntry}
@@ -15,16 +14,12 @@ use Rattle.mir_base.specs.ExpressionLaws.{assign_is}
 use Rattle.mir_base.specs.NumberLaws.{zero_fits}
 use Rattle.mir_base.specs.FrameLaws.{FrameFits, operand_fits, operands_fit, rhs_fits, argument_fits, at_fits, assigned_fits}
 use Rattle.mir_sim.proofs.Stacks.{Kept}
+use Rattle.std.proofs.lemmas.List.{length-map}
 
 -- the unit is there, and this may be handed over to it
 pub record Callable (program : ProgramShape) (u : ℕ) (entry : CallEntry) : Type 0 where
   pub there : u < length program.units
   pub entry_is : IsEntry (machine_at program u) entry
-
--- each operand has one value
-operands_long : (values : Values) (operands : List Operand) → length (map (operand_value values) operands) ≡ length operands
-operands_long values [] = refl
-operands_long values (a ∷ operands) = ap suc (operands_long values operands)
 
 module _ (program : ProgramShape) (is : IsProgram program.units) where
   assign_keeps : (x : ℕ) (rhs : Rhs) (place : ℕ) (f : Frame) → FrameFits f → Kept (Callable program) (assign_transition x rhs place f)
@@ -43,7 +38,7 @@ module _ (program : ProgramShape) (is : IsProgram program.units) where
       let c = (is.bodies u unit there).insts f.place (Call into called operands) at_place in (
         record {
           there = c.0;
-          entry_is = record { long = operands_long f.values operands ∙ c.1; numbers = operands_fit f.values operands fits.values };
+          entry_is = record { long = length-map operands (operand_value f.values) ∙ c.1; numbers = operands_fit f.values operands fits.values };
         },
         at_fits (f.place + 1) f fits,
       )

@@ -147,8 +147,8 @@ module _ (Q : Type 0) (codes codes' : ℕ → Code) (Callable : ℕ → CallEntr
   returns_alike answer is (p ∷ ps) [] E E' m = absurd m
   returns_alike answer is (p ∷ ps) (q ∷ qs) E E' m = above m m.own m.own' m.sum m.sum' (record { pair = m.here.goes_on answer is; fits = resumed_fits p.into answer p.frame is m.here.fits })
 
-  -- where the second frame comes, after silent steps, to a transition that leads to a matching state, so does the second
-  -- stack, with one step more
+  -- where the second frame comes, after silent steps, to a transition that leads to a matching state, so does the
+  -- second stack, with one step more
   matches_after : (s : State) (printed : List ℤ) (u k : ℕ) (g h : Frame) (n : ℕ) (qs : List Caller) (E D : ℕ) (t : Transition) → Silently (codes' u) k g h n → codes' u h ≡ t → MatchState Q codes codes' s (state_after u qs t (state printed (Running u h qs) (E + n) D)) → (j : ℕ) × MatchState Q codes codes' s (steps codes' j (state printed (Running u g qs) E D))
   matches_after s printed u k g h n qs E D t silent is done = (k + 1, subst (MatchState Q codes codes' s) (sym (then_step codes' u k g h n silent t is printed qs E D)) done)
 

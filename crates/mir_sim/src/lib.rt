@@ -49,8 +49,8 @@ fn count(first: &Program, second: &Program)
     let _ = &first.units;
 }
 
-/// Has no effect; carries the theorem that where each unit of a program calls units of higher numbers alone, no run of it
-/// ever has more frames than the program has units. It does not allocate.
+/// Has no effect; carries the theorem that where each unit of a program calls units of higher numbers alone, no run of
+/// it ever has more frames than the program has units. It does not allocate.
 pub fn has_few_frames(program: &Program)
     requires { CallsHigher program.now }
     ensures { HasFewFrames program.now }
@@ -59,8 +59,8 @@ pub fn has_few_frames(program: &Program)
     let _ = &program.units;
 }
 
-/// Has no effect; carries the theorem that where besides each unit of a second program calls no unit that the first's of
-/// its number does not, this holds of its runs too. It does not allocate.
+/// Has no effect; carries the theorem that where besides each unit of a second program calls no unit that the first's
+/// of its number does not, this holds of its runs too. It does not allocate.
 pub fn both_have_few_frames(first: &Program, second: &Program)
     requires higher { CallsHigher first.now }
     requires no_more { CallsNoMore first.now second.now }

@@ -1,7 +1,6 @@
 -- Lists of names in which no two are equal.
 use Rattle.std.proofs.Common.{◌≡◌, ℕ, ◌<◌, ◌≤◌, Bool, true, false, nat_lt, if◌then◌else◌, List, [], ◌∷◌, ◌++◌, map, fold, length, slice_get, Some, refl, ap, sym, ◌∙◌, subst, append_assoc, length-append, arith, ltb-true, ltb-false}
 use Rattle.std.proofs.lemmas.List.{append-nil, map-append}
-use Rattle.std.proofs.lemmas.Option.{slice_get_within}
 use Rattle.mir_base.specs.ItemLaws.{get_left, get_last}
 use Rattle.mir_base.specs.Shapes.{AllDiffer}
 use Rattle.mir_valid.specs.Names.{has_name}
@@ -66,7 +65,3 @@ differ_after name line earlier (x ∷ xs) differ e =
 -- where no item has the name of an earlier one, the names differ
 pub differ_unbroken : {A : Type 0} (name : A → List ℕ) (line : A → ℕ) (xs : List A) → broken line (λ before y. has_name (map name before) (name y)) xs ≡ [] → AllDiffer (map name xs)
 differ_unbroken name line xs e = differ_after name line [] xs differ_nil e
-
--- a name has one number
-pub same_number : (names : List (List ℕ)) (x : List ℕ) (m n : ℕ) → AllDiffer names → slice_get names m ≡ Some x → slice_get names n ≡ Some x → m ≡ n
-same_number names x m n differ at_m at_n = differ m n (slice_get_within names m x at_m) (slice_get_within names n x at_n) (at_m ∙ sym at_n)

@@ -7,13 +7,7 @@ use Rattle.mir_parse.specs.declared.raw.RawForm.{RawForm}
 use Rattle.mir_parse.specs.declared.raw.RawInst.{RawInst}
 use Rattle.mir_valid.specs.Rules.{lines_where}
 
--- an item of a mapped list is that of an item
-pub map_at : {A B : Type 0} (f : A → B) (xs : List A) (i : ℕ) (y : B) → slice_get (map f xs) i ≡ Some y → (x : A) × (slice_get xs i ≡ Some x) × (f x ≡ y)
-map_at f [] i y at = absurd (cc)
-map_at f (x ∷ xs) zero y at = (x, refl, cc)
-map_at f (x ∷ xs) (suc i) y at = map_at f xs i y at
-
--- and an item gives one of the mapped list
+-- an item gives one of the mapped list
 pub at_map : {A B : Type 0} (f : A → B) (xs : List A) (i : ℕ) (x : A) → slice_get xs i ≡ Some x → slice_get (map f xs) i ≡ Some (f x)
 at_map f xs i x at = slice_get-map f xs i ∙ ap (option_map f) at
 

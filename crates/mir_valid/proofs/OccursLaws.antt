@@ -18,9 +18,10 @@ use Rattle.mir_valid.specs.Rules.{broken, received_by, received, receives_again}
 use Rattle.mir_valid.specs.Tables.{number_or_zero, numbered}
 use Rattle.mir_valid.specs.Numbered.{with_name, variables_of, Numbers, numbered_form, numbered_body}
 use Rattle.mir_valid.proofs.BrokenLaws.{kept_at}
-use Rattle.mir_valid.proofs.ListLaws.{map_at, at_take}
+use Rattle.mir_valid.proofs.ListLaws.{at_take}
 use Rattle.mir_valid.specs.NameLaws.{same_self, same_is}
 use Rattle.mir_valid.proofs.NumberLaws.{numbered_is}
+use Rattle.mir_base.specs.ItemLaws.{map_at}
 
 -- each of these names is one of the variables
 abbrev pub Within : List (List ℕ) → List (List ℕ) → Type 0

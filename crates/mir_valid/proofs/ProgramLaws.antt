@@ -8,7 +8,7 @@ use Rattle.std.proofs.lemmas.Option.{slice_get_within}
 use Rattle.std.proofs.lemmas.Bool.Decides.{nat_tests}
 use Rattle.mir_base.specs.declared.instructions.Operand.{Operand}
 use Rattle.mir_base.specs.declared.instructions.Inst.{Inst}
-use Rattle.mir_base.specs.ItemLaws.{all_at}
+use Rattle.mir_base.specs.ItemLaws.{all_at, map_at}
 use Rattle.mir_base.specs.Shapes.{UnitShape, AllDiffer, names_of, receives_in, body_at, body_or_empty, IsTarget, InstFits, BodyFits, IsProgram}
 use Rattle.mir_parse.specs.declared.raw.RawForm.{RawForm}
 use Rattle.mir_parse.specs.declared.raw.RawForm.TheVariants.{Receive as RawReceive, Assign as RawAssign, Goto as RawGoto, If as RawIf, Call as RawCall, Print as RawPrint, Return as RawReturn}
@@ -23,7 +23,7 @@ use Rattle.mir_valid.specs.Stands.{IsPlace}
 use Rattle.mir_valid.specs.Tables.{number_or_zero}
 use Rattle.mir_valid.specs.Numbered.{Numbers, numbers_of, numbered_operand, numbered_form, numbered_body, numbered_unit, unit_numbers, numbered_units}
 use Rattle.mir_valid.proofs.OccursLaws.{received_once}
-use Rattle.mir_valid.proofs.ListLaws.{map_at, at_map, no_lines_at, fails_at}
+use Rattle.mir_valid.proofs.ListLaws.{at_map, no_lines_at, fails_at}
 use Rattle.mir_valid.proofs.DistinctLaws.{differ_unbroken}
 use Rattle.mir_valid.proofs.FoundLaws.{label_found, called_is}
 use Rattle.mir_valid.proofs.ReceiveLaws.{lead_at, is_lead, lead_count, not_late}

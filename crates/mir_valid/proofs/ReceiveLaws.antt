@@ -1,5 +1,5 @@
 -- In valid units the receives stand first, so their number is the number of those that stand first.
-use Rattle.std.proofs.Common.{◌≡◌, ℕ, zero, suc, ◌+◌, ◌<◌, Bool, true, false, ◌&&◌, ◌||◌, not, is_some, cond, count_by, List, [], ◌∷◌, ◌++◌, length, take, slice_get, Some, refl, ap, sym, ◌∙◌, arith}
+use Rattle.std.proofs.Common.{◌≡◌, ℕ, zero, suc, ◌+◌, ◌<◌, Bool, true, false, ◌&&◌, ◌||◌, not, is_some, cond, count_by, List, [], ◌∷◌, ◌++◌, length, take, slice_get, Some, refl, ap, sym, ◌∙◌, subst, arith}
 use Rattle.std.proofs.Math.Bool.{or-true}
 use Rattle.std.specs.List.{list_any}
 use Rattle.std.proofs.lemmas.List.Sums.{sum_by-append}
@@ -94,13 +94,10 @@ pub lead_count : (numbers : Numbers) (labels : List RawLabel) (body : List RawIn
     → receives_in (numbered_body numbers body) ≡ count_by is_receive body
 lead_count numbers labels body e = lead_count_after numbers labels [] body e
 
--- where the first condition holds but not with either of the other two, neither of these holds
-and_false : (a b c : Bool) → a ≡ true → (a && (b || c)) ≡ false → (b ≡ false) × (c ≡ false)
-and_false true b c is e = or_parts b c e
-and_false false b c is e = absurd (cc)
-
 -- a receive that is not late has only receives, and no label, before it
 pub not_late : (labels : List RawLabel) (body : List RawInst) (i : ℕ) (inst : RawInst) → broken (λ inst. inst.line) (is_late labels) body ≡ [] → slice_get body i ≡ Some inst
     → is_receive inst ≡ true → (list_any is_other (take i body) ≡ false) × (has_label_before labels (length (take i body)) ≡ false)
 not_late labels body i inst e at is =
-    and_false (is_receive inst) (list_any is_other (take i body)) (has_label_before labels (length (take i body))) is (kept_at (λ inst. inst.line) (is_late labels) body e i inst at)
+    let other = list_any is_other (take i body) in
+    let label = has_label_before labels (length (take i body)) in
+    or_parts other label (subst (λ (b : Bool). (b && (other || label)) ≡ false) is (kept_at (λ inst. inst.line) (is_late labels) body e i inst at))

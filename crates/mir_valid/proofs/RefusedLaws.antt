@@ -9,11 +9,7 @@ use Rattle.mir_valid.specs.declared.faults.ValidFault.{ValidFault}
 use Rattle.mir_valid.specs.declared.faults.ValidFault.TheVariants.{NoUnit, TooManyUnits, SameUnit, TooManyInsts, LateReceive, SameReceive, TooManyReceives, SameLabel, NoLabel, NoSuchUnit, WrongCount}
 use Rattle.mir_valid.specs.Rules.{same_unit_lines, too_many_insts_lines, late_receive_lines, same_receive_lines, too_many_receives_lines, same_label_lines, no_label_lines, no_unit_lines, wrong_count_lines}
 use Rattle.mir_valid.specs.Refusals.{lesser, least, at_least_line, first_of, refusals, AreValid, IsValidMemory}
-
--- where the first of two refusals is none, both are none
-none_or : (found rest : Option ValidFault) → option_or found rest ≡ None → (found ≡ None) × (rest ≡ None)
-none_or None rest e = (refl, e)
-none_or (Some fault) rest e = absurd (cc)
+use Rattle.mir_base.specs.ItemLaws.{none_or}
 
 -- the least of the lines so far and of more is there
 least_some : (least : ℕ) (lines : List ℕ) → fold lesser (Some least) lines ≡ None → ⊥

@@ -37,9 +37,10 @@ use Rattle.mir_valid.specs.Numbered.{with_name, variables_of, Numbers, numbers_o
 use Rattle.mir_valid.proofs.ListLaws.{at_map, no_lines_at, fails_at}
 use Rattle.mir_valid.specs.NameLaws.{same_is, has_at}
 use Rattle.mir_valid.proofs.NumberLaws.{numbered_is}
-use Rattle.mir_valid.proofs.DistinctLaws.{differ_variables, differ_unbroken, same_number}
+use Rattle.mir_valid.proofs.DistinctLaws.{differ_variables, differ_unbroken}
 use Rattle.mir_valid.proofs.OccursLaws.{Within, within_front, within_back, within_one, within_variables, within_inst, first_variables}
 use Rattle.mir_valid.proofs.FoundLaws.{label_found, unit_found}
+use Rattle.mir_base.specs.ItemLaws.{one_place}
 
 -- ---- they stand for these
 
@@ -153,7 +154,7 @@ first_only _ _ (first {names} {vars} x before fresh) =
 
 module _ (vars : List (List ℕ)) (differ : AllDiffer vars) where
   number_only : (x : List ℕ) (n : ℕ) → IsNumber vars x n → n ≡ number_or_zero (numbered 0 vars) x
-  number_only x n at = same_number vars x n (number_or_zero (numbered 0 vars) x) differ at (numbered_is vars x (has_at vars n x at))
+  number_only x n at = one_place vars differ n (number_or_zero (numbered 0 vars) x) x at (numbered_is vars x (has_at vars n x at))
 
   operand_only : (raw : RawOperand) (a : Operand) → OperandStands vars raw a → a ≡ numbered_operand (numbered 0 vars) raw
   operand_only (RawVar x) (Var n) stands = ap Var (number_only x n stands)
@@ -191,7 +192,7 @@ label_at labels k label l low at is = at_map (λ label. label.name) labels k lab
 -- a label has one place where the names of labels differ
 place_once : (labels : List RawLabel) (l : List ℕ) (p q : ℕ) → AllDiffer (label_names labels) → IsPlace labels l p → IsPlace labels l q → p ≡ q
 place_once labels l p q differ (j, a, low_a, at_a, is_a) (k, b, low_b, at_b, is_b) =
-    let same : j ≡ k = same_number (label_names labels) l j k differ (label_at labels j a l low_a at_a is_a.0) (label_at labels k b l low_b at_b is_b.0) in
+    let same : j ≡ k = one_place (label_names labels) differ j k l (label_at labels j a l low_a at_a is_a.0) (label_at labels k b l low_b at_b is_b.0) in
     let one : a ≡ b =
     cc (sym (slice_get-get_or labels j a low_a ∙ ap Some at_a) ∙ ap (slice_get labels) same ∙ slice_get-get_or labels k b low_b ∙ ap Some at_b) in
     sym is_a.1 ∙ ap (λ (label : RawLabel). label.place) one ∙ is_b.1
@@ -205,7 +206,7 @@ place_only labels l p differ (k, label, low, at, is) =
 module _ (units : List RawUnitShape) (units_differ : AllDiffer (unit_names units)) (unit : RawUnitShape) (labels_differ : AllDiffer (label_names unit.labels)) where
   unit_only_number : (f : List ℕ) (n : ℕ) → IsNumber (unit_names units) f n → n ≡ number_or_zero (unit_numbers units) f
   unit_only_number f n at =
-      same_number (unit_names units) f n (number_or_zero (unit_numbers units) f) units_differ at (unit_found units f (has_at (unit_names units) n f at))
+      one_place (unit_names units) units_differ n (number_or_zero (unit_numbers units) f) f at (unit_found units f (has_at (unit_names units) n f at))
 
   differ : AllDiffer (variables_of unit.body)
   differ = differ_variables (body_names unit.body)

@@ -11,6 +11,7 @@ use Rattle.mir_valid.specs.Names.{NameEntry, has_name, number_in}
 use Rattle.mir_valid.specs.NameLaws.{same_is}
 use Rattle.mir_valid.specs.Tables.{with_entry, table_of, numbered}
 use Rattle.mir_valid.specs.Numbered.{with_name}
+use Rattle.mir_base.specs.ItemLaws.{or_none}
 
 -- a map's entries as names with numbers
 abbrev pub map_entries : List (Bor (List ℕ) × ℕ) → List NameEntry
@@ -87,11 +88,6 @@ names_with table names names' x is_new same told new old = by (has_name names x)
     by false e = new (told' ∙ ap not e) ∙ ap (λ b. if b then names else names ++ x ∷ []) (sym e)
 
 -- ---- look-ups after entries were added
-
--- nothing after what was found leaves it
-or_none : (found : Option ℕ) → option_or found None ≡ found
-or_none None = refl
-or_none (Some n) = refl
 
 -- of three things found in order the grouping does not matter
 or_assoc : (a b c : Option ℕ) → option_or (option_or a b) c ≡ option_or a (option_or b c)

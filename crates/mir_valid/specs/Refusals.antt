@@ -1,5 +1,5 @@
--- The refusal of a raw program: the first kind, in a fixed order, whose condition holds, with its smallest line. Cited by
--- contracts.
+-- The refusal of a raw program: the first kind, in a fixed order, whose condition holds, with its smallest line. Cited
+-- by contracts.
 use Rattle.std.specs.Prelude.{◌≡◌, ◌⊎◌, ℕ, ◌≤◌, ◌<◌, min, nat_eq, nat_lt, List, [], ◌∷◌, fold, flat_map, length, Option, None, Some, if◌then◌else◌}
 use Rattle.std.specs.Option.{option_map, option_or}
 use Rattle.mir_base.specs.Limits.{most_units}
