@@ -8,7 +8,7 @@ use Rattle.flow_graph.specs.ListLaws.{get_left_some, get_last, get_push}
 use Rattle.flow_graph.specs.BoundLaws.{edge_within}
 use Rattle.flow_graph.specs.declared.nodes.Node.{Node}
 use Rattle.flow_graph.specs.Graphs.{IsGraph, Reached}
-use Rattle.flow_graph.specs.PathLaws.{end_stands, reached_trace}
+use Rattle.flow_graph.specs.PathLaws.{end_stands, reached_trace, begins_first}
 use Rattle.flow_graph.specs.Paths.{Begins, Ends, HasEdge, Trace, from_start, goes_on}
 use Rattle.flow_graph.specs.Blocks.{AreBlocksOf, AreStored, AreMade, AreParts, AreStarts, IsBlock, IsBlocks, IsChain, IsFirst, IsBlockSoFar, IsGlued, IsLast, IsPlaced, StandsIn, parts_at, is_first, unplaced}
 use Rattle.flow_graph.specs.BlockLaws.{begins_more, chain_first, chain_more, chain_on, ends_more, first_is, glued_edge, not_first, only_from, only_to}
@@ -193,10 +193,6 @@ module _ (nodes : List Node) (head node block : ℕ) (lists : List (List ℕ)) (
   same_end (k ∷ []) m n b c = sym c ∙ b
   same_end (j ∷ k ∷ chain) m n b c = same_end (k ∷ chain) m n b c
 
-  first_at : (chain : List ℕ) (m : ℕ) → Begins m chain → slice_get chain 0 ≡ Some m
-  first_at [] m b = absurd b
-  first_at (k ∷ chain) m b = ap Some b
-
   chain_is_block : IsBlock nodes followed.chain
   chain_is_block = record {
     chain = followed.is_chain;
@@ -234,7 +230,7 @@ module _ (nodes : List Node) (head node block : ℕ) (lists : List (List ℕ)) (
           ]
         ];
     firsts = λ n lt is. elim (cases_eq n head) as (λ _. IsPlaced no_block after n) [
-      | inl e ↦ λ bad. is_number (sym (followed.put 0 head (first_at followed.chain head followed.begins)) ∙ ap (λ k. get_or after k no_block) (sym e) ∙ bad)
+      | inl e ↦ λ bad. is_number (sym (followed.put 0 head (begins_first followed.chain head followed.begins)) ∙ ap (λ k. get_or after k no_block) (sym e) ∙ bad)
       | inr d ↦ kept n (made.firsts n (omega (arith, lt, d)) is)
     ];
     placed_under = λ n is placed. elim (followed.were n) as (λ _. n < head + 1) [

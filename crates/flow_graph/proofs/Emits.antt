@@ -11,7 +11,7 @@ use Rattle.flow_graph.specs.declared.nodes.Node.TheVariants.{Start, Skip, Assign
 use Rattle.flow_graph.specs.Graphs.{AllWithin, succs_of}
 use Rattle.flow_graph.specs.Layouts.{emitted, emitted_by, item_insts, item_size, place_in, plain_body, size}
 use Rattle.flow_graph.specs.Placing.{ArePlaces, ItemsWithin, places_after}
-use Rattle.flow_graph.proofs.Scans.{reverse_take}
+use Rattle.flow_graph.proofs.Scans.{reverse_take, within_append}
 
 -- before the first item every place is 0
 pub places_begin : (nodes : List Node) (receives : ℕ) (items : List Item) (places : List ℕ) → places ≡ replicate (length nodes) 0 → ArePlaces nodes receives (reverse (take 0 items)) places
@@ -45,13 +45,7 @@ pub emitted_more : (nodes : List Node) (place : ℕ → ℕ) (items : List Item)
 emitted_more nodes place items i item front body body' added here is e e' =
     e' ∙ ap (λ l. l ++ added) is ∙ append_assoc front (emitted nodes place (reverse (take i items))) added ∙ ap (λ l. front ++ (emitted nodes place (reverse (take i items)) ++ l)) e ∙ sym (ap (λ l. front ++ emitted nodes place l) (reverse_take items i item here))
 
--- items in range, joined, are in range
-within_append : (n : ℕ) (xs ys : List Item) → ItemsWithin n xs → ItemsWithin n ys → ItemsWithin n (xs ++ ys)
-within_append n [] ys h h' = h'
-within_append n (Placed m ∷ xs) ys h h' = (h.0, within_append n xs ys h.1 h')
-within_append n (Jump m ∷ xs) ys h h' = (h.0, within_append n xs ys h.1 h')
-
--- and in the opposite order too
+-- items in range are so in the opposite order too
 within_reverse : (n : ℕ) (items : List Item) → ItemsWithin n items → ItemsWithin n (reverse items)
 within_reverse n [] h = h
 within_reverse n (Placed m ∷ items) h = subst (ItemsWithin n) (sym (reverse-append (Placed m ∷ []) items)) (within_append n (reverse items) (Placed m ∷ []) (within_reverse n items h.1) (h.0, tt))

@@ -1,5 +1,5 @@
 -- To drop the nodes that are not reached changes nothing.
-use Rattle.std.proofs.Common.{◌≡◌, ℕ, zero, ◌<◌, List, length, slice_get, Some, option_map, refl, sym, ap, ◌∙◌, subst, arith}
+use Rattle.std.proofs.Common.{◌≡◌, ℕ, ◌<◌, List, length, slice_get, Some, option_map, refl, sym, ap, ◌∙◌, subst, arith}
 use Rattle.std.proofs.lemmas.Option.{slice_get-map, slice_get_within}
 use Rattle.mir_base.specs.Frames.{Frame}
 use Rattle.mir_base.specs.Units.{at}
@@ -12,15 +12,12 @@ use Rattle.flow_graph.specs.Machines.{node_transition, graph_code, graph_machine
 use Rattle.flow_graph.specs.Kept.{redirected, marked_below, marked, AreKept, IsMade}
 use Rattle.flow_graph.specs.RedirectLaws.{Shifted, redirects_alike}
 use Rattle.flow_graph.specs.KeptLaws.{at_rank}
+use Rattle.flow_graph.specs.BoundLaws.{reached_within}
 
 module _ (raw nodes : List Node) (received : List ℕ) (kept : AreKept raw nodes) (some : 0 < length raw) (succs : (m slot s : ℕ) → slice_get (succs_at raw m) slot ≡ Some s → s < length raw) where
-  within : (n : ℕ) → Reached raw n → n < length raw
-  within zero at_start = some
-  within n (along m slot s r e) = succs m slot n e
-
   node_of : (n : ℕ) → Reached raw n → slice_get nodes (marked_below kept.marks n) ≡ option_map (redirected (marked_below kept.marks)) (slice_get raw n)
   node_of n r =
-      let e = kept.are_marks.exact n (within n r) in
+      let e = kept.are_marks.exact n (reached_within raw some succs n r) in
       ap (λ l. slice_get l (marked_below kept.marks n)) kept.are ∙ slice_get-map (redirected (marked_below kept.marks)) (marked kept.marks raw) (marked_below kept.marks n) ∙ ap (option_map (redirected (marked_below kept.marks))) (at_rank kept.marks raw n (e.1 r) kept.are_marks.long)
 
   abbrev S : Frame → Frame → Type 0

@@ -8,6 +8,7 @@ use Rattle.flow_graph.specs.Graphs.{IsEdge, Reached, at_start, along, node_succs
 use Rattle.flow_graph.specs.Kept.{redirected, marked_below, marked, AreKept}
 use Rattle.flow_graph.specs.KeptLaws.{at_rank}
 use Rattle.flow_graph.specs.NodeLaws.{mapped_from, redirected_start, redirected_succs, redirected_succs_of, redirected_vars}
+use Rattle.flow_graph.specs.BoundLaws.{reached_within}
 
 -- a kept one and its old number
 record Preimage {A : Type 0} (marks : List Bool) (xs : List A) (n : ℕ) (x : A) : Type 0 where
@@ -101,14 +102,10 @@ module _ (vars : List (List ℕ)) (received : List ℕ) (raw nodes : List Node) 
   reach : (m : ℕ) → Reached raw m → Reached nodes (to m)
   reach zero at_start = at_start
   reach m (along p slot s r e) =
-      let lt = reached_within p r in
+      let lt = reached_within raw (slice_get_within raw 0 _ can.start.1) (λ m slot s edge. (can.succs m slot s edge).1) p r in
       let is = marked_of p r lt in
       let f : IsEdge nodes (to p) slot (to m) = ap (λ o. slice_get (succs_of o) slot) (image_of p is) ∙ ap (λ l. slice_get l slot) (redirected_succs_of to (slice_get raw p)) ∙ slice_get-map to (succs_at raw p) slot ∙ ap (option_map to) e in
       along (to p) slot (to m) (reach p r) f
-    where
-      reached_within : (p : ℕ) → Reached raw p → p < length raw
-      reached_within zero at_start = slice_get_within raw 0 _ can.start.1
-      reached_within p (along q slot s r e) = (can.succs q slot p e).1
 
   pub make_graph : IsGraph vars received nodes
   make_graph = record {

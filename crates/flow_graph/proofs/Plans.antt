@@ -15,6 +15,7 @@ use Rattle.flow_graph.specs.Plans.{IsPlan, after_node, first_open, is_placed, ne
 use Rattle.flow_graph.specs.Layouts.{emitted, emitted_by, item_insts, item_size, place_in, size}
 use Rattle.flow_graph.specs.ListLaws.{get_seam}
 use Rattle.std.proofs.Math.Bool.{or-true}
+use Rattle.mir_base.specs.ItemLaws.{none_or}
 
 -- there is an item before one that is not the first
 pub one_newer : {A : Type 0} (j : ℕ) (xs : List A) (y : A) (ys : List A) → drop (suc j) xs ≡ y ∷ ys → (x : A) × (drop j xs ≡ x ∷ y ∷ ys)
@@ -177,19 +178,15 @@ module _ (nodes : List Node) (first : ℕ) where
   no_open (Placed n ∷ older) e = none_after (Placed n ∷ older) (following (slice_get nodes n)) e
   no_open (Jump n ∷ older) e = no_new (Jump n ∷ older) (first_open nodes (Jump n ∷ older) (Jump n ∷ older)) refl e
 
-  option_or_none : (a b : Option ℕ) → option_or a b ≡ None → (a ≡ None) × (b ≡ None)
-  option_or_none None b e = (refl, e)
-  option_or_none (Some n) b e = cc
-
   taken_in : (plan items : List Item) (k n : ℕ) (older : List Item) (test : _) (taken other : ℕ) → first_open nodes plan items ≡ None → drop k items ≡ Placed n ∷ older → slice_get nodes n ≡ Some (Test test taken other) → is_placed taken plan ≡ true
   taken_in plan [] zero n older test taken other e here is = cc
   taken_in plan [] (suc k) n older test taken other e here is = cc
   taken_in plan (Jump m ∷ items) zero n older test taken other e here is = cc
   taken_in plan (Jump m ∷ items) (suc k) n older test taken other e here is = taken_in plan items k n older test taken other e here is
-  taken_in plan (Placed m ∷ items) (suc k) n older test taken other e here is = taken_in plan items k n older test taken other (option_or_none _ _ e).0 here is
+  taken_in plan (Placed m ∷ items) (suc k) n older test taken other e here is = taken_in plan items k n older test taken other (none_or _ _ e).0 here is
   taken_in plan (Placed m ∷ items) zero n older test taken other e here is =
       let same : m ≡ n = cc in
-      let none = (option_or_none (first_open nodes plan items) (open_at plan (slice_get nodes m)) e).1 in
+      let none = (none_or (first_open nodes plan items) (open_at plan (slice_get nodes m)) e).1 in
       chosen (is_placed taken plan) refl (sym (ap (open_at plan) (ap (slice_get nodes) same ∙ is)) ∙ none)
     where
       chosen : (b : Bool) → is_placed taken plan ≡ b → cond b None (Some taken) ≡ None → is_placed taken plan ≡ true

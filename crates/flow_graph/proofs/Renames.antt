@@ -24,9 +24,8 @@ use Rattle.mir_base.specs.Shapes.{receives_in, operand_vars, rhs_vars, test_vars
 use Rattle.mir_base.specs.Locksteps.{Alike, Lockstep}
 use Rattle.mir_base.specs.LockstepLaws.{lockstep_same, lockstep_cheaper}
 use Rattle.flow_graph.specs.Numbering.{is_in, position, renamed, renamed_operand, renamed_rhs, renamed_test, renumbered, seen_after, seen_in}
-use Rattle.flow_graph.specs.ListLaws.{get_seam, get_left}
+use Rattle.flow_graph.specs.ListLaws.{get_seam, get_left, listed_in}
 use Rattle.flow_graph.specs.NumberingLaws.{is_in_first, is_in_last, seen_grows}
-use Rattle.std.proofs.Math.Bool.{or-true}
 
 -- ---- the list of the variables seen
 
@@ -294,15 +293,9 @@ pub renumbered_numbered : (body : List Inst) → numbered_from 0 (flat_map inst_
 renumbered_numbered body =
     ap (numbered_from 0) (renamed_vars (position (seen_in body)) body) ∙ numbered_seen [] (flat_map inst_vars body) (seen_in body) refl
 
--- an item that stands in a list is found in it
-get_in : (xs : List ℕ) (i x : ℕ) → slice_get xs i ≡ Some x → is_in x xs ≡ true
-get_in [] i x e = cc
-get_in (y ∷ ys) zero x e = let same : y ≡ x = cc in ap (λ b. b || is_in x ys) (eq-eqb y x same)
-get_in (y ∷ ys) (suc i) x e = ap (λ b. eqb y x || b) (get_in ys i x e) ∙ or-true (eqb y x)
-
 -- an item that is not found in a list stands nowhere in it
 not_there : (s : List ℕ) (y i : ℕ) → is_in y s ≡ false → slice_get s i ≡ Some y → ⊥
-not_there s y i new e = let old = get_in s i y e in cc
+not_there s y i new e = let old = listed_in s i y e in cc
 
 -- a list with one more that is new
 differ_more : (s : List ℕ) (y : ℕ) → is_in y s ≡ false → AllDiffer s → AllDiffer (s ++ y ∷ [])

@@ -10,7 +10,7 @@ use Rattle.flow_graph.specs.declared.nodes.Node.{Node}
 use Rattle.flow_graph.specs.declared.nodes.Node.TheVariants.{Start, Skip, Assign, Print, Call, Test, Return}
 use Rattle.flow_graph.specs.Graphs.{AllWithin, IsBelow, following, succs_of}
 use Rattle.std.specs.Option.{option_or}
-use Rattle.flow_graph.specs.Plans.{after_node, first_open, is_placed, new_trace, next_item, open_at}
+use Rattle.flow_graph.specs.Plans.{after_node, first_open, is_placed, new_stretch, next_item, open_at}
 use Rattle.flow_graph.specs.Walks.{unmarked}
 use Rattle.flow_graph.specs.Placing.{ArePlaced, ItemsWithin, follower_of, open_by, open_by_item, open_if, open_item, AreClosed, FirstOpenIsAt, open_end, placed_after, plan_weight, taken_of}
 use Rattle.flow_graph.specs.MarkLaws.{unmarked_set}
@@ -139,14 +139,14 @@ closed_past nodes placed items i item o within are closed here e is =
 pub first_open_none : (nodes : List Node) (items : List Item) (i : ℕ) → AreClosed nodes items i → length items ≤ i → FirstOpenIsAt nodes items i
 first_open_none nodes items i closed le = scan_done nodes (reverse items) items i closed.few le closed.none ∙ ap (open_if nodes (reverse items)) (sym (slice_get_past items i le))
 
--- a new trace begins at the first open successor
-pub trace_at : (nodes : List Node) (placed : List Bool) (items : List Item) (i : ℕ) (item : Item) (o : Option ℕ) → AllWithin nodes → ArePlaced nodes placed (reverse items) → FirstOpenIsAt nodes items i → slice_get items i ≡ Some item → o ≡ open_by_item nodes placed item → option_map Placed o ≡ new_trace nodes (reverse items)
-trace_at nodes placed items i item o within are tells here e =
+-- a new stretch begins at the first open successor
+pub stretch_at : (nodes : List Node) (placed : List Bool) (items : List Item) (i : ℕ) (item : Item) (o : Option ℕ) → AllWithin nodes → ArePlaced nodes placed (reverse items) → FirstOpenIsAt nodes items i → slice_get items i ≡ Some item → o ≡ open_by_item nodes placed item → option_map Placed o ≡ new_stretch nodes (reverse items)
+stretch_at nodes placed items i item o within are tells here e =
     ap (option_map Placed) (e ∙ open_item_is nodes placed (reverse items) item within are ∙ ap (open_if nodes (reverse items)) (sym here) ∙ sym tells)
 
--- where there is no such item, no trace begins
-pub trace_none : (nodes : List Node) (items : List Item) (i : ℕ) → FirstOpenIsAt nodes items i → slice_get items i ≡ None → ◌≡◌ {A = Option Item} None (new_trace nodes (reverse items))
-trace_none nodes items i tells here = ap (option_map Placed) (ap (open_if nodes (reverse items)) (sym here) ∙ sym tells)
+-- where there is no such item, no stretch begins
+pub stretch_none : (nodes : List Node) (items : List Item) (i : ℕ) → FirstOpenIsAt nodes items i → slice_get items i ≡ None → ◌≡◌ {A = Option Item} None (new_stretch nodes (reverse items))
+stretch_none nodes items i tells here = ap (option_map Placed) (ap (open_if nodes (reverse items)) (sym here) ∙ sym tells)
 
 -- what is placed stays placed, so that a closed item stays closed
 still_closed_at : (plan : List Item) (item : Item) (o : Option Node) → open_at plan o ≡ None → open_at (item ∷ plan) o ≡ None
@@ -256,11 +256,11 @@ next_within nodes first [] item within lt e = let same : Placed first ≡ item =
 next_within nodes first (Placed n ∷ older) item within lt e = after_within nodes (Placed n ∷ older) item (following (slice_get nodes n)) within (following_within nodes n (slice_get nodes n) within refl) e
 next_within nodes first (Jump n ∷ older) item within lt e = new_within nodes (Jump n ∷ older) item (first_open nodes (Jump n ∷ older) (Jump n ∷ older)) within refl e
 
--- items in range with one more in range
-pub within_more : (n : ℕ) (items : List Item) (item : Item) → ItemsWithin n items → ItemsWithin n (item ∷ []) → ItemsWithin n (items ++ item ∷ [])
-within_more n [] item h h' = h'
-within_more n (Placed m ∷ items) item h h' = (h.0, within_more n items item h.1 h')
-within_more n (Jump m ∷ items) item h h' = (h.0, within_more n items item h.1 h')
+-- items in range, joined, are in range
+pub within_append : (n : ℕ) (xs ys : List Item) → ItemsWithin n xs → ItemsWithin n ys → ItemsWithin n (xs ++ ys)
+within_append n [] ys h h' = h'
+within_append n (Placed m ∷ xs) ys h h' = (h.0, within_append n xs ys h.1 h')
+within_append n (Jump m ∷ xs) ys h h' = (h.0, within_append n xs ys h.1 h')
 
 -- marks after an item
 index_set : (marks : List Bool) (s n : ℕ) → s < length marks → n < length marks → slice_index_or (slice_set marks s true) n false ≡ eqb s n || slice_index_or marks n false

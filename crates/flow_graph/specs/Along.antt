@@ -8,8 +8,8 @@ use Rattle.flow_graph.specs.Machines.{machine_of}
 use Rattle.flow_graph.specs.Over.{IsOver}
 use Rattle.flow_graph.specs.Paths.{IsFullPath}
 
--- a transition at a node after which these nodes of the path are left: the run goes on along them, or returns where none
--- is left. A call takes the next answer
+-- a transition at a node after which these nodes of the path are left: the run goes on along them, or returns where
+-- none is left. A call takes the next answer
 abbrev pub StepsAlong : List ℕ → (Frame → List Answer → Type 0) → Transition → List Answer → Type 0
 StepsAlong rest Goes (Continues counted next) answers = Goes next answers
 StepsAlong rest Goes (Prints value next) answers = Goes next answers

@@ -1,5 +1,6 @@
--- Laws of blocks: what `Blocks::of` looks at says which nodes are glued, a node of a chain that is not its first is glued to
--- the one before, each node stands in one block, and a graph has one list of blocks. For proofs only; path_laws cites them.
+-- Laws of blocks: what `Blocks::of` looks at says which nodes are glued, a node of a chain that is not its first is
+-- glued to the one before, each node stands in one block, and a graph has one list of blocks. For proofs only;
+-- path_laws cites them.
 use Rattle.std.proofs.Common.{◌≡◌, ◌≢◌, ℕ, zero, suc, ◌<◌, ◌⊎◌, inl, inr, true, false, not, is_some, if◌then◌else◌, List, [], ◌∷◌, ◌++◌, length, get_or, slice_get, Option, Some, None, refl, sym, ap, subst, arith, ◌∙◌}
 use Rattle.std.proofs.lemmas.Bool.{cases_lt}
 use Rattle.std.proofs.lemmas.Option.{get_or_from_slice_get}

@@ -1,10 +1,11 @@
 -- The blocks of a graph: longest lists of nodes that are always passed one after the other. Cited by contracts, those
 -- of path_laws too; what is kept while blocks are made only by those of src/blocks.rt.
-use Rattle.std.specs.Prelude.{◌≡◌, ◌≢◌, ℕ, ◌<◌, ◌≤◌, ◌+◌, nat_eq, ◌⊎◌, Bool, true, not, is_some, if◌then◌else◌, List, [], ◌∷◌, ◌++◌, length, slice_get, slice_index_or, slice_range, Option, Some, None}
+use Rattle.std.specs.Prelude.{◌≡◌, ◌≢◌, ℕ, ◌<◌, ◌≤◌, ◌+◌, ◌⊎◌, Bool, true, not, is_some, if◌then◌else◌, List, [], ◌∷◌, ◌++◌, length, slice_get, slice_index_or, slice_range, Option, Some, None}
 use Rattle.flow_graph.specs.declared.nodes.Node.{Node}
 use Rattle.flow_graph.specs.Edges.{preds_of}
 use Rattle.flow_graph.specs.Graphs.{succs_at}
 use Rattle.flow_graph.specs.Paths.{Begins, Ends}
+use Rattle.node_list.specs.Lists.{times_in}
 
 -- ---- what a block is
 
@@ -155,5 +156,4 @@ IsFollowedBlock nodes head block order longer block_of after = (node : ℕ) × I
 
 -- how many have no block yet
 abbrev pub unplaced : ℕ → List ℕ → ℕ
-unplaced none [] = 0
-unplaced none (b ∷ block_of) = (if nat_eq b none then 1 else 0) + unplaced none block_of
+unplaced = times_in

@@ -1,10 +1,10 @@
--- Laws of bounds: an edge leaves a node of the list, at slot 0 or 1, and the successors of a node are below a bound where each edge leads
--- below it. For proofs only; the crates above cite them too.
-use Rattle.std.proofs.Common.{◌≡◌, ℕ, zero, suc, ◌<◌, List, [], ◌∷◌, length, slice_get, Some, refl, ap, ◌∙◌, arith}
+-- Laws of bounds: an edge leaves a node of the list, at slot 0 or 1, and the successors of a node are below a bound
+-- where each edge leads below it. For proofs only; the crates above cite them too.
+use Rattle.std.proofs.Common.{◌≡◌, ℕ, zero, suc, ◌<◌, List, [], ◌∷◌, length, slice_get, Some, refl, ap, ◌∙◌, arith, Bool, true, false, if◌then◌else◌}
 use Rattle.mir_base.specs.Shapes.{AllBelow}
 use Rattle.flow_graph.specs.declared.nodes.Node.{Node}
 use Rattle.flow_graph.specs.declared.nodes.Node.TheVariants.{Start, Skip, Assign, Print, Call, Test, Return}
-use Rattle.flow_graph.specs.Graphs.{node_succs, succs_of, succs_at, AllWithin, IsEdge, SuccsBelow}
+use Rattle.flow_graph.specs.Graphs.{node_succs, succs_of, succs_at, AllWithin, IsEdge, SuccsBelow, Reached, at_start, along, slot_of}
 use Rattle.flow_graph.specs.Paths.{HasEdge}
 
 -- ---- only a node of the list has an edge
@@ -19,6 +19,11 @@ slot_within (node ∷ nodes) (suc m) slot s e = omega (arith, slot_within nodes 
 pub edge_within : (nodes : List Node) (m s : ℕ) → HasEdge nodes m s → m < length nodes
 edge_within nodes m s edge = slot_within nodes m edge.0 s edge.1
 
+-- a node that is reached is one of the list, where each edge leads to one
+pub reached_within : (nodes : List Node) → 0 < length nodes → ((m slot s : ℕ) → IsEdge nodes m slot s → s < length nodes) → (n : ℕ) → Reached nodes n → n < length nodes
+reached_within nodes some within zero at_start = some
+reached_within nodes some within n (along m slot s reached edge) = within m slot n edge
+
 -- a node has at most two successors
 pub slot_low : (node : Node) (slot s : ℕ) → slice_get (node_succs node) slot ≡ Some s → slot < 2
 slot_low node zero s e = omega arith
@@ -30,6 +35,11 @@ slot_low (Print a next) (suc (suc slot)) s e = cc
 slot_low (Call into unit operands next) (suc (suc slot)) s e = cc
 slot_low (Test test taken other) (suc (suc slot)) s e = cc
 slot_low (Return a) (suc (suc slot)) s e = cc
+
+-- the slot that a test takes leads to the successor that it takes
+pub slot_leads : (taken other : ℕ) (holds : Bool) → slice_get (taken ∷ other ∷ []) (slot_of holds) ≡ Some (if holds then taken else other)
+slot_leads taken other true = refl
+slot_leads taken other false = refl
 
 -- ---- successors below a bound: by the cases of a node, and as a list
 

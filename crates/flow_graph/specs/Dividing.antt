@@ -15,8 +15,8 @@ pub record DividesAt (nodes : List Node) (n x : ℕ) (op : Op) : Type 0 where
   pub is : slice_get nodes n ≡ Some (Assign x (Binary op left right) next)
   pub may_trap : divides (Binary op left right) ≡ true
 
--- each node that divides stands in the result at `place` of its number, with the same variable and the same operator, and
--- no two at one place: they are in their old order
+-- each node that divides stands in the result at `place` of its number, with the same variable and the same operator,
+-- and no two at one place: they are in their old order
 pub record DividesStay (nodes result : List Node) : Type 0 where
   pub place : ℕ → ℕ
   pub stays : (n x : ℕ) (op : Op) → DividesAt nodes n x op → DividesAt result (place n) x op

@@ -12,8 +12,8 @@ abbrev pub number_or_none : Option ℕ → ℕ
 number_or_none None = 0
 number_or_none (Some n) = n
 
--- where the edge of node m that leads to list s ends: an old node's at the first node of the list, a new node's at the next
--- node of its own list
+-- where the edge of node m that leads to list s ends: an old node's at the first node of the list, a new node's at the
+-- next node of its own list
 abbrev pub leads : List (List ℕ) → ℕ → ℕ → ℕ
 leads lists m s = if nat_lt m (length lists) then number_or_none (slice_get (list_at lists s) 0) else number_or_none (node_after lists m)
 

@@ -14,7 +14,8 @@ use Rattle.flow_graph.specs.Graphs.{node_succs, succs_of, node_vars, IsEdge, Rea
 use Rattle.flow_graph.specs.Kept.{redirected}
 use Rattle.flow_graph.specs.Insertions.{Change, Kept, changed, ChangeBelow}
 use Rattle.flow_graph.specs.InsertionNodes.{edge_node}
-use Rattle.flow_graph.specs.Editing.{past, put_before, change_at}
+use Rattle.flow_graph.specs.Editing.{past, put_before, change_at, change_each}
+use Rattle.mir_base.specs.ItemLaws.{one_item}
 
 -- ---- where edges lead
 
@@ -73,10 +74,6 @@ module _ (vars : List (List ℕ)) (received : List ℕ) (nodes : List Node) (is_
     | inr differ ↦ let e = past_other node (length nodes) s differ in (omega (arith, e, one), omega (arith, e, lt))
   ]
 
-  one_succ : (m slot s : ℕ) → slice_get (m ∷ []) slot ≡ Some s → s ≡ m
-  one_succ m zero s e = sym (same_Some m s e)
-  one_succ m (suc slot) s e = cc
-
   edge_in : (m slot s : ℕ) → IsEdge result m slot s → (1 ≤ s) × (s < length result)
   edge_in m slot s edge =
       let found = edge_node result m slot s edge in
@@ -88,7 +85,7 @@ module _ (vars : List (List ℕ)) (received : List ℕ) (nodes : List Node) (is_
             let is = past_within from.0 target.0 target.1 in
             (omega (arith, is.0, from.2), omega (arith, is.1, from.2, result_length))
         | inr new ↦
-            let is = one_succ node slot s (sym (ap (λ n. slice_get (node_succs n) slot) new.1) ∙ found.2) in
+            let is = sym (one_item node s slot (sym (ap (λ n. slice_get (node_succs n) slot) new.1) ∙ found.2)) in
             (omega (arith, is, some), omega (arith, is, within, result_length))
       ]
 
@@ -143,6 +140,11 @@ pub change_length : (n : ℕ) (change : Change) (nodes : List Node) → length (
 change_length n change [] = refl
 change_length zero change (node ∷ nodes) = refl
 change_length (suc n) change (node ∷ nodes) = ap suc (change_length n change nodes)
+
+-- and after a change of each node
+pub change_each_length : (changes : ℕ → Change) (count n : ℕ) (nodes : List Node) → length (change_each changes count n nodes) ≡ length nodes
+change_each_length changes zero n nodes = refl
+change_each_length changes (suc count) n nodes = change_each_length changes count (suc n) (change_at n (changes n) nodes) ∙ change_length n (changes n) nodes
 
 -- each node has its successors
 pub change_succs : (n : ℕ) (change : Change) (nodes : List Node) (m : ℕ) → succs_of (slice_get (change_at n change nodes) m) ≡ succs_of (slice_get nodes m)

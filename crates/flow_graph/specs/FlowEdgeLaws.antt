@@ -1,5 +1,5 @@
--- The edges of a graph in the order of a flow are in order of their sources, and lead from node to node. For proofs only; the
--- crates above cite them too.
+-- The edges of a graph in the order of a flow are in order of their sources, and lead from node to node. For proofs
+-- only; the crates above cite them too.
 use Rattle.std.specs.Prelude.{◌≡◌, ℕ, suc, ◌<◌, Bool, true, false, List, length, map, slice_get, Option, Some, None, refl}
 use Rattle.std.proofs.Common.{sym, ap, ◌∙◌, option_map}
 use Rattle.std.proofs.lemmas.List.{length-map}

@@ -1,5 +1,5 @@
--- The edges of a graph in the order of a flow, along them or against them, and lists of edges in order of their sources.
--- Cited by contracts.
+-- The edges of a graph in the order of a flow, along them or against them, and lists of edges in order of their
+-- sources. Cited by contracts.
 use Rattle.std.specs.Prelude.{◌≡◌, ℕ, suc, ◌<◌, ◌≤◌, Bool, true, false, List, length, map, slice_get, slice_index_or, Some}
 use Rattle.flow_graph.specs.declared.edges.Edge.{Edge}
 use Rattle.flow_graph.specs.declared.nodes.Node.{Node}
@@ -36,8 +36,8 @@ edge_at edges e = slice_index_or edges e (record { source = 0; target = 0 })
 abbrev pub IsFlowEdge : Bool → EdgesShape → ℕ → ℕ → ℕ → Type 0
 IsFlowEdge against edges number source target = slice_get (edges_along against edges) number ≡ Some (record { source = source; target = target })
 
--- the edges of a flow lead from node to node, and those of one node stand together, from the first number of that node to
--- the first one of the next
+-- the edges of a flow lead from node to node, and those of one node stand together, from the first number of that node
+-- to the first one of the next
 pub record AreFlowEdges (nodes : ℕ) (edges : List Edge) (first : ℕ → ℕ) : Type 0 where
   pub ends : (e : ℕ) (edge : Edge) → slice_get edges e ≡ Some edge → (edge.source < nodes) × (edge.target < nodes)
   pub starts : (n : ℕ) → first n ≤ length edges

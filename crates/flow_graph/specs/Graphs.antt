@@ -1,6 +1,6 @@
 -- Graphs as contracts see them: their edges, which nodes are reached, what a node reads and assigns, and what is true
 -- of each graph. Cited by contracts, those of the crates above too.
-use Rattle.std.specs.Prelude.{◌≡◌, ℕ, ◌<◌, ◌≤◌, Bool, true, false, nat_eq, List, [], ◌∷◌, ◌++◌, flat_map, length, slice_get, Option, Some, None}
+use Rattle.std.specs.Prelude.{◌≡◌, ℕ, ◌<◌, ◌≤◌, Bool, true, false, nat_eq, List, [], ◌∷◌, ◌++◌, flat_map, length, slice_get, Option, Some, None, if◌then◌else◌}
 use Rattle.mir_base.specs.declared.instructions.Rhs.{Rhs}
 use Rattle.mir_base.specs.Shapes.{operand_vars, rhs_vars, test_vars, into_vars, AllBelow, AllDiffer}
 use Rattle.flow_graph.specs.declared.nodes.Node.{Node}
@@ -25,6 +25,10 @@ node_succs (Print a next) = next ∷ []
 node_succs (Call into unit operands next) = next ∷ []
 node_succs (Test test taken other) = taken ∷ other ∷ []
 node_succs (Return a) = []
+
+-- the slot of the successor that a test takes: 0 of `taken` where it holds, and else 1 of `other`
+abbrev pub slot_of : Bool → ℕ
+slot_of holds = if holds then 0 else 1
 
 -- the node that follows where no test holds; none after a Return
 abbrev pub following : Option Node → Option ℕ

@@ -1,7 +1,7 @@
 -- Laws of paths of the rewritten graph: over each full path of the graph lies exactly one, through the same old nodes
 -- and the chains before them; and what is assigned on it is a sum along the path. For proofs only, of motion_rewrite.
-use Rattle.std.proofs.Common.{◌≡◌, ℕ, zero, suc, ◌+◌, ◌<◌, ◌≤◌, true, if◌then◌else◌, nat_lt, filter, List, [], ◌∷◌, map, length, slice_get, Option, Some, None, option_map, refl, sym, ap, ◌∙◌, subst, arith}
-use Rattle.std.proofs.lemmas.Option.{slice_get-map, same_Some, none-some}
+use Rattle.std.proofs.Common.{◌≡◌, ℕ, suc, ◌+◌, ◌<◌, ◌≤◌, true, if◌then◌else◌, nat_lt, filter, List, [], ◌∷◌, length, slice_get, Option, Some, None, option_map, refl, sym, ap, ◌∙◌, subst, arith}
+use Rattle.std.proofs.lemmas.Option.{slice_get_within}
 use Rattle.std.proofs.lemmas.Bool.{lt-ltb, le-ltb, false≢true}
 use Rattle.mir_base.specs.declared.instructions.Operand.{Operand}
 use Rattle.mir_base.specs.declared.instructions.Rhs.{Rhs}
@@ -19,6 +19,7 @@ use Rattle.flow_graph.specs.BoundLaws.{slot_within}
 use Rattle.flow_graph.specs.NodeLaws.{rewritten_succs}
 use Rattle.flow_graph.specs.InsertionNodes.{chain_slice, old_get, old_edge, rewritten_length}
 use Rattle.flow_graph.specs.InsertionGraphs.{start_entry}
+use Rattle.mir_base.specs.ItemLaws.{map_at, one_item}
 
 -- ---- chains
 
@@ -181,19 +182,8 @@ module _ (r : Rewriting) (nodes : List Node) where
   edge_back : (n u : ℕ) → n < length nodes → HasEdge raw n u → (m : ℕ) × HasEdge nodes n m × (to m ≡ u)
   edge_back n u lt edge =
       let node = some_at nodes n lt in
-      let m = mapped_back to (node_succs node.0) edge.0 u (ap (λ l. slice_get l edge.0) (sym (rewritten_succs to (r.changes n) node.0)) ∙ ap (λ o. slice_get (succs_of o) edge.0) (sym (old_get r nodes n node.0 node.1)) ∙ edge.1) in
+      let m = map_at to (node_succs node.0) edge.0 u (ap (λ l. slice_get l edge.0) (sym (rewritten_succs to (r.changes n) node.0)) ∙ ap (λ o. slice_get (succs_of o) edge.0) (sym (old_get r nodes n node.0 node.1)) ∙ edge.1) in
       (m.0, (edge.0, ap (λ o. slice_get (succs_of o) edge.0) node.1 ∙ m.1), m.2)
-    where
-      from_option : (f : ℕ → ℕ) (o : Option ℕ) (v : ℕ) → option_map f o ≡ Some v → (t : ℕ) × (o ≡ Some t) × (f t ≡ v)
-      from_option f None v e = absurd (none-some v e)
-      from_option f (Some t) v e = (t, refl, same_Some (f t) v e)
-
-      mapped_back : (f : ℕ → ℕ) (xs : List ℕ) (slot v : ℕ) → slice_get (map f xs) slot ≡ Some v → (t : ℕ) × (slice_get xs slot ≡ Some t) × (f t ≡ v)
-      mapped_back f xs slot v is = from_option f (slice_get xs slot) v (sym (slice_get-map f xs slot) ∙ is)
-
-  only_succ : (next slot s : ℕ) → slice_get (next ∷ []) slot ≡ Some s → next ≡ s
-  only_succ next zero s is = same_Some next s is
-  only_succ next (suc slot) s is = absurd (none-some s is)
 
   -- a path from a node of the chain before n to a Return goes through the chains before its old nodes
   record Lies (n k : ℕ) (puts : List Insertion) (q : List ℕ) : Type 0 where
@@ -216,7 +206,7 @@ module _ (r : Rewriting) (nodes : List Node) where
         }
     lies (b ∷ q) last n k (put ∷ puts) c above lt is ends returns =
         let next : slice_get (entry_among n (suc k) puts ∷ []) is.0.0 ≡ Some b = ap (λ o. slice_get (succs_of o) is.0.0) (sym c.0) ∙ is.0.1 in
-        let leads : entry_among n (suc k) puts ≡ b = only_succ (entry_among n (suc k) puts) is.0.0 b next in
+        let leads : entry_among n (suc k) puts ≡ b = one_item (entry_among n (suc k) puts) b is.0.0 next in
         let l = lies q last n (suc k) puts c.1 (omega (arith, above)) lt (subst (λ u. IsPath raw (u ∷ q)) (sym leads) is.1) (subst (λ u. Ends last (u ∷ q)) (sym leads) ends) returns in
         record {
           rest = l.rest;
@@ -241,8 +231,4 @@ module _ (r : Rewriting) (extra : List (List ℕ)) (graph : GraphShape) (fits : 
 
   -- and no other
   pub rewritten_alone : (path other : List ℕ) → IsOver graph.nodes (rewritten_nodes r graph.nodes) path other → other ≡ over_path r.inserts (length graph.nodes) path
-  rewritten_alone path other is = alone r graph.nodes (λ m slot s edge. (is_graph.can.succs m slot s edge).1) (start_entry r extra graph fits) (within graph.nodes (Start is_graph.can.start.0) is_graph.can.start.1) path other is
-    where
-      within : (xs : List Node) (x : Node) → slice_get xs 0 ≡ Some x → 0 < length xs
-      within [] x e = cc
-      within (y ∷ xs) x e = omega arith
+  rewritten_alone path other is = alone r graph.nodes (λ m slot s edge. (is_graph.can.succs m slot s edge).1) (start_entry r extra graph fits) (slice_get_within graph.nodes 0 (Start is_graph.can.start.0) is_graph.can.start.1) path other is

@@ -33,6 +33,7 @@ use Rattle.flow_graph.specs.InsertionGraphs.{start_entry}
 use Rattle.flow_graph.specs.InsertionPaths.{IsInsertionChain, chain_is}
 use Rattle.flow_graph.specs.Over.{weigh, weigh_all, weight_at, new_weight_at, through, over_path}
 use Rattle.flow_graph.specs.InsertionRuns.{values_after, none_traps, ValueRelation, BothAssign, TrapsAfter, Preserves, counts, CountsNoMore}
+use Rattle.std.proofs.lemmas.Option.{slice_get_within}
 
 -- ---- a run along a chain
 
@@ -144,11 +145,7 @@ module _ (r : Rewriting) (extra : List (List ℕ)) (graph : GraphShape) (Holds :
   -- ---- places
 
   trace_within : (n : ℕ) (before : List ℕ) → Trace nodes n before → n < length nodes
-  trace_within n before from_start = some nodes (Start is_graph.can.start.0) is_graph.can.start.1
-    where
-      some : (xs : List Node) (x : Node) → slice_get xs 0 ≡ Some x → 0 < length xs
-      some [] x e = cc
-      some (y ∷ xs) x e = omega arith
+  trace_within n before from_start = slice_get_within nodes 0 (Start is_graph.can.start.0) is_graph.can.start.1
   trace_within n before (goes_on m k earlier trace edge) = (is_graph.can.succs m edge.0 n edge.1).1
 
   start_trace : (n : ℕ) (before : List ℕ) → n ≡ 0 → Trace nodes n before → before ≡ []

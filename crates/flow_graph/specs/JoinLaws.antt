@@ -1,5 +1,5 @@
--- Where edges meet in a split graph: into each node lead edges from one node alone, or from Skips alone. For proofs only, here
--- and above.
+-- Where edges meet in a split graph: into each node lead edges from one node alone, or from Skips alone. For proofs
+-- only, here and above.
 use Rattle.std.proofs.Common.{◌≡◌, ◌<◌, ◌⊎◌, ℕ, zero, suc, List, [], ◌∷◌, length, slice_get, Option, Some, inl, inr, sym, ap, ◌∙◌, arith}
 use Rattle.std.proofs.Math.Decide.{dec_lt}
 use Rattle.std.proofs.lemmas.Option.{none-some}

@@ -1,5 +1,5 @@
--- Laws of what passes keep: one pass, none, passes one after the other, and a pass that writes nodes. For proofs only; the
--- passes of the crates above cite them.
+-- Laws of what passes keep: one pass, none, passes one after the other, and a pass that writes nodes. For proofs only;
+-- the passes of the crates above cite them.
 use Rattle.std.proofs.Common.{◌≡◌, ℕ, List, [], ◌∷◌, refl, ◌∙◌}
 use Rattle.std.specs.Prelude.{All, get_or}
 use Rattle.std.proofs.lemmas.List.Elements.{All-cons, All-nil}
@@ -29,7 +29,8 @@ keeps_trans a b c k l = record {
 
 -- ---- a pass that writes nodes, of which a graph is made
 
--- where the nodes do the same as the graph, and the graph that is made of them does the same as they, it keeps the graph
+-- where the nodes do the same as the graph, and the graph that is made of them does the same as they, it keeps the
+-- graph
 pub made_keeps : (graph made : GraphShape) (nodes : List Node) → made.name ≡ graph.name
     → UnitSame (machine_of graph) (graph_machine graph.received nodes) → UnitCheaper (machine_of graph) (graph_machine graph.received nodes) → ((called count : ℕ) → NodesCall nodes called count → NodesCall graph.nodes called count)
     → UnitSame (graph_machine graph.received nodes) (machine_of made) → UnitCheaper (graph_machine graph.received nodes) (machine_of made) → ((called count : ℕ) → NodesCall made.nodes called count → NodesCall nodes called count)

@@ -1,5 +1,5 @@
--- Laws of the edges by source: each leads to a successor of its source and is listed once for each slot, and the edges of a
--- node stand together. For proofs only; other files find them in `EdgeLaws`.
+-- Laws of the edges by source: each leads to a successor of its source and is listed once for each slot, and the edges
+-- of a node stand together. For proofs only; other files find them in `EdgeLaws`.
 use Rattle.std.proofs.Common.{◌≡◌, ℕ, zero, suc, ◌+◌, ◌<◌, ◌≤◌, Bool, true, false, if◌then◌else◌, nat_lt, List, [], ◌∷◌, ◌++◌, length, take, drop, slice_get, Some, ◌⊎◌, inl, inr, refl, sym, ap, ◌∙◌, arith, length-append, append_assoc}
 use Rattle.std.proofs.lemmas.Bool.{lt-ltb, le-ltb, cases_lt}
 use Rattle.std.proofs.lemmas.List.{take-append-drop, length-take-le}

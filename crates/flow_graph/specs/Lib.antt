@@ -30,8 +30,6 @@ pub mod Walks
 pub mod MarkLaws
 pub mod Sorting
 pub mod Placing
-pub mod Examples
-pub mod ExamplesLaws
 pub mod Insertions
 pub mod InsertionNodes
 pub mod InsertionGraphs

@@ -1,10 +1,12 @@
--- Laws of lists that std has only for reads with a default: `slice_get` of joined, shortened and written lists, and a list
--- item by item. For proofs only; the crates above cite them too. std's `lemmas.List` has those of `length`, `take`, `drop`,
--- `slice_set` and `slice_index_or` that are not here.
-use Rattle.std.proofs.Common.{◌≡◌, ◌≢◌, ℕ, zero, suc, ◌+◌, ◌<◌, List, [], ◌∷◌, ◌++◌, length, map, take, drop, slice_get, slice_set, slice_index_or, Some, ◌⊎◌, inl, inr, refl, sym, ap, ◌∙◌, subst, arith, append_assoc}
+-- Laws of lists that std has only for reads with a default: `slice_get` of joined, shortened and written lists, and a
+-- list item by item. For proofs only; the crates above cite them too. std's `lemmas.List` has those of `length`,
+-- `take`, `drop`, `slice_set` and `slice_index_or` that are not here.
+use Rattle.std.proofs.Common.{◌≡◌, ◌≢◌, ℕ, zero, suc, ◌+◌, ◌<◌, List, [], ◌∷◌, ◌++◌, length, map, take, drop, slice_get, slice_set, slice_index_or, Some, ◌⊎◌, inl, inr, refl, sym, ap, ◌∙◌, subst, arith, append_assoc, true, ◌||◌, eqb, eq-eqb}
 use Rattle.std.proofs.lemmas.Bool.{cases_eq}
 use Rattle.std.proofs.lemmas.List.{get_or_append_left, get_or_push}
 use Rattle.std.proofs.lemmas.Option.{slice_get_within}
+use Rattle.std.proofs.Math.Bool.{or-true}
+use Rattle.flow_graph.specs.Numbering.{is_in}
 pub use Rattle.mir_base.specs.ItemLaws.{get_left, get_last}
 
 -- two lists with equal first items and equal remainders
@@ -22,6 +24,12 @@ some_at (x ∷ xs) (suc i) lt = some_at xs i (omega (arith, lt))
 -- the item there stays
 pub get_left_some : {A : Type 0} (xs ys : List A) (i : ℕ) (x : A) → slice_get xs i ≡ Some x → slice_get (xs ++ ys) i ≡ Some x
 get_left_some xs ys i x at = get_left xs ys i (slice_get_within xs i x at) ∙ at
+
+-- an item that stands in a list is found in it
+pub listed_in : (xs : List ℕ) (i x : ℕ) → slice_get xs i ≡ Some x → is_in x xs ≡ true
+listed_in [] i x at = cc
+listed_in (y ∷ ys) zero x at = let same : y ≡ x = cc in ap (λ b. b || is_in x ys) (eq-eqb y x same)
+listed_in (y ∷ ys) (suc i) x at = ap (λ b. eqb y x || b) (listed_in ys i x at) ∙ or-true (eqb y x)
 
 -- an index into the second
 pub get_right_at : {A : Type 0} (xs ys : List A) (n i : ℕ) → n ≡ length xs + i → slice_get (xs ++ ys) n ≡ slice_get ys i

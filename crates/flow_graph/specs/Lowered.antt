@@ -10,8 +10,8 @@ use Rattle.flow_graph.specs.declared.nodes.Node.TheVariants.{Start, Skip, Assign
 use Rattle.flow_graph.specs.Graphs.{GraphShape}
 use Rattle.flow_graph.specs.Kept.{IsMade}
 
--- The node of the instruction at place p, where the node of place q has the number q + 1. A receive has none of its own,
--- since Start does its work: no node leads to the Return that stands for it
+-- The node of the instruction at place p, where the node of place q has the number q + 1. A receive has none of its
+-- own, since Start does its work: no node leads to the Return that stands for it
 abbrev pub place_node : ℕ → Inst → Node
 place_node p (insts.Receive x) = Return (Const (pos 0))
 place_node p (insts.Assign x rhs) = Assign x rhs (suc (suc p))

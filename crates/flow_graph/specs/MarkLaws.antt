@@ -1,4 +1,5 @@
--- Laws of marks: each stays set, and a walk makes the number of nodes that are not marked less. For proofs only, here and above.
+-- Laws of marks: each stays set, and a walk makes the number of nodes that are not marked less. For proofs only, here
+-- and above.
 use Rattle.std.proofs.Common.{◌≡◌, ℕ, zero, suc, ◌+◌, ◌<◌, Bool, true, false, List, [], ◌∷◌, length, slice_get, slice_set, slice_index_or, Some, ◌⊎◌, inl, inr, refl, sym, ap, ◌∙◌, subst, arith}
 use Rattle.std.proofs.lemmas.Bool.{cases_eq}
 use Rattle.std.proofs.lemmas.Option.{slice_get_within}

@@ -24,8 +24,8 @@ goes_silently (Assign x rhs next) = true
 goes_silently (Test test taken other) = true
 goes_silently _ = false
 
--- on every way from node n, after at most k nodes that go on silently and assign nothing that it reads, comes a node that
--- evaluates this right side
+-- on every way from node n, after at most k nodes that go on silently and assign nothing that it reads, comes a node
+-- that evaluates this right side
 pub data MustEvaluate (graph : GraphShape) (rhs : Rhs) : ℕ → ℕ → Type 0 where
   evaluates : (k n x next : ℕ) → slice_get graph.nodes n ≡ Some (Assign x rhs next) → MustEvaluate graph rhs k n
   onward : (k n : ℕ) (node : Node) → slice_get graph.nodes n ≡ Some node → goes_silently node ≡ true → NoneAssigned graph node (rhs_vars rhs) → ((slot s : ℕ) → slice_get (node_succs node) slot ≡ Some s → MustEvaluate graph rhs k s) → MustEvaluate graph rhs (suc k) n

@@ -1,5 +1,5 @@
--- Laws of one node: of a node with other numbers for its successors (`redirected`), and of a changed one (`changed`). For
--- proofs only; the crates above cite them too.
+-- Laws of one node: of a node with other numbers for its successors (`redirected`), and of a changed one (`changed`).
+-- For proofs only; the crates above cite them too.
 use Rattle.std.proofs.Common.{◌≡◌, ℕ, map, slice_get, Option, Some, None, option_map, refl, ap, ◌∙◌}
 use Rattle.mir_base.specs.Shapes.{AllBelow}
 use Rattle.flow_graph.specs.declared.nodes.Node.{Node}

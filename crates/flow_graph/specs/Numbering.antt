@@ -1,6 +1,6 @@
--- Variables numbered anew, in the order of their first occurrence. Cited by contracts of src/seen.rt and
--- src/rename.rt.
-use Rattle.std.specs.Prelude.{ℕ, suc, Bool, false, if◌then◌else◌, nat_eq, ◌||◌, List, [], ◌∷◌, ◌++◌, map, flat_map, option_map}
+-- Whether a number stands in a list, and variables numbered anew, in the order of their first occurrence. Cited by
+-- contracts, those of the crates above too.
+use Rattle.std.specs.Prelude.{ℕ, suc, Bool, false, if◌then◌else◌, nat_eq, ◌||◌, List, [], ◌∷◌, ◌++◌, map, flat_map, option_map, ◌≡◌, ◌⊎◌}
 use Rattle.mir_base.specs.declared.instructions.Operand.{Operand}
 use Rattle.mir_base.specs.declared.instructions.Operand.TheVariants.{Var, Const}
 use Rattle.mir_base.specs.declared.instructions.Rhs.{Rhs}
@@ -15,6 +15,11 @@ use Rattle.mir_base.specs.Shapes.{inst_vars}
 abbrev pub is_in : ℕ → List ℕ → Bool
 is_in x [] = false
 is_in x (y ∷ ys) = nat_eq y x || is_in x ys
+
+-- the same as a fact by cases, where std's `Contains` has an index
+abbrev pub IsIn : ℕ → List ℕ → Type 0
+IsIn x [] = ⊥
+IsIn x (y ∷ ys) = (y ≡ x) ⊎ IsIn x ys
 
 -- the place of the first x in a list, and its length where there is none
 abbrev pub position : List ℕ → ℕ → ℕ

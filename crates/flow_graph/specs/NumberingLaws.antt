@@ -1,4 +1,5 @@
--- Laws of the list of the variables seen, and of what stands in a list of numbers. For proofs only; mir_trial cites them.
+-- Laws of the list of the variables seen, and of what stands in a list of numbers. For proofs only, of the
+-- crates above too.
 use Rattle.std.proofs.Common.{◌≡◌, ℕ, Bool, true, false, if◌then◌else◌, nat_eq, ◌||◌, List, [], ◌∷◌, ◌++◌, ◌⊎◌, inl, inr, refl, sym, ap, ◌∙◌, append-nil, append_assoc}
 use Rattle.std.proofs.lemmas.Bool.{eq-eqb, eqb-true}
 use Rattle.std.proofs.Math.Bool.{or-true}

@@ -2,13 +2,13 @@
 -- of jump_clean, motion_rewrite and mir_opt.
 use Rattle.std.proofs.Common.{◌≡◌, ℕ, zero, suc, ◌+◌, ◌-◌, ◌<◌, Bool, true, false, List, [], ◌∷◌, length, map, slice_get, slice_index_or, Some, None, inl, inr, refl, sym, ap, ◌∙◌, arith}
 use Rattle.std.proofs.lemmas.Bool.{cases_lt}
-use Rattle.std.proofs.lemmas.Option.{slice_get-get_or, slice_get_past, same_Some}
+use Rattle.std.proofs.lemmas.Option.{slice_get_past, same_Some}
 use Rattle.mir_base.specs.Shapes.{UnitShape}
 use Rattle.flow_graph.specs.declared.nodes.Node.{Node}
 use Rattle.flow_graph.specs.declared.plan.Item.{Item}
 use Rattle.flow_graph.specs.Graphs.{GraphShape}
 use Rattle.flow_graph.specs.Kept.{redirected, marked_below, marked, MarkReached, AreKept, IsMade}
-use Rattle.flow_graph.specs.ListLaws.{cons_same}
+use Rattle.flow_graph.specs.ListLaws.{cons_same, some_at}
 use Rattle.flow_graph.specs.Layouts.{IsLayout, plain_body}
 use Rattle.flow_graph.specs.Lowered.{IsLowered}
 use Rattle.flow_graph.specs.Numbering.{renumbered, seen_in}
@@ -27,9 +27,6 @@ same_places (x ∷ xs) (y ∷ ys) same = cons_same (same_Some _ _ (same 0)) (sam
 pub marks_are_one : (raw : List Node) (a b : List Bool) → MarkReached raw a → MarkReached raw b → a ≡ b
 marks_are_one raw a b p q = same_places a b by_place
   where
-    value : (marks : List Bool) (n : ℕ) → n < length marks → (v : Bool) × (slice_get marks n ≡ Some v)
-    value marks n lt = (slice_index_or marks n false, slice_get-get_or marks n false lt)
-
     differ : Some true ≡ Some false → {A : Type 0} → A
     differ e = cc
 
@@ -42,8 +39,8 @@ marks_are_one raw a b p q = same_places a b by_place
     by_place : (n : ℕ) → slice_get a n ≡ slice_get b n
     by_place n = elim (cases_lt n (length raw)) [
       | inl lt ↦
-          let v = value a n (omega (arith, lt, p.long)) in
-          let w = value b n (omega (arith, lt, q.long)) in
+          let v = some_at a n (omega (arith, lt, p.long)) in
+          let w = some_at b n (omega (arith, lt, q.long)) in
           alike n lt v.0 w.0 v.1 w.1
       | inr ge ↦ slice_get_past a n (omega (arith, ge, p.long)) ∙ sym (slice_get_past b n (omega (arith, ge, q.long)))
     ]

@@ -1,10 +1,12 @@
--- Laws of paths: where a list begins and ends; the traces of a node are the paths from Start to it, and the nodes that have one are those that are
--- reached. For proofs only, of path_laws and the crates above it.
+-- Laws of paths: where a list begins and ends; the traces of a node are the paths from Start to it, and the nodes that
+-- have one are those that are reached. For proofs only, of path_laws and the crates above it.
 use Rattle.std.proofs.Common.{◌≡◌, ℕ, suc, ◌-◌, ◌<◌, List, [], ◌∷◌, ◌++◌, length, slice_get, reverse, Some, sym, ap, ◌∙◌, subst, arith, append_assoc}
 use Rattle.std.proofs.lemmas.List.{reverse-append}
 use Rattle.flow_graph.specs.declared.nodes.Node.{Node}
-use Rattle.flow_graph.specs.Graphs.{AllWithin, Reached, at_start, along}
+use Rattle.flow_graph.specs.Graphs.{AllWithin, Reached, at_start, along, succs_of}
 use Rattle.flow_graph.specs.Paths.{Begins, Ends, HasEdge, IsPath, Trace, from_start, goes_on}
+use Rattle.mir_base.specs.declared.instructions.Rhs.{Rhs}
+use Rattle.flow_graph.specs.declared.nodes.Node.TheVariants.{Assign}
 
 -- ---- the first and the last of a list
 
@@ -13,13 +15,24 @@ pub first_begins : (list : List ℕ) (n : ℕ) → slice_get list 0 ≡ Some n �
 first_begins [] n e = cc
 first_begins (k ∷ list) n e = let same : k ≡ n = cc in same
 
--- and ends with the one at the last place
+-- and the item with which it begins has place 0
+pub begins_first : (list : List ℕ) (n : ℕ) → Begins n list → slice_get list 0 ≡ Some n
+begins_first [] n b = absurd b
+begins_first (k ∷ list) n b = ap Some b
+
+-- it ends with the one at the last place
 pub end_stands : (list : List ℕ) (m : ℕ) → Ends m list → slice_get list (length list - 1) ≡ Some m
 end_stands [] m e = absurd e
 end_stands (k ∷ []) m e = ap Some e
 end_stands (j ∷ k ∷ list) m e =
     let at : length (j ∷ k ∷ list) - 1 ≡ suc (length (k ∷ list) - 1) = omega arith in
     subst (λ i. slice_get (j ∷ k ∷ list) i ≡ Some m) (sym at) (end_stands (k ∷ list) m e)
+
+-- ---- an edge
+
+-- an assignment leads to its successor
+pub assign_edge : (nodes : List Node) (n x next : ℕ) (rhs : Rhs) → slice_get nodes n ≡ Some (Assign x rhs next) → HasEdge nodes n next
+assign_edge nodes n x next rhs is = (0, ap (λ o. slice_get (succs_of o) 0) is)
 
 -- ---- traces and paths
 

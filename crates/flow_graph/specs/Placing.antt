@@ -58,7 +58,7 @@ pub record AreClosed (nodes : List Node) (items : List Item) (first : ℕ) : Typ
 abbrev pub FirstOpenIsAt : List Node → List Item → ℕ → Type 0
 FirstOpenIsAt nodes items number = first_open nodes (reverse items) (reverse items) ≡ open_if nodes (reverse items) (slice_get items number)
 
--- the node that follows an item in its trace
+-- the node that follows an item in its stretch
 abbrev pub follower_of : List Node → Item → Option ℕ
 follower_of nodes (Placed n) = following (slice_get nodes n)
 follower_of nodes (Jump n) = None

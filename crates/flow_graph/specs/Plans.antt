@@ -1,5 +1,5 @@
--- The order in which the nodes of a graph are laid out, in traces: each later trace begins at the `taken` of a Test,
--- where that has no place yet, and ends in a Return or a jump. Cited by contracts of `layout`.
+-- The order in which the nodes of a graph are laid out, in stretches: each later stretch begins at the `taken` of a
+-- Test, where that has no place yet, and ends in a Return or a jump. Cited by contracts of `layout`.
 use Rattle.std.specs.Prelude.{◌≡◌, ℕ, Bool, false, if◌then◌else◌, nat_eq, ◌||◌, List, [], ◌∷◌, slice_get, Option, Some, None, option_map}
 use Rattle.std.specs.Option.{option_or}
 use Rattle.flow_graph.specs.declared.plan.Item.{Item}
@@ -26,21 +26,21 @@ first_open nodes plan [] = None
 first_open nodes plan (Placed n ∷ older) = option_or (first_open nodes plan older) (open_at plan (slice_get nodes n))
 first_open nodes plan (Jump n ∷ older) = first_open nodes plan older
 
--- a new trace begins there
-abbrev pub new_trace : List Node → List Item → Option Item
-new_trace nodes plan = option_map Placed (first_open nodes plan plan)
+-- a new stretch begins there
+abbrev pub new_stretch : List Node → List Item → Option Item
+new_stretch nodes plan = option_map Placed (first_open nodes plan plan)
 
--- A trace goes on with the node that follows, or ends with a jump to it where it has a place; where none follows, a new
--- trace begins
+-- A stretch goes on with the node that follows, or ends with a jump to it where it has a place; where none follows, a
+-- new stretch begins
 abbrev pub after_node : List Node → List Item → Option ℕ → Option Item
 after_node nodes plan (Some s) = Some (if is_placed s plan then Jump s else Placed s)
-after_node nodes plan None = new_trace nodes plan
+after_node nodes plan None = new_stretch nodes plan
 
 -- What comes after the items of a plan, if anything; the first item is Start's successor
 abbrev pub next_item : List Node → ℕ → List Item → Option Item
 next_item nodes first [] = Some (Placed first)
 next_item nodes first (Placed n ∷ older) = after_node nodes (Placed n ∷ older) (following (slice_get nodes n))
-next_item nodes first (Jump n ∷ older) = new_trace nodes (Jump n ∷ older)
+next_item nodes first (Jump n ∷ older) = new_stretch nodes (Jump n ∷ older)
 
 -- each item is what comes after those before it
 abbrev pub IsPlan : List Node → ℕ → List Item → Type 0

@@ -101,9 +101,9 @@ abbrev pub AllPut : (ℕ → Option Rhs) → List Insertion → List ℕ → Typ
 AllPut late puts [] = Unit {0}
 AllPut late puts (x ∷ xs) = (late x ≡ put_for puts x) × AllPut late puts xs
 
--- `late n x`: the right side of x that is delayed before node n, where one is. It comes from a node that assigned it and is
--- removed, or it was delayed before: then the node neither reads nor assigns x, assigns nothing that the right side reads,
--- and it is not put there
+-- `late n x`: the right side of x that is delayed before node n, where one is. It comes from a node that assigned it
+-- and is removed, or it was delayed before: then the node neither reads nor assigns x, assigns nothing that the right
+-- side reads, and it is not put there
 pub record Sinks (graph : GraphShape) (r : Rewriting) (late : ℕ → ℕ → Option Rhs) : Type 0 where
   pub apart : (n : ℕ) → AreApart (r.inserts n)
   pub never : (n : ℕ) → NeverTrap (r.inserts n)

@@ -1,4 +1,5 @@
--- Laws of the variables that a node reads and assigns: they are among its own. For proofs only; the crates above cite them.
+-- Laws of the variables that a node reads and assigns: they are among its own. For proofs only; the crates above cite
+-- them.
 use Rattle.std.proofs.Common.{◌≡◌, ℕ, ◌≤◌, false, List, [], ◌∷◌, flat_map, Some, None, refl, arith}
 use Rattle.std.specs.List.{list_any}
 use Rattle.std.proofs.lemmas.Bool.{or_parts, ne_eqb}

@@ -14,9 +14,9 @@ use crate::{Graph, Node};
 use mir_base::{Inst, Items, Memory, Name, Unit as MirUnit};
 use std::alloc::Global;
 
-/// The unit of a graph. The receives stand first, and then traces of nodes. The first trace begins at Start's
+/// The unit of a graph. The receives stand first, and then stretches of nodes. The first stretch begins at Start's
 /// successor, and each later one at the `taken` successor of the first Test, in the order of placing, whose `taken`
-/// successor has no place yet. A trace goes on with the only successor of a node or the `other` of a Test; it ends
+/// successor has no place yet. A stretch goes on with the only successor of a node or the `other` of a Test; it ends
 /// after a Return, and with a Goto where that node has a place already. A Skip emits nothing. The variables of the unit
 /// are those that occur, in the order of their first occurrence. The unit does the same as the graph and evaluates no
 /// more operators. The time is linear in nodes and edges. It fails only with `Memory`.

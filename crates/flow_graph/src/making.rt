@@ -12,10 +12,10 @@ use mir_base::Memory;
 use std::alloc::Global;
 
 impl Graph {
-    /// The graph with the name, the variables and the received variables of this one, and with those of `nodes` that are
-    /// reached from node 0, renumbered in their old order. The first of `nodes` is their only Start, no edge leads to
-    /// it, and successors and variables are in range. Other crates make graphs by this call, `lower` and `Editor` alone;
-    /// `Editor` takes more variables. It fails only with `Memory`.
+    /// The graph with the name, the variables and the received variables of this one, and with those of `nodes` that
+    /// are reached from node 0, renumbered in their old order. The first of `nodes` is their only Start, no edge leads
+    /// to it, and successors and variables are in range. Other crates make graphs by this call, `lower` and `Editor`
+    /// alone; `Editor` takes more variables. It fails only with `Memory`.
     pub fn with_nodes(&self, alloc: Global, nodes: Vec<Node>) -> Result<Graph, Memory>
         requires { CanMake self.now.vars self.now.received nodes.items }
         ensures made { IfOk result (λ graph.

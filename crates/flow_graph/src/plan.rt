@@ -3,7 +3,7 @@ ghost use Rattle.std.specs.Prelude.{◌≡◌, ◌+◌, ◌<◌, [], ◌∷◌, 
 ghost use Rattle.flow_graph.specs.Graphs.{AllWithin, IsBelow, following};
 ghost use Rattle.flow_graph.specs.Placing.{AreClosed, ArePlaced, ItemsWithin, FirstOpenIsAt, follower_of, open_by, open_by_item, placed_after, taken_of};
 ghost use Rattle.flow_graph.specs.declared.plan.Item.TheVariants.{Jump, Placed};
-ghost use Rattle.flow_graph.specs.Plans.{IsPlan, new_trace, next_item};
+ghost use Rattle.flow_graph.specs.Plans.{IsPlan, new_stretch, next_item};
 
 use crate::Node;
 use crate::reach::no_marks;
@@ -69,12 +69,12 @@ fn next(
         None => Some(Item::Placed(first)),
         Some(item) => match follower(nodes, *item) {
             Some(node) => Some(go_on(node, placed)),
-            None => begin_trace(nodes, items, placed, closed),
+            None => begin_stretch(nodes, items, placed, closed),
         },
     }
 }
 
-/// The node that follows an item in its trace.
+/// The node that follows an item in its stretch.
 fn follower(nodes: &[Node], item: Item) -> Option<usize>
     requires { ItemsWithin (length nodes.now) (item ∷ []) }
     ensures { result ≡ follower_of nodes.now item }
@@ -95,7 +95,7 @@ fn following(node: &Node) -> Option<usize>
     }
 }
 
-/// The trace goes on with this node, or ends with a jump to it.
+/// The stretch goes on with this node, or ends with a jump to it.
 fn go_on(node: usize, placed: &[bool]) -> Item
     requires { node < length placed.now }
     ensures { result ≡ cond (slice_index_or placed.now node false) (Jump node) (Placed node) }
@@ -107,13 +107,13 @@ fn go_on(node: usize, placed: &[bool]) -> Item
     }
 }
 
-/// The beginning of a new trace, where there is one.
-fn begin_trace(nodes: &[Node], items: &[Item], placed: &[bool], closed: usize) -> Option<Item>
+/// The beginning of a new stretch, where there is one.
+fn begin_stretch(nodes: &[Node], items: &[Item], placed: &[bool], closed: usize) -> Option<Item>
     requires within { AllWithin nodes.now }
     requires items { ItemsWithin (length nodes.now) items.now }
     requires placed { ArePlaced nodes.now placed.now (reverse items.now) }
     requires open { FirstOpenIsAt nodes.now items.now closed }
-    ensures { result ≡ new_trace nodes.now (reverse items.now) }
+    ensures { result ≡ new_stretch nodes.now (reverse items.now) }
 {
     match items.get(closed) {
         None => None,

@@ -2,6 +2,7 @@
 use Rattle.std.proofs.Common.{◌≡◌, ℕ, zero, suc, ◌<◌, ◌↔◌, inl, inr, Bool, true, false, not, ◌||◌, ◌&&◌, List, [], ◌∷◌, ◌++◌, length, take, slice_get, Some, refl, sym, ap, subst, arith, ◌∙◌}
 use Rattle.flow_graph.specs.ListLaws.{take_next}
 use Rattle.std.proofs.lemmas.List.{take_all}
+use Rattle.std.proofs.Math.Bool.{and-true, or_assoc}
 use Rattle.std.proofs.lemmas.Bool.{or_cases, or_left, or_right, and_parts, not-true, not_from_false}
 use Rattle.path_laws.specs.Leads.{Leads, at_seed, one_more}
 use Rattle.path_laws.specs.Blockwise.{blocks_some, passed, passed_all}
@@ -23,11 +24,7 @@ apart false false false k a = refl
 
 -- what comes out of a path: what it seeds itself, and what comes to it where none of its nodes blocks that
 pub passed_apart : (seed block : ℕ → Bool) (path : List ℕ) (x : Bool) → passed_all seed block x path ≡ (passed_all seed block false path || (x && not (blocks_some block path)))
-passed_apart seed block [] x = and_true x
-  where
-    and_true : (x : Bool) → x ≡ (false || (x && true))
-    and_true true = refl
-    and_true false = refl
+passed_apart seed block [] x = sym (and-true x)
 passed_apart seed block (n ∷ path) x =
     let first = passed_apart seed block path (passed seed block n x) in
     let empty = passed_apart seed block path (passed seed block n false) in
@@ -45,11 +42,7 @@ passed_next seed block xs i n x e = ap (passed_all seed block x) (take_next xs i
 -- a path that goes on blocks where either part does
 pub blocks_append : (block : ℕ → Bool) (xs ys : List ℕ) → blocks_some block (xs ++ ys) ≡ (blocks_some block xs || blocks_some block ys)
 blocks_append block [] ys = refl
-blocks_append block (n ∷ xs) ys = ap (λ b. block n || b) (blocks_append block xs ys) ∙ or_assoc (block n) (blocks_some block xs) (blocks_some block ys)
-  where
-    or_assoc : (a b c : Bool) → (a || (b || c)) ≡ ((a || b) || c)
-    or_assoc true b c = refl
-    or_assoc false b c = refl
+blocks_append block (n ∷ xs) ys = ap (λ b. block n || b) (blocks_append block xs ys) ∙ sym (or_assoc (block n) (blocks_some block xs) (blocks_some block ys))
 
 -- each node but the first has the one before it as its only step back
 abbrev pub IsRun : (ℕ → ℕ → Type 0) → List ℕ → Type 0

@@ -9,7 +9,7 @@ use Rattle.flow_graph.specs.Blocks.{IsBlocks}
 use Rattle.flow_graph.specs.Graphs.{AllWithin}
 use Rattle.path_laws.specs.Between.{AreBetween}
 use Rattle.node_list.specs.Lists.{list_at}
-use Rattle.path_laws.specs.Blockwise.{HasAnswer, AreGrowing, AreBlockedByPaths, begun_bit, blocks_some, brought, flow_order, handed_on, passed_all}
+use Rattle.path_laws.specs.Blockwise.{HasAnswer, AreGrowing, AreBlockedByPaths, initial_bit, blocks_some, brought, flow_order, handed_on, passed_all}
 use Rattle.path_laws.specs.Leads.{Leads, at_seed, one_more, steps_of}
 use Rattle.flow_graph.specs.FlowEdges.{StepAlong, edge_at}
 use Rattle.path_laws.specs.Paths.{AreRows, has_bit}
@@ -93,7 +93,7 @@ module _ (against : Bool) (nodes : List Node) (lists : List (List ℕ)) (edges :
         answer false o {k} step led = (k, step, led o)
 
     -- and the edges bring the whole answer, but for what the row begins with
-    pub brought_complete : (c n : ℕ) (on : Bool) → c < length lists → slice_get (path c) 0 ≡ Some n → (begun_bit against (seed b) n ≡ true → on ≡ true)
+    pub brought_complete : (c n : ℕ) (on : Bool) → c < length lists → slice_get (path c) 0 ≡ Some n → (initial_bit against (seed b) n ≡ true → on ≡ true)
         → ((e : ℕ) → e < length edges → (edge_at edges e).target ≡ c → brought against (stop b) n (w (edge_at edges e).source) ≡ true → on ≡ true) → HasAnswer against nodes (seed b) (stop b) n → on ≡ true
     brought_complete c n on h first begins comes has = answer against begins comes has (λ k step led. from k step led)
       where
@@ -104,7 +104,7 @@ module _ (against : Bool) (nodes : List Node) (lists : List (List ℕ)) (edges :
             let d_in = (runs.sound c out.0 edge).1 in
             (edge.0, edge.1, edge.3, ap w edge.2 ∙ out_complete out.0 out.1 k d_in out.3 out.4 led)
 
-        answer : (way : Bool) → (begun_bit way (seed b) n ≡ true → on ≡ true)
+        answer : (way : Bool) → (initial_bit way (seed b) n ≡ true → on ≡ true)
             → ((e : ℕ) → e < length edges → (edge_at edges e).target ≡ c → brought way (stop b) n (w (edge_at edges e).source) ≡ true → on ≡ true)
             → HasAnswer way nodes (seed b) (stop b) n
             → ((k : ℕ) → steps_of way nodes n k → Leads (steps_of way nodes) (seed b) (stop b) k → (e : ℕ) × (e < length edges) × ((edge_at edges e).target ≡ c) × (w (edge_at edges e).source ≡ true)) → on ≡ true
@@ -155,11 +155,11 @@ module _ (against : Bool) (nodes : List Node) (lists : List (List ℕ)) (are : I
       ]
 
   -- and is the whole answer, but for what the row begins with
-  pub handed_complete : (x on : Bool) → (HasAnswer against nodes (seed b) (stop b) p → x ≡ true) → (begun_bit against (seed b) n ≡ true → on ≡ true) → (handed_on against (seed b) (stop b) p n x ≡ true → on ≡ true)
+  pub handed_complete : (x on : Bool) → (HasAnswer against nodes (seed b) (stop b) p → x ≡ true) → (initial_bit against (seed b) n ≡ true → on ≡ true) → (handed_on against (seed b) (stop b) p n x ≡ true → on ≡ true)
       → HasAnswer against nodes (seed b) (stop b) n → on ≡ true
   handed_complete x on whole begins hands has = answer against whole begins hands has back.1
     where
-      answer : (way : Bool) → (HasAnswer way nodes (seed b) (stop b) p → x ≡ true) → (begun_bit way (seed b) n ≡ true → on ≡ true) → (handed_on way (seed b) (stop b) p n x ≡ true → on ≡ true)
+      answer : (way : Bool) → (HasAnswer way nodes (seed b) (stop b) p → x ≡ true) → (initial_bit way (seed b) n ≡ true → on ≡ true) → (handed_on way (seed b) (stop b) p n x ≡ true → on ≡ true)
           → HasAnswer way nodes (seed b) (stop b) n → ((k : ℕ) → steps_of way nodes n k → k ≡ p) → on ≡ true
       answer true all begin hand (at_seed m seeded) only = begin seeded
       answer true all begin hand (one_more m k step free rest) only = hand (and_from x (not (stop b n)) (all (subst (Leads (steps_of true nodes) (seed b) (stop b)) (only k step) rest)) (ap not free))
@@ -193,14 +193,14 @@ pub first_within : (against : Bool) (nodes : List Node) (lists : List (List ℕ)
 first_within against nodes lists are c i n h at = flow_within against nodes (list_at lists c) i n (are.blocks c (list_at lists c) (slice_get-get_or lists c [] h)).chain at
 
 -- rows as the answers begin have only bits of the answers
-pub begun_grow : (against : Bool) (nodes : List Node) (bits : ℕ) (seed stop : ℕ → ℕ → Bool) (rows : List (List Bool)) → AreRows (length nodes) bits rows → ((n b : ℕ) → n < length nodes → b < bits → has_bit rows b n ≡ begun_bit against (seed b) n)
+pub initial_grow : (against : Bool) (nodes : List Node) (bits : ℕ) (seed stop : ℕ → ℕ → Bool) (rows : List (List Bool)) → AreRows (length nodes) bits rows → ((n b : ℕ) → n < length nodes → b < bits → has_bit rows b n ≡ initial_bit against (seed b) n)
     → AreGrowing against nodes bits seed stop rows
-begun_grow against nodes bits seed stop rows shape are = record {
+initial_grow against nodes bits seed stop rows shape are = record {
   shape = shape;
   sound = λ n b h l on. begins against n b (sym (are n b h l) ∙ on);
-  begun = λ n b h l on. are n b h l ∙ on;
+  initial = λ n b h l on. are n b h l ∙ on;
 }
   where
-    begins : (way : Bool) (n b : ℕ) → begun_bit way (seed b) n ≡ true → HasAnswer way nodes (seed b) (stop b) n
+    begins : (way : Bool) (n b : ℕ) → initial_bit way (seed b) n ≡ true → HasAnswer way nodes (seed b) (stop b) n
     begins true n b on = at_seed n on
     begins false n b on = absurd (cc)

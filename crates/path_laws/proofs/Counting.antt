@@ -9,13 +9,14 @@ use Rattle.flow_graph.specs.Blocks.{IsBlock, IsBlocks, IsChain, StandsIn}
 use Rattle.flow_graph.specs.EdgeLaws.{edge_is, first_entering_suc}
 use Rattle.flow_graph.specs.Edges.{edges_from, entering}
 use Rattle.flow_graph.specs.Graphs.{AllWithin}
+use Rattle.flow_graph.specs.PathLaws.{first_begins, begins_first}
 use Rattle.flow_graph.specs.Paths.{Begins, Ends, HasEdge}
 use Rattle.path_laws.specs.Between.{IsAhead, ahead_of, count_at, end_at, out_below}
 use Rattle.node_list.specs.Lists.{list_at}
 use Rattle.path_laws.specs.Crossings.{begins_with, crosses, crossings, ends_with, some_list}
 use Rattle.flow_graph.specs.FlowEdges.{first_among}
 use Rattle.flow_graph.specs.BoundLaws.{slot_within}
-use Rattle.path_laws.proofs.Runs.{first_begins, enters_first, steps_ahead}
+use Rattle.path_laws.proofs.Runs.{enters_first, steps_ahead}
 
 -- ---- the edges of one node
 
@@ -132,11 +133,6 @@ some_at test (l ∷ lists) (suc b) list e on = or_right (test l) (some_list test
 begins_true : (list : List ℕ) (n : ℕ) → Begins n list → begins_with n list ≡ true
 begins_true [] n b = absurd b
 begins_true (m ∷ list) n b = eq-eqb m n b
-
--- the first node has place 0
-begins_first : (list : List ℕ) (n : ℕ) → Begins n list → slice_get list 0 ≡ Some n
-begins_first [] n b = absurd b
-begins_first (m ∷ list) n b = ap Some b
 
 -- and that it ends with one
 ends_true : (list : List ℕ) (n : ℕ) → Ends n list → ends_with n list ≡ true

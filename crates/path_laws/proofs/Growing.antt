@@ -1,6 +1,6 @@
 -- Rows of nodes to which bits of the answers are joined.
 use Rattle.std.proofs.Common.{◌≡◌, ◌⊎◌, ℕ, ◌+◌, ◌<◌, ◌≤◌, Bool, true, false, not, ◌||◌, ◌&&◌, List, length, get_or, set, refl, sym, ap, inl, inr, arith, ◌∙◌}
-use Rattle.std.proofs.Math.Bool.{or-false, or_comm}
+use Rattle.std.proofs.Math.Bool.{or-false, or_assoc, or_comm}
 use Rattle.std.proofs.lemmas.Bool.{cases_eq, or_cases, or_left, or_right}
 use Rattle.bit_rows.specs.BitLaws.{and_bit, length_and, length_minus, length_not, length_or, minus_bit, not_bit, or_bit}
 use Rattle.bit_rows.specs.Bits.{and_bits, minus_bits, not_bits, or_bits, row_of}
@@ -46,13 +46,9 @@ pub joined_twice : (bits : ℕ) (rows mid after : List (List Bool)) (node : ℕ)
 joined_twice bits rows mid after node first second made more = record {
   len = more.len ∙ made.len;
   long = more.long ∙ made.long;
-  here = λ b l. more.here b l ∙ ap (λ x. x || second b) (made.here b l) ∙ or_turned (has_bit rows b node) (first b) (second b);
+  here = λ b l. more.here b l ∙ ap (λ x. x || second b) (made.here b l) ∙ or_assoc (has_bit rows b node) (first b) (second b) ∙ ap (λ x. has_bit rows b node || x) (or_comm (first b) (second b));
   others = λ n d. more.others n d ∙ made.others n d;
 }
-  where
-    or_turned : (r f g : Bool) → ((r || f) || g) ≡ (r || (g || f))
-    or_turned true f g = refl
-    or_turned false f g = or_comm f g
 
 -- rows keep their shape
 pub joined_shape : (nodes bits : ℕ) (rows after : List (List Bool)) (node : ℕ) (bit : ℕ → Bool) → AreRows nodes bits rows → Joined bits rows after node bit → AreRows nodes bits after
@@ -173,7 +169,7 @@ growing_more against nodes bits seed stop rows after node bit grow made answer =
     | inl was ↦ grow.sound n b h l was
     | inr now ↦ rw now.0 (answer b l now.1)
   ];
-  begun = λ n b h l on. joined_stays bits rows after node bit made b l n (grow.begun n b h l on);
+  initial = λ n b h l on. joined_stays bits rows after node bit made b l n (grow.initial n b h l on);
 }
 
 -- what a node hands on, by the direction of the flow

@@ -18,14 +18,14 @@ use Rattle.path_laws.proofs.Pushing.{pushed_before, pushed_last, pushed_shape}
 use Rattle.path_laws.proofs.RowBits.{flow_step, step_edge}
 
 -- a step one way is a step back the other way
-turned : (against : Bool) (nodes : List Node) (m n : ℕ) → steps_of (not against) nodes m n → steps_of against nodes n m
-turned true nodes m n step = step
-turned false nodes m n step = step
+step_reversed : (against : Bool) (nodes : List Node) (m n : ℕ) → steps_of (not against) nodes m n → steps_of against nodes n m
+step_reversed true nodes m n step = step
+step_reversed false nodes m n step = step
 
 -- and a step back one the other way
-turned_back : (against : Bool) (nodes : List Node) (m n : ℕ) → steps_of against nodes n m → steps_of (not against) nodes m n
-turned_back true nodes m n step = step
-turned_back false nodes m n step = step
+step_unreversed : (against : Bool) (nodes : List Node) (m n : ℕ) → steps_of against nodes n m → steps_of (not against) nodes m n
+step_unreversed true nodes m n step = step
+step_unreversed false nodes m n step = step
 
 -- the last row has the bits of the neighbours to which the edges below this number lead, and the others are whole
 pub record TellStepsTo (against : Bool) (nodes : List Node) (bits : ℕ) (rows : List (List Bool)) (node number : ℕ) (all : List (List Bool)) : Type 0 where
@@ -41,7 +41,7 @@ module _ (against : Bool) (nodes : List Node) (within : AllWithin nodes) (bits :
       let is : edge_at (flow_edges (not against) nodes) number ≡ record { source = source; target = m } = get_or_from_slice_get (flow_edges (not against) nodes) number _ _ at in
       let from : source ≡ node = (flow_edges_are nodes within (not against)).only number node (record { source = source; target = m }) at low high in
       let step : steps_of (not against) nodes m source = subst (λ (e : Edge). steps_of (not against) nodes e.target e.source) is (flow_step (not against) nodes number (slice_get_within (flow_edges (not against) nodes) number _ at)) in
-      (m, turned against nodes m node (subst (steps_of (not against) nodes m) from step), on)
+      (m, step_reversed against nodes m node (subst (steps_of (not against) nodes m) from step), on)
 
   -- the row that an edge leads to
   target_row : (number m source b : ℕ) → slice_get (flow_edges (not against) nodes) number ≡ Some (record { source = source; target = m }) → has_bit rows b (edge_at (flow_edges (not against) nodes) number).target ≡ true → has_bit rows b m ≡ true
@@ -86,7 +86,7 @@ module _ (against : Bool) (nodes : List Node) (within : AllWithin nodes) (bits :
   -- an edge from the node to the neighbour
   from_neighbour : (b : ℕ) → (step : SomeStep against nodes rows b node) → (e : ℕ) × (first_out (not against) nodes node ≤ e) × (e < first_out (not against) nodes (suc node)) × (has_bit rows b (edge_at (flow_edges (not against) nodes) e).target ≡ true)
   from_neighbour b (m, step, on) =
-      let edge = step_edge (not against) nodes within m node (turned_back against nodes m node step) in
+      let edge = step_edge (not against) nodes within m node (step_unreversed against nodes m node step) in
       let at = slice_get-get_or (flow_edges (not against) nodes) edge.0 (record { source = 0; target = 0 }) edge.1 in
       let stands = (flow_edges_are nodes within (not against)).stands edge.0 (edge_at (flow_edges (not against) nodes) edge.0) at in
       (edge.0, rw edge.2 at stands.0, rw edge.2 at stands.1, ap (λ k. has_bit rows b k) edge.3 ∙ on)

@@ -2,7 +2,7 @@
 use Rattle.std.proofs.Common.{◌≡◌, ℕ, zero, suc, ◌+◌, ◌-◌, ◌<◌, ◌≤◌, ◌⊎◌, inl, inr, Bool, true, false, List, [], ◌∷◌, ◌++◌, length, get_or, slice_get, Some, refl, sym, ap, subst, arith, ◌∙◌, length-append, append_assoc}
 use Rattle.flow_graph.specs.ListLaws.{get_left_some, get_right, get_append}
 use Rattle.std.proofs.lemmas.Bool.{cases_eq, cases_lt}
-use Rattle.std.proofs.lemmas.List.{get_or_append_left}
+use Rattle.std.proofs.lemmas.List.{get_or_append_left, append-nil}
 use Rattle.std.proofs.lemmas.Option.{get_or_from_slice_get, slice_get_within, slice_get-get_or}
 use Rattle.flow_graph.specs.declared.edges.Edge.{Edge}
 use Rattle.flow_graph.specs.declared.nodes.Node.{Node}
@@ -20,6 +20,7 @@ use Rattle.path_laws.specs.Paths.{AreRows}
 use Rattle.flow_graph.specs.FlowEdgeLaws.{flow_edges_are}
 use Rattle.path_laws.proofs.Counting.{ahead_is, count_is}
 use Rattle.path_laws.proofs.RowBits.{flow_step, step_edge}
+use Rattle.mir_base.specs.ItemLaws.{one_item}
 
 -- ---- the edges that leave one block
 
@@ -30,17 +31,13 @@ module _ (against : Bool) (nodes : List Node) (lists : List (List ℕ)) (block f
   pub out_none : (list : List Edge) → list ≡ before → AreOutTo against nodes lists block from (first_out against nodes from) (first_out against nodes from) before list
   out_none list is = record {
     out = [];
-    list_is = is ∙ sym (append_none before);
+    list_is = is ∙ sym (append-nil before);
     many = omega arith;
     most = omega (arith, count_is against from (edges_from 0 nodes));
     source = λ e edge h. cc;
     sound = λ e edge h. cc;
     complete = λ e low high. absurd (omega (arith, low, high));
   }
-    where
-      append_none : (xs : List Edge) → xs ++ [] ≡ xs
-      append_none [] = refl
-      append_none (x ∷ xs) = ap (λ l. x ∷ l) (append_none xs)
 
   pub out_more : (within : AllWithin nodes) (number source target : ℕ) (list more : List Edge) (edge : Edge) → AreOutTo against nodes lists block from (first_out against nodes from) number before list
       → slice_get (flow_edges against nodes) number ≡ Some (record { source = source; target = target }) → first_out against nodes from ≤ number → number < first_out against nodes (suc from)
@@ -63,19 +60,15 @@ module _ (against : Bool) (nodes : List Node) (lists : List (List ℕ)) (block f
         many = omega (arith, so_far.many, length-append so_far.out (edge ∷ []));
         most = omega (arith, high);
         source = λ e x h. elim (get_append so_far.out (edge ∷ []) e x h) as (λ _. x.source ≡ block) [ inl old ↦ so_far.source e x old | inr new ↦ one_source edge x new.0 new.2 block_is ];
-        sound = λ e x h. elim (get_append so_far.out (edge ∷ []) e x h) as (λ _. IsBetween against nodes lists x) [ inl old ↦ so_far.sound e x old | inr new ↦ subst (IsBetween against nodes lists) (one_is edge x new.0 new.2) this ];
+        sound = λ e x h. elim (get_append so_far.out (edge ∷ []) e x h) as (λ _. IsBetween against nodes lists x) [ inl old ↦ so_far.sound e x old | inr new ↦ subst (IsBetween against nodes lists) (one_item edge x new.0 new.2) this ];
         complete = λ e l h. elim (cases_eq e number) as (λ _. (i : ℕ) × (x : Edge) × (slice_get (so_far.out ++ edge ∷ []) i ≡ Some x) × StandsIn lists x.target (edge_at (flow_edges against nodes) e).target) [
           | inl same ↦ (length so_far.out + 0, edge, get_right so_far.out (edge ∷ []) 0, subst (StandsIn lists edge.target) (sym (ap (λ k. (edge_at (flow_edges against nodes) k).target) same ∙ ap (λ (y : Edge). y.target) is)) stands)
           | inr d ↦ let old = so_far.complete e l (omega (arith, h, d)) in (old.0, old.1, get_left_some so_far.out (edge ∷ []) old.0 old.1 old.2, old.3)
         ];
       }
     where
-      one_is : (edge x : Edge) (j : ℕ) → slice_get (edge ∷ []) j ≡ Some x → edge ≡ x
-      one_is edge x zero e = cc
-      one_is edge x (suc j) e = cc
-
       one_source : (edge x : Edge) (j : ℕ) → slice_get (edge ∷ []) j ≡ Some x → edge.source ≡ block → x.source ≡ block
-      one_source edge x j e is = ap (λ (y : Edge). y.source) (sym (one_is edge x j e)) ∙ is
+      one_source edge x j e is = ap (λ (y : Edge). y.source) (sym (one_item edge x j e)) ∙ is
 
   pub out_all : (within : AllWithin nodes) (number : ℕ) (list : List Edge) → AreOutTo against nodes lists block from (first_out against nodes from) number before list → first_out against nodes (suc from) ≤ number
       → (out : List Edge) × (list ≡ before ++ out) × AreOut against nodes lists block from out

@@ -8,7 +8,7 @@ use Rattle.flow_graph.specs.declared.nodes.Node.{Node}
 use Rattle.flow_graph.specs.BlockLaws.{chain_inner, chain_on, edge_within, glued_edge, one_block, only_from, only_to}
 use Rattle.flow_graph.specs.Blocks.{IsBlock, IsBlocks, IsChain, IsGlued, StandsIn}
 use Rattle.flow_graph.specs.Graphs.{AllWithin}
-use Rattle.flow_graph.specs.PathLaws.{end_stands}
+use Rattle.flow_graph.specs.PathLaws.{end_stands, first_begins}
 use Rattle.flow_graph.specs.Paths.{Begins, Ends}
 use Rattle.path_laws.specs.Between.{AreBetween, IsAhead}
 use Rattle.node_list.specs.Lists.{list_at}
@@ -71,11 +71,6 @@ block_run false nodes list is = along_run nodes list is
 pub ahead_last : (against : Bool) (list : List ℕ) (n : ℕ) → IsAhead against n list → (i : ℕ) × (slice_get (flow_order against list) i ≡ Some n) × (suc i ≡ length (flow_order against list))
 ahead_last true list n ahead = reversed_last list n ahead
 ahead_last false list n ahead = last_of list n ahead
-
--- what stands first begins a list
-pub first_begins : (list : List ℕ) (n : ℕ) → slice_get list 0 ≡ Some n → Begins n list
-first_begins [] n e = cc
-first_begins (m ∷ list) n e = cc
 
 -- a node that steps back to the node ahead of a block is the first of its own in the order of the flow
 pub enters_first : (against : Bool) (nodes : List Node) (list from_list : List ℕ) (m k place : ℕ) → IsBlock nodes list → IsBlock nodes from_list → slice_get list place ≡ Some m → IsAhead against k from_list → steps_of against nodes m k → slice_get (flow_order against list) 0 ≡ Some m

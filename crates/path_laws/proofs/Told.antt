@@ -7,7 +7,7 @@ use Rattle.path_laws.specs.Blockwise.{HasAnswer}
 use Rattle.path_laws.specs.Paths.{AreRows, AreBornAfter, AreBornAhead, AreBornBefore, BornBefore, HaveShape, Tell, has_bit, width}
 use Rattle.path_laws.specs.RowLaws.{like_rows}
 use Rattle.path_laws.specs.Seeds.{blocks_of, seeds_of}
-use Rattle.path_laws.specs.Statements.{AreTold, AreTurned, goes_against, is_on_every}
+use Rattle.path_laws.specs.Statements.{AreTold, AreFlippedFor, goes_against, is_on_every}
 use Rattle.path_laws.specs.declared.calls.Statement.{Statement}
 use Rattle.path_laws.specs.declared.calls.Statement.TheVariants.{Before, After, Ahead}
 use Rattle.path_laws.proofs.Complements.{none_from_on, on_from_none, seed_bit}
@@ -57,15 +57,15 @@ module _ (graph : GraphShape) (is : IsGraph graph.vars graph.received graph.node
               )
         ]
 
--- the answers of a statement's problem, turned, tell where the statement holds
+-- the answers of a statement's problem, flipped, tell where the statement holds
 pub told_of : (statement : Statement) (graph : GraphShape) (is : IsGraph graph.vars graph.received graph.nodes) (born stop old new : List (List Bool)) → HaveShape graph (width born) born → HaveShape graph (width born) stop → HaveShape graph (width born) old
-    → Answer graph is born stop (is_on_every statement) (goes_against statement) old → AreTurned statement old new → AreTold statement graph born stop new
-told_of Before graph is born stop old new born_rows stop_rows shape answers turned = before graph is born stop born_rows stop_rows old new shape answers turned.1 turned.2
-told_of After graph is born stop old new born_rows stop_rows shape answers turned = after graph is born stop born_rows stop_rows old new shape answers turned.1
-told_of Ahead graph is born stop old new born_rows stop_rows shape answers turned = subst (AreBornAhead graph born stop) (sym turned) (ahead graph is born stop old answers)
+    → Answer graph is born stop (is_on_every statement) (goes_against statement) old → AreFlippedFor statement old new → AreTold statement graph born stop new
+told_of Before graph is born stop old new born_rows stop_rows shape answers flipped = before graph is born stop born_rows stop_rows old new shape answers flipped.1 flipped.2
+told_of After graph is born stop old new born_rows stop_rows shape answers flipped = after graph is born stop born_rows stop_rows old new shape answers flipped.1
+told_of Ahead graph is born stop old new born_rows stop_rows shape answers flipped = subst (AreBornAhead graph born stop) (sym flipped) (ahead graph is born stop old answers)
 
 -- and keep their shape
-pub turned_shape : (statement : Statement) (nodes bits : ℕ) (old new : List (List Bool)) → AreRows nodes bits old → AreTurned statement old new → AreRows nodes bits new
-turned_shape Before nodes bits old new shape turned = like_rows nodes bits old new shape turned.0
-turned_shape After nodes bits old new shape turned = like_rows nodes bits old new shape turned.0
-turned_shape Ahead nodes bits old new shape turned = subst (AreRows nodes bits) (sym turned) shape
+pub flipped_shape : (statement : Statement) (nodes bits : ℕ) (old new : List (List Bool)) → AreRows nodes bits old → AreFlippedFor statement old new → AreRows nodes bits new
+flipped_shape Before nodes bits old new shape flipped = like_rows nodes bits old new shape flipped.0
+flipped_shape After nodes bits old new shape flipped = like_rows nodes bits old new shape flipped.0
+flipped_shape Ahead nodes bits old new shape flipped = subst (AreRows nodes bits) (sym flipped) shape

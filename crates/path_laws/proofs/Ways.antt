@@ -1,12 +1,14 @@
 -- Ways of a bit, as paths.
 use Rattle.std.proofs.Common.{◌≡◌, ◌≢◌, ℕ, ◌<◌, ◌⊎◌, Bool, true, false, not, ◌||◌, ◌&&◌, List, [], ◌∷◌, length, slice_get, eqb, refl, sym, subst, inl, inr, ◌∙◌}
-use Rattle.std.proofs.lemmas.Bool.{cases_Bool, eqb-true}
+use Rattle.std.proofs.Math.Bool.{or-true}
+use Rattle.std.proofs.lemmas.Bool.{and_parts, cases_Bool, eqb-true, not-true, or_cases}
 use Rattle.flow_graph.specs.declared.nodes.Node.{Node}
 use Rattle.flow_graph.specs.Graphs.{Reached}
 use Rattle.flow_graph.specs.PathLaws.{reached_trace}
 use Rattle.flow_graph.specs.Paths.{Begins, HasEdge, IsPath, Trace, from_start, goes_on, is_return}
 use Rattle.flow_graph.specs.BoundLaws.{slot_within}
 use Rattle.path_laws.specs.Leads.{Leads, at_seed, one_more, steps_of}
+use Rattle.path_laws.specs.Says.{either_says}
 use Rattle.path_laws.specs.Paths.{BornAfter, BornAhead, BornBefore, EndsBorn, EndsWell, Meets, Since}
 
 -- ---- some path from a node
@@ -30,29 +32,8 @@ module _ (nodes : List Node) (born stop : ℕ → Bool) where
 
 -- ---- every path from a node
 
--- truth values taken apart: of a conjunction both parts hold
-and_parts : (a b : Bool) → (a && b) ≡ true → (a ≡ true) × (b ≡ true)
-and_parts true b h = (refl, h)
-and_parts false b h = absurd (cc)
-
--- of a disjunction one part holds
-or_parts : (a b : Bool) → (a || b) ≡ true → (a ≡ true) ⊎ (b ≡ true)
-or_parts true b h = inl refl
-or_parts false b h = inr h
-
--- what is not true is false
-not_true : (a : Bool) → not a ≡ true → a ≡ false
-not_true true h = absurd (cc)
-not_true false h = refl
-
--- one true part makes a disjunction true
-is_on : (a b : Bool) → (a ≡ true) ⊎ (b ≡ true) → (a || b) ≡ true
-is_on true b h = refl
-is_on false b (inl h) = absurd (cc)
-is_on false b (inr h) = h
-
--- the complement is seeded where a path may end with no birth, and blocked where it meets one. A stop needs no block: with
--- no birth it is a seed
+-- the complement is seeded where a path may end with no birth, and blocked where it meets one. A stop needs no block:
+-- with no birth it is a seed
 module _ (nodes : List Node) (born stop seed : ℕ → Bool)
     (seed_is : (n : ℕ) → n < length nodes → seed n ≡ ((stop n || is_return (slice_get nodes n)) && not (born n))) where
   -- no node of the path has the bit born
@@ -89,7 +70,7 @@ module _ (nodes : List Node) (born stop seed : ℕ → Bool)
   missing_from_leads : ((m k : ℕ) → HasEdge nodes m k → k < length nodes) → (n : ℕ) → n < length nodes → Leads (steps_of true nodes) seed born n → Missing n
   missing_from_leads within n h (at_seed k is) =
       let parts = and_parts (stop n || is_return (slice_get nodes n)) (not (born n)) (sym (seed_is n h) ∙ is) in
-      record { path = n ∷ []; is_path = h; begins = refl; ends = or_parts (stop n) (is_return (slice_get nodes n)) parts.0; misses = (not_true (born n) parts.1, tt) }
+      record { path = n ∷ []; is_path = h; begins = refl; ends = or_cases (stop n) (is_return (slice_get nodes n)) parts.0; misses = (not-true (born n) parts.1, tt) }
   missing_from_leads within n h (one_more m k step free rest) = elim (cases_Bool (stop n)) as (λ _. Missing n) [
     | inl stopped ↦ record { path = n ∷ []; is_path = h; begins = refl; ends = inl stopped; misses = (free, tt) }
     | inr on ↦ miss_longer n k step free on (missing_from_leads within k (within n k step) rest)
@@ -97,7 +78,7 @@ module _ (nodes : List Node) (born stop seed : ℕ → Bool)
 
   leads_from_missing : (path : List ℕ) (n : ℕ) → IsPath nodes path → Begins n path → EndsWell nodes stop path → Misses path → Leads (steps_of true nodes) seed born n
   leads_from_missing [] n p b e q = absurd p
-  leads_from_missing (x ∷ []) n p b e q = rw (← b) (at_seed x (seed_is x p ∙ rw (is_on (stop x) (is_return (slice_get nodes x)) e, q.0) refl))
+  leads_from_missing (x ∷ []) n p b e q = rw (← b) (at_seed x (seed_is x p ∙ rw ((either_says (stop x) (is_return (slice_get nodes x))).1 e, q.0) refl))
   leads_from_missing (x ∷ y ∷ path) n p b e q = rw (← b) (one_more x y p.0 q.0 (leads_from_missing (y ∷ path) y p.1 refl e.1 q.1))
 
   pub after_from_none : (n : ℕ) → (Leads (steps_of true nodes) seed born n → ⊥) → BornAfter nodes born stop n
@@ -111,7 +92,8 @@ module _ (nodes : List Node) (born stop seed : ℕ → Bool)
 
 -- ---- every path to a node
 
--- the complement, after each node: seeded at Start and where the bit is stopped, with no birth there, and blocked where it is born
+-- the complement, after each node: seeded at Start and where the bit is stopped, with no birth there, and blocked where
+-- it is born
 module _ (nodes : List Node) (born stop seed : ℕ → Bool) (seed_is : (n : ℕ) → n < length nodes → seed n ≡ ((stop n || eqb n 0) && not (born n))) where
   -- after these nodes the bit is not held
   abbrev Unheld : List ℕ → Type 0
@@ -137,8 +119,8 @@ module _ (nodes : List Node) (born stop seed : ℕ → Bool) (seed_is : (n : ℕ
   pub trace_from_leads : ((k : ℕ) → k < length nodes → Reached nodes k) → (m : ℕ) → m < length nodes → Leads (steps_of false nodes) seed born m → (before : List ℕ) × Trace nodes m before × Unheld (m ∷ before)
   trace_from_leads reached m h (at_seed k is) =
       let parts = and_parts (stop m || eqb m 0) (not (born m)) (sym (seed_is m h) ∙ is) in
-      let off = not_true (born m) parts.1 in
-      elim (or_parts (stop m) (eqb m 0) parts.0) as (λ _. (before : List ℕ) × Trace nodes m before × Unheld (m ∷ before)) [
+      let off = not-true (born m) parts.1 in
+      elim (or_cases (stop m) (eqb m 0) parts.0) as (λ _. (before : List ℕ) × Trace nodes m before × Unheld (m ∷ before)) [
         | inl stopped ↦ let trace = reached_trace nodes m (reached m h) in (trace.0, trace.1, (off, inl stopped))
         | inr start ↦ ([], subst (λ k. Trace nodes k []) (sym (eqb-true m 0 start)) from_start, (off, inr tt))
       ]
@@ -147,11 +129,7 @@ module _ (nodes : List Node) (born stop seed : ℕ → Bool) (seed_is : (n : ℕ
       (p ∷ t.0, goes_on p m t.0 t.1 step, (free, inr t.2))
 
   pub leads_from_trace : (m : ℕ) (before : List ℕ) → m < length nodes → Trace nodes m before → Unheld (m ∷ before) → Leads (steps_of false nodes) seed born m
-  leads_from_trace m before h from_start (off, rest) = at_seed m (seed_is m h ∙ rw off (or_true (stop m)))
-    where
-      or_true : (a : Bool) → ((a || true) && true) ≡ true
-      or_true true = refl
-      or_true false = refl
+  leads_from_trace m before h from_start (off, rest) = at_seed m (seed_is m h ∙ rw (off, or-true (stop m)) refl)
   leads_from_trace m before h (goes_on p k earlier trace step) (off, inl stopped) = at_seed m (seed_is m h ∙ rw (off, stopped) refl)
   leads_from_trace m before h (goes_on p k earlier trace step) (off, inr unheld) = one_more m p step off (leads_from_trace p earlier (slot_within nodes p step.0 m step.1) trace unheld)
 

@@ -1,5 +1,5 @@
--- The edges between blocks: those of the flow that leave a block's last node in the order of the flow, as edges of a flow over
--- blocks. Cited by contracts.
+-- The edges between blocks: those of the flow that leave a block's last node in the order of the flow, as edges of a
+-- flow over blocks. Cited by contracts.
 use Rattle.std.specs.Prelude.{◌≡◌, ℕ, zero, suc, nat_eq, if◌then◌else◌, ◌+◌, ◌<◌, ◌≤◌, Bool, true, false, List, [], ◌∷◌, ◌++◌, length, slice_get, Some}
 use Rattle.flow_graph.specs.declared.edges.Edge.{Edge}
 use Rattle.flow_graph.specs.declared.nodes.Node.{Node}

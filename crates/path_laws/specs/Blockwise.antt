@@ -1,5 +1,5 @@
--- A bit along the nodes of a block, in the order in which the flow passes them: what comes out of a node, of a block, and what
--- a block does to it as a whole. Cited by contracts.
+-- A bit along the nodes of a block, in the order in which the flow passes them: what comes out of a node, of a block,
+-- and what a block does to it as a whole. Cited by contracts.
 use Rattle.std.specs.Prelude.{◌≡◌, ℕ, ◌<◌, Bool, true, false, not, ◌||◌, ◌&&◌, List, [], ◌∷◌, length, reverse}
 use Rattle.flow_graph.specs.declared.nodes.Node.{Node}
 use Rattle.flow_graph.specs.Paths.{HasEdge}
@@ -25,7 +25,8 @@ abbrev pub flow_order : Bool → List ℕ → List ℕ
 flow_order true list = reverse list
 flow_order false list = list
 
--- the answer at a node: against the edges whether its bit comes from a seed, and along them whether that of a predecessor does
+-- the answer at a node: against the edges whether its bit comes from a seed, and along them whether that of a
+-- predecessor does
 abbrev pub HasAnswer : Bool → List Node → (ℕ → Bool) → (ℕ → Bool) → ℕ → Type 0
 HasAnswer true nodes seed block n = Leads (steps_of true nodes) seed block n
 HasAnswer false nodes seed block n = (m : ℕ) × HasEdge nodes m n × Leads (steps_of false nodes) seed block m
@@ -38,18 +39,18 @@ pub record AreBlockedByPaths (count bits : ℕ) (paths : ℕ → List ℕ) (stop
 -- ---- answers
 
 -- what the row of a node begins with: against the edges its seeds, and along them nothing
-abbrev pub begun_bit : Bool → (ℕ → Bool) → ℕ → Bool
-begun_bit true seed n = seed n
-begun_bit false seed n = false
+abbrev pub initial_bit : Bool → (ℕ → Bool) → ℕ → Bool
+initial_bit true seed n = seed n
+initial_bit false seed n = false
 
--- what an edge between blocks brings to the answer at the first node of a block: what comes out of the other block, and against the
--- edges only what the node does not block
+-- what an edge between blocks brings to the answer at the first node of a block: what comes out of the other block, and
+-- against the edges only what the node does not block
 abbrev pub brought : Bool → (ℕ → Bool) → ℕ → Bool → Bool
 brought true block n x = x && not (block n)
 brought false block n x = x
 
--- what the answer at a node brings to that at the next of its block: against the edges what that one does not block, and along them what
--- comes out of the node itself
+-- what the answer at a node brings to that at the next of its block: against the edges what that one does not block,
+-- and along them what comes out of the node itself
 abbrev pub handed_on : Bool → (ℕ → Bool) → (ℕ → Bool) → ℕ → ℕ → Bool → Bool
 handed_on true seed block before n x = x && not (block n)
 handed_on false seed block before n x = passed seed block before x
@@ -58,7 +59,7 @@ handed_on false seed block before n x = passed seed block before x
 pub record AreGrowing (against : Bool) (nodes : List Node) (bits : ℕ) (seed stop : ℕ → ℕ → Bool) (rows : List (List Bool)) : Type 0 where
   pub shape : AreRows (length nodes) bits rows
   pub sound : (n b : ℕ) → n < length nodes → b < bits → has_bit rows b n ≡ true → HasAnswer against nodes (seed b) (stop b) n
-  pub begun : (n b : ℕ) → n < length nodes → b < bits → begun_bit against (seed b) n ≡ true → has_bit rows b n ≡ true
+  pub initial : (n b : ℕ) → n < length nodes → b < bits → initial_bit against (seed b) n ≡ true → has_bit rows b n ≡ true
 
 -- no bit of the answer at node n is missing
 abbrev pub IsWhole : Bool → List Node → ℕ → (ℕ → ℕ → Bool) → (ℕ → ℕ → Bool) → List (List Bool) → ℕ → Type 0

@@ -1,5 +1,5 @@
--- Laws of rows with a bit for each key of a table: rows of false bits, rows in which bits are set one after the other, and rows
--- that are pushed one after the other. For proofs only, here and above.
+-- Laws of rows with a bit for each key of a table: rows of false bits, rows in which bits are set one after the other,
+-- and rows that are pushed one after the other. For proofs only, here and above.
 use Rattle.std.proofs.Common.{◌≡◌, ◌≢◌, ◌↔◌, inl, inr, ℕ, zero, suc, ◌+◌, ◌<◌, ◌≤◌, Bool, true, false, List, [], ◌∷◌, ◌++◌, length, get_or, map, replicate, set, slice_get, take, Option, None, Some, refl, sym, ap, ◌∙◌, subst, true≢false, arith, get_or-set_same, get_or-set_other}
 use Rattle.std.proofs.Math.Seq.{set-append_seam}
 use Rattle.std.proofs.lemmas.Bool.{cases_eq}
@@ -35,7 +35,7 @@ false_rows count bits rows is = (
     row : (n : ℕ) → n < count → row_of rows n ≡ replicate bits false
     row n n_in = ap (λ r. row_of r n) is ∙ get_or-replicate count n (replicate bits false) [] n_in
 
--- the turned row of false ones
+-- the flipped row of false ones
 not_falses : (n : ℕ) → not_bits (replicate n false) ≡ replicate n true
 not_falses zero = refl
 not_falses (suc n) = ap (λ xs. true ∷ xs) (not_falses n)
@@ -156,9 +156,9 @@ last_row : (rows : List (List Bool)) (row : List Bool) → row_of (rows ++ row �
 last_row [] row = refl
 last_row (r ∷ rows) row = last_row rows row
 
--- a row of false ones at the end, turned
-pub last_turned : (rows : List (List Bool)) (bits n : ℕ) → n ≡ length rows → set (rows ++ replicate bits false ∷ []) n (not_bits (row_of (rows ++ replicate bits false ∷ []) n)) ≡ rows ++ replicate bits true ∷ []
-last_turned rows bits n is =
+-- a row of false ones at the end, flipped
+pub last_flipped : (rows : List (List Bool)) (bits n : ℕ) → n ≡ length rows → set (rows ++ replicate bits false ∷ []) n (not_bits (row_of (rows ++ replicate bits false ∷ []) n)) ≡ rows ++ replicate bits true ∷ []
+last_flipped rows bits n is =
     ap (λ k. set (rows ++ replicate bits false ∷ []) k (not_bits (row_of (rows ++ replicate bits false ∷ []) k))) is
     ∙ ap (λ r. set (rows ++ replicate bits false ∷ []) (length rows) (not_bits r)) (last_row rows (replicate bits false))
     ∙ set-append_seam rows (replicate bits false) [] (not_bits (replicate bits false))

@@ -1,5 +1,5 @@
--- Rows with a bit for each key of a table, by nodes and by variables, and the rows of what nodes assign. Cited by contracts,
--- here and above.
+-- Rows with a bit for each key of a table, by nodes and by variables, and the rows of what nodes assign. Cited by
+-- contracts, here and above.
 use Rattle.std.specs.Prelude.{◌≡◌, ◌↔◌, ◌<◌, ◌&&◌, ◌||◌, ℕ, Bool, true, false, nat_eq, List, length, replicate, slice_get, Option, Some, None}
 use Rattle.bit_rows.specs.Bits.{row_of}
 use Rattle.flow_graph.specs.declared.nodes.Node.{Node}
@@ -38,7 +38,8 @@ pub record SetsBitAt (number : ℕ) (vars : List ℕ) (old new : List (List Bool
 
 -- ---- what nodes assign
 
--- of what is said of each variable, what is said of the one that a node assigns; of Start this, and of other nodes `other`
+-- of what is said of each variable, what is said of the one that a node assigns; of Start this, and of other nodes
+-- `other`
 abbrev pub of_assigned : {A : Type 0} → A → A → (ℕ → A) → Option Node → A
 of_assigned at_start other of_var None = other
 of_assigned at_start other of_var (Some (Start next)) = at_start
@@ -50,7 +51,8 @@ of_assigned at_start other of_var (Some (Call (Some x) unit arguments next)) = o
 of_assigned at_start other of_var (Some (Test test taken after)) = other
 of_assigned at_start other of_var (Some (Return a)) = other
 
--- the row of the variable that a node assigns; at Start each of so many bits is `at_start`, and at other nodes none is set
+-- the row of the variable that a node assigns; at Start each of so many bits is `at_start`, and at other nodes none is
+-- set
 abbrev pub assigned_row : Bool → List (List Bool) → ℕ → Option Node → List Bool
 assigned_row at_start by_var bits node = of_assigned (replicate bits at_start) (replicate bits false) (row_of by_var) node
 

@@ -7,8 +7,8 @@ use Rattle.flow_graph.specs.FlowEdges.{AreFlowEdges, edge_at}
 use Rattle.flow_graph.specs.Tables.{number_at}
 use Rattle.path_laws.specs.Paths.{AreRows}
 
--- values are rows of so many bits; what is true at the source of an edge flows on to its target, where that one does not
--- block it
+-- values are rows of so many bits; what is true at the source of an edge flows on to its target, where that one does
+-- not block it
 abbrev pub bit_flow : ℕ → List Edge → (ℕ → ℕ) → ℕ → List (List Bool) → List (List Bool) → Net (List Bool)
 bit_flow nodes edges out bits first block = record {
   nodes = nodes;

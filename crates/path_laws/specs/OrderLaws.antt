@@ -1,6 +1,6 @@
 -- The laws of rows ordered by implication. Cited by the ghost members of `Bits`.
 use Rattle.std.specs.Prelude.{◌≡◌, ◌≢◌, ◌<◌, ◌≤◌, Bool, true, false, not, ◌||◌, ◌&&◌, List, [], ◌∷◌, length, refl}
-use Rattle.std.proofs.lemmas.Bool.{or_left, or_right}
+use Rattle.std.proofs.lemmas.Bool.{and_parts, or_left, or_right}
 use Rattle.std.proofs.Common.{suc, sym, ◌∙◌, ◌⊎◌, inl, inr, arith}
 use Rattle.fix_solve.specs.Order.{OrderLaws, IsLeastUpper}
 use Rattle.bit_rows.specs.BitLaws.{length_minus}
@@ -102,16 +102,11 @@ trues_le [] = omega arith
 trues_le (true ∷ xs) = let a : trues xs ≤ length xs = trues_le xs in omega arith
 trues_le (false ∷ xs) = let a : trues xs ≤ length xs = trues_le xs in omega arith
 
--- what is left of a bit implies the bit
-minus_down : (x s : Bool) → (x && not s) ≡ true → x ≡ true
-minus_down true s h = refl
-minus_down false s h = absurd (cc)
-
 -- what is left of a row is below it
 pub minus_below : (xs ys : List Bool) → length xs ≡ length ys → BelowBits (minus_bits xs ys) xs
 minus_below [] ys e = tt
 minus_below (x ∷ xs) [] e = absurd (omega (arith, e))
-minus_below (x ∷ xs) (y ∷ ys) e = (minus_down x y, minus_below xs ys (let e' : suc (length xs) ≡ suc (length ys) = e in omega arith))
+minus_below (x ∷ xs) (y ∷ ys) e = (λ h. (and_parts x (not y) h).0, minus_below xs ys (let e' : suc (length xs) ≡ suc (length ys) = e in omega arith))
 
 -- what a loop brings to its node is there already
 pub loop_joins : (xs ys : List Bool) → length xs ≡ length ys → IsLeastUpper BelowBits xs (minus_bits xs ys) xs

@@ -1,4 +1,5 @@
--- A path problem as its functions see it: what holds of it, and what the rows on the way to its answers say. Cited by contracts.
+-- A path problem as its functions see it: what holds of it, and what the rows on the way to its answers say. Cited by
+-- contracts.
 use Rattle.std.specs.Prelude.{◌≡◌, ℕ, ◌+◌, ◌*◌, ◌<◌, ◌↔◌, Bool, true, false, List, [], ◌∷◌, length, map, replicate, slice_get, Some}
 use Rattle.flow_graph.specs.declared.edges.Edge.{Edge}
 use Rattle.flow_graph.specs.Graphs.{IsGraph}
@@ -6,7 +7,7 @@ use Rattle.node_list.specs.Lists.{list_at}
 use Rattle.path_laws.specs.declared.between.BlockEdges.{BlockEdges}
 use Rattle.path_laws.specs.declared.problems.Problem.{Problem}
 use Rattle.path_laws.specs.Between.{AreBetween, AreBlockEdges}
-use Rattle.path_laws.specs.Blockwise.{AreGrowing, AreBlockedByPaths, HasAnswer, IsWhole, begun_bit, blocks_some, brought, flow_order, handed_on, passed_all}
+use Rattle.path_laws.specs.Blockwise.{AreGrowing, AreBlockedByPaths, HasAnswer, IsWhole, initial_bit, blocks_some, brought, flow_order, handed_on, passed_all}
 use Rattle.path_laws.specs.Crossings.{push_room}
 use Rattle.path_laws.specs.Leads.{Leads}
 use Rattle.flow_graph.specs.FlowEdges.{StepAlong}
@@ -70,9 +71,9 @@ abbrev pub AreLed : Problem → List Edge → List (List Bool) → Type 0
 AreLed p edges rows = (c b : ℕ) → c < length p.blocks.now.lists → b < p.bits → (has_bit rows b c ≡ true) ↔ Leads (StepAlong edges) (λ k. passed_all (is_seed p b) (is_blocked p b) false (orders p k)) (λ k. blocks_some (is_blocked p b) (orders p k)) c
 
 -- rows of nodes as the answers begin
-pub record AreBegun (p : Problem) (rows : List (List Bool)) : Type 0 where
+pub record AreInitial (p : Problem) (rows : List (List Bool)) : Type 0 where
   pub shape : HaveShape p.graph.now p.bits rows
-  pub are : (n b : ℕ) → n < length p.graph.now.nodes → b < p.bits → has_bit rows b n ≡ begun_bit p.against (is_seed p b) n
+  pub are : (n b : ℕ) → n < length p.graph.now.nodes → b < p.bits → has_bit rows b n ≡ initial_bit p.against (is_seed p b) n
 
 -- rows of nodes to which bits of the answers are joined
 abbrev pub GrowTo : Problem → List (List Bool) → Type 0

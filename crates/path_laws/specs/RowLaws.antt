@@ -1,4 +1,5 @@
--- Rows written one at a time, and their shape. `Written` and `Joined` are cited by contracts, the laws by proofs, also above this crate.
+-- Rows written one at a time, and their shape. `Written` and `Joined` are cited by contracts, the laws by proofs, also
+-- above this crate.
 use Rattle.std.proofs.Common.{◌≡◌, ◌≢◌, ◌||◌, ℕ, ◌<◌, Bool, List, [], length, set, sym, ap, inl, inr, arith, ◌∙◌}
 use Rattle.std.proofs.lemmas.Bool.{cases_eq}
 use Rattle.std.proofs.lemmas.List.{get_or-set_same, get_or-set_other, length-set}

@@ -1,5 +1,5 @@
--- What combined bits say: a conjunction, a disjunction, a negation, a bit that is not set, and two that say the same. For
--- proofs only, here and above.
+-- What combined bits say: a conjunction, a disjunction, a negation, a bit that is not set, and two that say the same.
+-- For proofs only, here and above.
 use Rattle.std.proofs.Common.{◌≡◌, ◌⊎◌, ◌↔◌, ◌||◌, ◌&&◌, not, Bool, true, false, refl, inl, inr, sym, true≢false}
 
 -- both are set

@@ -1,5 +1,5 @@
--- Where the bits of a path problem are seeded, and where they are blocked. Cited by contracts. The two problems on every path are solved by
--- their complements: from where some path ends with no birth.
+-- Where the bits of a path problem are seeded, and where they are blocked. Cited by contracts. The two problems on
+-- every path are solved by their complements: from where some path ends with no birth.
 use Rattle.std.specs.Prelude.{◌≡◌, ℕ, Bool, true, false, nat_eq, if◌then◌else◌, List, length, map, replicate, slice_get}
 use Rattle.std.specs.List.{range_with_len}
 use Rattle.bit_rows.specs.Bits.{minus_bits, not_bits, or_bits, row_of}

@@ -25,9 +25,9 @@ is_on_every Before = true
 is_on_every After = true
 is_on_every Ahead = false
 
--- the answers of its problem are turned into its own: before a node each bit is the opposite but at Start, where it
+-- the answers of its problem are flipped into its own: before a node each bit is the opposite but at Start, where it
 -- stays; after a node each is; ahead none is
-abbrev pub AreTurned : Statement → List (List Bool) → List (List Bool) → Type 0
-AreTurned Before old new = AreAlike old new × ((n : ℕ) → n < 1 → row_of new n ≡ row_of old n) × EachBitFlipped 1 old new
-AreTurned After old new = AreAlike old new × EachBitFlipped 0 old new
-AreTurned Ahead old new = new ≡ old
+abbrev pub AreFlippedFor : Statement → List (List Bool) → List (List Bool) → Type 0
+AreFlippedFor Before old new = AreAlike old new × ((n : ℕ) → n < 1 → row_of new n ≡ row_of old n) × EachBitFlipped 1 old new
+AreFlippedFor After old new = AreAlike old new × EachBitFlipped 0 old new
+AreFlippedFor Ahead old new = new ≡ old

@@ -5,7 +5,7 @@ ghost use Rattle.flow_graph.specs.Edges.{edges_of};
 ghost use Rattle.path_laws.specs.Crossings.{push_room};
 ghost use Rattle.path_laws.specs.Paths.{AreBornAfter, AreBornAhead, AreBornBefore, HaveShape, width};
 ghost use Rattle.path_laws.specs.Seeds.{AreFlowRows};
-ghost use Rattle.path_laws.specs.Statements.{AreTold, AreTurned, goes_against, is_on_every};
+ghost use Rattle.path_laws.specs.Statements.{AreTold, AreFlippedFor, goes_against, is_on_every};
 
 use crate::answers::answers;
 use crate::problems::Problem;
@@ -206,8 +206,8 @@ fn told_from<L: Ledger>(
     told_in(alloc, graph, edges, &blocks, born, stop, steps, statement)
 }
 
-/// The same, with the blocks at hand, and counted. The answers of the statement's problem are turned where it is solved
-/// by its complement.
+/// The same, with the blocks at hand, and counted. The answers of the statement's problem are flipped where it is
+/// solved by its complement.
 fn told_in<L: Ledger>(
     alloc: Global,
     graph: &Graph,
@@ -236,7 +236,7 @@ fn told_in<L: Ledger>(
         stop,
     };
     let mut rows = answers(alloc, &problem, steps)?;
-    turn(&mut rows, statement);
+    flip_for(&mut rows, statement);
     Ok(rows)
 }
 
@@ -262,8 +262,8 @@ fn is_on_every(statement: Statement) -> bool
 
 /// The answers of a problem become those of its statement: before a node each bit is the opposite but at Start, where
 /// it stays; after a node each is; ahead none is.
-fn turn(rows: &mut Rows, statement: Statement)
-    ensures { AreTurned statement rows.old rows.new }
+fn flip_for(rows: &mut Rows, statement: Statement)
+    ensures { AreFlippedFor statement rows.old rows.new }
 {
     match statement {
         Statement::Before => rows.flip_rows(1),

@@ -1,7 +1,7 @@
 // The rows of nodes, from what comes out of the blocks.
 ghost use Rattle.std.specs.Prelude.{◌≡◌, ◌+◌, ◌<◌, length, slice_get, IfOk, Some, true};
 ghost use Rattle.path_laws.specs.Paths.{HaveShape};
-ghost use Rattle.path_laws.specs.Problem.{AreAllBetween, AreBegun, AreLed, GrowTo, HandsOn, HaveAnswers, HaveBlockShape, HaveBlocks, HaveFirsts, IsProblem, TakesIn, orders};
+ghost use Rattle.path_laws.specs.Problem.{AreAllBetween, AreInitial, AreLed, GrowTo, HandsOn, HaveAnswers, HaveBlockShape, HaveBlocks, HaveFirsts, IsProblem, TakesIn, orders};
 
 use crate::bits::Bits;
 use crate::passing::{blocked_at, join_seeds, node_at};
@@ -27,7 +27,7 @@ pub(crate) fn filled(
     requires leads { AreLed problem.now edges.now work.now }
     ensures { IfOk result (HaveAnswers problem.now) }
 {
-    let mut rows = begun(alloc, problem)?;
+    let mut rows = initial_rows(alloc, problem)?;
     come(problem, edges, work, &mut rows);
     for block in 0..problem.blocks.len() {
         fill(problem, block, &mut rows);
@@ -36,9 +36,9 @@ pub(crate) fn filled(
 }
 
 /// The rows with which the answers begin: against the edges the seeds, and along them no bit.
-fn begun(alloc: Global, problem: &Problem<'_>) -> Result<Rows, Memory>
+fn initial_rows(alloc: Global, problem: &Problem<'_>) -> Result<Rows, Memory>
     requires { IsProblem problem.now }
-    ensures { IfOk result (AreBegun problem.now) }
+    ensures { IfOk result (AreInitial problem.now) }
 {
     if !problem.against {
         Rows::new(alloc, problem.graph.len(), problem.bits)
@@ -55,7 +55,7 @@ fn seeds(alloc: Global, problem: &Problem<'_>) -> Result<Rows, Memory>
     requires problem { IsProblem problem.now }
     requires against { problem.now.against ≡ true }
     requires every { problem.now.every ≡ true }
-    ensures { IfOk result (AreBegun problem.now) }
+    ensures { IfOk result (AreInitial problem.now) }
 {
     let mut rows = problem.stop.copied(alloc)?;
     rows.minus_rows(problem.born);
@@ -73,7 +73,7 @@ fn come(problem: &Problem<'_>, edges: &[Edge], work: &Work<Bits>, rows: &mut Row
     requires edges { AreAllBetween problem.now edges.now }
     requires shape { HaveBlockShape problem.now work.now }
     requires leads { AreLed problem.now edges.now work.now }
-    requires rows { AreBegun problem.now rows.old }
+    requires rows { AreInitial problem.now rows.old }
     ensures rows { GrowTo problem.now rows.new }
     ensures firsts { HaveFirsts problem.now rows.new }
 {

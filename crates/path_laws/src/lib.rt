@@ -4,8 +4,8 @@
 //! The theorem that this crate carries is that each answer is exactly its statement on paths, for every graph, loops
 //! without exit included.
 //!
-//! The rows that go in are made here too: the table of the keys that nodes have (`node_keys`), which key of a table each
-//! node has (`key_rows`), and what is said of the variable that a node assigns (`assigned_rows`).
+//! The rows that go in are made here too: the table of the keys that nodes have (`node_keys`), which key of a table
+//! each node has (`key_rows`), and what is said of the variable that a node assigns (`assigned_rows`).
 #![tactic(auto)]
 
 mod answers;

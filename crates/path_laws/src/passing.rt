@@ -56,8 +56,8 @@ pub(crate) fn pass_row(problem: &Problem<'_>, row: &mut Row, node: usize)
     }
 }
 
-/// Joins the seeds of a node to a row: for some path what is born there; for every path what is stopped there, or, where
-/// paths end, everything, without what is born there.
+/// Joins the seeds of a node to a row: for some path what is born there; for every path what is stopped there, or,
+/// where paths end, everything, without what is born there.
 pub(crate) fn join_seeds(problem: &Problem<'_>, rows: &mut Rows, row: usize, node: usize)
     requires problem { IsProblem problem.now }
     requires node { node < length problem.now.graph.now.nodes }

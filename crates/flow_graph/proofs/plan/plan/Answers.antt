@@ -1,7 +1,7 @@
 use Rattle.std.proofs.Common.{◌≡◌, ◌<◌, ◌∙◌, ◌∷◌, [], ap, sym, subst, refl, arith, length, reverse, Some}
 use Rattle.flow_graph.specs.Plans.{IsPlan, next_item}
 use Rattle.flow_graph.specs.Placing.{AreClosed, ArePlaced, ItemsWithin, FirstOpenIsAt, plan_weight}
-use Rattle.flow_graph.proofs.Scans.{next_within, placed_more, plan_lighter, plan_begins, within_more, reverse_more, closed_stays}
+use Rattle.flow_graph.proofs.Scans.{next_within, placed_more, plan_lighter, plan_begins, within_append, reverse_more, closed_stays}
 use Rattle.flow_graph.proofs.plan.plan.Goals as goal
 
 pub loop-item-init : goal.loop-item-init
@@ -36,7 +36,7 @@ loop-item-preserved c =
     let more = ap reverse c.in_ok-add.ensures.items ∙ reverse_more c.loop-item.items.items c.in-Some.item in
     record {
       is_plan = subst (IsPlan nodes c.args.first) (sym more) (e, inv.is_plan);
-      within = subst (ItemsWithin (length nodes)) (sym c.in_ok-add.ensures.items) (within_more (length nodes) c.loop-item.items.items c.in-Some.item inv.within w);
+      within = subst (ItemsWithin (length nodes)) (sym c.in_ok-add.ensures.items) (within_append (length nodes) c.loop-item.items.items (c.in-Some.item ∷ []) inv.within w);
       placed = subst (ArePlaced nodes c.add.new.placed.items) (sym more) (placed_more nodes c.loop-item.placed.items c.add.new.placed.items (reverse c.loop-item.items.items) c.in-Some.item inv.placed w c.in_ok-add.ensures.placed);
       closed = subst (λ l. AreClosed nodes l c.pass_closed-closed.result) c.as_slice-in-Some.ensures.value c.pass_closed-closed.ensures.closed;
       open_ = subst (λ l. FirstOpenIsAt nodes l c.pass_closed-closed.result) c.as_slice-in-Some.ensures.value c.pass_closed-closed.ensures.open;
@@ -47,7 +47,7 @@ pass_closed-closed-requires-clause-items c =
     let nodes = c.args.nodes.now in
     let e : next_item nodes c.args.first (reverse c.loop-item.items.items) ≡ Some c.in-Some.item = ap (λ l. next_item nodes c.args.first (reverse l)) (sym c.as_slice.ensures.value) ∙ sym c.in-Some.ensures in
     let w = next_within nodes c.args.first (reverse c.loop-item.items.items) c.in-Some.item c.requires.within c.requires.first e in
-    subst (ItemsWithin (length nodes)) (sym (c.as_slice-in-Some.ensures.value ∙ c.in_ok-add.ensures.items)) (within_more (length nodes) c.loop-item.items.items c.in-Some.item c.loop-item.invariant.within w)
+    subst (ItemsWithin (length nodes)) (sym (c.as_slice-in-Some.ensures.value ∙ c.in_ok-add.ensures.items)) (within_append (length nodes) c.loop-item.items.items (c.in-Some.item ∷ []) c.loop-item.invariant.within w)
 
 pub pass_closed-closed-requires-clause-placed : goal.pass_closed-closed-requires-clause-placed
 pass_closed-closed-requires-clause-placed c =

@@ -1,7 +1,7 @@
 use Rattle.std.proofs.Common.{◌≡◌, ◌<◌, ◌≤◌, ◌+◌, length, slice_get, Some, refl, inl, inr, sym, ap, arith, ◌∙◌}
 use Rattle.std.proofs.lemmas.Bool.{cases_eq}
 use Rattle.path_laws.specs.Problem.{is_blocked, is_seed, orders}
-use Rattle.path_laws.proofs.Coming.{begun_grow, brought_complete, brought_sound, first_within}
+use Rattle.path_laws.proofs.Coming.{initial_grow, brought_complete, brought_sound, first_within}
 use Rattle.path_laws.proofs.Growing.{growing_more, joined_on, joined_stays}
 use Rattle.path_laws.proofs.Leaving.{between_ends}
 use Rattle.path_laws.proofs.filling.come.Goals as goal
@@ -10,7 +10,7 @@ pub loop-edge-init : goal.loop-edge-init
 loop-edge-init c =
     let p = c.args.problem.now in
     record {
-      rows = begun_grow p.against p.graph.now.nodes p.bits (is_seed p) (is_blocked p) c.args.rows.now c.requires.rows.shape c.requires.rows.are;
+      rows = initial_grow p.against p.graph.now.nodes p.bits (is_seed p) (is_blocked p) c.args.rows.now c.requires.rows.shape c.requires.rows.are;
       taken = λ e n b h. absurd (let none : e < 0 = h in omega arith);
     }
 
@@ -55,5 +55,5 @@ returns-clause-firsts c = λ k n h first b l has.
     let late : length c.args.edges.now ≤ c.loop-edge.edge-index = c.loop-edge-test.false in
     let n_in = first_within p.against nodes p.blocks.now.lists c.requires.problem.blocks_are.are k 0 n h first in
     brought_complete p.against nodes p.blocks.now.lists edges c.requires.edges.0 c.requires.problem.blocks_are.are c.requires.edges.1 c.requires.problem.flow.within p.bits (is_seed p) (is_blocked p) c.args.work.now c.requires.leads b l
-    k n _ h first (inv.rows.begun n b n_in l)
+    k n _ h first (inv.rows.initial n b n_in l)
     (λ e in_list target on. inv.taken e n b (omega (arith, in_list, late)) (ap (λ j. slice_get (orders p j) 0) target ∙ first) l on) has

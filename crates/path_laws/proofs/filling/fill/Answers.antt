@@ -50,7 +50,7 @@ loop-place-preserved c =
             let same : j ≡ n = cc in
             rw same (handed_complete p.against nodes lists c.requires.problem.blocks_are.are p.bits (is_seed p) (is_blocked p) b c.args.block (place - 1) n m c.requires.block at_next was.0
             (has_bit c.loop-place.rows b m) (has_bit c.hand_on.new.rows b n) (inv.here (place - 1) m (omega arith) was.0 b l)
-            (λ seeded. joined_stays p.bits c.loop-place.rows c.hand_on.new.rows n _ made b l n (inv.rows.begun n b at.1 l seeded)) (joined_on p.bits c.loop-place.rows c.hand_on.new.rows n _ made b l) (rw same at has))
+            (λ seeded. joined_stays p.bits c.loop-place.rows c.hand_on.new.rows n _ made b l n (inv.rows.initial n b at.1 l seeded)) (joined_on p.bits c.loop-place.rows c.hand_on.new.rows n _ made b l) (rw same at has))
         | inr d ↦ joined_stays p.bits c.loop-place.rows c.hand_on.new.rows n _ made b l j (inv.here i j (let early' : i < c.loop-place.place + 1 = early in omega (arith, d)) there b l has)
       ];
     }
