@@ -13,15 +13,16 @@ use Rattle.mir_base.specs.LockstepLaws.{lockstep_same, lockstep_cheaper}
 use Rattle.mir_base.specs.FrameLaws.{FrameFits, rhs_fits, first_fits, at_fits, assigned_fits, resumed_fits}
 use Rattle.flow_graph.specs.declared.nodes.Node.{Node}
 use Rattle.flow_graph.specs.declared.nodes.Node.TheVariants.{Start, Skip, Assign, Print, Call, Test, Return}
-use Rattle.flow_graph.specs.Graphs.{IsEdge, node_succs, succs_of}
+use Rattle.flow_graph.specs.Graphs.{IsEdge, node_succs, succs_of, slot_of}
 use Rattle.flow_graph.specs.Machines.{received_from, node_transition, graph_code, graph_machine}
 use Rattle.flow_graph.specs.RedirectLaws.{resumed_place}
 use Rattle.cond_const.specs.declared.known.Known.{Known}
 use Rattle.cond_const.specs.declared.known.Known.TheVariants.{Fixed, Varying}
 use Rattle.cond_const.specs.States.{NodeState, Unreached, Knows, BelowState}
-use Rattle.cond_const.specs.Folding.{resolved_test, folded_rhs, known_rhs, decided_test, after_call, known_after, slot_of, passes_by, passes, passed_along, folded_test, folded_node, folded_at, folded_from, folded_nodes}
+use Rattle.cond_const.specs.Folding.{resolved_test, folded_rhs, known_rhs, decided_test, after_call, known_after, passes_by, passes, passed_along, folded_test, folded_node, folded_at, folded_from, folded_nodes}
 use Rattle.cond_const.specs.Folded.{AreStates}
 use Rattle.cond_const.proofs.Sound.{Agrees, HoldsAt, holds_up, rhs_folds, known_value, resolved_holds, test_decided, agrees_set, agrees_zeros, agrees_start, fits_start, resolved_value, resolved_values}
+use Rattle.flow_graph.specs.BoundLaws.{slot_leads}
 
 -- the same, counted from a number on
 folded_get_from : (k : ℕ) (states : ℕ → NodeState) (nodes : List Node) (n : ℕ) → slice_get (folded_from k states nodes) n ≡ option_map (folded_at (states (k + n))) (slice_get nodes n)
@@ -37,11 +38,6 @@ folded_get states nodes n = folded_get_from 0 states nodes n ∙ ap (λ j. optio
 pub slot_itself : (b : Bool) → nat_eq (slot_of b) (slot_of b) ≡ true
 slot_itself true = refl
 slot_itself false = refl
-
--- leads to the successor that it takes
-pub slot_leads : (test : tests.Test) (taken other : ℕ) (b : Bool) → slice_get (node_succs (Test test taken other)) (slot_of b) ≡ Some (if b then taken else other)
-slot_leads test taken other true = refl
-slot_leads test taken other false = refl
 
 -- both stand at one place, and what is known there holds
 record Together (states : ℕ → NodeState) (f g : Frame) : Type 0 where
@@ -122,7 +118,7 @@ module _ (received : List ℕ) (nodes : List Node) (size : ℕ) (states : ℕ �
         test_alike test taken other (decided_test ks test) says
         (together (at (if test_holds f.values test then taken else other) f)
         (after_edge f.place (slot_of (test_holds f.values test)) (if test_holds f.values test then taken else other) ks (Test test taken other) f.values known here
-        (slot_leads test taken other (test_holds f.values test)) (takes (test_holds f.values test) (decided_test ks test) says) agrees)
+        (slot_leads taken other (test_holds f.values test)) (takes (test_holds f.values test) (decided_test ks test) says) agrees)
         (at_fits (if test_holds f.values test then taken else other) f fits))
     at_node (Return a) here = ap (λ v. record { value = v }) (sym (resolved_value ks f.values a agrees fits.values))
 

@@ -23,10 +23,3 @@ join_anew false b' xs ys zs off on size is = rw on (joins_to (Unreached (length 
 pub join_none : (b b' : Bool) (xs ys : List Known) → b' ≡ false → length xs ≡ length ys → IsLeastUpper BelowState (state_where b xs) (state_where b' ys) (state_where (b || b') xs)
 join_none true b' xs ys off size = rw off (joins_to (Knows xs) (Unreached (length ys)) (Knows xs) size refl)
 join_none false b' xs ys off size = rw off (joins_to (Unreached (length xs)) (Unreached (length ys)) (Unreached (length xs)) size (ap Unreached size))
-
--- the same, where the states have other names
-pub joined_as : (s t u : NodeState) (b b' : Bool) (xs ys zs ws : List Known) → state_where b xs ≡ s → state_where b' ys ≡ t → ws ≡ zs → IsLeastUpper BelowState (state_where b xs) (state_where b' ys) (state_where (b || b') zs) → IsLeastUpper BelowState s t (state_where (b || b') ws)
-joined_as s t u b b' xs ys zs ws p q is h =
-    let h1 = subst (λ a. IsLeastUpper BelowState a (state_where b' ys) (state_where (b || b') zs)) p h in
-    let h2 = subst (λ a. IsLeastUpper BelowState s a (state_where (b || b') zs)) q h1 in
-    subst (λ l. IsLeastUpper BelowState s t (state_where (b || b') l)) (sym is) h2

@@ -8,10 +8,10 @@ use Rattle.cond_const.specs.States.{joined_known, joined_each}
 use Rattle.cond_const.specs.Folding.{known_at}
 
 -- the join, place by place
-length-joined : (xs ys : List Known) → length xs ≡ length ys → length (joined_each xs ys) ≡ length xs
-length-joined [] ys e = refl
-length-joined (x ∷ xs) [] e = absurd (omega (arith, e))
-length-joined (x ∷ xs) (y ∷ ys) e = ap suc (length-joined xs ys (let e' : suc (length xs) ≡ suc (length ys) = e in omega arith))
+length_joined : (xs ys : List Known) → length xs ≡ length ys → length (joined_each xs ys) ≡ length xs
+length_joined [] ys e = refl
+length_joined (x ∷ xs) [] e = absurd (omega (arith, e))
+length_joined (x ∷ xs) (y ∷ ys) e = ap suc (length_joined xs ys (let e' : suc (length xs) ≡ suc (length ys) = e in omega arith))
 
 -- what is known of a variable after a join of two lists
 joined_at : (xs ys : List Known) (k : ℕ) → length xs ≡ length ys → known_at (joined_each xs ys) k ≡ joined_known (known_at xs k) (known_at ys k)
@@ -22,7 +22,7 @@ joined_at (x ∷ xs) (y ∷ ys) (suc k) e = joined_at xs ys k (let e' : suc (len
 
 -- where all places are joined, the lists are
 pub join_done : (xs ys zs : List Known) → length xs ≡ length ys → length zs ≡ length xs → ((k : ℕ) → k < length xs → known_at zs k ≡ joined_known (known_at xs k) (known_at ys k)) → zs ≡ joined_each xs ys
-join_done xs ys zs e len each = ext_get_or Varying zs (joined_each xs ys) (len ∙ sym (length-joined xs ys e)) (λ k h. let h' : k < length xs = omega (arith, len) in each k h' ∙ sym (joined_at xs ys k e))
+join_done xs ys zs e len each = ext_get_or Varying zs (joined_each xs ys) (len ∙ sym (length_joined xs ys e)) (λ k h. let h' : k < length xs = omega (arith, len) in each k h' ∙ sym (joined_at xs ys k e))
 
 -- the places below i are joined, and the others are as they were
 pub record JoinedTo (xs ys zs : List Known) (changed : Bool) (i : ℕ) : Type 0 where

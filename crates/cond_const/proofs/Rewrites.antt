@@ -1,5 +1,5 @@
 -- The nodes of the blocks, rewritten one after the other.
-use Rattle.std.proofs.Common.{◌≡◌, ℕ, ◌+◌, ◌<◌, ◌⊎◌, inl, inr, List, length, take, slice_get, slice_set, Some, option_map, refl, sym, ap, ◌∙◌, subst, arith}
+use Rattle.std.proofs.Common.{◌≡◌, ℕ, ◌+◌, ◌<◌, ◌⊎◌, inl, inr, List, length, take, slice_get, slice_set, Some, option_map, sym, ap, ◌∙◌, subst, arith}
 use Rattle.std.proofs.lemmas.Bool.{cases_eq, cases_lt}
 use Rattle.std.proofs.lemmas.List.{length-set, get_or_default}
 use Rattle.std.proofs.lemmas.Option.{same_Some, slice_get_past, slice_get_within}
@@ -21,13 +21,6 @@ use Rattle.cond_const.proofs.Nodewise.{are_least, state_at, state_of}
 -- ---- the nodes of one block
 
 module _ (received : List ℕ) (nodes : List Node) (list : List ℕ) (s : NodeState) (old : List Node) where
-  pub folds_none : FoldsBlock received nodes list s 0 old old
-  folds_none = record { long = refl; folds = none }
-    where
-      none : (states : ℕ → NodeState) → AreThrough received nodes list s states → (n : ℕ) → IsFoldedAt states nodes old n ⊎ IsAmong list 0 n → IsFoldedAt states nodes old n
-      none states are n (inl before) = before
-      none states are n (inr among) = absurd (let lt : among.0 < 0 = among.1 in omega (arith, lt))
-
   -- the next node
   pub folds_more : (i n : ℕ) (node : Node) (t : NodeState) (made new : List Node) → FoldsBlock received nodes list s i old made → slice_get list i ≡ Some n → slice_get nodes n ≡ Some node → t ≡ through_nodes received nodes (take i list) s → n < length made → new ≡ slice_set made n (folded_at t node) → FoldsBlock received nodes list s (i + 1) old new
   folds_more i n node t made new so_far at here state_is lt new_is = record {
@@ -56,9 +49,6 @@ module _ (received : List ℕ) (nodes : List Node) (list : List ℕ) (s : NodeSt
 -- ---- the nodes of all blocks
 
 module _ (received : List ℕ) (nodes : List Node) (lists : List (List ℕ)) (values : List NodeState) where
-  pub blocks_none : (made : List Node) → length made ≡ length nodes → FoldsBlocks received nodes lists values 0 made
-  blocks_none made long = record { long = long; folds = λ states are b i n list lt. absurd (omega (arith, lt)) }
-
   -- the next block
   pub blocks_more : (b : ℕ) (list : List ℕ) (s : NodeState) (made new : List Node) → FoldsBlocks received nodes lists values b made → slice_get lists b ≡ Some list → s ≡ value_of values b → FoldsBlock received nodes list s (length list) made new → FoldsBlocks received nodes lists values (b + 1) new
   blocks_more b list s made new so_far listed state_is block = record {

@@ -14,7 +14,7 @@ use Rattle.mir_base.specs.BelowLaws.{all_below_left, all_below_right, all_below_
 use Rattle.flow_graph.specs.declared.nodes.Node.{Node}
 use Rattle.flow_graph.specs.declared.nodes.Node.TheVariants.{Start, Skip, Assign, Print, Call, Test, Return}
 use Rattle.flow_graph.specs.Calls.{NodesCall, node_call}
-use Rattle.flow_graph.specs.Graphs.{CanMake, IsEdge, node_succs, node_vars, succs_of}
+use Rattle.flow_graph.specs.Graphs.{CanMake, IsEdge, node_succs, node_vars, succs_of, slot_of}
 use Rattle.flow_graph.specs.NodeLaws.{mapped_from}
 use Rattle.cond_const.specs.declared.known.Known.{Known}
 use Rattle.cond_const.specs.declared.known.Known.TheVariants.{Fixed, Varying}
@@ -22,8 +22,9 @@ use Rattle.cond_const.specs.declared.identities.Identity.{Identity}
 use Rattle.cond_const.specs.declared.identities.Identity.TheVariants.{Absent, Itself, Always}
 use Rattle.cond_const.specs.Identities.{identity_same, identity_left, identity_right}
 use Rattle.cond_const.specs.States.{NodeState, Unreached, Knows}
-use Rattle.cond_const.specs.Folding.{known_at, resolved_as, resolved, resolved_rhs, resolved_test, by_identity, folded_binary, folded, folded_rhs, decided_test, slot_of, passes_by, passes, folded_test, folded_node, folded_at, folded_from, folded_nodes}
-use Rattle.cond_const.proofs.Folds.{folded_get, slot_itself, slot_leads}
+use Rattle.cond_const.specs.Folding.{known_at, resolved_as, resolved, resolved_rhs, resolved_test, by_identity, folded_binary, folded, folded_rhs, decided_test, passes_by, passes, folded_test, folded_node, folded_at, folded_from, folded_nodes}
+use Rattle.cond_const.proofs.Folds.{folded_get, slot_itself}
+use Rattle.flow_graph.specs.BoundLaws.{slot_leads}
 
 -- as many nodes
 length_from : (n : ℕ) (states : ℕ → NodeState) (nodes : List Node) → length (folded_from n states nodes) ≡ length nodes
@@ -50,7 +51,7 @@ test_back : (ks : List Known) (test : tests.Test) (taken other : ℕ) (o : Optio
 test_back ks test taken other None is zero s e = (0, e, ap (passes_by 0) is)
 test_back ks test taken other None is (suc zero) s e = (1, e, ap (passes_by 1) is)
 test_back ks test taken other None is (suc (suc slot)) s e = cc
-test_back ks test taken other (Some b) is zero s e = (slot_of b, slot_leads test taken other b ∙ e, ap (passes_by (slot_of b)) is ∙ slot_itself b)
+test_back ks test taken other (Some b) is zero s e = (slot_of b, slot_leads taken other b ∙ e, ap (passes_by (slot_of b)) is ∙ slot_itself b)
 test_back ks test taken other (Some b) is (suc slot) s e = cc
 
 -- each edge of what a node becomes is an edge of the node that passes its state

@@ -1,5 +1,5 @@
 -- What is known of the variables says what a folded node does.
-use Rattle.std.proofs.Common.{◌≡◌, ◌≢◌, ℕ, zero, suc, ◌≤◌, inl, inr, Bool, true, false, not, if◌then◌else◌, nat_eq, eqb-true, eq-eqb, List, [], ◌∷◌, length, ℤ, pos, Some, None, refl, sym, ap, ◌∙◌, subst, arith, FitsSigned, w64, replicate, slice_set, slice_index_or, map}
+use Rattle.std.proofs.Common.{◌≡◌, ◌≢◌, ℕ, zero, suc, ◌≤◌, inl, inr, Bool, true, false, not, if◌then◌else◌, nat_eq, eqb-true, eq-eqb, List, [], ◌∷◌, length, ℤ, pos, Some, None, refl, sym, ap, ◌∙◌, subst, arith, w64, replicate, slice_set, slice_index_or, map}
 use Rattle.std.proofs.lemmas.Int.{SFits-int_wrap, int_wrap_fits}
 use Rattle.std.proofs.lemmas.Bool.{cases_lt}
 use Rattle.std.proofs.lemmas.List.{get_or-set_same, get_or-set_other, set_past, get_or_past}
@@ -18,7 +18,7 @@ use Rattle.mir_base.specs.Frames.{Values, all_zero, with_value}
 use Rattle.mir_base.specs.Units.{operand_value, test_holds}
 use Rattle.mir_base.specs.Expressions.{rhs_traps, rhs_value, rhs_count}
 use Rattle.mir_base.specs.Runs.{AreNumbers}
-use Rattle.mir_base.specs.FrameLaws.{ValuesFit, operand_fits, argument_fits}
+use Rattle.mir_base.specs.FrameLaws.{ValuesFit, operand_fits, argument_fits, with_value_fits}
 use Rattle.flow_graph.specs.ListLaws.{cons_same}
 use Rattle.flow_graph.specs.Machines.{received_from}
 use Rattle.cond_const.specs.declared.known.Known.{Known}
@@ -73,7 +73,7 @@ pub resolved_values : (ks : List Known) (values : Values) (operands : List Opera
 resolved_values ks values [] agrees fits = refl
 resolved_values ks values (a ∷ operands) agrees fits = cons_same (resolved_value ks values a agrees fits) (resolved_values ks values operands agrees fits)
 
--- the second right side does what the first does, and counts no more
+-- the second right side does what the first does, and evaluates no more operators
 pub record FoldsTo (values : Values) (rhs rhs' : Rhs) : Type 0 where
   pub traps : rhs_traps values rhs' ≡ rhs_traps values rhs
   pub value : rhs_value values rhs' ≡ rhs_value values rhs
@@ -221,15 +221,7 @@ agrees_varying (x ∷ xs) arguments i ks values agrees =
 pub agrees_start : (received : List ℕ) (arguments : List ℤ) (n : ℕ) → Agrees (start_known received n) (received_from 0 received arguments all_zero)
 agrees_start received arguments n = agrees_varying received arguments 0 (replicate n (Fixed (pos 0))) all_zero (agrees_zeros n)
 
--- values stay signed 64-bit numbers
-fits_set : (values : Values) (x : ℕ) (v : ℤ) → ValuesFit values → FitsSigned w64 v → ValuesFit (with_value x v values)
-fits_set values x v fits one = record { fit = λ y. cases y (nat_eq y x) }
-  where
-    cases : (y : ℕ) (t : Bool) → FitsSigned w64 (if t then v else values y)
-    cases y true = one
-    cases y false = fits.fit y
-
--- 0 is one
+-- all values 0 are signed 64-bit numbers
 zeros_fit : ValuesFit all_zero
 zeros_fit = record { fit = λ x. zero_fits }
 
@@ -237,7 +229,7 @@ zeros_fit = record { fit = λ x. zero_fits }
 fits_received : (received : List ℕ) (arguments : List ℤ) (i : ℕ) (values : Values) → AreNumbers arguments → ValuesFit values → ValuesFit (received_from i received arguments values)
 fits_received [] arguments i values numbers fits = fits
 fits_received (x ∷ xs) arguments i values numbers fits =
-    fits_received xs arguments (suc i) (with_value x (slice_index_or arguments i (pos 0)) values) numbers (fits_set values x (slice_index_or arguments i (pos 0)) fits (argument_fits arguments i numbers))
+    fits_received xs arguments (suc i) (with_value x (slice_index_or arguments i (pos 0)) values) numbers (with_value_fits x (slice_index_or arguments i (pos 0)) values (argument_fits arguments i numbers) fits)
 
 -- for all arguments
 pub fits_start : (received : List ℕ) (arguments : List ℤ) → AreNumbers arguments → ValuesFit (received_from 0 received arguments all_zero)

@@ -6,10 +6,6 @@ use Rattle.flow_graph.specs.declared.nodes.Node.{Node}
 use Rattle.flow_graph.specs.Tables.{number_at}
 use Rattle.cond_const.specs.Blockwise.{AreTargetsBelow, IsTargetOf, block_at, last_of}
 
--- of no blocks
-pub targets_none : (nodes : List Node) (lists : List (List ℕ)) (targets : List ℕ) → targets ≡ [] → AreTargetsBelow nodes lists 0 targets
-targets_none nodes lists targets is = record { long = ap length is; each = λ e lt. absurd (omega (arith, lt)) }
-
 -- of one block more
 pub targets_more : (nodes : List Node) (lists : List (List ℕ)) (b last taken other : ℕ) (targets more : List ℕ) → AreTargetsBelow nodes lists b targets → last_of (block_at lists b) ≡ last → IsTargetOf nodes lists last 0 taken → IsTargetOf nodes lists last 1 other → more ≡ (targets ++ taken ∷ []) ++ other ∷ [] → AreTargetsBelow nodes lists (b + 1) more
 targets_more nodes lists b last taken other targets more are last_is is_taken is_other more_is = record {

@@ -1,5 +1,5 @@
--- The states as a flow over blocks: a state for each block, which is that of its first node. Cited by contracts of private
--- functions and by the ghost members of `StateFlow`.
+-- The states as a flow over blocks: a state for each block, which is that of its first node. Cited by contracts of
+-- private functions and by the ghost members of `StateFlow`.
 use Rattle.std.specs.Prelude.{◌≡◌, ℕ, ◌+◌, ◌*◌, ◌-◌, ◌<◌, ◌/◌, ◌%◌, if◌then◌else◌, nat_eq, List, [], ◌∷◌, length, pos, replicate, slice_get, slice_index_or, take, Option, Some, None}
 use Rattle.fix_solve.specs.Net.{Net, HoldsLeast}
 use Rattle.flow_graph.specs.declared.nodes.Node.{Node}

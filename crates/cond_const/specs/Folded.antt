@@ -12,8 +12,8 @@ use Rattle.cond_const.specs.declared.known.Known.{Known}
 use Rattle.cond_const.specs.States.{NodeState, Knows, BelowState, is_reached, size_of}
 use Rattle.cond_const.specs.Folding.{passed_along, entry_state, folded_nodes, resolved}
 
--- a state for each node, each about so many variables, so that the entry's state is below that of Start, and what passes
--- along each edge is below the state of the node to which the edge leads; each state is below itself
+-- a state for each node, each about so many variables, so that the entry's state is below that of Start, and what
+-- passes along each edge is below the state of the node to which the edge leads; each state is below itself
 pub record AreStates (received : List ℕ) (nodes : List Node) (size : ℕ) (states : ℕ → NodeState) : Type 0 where
   pub sizes : (n : ℕ) → n < length nodes → size_of (states n) ≡ size
   pub start : BelowState (entry_state size) (states 0)
@@ -34,8 +34,8 @@ pub record AreFolded (graph : GraphShape) (nodes : List Node) : Type 0 where
   pub least : HasLeastStates graph states
   pub are : nodes ≡ folded_nodes states graph.nodes
 
--- the graph is made of what the nodes of the first become by its least states, and of these exactly those are kept whose
--- state is reached
+-- the graph is made of what the nodes of the first become by its least states, and of these exactly those are kept
+-- whose state is reached
 pub record IsFolded (graph folded : GraphShape) : Type 0 where
   pub states : ℕ → NodeState
   pub least : HasLeastStates graph states

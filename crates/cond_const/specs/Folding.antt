@@ -18,6 +18,7 @@ use Rattle.cond_const.specs.declared.identities.Identity.{Identity}
 use Rattle.cond_const.specs.declared.identities.Identity.TheVariants.{Absent, Itself, Always}
 use Rattle.cond_const.specs.Identities.{identity_same, identity_left, identity_right}
 use Rattle.cond_const.specs.States.{NodeState, Unreached, Knows}
+use Rattle.flow_graph.specs.Graphs.{slot_of}
 
 -- what is known of a variable
 abbrev pub known_at : List Known → ℕ → Known
@@ -130,10 +131,6 @@ known_after received (Print a next) known = known
 known_after received (Call into unit operands next) known = after_call into known
 known_after received (Test test taken other) known = known
 known_after received (Return a) known = known
-
--- the slot of the edge that a test takes: 0 of `taken`, 1 of `other`
-abbrev pub slot_of : Bool → ℕ
-slot_of holds = if holds then 0 else 1
 
 -- a decided test passes its state along the edge that it takes, and one that is not decided along both
 abbrev pub passes_by : ℕ → Option Bool → Bool

@@ -1,5 +1,5 @@
--- The identities: what an operator gives on a variable and itself, or on a variable and a constant, whatever the value of
--- the variable is. Cited by contracts.
+-- The identities: what an operator gives on a variable and itself, or on a variable and a constant, whatever the value
+-- of the variable is. Cited by contracts.
 use Rattle.std.specs.Prelude.{◌≡◌, Bool, false, if◌then◌else◌, nat_eq, ℤ, pos, negsuc}
 use Rattle.std.specs.Ordering.{int_eq}
 use Rattle.mir_base.specs.declared.operators.Op.{Op}

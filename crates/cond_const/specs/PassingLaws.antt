@@ -1,5 +1,5 @@
--- What passes along an edge is monotone, keeps the number of variables, and nothing passes where there is no edge. For proofs
--- only.
+-- What passes along an edge is monotone, keeps the number of variables, and nothing passes where there is no edge. For
+-- proofs only.
 use Rattle.std.proofs.Common.{◌≡◌, ℕ, zero, suc, ◌<◌, Bool, true, false, if◌then◌else◌, nat_eq, nat_lt, eqb-true, List, [], ◌∷◌, length, replicate, slice_get, ℤ, pos, Option, Some, None, refl, sym, ap, ◌∙◌, subst, arith, length-set, slice_set}
 use Rattle.std.proofs.lemmas.Bool.{ltb-true, ne_eqb}
 use Rattle.std.proofs.lemmas.List.{length-replicate}
@@ -254,25 +254,28 @@ after_mono received (Test test taken other) xs ys p = p
 after_mono received (Return a) xs ys p = p
 
 -- it speaks of equally many variables
-length-varying : (received : List ℕ) (ks : List Known) → length (all_varying received ks) ≡ length ks
-length-varying [] ks = refl
-length-varying (x ∷ xs) ks = length-varying xs (slice_set ks x Varying) ∙ length-set ks x Varying
+length_varying : (received : List ℕ) (ks : List Known) → length (all_varying received ks) ≡ length ks
+length_varying [] ks = refl
+length_varying (x ∷ xs) ks = length_varying xs (slice_set ks x Varying) ∙ length-set ks x Varying
 
-length-start : (received : List ℕ) (n : ℕ) → length (start_known received n) ≡ n
-length-start received n = length-varying received (replicate n (Fixed (pos 0))) ∙ length-replicate n (Fixed (pos 0))
+-- after Start as many variables are known
+length_start : (received : List ℕ) (n : ℕ) → length (start_known received n) ≡ n
+length_start received n = length_varying received (replicate n (Fixed (pos 0))) ∙ length-replicate n (Fixed (pos 0))
 
-length-after_call : (into : Option ℕ) (ks : List Known) → length (after_call into ks) ≡ length ks
-length-after_call None ks = refl
-length-after_call (Some x) ks = length-set ks x Varying
+-- and after a call as many as before
+length_after_call : (into : Option ℕ) (ks : List Known) → length (after_call into ks) ≡ length ks
+length_after_call None ks = refl
+length_after_call (Some x) ks = length-set ks x Varying
 
-length-after : (received : List ℕ) (node : Node) (ks : List Known) → length (known_after received node ks) ≡ length ks
-length-after received (Start next) ks = length-start received (length ks)
-length-after received (Skip next) ks = refl
-length-after received (Assign x rhs next) ks = length-set ks x (known_rhs ks rhs)
-length-after received (Print a next) ks = refl
-length-after received (Call into unit operands next) ks = length-after_call into ks
-length-after received (Test test taken other) ks = refl
-length-after received (Return a) ks = refl
+-- and so after each node
+length_after : (received : List ℕ) (node : Node) (ks : List Known) → length (known_after received node ks) ≡ length ks
+length_after received (Start next) ks = length_start received (length ks)
+length_after received (Skip next) ks = refl
+length_after received (Assign x rhs next) ks = length-set ks x (known_rhs ks rhs)
+length_after received (Print a next) ks = refl
+length_after received (Call into unit operands next) ks = length_after_call into ks
+length_after received (Test test taken other) ks = refl
+length_after received (Return a) ks = refl
 
 -- what passes, where it is known whether it does
 along_by : List ℕ → Node → List Known → Bool → NodeState
@@ -281,7 +284,7 @@ along_by received node ks b = (if b then Knows (known_after received node ks) el
 -- it has the size of the state
 by_size : (received : List ℕ) (node : Node) (ks : List Known) (b : Bool) → size_of (along_by received node ks b) ≡ length ks
 unfolding along_by
-by_size received node ks true = length-after received node ks
+by_size received node ks true = length_after received node ks
 by_size received node ks false = refl
 
 -- the number of variables stays

@@ -17,8 +17,8 @@ IsFoldedAt states nodes made n = (node : Node) → slice_get nodes n ≡ Some no
 abbrev pub IsAmong : List ℕ → ℕ → ℕ → Type 0
 IsAmong list count n = (i : ℕ) × (i < count) × (slice_get list i ≡ Some n)
 
--- the first `count` of these nodes have become what they become, by states that pass from the first, and so have those that
--- had before
+-- the first `count` of these nodes have become what they become, by states that pass from the first, and so have those
+-- that had before
 pub record FoldsBlock (received : List ℕ) (nodes : List Node) (list : List ℕ) (s : NodeState) (count : ℕ) (old new : List Node) : Type 0 where
   pub long : length new ≡ length old
   pub folds : (states : ℕ → NodeState) → AreThrough received nodes list s states → (n : ℕ) → IsFoldedAt states nodes old n ⊎ IsAmong list count n → IsFoldedAt states nodes new n

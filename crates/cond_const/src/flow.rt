@@ -16,9 +16,9 @@ use std::alloc::Global;
 use std::marker::PhantomData;
 use std::sync::ledger::Ledger;
 
-/// States flow from block to block. Block b has two edges, numbered 2b and 2b + 1: those at the slots 0 and 1 of its last
-/// node. `targets` has the block to which each leads; where there is no such slot, nothing passes, and it may be any.
-/// `entry` is the block in which Start stands, and `zeros` has the constant 0 for each variable.
+/// States flow from block to block. Block b has two edges, numbered 2b and 2b + 1: those at the slots 0 and 1 of its
+/// last node. `targets` has the block to which each leads; where there is no such slot, nothing passes, and it may be
+/// any. `entry` is the block in which Start stands, and `zeros` has the constant 0 for each variable.
 #[derive(Drop)]
 pub(crate) struct StateFlow<'a, L: Ledger> {
     pub(crate) graph: &'a Graph,

@@ -1,4 +1,5 @@
--- The bits of the rows of copies: what the variable that a node assigns says of a copy, and rows as functions of their number.
+-- The bits of the rows of copies: what the variable that a node assigns says of a copy, and rows as functions of their
+-- number.
 use Rattle.std.proofs.Common.{rules, ◌≡◌, inl, inr, ℕ, ◌≤◌, Bool, false, List, [], length, get_or, slice_get, Option, Some, sym, ap, ◌∙◌, arith}
 use Rattle.std.proofs.Math.Path.{fun_ext}
 use Rattle.std.proofs.lemmas.Bool.{cases_lt}

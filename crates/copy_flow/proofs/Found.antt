@@ -1,5 +1,5 @@
--- A copy that holds somewhere is a node of the graph, so it stands in the table, and the variable that is read is found by
--- its row.
+-- A copy that holds somewhere is a node of the graph, so it stands in the table, and the variable that is read is found
+-- by its row.
 use Rattle.std.proofs.Common.{◌≡◌, ◌≢◌, ℕ, zero, suc, ◌<◌, ◌⊎◌, inl, inr, Bool, true, false, if◌then◌else◌, nat_eq, ◌&&◌, eqb-true, eq-eqb, Contains, List, [], ◌∷◌, length, slice_get, Option, Some, None, refl, sym, ap, ◌∙◌, subst, true≢false, arith}
 use Rattle.std.proofs.lemmas.Bool.{and_parts, ne_eqb}
 use Rattle.std.proofs.lemmas.Option.{slice_get-get_or}

@@ -1,6 +1,6 @@
--- What is read by the bits that the row of a variable and the row of a node have in common, and the nodes that have been read
--- anew.
-use Rattle.std.proofs.Common.{◌≡◌, ℕ, ◌+◌, ◌<◌, ◌≤◌, inl, inr, Bool, true, false, nat_eq, eqb-true, List, [], ◌∷◌, ◌++◌, length, slice_get, Some, option_map, sym, ap, ◌∙◌, true≢false, arith}
+-- What is read by the bits that the row of a variable and the row of a node have in common, and the nodes that have
+-- been read anew.
+use Rattle.std.proofs.Common.{◌≡◌, ℕ, ◌+◌, ◌<◌, ◌≤◌, inl, inr, Bool, true, nat_eq, eqb-true, List, [], ◌∷◌, ◌++◌, length, slice_get, Some, option_map, sym, ap, ◌∙◌, true≢false, arith}
 use Rattle.std.proofs.lemmas.Bool.{and_from, and_parts, cases_eq, cases_lt}
 use Rattle.std.proofs.lemmas.Option.{slice_get_past}
 use Rattle.std.proofs.lemmas.List.{length-append}

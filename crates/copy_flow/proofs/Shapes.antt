@@ -1,4 +1,5 @@
--- The copied graph has the shape of the graph: the same edges, no other variables and calls, and each division in its place.
+-- The copied graph has the shape of the graph: the same edges, no other variables and calls, and each division in its
+-- place.
 use Rattle.std.proofs.Common.{◌≡◌, ℕ, suc, ◌<◌, Bool, true, false, ◌&&◌, if◌then◌else◌, List, [], ◌∷◌, ◌++◌, length, map, flat_map, slice_get, Option, Some, None, option_map, refl, sym, ap, ◌∙◌, subst}
 use Rattle.std.proofs.lemmas.List.{length-map}
 use Rattle.mir_base.specs.declared.operators.Op.{Op}

@@ -142,9 +142,3 @@ pub reread_count : (read : ℕ → ℕ) (rhs : Rhs) → rhs_count (renamed_rhs r
 reread_count read (Plain a) = refl
 reread_count read (Unary op a) = refl
 reread_count read (Binary op a b) = refl
-
--- a right side that is a variable alone counts nothing
-pub var_count : (w : ℕ) (rhs : Rhs) → is_var w rhs ≡ true → rhs_count rhs ≡ 0
-var_count w (Plain a) is = refl
-var_count w (Unary op a) is = absurd (true≢false (sym is))
-var_count w (Binary op a b) is = absurd (true≢false (sym is))

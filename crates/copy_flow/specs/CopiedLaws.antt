@@ -1,5 +1,6 @@
--- Laws: a variable is a copy of one variable at most, and a graph has one copied graph. For proofs only, of mir_opt too.
-use Rattle.std.proofs.Common.{◌≡◌, ℕ, ◌<◌, true, false, nat_eq, inl, inr, List, [], ◌∷◌, length, slice_get, Option, Some, None, option_map, refl, sym, ap, ◌∙◌, eqb-true, true≢false}
+-- Laws: a variable is a copy of one variable at most, and a graph has one copied graph. For proofs only, of mir_opt
+-- too.
+use Rattle.std.proofs.Common.{◌≡◌, ℕ, ◌<◌, true, nat_eq, inl, inr, List, [], ◌∷◌, length, slice_get, Option, Some, None, option_map, refl, sym, ap, ◌∙◌, eqb-true, true≢false}
 use Rattle.std.proofs.Math.Path.{fun_ext}
 use Rattle.std.proofs.lemmas.Bool.{and_parts}
 use Rattle.std.proofs.lemmas.Option.{slice_get_within}

@@ -1,5 +1,5 @@
--- Copies: after `v <- w` the two variables have one value as long as neither is assigned, so w can be read in the place of
--- v. Cited by contracts.
+-- Copies: after `v <- w` the two variables have one value as long as neither is assigned, so w can be read in the place
+-- of v. Cited by contracts.
 use Rattle.std.specs.Prelude.{◌≡◌, ◌≢◌, ℕ, Bool, false, nat_eq, ◌&&◌, ◌||◌, ◌⊎◌, List, slice_get, Option, Some, None}
 use Rattle.mir_base.specs.declared.instructions.Operand.TheVariants.{Var, Const}
 use Rattle.mir_base.specs.declared.instructions.Rhs.{Rhs}
@@ -40,8 +40,8 @@ assigns_either graph v w (Some node) = assigns graph v node || assigns graph w n
 abbrev pub ends_at : GraphShape → ℕ → ℕ → ℕ → Bool
 ends_at graph v w n = assigns_either graph v w (slice_get graph.nodes n)
 
--- v is a copy of w at node n: w is another variable than v, node n is reached, and on every path from Start to it there is,
--- before n, a node `v <- w` after which, before n, no node assigns v or w
+-- v is a copy of w at node n: w is another variable than v, node n is reached, and on every path from Start to it there
+-- is, before n, a node `v <- w` after which, before n, no node assigns v or w
 pub record IsCopyOf (graph : GraphShape) (v w n : ℕ) : Type 0 where
   pub apart : w ≢ v
   pub reached : Reached graph.nodes n

@@ -63,8 +63,8 @@ pub record IsFirstInBoth (row other : List Bool) (k : ℕ) : Type 0 where
 abbrev pub HaveNoneInBoth : List Bool → List Bool → Type 0
 HaveNoneInBoth row other = (k : ℕ) → in_both row other k ≡ false
 
--- the variable that is read for v where this row says which copies of the table hold: the source of the first one in v, and
--- v where there is none
+-- the variable that is read for v where this row says which copies of the table hold: the source of the first one in v,
+-- and v where there is none
 abbrev pub read_in : List VarCopy → List Bool → ℕ → ℕ
 read_in [] row v = v
 read_in (c ∷ table) [] v = v

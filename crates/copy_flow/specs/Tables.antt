@@ -37,3 +37,12 @@ pub record AreCopies (vars : ℕ) (table : List VarCopy) : Type 0 where
 -- each copy that a node is stands in the table
 abbrev pub HasCopies : List Node → List VarCopy → Type 0
 HasCopies nodes table = (n : ℕ) (c : VarCopy) → HasKey copy_of nodes c n → Contains table c
+
+-- each copy of the table is some node
+abbrev pub HasOnlyCopies : List Node → List VarCopy → Type 0
+HasOnlyCopies nodes table = (c : VarCopy) → Contains table c → (n : ℕ) × HasKey copy_of nodes c n
+
+-- of any two copies of the table, a node that is the earlier one stands before each node that is the later one
+abbrev pub AreInNodeOrder : List Node → List VarCopy → Type 0
+AreInNodeOrder nodes table = (i j : ℕ) (c d : VarCopy) → i < j → slice_get table i ≡ Some c → slice_get table j ≡ Some d
+    → (m : ℕ) → HasKey copy_of nodes d m → (n : ℕ) × (n < m) × HasKey copy_of nodes c n

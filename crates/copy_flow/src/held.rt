@@ -1,6 +1,7 @@
 // At which nodes each copy holds.
 ghost use Rattle.std.specs.Prelude.{length, IfOk};
-ghost use Rattle.copy_flow.specs.Tables.{AreCopies, HasCopies};
+ghost use Rattle.mir_base.specs.Shapes.{AllDiffer};
+ghost use Rattle.copy_flow.specs.Tables.{AreCopies, AreInNodeOrder, HasCopies, HasOnlyCopies};
 ghost use Rattle.path_laws.specs.KeyRows.{AreKeyRows};
 ghost use Rattle.copy_flow.specs.Rows.{AreHeldRows, AreTargetRows, IsLookup, is_born, is_ended};
 
@@ -25,11 +26,19 @@ pub struct HeldCopies {
 }
 
 impl HeldCopies {
-    /// The distinct copies of a graph, and where they hold. It fails only with `Memory`.
+    /// The distinct copies of a graph, in order of the first node that is each, and where they hold. It fails only with
+    /// `Memory`.
     pub fn of(alloc: Global, graph: &Graph) -> Result<HeldCopies, Memory>
         ensures lookup { IfOk result (IsLookup (length graph.now.vars) (length graph.now.nodes)) }
         ensures held { IfOk result (λ copies. AreHeldRows graph.now copies.table copies.held) }
+
+        // the table has the copies that the nodes are, and no others
         ensures all { IfOk result (λ copies. HasCopies graph.now.nodes copies.table) }
+        ensures only { IfOk result (λ copies. HasOnlyCopies graph.now.nodes copies.table) }
+
+        // each once, in order of the first node that is each
+        ensures differ { IfOk result (λ copies. AllDiffer copies.table) }
+        ensures order { IfOk result (λ copies. AreInNodeOrder graph.now.nodes copies.table) }
     {
         let table = table_of(alloc, graph)?;
         let targets = side_rows(alloc, graph.vars().len(), &table, Side::Target)?;

@@ -1,6 +1,7 @@
 // The distinct copies of a graph.
 ghost use Rattle.std.specs.Prelude.{◌≡◌, length, IfOk};
-ghost use Rattle.copy_flow.specs.Tables.{AreCopies, HasCopies, copy_between, copy_of};
+ghost use Rattle.mir_base.specs.Shapes.{AllDiffer};
+ghost use Rattle.copy_flow.specs.Tables.{AreCopies, AreInNodeOrder, HasCopies, HasOnlyCopies, copy_between, copy_of};
 
 use crate::keys::AsCopy;
 use flow_graph::{Graph, Node};
@@ -22,6 +23,9 @@ pub struct VarCopy {
 pub(crate) fn table_of(alloc: Global, graph: &Graph) -> Result<KeyTable<VarCopy>, Memory>
     ensures copies { IfOk result (AreCopies (length graph.now.vars)) }
     ensures all { IfOk result (HasCopies graph.now.nodes) }
+    ensures only { IfOk result (HasOnlyCopies graph.now.nodes) }
+    ensures differ { IfOk result AllDiffer }
+    ensures order { IfOk result (AreInNodeOrder graph.now.nodes) }
 {
     let nodes = graph.nodes();
     let table = node_keys(alloc, nodes, &AsCopy)?;

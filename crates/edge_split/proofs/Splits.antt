@@ -23,9 +23,10 @@ use Rattle.flow_graph.specs.Paths.{HasEdge}
 use Rattle.flow_graph.specs.PredLaws.{skip_once}
 use Rattle.node_list.specs.Lists.{times_in}
 use Rattle.edge_split.specs.Split.{IsEdgeSplit, is_join, through_skips, with_succs, rerouted, split_nodes}
-use Rattle.edge_split.proofs.Targets.{edge_target, targets, edges_targets, edge_place, place_edge, times_append, preds_times}
+use Rattle.edge_split.proofs.Targets.{edge_target, targets, edges_targets, edge_place, place_edge, preds_times}
 use Rattle.edge_split.proofs.Through.{with_vars, with_call, with_start, was_start, with_through, rerouted_targets, rerouted_long, in_through, through_new, AllUnder, old_times, new_once, joins_none}
 use Rattle.edge_split.proofs.Passing.{Way, Ways, Passes, passes_same, passes_cheaper}
+use Rattle.node_list.specs.ListedLaws.{times_in_append}
 
 -- ---- the new Skips by target
 
@@ -201,7 +202,7 @@ module _ (vars : List (List ℕ)) (received : List ℕ) (nodes : List Node) (gra
 
   -- an old node that is entered more than once in the split graph is a join, and a new Skip is entered once at most
   after_times : (s : ℕ) → length (preds_of (after nodes) s) ≡ times_in s (through_skips join (length nodes) (targets nodes)) + times_in s joins
-  after_times s = preds_times (after nodes) s ∙ ap (times_in s) after_targets ∙ times_append s (through_skips join (length nodes) (targets nodes)) joins
+  after_times s = preds_times (after nodes) s ∙ ap (times_in s) after_targets ∙ times_in_append s (through_skips join (length nodes) (targets nodes)) joins
 
   old_preds : (s : ℕ) → s < length nodes → length (preds_of (after nodes) s) ≡ length (preds_of nodes s)
   old_preds s lt = after_times s ∙ old_times join s (targets nodes) (length nodes) lt ∙ sym (preds_times nodes s)

@@ -52,11 +52,6 @@ place_edge nodes i s e =
 
 -- ---- how often a number is among them
 
--- a number is in two lists as often as in the one and in the other
-pub times_append : (n : ℕ) (xs ys : List ℕ) → times_in n (xs ++ ys) ≡ times_in n xs + times_in n ys
-times_append n [] ys = omega arith
-times_append n (t ∷ xs) ys = omega (arith, times_append n xs ys)
-
 -- among any edges, each that leads to the node gives it one predecessor
 among_times : (s : ℕ) (edges : List Edge) → length (preds_among s edges) ≡ times_in s (map edge_target edges)
 among_times s [] = refl

@@ -1,5 +1,5 @@
 -- A graph can be made of the cleaned nodes, and it does the same; its jumps are clean.
-use Rattle.std.proofs.Common.{◌≡◌, ◌≢◌, ℕ, zero, suc, ◌<◌, ◌≤◌, Bool, true, false, List, [], ◌∷◌, map, length, slice_get, slice_index_or, Option, Some, None, option_map, inl, inr, refl, sym, ap, ◌∙◌, subst, arith}
+use Rattle.std.proofs.Common.{◌≡◌, ◌≢◌, ℕ, zero, suc, ◌<◌, ◌≤◌, Bool, true, false, List, [], ◌∷◌, map, length, slice_get, slice_index_or, Option, Some, option_map, inl, inr, refl, sym, ap, ◌∙◌, subst, arith}
 use Rattle.flow_graph.specs.NodeLaws.{mapped_from, redirected_start, redirected_succs_of, redirected_vars}
 use Rattle.std.proofs.lemmas.Option.{slice_get-map, slice_get_within}
 use Rattle.mir_base.specs.declared.instructions.Test as tests
@@ -49,11 +49,6 @@ new_start before after p n s e = by_case (p.at_node n)
     by_case : BecomesAt (slice_get before n) (slice_get after n) → slice_get after n ≡ Some (Start s)
     by_case (inl same) = sym same ∙ e
     by_case (inr r) = let both : Some (Test r.0 r.1 r.2) ≡ Some (Start s) = sym r.3 ∙ e in cc
-
--- the variables of a node, none if there is no node
-vars_in : Option Node → List ℕ
-vars_in None = []
-vars_in (Some node) = node_vars node
 
 -- a Skip has no variables, so a bound on the variables stays
 vars_below : (k : ℕ) (before after : List Node) → Becomes before after → ((n : ℕ) (node : Node) → slice_get before n ≡ Some node → AllBelow k (node_vars node)) → (n : ℕ) (node : Node) → slice_get after n ≡ Some node → AllBelow k (node_vars node)

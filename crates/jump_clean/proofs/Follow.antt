@@ -1,9 +1,9 @@
 -- The search for ends of chains, step by step.
-use Rattle.std.proofs.Common.{◌≡◌, ℕ, zero, suc, ◌+◌, ◌<◌, ◌≤◌, List, [], ◌∷◌, ◌++◌, length, take, drop, min, replicate, slice_get, slice_set, slice_index_or, Some, None, ◌⊎◌, inl, inr, refl, sym, ap, ◌∙◌, subst, arith}
+use Rattle.std.proofs.Common.{◌≡◌, ℕ, zero, suc, ◌+◌, ◌<◌, ◌≤◌, List, [], ◌∷◌, ◌++◌, length, take, drop, min, slice_get, slice_set, slice_index_or, Some, None, ◌⊎◌, inl, inr, refl, sym, ap, ◌∙◌, subst, arith}
 use Rattle.std.proofs.lemmas.List.{length-set, drop_all}
 use Rattle.flow_graph.specs.ListLaws.{set_here, set_elsewhere, drop_at, around_at}
 use Rattle.std.proofs.lemmas.Bool.{cases_lt, cases_eq}
-use Rattle.std.proofs.lemmas.Option.{slice_get_within, slice_get-get_or}
+use Rattle.std.proofs.lemmas.Option.{same_Some, slice_get_within, slice_get-get_or}
 use Rattle.mir_base.specs.Shapes.{AllBelow}
 use Rattle.flow_graph.specs.declared.nodes.Node.{Node}
 use Rattle.flow_graph.specs.declared.nodes.Node.TheVariants.{Start, Skip, Assign, Print, Call, Test, Return}
@@ -11,26 +11,27 @@ use Rattle.flow_graph.specs.Graphs.{AllWithin}
 use Rattle.jump_clean.specs.declared.chains.Found.{Found}
 use Rattle.jump_clean.specs.declared.chains.Found.TheVariants.{Nothing, InChain, End}
 use Rattle.jump_clean.specs.Chains.{IsEnd}
-use Rattle.jump_clean.specs.ChainLaws.{In, IsSkipChain, in_push, in_last, chain_leads, led_to, leads_on, chain_push, chain_rest, circle_ends, ends_at_other, end_from}
+use Rattle.jump_clean.specs.ChainLaws.{IsSkipChain, in_push, in_last, chain_leads, led_to, leads_on, chain_push, chain_rest, circle_ends, ends_at_other, end_from}
 use Rattle.jump_clean.specs.ReductionLaws.{skips_within}
 use Rattle.jump_clean.specs.Following.{AreFound, IsFollowed, IsLeastFrom, EndsAt, onward_of, unknown}
+use Rattle.flow_graph.specs.Numbering.{IsIn}
 
 -- ---- lists of numbers
 
 -- what is left is the number at hand, or comes later
-pub in_rest : (xs : List ℕ) (i n : ℕ) → i < length xs → In n (drop i xs) → (slice_index_or xs i 0 ≡ n) ⊎ In n (drop (i + 1) xs)
-in_rest xs i n lt h = subst (In n) (drop_at xs i (slice_index_or xs i 0) (slice_get-get_or xs i 0 lt)) h
+pub in_rest : (xs : List ℕ) (i n : ℕ) → i < length xs → IsIn n (drop i xs) → (slice_index_or xs i 0 ≡ n) ⊎ IsIn n (drop (i + 1) xs)
+in_rest xs i n lt h = subst (IsIn n) (drop_at xs i (slice_index_or xs i 0) (slice_get-get_or xs i 0 lt)) h
 
 -- past the end nothing is left
-pub nothing_left : (xs : List ℕ) (i n : ℕ) → length xs ≤ i → In n (drop i xs) → ⊥
-nothing_left xs i n le h = subst (In n) (drop_all i xs le) h
+pub nothing_left : (xs : List ℕ) (i n : ℕ) → length xs ≤ i → IsIn n (drop i xs) → ⊥
+nothing_left xs i n le h = subst (IsIn n) (drop_all i xs le) h
 
 -- so a place at which something is left is one of the list
-pub some_left : (xs : List ℕ) (i n : ℕ) → In n (drop i xs) → i < length xs
+pub some_left : (xs : List ℕ) (i n : ℕ) → IsIn n (drop i xs) → i < length xs
 some_left xs i n h = elim (cases_lt i (length xs)) [ inl lt ↦ lt | inr ge ↦ absurd (nothing_left xs i n ge h) ]
 
 -- the number at a place is in the list
-pub in_place : (xs : List ℕ) (i : ℕ) → i < length xs → In (slice_index_or xs i 0) xs
+pub in_place : (xs : List ℕ) (i : ℕ) → i < length xs → IsIn (slice_index_or xs i 0) xs
 in_place [] i lt = absurd (omega (arith, lt))
 in_place (x ∷ xs) zero lt = inl refl
 in_place (x ∷ xs) (suc i) lt = inr (in_place xs i (omega (arith, lt)))
@@ -90,7 +91,7 @@ one_further nodes found chain start n next node here within f at_node at_found o
           | inr other ↦ f.right m e (sym (set_elsewhere found n m InChain other) ∙ at_m)
         ];
         in_chain = λ m at_m. elim (cases_eq m n) [
-          | inl same ↦ subst (λ k. In k (chain ++ n ∷ [])) (sym same) (in_last n chain)
+          | inl same ↦ subst (λ k. IsIn k (chain ++ n ∷ [])) (sym same) (in_last n chain)
           | inr other ↦ in_push m n chain (f.in_chain m (sym (set_elsewhere found n m InChain other) ∙ at_m))
         ];
         is_chain = chain_push nodes chain start n next f.is_chain skip;
@@ -98,16 +99,9 @@ one_further nodes found chain start n next node here within f at_node at_found o
       },
     )
 
--- at first no Skip has been passed
-pub search_begins : (nodes : List Node) (found : List Found) (start : ℕ) → AreFound nodes found → start < length nodes → IsFollowed nodes found [] start start
-search_begins nodes found start are lt = record { long = are.long; right = are.right; in_chain = λ m e. absurd (are.none_in_chain m e); is_chain = refl; place_is = lt }
-
 -- where the search ends, the end of the chain is found
 pub search_ends : (nodes : List Node) (found : List Found) (chain : List ℕ) (start n end : ℕ) (node : Node) (here : Found) → IsFollowed nodes found chain start n → slice_get nodes n ≡ Some node → slice_get found n ≡ Some here → onward_of node here ≡ None → EndsAt here chain n end → IsEnd nodes n end
-search_ends nodes found chain start n end node Nothing f at_node at_found none at_end = subst (IsEnd nodes n) (sym at_end) (record { leads = chain_leads nodes [] n n refl; ends = ends_at_other nodes n (λ next is. not_onward node next none (some_same (sym at_node ∙ is))) })
-  where
-    some_same : {a b : Node} → Some a ≡ Some b → a ≡ b
-    some_same e = cc
+search_ends nodes found chain start n end node Nothing f at_node at_found none at_end = subst (IsEnd nodes n) (sym at_end) (record { leads = chain_leads nodes [] n n refl; ends = ends_at_other nodes n (λ next is. not_onward node next none (same_Some node (Skip next) (sym at_node ∙ is))) })
 search_ends nodes found chain start n end node InChain f at_node at_found none at_end =
     let r = chain_rest nodes at_end.front at_end.rest n start n (subst (λ l. IsSkipChain nodes l start n) at_end.are f.is_chain) in
     record { leads = led_to nodes (n ∷ at_end.rest) n n end r.1 at_end.is_one; ends = circle_ends nodes at_end.rest n end r.1 at_end.is_one at_end.least_is }
@@ -118,7 +112,7 @@ pub start_end : (nodes : List Node) (chain : List ℕ) (start n end : ℕ) → I
 start_end nodes chain start n end w is = end_from nodes start n end (chain_leads nodes chain start n w) is
 
 -- the end is noted for each Skip of the chain
-pub search_noted : (nodes : List Node) (found found' : List Found) (chain : List ℕ) (start n end : ℕ) → IsFollowed nodes found chain start n → IsEnd nodes n end → length found' ≡ length found → ((m : ℕ) → In m chain → slice_get found' m ≡ Some (End end)) → ((m : ℕ) → (slice_get found' m ≡ slice_get found m) ⊎ ((slice_get found' m ≡ Some (End end)) × In m chain)) → AreFound nodes found'
+pub search_noted : (nodes : List Node) (found found' : List Found) (chain : List ℕ) (start n end : ℕ) → IsFollowed nodes found chain start n → IsEnd nodes n end → length found' ≡ length found → ((m : ℕ) → IsIn m chain → slice_get found' m ≡ Some (End end)) → ((m : ℕ) → (slice_get found' m ≡ slice_get found m) ⊎ ((slice_get found' m ≡ Some (End end)) × IsIn m chain)) → AreFound nodes found'
 search_noted nodes found found' chain start n end f is long noted others = record {
   long = long ∙ f.long;
   right = λ m e at_m. elim (others m) [
@@ -134,32 +128,15 @@ search_noted nodes found found' chain start n end f is long noted others = recor
   ];
 }
 
--- a table in which nothing is known is right
-pub nothing_known : (nodes : List Node) (found : List Found) → found ≡ replicate (length nodes) Nothing → AreFound nodes found
-nothing_known nodes found is = record {
-  long = ap length is ∙ none_long (length nodes);
-  right = λ n e at_n. absurd (none (length nodes) n (End e) (sym (ap (λ l. slice_get l n) is) ∙ at_n) (λ h. cc));
-  none_in_chain = λ n at_n. absurd (none (length nodes) n InChain (sym (ap (λ l. slice_get l n) is) ∙ at_n) (λ h. cc));
-}
-  where
-    none_long : (k : ℕ) → length (replicate k Nothing) ≡ k
-    none_long zero = refl
-    none_long (suc k) = ap suc (none_long k)
-
-    none : (k n : ℕ) (x : Found) → slice_get (replicate k Nothing) n ≡ Some x → (Nothing ≡ x → ⊥) → ⊥
-    none zero n x e other = cc
-    none (suc k) zero x e other = let same : Nothing ≡ x = cc in other same
-    none (suc k) (suc n) x e other = none k n x e other
-
 -- ---- loops over numbers
 
 -- the least of the numbers up to one more
-pub least_step : (first least least' : ℕ) (others : List ℕ) (i : ℕ) → i < length others → least' ≡ min least (slice_index_or others i 0) → In least (first ∷ others) → ((n : ℕ) → In n (first ∷ others) → (least ≤ n) ⊎ In n (drop i others)) → In least' (first ∷ others) × ((n : ℕ) → In n (first ∷ others) → (least' ≤ n) ⊎ In n (drop (i + 1) others))
+pub least_step : (first least least' : ℕ) (others : List ℕ) (i : ℕ) → i < length others → least' ≡ min least (slice_index_or others i 0) → IsIn least (first ∷ others) → ((n : ℕ) → IsIn n (first ∷ others) → (least ≤ n) ⊎ IsIn n (drop i others)) → IsIn least' (first ∷ others) × ((n : ℕ) → IsIn n (first ∷ others) → (least' ≤ n) ⊎ IsIn n (drop (i + 1) others))
 least_step first least least' others i lt is one all =
     let x = slice_index_or others i 0 in (
       elim (cases_lt least x) [
-        | inl low ↦ let same : least ≡ least' = omega (arith, is, low) in subst (λ k. In k (first ∷ others)) same one
-        | inr high ↦ let same : x ≡ least' = omega (arith, is, high) in inr (subst (λ k. In k others) same (in_place others i lt))
+        | inl low ↦ let same : least ≡ least' = omega (arith, is, low) in subst (λ k. IsIn k (first ∷ others)) same one
+        | inr high ↦ let same : x ≡ least' = omega (arith, is, high) in inr (subst (λ k. IsIn k others) same (in_place others i lt))
       ],
       λ n h. elim (all n h) [
         | inl le ↦ inl (omega (arith, is, le))
@@ -168,20 +145,20 @@ least_step first least least' others i lt is one all =
     )
 
 -- where the number is found
-pub found_place : (chain : List ℕ) (place n : ℕ) → In n (drop place chain) → slice_index_or chain place 0 ≡ n → slice_get chain place ≡ Some n
+pub found_place : (chain : List ℕ) (place n : ℕ) → IsIn n (drop place chain) → slice_index_or chain place 0 ≡ n → slice_get chain place ≡ Some n
 found_place chain place n h e = slice_get-get_or chain place 0 (some_left chain place n h) ∙ ap Some e
 
 -- the numbers from there on are those of the circle
-pub least_from : (chain rest : List ℕ) (first place least : ℕ) → slice_get chain place ≡ Some first → rest ≡ drop (place + 1) chain → In least (first ∷ rest) → ((n : ℕ) → In n (first ∷ rest) → least ≤ n) → IsLeastFrom chain first least
+pub least_from : (chain rest : List ℕ) (first place least : ℕ) → slice_get chain place ≡ Some first → rest ≡ drop (place + 1) chain → IsIn least (first ∷ rest) → ((n : ℕ) → IsIn n (first ∷ rest) → least ≤ n) → IsLeastFrom chain first least
 least_from chain rest first place least at_place is one all =
     record { front = take place chain; rest = rest; are = around_at chain place first at_place ∙ ap (λ l. take place chain ++ first ∷ l) (sym is); is_one = one; least_is = all }
 
 -- one more end is noted
-pub note_step : (chain : List ℕ) (end i : ℕ) (found first : List Found) → i < length chain → length found ≡ length first → AllBelow (length found) (drop i chain) → ((n : ℕ) → In n chain → (slice_get found n ≡ Some (End end)) ⊎ In n (drop i chain)) → ((n : ℕ) → (slice_get found n ≡ slice_get first n) ⊎ ((slice_get found n ≡ Some (End end)) × In n chain)) →
+pub note_step : (chain : List ℕ) (end i : ℕ) (found first : List Found) → i < length chain → length found ≡ length first → AllBelow (length found) (drop i chain) → ((n : ℕ) → IsIn n chain → (slice_get found n ≡ Some (End end)) ⊎ IsIn n (drop i chain)) → ((n : ℕ) → (slice_get found n ≡ slice_get first n) ⊎ ((slice_get found n ≡ Some (End end)) × IsIn n chain)) →
     (length (slice_set found (slice_index_or chain i 0) (End end)) ≡ length first)
     × AllBelow (length (slice_set found (slice_index_or chain i 0) (End end))) (drop (i + 1) chain)
-    × ((n : ℕ) → In n chain → (slice_get (slice_set found (slice_index_or chain i 0) (End end)) n ≡ Some (End end)) ⊎ In n (drop (i + 1) chain))
-    × ((n : ℕ) → (slice_get (slice_set found (slice_index_or chain i 0) (End end)) n ≡ slice_get first n) ⊎ ((slice_get (slice_set found (slice_index_or chain i 0) (End end)) n ≡ Some (End end)) × In n chain))
+    × ((n : ℕ) → IsIn n chain → (slice_get (slice_set found (slice_index_or chain i 0) (End end)) n ≡ Some (End end)) ⊎ IsIn n (drop (i + 1) chain))
+    × ((n : ℕ) → (slice_get (slice_set found (slice_index_or chain i 0) (End end)) n ≡ slice_get first n) ⊎ ((slice_get (slice_set found (slice_index_or chain i 0) (End end)) n ≡ Some (End end)) × IsIn n chain))
 note_step chain end i found first lt long below noted others =
     let x = slice_index_or chain i 0 in
     let b = rest_below (length found) chain i lt below in
@@ -196,7 +173,7 @@ note_step chain end i found first lt long below noted others =
         ]
       ],
       λ n. elim (cases_eq n x) [
-        | inl same ↦ inr (here n same, subst (λ k. In k chain) (sym same) (in_place chain i lt))
+        | inl same ↦ inr (here n same, subst (λ k. IsIn k chain) (sym same) (in_place chain i lt))
         | inr other ↦ elim (others n) [
           | inl old ↦ inl (set_elsewhere found x n (End end) other ∙ old)
           | inr new ↦ inr (set_elsewhere found x n (End end) other ∙ new.0, new.1)

@@ -2,9 +2,9 @@
 use Rattle.std.proofs.Common.{◌≡◌, ℕ, zero, suc, ◌+◌, ◌<◌, ◌≤◌, Bool, true, false, cond, eqb, eqb-true, eq-eqb, List, [], ◌∷◌, ◌++◌, length, drop, slice_get, slice_set, slice_index_or, Option, Some, None, inl, inr, refl, sym, ap, ◌∙◌, subst, arith, le_refl}
 use Rattle.mir_base.specs.BelowLaws.{all_below_push, all_below_left}
 use Rattle.std.proofs.lemmas.List.{length-set, length_push}
-use Rattle.flow_graph.specs.ListLaws.{set_here, set_elsewhere, drop_at}
+use Rattle.flow_graph.specs.ListLaws.{set_here, set_elsewhere, drop_at, some_at}
 use Rattle.std.proofs.lemmas.Bool.{cases_lt, cases_eq}
-use Rattle.std.proofs.lemmas.Option.{slice_get_within, slice_get-get_or}
+use Rattle.std.proofs.lemmas.Option.{same_Some, slice_get_within, slice_get-get_or}
 use Rattle.mir_base.specs.declared.instructions.Test as tests
 use Rattle.mir_base.specs.Shapes.{AllBelow}
 use Rattle.flow_graph.specs.declared.nodes.Node.{Node}
@@ -12,12 +12,13 @@ use Rattle.flow_graph.specs.declared.nodes.Node.TheVariants.{Start, Skip, Assign
 use Rattle.flow_graph.specs.Graphs.{AllWithin, succs_of}
 use Rattle.jump_clean.specs.Chains.{Skips}
 use Rattle.jump_clean.specs.Reductions.{IsReduction, AreReduced}
-use Rattle.jump_clean.specs.ChainLaws.{In, in_push, in_last, to_itself, to_next, to_trans, one_leads_on}
+use Rattle.jump_clean.specs.ChainLaws.{in_push, in_last, to_itself, to_next, to_trans, one_leads_on}
 use Rattle.jump_clean.specs.ReductionLaws.{skips_within, reduced_here, reduced_elsewhere, reduced_long, reduced_within, one_becomes, all_become, Becomes, BecomesAt, leads_still, meet_in_end}
 use Rattle.jump_clean.specs.Classes.{class, AreJoined}
 use Rattle.jump_clean.specs.Following.{skip_succ}
 use Rattle.jump_clean.specs.Joining.{ChainsMeet, IsJoining, useless_of, useless_in, nodes_after, worklist_after, tests_in}
 use Rattle.jump_clean.proofs.Moves.{in_either}
+use Rattle.flow_graph.specs.Numbering.{IsIn}
 
 -- ---- chains that come together
 
@@ -79,7 +80,7 @@ fewer_tests (Return a ∷ nodes) (suc n) test taken other e = fewer_tests nodes 
 -- ---- the beginning
 
 -- at first each node is alone, all Skips are pending, and all nodes are to be looked at
-pub joining_begins : (nodes : List Node) (of worklist all : List ℕ) → AllWithin nodes → length of ≡ length nodes → ((n : ℕ) → n < length nodes → class of n ≡ n) → ((n next : ℕ) → slice_get nodes n ≡ Some (Skip next) → In n worklist) → ((n : ℕ) → n < length nodes → In n all) → AllBelow (length nodes) worklist → AllBelow (length nodes) all → IsJoining nodes nodes of worklist all
+pub joining_begins : (nodes : List Node) (of worklist all : List ℕ) → AllWithin nodes → length of ≡ length nodes → ((n : ℕ) → n < length nodes → class of n ≡ n) → ((n next : ℕ) → slice_get nodes n ≡ Some (Skip next) → IsIn n worklist) → ((n : ℕ) → n < length nodes → IsIn n all) → AllBelow (length nodes) worklist → AllBelow (length nodes) all → IsJoining nodes nodes of worklist all
 joining_begins nodes of worklist all within long own skips every below below' = record {
   order = [];
   reductions = refl;
@@ -105,7 +106,7 @@ module _ (raw nodes : List Node) (of worklist rest : List ℕ) (n : ℕ) (j : Is
         let m = j.sound a b (omega (arith, lt, reduced_long nodes n (slice_set nodes n (Skip taken)) reduction)) (omega (arith, lt', reduced_long nodes n (slice_set nodes n (Skip taken)) reduction)) e in
         record { meet = m.meet; first = leads_still nodes (slice_set nodes n (Skip taken)) becomes a m.meet m.first; second = leads_still nodes (slice_set nodes n (Skip taken)) becomes b m.meet m.second };
     skips = λ m next e. elim (cases_eq m n) [
-      | inl here ↦ inl (subst (λ k. In k (worklist ++ n ∷ [])) (sym here) (in_last n worklist))
+      | inl here ↦ inl (subst (λ k. IsIn k (worklist ++ n ∷ [])) (sym here) (in_last n worklist))
       | inr elsewhere ↦ elim (j.skips m next (sym (reduced_elsewhere nodes n (slice_set nodes n (Skip taken)) reduction m elsewhere) ∙ e)) [ inl h ↦ inl (in_push m n worklist h) | inr h ↦ inr h ]
     ];
     suspected = λ m t a b e e'. elim (cases_eq m n) [
@@ -130,14 +131,11 @@ module _ (raw nodes : List Node) (of worklist rest : List ℕ) (n : ℕ) (j : Is
   pub test_stays : (node : Node) → slice_get nodes n ≡ Some node → useless_of of node ≡ None → IsJoining raw nodes of worklist rest
   test_stays node is none = record { order = j.order; reductions = j.reductions; within = j.within; long = j.long; sound = j.sound; skips = j.skips; suspected = still; worklist_below = j.worklist_below; suspects_below = j.suspects_below.1 }
     where
-      some_same : {x y : Node} → Some x ≡ Some y → x ≡ y
-      some_same e = cc
-
-      still : (m : ℕ) (t : tests.Test) (a b : ℕ) → slice_get nodes m ≡ Some (Test t a b) → class of a ≡ class of b → In m rest
+      still : (m : ℕ) (t : tests.Test) (a b : ℕ) → slice_get nodes m ≡ Some (Test t a b) → class of a ≡ class of b → IsIn m rest
       still m t a b e e' = elim (j.suspected m t a b e e') [
         | inl here ↦
             let both : Some node ≡ Some (Test t a b) = sym is ∙ ap (slice_get nodes) here ∙ e in
-            let same : node ≡ Test t a b = some_same both in
+            let same : node ≡ Test t a b = same_Some node (Test t a b) both in
             absurd (not_useless of t a b (ap (useless_of of) (sym same) ∙ none) e')
         | inr later ↦ later
       ]
@@ -145,7 +143,7 @@ module _ (raw nodes : List Node) (of worklist rest : List ℕ) (n : ℕ) (j : Is
 -- ---- the classes of a Skip and its successor are joined
 
 module _ (raw nodes : List Node) (of worklist : List ℕ) (n : ℕ) (j : IsJoining raw nodes of (worklist ++ n ∷ []) []) where
-  pub last_joined : (next : ℕ) (of' moved checks : List ℕ) → slice_get nodes n ≡ Some (Skip next) → AreJoined of of' n next moved → ((m s slot : ℕ) → In s moved → slice_get (succs_of (slice_get raw m)) slot ≡ Some s → In m checks) → AllBelow (length nodes) checks → IsJoining raw nodes of' worklist checks
+  pub last_joined : (next : ℕ) (of' moved checks : List ℕ) → slice_get nodes n ≡ Some (Skip next) → AreJoined of of' n next moved → ((m s slot : ℕ) → IsIn s moved → slice_get (succs_of (slice_get raw m)) slot ≡ Some s → IsIn m checks) → AllBelow (length nodes) checks → IsJoining raw nodes of' worklist checks
   last_joined next of' moved checks is joined all below = record {
     order = j.order;
     reductions = j.reductions;
@@ -192,7 +190,7 @@ module _ (raw nodes : List Node) (of worklist : List ℕ) (n : ℕ) (j : IsJoini
       step : ChainsMeet nodes n next
       step = record { meet = next; first = to_next nodes n next is; second = to_itself nodes next }
 
-      only_n : (m s : ℕ) → slice_get nodes m ≡ Some (Skip s) → In m (n ∷ []) → class of' m ≡ class of' s
+      only_n : (m s : ℕ) → slice_get nodes m ≡ Some (Skip s) → IsIn m (n ∷ []) → class of' m ≡ class of' s
       only_n m s e (inl same) =
           let both : Some (Skip next) ≡ Some (Skip s) = sym is ∙ ap (slice_get nodes) same ∙ e in
           let same' : next ≡ s = cc in
@@ -294,15 +292,10 @@ module _ (of checks : List ℕ) (i : ℕ) (lt : i < length checks) where
       below' = subst (AllBelow (length nodes)) rest_is below
 
       by_node : (o : Option Node) → slice_get nodes suspect ≡ o → nodes' ≡ nodes_after (useless_in of o) nodes suspect → worklist' ≡ worklist_after (useless_in of o) worklist suspect → Looked nodes nodes' worklist worklist'
-      by_node None at_n e e' = let some = slice_get_some nodes suspect below'.0 in absurd (none_some (sym at_n ∙ some.1))
+      by_node None at_n e e' = let some = some_at nodes suspect below'.0 in absurd (none_some (sym at_n ∙ some.1))
         where
           none_some : {x : Node} → None ≡ Some x → ⊥
           none_some e = cc
-
-          slice_get_some : (xs : List Node) (n : ℕ) → n < length xs → (x : Node) × (slice_get xs n ≡ Some x)
-          slice_get_some [] n lt = absurd (omega (arith, lt))
-          slice_get_some (x ∷ xs) zero lt = (x, refl)
-          slice_get_some (x ∷ xs) (suc n) lt = slice_get_some xs n (omega (arith, lt))
       by_node (Some node) at_n e e' =
           let u = useless_of of node in
           let long' : length nodes' ≡ length nodes = ap length e ∙ long_by nodes u in
@@ -315,10 +308,10 @@ module _ (of checks : List ℕ) (i : ℕ) (lt : i < length checks) where
           }
 
 -- the numbers up to one more
-pub in_one_longer : (xs : List ℕ) (n k : ℕ) → k < n + 1 → (k < n → In k xs) → In k (xs ++ n ∷ [])
+pub in_one_longer : (xs : List ℕ) (n k : ℕ) → k < n + 1 → (k < n → IsIn k xs) → IsIn k (xs ++ n ∷ [])
 in_one_longer xs n k lt old = elim (cases_lt k n) [
   | inl low ↦ in_push k n xs (old low)
-  | inr high ↦ let same : k ≡ n = omega (arith, high, lt) in subst (λ m. In m (xs ++ n ∷ [])) (sym same) (in_last n xs)
+  | inr high ↦ let same : k ≡ n = omega (arith, high, lt) in subst (λ m. IsIn m (xs ++ n ∷ [])) (sym same) (in_last n xs)
 ]
 
 -- ---- the Skips
@@ -337,23 +330,20 @@ skip_succ_is (Return a) next e = cc
 pub no_skip : (nodes : List Node) (n : ℕ) (node : Node) → slice_get nodes n ≡ Some node → skip_succ node ≡ None → (next : ℕ) → slice_get nodes n ≡ Some (Skip next) → ⊥
 no_skip nodes n node is none next e =
     let both : Some node ≡ Some (Skip next) = sym is ∙ e in
-    let same : node ≡ Skip next = some_same both in
+    let same : node ≡ Skip next = same_Some node (Skip next) both in
     let both' : Some next ≡ None = ap skip_succ (sym same) ∙ none in
     cc
-  where
-    some_same : {x y : Node} → Some x ≡ Some y → x ≡ y
-    some_same e = cc
 
 -- the Skips up to one more node
-pub skip_pushed : (nodes : List Node) (skips skips' : List ℕ) (n : ℕ) (node : Node) → slice_get nodes n ≡ Some node → skips' ≡ worklist_after (skip_succ node) skips n → ((k next : ℕ) → k < n → slice_get nodes k ≡ Some (Skip next) → In k skips) → (k next : ℕ) → k < n + 1 → slice_get nodes k ≡ Some (Skip next) → In k skips'
+pub skip_pushed : (nodes : List Node) (skips skips' : List ℕ) (n : ℕ) (node : Node) → slice_get nodes n ≡ Some node → skips' ≡ worklist_after (skip_succ node) skips n → ((k next : ℕ) → k < n → slice_get nodes k ≡ Some (Skip next) → IsIn k skips) → (k next : ℕ) → k < n + 1 → slice_get nodes k ≡ Some (Skip next) → IsIn k skips'
 skip_pushed nodes skips skips' n node is pushed all k next lt e = by_succ (skip_succ node) refl pushed
   where
-    by_succ : (o : Option ℕ) → skip_succ node ≡ o → skips' ≡ worklist_after o skips n → In k skips'
+    by_succ : (o : Option ℕ) → skip_succ node ≡ o → skips' ≡ worklist_after o skips n → IsIn k skips'
     by_succ None none p = elim (cases_lt k n) [
-      | inl low ↦ subst (In k) (sym p) (all k next low e)
+      | inl low ↦ subst (IsIn k) (sym p) (all k next low e)
       | inr high ↦ let same : k ≡ n = omega (arith, high, lt) in absurd (no_skip nodes n node is none next (ap (slice_get nodes) (sym same) ∙ e))
     ]
-    by_succ (Some s) some p = subst (In k) (sym p) (in_one_longer skips n k lt (λ low. all k next low e))
+    by_succ (Some s) some p = subst (IsIn k) (sym p) (in_one_longer skips n k lt (λ low. all k next low e))
 
 -- and they are nodes
 pub skip_below : (nodes : List Node) (skips skips' : List ℕ) (n : ℕ) (o : Option ℕ) → n < length nodes → skips' ≡ worklist_after o skips n → AllBelow (length nodes) skips → AllBelow (length nodes) skips'

@@ -6,28 +6,28 @@ use Rattle.flow_graph.specs.declared.nodes.Node.{Node}
 use Rattle.flow_graph.specs.Graphs.{succs_of}
 use Rattle.flow_graph.specs.Edges.{edges_from, preds_among}
 use Rattle.flow_graph.specs.EdgeLaws.{pred_has, pred_is}
-use Rattle.jump_clean.specs.ChainLaws.{In}
 use Rattle.jump_clean.proofs.Follow.{in_rest, in_place}
 use Rattle.jump_clean.proofs.Moves.{in_either, in_left, in_right}
+use Rattle.flow_graph.specs.Numbering.{IsIn}
 
 -- an element that has a place is in the list
-in_at : (xs : List ℕ) (i n : ℕ) → slice_get xs i ≡ Some n → In n xs
+in_at : (xs : List ℕ) (i n : ℕ) → slice_get xs i ≡ Some n → IsIn n xs
 in_at [] i n e = cc
 in_at (x ∷ xs) zero n e = let same : x ≡ n = cc in inl same
 in_at (x ∷ xs) (suc i) n e = inr (in_at xs i n e)
 
 -- and one in the list has a place
-at_in : (xs : List ℕ) (n : ℕ) → In n xs → (i : ℕ) × (slice_get xs i ≡ Some n)
+at_in : (xs : List ℕ) (n : ℕ) → IsIn n xs → (i : ℕ) × (slice_get xs i ≡ Some n)
 at_in [] n h = absurd h
 at_in (x ∷ xs) n (inl e) = (0, ap Some e)
 at_in (x ∷ xs) n (inr h) = let r = at_in xs n h in (suc r.0, r.1)
 
 -- a node that leads to node s is one of the sources
-pub in_preds : (nodes : List Node) (m s slot : ℕ) → slice_get (succs_of (slice_get nodes m)) slot ≡ Some s → In m (preds_among s (edges_from 0 nodes))
+pub in_preds : (nodes : List Node) (m s slot : ℕ) → slice_get (succs_of (slice_get nodes m)) slot ≡ Some s → IsIn m (preds_among s (edges_from 0 nodes))
 in_preds nodes m s slot e = let r = pred_has nodes m s (slot, e) in in_at (preds_among s (edges_from 0 nodes)) r.0 m r.1
 
 -- and each source is a node
-pub pred_within : (nodes : List Node) (s m : ℕ) → In m (preds_among s (edges_from 0 nodes)) → m < length nodes
+pub pred_within : (nodes : List Node) (s m : ℕ) → IsIn m (preds_among s (edges_from 0 nodes)) → m < length nodes
 pred_within nodes s m h =
     let p = at_in (preds_among s (edges_from 0 nodes)) m h in
     edge_within nodes m s (pred_is nodes s p.0 m p.1)
@@ -35,18 +35,18 @@ pred_within nodes s m h =
 -- ---- the sources for several nodes
 
 -- the sources for one more node
-pub more_preds : (nodes : List ℕ) (edges : List Edge) (i : ℕ) (preds preds' : List ℕ) → i < length nodes → preds' ≡ preds ++ preds_among (slice_index_or nodes i 0) edges → ((n m : ℕ) → In n nodes → In m (preds_among n edges) → In m preds ⊎ In n (drop i nodes)) → (n m : ℕ) → In n nodes → In m (preds_among n edges) → In m preds' ⊎ In n (drop (i + 1) nodes)
+pub more_preds : (nodes : List ℕ) (edges : List Edge) (i : ℕ) (preds preds' : List ℕ) → i < length nodes → preds' ≡ preds ++ preds_among (slice_index_or nodes i 0) edges → ((n m : ℕ) → IsIn n nodes → IsIn m (preds_among n edges) → IsIn m preds ⊎ IsIn n (drop i nodes)) → (n m : ℕ) → IsIn n nodes → IsIn m (preds_among n edges) → IsIn m preds' ⊎ IsIn n (drop (i + 1) nodes)
 more_preds nodes edges i preds preds' lt is all n m h h' = elim (all n m h h') [
-  | inl p ↦ inl (subst (In m) (sym is) (in_left m preds (preds_among (slice_index_or nodes i 0) edges) p))
+  | inl p ↦ inl (subst (IsIn m) (sym is) (in_left m preds (preds_among (slice_index_or nodes i 0) edges) p))
   | inr p ↦ elim (in_rest nodes i n lt p) [
-    | inl same ↦ inl (subst (In m) (sym is) (in_right m preds (preds_among (slice_index_or nodes i 0) edges) (subst (λ k. In m (preds_among k edges)) (sym same) h')))
+    | inl same ↦ inl (subst (IsIn m) (sym is) (in_right m preds (preds_among (slice_index_or nodes i 0) edges) (subst (λ k. IsIn m (preds_among k edges)) (sym same) h')))
     | inr later ↦ inr later
   ]
 ]
 
 -- and no others
-pub only_preds : (nodes : List ℕ) (edges : List Edge) (i : ℕ) (preds preds' : List ℕ) → i < length nodes → preds' ≡ preds ++ preds_among (slice_index_or nodes i 0) edges → ((m : ℕ) → In m preds → (n : ℕ) × In n nodes × In m (preds_among n edges)) → (m : ℕ) → In m preds' → (n : ℕ) × In n nodes × In m (preds_among n edges)
-only_preds nodes edges i preds preds' lt is only m h = elim (in_either m preds (preds_among (slice_index_or nodes i 0) edges) (subst (In m) is h)) [
+pub only_preds : (nodes : List ℕ) (edges : List Edge) (i : ℕ) (preds preds' : List ℕ) → i < length nodes → preds' ≡ preds ++ preds_among (slice_index_or nodes i 0) edges → ((m : ℕ) → IsIn m preds → (n : ℕ) × IsIn n nodes × IsIn m (preds_among n edges)) → (m : ℕ) → IsIn m preds' → (n : ℕ) × IsIn n nodes × IsIn m (preds_among n edges)
+only_preds nodes edges i preds preds' lt is only m h = elim (in_either m preds (preds_among (slice_index_or nodes i 0) edges) (subst (IsIn m) is h)) [
   | inl p ↦ only m p
   | inr p ↦ (slice_index_or nodes i 0, in_place nodes i lt, p)
 ]

@@ -1,10 +1,14 @@
--- The laws of chains: each node has exactly one end of chain. `In` is cited by contracts.
-use Rattle.std.proofs.Common.{◌≡◌, ℕ, zero, suc, ◌+◌, ◌-◌, ◌<◌, ◌≤◌, Bool, true, false, List, [], ◌∷◌, ◌++◌, length, slice_get, replicate, Option, Some, None, ◌⊎◌, inl, inr, refl, sym, ap, ◌∙◌, subst, arith, zero-add, suc-add}
+-- The laws of chains: each node has exactly one end of chain. For proofs only; definitions cite `IsSkipChain`.
+use Rattle.std.proofs.Common.{◌≡◌, ℕ, zero, suc, ◌+◌, ◌-◌, ◌<◌, ◌≤◌, Bool, true, false, List, [], ◌∷◌, ◌++◌, length, slice_get, slice_set, replicate, Option, Some, None, ◌⊎◌, inl, inr, refl, sym, ap, ◌∙◌, subst, arith, zero-add, suc-add}
 use Rattle.std.proofs.lemmas.Bool.{cases_lt}
+use Rattle.std.proofs.lemmas.List.{length-replicate, length-set}
+use Rattle.std.proofs.lemmas.Option.{get_or_from_slice_get, slice_get_within}
 use Rattle.flow_graph.specs.declared.nodes.Node.{Node}
 use Rattle.flow_graph.specs.declared.nodes.Node.TheVariants.{Start, Skip, Assign, Print, Call, Test, Return}
+use Rattle.flow_graph.specs.MarkLaws.{marked_before, unmarked_set}
 use Rattle.flow_graph.specs.Walks.{unmarked}
 use Rattle.jump_clean.specs.Chains.{Skips, SkipsTo, EndsChains, IsEnd}
+use Rattle.flow_graph.specs.Numbering.{IsIn}
 
 -- ---- Skips one after the other
 
@@ -83,11 +87,6 @@ skip_or_other (Some (Return a)) = inr (λ next e. cc)
 
 -- ---- the Skips of a chain
 
--- the number is one of the list
-abbrev pub In : ℕ → List ℕ → Type 0
-In x [] = ⊥
-In x (y ∷ ys) = (y ≡ x) ⊎ In x ys
-
 -- these Skips lead from node n to node m, each but the first the successor of the one before
 abbrev pub IsSkipChain : List Node → List ℕ → ℕ → ℕ → Type 0
 IsSkipChain nodes [] n m = n ≡ m
@@ -99,12 +98,12 @@ module _ (nodes : List Node) where
   chain_leads (k ∷ chain) n m w = subst (λ i. SkipsTo nodes i m) w.0 (to_trans nodes k w.1 m (to_next nodes k w.1 w.2) (chain_leads chain w.1 m w.3))
 
   -- each Skip of the chain is led to, and leads on
-  pub led_to : (chain : List ℕ) (n m x : ℕ) → IsSkipChain nodes chain n m → In x chain → SkipsTo nodes n x
+  pub led_to : (chain : List ℕ) (n m x : ℕ) → IsSkipChain nodes chain n m → IsIn x chain → SkipsTo nodes n x
   led_to [] n m x w h = absurd h
   led_to (k ∷ chain) n m x w (inl e) = subst (SkipsTo nodes n) (sym w.0 ∙ e) (to_itself nodes n)
   led_to (k ∷ chain) n m x w (inr h) = subst (λ i. SkipsTo nodes i x) w.0 (to_trans nodes k w.1 x (to_next nodes k w.1 w.2) (led_to chain w.1 m x w.3 h))
 
-  pub leads_on : (chain : List ℕ) (n m x : ℕ) → IsSkipChain nodes chain n m → In x chain → SkipsTo nodes x m
+  pub leads_on : (chain : List ℕ) (n m x : ℕ) → IsSkipChain nodes chain n m → IsIn x chain → SkipsTo nodes x m
   leads_on [] n m x w h = absurd h
   leads_on (k ∷ chain) n m x w (inl e) = subst (λ i. SkipsTo nodes i m) (sym w.0 ∙ e) (chain_leads (k ∷ chain) n m w)
   leads_on (k ∷ chain) n m x w (inr h) = leads_on chain w.1 m x w.3 h
@@ -120,28 +119,28 @@ module _ (nodes : List Node) where
       (subst (λ i. SkipsTo nodes i c) w.0 (to_trans nodes k w.1 c (to_next nodes k w.1 w.2) r.0), r.1)
 
   -- the successor of a Skip of the chain is in it too, or is where it leads
-  next_on : (chain : List ℕ) (n m x next : ℕ) → IsSkipChain nodes chain n m → In x chain → slice_get nodes x ≡ Some (Skip next) → In next chain ⊎ (next ≡ m)
+  next_on : (chain : List ℕ) (n m x next : ℕ) → IsSkipChain nodes chain n m → IsIn x chain → slice_get nodes x ≡ Some (Skip next) → IsIn next chain ⊎ (next ≡ m)
   next_on [] n m x next w h is = absurd h
   next_on (k ∷ chain) n m x next w (inl e) is =
       let both : Some (Skip w.1) ≡ Some (Skip next) = sym w.2 ∙ ap (slice_get nodes) e ∙ is in
       let same : w.1 ≡ next = cc in
       first chain w.3 same
     where
-      first : (rest : List ℕ) → IsSkipChain nodes rest w.1 m → w.1 ≡ next → In next (k ∷ rest) ⊎ (next ≡ m)
+      first : (rest : List ℕ) → IsSkipChain nodes rest w.1 m → w.1 ≡ next → IsIn next (k ∷ rest) ⊎ (next ≡ m)
       first [] r same = inr (sym same ∙ r)
       first (i ∷ rest) r same = inl (inr (inl (r.0 ∙ same)))
   next_on (k ∷ chain) n m x next w (inr h) is = elim (next_on chain w.1 m x next w.3 h is) [ inl p ↦ inl (inr p) | inr p ↦ inr p ]
 
   -- the Skips from node c back to it: Skips lead from each of them only to others of them
-  circle_closed : (chain : List ℕ) (c x y : ℕ) → IsSkipChain nodes (c ∷ chain) c c → In x (c ∷ chain) → SkipsTo nodes x y → In y (c ∷ chain)
+  circle_closed : (chain : List ℕ) (c x y : ℕ) → IsSkipChain nodes (c ∷ chain) c c → IsIn x (c ∷ chain) → SkipsTo nodes x y → IsIn y (c ∷ chain)
   circle_closed chain c x y w h s = by_count s.count x h s.skips
     where
-      by_count : (k x : ℕ) → In x (c ∷ chain) → Skips nodes k x y → In y (c ∷ chain)
-      by_count zero x h t = subst (λ i. In i (c ∷ chain)) t h
+      by_count : (k x : ℕ) → IsIn x (c ∷ chain) → Skips nodes k x y → IsIn y (c ∷ chain)
+      by_count zero x h t = subst (λ i. IsIn i (c ∷ chain)) t h
       by_count (suc k) x h t = by_count k t.0 (elim (next_on (c ∷ chain) c c x t.0 w h t.1) [ inl p ↦ p | inr p ↦ inl (sym p) ]) t.2
 
   -- the least of them ends chains
-  pub circle_ends : (chain : List ℕ) (c e : ℕ) → IsSkipChain nodes (c ∷ chain) c c → In e (c ∷ chain) → ((x : ℕ) → In x (c ∷ chain) → e ≤ x) → EndsChains nodes e
+  pub circle_ends : (chain : List ℕ) (c e : ℕ) → IsSkipChain nodes (c ∷ chain) c c → IsIn e (c ∷ chain) → ((x : ℕ) → IsIn x (c ∷ chain) → e ≤ x) → EndsChains nodes e
   circle_ends chain c e w h least = record {
     back = λ m s. to_trans nodes m c e (leads_on (c ∷ chain) c c m w (circle_closed chain c e m w h s)) (led_to (c ∷ chain) c c e w h);
     least = λ m s. least m (circle_closed chain c e m w h s);
@@ -150,7 +149,7 @@ module _ (nodes : List Node) where
 -- ---- each node has an end of chain
 
 -- the least of some numbers
-least_of : (x : ℕ) (xs : List ℕ) → (e : ℕ) × In e (x ∷ xs) × ((y : ℕ) → In y (x ∷ xs) → e ≤ y)
+least_of : (x : ℕ) (xs : List ℕ) → (e : ℕ) × IsIn e (x ∷ xs) × ((y : ℕ) → IsIn y (x ∷ xs) → e ≤ y)
 least_of x [] = (x, inl refl, λ y h. elim h [ inl p ↦ omega (arith, p) | inr p ↦ absurd p ])
 least_of x (z ∷ xs) =
     let r = least_of z xs in
@@ -160,41 +159,10 @@ least_of x (z ∷ xs) =
     ]
 
 -- a list divided at one of its elements
-split_at : (x : ℕ) (xs : List ℕ) → In x xs → (front : List ℕ) × (rest : List ℕ) × (xs ≡ front ++ x ∷ rest)
+split_at : (x : ℕ) (xs : List ℕ) → IsIn x xs → (front : List ℕ) × (rest : List ℕ) × (xs ≡ front ++ x ∷ rest)
 split_at x [] h = absurd h
 split_at x (y ∷ ys) (inl e) = ([], ys, ap (λ z. z ∷ ys) e)
 split_at x (y ∷ ys) (inr h) = let r = split_at x ys h in (y ∷ r.0, r.1, ap (λ l. y ∷ l) r.2)
-
--- marks one more place
-mark : List Bool → ℕ → List Bool
-mark [] n = []
-mark (b ∷ marks) zero = true ∷ marks
-mark (b ∷ marks) (suc n) = b ∷ mark marks n
-
--- marking adds no place
-mark_long : (marks : List Bool) (n : ℕ) → length (mark marks n) ≡ length marks
-unfolding mark
-mark_long [] n = refl
-mark_long (b ∷ marks) zero = refl
-mark_long (b ∷ marks) (suc n) = ap suc (mark_long marks n)
-
--- marking a place that was unmarked leaves one unmarked place fewer, so marking ends
-mark_less : (marks : List Bool) (n : ℕ) → slice_get marks n ≡ Some false → suc (unmarked (mark marks n)) ≡ unmarked marks
-unfolding mark
-mark_less [] n e = cc
-mark_less (true ∷ marks) zero e = cc
-mark_less (false ∷ marks) zero e = refl
-mark_less (true ∷ marks) (suc n) e = mark_less marks n e
-mark_less (false ∷ marks) (suc n) e = ap suc (mark_less marks n e)
-
--- a mark is new only at the place that was marked
-mark_tells : (marks : List Bool) (n m : ℕ) → slice_get (mark marks n) m ≡ Some true → (m ≡ n) ⊎ (slice_get marks m ≡ Some true)
-unfolding mark
-mark_tells [] n m e = inr e
-mark_tells (b ∷ marks) zero zero e = inl refl
-mark_tells (b ∷ marks) zero (suc m) e = inr e
-mark_tells (b ∷ marks) (suc n) zero e = inr e
-mark_tells (b ∷ marks) (suc n) (suc m) e = elim (mark_tells marks n m e) [ inl p ↦ inl (ap suc p) | inr p ↦ inr p ]
 
 -- each place is either marked or unmarked
 marked_or_not : (marks : List Bool) (n : ℕ) → n < length marks → (slice_get marks n ≡ Some true) ⊎ (slice_get marks n ≡ Some false)
@@ -204,13 +172,13 @@ marked_or_not (false ∷ marks) zero lt = inr refl
 marked_or_not (b ∷ marks) (suc n) lt = marked_or_not marks n (omega (arith, lt))
 
 -- what is in a list is in a longer one
-pub in_push : (x y : ℕ) (xs : List ℕ) → In x xs → In x (xs ++ y ∷ [])
+pub in_push : (x y : ℕ) (xs : List ℕ) → IsIn x xs → IsIn x (xs ++ y ∷ [])
 in_push x y [] h = absurd h
 in_push x y (z ∷ xs) (inl e) = inl e
 in_push x y (z ∷ xs) (inr h) = inr (in_push x y xs h)
 
 -- and so is the last
-pub in_last : (x : ℕ) (xs : List ℕ) → In x (xs ++ x ∷ [])
+pub in_last : (x : ℕ) (xs : List ℕ) → IsIn x (xs ++ x ∷ [])
 in_last x [] = inl refl
 in_last x (z ∷ xs) = inr (in_last x xs)
 
@@ -222,7 +190,7 @@ module _ (nodes : List Node) (within : SkipsWithin nodes) where
   -- some Skips lead from the start to node n, and each marked node is one of them
   record Following (marks : List Bool) (chain : List ℕ) (start n : ℕ) : Type 0 where
     long : length marks ≡ length nodes
-    in_chain : (m : ℕ) → slice_get marks m ≡ Some true → In m chain
+    in_chain : (m : ℕ) → slice_get marks m ≡ Some true → IsIn m chain
     is_chain : IsSkipChain nodes chain start n
     here : n < length nodes
 
@@ -234,10 +202,10 @@ module _ (nodes : List Node) (within : SkipsWithin nodes) where
       let least = least_of n s.1 in
       (least.0, record { leads = to_trans nodes start n least.0 r.0 (led_to nodes (n ∷ s.1) n n least.0 r.1 least.1); ends = circle_ends nodes s.1 n least.0 r.1 least.1 least.2 })
 
-  goes_on : (marks : List Bool) (chain : List ℕ) (start n next : ℕ) → Following marks chain start n → slice_get nodes n ≡ Some (Skip next) → Following (mark marks n) (chain ++ n ∷ []) start next
+  goes_on : (marks : List Bool) (chain : List ℕ) (start n next : ℕ) → Following marks chain start n → slice_get nodes n ≡ Some (Skip next) → Following (slice_set marks n true) (chain ++ n ∷ []) start next
   goes_on marks chain start n next f skip = record {
-    long = mark_long marks n ∙ f.long;
-    in_chain = λ m e. elim (mark_tells marks n m e) [ inl p ↦ subst (λ i. In i (chain ++ n ∷ [])) (sym p) (in_last n chain) | inr p ↦ in_push m n chain (f.in_chain m p) ];
+    long = length-set marks n true ∙ f.long;
+    in_chain = λ m e. elim (marked_before marks n m e) [ inl p ↦ subst (λ i. IsIn i (chain ++ n ∷ [])) (sym p) (in_last n chain) | inr p ↦ in_push m n chain (f.in_chain m p) ];
     is_chain = chain_push nodes chain start n next f.is_chain skip;
     here = within n next skip;
   }
@@ -248,18 +216,18 @@ module _ (nodes : List Node) (within : SkipsWithin nodes) where
     | inl skip ↦ elim (marked_or_not marks n (omega (arith, f.here, f.long))) [ inl again ↦ comes_again marks chain start n f again | inr new ↦ onward skip.0 skip.1 new ]
   ]
 
+  -- marking an unmarked node leaves one unmarked node fewer, so marking ends
+  mark_less : (marks : List Bool) (n : ℕ) → slice_get marks n ≡ Some false → unmarked (slice_set marks n true) + 1 ≡ unmarked marks
+  mark_less marks n new = unmarked_set marks n (slice_get_within marks n false new) (get_or_from_slice_get marks n false false new)
+
   -- the chain is followed until a node that is no Skip, or one that comes for the second time
   follow_chain : (left : ℕ) (marks : List Bool) (chain : List ℕ) (start n : ℕ) → unmarked marks ≡ left → Following marks chain start n → (e : ℕ) × IsEnd nodes start e
   follow_chain zero marks chain start n is f = at_node marks chain start n f (λ next skip new. absurd (omega (arith, mark_less marks n new, is)))
-  follow_chain (suc left) marks chain start n is f = at_node marks chain start n f (λ next skip new. follow_chain left (mark marks n) (chain ++ n ∷ []) start next (omega (arith, mark_less marks n new, is)) (goes_on marks chain start n next f skip))
+  follow_chain (suc left) marks chain start n is f = at_node marks chain start n f (λ next skip new. follow_chain left (slice_set marks n true) (chain ++ n ∷ []) start next (omega (arith, mark_less marks n new, is)) (goes_on marks chain start n next f skip))
 
   pub has_end : (n : ℕ) → n < length nodes → (e : ℕ) × IsEnd nodes n e
-  has_end n lt = follow_chain (unmarked (replicate (length nodes) false)) (replicate (length nodes) false) [] n n refl (record { long = none_long (length nodes); in_chain = λ m e. absurd (none (length nodes) m e); is_chain = refl; here = lt })
+  has_end n lt = follow_chain (unmarked (replicate (length nodes) false)) (replicate (length nodes) false) [] n n refl (record { long = length-replicate {A = Bool} (length nodes) false; in_chain = λ m e. absurd (none (length nodes) m e); is_chain = refl; here = lt })
     where
-      none_long : (k : ℕ) → length (replicate k false) ≡ k
-      none_long zero = refl
-      none_long (suc k) = ap suc (none_long k)
-
       none : (k m : ℕ) → slice_get (replicate k false) m ≡ Some true → ⊥
       none zero m e = cc
       none (suc k) zero e = cc

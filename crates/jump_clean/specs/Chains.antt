@@ -13,8 +13,8 @@ pub record SkipsTo (nodes : List Node) (n m : ℕ) : Type 0 where
   pub count : ℕ
   pub skips : Skips nodes count n m
 
--- Chains end at node e: from each node to which Skips lead from e they lead back to it, and none has a lesser number. So
--- e is no Skip, or it is the least-numbered Skip of those that run in a circle
+-- Chains end at node e: from each node to which Skips lead from e they lead back to it, and none has a lesser number.
+-- So e is no Skip, or it is the least-numbered Skip of those that run in a circle
 pub record EndsChains (nodes : List Node) (e : ℕ) : Type 0 where
   pub back : (m : ℕ) → SkipsTo nodes e m → SkipsTo nodes m e
   pub least : (m : ℕ) → SkipsTo nodes e m → e ≤ m

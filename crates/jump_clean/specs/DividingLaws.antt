@@ -1,4 +1,5 @@
--- Cleaning keeps each dividing assignment: only Skips, and Tests that have become Skips, are no longer reached. For proofs only.
+-- Cleaning keeps each dividing assignment: only Skips, and Tests that have become Skips, are no longer reached. For
+-- proofs only.
 use Rattle.std.proofs.Common.{◌≡◌, ℕ, zero, suc, ◌<◌, List, [], ◌∷◌, length, slice_get, slice_index_or, Option, Some, None, option_map, ◌⊎◌, inl, inr, refl, sym, ap, ◌∙◌, subst, arith}
 use Rattle.flow_graph.specs.NodeLaws.{redirected_succs_of}
 use Rattle.flow_graph.specs.BoundLaws.{slot_within}
@@ -19,21 +20,16 @@ use Rattle.jump_clean.specs.ChainLaws.{end_is_one, end_later, ends_at_other, ski
 use Rattle.jump_clean.specs.Cleaned.{AreCleaned, IsClean}
 use Rattle.jump_clean.specs.ReductionLaws.{Becomes, BecomesAt, all_become, all_long, leads_still, one_becomes, reduced_elsewhere}
 use Rattle.jump_clean.specs.Reductions.{AreReductions}
+use Rattle.jump_clean.specs.Joining.{ChainsMeet}
 
--- Skips lead from both successors of a Test that has become a Skip to one node
-pub record BranchesMeet (nodes : List Node) (taken other : ℕ) : Type 0 where
-  pub end : ℕ
-  pub from_taken : SkipsTo nodes taken end
-  pub from_other : SkipsTo nodes other end
-
--- a Test that was reduced to a Skip had branches that meet, and they still do in the result
-reduced_meet : (nodes : List Node) (order : List ℕ) (reduced : List Node) → AreReductions nodes order reduced → (m : ℕ) (test : tests.Test) (taken other : ℕ) → slice_get nodes m ≡ Some (Test test taken other) → slice_get reduced m ≡ Some (Skip taken) → BranchesMeet reduced taken other
+-- a Test that was reduced to a Skip had successors whose chains come together, and they still do in the result
+reduced_meet : (nodes : List Node) (order : List ℕ) (reduced : List Node) → AreReductions nodes order reduced → (m : ℕ) (test : tests.Test) (taken other : ℕ) → slice_get nodes m ≡ Some (Test test taken other) → slice_get reduced m ≡ Some (Skip taken) → ChainsMeet reduced taken other
 reduced_meet nodes [] reduced reductions m test taken other was is = let both : Some (Test test taken other) ≡ Some (Skip taken) = sym was ∙ ap (λ l. slice_get l m) (sym reductions) ∙ is in cc
 reduced_meet nodes (n ∷ order) reduced reductions m test taken other was is = elim (cases_eq m n) [
   | inl same ↦ here same ((all_become nodes order middle reductions.1).at_node m)
   | inr apart ↦
       let before = reduced_meet nodes order middle reductions.1 m test taken other was (sym (reduced_elsewhere middle n reduced reductions.2 m apart) ∙ is) in
-      record { end = before.end; from_taken = leads_still middle reduced becomes taken before.end before.from_taken; from_other = leads_still middle reduced becomes other before.end before.from_other }
+      record { meet = before.meet; first = leads_still middle reduced becomes taken before.meet before.first; second = leads_still middle reduced becomes other before.meet before.second }
 ]
   where
     middle : List Node
@@ -42,16 +38,16 @@ reduced_meet nodes (n ∷ order) reduced reductions m test taken other was is = 
     becomes : Becomes reductions.0 reduced
     becomes = one_becomes reductions.0 n reduced reductions.2
 
-    here : m ≡ n → BecomesAt (slice_get nodes m) (slice_get reductions.0 m) → BranchesMeet reduced taken other
+    here : m ≡ n → BecomesAt (slice_get nodes m) (slice_get reductions.0 m) → ChainsMeet reduced taken other
     here same (inl stays) =
         let reduction = reductions.2.same in
         let both : Some (Test test taken other) ≡ Some (Test reduction.test reductions.2.taken reduction.other) = sym was ∙ stays ∙ ap (slice_get reductions.0) same ∙ reduction.is in
         let one : reductions.2.taken ≡ taken = cc in
         let two : reduction.other ≡ other = cc in
         record {
-          end = reduction.end;
-          from_taken = leads_still reductions.0 reduced becomes taken reduction.end (subst (λ k. SkipsTo reductions.0 k reduction.end) one reduction.taken_end.leads);
-          from_other = leads_still reductions.0 reduced becomes other reduction.end (subst (λ k. SkipsTo reductions.0 k reduction.end) two reduction.other_end.leads);
+          meet = reduction.end;
+          first = leads_still reductions.0 reduced becomes taken reduction.end (subst (λ k. SkipsTo reductions.0 k reduction.end) one reduction.taken_end.leads);
+          second = leads_still reductions.0 reduced becomes other reduction.end (subst (λ k. SkipsTo reductions.0 k reduction.end) two reduction.other_end.leads);
         }
     here same (inr r) =
         let both : Some (Skip r.1) ≡ Some (Test reductions.2.same.test reductions.2.taken reductions.2.same.other) = sym r.4 ∙ ap (slice_get reductions.0) same ∙ reductions.2.same.is in cc
@@ -73,11 +69,11 @@ module _ (nodes cleaned : List Node) (within : AllWithin nodes) (start : (s : �
   end_of_next n next lt lt' is = end_is_one are.reduced next (slice_index_or are.ends next 0) (slice_index_or are.ends n 0) (is_end next lt') (end_later are.reduced n next (slice_index_or are.ends n 0) (to_next are.reduced n next is) (is_end n lt))
 
   -- nodes that meet have one end
-  ends_meet : (taken other : ℕ) → taken < length nodes → other < length nodes → BranchesMeet are.reduced taken other → slice_index_or are.ends other 0 ≡ slice_index_or are.ends taken 0
+  ends_meet : (taken other : ℕ) → taken < length nodes → other < length nodes → ChainsMeet are.reduced taken other → slice_index_or are.ends other 0 ≡ slice_index_or are.ends taken 0
   ends_meet taken other lt lt' meet =
-      end_is_one are.reduced meet.end (slice_index_or are.ends other 0) (slice_index_or are.ends taken 0)
-      (end_later are.reduced other meet.end (slice_index_or are.ends other 0) meet.from_other (is_end other lt'))
-      (end_later are.reduced taken meet.end (slice_index_or are.ends taken 0) meet.from_taken (is_end taken lt))
+      end_is_one are.reduced meet.meet (slice_index_or are.ends other 0) (slice_index_or are.ends taken 0)
+      (end_later are.reduced other meet.meet (slice_index_or are.ends other 0) meet.second (is_end other lt'))
+      (end_later are.reduced taken meet.meet (slice_index_or are.ends taken 0) meet.first (is_end taken lt))
 
   cleaned_at : (n : ℕ) → slice_get cleaned n ≡ option_map (redirected (λ m. slice_index_or are.ends m 0)) (slice_get are.reduced n)
   cleaned_at n = ap (λ l. slice_get l n) are.are ∙ slice_get-map (redirected (λ m. slice_index_or are.ends m 0)) are.reduced n

@@ -5,7 +5,8 @@ use Rattle.flow_graph.specs.declared.nodes.Node.TheVariants.{Skip}
 use Rattle.jump_clean.specs.declared.chains.Found.{Found}
 use Rattle.jump_clean.specs.declared.chains.Found.TheVariants.{Nothing, InChain, End}
 use Rattle.jump_clean.specs.Chains.{IsEnd}
-use Rattle.jump_clean.specs.ChainLaws.{In, IsSkipChain}
+use Rattle.jump_clean.specs.ChainLaws.{IsSkipChain}
+use Rattle.flow_graph.specs.Numbering.{IsIn}
 
 -- between two searches: what is known is right, and no node is in a chain
 pub record AreFound (nodes : List Node) (found : List Found) : Type 0 where
@@ -15,13 +16,13 @@ pub record AreFound (nodes : List Node) (found : List Found) : Type 0 where
 
 -- what is known of a node is as it was, or it is one of these and this end is known
 abbrev pub OnlyNoted : List Found → List Found → ℕ → List ℕ → Type 0
-OnlyNoted found found' end nodes = (n : ℕ) → (slice_get found' n ≡ slice_get found n) ⊎ ((slice_get found' n ≡ Some (End end)) × In n nodes)
+OnlyNoted found found' end nodes = (n : ℕ) → (slice_get found' n ≡ slice_get found n) ⊎ ((slice_get found' n ≡ Some (End end)) × IsIn n nodes)
 
 -- during a search: the Skips of the chain lead from the start to node n
 pub record IsFollowed (nodes : List Node) (found : List Found) (chain : List ℕ) (start n : ℕ) : Type 0 where
   pub long : length found ≡ length nodes
   pub right : (m e : ℕ) → slice_get found m ≡ Some (End e) → IsEnd nodes m e
-  pub in_chain : (m : ℕ) → slice_get found m ≡ Some InChain → In m chain
+  pub in_chain : (m : ℕ) → slice_get found m ≡ Some InChain → IsIn m chain
   pub is_chain : IsSkipChain nodes chain start n
   pub place_is : n < length nodes
 
@@ -47,8 +48,8 @@ pub record IsLeastFrom (chain : List ℕ) (first least : ℕ) : Type 0 where
   pub front : List ℕ
   pub rest : List ℕ
   pub are : chain ≡ front ++ first ∷ rest
-  pub is_one : In least (first ∷ rest)
-  pub least_is : (n : ℕ) → In n (first ∷ rest) → least ≤ n
+  pub is_one : IsIn least (first ∷ rest)
+  pub least_is : (n : ℕ) → IsIn n (first ∷ rest) → least ≤ n
 
 -- where the search ends at node n, the end of the chain
 abbrev pub EndsAt : Found → List ℕ → ℕ → ℕ → Type 0

@@ -1,5 +1,5 @@
--- What holds while Tests become Skips: classes of nodes whose chains come together, the Skips whose classes are still to be
--- joined with those of their successors, and the nodes that are still to be looked at. Cited by contracts.
+-- What holds while Tests become Skips: classes of nodes whose chains come together, the Skips whose classes are still
+-- to be joined with those of their successors, and the nodes that are still to be looked at. Cited by contracts.
 use Rattle.std.specs.Prelude.{◌≡◌, ℕ, suc, ◌+◌, ◌<◌, if◌then◌else◌, nat_eq, List, [], ◌∷◌, ◌++◌, length, slice_get, slice_set, Option, Some, None, ◌⊎◌}
 use Rattle.mir_base.specs.declared.instructions.Test as tests
 use Rattle.mir_base.specs.Shapes.{AllBelow}
@@ -10,9 +10,9 @@ use Rattle.flow_graph.specs.Edges.{EdgesShape, edges_of, preds_among}
 use Rattle.flow_graph.specs.Graphs.{AllWithin}
 use Rattle.jump_clean.specs.Chains.{SkipsTo}
 use Rattle.jump_clean.specs.Reductions.{AreReductions}
-use Rattle.jump_clean.specs.ChainLaws.{In}
 use Rattle.jump_clean.specs.declared.classes.Classes.{Classes}
 use Rattle.jump_clean.specs.Classes.{class}
+use Rattle.flow_graph.specs.Numbering.{IsIn}
 
 -- the chains that begin at the two nodes come together
 pub record ChainsMeet (nodes : List Node) (a b : ℕ) : Type 0 where
@@ -28,8 +28,8 @@ pub record IsJoining (raw nodes : List Node) (of worklist suspects : List ℕ) :
   pub within : AllWithin nodes
   pub long : length of ≡ length nodes
   pub sound : (a b : ℕ) → a < length nodes → b < length nodes → class of a ≡ class of b → ChainsMeet nodes a b
-  pub skips : (n next : ℕ) → slice_get nodes n ≡ Some (Skip next) → In n worklist ⊎ (class of n ≡ class of next)
-  pub suspected : (n : ℕ) (test : tests.Test) (taken other : ℕ) → slice_get nodes n ≡ Some (Test test taken other) → class of taken ≡ class of other → In n suspects
+  pub skips : (n next : ℕ) → slice_get nodes n ≡ Some (Skip next) → IsIn n worklist ⊎ (class of n ≡ class of next)
+  pub suspected : (n : ℕ) (test : tests.Test) (taken other : ℕ) → slice_get nodes n ≡ Some (Test test taken other) → class of taken ≡ class of other → IsIn n suspects
   pub worklist_below : AllBelow (length nodes) worklist
   pub suspects_below : AllBelow (length nodes) suspects
 
@@ -37,15 +37,15 @@ pub record IsJoining (raw nodes : List Node) (of worklist suspects : List ℕ) :
 
 -- the number of each Skip is in the list
 abbrev pub ContainSkips : List Node → List ℕ → Type 0
-ContainSkips nodes list = (n next : ℕ) → slice_get nodes n ≡ Some (Skip next) → In n list
+ContainSkips nodes list = (n next : ℕ) → slice_get nodes n ≡ Some (Skip next) → IsIn n list
 
 -- the source of each edge that enters one of these nodes is in the list
 abbrev pub ContainPreds : List Edge → List ℕ → List ℕ → Type 0
-ContainPreds edges nodes list = (n m : ℕ) → In n nodes → In m (preds_among n edges) → In m list
+ContainPreds edges nodes list = (n m : ℕ) → IsIn n nodes → IsIn m (preds_among n edges) → IsIn m list
 
 -- the list has no others
 abbrev pub AreOnlyPreds : List Edge → List ℕ → List ℕ → Type 0
-AreOnlyPreds edges nodes list = (m : ℕ) → In m list → (n : ℕ) × In n nodes × In m (preds_among n edges)
+AreOnlyPreds edges nodes list = (m : ℕ) → IsIn m list → (n : ℕ) × IsIn n nodes × IsIn m (preds_among n edges)
 
 -- the last pending node has been joined with its successor, and what has to be looked at for that are these nodes
 abbrev pub JoinsLast : EdgesShape → List Node → ℕ → Classes → Classes → List ℕ → Type 0

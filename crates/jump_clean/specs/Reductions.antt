@@ -1,4 +1,5 @@
--- Tests that make no difference: those whose two successors have the same end of chain become Skips, one after the other. Cited by contracts.
+-- Tests that make no difference: those whose two successors have the same end of chain become Skips, one after the
+-- other. Cited by contracts.
 use Rattle.std.specs.Prelude.{◌≡◌, ℕ, List, [], ◌∷◌, slice_get, slice_set, Some}
 use Rattle.mir_base.specs.declared.instructions.Test as tests
 use Rattle.flow_graph.specs.declared.nodes.Node.{Node}

@@ -1,10 +1,10 @@
 // The ends of chains of Skips, found in one pass: no Skip is passed twice.
 ghost use Rattle.std.specs.Prelude.{◌≡◌, ℕ, ◌<◌, ◌≤◌, ◌∷◌, length, replicate, slice_get, IfOk, OnOk, Some};
 ghost use Rattle.flow_graph.specs.Graphs.{AllWithin};
+ghost use Rattle.flow_graph.specs.Numbering.{IsIn};
 ghost use Rattle.mir_base.specs.Shapes.{AllBelow};
 ghost use Rattle.jump_clean.specs.declared.chains.Found.TheVariants.{Nothing, InChain, End};
 ghost use Rattle.jump_clean.specs.Chains.{AreEnds, IsEnd};
-ghost use Rattle.jump_clean.specs.ChainLaws.{In};
 ghost use Rattle.jump_clean.specs.Following.{AreFound, EndsAt, IsLeastFrom, OnlyNoted, onward_of, skip_succ};
 
 use flow_graph::Node;
@@ -91,7 +91,7 @@ pub(crate) fn skip_succ(node: &Node) -> Option<usize>
 
 /// The end of the chain, where node `n` is no Skip, or comes for the second time, or its end of chain is known.
 fn end_at(found: Found, chain: &[usize], n: usize) -> usize
-    requires { found ≡ InChain → In n chain.now }
+    requires { found ≡ InChain → IsIn n chain.now }
     ensures { EndsAt found chain.now n result }
 {
     match found {
@@ -103,7 +103,7 @@ fn end_at(found: Found, chain: &[usize], n: usize) -> usize
 
 /// The least number of a circle: of the last Skips of the chain, from node `first` on.
 fn least_on_circle(chain: &[usize], first: usize) -> usize
-    requires { In first chain.now }
+    requires { IsIn first chain.now }
     ensures { IsLeastFrom chain.now first result }
 {
     let place = place_of(chain, first);
@@ -112,7 +112,7 @@ fn least_on_circle(chain: &[usize], first: usize) -> usize
 
 /// The place of a number that is one of these.
 fn place_of(chain: &[usize], n: usize) -> usize
-    requires { In n chain.now }
+    requires { IsIn n chain.now }
     ensures { slice_get chain.now result ≡ Some n }
 {
     let mut place = 0;
@@ -124,8 +124,8 @@ fn place_of(chain: &[usize], n: usize) -> usize
 
 /// The least of these numbers.
 fn least(first: usize, others: &[usize]) -> usize
-    ensures is_one { In result (first ∷ others.now) }
-    ensures least { (n : ℕ) → In n (first ∷ others.now) → result ≤ n }
+    ensures is_one { IsIn result (first ∷ others.now) }
+    ensures least { (n : ℕ) → IsIn n (first ∷ others.now) → result ≤ n }
 {
     let mut least = first;
     for n in others {
@@ -138,7 +138,7 @@ fn least(first: usize, others: &[usize]) -> usize
 fn note(found: &mut Vec<Found>, chain: &[usize], end: usize)
     requires { AllBelow (length found.old.items) chain.now }
     ensures long { length found.new.items ≡ length found.old.items }
-    ensures noted { (n : ℕ) → In n chain.now → slice_get found.new.items n ≡ Some (End end) }
+    ensures noted { (n : ℕ) → IsIn n chain.now → slice_get found.new.items n ≡ Some (End end) }
     ensures others { OnlyNoted found.old.items found.new.items end chain.now }
 {
     for n in chain {

@@ -1,7 +1,7 @@
 // Classes of nodes whose chains have the same end.
 ghost use Rattle.std.specs.Prelude.{◌≡◌, ◌≢◌, ℕ, ◌<◌, [], ◌∷◌, length, slice_set, IfOk, OnOk, ◌⊎◌};
+ghost use Rattle.flow_graph.specs.Numbering.{IsIn};
 ghost use Rattle.mir_base.specs.Shapes.{AllBelow};
-ghost use Rattle.jump_clean.specs.ChainLaws.{In};
 ghost use Rattle.jump_clean.specs.Classes.{class, members_in, members_of, with_more, AreAlone, AreJoined, AreMoved, HaveMembers};
 
 use mir_base::Memory;
@@ -107,8 +107,8 @@ fn one(alloc: Global, n: usize) -> Members
 fn relabel(of: &mut Vec<usize>, nodes: &[usize], into: usize)
     requires { AllBelow (length of.old.items) nodes.now }
     ensures long { length of.new.items ≡ length of.old.items }
-    ensures gone { (n : ℕ) → In n nodes.now → class of.new.items n ≡ into }
-    ensures others { (n : ℕ) → (class of.new.items n ≡ class of.old.items n) ⊎ In n nodes.now }
+    ensures gone { (n : ℕ) → IsIn n nodes.now → class of.new.items n ≡ into }
+    ensures others { (n : ℕ) → (class of.new.items n ≡ class of.old.items n) ⊎ IsIn n nodes.now }
 {
     for n in nodes {
         of[*n] = into;

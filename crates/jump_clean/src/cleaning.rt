@@ -1,6 +1,6 @@
 // Graphs with clean jumps.
 ghost use Rattle.std.specs.Prelude.{◌≡◌, length, map, IfOk};
-ghost use Rattle.flow_graph.specs.Graphs.{AllWithin, IsGraph};
+ghost use Rattle.flow_graph.specs.Graphs.{AllWithin};
 ghost use Rattle.flow_graph.specs.Kept.{redirected_by};
 ghost use Rattle.flow_graph.specs.Passes.{GraphDivides, GraphKeeps};
 ghost use Rattle.jump_clean.specs.Cleaned.{AreCleaned, HasCleanJumps, IsClean, IsOnlyClean};
@@ -32,6 +32,7 @@ pub fn clean(alloc: Global, graph: &Graph) -> Result<Graph, Memory>
     // each dividing assignment stays
     ensures divides { IfOk result (GraphDivides graph.now) }
 {
+    let _nodes = graph.nodes();
     let nodes = cleaned(alloc, graph)?;
     let cleaned = graph.with_nodes(alloc, nodes)?;
     Ok(cleaned)
@@ -39,8 +40,7 @@ pub fn clean(alloc: Global, graph: &Graph) -> Result<Graph, Memory>
 
 /// The nodes, of which tests that make no difference have become Skips and successors ends of chain.
 fn cleaned(alloc: Global, graph: &Graph) -> Result<Vec<Node>, Memory>
-    ensures are { IfOk result (λ cleaned. AreCleaned graph.now.nodes cleaned.items) }
-    ensures graph { IsGraph graph.now.vars graph.now.received graph.now.nodes }
+    ensures { IfOk result (λ cleaned. AreCleaned graph.now.nodes cleaned.items) }
 {
     let nodes = graph.nodes();
     let edges = Edges::of(alloc, graph)?;

@@ -2,9 +2,9 @@
 ghost use Rattle.std.specs.Prelude.{◌≡◌, ℕ, ◌<◌, ◌≤◌, length, slice_set, IfOk, OnOk};
 ghost use Rattle.mir_base.specs.Shapes.{AllBelow};
 ghost use Rattle.flow_graph.specs.declared.nodes.Node.TheVariants.{Skip};
+ghost use Rattle.flow_graph.specs.Numbering.{IsIn};
 ghost use Rattle.flow_graph.specs.Edges.{edges_of};
 ghost use Rattle.flow_graph.specs.Graphs.{AllWithin, SuccsBelow};
-ghost use Rattle.jump_clean.specs.ChainLaws.{In};
 ghost use Rattle.jump_clean.specs.Classes.{HaveMembers};
 ghost use Rattle.jump_clean.specs.Following.{skip_succ};
 ghost use Rattle.jump_clean.specs.Joining.{AreChecked, AreOnlyPreds, ContainPreds, ContainSkips, JoinsLast, checked_nodes, checked_worklist, joins_left, worklist_after, useless_of};
@@ -50,7 +50,7 @@ pub(crate) fn reduce_all(
 
 /// The numbers below this one.
 fn numbers(alloc: Global, count: usize) -> Result<Vec<usize>, Memory>
-    ensures all { IfOk result (λ numbers. (n : ℕ) → n < count → In n numbers.items) }
+    ensures all { IfOk result (λ numbers. (n : ℕ) → n < count → IsIn n numbers.items) }
     ensures below { IfOk result (λ numbers. AllBelow count numbers.items) }
 {
     let mut numbers = Vec::with_capacity(alloc, count)?;

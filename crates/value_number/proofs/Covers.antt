@@ -1,15 +1,13 @@
 -- Candidates for a number: what is put in and dropped, and what covers the numbers of all variables.
-use Rattle.std.proofs.Common.{◌≡◌, ◌≢◌, ◌⊎◌, inl, inr, false, ℕ, zero, suc, ◌<◌, ◌≤◌, List, [], ◌∷◌, ◌++◌, length, length-append, replicate, slice_get, slice_index_or, slice_set, Contains, Option, Some, None, Result, Ok, Err, OnOk, refl, sym, ap, ◌∙◌, subst, arith}
+use Rattle.std.proofs.Common.{◌≡◌, ◌≢◌, ◌⊎◌, inl, inr, ℕ, zero, suc, ◌<◌, ◌≤◌, List, [], ◌∷◌, ◌++◌, length, length-append, slice_get, slice_index_or, slice_set, Contains, Option, Some, None, Result, Ok, Err, OnOk, refl, sym, ap, ◌∙◌, subst, arith}
 use Rattle.std.specs.declared.cmp.Reverse.{Reverse}
-use Rattle.std.specs.BinaryHeap.{IsHeap, IsUpperBound, heap_items}
+use Rattle.std.specs.BinaryHeap.{IsHeap, heap_items}
 use Rattle.std.specs.List.Sorted.{IsPermutation}
-use Rattle.std.specs.BinaryHeap.{lt_by_cmp}
 use Rattle.std.specs.declared.cmp.Ordering.{Ordering}
 use Rattle.std.specs.Ordering.{nat_cmp}
-use Rattle.std.proofs.lemmas.Bool.{cases_eq, cases_lt}
-use Rattle.std.proofs.lemmas.List.{get_or-set_same, get_or-set_other, get_or-replicate, get_or_past, length-replicate, length-set}
-use Rattle.std.proofs.lemmas.List.Elements.{All-contains, All-from_recursion}
-use Rattle.std.proofs.lemmas.List.Sorted.{Contains-permutation, IsPermutation-sym, le_from_greatest}
+use Rattle.std.proofs.lemmas.Bool.{cases_eq}
+use Rattle.std.proofs.lemmas.List.{get_or-set_same, get_or-set_other, length-set}
+use Rattle.std.proofs.lemmas.List.Sorted.{Contains-permutation, IsPermutation-sym}
 use Rattle.std.proofs.lemmas.Option.{same_Some, slice_get_within}
 use Rattle.flow_graph.specs.ListLaws.{get_push, set_here, set_elsewhere}
 use Rattle.value_number.specs.declared.candidates.Candidates.{Candidates}
@@ -32,18 +30,7 @@ contains_rest x xs k there = (suc there.0, omega (arith, there.1), there.2)
 abbrev by_least : Reverse ℕ → Reverse ℕ → Ordering
 by_least a b = nat_cmp b.0 a.0
 
--- no other variable is less than that of a top
-top_least : (x key : Reverse ℕ) (xs : List (Reverse ℕ)) → IsUpperBound by_least x xs → Contains xs key → x.0 ≤ key.0
-top_least x key xs top there =
-    let above = All-contains (λ y. lt_by_cmp by_least x y ≡ false) xs key (All-from_recursion (λ y. lt_by_cmp by_least x y ≡ false) xs top) there in
-    All-contains (λ z. z ≤ key.0) (x.0 ∷ []) x.0 (le_from_greatest key.0 (x.0 ∷ []) (above, tt)) (0, omega arith, refl)
-
 -- ---- candidates that are put in and dropped
-
--- the first is the least of all
-pub first_least : (candidates : Candidates) → AreInOrder candidates → (v u : ℕ) → candidates.first ≡ Some v → IsCandidate candidates u → v ≤ u
-first_least candidates order v u first (inl same) = let one : v ≡ u = same_Some _ _ (sym first ∙ same) in omega (arith, one)
-first_least candidates order v u first (inr other) = order.least v u first other
 
 -- the first of none that were put in
 pub only_candidate : (old new : Candidates) (v : ℕ) → AreInOrder old → old.first ≡ None → new.first ≡ Some v → new.others ≡ old.others → AreInOrder new
@@ -100,11 +87,6 @@ module _ (old new : Candidates) (first v lesser greater : ℕ) (key : Reverse �
   ]
 
 module _ (old new : Candidates) (first : new.first ≡ old.first) (items : heap_items new.others ≡ heap_items old.others) where
-  -- candidates that stay as they are stay candidates
-  pub same_stay : (u : ℕ) → IsCandidate old u → IsCandidate new u
-  same_stay u (inl at) = inl (first ∙ at)
-  same_stay u (inr other) = inr (record { key = other.key; there = subst (λ l. Contains l other.key) (sym items) other.there; is = other.is })
-
   -- and back
   same_back : (u : ℕ) → IsOther new u → IsOther old u
   same_back u other = record { key = other.key; there = subst (λ l. Contains l other.key) items other.there; is = other.is }
@@ -118,17 +100,6 @@ module _ (old new : Candidates) (first : new.first ≡ old.first) (items : heap_
   }
 
 module _ (old new : Candidates) (x : Reverse ℕ) (is : new.first ≡ Some x.0) (moved : IsPermutation (heap_items old.others) (x ∷ heap_items new.others)) where
-  -- the top of the others becomes the first
-  pub drop_order : (IsHeap by_least (heap_items old.others) → IsHeap by_least (heap_items new.others) × IsUpperBound by_least x (heap_items old.others)) → AreInOrder old → AreInOrder new
-  drop_order pops order = record {
-    heap = (pops order.heap).0;
-    least = λ v u at other.
-        let one : v ≡ x.0 = same_Some _ _ (sym at ∙ is) in
-        let there = Contains-permutation (x ∷ heap_items new.others) (heap_items old.others) other.key (IsPermutation-sym (heap_items old.others) (x ∷ heap_items new.others) moved) (contains_rest x (heap_items new.others) other.key other.there) in
-        omega (arith, one, top_least x other.key (heap_items old.others) (pops order.heap).1 there, other.is);
-    none = λ u at other. let bad : Some x.0 ≡ None = sym is ∙ at in cc;
-  }
-
   -- and the others stay
   pub drop_stay : (u : ℕ) → IsCandidate old u → (old.first ≡ Some u) ⊎ IsCandidate new u
   drop_stay u (inl at) = inl at
@@ -142,14 +113,6 @@ module _ (old new : Candidates) (long : length (heap_items old.others) ≡ 0) wh
   empty_other : (u : ℕ) → IsOther old u → ⊥
   empty_other u other = let within = other.there.1 in omega (arith, within, long)
 
-  -- where there are no others, the first goes
-  pub empty_order : heap_items new.others ≡ heap_items old.others → new.first ≡ None → AreInOrder old → AreInOrder new
-  empty_order items none order = record {
-    heap = subst (IsHeap by_least) (sym items) order.heap;
-    least = λ v u at other. let bad : None ≡ Some v = sym none ∙ at in cc;
-    none = λ u at other. empty_other u (record { key = other.key; there = subst (λ l. Contains l other.key) items other.there; is = other.is });
-  }
-
   -- and it was the only one
   pub empty_stay : (u : ℕ) → IsCandidate old u → (old.first ≡ Some u) ⊎ IsCandidate new u
   empty_stay u (inl at) = inl at
@@ -161,16 +124,6 @@ module _ (old new : Candidates) (long : length (heap_items old.others) ≡ 0) wh
 pub on_ok : {T E : Type 0} {P Q : Type 0} (r : Result T E) → (P → Q) → OnOk r P → OnOk r Q
 on_ok (Ok x) f p = f p
 on_ok (Err e) f p = tt
-
--- a list of variables without numbers is covered
-pub cover_begin : (count : ℕ) → CoverAll (replicate count None) []
-cover_begin count = record { below = λ v number at. absurd (unnumbered v number at); covers = λ number candidates at. cc }
-  where
-    unnumbered : (v number : ℕ) → kept_number (replicate count None) v ≡ Some number → ⊥
-    unnumbered v number at = elim (cases_lt v count) [
-      | inl lt ↦ (let bad : None ≡ Some number = sym (get_or-replicate count v None None lt) ∙ at in cc)
-      | inr ge ↦ (let bad : None ≡ Some number = sym (get_or_past (replicate count None) v None (omega (arith, ge, length-replicate {A = Option ℕ} count None))) ∙ at in cc)
-    ]
 
 module _ (numbers : List (Option ℕ)) (table : List Candidates) (all : CoverAll numbers table) where
   -- one more number, which no variable has
@@ -240,25 +193,3 @@ module _ (numbers : List (Option ℕ)) (table : List Candidates) (all : CoverAll
       given v k same at = same_Some _ _ (sym (get_or-set_same numbers x (Some number) None lt) ∙ subst (λ w. kept_number (slice_set numbers x (Some number)) w ≡ Some k) same at)
 
 -- ---- the first variable with a number
-
--- a first that does not have the number is dropped
-pub cover_dropped : (numbers : List (Option ℕ)) (number v : ℕ) (old new : Candidates) → Cover numbers number old → old.first ≡ Some v → kept_number numbers v ≢ Some number
-    → (AreInOrder old → AreInOrder new) → ((u : ℕ) → IsCandidate old u → (old.first ≡ Some u) ⊎ IsCandidate new u) → Cover numbers number new
-cover_dropped numbers number v old new cover first lacks order stay = record {
-  order = order cover.order;
-  each = λ u has. elim (stay u (cover.each u has)) as (λ _. IsCandidate new u) [
-    | inl at ↦ (let same : v ≡ u = same_Some _ _ (sym first ∙ at) in absurd (lacks (ap (kept_number numbers) same ∙ has)))
-    | inr is ↦ is
-  ];
-}
-
--- no variable before the first has it
-pub none_before : (numbers : List (Option ℕ)) (number v : ℕ) (candidates : Candidates) → Cover numbers number candidates → candidates.first ≡ Some v → (u : ℕ) → u < v → kept_number numbers u ≢ Some number
-none_before numbers number v candidates cover first u lt has = let le = first_least candidates cover.order v u first (cover.each u has) in omega (arith, lt, le)
-
--- where there is no first, none has it
-pub none_has_it : (numbers : List (Option ℕ)) (number : ℕ) (candidates : Candidates) → Cover numbers number candidates → candidates.first ≡ None → (u : ℕ) → kept_number numbers u ≢ Some number
-none_has_it numbers number candidates cover none u has = elim (cover.each u has) as (λ _. ⊥) [
-  | inl at ↦ (let bad : None ≡ Some u = sym none ∙ at in cc)
-  | inr other ↦ cover.order.none u none other
-]

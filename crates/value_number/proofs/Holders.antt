@@ -1,6 +1,7 @@
--- What is found at one node: the first variable with the number of a term is the first that has the term, and the numbers
--- after the node stand for the terms after it.
+-- What is found at one node: the first variable with the number of a term is the first that has the term, and the
+-- numbers after the node stand for the terms after it.
 use Rattle.std.proofs.Common.{◌≡◌, ◌≢◌, ℕ, ◌<◌, ◌≤◌, Bool, true, false, not, if◌then◌else◌, nat_eq, eqb-true, eq-eqb, List, length, slice_get, slice_set, Option, Some, None, refl, sym, ap, ◌∙◌, subst, arith}
+use Rattle.std.proofs.lemmas.Bool.{false≢true}
 use Rattle.std.specs.Option.{IfSome, IfNone}
 use Rattle.std.proofs.lemmas.List.{get_or-set_same, get_or-set_other, length-set}
 use Rattle.std.proofs.lemmas.Option.{slice_get_within}
@@ -11,14 +12,12 @@ use Rattle.mir_base.specs.declared.operators.Op.{Op}
 use Rattle.mir_base.specs.declared.operators.UnOp.{UnOp}
 use Rattle.mir_base.specs.Expressions.{divides}
 use Rattle.mir_base.specs.Shapes.{AllDiffer}
-use Rattle.flow_graph.specs.declared.nodes.Node.{Node}
 use Rattle.flow_graph.specs.declared.nodes.Node.TheVariants.{Assign, Call}
-use Rattle.flow_graph.specs.Graphs.{is_start}
 use Rattle.value_number.specs.declared.finding.Change.{Change}
 use Rattle.value_number.specs.declared.finding.Found.{Found}
 use Rattle.value_number.specs.declared.terms.TermKey.{TermKey}
 use Rattle.value_number.specs.declared.terms.TermKey.TheVariants as keys
-use Rattle.value_number.specs.Terms.{Term, Terms, Initial, Opaque, Number, UnaryOf, BinaryOf, with_term, assigned_term, rhs_term, movable_term, movable_rhs_term, node_terms}
+use Rattle.value_number.specs.Terms.{Term, Terms, Initial, Opaque, Number, UnaryOf, BinaryOf, with_term, assigned_term, rhs_term, movable_rhs_term}
 use Rattle.value_number.specs.Numbered.{IsHolder}
 use Rattle.value_number.specs.Table.{Stands, Stay, Represent, RepresentsAt, kept_number}
 use Rattle.value_number.specs.Walks.{Finds}
@@ -115,22 +114,8 @@ represent_changed table numbers root terms x number t represent lt stands = reco
         let same : v ≡ x = eqb-true v x e in
         subst (λ o. RepresentsAt table root v o t) (sym (ap (kept_number (slice_set numbers x (Some number))) same ∙ get_or-set_same numbers x (Some number) None lt)) stands
     by v v_lt false e =
-        let other : v ≢ x = λ same. differs (sym e ∙ eq-eqb v x same) in
+        let other : v ≢ x = λ same. false≢true (sym e ∙ eq-eqb v x same) in
         subst (λ o. RepresentsAt table root v o (terms v)) (sym (get_or-set_other numbers x v (Some number) None other)) (represent.each v v_lt)
-      where
-        differs : false ≡ true → ⊥
-        differs h = cc
-
--- nothing at a node that gives no variable a term
-pub finds_nothing : (table : List TermKey) (numbers : List (Option ℕ)) (root n : ℕ) (node : Node) → ((terms : Terms) → movable_term terms node ≡ None) → ((terms : Terms) → is_start node ≡ false → node_terms n node terms ≡ terms)
-    → Finds table table numbers root n node (record { holder = None; change = None })
-finds_nothing table numbers root n node none stay = record {
-  stay = λ i key at. at;
-  within = tt;
-  holder = λ terms represent. subst (λ o. IsHolder (length numbers) terms o None) (sym (none terms)) refl;
-  change = λ terms represent other. subst (Represent table numbers root) (sym (stay terms other)) represent;
-  start = λ is. refl;
-}
 
 -- a record of these two parts
 same_found : (found : Found) (holder : Option ℕ) (change : Option Change) → found.holder ≡ holder → found.change ≡ change → record { holder = holder; change = change } ≡ found

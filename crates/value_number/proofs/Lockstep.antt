@@ -1,5 +1,5 @@
--- The numbered nodes go in lockstep with the nodes: along a run each variable has the value of its term, for some values
--- of the leaves, so a variable with the term of a right side has its value.
+-- The numbered nodes go in lockstep with the nodes: along a run each variable has the value of its term, for some
+-- values of the leaves, so a variable with the term of a right side has its value.
 use Rattle.std.proofs.Common.{◌≡◌, inl, inr, ℕ, Bool, true, false, if◌then◌else◌, List, [], ◌∷◌, slice_get, ℤ, Option, Some, None, refl, sym, ap, ◌∙◌, subst, arith, le_refl}
 use Rattle.mir_base.specs.declared.instructions.Operand.TheVariants.{Var}
 use Rattle.mir_base.specs.declared.instructions.Rhs.{Rhs}
@@ -14,7 +14,7 @@ use Rattle.mir_base.specs.UnitRuns.{UnitSame, UnitCheaper}
 use Rattle.mir_base.specs.Units.{test_holds, at, assigned, assign_transition}
 use Rattle.flow_graph.specs.declared.nodes.Node.{Node}
 use Rattle.flow_graph.specs.declared.nodes.Node.TheVariants.{Start, Skip, Assign, Print, Call, Test as TestNode, Return}
-use Rattle.flow_graph.specs.Graphs.{node_succs, succs_of}
+use Rattle.flow_graph.specs.Graphs.{node_succs, succs_of, slot_of}
 use Rattle.flow_graph.specs.Machines.{received_from, node_transition, graph_code, graph_machine}
 use Rattle.flow_graph.specs.Paths.{HasEdge}
 use Rattle.flow_graph.specs.RedirectLaws.{resumed_place}
@@ -24,6 +24,7 @@ use Rattle.value_number.specs.Numbered.{IsHolder, numbered_node, AreNumbered}
 use Rattle.value_number.specs.NumberedLaws.{none_too}
 use Rattle.value_number.specs.RootLaws.{one_way, root_or_not, only_enters, not_on_its_way}
 use Rattle.value_number.proofs.Values.{term_value, HaveTerms, rhs_has, has_assigned, has_initial, avoids_before, given_here, has_given}
+use Rattle.flow_graph.specs.BoundLaws.{slot_leads}
 
 -- at this place some values of the leaves give the values of the variables
 record Termed (nodes : List Node) (place : ℕ) (values : Values) : Type 0 where
@@ -61,16 +62,6 @@ module _ (nodes : List Node) where
           has = subst (λ o. HaveTerms (terms_after n o (terms_before nodes root before)) after.first after.given values) (sym here) after.has;
         }
       ]
-
--- the successor that a test takes
-abbrev slot_of : Bool → ℕ
-slot_of true = 0
-slot_of false = 1
-
--- it is the node where the run goes on
-slot_leads : (taken other : ℕ) (b : Bool) → slice_get (taken ∷ other ∷ []) (slot_of b) ≡ Some (if b then taken else other)
-slot_leads taken other true = refl
-slot_leads taken other false = refl
 
 -- a truth value that chooses Some is true
 chosen_true : {A : Type 0} (b : Bool) (t u : A) → (if b then Some t else None) ≡ Some u → (b ≡ true) × (t ≡ u)

@@ -5,7 +5,7 @@ use Rattle.mir_base.specs.declared.operators.UnOp.{UnOp}
 use Rattle.mir_base.specs.declared.instructions.Operand.{Operand}
 use Rattle.mir_base.specs.declared.instructions.Rhs.TheVariants.{Unary, Binary}
 use Rattle.mir_base.specs.Shapes.{AllDiffer}
-use Rattle.key_table.specs.KeyLaws.{one_place}
+use Rattle.mir_base.specs.ItemLaws.{one_place}
 use Rattle.value_number.specs.declared.terms.TermKey.{TermKey}
 use Rattle.value_number.specs.declared.terms.TermKey.TheVariants as keys
 use Rattle.value_number.specs.Terms.{Term, Terms, Initial, Opaque, Number, UnaryOf, BinaryOf, operand_term, rhs_term}
@@ -85,10 +85,6 @@ represents_on old new root v (Some n) t stay r = stands_on old new stay t n r
 -- and of all
 pub represent_on : (old new : List TermKey) (numbers : List (Option ℕ)) (root : ℕ) (terms : Terms) → Stay old new → Represent old numbers root terms → Represent new numbers root terms
 represent_on old new numbers root terms stay r = record { each = λ v lt. represents_on old new root v (kept_number numbers v) (terms v) stay (r.each v lt) }
-
--- two additions
-pub stay_trans : (a b c : List TermKey) → Stay a b → Stay b c → Stay a c
-stay_trans a b c p q i key at = q i key (p i key at)
 
 -- ---- right sides
 

@@ -1,5 +1,5 @@
--- The value of a term, where each leaf has one: terms that stand for the values of the variables before a node stand for
--- them after it.
+-- The value of a term, where each leaf has one: terms that stand for the values of the variables before a node stand
+-- for them after it.
 use Rattle.std.proofs.Common.{◌≡◌, ◌≢◌, inl, inr, ℕ, Bool, true, false, if◌then◌else◌, nat_eq, eqb-true, eq-eqb, List, [], ◌∷◌, slice_get, ℤ, Option, Some, None, refl, sym, ap, ◌∙◌}
 use Rattle.mir_base.specs.declared.instructions.Operand.{Operand}
 use Rattle.mir_base.specs.declared.instructions.Operand.TheVariants.{Var, Const}
@@ -13,7 +13,7 @@ use Rattle.flow_graph.specs.declared.nodes.Node.{Node}
 use Rattle.flow_graph.specs.declared.nodes.Node.TheVariants.{Start, Skip, Assign, Print, Call, Test, Return}
 use Rattle.value_number.specs.Terms.{Term, Initial, Opaque, Number, UnaryOf, BinaryOf, Terms, initial_terms, operand_term, rhs_term, assigned_term, with_term, terms_after}
 use Rattle.value_number.specs.Roots.{terms_before}
-use Rattle.value_number.specs.RootLaws.{IsIn}
+use Rattle.flow_graph.specs.Numbering.{IsIn}
 
 -- the value of a term, where variables had these values at the root, and nodes gave these
 unfoldable pub term_value : Values → Values → Term → ℤ

@@ -16,8 +16,8 @@ IsHolder count terms None holder = holder ≡ None
 IsHolder count terms (Some t) None = (v : ℕ) → v < count → terms v ≢ t
 IsHolder count terms (Some t) (Some v) = (v < count) × (terms v ≡ t) × ((u : ℕ) → u < v → terms u ≢ t)
 
--- of the variables below `count`, this is the first that has, before node n, the term of the movable right side that the
--- node assigns; none where none has it, or the node assigns no such right side
+-- of the variables below `count`, this is the first that has, before node n, the term of the movable right side that
+-- the node assigns; none where none has it, or the node assigns no such right side
 pub record IsHolderAt (nodes : List Node) (count n : ℕ) (node : Node) (holder : Option ℕ) : Type 0 where
   pub root : ℕ
   pub before : List ℕ

@@ -1,5 +1,5 @@
--- Laws of the numbered graph: a graph has one, each node keeps its successors, and dividing assignments stay. For proofs
--- only; mir_opt cites the first.
+-- Laws of the numbered graph: a graph has one, each node keeps its successors, and dividing assignments stay. For
+-- proofs only; mir_opt cites the first.
 use Rattle.std.proofs.Common.{◌≡◌, ℕ, ◌<◌, true, not, if◌then◌else◌, List, length, slice_get, Option, Some, None, inl, inr, refl, sym, ap, ◌∙◌, subst, arith}
 use Rattle.std.proofs.lemmas.Bool.{cases_lt}
 use Rattle.std.proofs.lemmas.Option.{slice_get_cases, slice_get_past}

@@ -8,11 +8,7 @@ use Rattle.flow_graph.specs.Graphs.{Reached, at_start, along}
 use Rattle.flow_graph.specs.ListLaws.{cons_same}
 use Rattle.flow_graph.specs.Paths.{HasEdge}
 use Rattle.value_number.specs.Roots.{is_root, FromRoot}
-
--- one of the numbers is n
-abbrev pub IsIn : ℕ → List ℕ → Type 0
-IsIn n [] = ⊥
-IsIn n (x ∷ xs) = (x ≡ n) ⊎ IsIn n xs
+use Rattle.flow_graph.specs.Numbering.{IsIn}
 
 -- the only item of a list that has at most one
 only_item : (xs : List ℕ) (i m : ℕ) → length xs ≤ 1 → slice_get xs i ≡ Some m → xs ≡ m ∷ []
@@ -63,7 +59,7 @@ module _ (nodes : List Node) where
         | inr off ↦ (earlier.0, m ∷ earlier.1, (off, only_enters m n off (slot, edge), earlier.2))
       ]
 
-  -- a node on the way has the rest of it for its own
+  -- a node on the way has the remainder of it for its own
   rest_of_way : (n k root : ℕ) (before : List ℕ) → FromRoot nodes root n before → IsIn k before → (rest : List ℕ) × FromRoot nodes root k rest × (length rest < length before)
   rest_of_way n k root [] p h = absurd h
   rest_of_way n k root (m ∷ before) p (inl same) = (before, subst (λ j. FromRoot nodes root j before) same p.2, omega arith)

@@ -1,5 +1,5 @@
--- What the walk over the graph keeps: numbers for the terms of the variables, and steps that are still to be taken. Cited
--- by contracts of private functions.
+-- What the walk over the graph keeps: numbers for the terms of the variables, and steps that are still to be taken.
+-- Cited by contracts of private functions.
 use Rattle.std.specs.Prelude.{◌≡◌, ◌⊎◌, ℕ, ◌+◌, ◌*◌, ◌<◌, Bool, true, false, if◌then◌else◌, List, [], ◌∷◌, ◌++◌, length, slice_get, slice_index_or, slice_set, Option, Some, None}
 use Rattle.flow_graph.specs.declared.nodes.Node.{Node}
 use Rattle.flow_graph.specs.Graphs.{GraphShape, is_start}

@@ -35,8 +35,8 @@ pub(crate) struct Found {
     pub(crate) change: Option<Change>,
 }
 
-/// What is found at node `n`, which is this one, where `numbers` are those of the variables before it. It fails only with
-/// `Memory`. A variable is looked for only where the table had the term before.
+/// What is found at node `n`, which is this one, where `numbers` are those of the variables before it. It fails only
+/// with `Memory`. A variable is looked for only where the table had the term before.
 pub(crate) fn find(
     table: &mut KeyTable<TermKey>,
     numbers: &mut Numbers,

@@ -3,8 +3,9 @@ use Rattle.flow_graph.specs.BoundLaws.{succs_at_below}
 use Rattle.std.proofs.lemmas.List.{length-replicate, take_all}
 use Rattle.flow_graph.specs.Graphs.{succs_at, AllWithin}
 use Rattle.node_list.specs.Lists.{times_in}
-use Rattle.edge_split.proofs.Targets.{none_counted, preds_times, targets, targets_front, times_append}
+use Rattle.edge_split.proofs.Targets.{none_counted, preds_times, targets, targets_front}
 use Rattle.edge_split.proofs.entries.entries.Goals as goal
+use Rattle.node_list.specs.ListedLaws.{times_in_append}
 
 pub loop-n-init : goal.loop-n-init
 loop-n-init c = record {
@@ -31,7 +32,7 @@ loop-n-preserved c =
       len = c.count.ensures.len ∙ inv.len;
       counted = λ s.
           let one : slice_index c.count.new.entries.items s ≡ min 2 (slice_index c.loop-n.entries.items s + times_in s (succs_at nodes n)) = rw succs at (c.count.ensures.counted s) in
-          let all : times_in s (targets (take (n + 1) nodes)) ≡ times_in s (targets (take n nodes)) + times_in s (succs_at nodes n) = ap (times_in s) (targets_front nodes n lt) ∙ times_append s (targets (take n nodes)) (succs_at nodes n) in
+          let all : times_in s (targets (take (n + 1) nodes)) ≡ times_in s (targets (take n nodes)) + times_in s (succs_at nodes n) = ap (times_in s) (targets_front nodes n lt) ∙ times_in_append s (targets (take n nodes)) (succs_at nodes n) in
           omega (arith, one, all, inv.counted s);
     }
 

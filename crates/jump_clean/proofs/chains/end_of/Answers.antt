@@ -3,11 +3,11 @@ use Rattle.std.proofs.lemmas.Option.{slice_get_read}
 use Rattle.mir_base.specs.Shapes.{AllBelow}
 use Rattle.jump_clean.specs.declared.chains.Found.TheVariants.{InChain, Nothing}
 use Rattle.jump_clean.specs.Chains.{IsEnd}
-use Rattle.jump_clean.specs.ChainLaws.{In}
 use Rattle.jump_clean.specs.Following.{IsFollowed, EndsAt, onward_of}
 use Rattle.jump_clean.proofs.Follow.{one_further, search_ends, start_end, search_noted, note_below, known_less}
 use Rattle.jump_clean.proofs.chains.end_of.Goals as goal
 use Rattle.jump_clean.proofs.chains.end_of.Goals.{After-onward}
+use Rattle.flow_graph.specs.Numbering.{IsIn}
 
 node_here : (c : After-onward) → slice_get c.args.nodes.now c.loop-next.n ≡ Some c.index-nodes-n.result
 node_here c = slice_get_read c.args.nodes.now (length c.args.nodes.now) c.loop-next.n c.index-nodes-n.result refl c.loop-next.invariant.place_is c.index-nodes-n.is
@@ -35,7 +35,7 @@ end_at-end-requires c = λ in_chain.
     let n = c.loop-next.n in
     let found = c.loop-next.found.items in
     let at_found : slice_get found n ≡ Some c.index-2.result.now = slice_get_read found (length found) n c.index-2.result.now refl (omega (arith, inv.long, inv.place_is)) c.index-2.ensures in
-    subst (In n) (sym c.as_slice.ensures.value) (inv.in_chain n (at_found ∙ ap Some in_chain))
+    subst (IsIn n) (sym c.as_slice.ensures.value) (inv.in_chain n (at_found ∙ ap Some in_chain))
 
 pub note-requires : goal.note-requires
 note-requires c = subst (AllBelow (length c.loop-next.found.items)) (sym c.as_slice-2.ensures.value) (note_below c.args.nodes.now c.loop-next.found.items c.loop-next.chain.items c.args.start c.loop-next.n c.loop-next.invariant)
@@ -62,5 +62,5 @@ pub returns-clause-found : goal.returns-clause-found
 returns-clause-found c =
     let chain : c.as_slice-2.result.now ≡ c.loop-next.chain.items = c.as_slice-2.ensures.value in
     search_noted c.args.nodes.now c.loop-next.found.items c.note.new.found.items c.loop-next.chain.items c.args.start c.loop-next.n c.end_at-end.result c.loop-next.invariant (end_is c) c.note.ensures.long
-    (λ m h. c.note.ensures.noted m (subst (In m) (sym chain) h))
-    (λ m. elim (c.note.ensures.others m) [ inl old ↦ inl old | inr new ↦ inr (new.0, subst (In m) chain new.1) ])
+    (λ m h. c.note.ensures.noted m (subst (IsIn m) (sym chain) h))
+    (λ m. elim (c.note.ensures.others m) [ inl old ↦ inl old | inr new ↦ inr (new.0, subst (IsIn m) chain new.1) ])

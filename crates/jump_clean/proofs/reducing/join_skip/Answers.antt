@@ -1,13 +1,13 @@
 use Rattle.std.proofs.Common.{◌∙◌, ap, sym, subst, refl, arith, length, Some}
 use Rattle.std.proofs.lemmas.Option.{slice_get_read}
 use Rattle.flow_graph.specs.Edges.{preds_among}
-use Rattle.jump_clean.specs.ChainLaws.{In}
 use Rattle.jump_clean.specs.ReductionLaws.{skips_within, all_long}
 use Rattle.jump_clean.specs.Joining.{IsJoining}
 use Rattle.jump_clean.proofs.Moves.{members_below}
 use Rattle.jump_clean.proofs.Preds.{in_preds, pred_within}
 use Rattle.jump_clean.proofs.Joins.{skip_succ_is, no_skip, last_joined, no_skip_last}
 use Rattle.jump_clean.proofs.reducing.join_skip.Goals as goal
+use Rattle.flow_graph.specs.Numbering.{IsIn}
 
 pub join-requires-clause-b : goal.join-requires-clause-b
 join-requires-clause-b c =
@@ -25,8 +25,8 @@ returns-in_ok-checks-in-Some-clause-joining c = λ raw worklist e j.
     let checks = c.in_ok-checks-in-Some.checks.items in
     let long = all_long raw j.order nodes j.reductions in
     last_joined raw nodes c.args.classes.now.of.items worklist c.args.n j c.in-Some.next c.join.new.self.of.items c.in_ok-moved-in-Some.moved.items checks skip c.in_ok-moved-in-Some.ensures.joined
-    (λ m s slot moved edge. c.in_ok-checks-in-Some.ensures.all s m (subst (In s) (sym c.as_slice.ensures) moved) (subst (λ l. In m (preds_among s l)) (sym edges) (in_preds raw m s slot edge)))
-    (members_below (length nodes) checks (λ m h. let r = c.in_ok-checks-in-Some.ensures.only m h in omega (arith, pred_within raw r.0 m (subst (λ l. In m (preds_among r.0 l)) edges r.2), long)))
+    (λ m s slot moved edge. c.in_ok-checks-in-Some.ensures.all s m (subst (IsIn s) (sym c.as_slice.ensures) moved) (subst (λ l. IsIn m (preds_among s l)) (sym edges) (in_preds raw m s slot edge)))
+    (members_below (length nodes) checks (λ m h. let r = c.in_ok-checks-in-Some.ensures.only m h in omega (arith, pred_within raw r.0 m (subst (λ l. IsIn m (preds_among r.0 l)) edges r.2), long)))
 
 pub returns-in-None-clause-joining : goal.returns-in-None-clause-joining
 returns-in-None-clause-joining c = λ raw worklist e j.
