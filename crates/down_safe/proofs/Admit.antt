@@ -28,7 +28,8 @@ module _ (graph : GraphShape) (is_graph : IsGraph graph.vars graph.received grap
     abbrev Inserted : ℕ → Type 0
     Inserted m = p.inserts m ≡ true
 
-    -- before a node that is down, an insertion stands there or has made e available; and where a use has, an insertion has
+    -- before a node that is down, an insertion stands there or has made e available; and where a use has, an insertion
+    -- has
     abbrev Holds : ℕ → List ℕ → Type 0
     Holds n before = (Down n → Inserted n ⊎ IsAvailableAfter graph e Inserted before) × (IsAvailableAfter graph e (λ m. uses graph e m ≡ true) before → IsAvailableAfter graph e Inserted before)
 

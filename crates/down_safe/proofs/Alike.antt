@@ -1,5 +1,6 @@
 -- Statements on paths, of bits that are equal at the nodes to others: they hold of the others too.
-use Rattle.std.proofs.Common.{◌≡◌, ℕ, ◌<◌, Bool, true, false, not, ◌&&◌, List, [], ◌∷◌, length, inl, inr, refl, sym, ◌∙◌}
+use Rattle.std.proofs.Common.{◌≡◌, ℕ, ◌<◌, Bool, true, not, ◌&&◌, List, [], ◌∷◌, length, inl, inr, refl, sym, ◌∙◌}
+use Rattle.std.proofs.lemmas.Bool.{and_parts, not-true}
 use Rattle.flow_graph.specs.declared.nodes.Node.{Node}
 use Rattle.flow_graph.specs.Paths.{HasEdge, IsPath, Trace, from_start, goes_on}
 use Rattle.flow_graph.specs.BoundLaws.{edge_within}
@@ -7,20 +8,14 @@ use Rattle.path_laws.specs.Paths.{BornAfter, BornBefore, EndsWell, Meets, Since}
 use Rattle.motion_rewrite.specs.Placements.{ReachesAlong}
 use Rattle.down_safe.specs.Bits.{IsAvailableBit}
 
--- what is set and not killed is both
-both_true : (a b : Bool) → (a && not b) ≡ true → (a ≡ true) × (b ≡ false)
-both_true true true h = absurd (cc)
-both_true true false h = (refl, refl)
-both_true false b h = absurd (cc)
-
 module _ (nodes : List Node) where
   -- equal at each node
   abbrev pub Alike : (ℕ → Bool) → (ℕ → Bool) → Type 0
   Alike f g = (n : ℕ) → n < length nodes → f n ≡ g n
 
   -- the other way round
-  turned : (f g : ℕ → Bool) → Alike f g → Alike g f
-  turned f g same n h = sym (same n h)
+  alike_back : (f g : ℕ → Bool) → Alike f g → Alike g f
+  alike_back f g same n h = sym (same n h)
 
   -- an edge leaves a node that is there
   from_within : {m n : ℕ} → HasEdge nodes m n → m < length nodes
@@ -45,7 +40,7 @@ module _ (nodes : List Node) where
   -- so the bit is born after a node alike
   pub after_alike : (born born' stop stop' : ℕ → Bool) → Alike born born' → Alike stop stop' → (n : ℕ) → BornAfter nodes born stop n → BornAfter nodes born' stop' n
   after_alike born born' stop stop' same_born same_stop n all path is begins ends =
-      meets_alike born born' same_born path is (all path is begins (ends_alike stop' stop (turned stop stop' same_stop) path is ends))
+      meets_alike born born' same_born path is (all path is begins (ends_alike stop' stop (alike_back stop stop' same_stop) path is ends))
 
   -- ---- paths to a node
 
@@ -66,14 +61,15 @@ module _ (nodes : List Node) where
   pub available_alike : (used used' killed killed' : ℕ → Bool) → Alike used used' → Alike killed killed' → (n : ℕ) → IsAvailableBit nodes used killed n → IsAvailableBit nodes used' killed' n
   available_alike used used' killed killed' same_used same_killed n all before trace = reaches_alike used used' killed killed' same_used same_killed n before trace (all before trace)
 
-  -- what is born where it is used and not killed, and stopped where it is killed, is born before a node exactly where it is available there
+  -- what is born where it is used and not killed, and stopped where it is killed, is born before a node exactly where
+  -- it is available there
   module _ (born used killed : ℕ → Bool) (is : (n : ℕ) → n < length nodes → born n ≡ (used n && not (killed n))) where
     -- along one path
     since_reaches : (n : ℕ) (before : List ℕ) → Trace nodes n before → Since born killed before → ReachesAlong (λ m. used m ≡ true) killed before
     since_reaches n before from_start since = absurd since
     since_reaches n before (goes_on m k earlier trace edge) (inl b) =
-        let both = both_true (used m) (killed m) (sym (is m (from_within edge)) ∙ b) in
-        (both.1, inl both.0)
+        let both = and_parts (used m) (not (killed m)) (sym (is m (from_within edge)) ∙ b) in
+        (not-true (killed m) both.1, inl both.0)
     since_reaches n before (goes_on m k earlier trace edge) (inr more) = (more.0, inr (since_reaches m earlier trace more.1))
 
     reaches_since : (n : ℕ) (before : List ℕ) → Trace nodes n before → ReachesAlong (λ m. used m ≡ true) killed before → Since born killed before

@@ -1,5 +1,5 @@
--- What rows of bits say from which the earliest nodes are read, of one bit and of all. A bit stands for an expression, and
--- says by node where it is used, killed, available or down. Cited by contracts of private functions.
+-- What rows of bits say from which the earliest nodes are read, of one bit and of all. A bit stands for an expression,
+-- and says by node where it is used, killed, available or down. Cited by contracts of private functions.
 use Rattle.std.specs.Prelude.{◌≡◌, ◌<◌, ℕ, Bool, true, not, ◌||◌, List, length}
 use Rattle.flow_graph.specs.declared.nodes.Node.{Node}
 use Rattle.flow_graph.specs.Graphs.{GraphShape}

@@ -1,7 +1,6 @@
 -- That the rule of anticipatable expressions keeps the laws of a down rule. Cited by the rule.
 use Rattle.std.proofs.Common.{◌≡◌, ℕ, zero, suc, ◌<◌, true, false, List, [], ◌∷◌, length, slice_get, Some, inl, inr, refl, sym, ap, ◌∙◌, subst, arith, true≢false}
 use Rattle.std.proofs.lemmas.Bool.{cases_Bool}
-use Rattle.std.proofs.lemmas.Option.{none-some}
 use Rattle.mir_base.specs.declared.instructions.Expr.{Expr}
 use Rattle.flow_graph.specs.declared.nodes.Node.{Node}
 use Rattle.flow_graph.specs.declared.nodes.Node.TheVariants.{Start, Skip, Assign, Print, Call, Test, Return}
@@ -12,6 +11,7 @@ use Rattle.path_laws.specs.Paths.{EndsWell}
 use Rattle.motion_rewrite.specs.Expressions.{kills, uses}
 use Rattle.motion_rewrite.specs.ExpressionLaws.{skip_keeps}
 use Rattle.motion_rewrite.specs.Placements.{DownLaws, IsAnticipatable}
+use Rattle.mir_base.specs.ItemLaws.{one_item}
 
 -- a node with no successor is a Return
 returns : (nodes : List Node) (n : ℕ) → n < length nodes → succs_at nodes n ≡ [] → IsReturnAt nodes n
@@ -24,11 +24,6 @@ returns (Call into unit operands next ∷ nodes) zero lt none = cc
 returns (Test test taken other ∷ nodes) zero lt none = cc
 returns (Return a ∷ nodes) zero lt none = refl
 returns (node ∷ nodes) (suc n) lt none = returns nodes n (omega (arith, lt)) none
-
--- the only successor of a Skip
-only : (s k : ℕ) (slot : ℕ) → slice_get (s ∷ []) slot ≡ Some k → k ≡ s
-only s k zero e = cc
-only s k (suc slot) e = absurd (none-some _ e)
 
 module _ (graph : GraphShape) (e : Expr) where
   -- a node that does not use has no path to itself alone that ends well
@@ -58,7 +53,7 @@ module _ (graph : GraphShape) (e : Expr) where
   skips n s here down (m ∷ []) is begins (inr return) = absurd (true≢false (sym return ∙ ap is_return (ap (slice_get graph.nodes) begins ∙ here)))
   skips n s here down (m ∷ k ∷ path) is begins ends =
       let to_k = is.0 in
-      let next : k ≡ s = only s k to_k.0 (sym (ap (λ o. slice_get (succs_of o) to_k.0) (ap (slice_get graph.nodes) begins ∙ here)) ∙ to_k.1) in
+      let next : k ≡ s = sym (one_item s k to_k.0 (sym (ap (λ o. slice_get (succs_of o) to_k.0) (ap (slice_get graph.nodes) begins ∙ here)) ∙ to_k.1)) in
       inr (down (k ∷ path) is.1 next ends.1)
 
   -- a node that uses is down, since each path from it begins with the use

@@ -16,5 +16,5 @@ count_before graph e p before n =
     let f : ℕ → ℕ = evaluations_at graph e p in
     let all = count_sum graph e p (reverse before ++ n ∷ []) in
     let parts = sum_append f (reverse before) (n ∷ []) in
-    let turned = sum_reverse f before in
-    omega (arith, all, parts, turned)
+    let reversed = sum_reverse f before in
+    omega (arith, all, parts, reversed)

@@ -1,4 +1,5 @@
--- On each full path the lazy placement evaluates least: by induction along the path, with the inequalities of its edges.
+-- On each full path the lazy placement evaluates least: by induction along the path, with the inequalities of its
+-- edges.
 use Rattle.std.proofs.Common.{◌<◌, ◌≡◌, ◌≤◌, ◌+◌, ℕ, Bool, true, false, inl, inr, List, [], length, slice_get, Option, Some, None, arith, refl}
 use Rattle.mir_base.specs.declared.instructions.Expr.{Expr}
 use Rattle.flow_graph.specs.declared.nodes.Node.{Node}

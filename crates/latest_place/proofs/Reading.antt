@@ -1,5 +1,5 @@
--- The rows give the lazy placement: the bits of one expression say where it is delayed, latest and isolated, one after the
--- other, and the placement that is made of them is the lazy one.
+-- The rows give the lazy placement: the bits of one expression say where it is delayed, latest and isolated, one after
+-- the other, and the placement that is made of them is the lazy one.
 use Rattle.std.proofs.Common.{◌≡◌, ◌<◌, ◌↔◌, ◌&&◌, not, ℕ, Bool, true, false, refl, sym, subst, ◌∙◌, inl, inr, List, [], ◌∷◌, length}
 use Rattle.mir_base.specs.declared.instructions.Expr.{Expr}
 use Rattle.flow_graph.specs.Graphs.{GraphShape}

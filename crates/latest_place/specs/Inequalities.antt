@@ -1,6 +1,6 @@
--- What holds along each edge of a split graph: two inequalities, of the lazy placement and of any admissible one. The first
--- bounds what the lazy placement evaluates by where its delay ends; the second says that an admissible placement evaluates
--- wherever an evaluation is pending and not passed on. For proofs only.
+-- What holds along each edge of a split graph: two inequalities, of the lazy placement and of any admissible one. The
+-- first bounds what the lazy placement evaluates by where its delay ends; the second says that an admissible placement
+-- evaluates wherever an evaluation is pending and not passed on. For proofs only.
 use Rattle.std.proofs.Common.{◌<◌, ◌≡◌, ◌≤◌, ◌+◌, ◌⊎◌, ◌&&◌, not, ℕ, Bool, true, false, sym, ◌∙◌, subst, inl, inr, List, [], ◌∷◌, length, arith, true≢false}
 use Rattle.mir_base.specs.declared.instructions.Expr.{Expr}
 use Rattle.flow_graph.specs.Graphs.{GraphShape, succs_at}
@@ -19,8 +19,8 @@ use Rattle.latest_place.specs.Walks.{Walks}
 abbrev pub IsAvailableFrom : GraphShape → Expr → Places → ℕ → Type 0
 IsAvailableFrom graph e p n = (before : List ℕ) → Trace graph.nodes n before → IsAvailableAfter graph e (λ m. p.inserts m ≡ true) before
 
--- an evaluation is pending at n: n is down, so what follows uses e, and e is not available there from the insertions; so the
--- placement has still to evaluate e, at n or after it
+-- an evaluation is pending at n: n is down, so what follows uses e, and e is not available there from the insertions;
+-- so the placement has still to evaluate e, at n or after it
 abbrev pub IsPending : GraphShape → Expr → (ℕ → Type 0) → Places → ℕ → Type 0
 IsPending graph e Down p n = Down n × ¬ (IsAvailableFrom graph e p n)
 
@@ -139,7 +139,8 @@ module _ (graph : GraphShape) (walks : Walks graph) (e : Expr) (Down : ℕ → T
   lazy_edge m n before t edge false true true false l d0 d early = omega arith
   lazy_edge m n before t edge false dm false en l d0 d early = omega arith
 
-  -- any admissible placement's edge: what is pending at m is evaluated there or pending at n, and so it is at an earliest node
+  -- any admissible placement's edge: what is pending at m is evaluated there or pending at n, and so it is at an
+  -- earliest node
   pub other_edge : (p : Places) → IsAdmissible graph e Down p → (m n : ℕ) (before : List ℕ) → Trace graph.nodes m before → HasEdge graph.nodes m n → (en om on : Bool)
       → Is en (IsEarliest graph e Down n) → Is om (IsPending graph e Down p m) → Is on (IsPending graph e Down p n)
       → one_if en + one_if om ≤ evaluations_at graph e p m + one_if on

@@ -1,5 +1,5 @@
--- How far the earliest insertions can be delayed, and the lazy placement: as late as they can, and only where a use needs
--- them. Cited by contracts.
+-- How far the earliest insertions can be delayed, and the lazy placement: as late as they can, and only where a use
+-- needs them. Cited by contracts.
 use Rattle.std.specs.Prelude.{◌≡◌, ◌⊎◌, ◌↔◌, ◌<◌, ℕ, true, List, [], ◌∷◌, length}
 use Rattle.mir_base.specs.declared.instructions.Expr.{Expr}
 use Rattle.flow_graph.specs.Graphs.{GraphShape}
@@ -12,8 +12,8 @@ use Rattle.motion_rewrite.specs.Tables.{ForEachExpr}
 use Rattle.down_safe.specs.Busy.{IsEarliest}
 use Rattle.latest_place.specs.declared.delays.Late.{Late}
 
--- every path from Start to n has a node, which may be n, that is earliest, such that no node from it up to the one before
--- n uses e
+-- every path from Start to n has a node, which may be n, that is earliest, such that no node from it up to the one
+-- before n uses e
 abbrev pub IsDelayed : GraphShape → Expr → (ℕ → Type 0) → ℕ → Type 0
 IsDelayed graph e Down n = (before : List ℕ) → Trace graph.nodes n before → IsEarliest graph e Down n ⊎ ReachesAlong (IsEarliest graph e Down) (uses graph e) before
 

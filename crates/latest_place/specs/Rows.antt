@@ -1,5 +1,5 @@
--- What rows of bits say from which the lazy placement is read, of one bit and of all. A bit stands for an expression, and
--- says by node where it is earliest, used, delayed, latest or isolated. Cited by contracts of private functions.
+-- What rows of bits say from which the lazy placement is read, of one bit and of all. A bit stands for an expression,
+-- and says by node where it is earliest, used, delayed, latest or isolated. Cited by contracts of private functions.
 use Rattle.std.specs.Prelude.{◌≡◌, ◌⊎◌, ◌&&◌, ℕ, Bool, true, false, not, List}
 use Rattle.flow_graph.specs.declared.nodes.Node.{Node}
 use Rattle.flow_graph.specs.Edges.{edges_of}

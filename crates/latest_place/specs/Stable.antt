@@ -1,4 +1,5 @@
--- A claim that can be tested may be proved by cases on any statement, also on one that cannot be tested. For proofs only.
+-- A claim that can be tested may be proved by cases on any statement, also on one that cannot be tested. For proofs
+-- only.
 use Rattle.std.proofs.Common.{◌≡◌, ◌≤◌, ◌⊎◌, ℕ, Bool, true, false, refl, sym, ◌∙◌, inl, inr, true≢false}
 use Rattle.std.proofs.Math.Decide.{dec_le}
 

@@ -1,5 +1,5 @@
--- What the proofs use of a split graph: where its edges lead, and that into each node lead edges from one node alone, or from
--- Skips alone. For proofs only.
+-- What the proofs use of a split graph: where its edges lead, and that into each node lead edges from one node alone,
+-- or from Skips alone. For proofs only.
 use Rattle.std.proofs.Common.{◌≡◌, ◌<◌, ◌⊎◌, ℕ, true, false, List, length, slice_get, Some, arith}
 use Rattle.std.proofs.lemmas.Option.{slice_get_within}
 use Rattle.mir_base.specs.declared.instructions.Expr.{Expr}

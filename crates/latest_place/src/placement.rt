@@ -13,10 +13,10 @@ use mir_base::Memory;
 use motion_rewrite::{ExprTable, Placement};
 use std::alloc::Global;
 
-/// At which nodes each expression of the table is used, delayed, latest and isolated, each as rows with one row for each
-/// node and one bit for each expression. The graph is split, and `edges` are those of `graph`. It fails only with
-/// `Memory`. The rules are those of Knoop, Ruething and Steffen, *Optimal Code Motion: Theory and Practice*, TOPLAS 1994,
-/// for nodes of one instruction.
+/// At which nodes each expression of the table is used, delayed, latest and isolated, each as rows with one row for
+/// each node and one bit for each expression. The graph is split, and `edges` are those of `graph`. It fails only with
+/// `Memory`. The rules are those of Knoop, Ruething and Steffen, *Optimal Code Motion: Theory and Practice*, TOPLAS
+/// 1994, for nodes of one instruction.
 pub fn late<R: DownRule>(
     alloc: Global,
     rule: &R,

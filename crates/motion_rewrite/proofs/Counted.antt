@@ -1,17 +1,9 @@
 -- Which expressions have an insertion.
-use Rattle.std.proofs.Common.{◌≡◌, ℕ, zero, suc, ◌+◌, ◌<◌, Bool, false, ◌||◌, List, [], ◌∷◌, ◌++◌, length, get_or, take, refl, sym, ap, ◌∙◌, arith}
+use Rattle.std.proofs.Common.{◌≡◌, ℕ, ◌+◌, ◌<◌, Bool, false, ◌||◌, List, [], ◌∷◌, ◌++◌, length, get_or, take, sym, ap, ◌∙◌}
 use Rattle.std.proofs.Math.Bool.{or_assoc, or-false}
 use Rattle.std.proofs.lemmas.List.{take_more}
-use Rattle.bit_rows.specs.Bits.{or_bits, row_of}
+use Rattle.bit_rows.specs.Bits.{row_of}
 use Rattle.motion_rewrite.specs.Temporaries.{has_insertion}
-
--- a bit of a disjunction
-pub or_bit : (xs ys : List Bool) (k : ℕ) → length xs ≡ length ys → get_or (or_bits xs ys) k false ≡ (get_or xs k false || get_or ys k false)
-or_bit [] [] k e = refl
-or_bit [] (y ∷ ys) k e = absurd (omega (arith, e))
-or_bit (x ∷ xs) [] k e = absurd (omega (arith, e))
-or_bit (x ∷ xs) (y ∷ ys) zero e = refl
-or_bit (x ∷ xs) (y ∷ ys) (suc k) e = or_bit xs ys k (let e' : suc (length xs) ≡ suc (length ys) = e in omega arith)
 
 -- one row more
 has_insertion_push : (rows : List (List Bool)) (row : List Bool) (i : ℕ) → has_insertion (rows ++ row ∷ []) i ≡ (has_insertion rows i || get_or row i false)

@@ -1,5 +1,5 @@
--- How often each expression is evaluated on the path of the rewritten graph over a path: one of the table as often as the
--- placement counts, and any other as often as before.
+-- How often each expression is evaluated on the path of the rewritten graph over a path: one of the table as often as
+-- the placement counts, and any other as often as before.
 use Rattle.std.proofs.Common.{◌≡◌, ℕ, Bool, true, false, not, ◌&&◌, eqb, List, [], ◌∷◌, length, count_by, slice_get, Option, Some, None, option_map, Contains, inl, inr, refl, sym, ap, ◌∙◌, arith}
 use Rattle.std.proofs.lemmas.Option.{slice_get_within, get_or_from_slice_get}
 use Rattle.std.proofs.lemmas.Bool.{cases_Bool, eqb-true, eqb-false, false≢true}
@@ -27,10 +27,11 @@ use Rattle.motion_rewrite.specs.PlacementLaws.{count_sum}
 use Rattle.motion_rewrite.specs.Placements.{count, evaluations_at, places_of}
 use Rattle.motion_rewrite.proofs.Insertions.{among_inserted, head_or_none, once_inserted}
 use Rattle.motion_rewrite.proofs.Matching.{used_once}
-use Rattle.motion_rewrite.proofs.Evaluations.{kept_weight, only_number}
+use Rattle.motion_rewrite.proofs.Evaluations.{kept_weight}
 use Rattle.motion_rewrite.proofs.Rewriting.{one_more}
 use Rattle.motion_rewrite.proofs.RowNumbers.{AllKnown}
 use Rattle.motion_rewrite.proofs.Rewritable.{IsRewritable, first_bit, known, replaced_use, rewriting_by, temps_of}
+use Rattle.mir_base.specs.ItemLaws.{one_place}
 
 -- the expression, where there is one, is e
 abbrev is_at : Expr → Option Expr → Bool
@@ -52,7 +53,7 @@ one_number : (table : List Expr) → AllDiffer table → (i : ℕ) (e : Expr) �
 one_number table differ i e at_i j = elim (cases_Bool (eqb j i)) [
   | inl is ↦ ap (λ k. is_at e (slice_get table k)) (eqb-true j i is) ∙ ap (is_at e) at_i ∙ expr_itself e ∙ sym is
   | inr other ↦ elim (cases_Bool (is_at e (slice_get table j))) [
-    | inl is ↦ absurd (eqb-false j i other (only_number table differ j i e (at_is e (slice_get table j) is) at_i))
+    | inl is ↦ absurd (eqb-false j i other (one_place table differ j i e (at_is e (slice_get table j) is) at_i))
     | inr unlike ↦ unlike ∙ sym other
   ]
 ]
@@ -132,7 +133,7 @@ module _ {graph : GraphShape} {table : List Expr} {p : Placement} (r : IsRewrita
         let set = first_bit r n first.0 first.1 first.2 in
         let u = replaced_use r n first.0 set in
         read e n first.0 first.1 first.2
-        ∙ sym (ap one_if (and_not (uses graph e n) (has_bit p.replace i n) (λ used. ap (λ k. has_bit p.replace k n) (only_number table differ i first.0 e at_i (u.1 ∙ ap Some (used_once graph u.0 e n u.2 used))) ∙ set)))
+        ∙ sym (ap one_if (and_not (uses graph e n) (has_bit p.replace i n) (λ used. ap (λ k. has_bit p.replace k n) (one_place table differ i first.0 e at_i (u.1 ∙ ap Some (used_once graph u.0 e n u.2 used))) ∙ set)))
   ]
 
   -- any other is used where it was

@@ -1,6 +1,6 @@
--- The evaluations on the path of the rewritten graph over a path: with those of the table's expressions in the old graph
--- added they are as many as the old graph's with those that the placement counts. So they are no more where the placement
--- is no dearer.
+-- The evaluations on the path of the rewritten graph over a path: with those of the table's expressions in the old
+-- graph added they are as many as the old graph's with those that the placement counts. So they are no more where the
+-- placement is no dearer.
 use Rattle.std.proofs.Common.{◌≡◌, ℕ, zero, suc, ◌+◌, ◌<◌, ◌≤◌, Bool, true, false, not, ◌&&◌, List, [], ◌∷◌, length, count_by, slice_get, slice_index_or, Option, Some, None, option_map, ◌⊎◌, inl, inr, refl, sym, ap, ◌∙◌, subst, arith}
 use Rattle.std.proofs.lemmas.Bool.{cases_Bool, cases_lt}
 use Rattle.std.proofs.lemmas.Option.{slice_get_within}
@@ -31,6 +31,7 @@ use Rattle.motion_rewrite.proofs.RowNumbers.{AllKnown, row_short}
 use Rattle.motion_rewrite.proofs.Sums.{sum_below, sum_plus, sum_same, sum_least, sum_none, on_below}
 use Rattle.mir_base.specs.ExpressionLaws.{expr_counts}
 use Rattle.motion_rewrite.proofs.Rewritable.{IsRewritable, known, replaced_use, rewriting_by, temps_of}
+use Rattle.mir_base.specs.ItemLaws.{one_place}
 
 -- the first number below k with a bit, if there is one
 some_or_none : (k : ℕ) (b : ℕ → Bool) → ((i : ℕ) × (i < k) × (b i ≡ true)) ⊎ ((i : ℕ) → i < k → b i ≡ false)
@@ -85,10 +86,6 @@ abbrev pub used : GraphShape → Option Expr → ℕ → Bool
 used graph None n = false
 used graph (Some e) n = uses graph e n
 
--- the number of an expression of the table is its only one
-pub only_number : (table : List Expr) → AllDiffer table → (i j : ℕ) (e : Expr) → slice_get table i ≡ Some e → slice_get table j ≡ Some e → i ≡ j
-only_number table differ i j e at_i at_j = differ i j (slice_get_within table i e at_i) (slice_get_within table j e at_j) (at_i ∙ sym at_j)
-
 module _ {graph : GraphShape} {table : List Expr} {p : Placement} (r : IsRewritable graph table p) (differ : AllDiffer table) where
   -- the temporaries
   abbrev temp : ℕ → ℕ
@@ -110,7 +107,7 @@ module _ {graph : GraphShape} {table : List Expr} {p : Placement} (r : IsRewrita
   replaced_alone n i j at_i at_j =
       let a = replaced_use r n i at_i in
       let b = replaced_use r n j at_j in
-      only_number table differ j i a.0 (b.1 ∙ ap Some (used_once graph b.0 a.0 n b.2 a.2)) a.1
+      one_place table differ j i a.0 (b.1 ∙ ap Some (used_once graph b.0 a.0 n b.2 a.2)) a.1
 
   -- what becomes of a node counts one less where the node is replaced
   abbrev own : ℕ → ℕ

@@ -1,7 +1,6 @@
 -- A placement is a rewriting of its graph that can be made, with the temporaries as further variables.
-use Rattle.std.proofs.Common.{◌≡◌, ℕ, suc, ◌+◌, ◌-◌, ◌<◌, List, [], ◌∷◌, ◌++◌, take, length, slice_get, Contains, Some, inl, inr, refl, sym, ap, ◌∙◌, subst, arith, length-append}
+use Rattle.std.proofs.Common.{◌≡◌, ℕ, suc, ◌+◌, ◌-◌, ◌<◌, List, [], ◌∷◌, ◌++◌, take, length, slice_get, Some, inl, inr, refl, sym, ap, ◌∙◌, subst, arith, length-append}
 use Rattle.std.proofs.lemmas.Bool.{cases_lt}
-use Rattle.std.proofs.lemmas.Option.{slice_get_within, get_or_from_slice_get}
 use Rattle.mir_base.specs.declared.instructions.Expr.{Expr}
 use Rattle.mir_base.specs.Shapes.{AllBelow, AllDiffer, rhs_vars}
 use Rattle.mir_base.specs.BelowLaws.{all_below_more}
@@ -15,12 +14,9 @@ use Rattle.motion_rewrite.specs.Temporaries.{temporary, temporaries_before, AreT
 use Rattle.motion_rewrite.proofs.Rewritable.{IsRewritable, known, replaced_inserted, rewriting_by, start_free, temporary_within}
 use Rattle.motion_rewrite.proofs.Rewriting.{one_more}
 use Rattle.motion_rewrite.proofs.RowNumbers.{AllKnown, inserted_bit}
+use Rattle.mir_base.specs.ItemLaws.{contained_at}
 
 -- ---- names
-
--- what stands in a list is contained
-contains_at : {A : Type 0} (xs : List A) (i : ℕ) (x : A) → slice_get xs i ≡ Some x → Contains xs x
-contains_at xs i x e = (i, slice_get_within xs i x e, get_or_from_slice_get xs i x x e)
 
 module _ (vars names : List (List ℕ)) (count : ℕ) (are : AreTemporaryNames vars count names) (differ : AllDiffer vars) where
   -- a temporary's name is no earlier one
@@ -31,13 +27,13 @@ module _ (vars names : List (List ℕ)) (count : ℕ) (are : AreTemporaryNames v
       elim (cases_lt i (length vars)) [
         | inl old ↦
             let here : slice_get (vars ++ take k names) i ≡ Some name.0 = get_left vars (take k names) i old ∙ sym (get_left vars names i old) ∙ there in
-            (are.each k name.0 name.1).fresh (contains_at (vars ++ take k names) i name.0 here)
+            (are.each k name.0 name.1).fresh (contained_at (vars ++ take k names) name.0 i here)
         | inr ge ↦
             let l = i - length vars in
             let is : i ≡ length vars + l = omega (arith, ge) in
             let before : l < k = omega (arith, ge, lt) in
             let here : slice_get (vars ++ take k names) i ≡ Some name.0 = get_right_at vars (take k names) i l is ∙ get_take names k l before ∙ sym (get_right_at vars names i l is) ∙ there in
-            (are.each k name.0 name.1).fresh (contains_at (vars ++ take k names) i name.0 here)
+            (are.each k name.0 name.1).fresh (contained_at (vars ++ take k names) name.0 i here)
       ]
 
   -- nor is a later name an earlier one

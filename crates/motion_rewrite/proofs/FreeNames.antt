@@ -1,19 +1,14 @@
--- Names of temporaries: `h` and a number is a name, and the walk over the numbers finds the least free ones.
+-- Names of temporaries: the walk over the numbers finds the least free ones.
 use Rattle.std.proofs.Common.{◌≡◌, ◌⊎◌, ℕ, ◌+◌, ◌<◌, ◌≤◌, ◌^◌, ◌≢◌, List, [], ◌∷◌, ◌++◌, length, length-append, take, slice_get, codes, Contains, Some, refl, sym, ap, ◌∙◌, subst, inl, inr, append_assoc, arith}
 use Rattle.std.proofs.lemmas.Bool.{cases_eq}
 use Rattle.std.proofs.lemmas.List.{take-append-le, take_at}
 use Rattle.std.proofs.lemmas.List.Elements.{Contains-append_left, Contains-append_right, Contains-append_cases, Contains-push}
 use Rattle.std.proofs.lemmas.Option.{slice_get_within, slice_get-get_or}
-use Rattle.mir_base.specs.DecimalLaws.{numbered_differ, numbered_is_name}
-use Rattle.mir_base.specs.Names.{IsName}
+use Rattle.mir_base.specs.DecimalLaws.{numbered_differ}
 use Rattle.flow_graph.specs.ListLaws.{get_push}
 use Rattle.motion_rewrite.specs.Temporaries.{AreTemporaryNames, IsNextName, temporary_name}
 
 -- ---- spelling
-
--- `h` and a number of 64 bits are a name
-pub temporary_name_is : (n : ℕ) → n < 2 ^ 64 → IsName (temporary_name n)
-temporary_name_is n low = numbered_is_name (codes "h") n refl refl (omega arith) low
 
 -- different numbers make different names
 number_one : (m n : ℕ) → m < 2 ^ 64 → n < 2 ^ 64 → temporary_name m ≡ temporary_name n → m ≡ n

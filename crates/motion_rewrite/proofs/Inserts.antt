@@ -1,4 +1,5 @@
--- Expressions that are put into a list of different ones where they are new, and the table of those that nodes evaluate.
+-- Expressions that are put into a list of different ones where they are new, and the table of those that nodes
+-- evaluate.
 use Rattle.std.proofs.Common.{◌≡◌, inl, inr, ℕ, suc, Bool, true, false, not, ◌||◌, cond, if◌then◌else◌, List, [], ◌∷◌, ◌++◌, filter, slice_get, append-nil, Option, None, Some, refl, sym, ap, ◌∙◌, subst, true≢false, ◌+◌, append_assoc}
 use Rattle.std.specs.List.{list_any}
 use Rattle.std.proofs.lemmas.List.Elements.{filter-append}

@@ -1,5 +1,5 @@
--- What `flatten` requires of a graph, a table and a placement, and what follows at once: no insertion stands before Start, and
--- each replaced node uses its expression, which is inserted somewhere.
+-- What `flatten` requires of a graph, a table and a placement, and what follows at once: no insertion stands before
+-- Start, and each replaced node uses its expression, which is inserted somewhere.
 use Rattle.std.proofs.Common.{◌≡◌, ℕ, ◌+◌, ◌<◌, Bool, true, cond, List, [], ◌∷◌, length, slice_get, Some, inl, inr, refl, sym, ap, ◌∙◌, subst, arith}
 use Rattle.mir_base.specs.declared.instructions.Expr.{Expr}
 use Rattle.flow_graph.specs.declared.nodes.Node.{Node}

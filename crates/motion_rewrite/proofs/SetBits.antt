@@ -1,6 +1,7 @@
 -- The numbers of the bits that are set, found one after the other.
-use Rattle.std.proofs.Common.{◌≡◌, ℕ, zero, suc, ◌+◌, ◌-◌, ◌<◌, ◌≤◌, Bool, true, false, List, [], ◌∷◌, length, get_or, drop, drop-cons, refl, ap, ◌∙◌, arith}
+use Rattle.std.proofs.Common.{◌≡◌, ℕ, zero, suc, ◌+◌, ◌-◌, ◌<◌, ◌≤◌, Bool, true, false, List, [], ◌∷◌, length, get_or, drop, drop-cons, ap, ◌∙◌, arith}
 use Rattle.motion_rewrite.specs.Flatten.{set_from}
+use Rattle.std.proofs.lemmas.List.{drop_all}
 
 -- false bits add nothing
 bits_skip : (d from : ℕ) (row : List Bool) → from + d ≤ length row → ((j : ℕ) → from ≤ j → j < from + d → get_or row j false ≡ false) → set_from from (drop from row) ≡ set_from (from + d) (drop (from + d) row)
@@ -31,8 +32,4 @@ bits_end from row low none =
     let there : from + (length row - from) ≡ length row = omega (arith, low) in
     bits_skip (length row - from) from row (omega (arith, there)) (λ j l h. none j l (omega (arith, there, h)))
     ∙ ap (λ n. set_from n (drop n row)) there
-    ∙ ap (set_from (length row)) (nothing row)
-  where
-    nothing : (xs : List Bool) → drop (length xs) xs ≡ []
-    nothing [] = refl
-    nothing (x ∷ xs) = nothing xs
+    ∙ ap (set_from (length row)) (drop_all (length row) row (omega arith))

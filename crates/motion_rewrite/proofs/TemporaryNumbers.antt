@@ -1,5 +1,6 @@
 -- The numbers of the temporaries: they are new, and those of expressions with insertions differ.
-use Rattle.std.proofs.Common.{◌≡◌, ℕ, zero, suc, ◌+◌, ◌<◌, ◌≤◌, Bool, true, false, cond, ◌||◌, List, [], ◌∷◌, inl, inr, refl, ap, ◌∙◌, arith}
+use Rattle.std.proofs.Common.{◌≡◌, ℕ, zero, suc, ◌+◌, ◌<◌, ◌≤◌, Bool, true, cond, ◌||◌, List, [], ◌∷◌, inl, inr, ap, ◌∙◌, arith}
+use Rattle.std.proofs.Math.Bool.{or-true}
 use Rattle.std.proofs.lemmas.Bool.{cases_lt, cases_order}
 use Rattle.path_laws.specs.Paths.{has_bit}
 use Rattle.motion_rewrite.specs.declared.placement.Placement.{Placement}
@@ -10,16 +11,11 @@ pub record AreTemps (vars : ℕ) (temp : ℕ → ℕ) (p : Placement) : Type 0 w
   pub fresh : (i : ℕ) → vars ≤ temp i
   pub differ : (i j n m : ℕ) → has_bit p.insert i n ≡ true → has_bit p.insert j m ≡ true → temp i ≡ temp j → i ≡ j
 
--- a disjunction with a true side
-either : (b : Bool) → b || true ≡ true
-either true = refl
-either false = refl
-
 -- an expression whose bit is set in a row has an insertion
 pub bit_inserted : (rows : List (List Bool)) (n i : ℕ) → has_bit rows i n ≡ true → has_insertion rows i ≡ true
 bit_inserted [] n i set = cc
 bit_inserted (row ∷ rows) zero i set = ap (λ b. b || has_insertion rows i) set
-bit_inserted (row ∷ rows) (suc n) i set = ap (λ b. has_bit (row ∷ []) i 0 || b) (bit_inserted rows n i set) ∙ either (has_bit (row ∷ []) i 0)
+bit_inserted (row ∷ rows) (suc n) i set = ap (λ b. has_bit (row ∷ []) i 0 || b) (bit_inserted rows n i set) ∙ or-true (has_bit (row ∷ []) i 0)
 
 -- the numbers ascend, and by one behind each expression with an insertion
 pub temporaries_mono : (rows : List (List Bool)) (i m : ℕ) → i < m → temporaries_before rows i + cond (has_insertion rows i) 1 0 ≤ temporaries_before rows m

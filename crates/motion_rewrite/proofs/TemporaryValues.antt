@@ -1,6 +1,7 @@
--- What a rewriting by a placement preserves: the values of the graph's variables, and that a temporary has the value of its
--- expression wherever the expression is available from the insertions. First the two sides are related before a node; then
--- after the insertions that stand there; then after the node itself, where a replaced node reads what it would have computed.
+-- What a rewriting by a placement preserves: the values of the graph's variables, and that a temporary has the value of
+-- its expression wherever the expression is available from the insertions. First the two sides are related before a
+-- node; then after the insertions that stand there; then after the node itself, where a replaced node reads what it
+-- would have computed.
 use Rattle.std.proofs.Common.{◌≡◌, ℕ, ◌<◌, true, false, cond, List, [], ◌∷◌, length, slice_get, Some, ◌⊎◌, inl, inr, refl, sym, ap, ◌∙◌, arith}
 use Rattle.std.proofs.lemmas.Bool.{cases_Bool, true≢false}
 use Rattle.std.proofs.lemmas.Option.{same_Some}
@@ -47,8 +48,8 @@ module _ {graph : GraphShape} {table : List Expr} {p : Placement} (r : IsRewrita
   abbrev inserts : ℕ → List Insertion
   inserts n = insertions_of (temps_of graph p) table (inserted p.insert n)
 
-  -- after the nodes before n the two sides agree on the graph's variables, and each temporary whose expression is available
-  -- from the insertions has its value
+  -- after the nodes before n the two sides agree on the graph's variables, and each temporary whose expression is
+  -- available from the insertions has its value
   pub record TemporariesHold (n : ℕ) (before : List ℕ) (v w : Values) : Type 0 where
     pub agree : (x : ℕ) → x < length graph.vars → w x ≡ v x
     pub held : (i : ℕ) (e : Expr) → slice_get table i ≡ Some e → IsAvailableAfter graph e (λ m. has_bit p.insert i m ≡ true) before → w (temp i) ≡ value v e

@@ -1,15 +1,17 @@
--- The edits by rows of bits, where the temporaries stand in a list: what becomes of each node, and what is put before it. Cited by contracts of private functions.
-use Rattle.std.specs.Prelude.{◌≡◌, ◌⊎◌, ◌<◌, ℕ, Bool, IsTrue, List, length, slice_get, slice_index_or}
+-- The edits by rows of bits, where the temporaries stand in a list: what becomes of each node, and what is put before
+-- it. Cited by contracts of private functions.
+use Rattle.std.specs.Prelude.{◌≡◌, ◌⊎◌, ◌<◌, ℕ, Bool, IsTrue, List, length, slice_get}
 use Rattle.mir_base.specs.declared.instructions.Expr.{Expr}
 use Rattle.bit_rows.specs.Bits.{row_of}
 use Rattle.flow_graph.specs.Editing.{graph_change_each, graph_put_each, is_assignment}
 use Rattle.flow_graph.specs.Graphs.{GraphShape}
 use Rattle.flow_graph.specs.Insertions.{Change, ChangeBelow, Insertion, InsertionsBelow, Kept}
 use Rattle.motion_rewrite.specs.Flatten.{insertions_of, reading, set_from}
+use Rattle.flow_graph.specs.Tables.{number_at}
 
 -- the temporary of an expression
 abbrev pub temp_in : List ℕ → ℕ → ℕ
-temp_in temps i = slice_index_or temps i 0
+temp_in = number_at
 
 -- ---- one node
 

@@ -1,5 +1,6 @@
--- What a node does with an expression: it uses it where its right side is exactly this expression, and kills it where it
--- assigns a variable that the expression reads, or is Start. A node that does both uses before it kills. Cited by contracts.
+-- What a node does with an expression: it uses it where its right side is exactly this expression, and kills it where
+-- it assigns a variable that the expression reads, or is Start. A node that does both uses before it kills. Cited by
+-- contracts.
 use Rattle.std.specs.Prelude.{ℕ, Bool, false, ◌||◌, slice_get, Option, Some, None}
 use Rattle.std.specs.List.{list_any}
 use Rattle.mir_base.specs.declared.instructions.Expr.{Expr}

@@ -1,6 +1,6 @@
 -- Laws of placements, for every rule that says which nodes are down: Start is not down; an admissible placement can be
--- flattened by; what a placement counts is a sum; and the one that inserts nothing is admissible, so that an optimal one evaluates no more than the graph. For
--- proofs only.
+-- flattened by; what a placement counts is a sum; and the one that inserts nothing is admissible, so that an optimal
+-- one evaluates no more than the graph. For proofs only.
 use Rattle.std.proofs.Common.{◌≡◌, ℕ, ◌<◌, ◌≤◌, ◌&&◌, not, true, false, List, [], length, inl, inr, sym, ap, ◌∙◌, arith, true≢false, count_by}
 use Rattle.std.proofs.lemmas.Bool.{cases_Bool}
 use Rattle.std.proofs.Math.Bool.{and-true}

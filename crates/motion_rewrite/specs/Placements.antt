@@ -1,6 +1,6 @@
 -- Placements of one expression: where it is available and anticipatable, which nodes are safe, which placements are
--- admissible, how often a placement evaluates on a path, and when it is optimal; and the same of each expression of a table.
--- Cited by contracts.
+-- admissible, how often a placement evaluates on a path, and when it is optimal; and the same of each expression of a
+-- table. Cited by contracts.
 use Rattle.std.specs.Prelude.{◌≡◌, ◌≢◌, ◌⊎◌, ◌<◌, ◌≤◌, ◌+◌, ◌&&◌, ℕ, Bool, true, false, not, count_by, List, [], ◌∷◌, length, slice_get, Some}
 use Rattle.mir_base.specs.declared.instructions.Expr.{Expr}
 use Rattle.flow_graph.specs.declared.nodes.Node.TheVariants.{Skip}
@@ -28,8 +28,8 @@ IsAvailableAfter graph e Evaluates before = ReachesAlong Evaluates (kills graph 
 abbrev pub IsAvailable : GraphShape → Expr → ℕ → Type 0
 IsAvailable graph e n = (before : List ℕ) → Trace graph.nodes n before → IsAvailableAfter graph e (λ m. uses graph e m ≡ true) before
 
--- anticipatable, or down-safe: every path from n that ends at its first killing node, or at a Return with no killing node
--- before it, has a use of e on it, the last node included
+-- anticipatable, or down-safe: every path from n that ends at its first killing node, or at a Return with no killing
+-- node before it, has a use of e on it, the last node included
 abbrev pub IsAnticipatable : GraphShape → Expr → ℕ → Type 0
 IsAnticipatable graph e n = BornAfter graph.nodes (uses graph e) (kills graph e) n
 
@@ -59,8 +59,8 @@ pub record Places : Type 0 where
 abbrev pub places_of : Placement → ℕ → Places
 places_of p i = record { inserts = has_bit p.insert i; replaces = has_bit p.replace i }
 
--- every path from Start to a replaced node has an insertion, at that node or before it, from which on no node before the
--- replaced one kills e
+-- every path from Start to a replaced node has an insertion, at that node or before it, from which on no node before
+-- the replaced one kills e
 abbrev pub ReplacedAreAvailable : GraphShape → Expr → Places → Type 0
 ReplacedAreAvailable graph e p = (n : ℕ) (before : List ℕ) → p.replaces n ≡ true → Trace graph.nodes n before → (p.inserts n ≡ true) ⊎ IsAvailableAfter graph e (λ m. p.inserts m ≡ true) before
 
@@ -108,8 +108,8 @@ AreOptimal graph table Down p = ForEachExpr table (λ i e. IsOptimal graph e (Do
 abbrev pub CanFlattenBy : GraphShape → List Expr → Placement → Type 0
 CanFlattenBy graph table p = ForEachExpr table (λ i e. CanFlatten graph e (places_of p i))
 
--- the expressions are movable and over the graph's variables, and the placement has their rows, by which the graph can be
--- rewritten
+-- the expressions are movable and over the graph's variables, and the placement has their rows, by which the graph can
+-- be rewritten
 pub record IsFlattenable (graph : GraphShape) (table : List Expr) (p : Placement) : Type 0 where
   pub movable : AreMovable (length graph.vars) table
   pub insert : HaveShape graph (length table) p.insert

@@ -1,5 +1,6 @@
 -- The temporaries of a placement: which expressions have one, its number and its name. Cited by contracts.
-use Rattle.std.specs.Prelude.{◌≡◌, ℕ, zero, suc, ◌+◌, ◌<◌, ◌≤◌, Bool, false, if◌then◌else◌, ◌||◌, List, [], ◌∷◌, ◌++◌, length, slice_get, slice_index_or, Some, take, ◌↔◌, Contains, codes, decimal}
+use Rattle.std.specs.Prelude.{◌≡◌, ℕ, zero, suc, ◌+◌, ◌<◌, ◌≤◌, Bool, false, if◌then◌else◌, ◌||◌, List, [], ◌∷◌, ◌++◌, length, slice_get, slice_index_or, Some, take, ◌↔◌, Contains, codes}
+use Rattle.mir_base.specs.Names.{numbered_name}
 use Rattle.path_laws.specs.Paths.{has_bit}
 
 -- ---- numbers
@@ -35,7 +36,7 @@ HaveSameNames names taken = (name : List ℕ) → Contains taken name ↔ Contai
 
 -- `h` and the number
 abbrev pub temporary_name : ℕ → List ℕ
-temporary_name number = codes "h" ++ decimal number
+temporary_name = numbered_name (codes "h")
 
 -- the name has the least number from 1 on that makes a name which is not among these
 pub record IsNextName (names : List (List ℕ)) (name : List ℕ) : Type 0 where

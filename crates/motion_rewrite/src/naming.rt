@@ -1,10 +1,9 @@
 // The names of the temporaries.
 ghost use Rattle.std.specs.Prelude.{◌≡◌, ◌↔◌, Contains, IsTrue, IfOk};
-ghost use Rattle.motion_rewrite.specs.Temporaries.{AreTemporaryNames, HaveSameNames, temporary_name};
+ghost use Rattle.motion_rewrite.specs.Temporaries.{AreTemporaryNames, HaveSameNames};
 
 use crate::Memory;
 use indexmap::IndexSet;
-use itoa::Buffer;
 use mir_base::Name;
 use std::alloc::{AllocError, Global};
 use std::marker::Model;
@@ -59,20 +58,10 @@ pub(crate) fn temporary_names(
         if names.len() == count {
             return Ok(names);
         }
-        let name = temporary_name(alloc, number)?;
+        let name = Name::numbered(alloc, b"h", number)?;
         if !taken.has(&name) {
             names.push(name)?;
         }
     }
     Err(AllocError)
-}
-
-/// `h` and the number.
-fn temporary_name(alloc: Global, number: usize) -> Result<Name, Memory>
-    ensures { IfOk result (λ name. name ≡ temporary_name number) }
-{
-    let mut buffer = Buffer::new();
-    let mut bytes = Vec::from_slice(alloc, b"h")?;
-    bytes.extend_from_slice(buffer.format(number).as_bytes())?;
-    Ok(Name::new(bytes).unwrap())
 }

@@ -8,9 +8,9 @@ pub returns-clause-bits : goal.returns-clause-bits
 returns-clause-bits c = λ n b h l.
     let needed = has_bit c.in_ok-rows.rows b in
     let shape = c.in_ok-rows.ensures.shape in
-    let turned : has_bit c.flip_rows.new.self b n ≡ not (has_bit c.in_ok-rows.rows b n) =
+    let flipped : has_bit c.flip_rows.new.self b n ≡ not (has_bit c.in_ok-rows.rows b n) =
     c.flip_rows.ensures.bits n b (omega arith) (rw shape.len h) (rw (shape.each n h) l) in
     let says = c.in_ok-rows.ensures.bits n b h l in (
-      λ on more. not_both (says.1 more) ((not_says (needed n)).0 (sym turned ∙ on)),
-      λ none. turned ∙ (not_says (needed n)).1 ((off_says (needed n)).1 (λ on. none (says.0 on))),
+      λ on more. not_both (says.1 more) ((not_says (needed n)).0 (sym flipped ∙ on)),
+      λ none. flipped ∙ (not_says (needed n)).1 ((off_says (needed n)).1 (λ on. none (says.0 on))),
     )

@@ -1,11 +1,10 @@
-use Rattle.std.proofs.Common.{◌≡◌, ◌∙◌, ◌<◌, ◌++◌, ℕ, zero, suc, List, length, get_or, slice_get, ap, sym, subst, inl, inr, refl, arith}
+use Rattle.std.proofs.Common.{◌≡◌, ◌∙◌, ◌<◌, ◌++◌, ℕ, List, length, get_or, slice_get, ap, sym, subst, inl, inr, arith}
 use Rattle.std.proofs.lemmas.Option.{get_or_from_slice_get}
-use Rattle.flow_graph.specs.declared.nodes.Node.{Node}
-use Rattle.flow_graph.specs.Editing.{change_at, change_each, put_each, is_assignment}
-use Rattle.flow_graph.specs.EditingLaws.{change_length}
+use Rattle.flow_graph.specs.Editing.{change_each, put_each, is_assignment}
+use Rattle.flow_graph.specs.EditingLaws.{change_each_length}
 use Rattle.flow_graph.specs.EditingOrder.{edited_in_order}
 use Rattle.flow_graph.specs.Graphs.{GraphShape, AllWithin}
-use Rattle.flow_graph.specs.Insertions.{Change, CanRewrite, ChangeBelow, InsertionsBelow}
+use Rattle.flow_graph.specs.Insertions.{CanRewrite, ChangeBelow, InsertionsBelow}
 use Rattle.path_laws.specs.Paths.{AreRows}
 use Rattle.motion_rewrite.specs.Flatten.{by_placement, inserted, insertions_of, reading}
 use Rattle.motion_rewrite.specs.Temporaries.{AreTemporaryNames, temporaries_before, temporary}
@@ -66,15 +65,11 @@ read_temporaries-requires-clause-vars c = λ n lt.
 
 -- ---- the evaluations
 
-each_length : (changes : ℕ → Change) (count n : ℕ) (nodes : List Node) → length (change_each changes count n nodes) ≡ length nodes
-each_length changes zero n nodes = refl
-each_length changes (suc count) n nodes = each_length changes count (suc n) (change_at n (changes n) nodes) ∙ change_length n (changes n) nodes
-
 pub put_evaluations-requires-clause-rows : goal.put_evaluations-requires-clause-rows
 put_evaluations-requires-clause-rows c =
     let p = c.args.placement.now in
     let changes = λ (n : ℕ). reading (λ i. get_or c.as_slice-temps.result.now i 0) (inserted p.replace n) in
-    let long = ap (λ (g : GraphShape). length g.nodes) c.read_temporaries.ensures.graph ∙ each_length changes (length p.replace) 0 c.in_ok-editor.editor.graph.nodes ∙ ap (λ (g : GraphShape). length g.nodes) c.in_ok-editor.ensures.graph in
+    let long = ap (λ (g : GraphShape). length g.nodes) c.read_temporaries.ensures.graph ∙ change_each_length changes (length p.replace) 0 c.in_ok-editor.editor.graph.nodes ∙ ap (λ (g : GraphShape). length g.nodes) c.in_ok-editor.ensures.graph in
     subst (λ k. AreRows k (length c.args.table.now) p.insert) (sym long) c.requires.insert
 
 pub put_evaluations-requires-clause-start : goal.put_evaluations-requires-clause-start

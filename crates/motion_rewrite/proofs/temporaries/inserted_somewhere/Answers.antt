@@ -1,8 +1,9 @@
 use Rattle.std.proofs.Common.{◌≡◌, ◌∙◌, ◌<◌, ◌||◌, List, Bool, ap, sym, length, get_or, take, false, arith}
 use Rattle.bit_rows.specs.Bits.{row_of}
 use Rattle.motion_rewrite.specs.Temporaries.{has_insertion}
-use Rattle.motion_rewrite.proofs.Counted.{or_bit, has_insertion_more}
+use Rattle.motion_rewrite.proofs.Counted.{has_insertion_more}
 use Rattle.motion_rewrite.proofs.temporaries.inserted_somewhere.Goals as goal
+use Rattle.bit_rows.specs.BitLaws.{or_bit}
 
 pub loop-node-preserved : goal.loop-node-preserved
 loop-node-preserved c =
