@@ -1,5 +1,6 @@
 -- The patterns of a table whose bits are set in a row: what is put for each variable, and that their variables rise.
 use Rattle.std.proofs.Common.{◌≡◌, ◌<◌, ◌≤◌, ℕ, zero, suc, ◌+◌, ◌-◌, Bool, true, false, List, [], ◌∷◌, length, get_or, drop, drop-cons, slice_get, Some, inl, inr, refl, sym, ap, ◌∙◌, arith}
+use Rattle.std.proofs.Math.Seq.{drop-length}
 use Rattle.std.proofs.lemmas.Bool.{cases_eq, false≢true}
 use Rattle.std.proofs.lemmas.Option.{same_Some, none-some}
 use Rattle.mir_base.specs.declared.instructions.Rhs.{Rhs}
@@ -104,9 +105,5 @@ chosen_end from table row long low none =
     let there : from + (length row - from) ≡ length row = omega (arith, low) in
     chosen_skip (length row - from) from table row long (omega (arith, there)) (λ j l h. none j l (omega (arith, there, h)))
     ∙ ap (λ n. chosen (drop n table) (drop n row)) there
-    ∙ ap (chosen (drop (length row) table)) (nothing row)
+    ∙ ap (chosen (drop (length row) table)) (drop-length row)
     ∙ chosen_none (drop (length row) table)
-  where
-    nothing : (xs : List Bool) → drop (length xs) xs ≡ []
-    nothing [] = refl
-    nothing (x ∷ xs) = nothing xs

@@ -1,6 +1,7 @@
--- Where patterns are delayed and inserted, from node to node of a split graph; so they sink as the law of moved assignments asks.
+-- Where patterns are delayed and inserted, from node to node of a split graph; so they sink as the law of moved
+-- assignments asks.
 use Rattle.std.proofs.Common.{◌≡◌, ◌⊎◌, ◌<◌, ℕ, suc, Bool, true, false, ◌||◌, nat_eq, List, [], ◌∷◌, length, slice_get, Option, Some, None, inl, inr, refl, sym, ap, ◌∙◌, subst, arith}
-use Rattle.std.proofs.lemmas.Bool.{cases_Bool, cases_eq, cases_lt, true≢false, eq-eqb, ne_eqb}
+use Rattle.std.proofs.lemmas.Bool.{cases_Bool, cases_eq, cases_lt, true≢false, eq-eqb, ne_eqb, or_parts, or_right}
 use Rattle.std.proofs.lemmas.Option.{same_Some, none-some, slice_get_within}
 use Rattle.mir_base.specs.declared.instructions.Rhs.{Rhs}
 use Rattle.mir_base.specs.ExpressionLaws.{never_traps_where_undivided}
@@ -22,14 +23,14 @@ use Rattle.flow_graph.specs.VarLaws.{NoneAssigned, none_assigned}
 use Rattle.sink_dead.specs.Accesses.{blocks_at, blocks_pattern, is_sinkable, is_occurrence, occurs_at}
 use Rattle.sink_dead.specs.Delaying.{IsDelayedTo, IsInsertedAt}
 use Rattle.sink_dead.specs.SunkGraphs.{AreInsertions, RisesFrom, emptied, sinking}
-use Rattle.sink_dead.proofs.Occurring.{sinkable_is, is_occurrence_of, lets_pass, neither, occurrence_blocks, occurrence_sinkable, occurrence_is, reading_blocks}
+use Rattle.sink_dead.proofs.Occurring.{sinkable_is, is_occurrence_of, lets_pass, occurrence_blocks, occurrence_sinkable, occurrence_is, reading_blocks}
 use Rattle.sink_dead.proofs.Ordered.{EachPut, each_put}
 use Rattle.sink_dead.proofs.Waiting.{Waits, one_waits, waits_apart, waits_sinkable}
 
 -- none of the list is this variable, where it is not in the list
 all_others : (x : ℕ) (ys : List ℕ) → is_in x ys ≡ false → AllOthers x ys
 all_others x [] none = tt
-all_others x (y ∷ ys) none = let both = neither (nat_eq y x) (is_in x ys) none in (both.0, all_others x ys both.1)
+all_others x (y ∷ ys) none = let both = or_parts (nat_eq y x) (is_in x ys) none in (both.0, all_others x ys both.1)
 
 -- different numbers, as a test
 differ_test : (x y : ℕ) → (x ≡ y → ⊥) → nat_eq x y ≡ false
@@ -117,8 +118,8 @@ module _ (graph : GraphShape) (is_graph : IsGraph graph.vars graph.received grap
       | inr lost ↦ lost.2 (delayed_each n s lost.0 x t edge lost.1 free d on)
     ]
 
-    -- where a pattern passes a node and is yet inserted before it, the node is a Skip: of a node with other predecessors too all
-    -- are Skips, and a node with one alone gets what passes it
+    -- where a pattern passes a node and is yet inserted before it, the node is a Skip: of a node with other
+    -- predecessors too all are Skips, and a node with one alone gets what passes it
     pub passed_at_skip : (n x : ℕ) (t : Rhs) → IsInsertedAt graph x t n → blocks_at x t graph n ≡ false → (next : ℕ) × (slice_get graph.nodes n ≡ Some (Skip next))
     passed_at_skip n x t put free = elim put.1 [
       | inl blocked ↦ absurd (true≢false (sym blocked ∙ free))
@@ -195,12 +196,8 @@ module _ (graph : GraphShape) (is_graph : IsGraph graph.vars graph.received grap
   -- what a node reads is put before it where it is delayed
   reads_put : (n : ℕ) (node : Node) → slice_get graph.nodes n ≡ Some node → (xs : List ℕ) → ((x : ℕ) → is_in x xs ≡ true → is_in x (node_reads graph node) ≡ true) → AllPut (late n) (inserts n) xs
   reads_put n node is [] among = tt
-  reads_put n node is (x ∷ xs) among = (by (late n x) refl, reads_put n node is xs (λ y h. among y (later (nat_eq x y) h)))
+  reads_put n node is (x ∷ xs) among = (by (late n x) refl, reads_put n node is xs (λ y h. among y (or_right (nat_eq x y) (is_in y xs) h)))
     where
-      later : (b : Bool) {c : Bool} → c ≡ true → (b || c) ≡ true
-      later true h = refl
-      later false h = h
-
       here : (b : Bool) → nat_eq x x ≡ true → (nat_eq x x || b) ≡ true
       here b e = ap (λ a. a || b) e
 
@@ -221,7 +218,8 @@ module _ (graph : GraphShape) (is_graph : IsGraph graph.vars graph.received grap
         inr (s, edge, λ d. none-some t (sym none ∙ (are.delayed_are s x t (target_within graph is_graph n s edge)).1 d)),
       ))
 
-  -- what is delayed at a successor occurs at the node; or the node lets it pass, and it was delayed there and is not put
+  -- what is delayed at a successor occurs at the node; or the node lets it pass, and it was delayed there and is not
+  -- put
   pub record PassedOn (n x : ℕ) (t : Rhs) : Type 0 where
     pub free : blocks_at x t graph n ≡ false
     pub late_there : late n x ≡ Some t
@@ -246,12 +244,8 @@ module _ (graph : GraphShape) (is_graph : IsGraph graph.vars graph.received grap
   -- of what is passed on no operand is put
   operands_none : (n x : ℕ) (t : Rhs) → n < length graph.nodes → PassedOn n x t → (ys : List ℕ) → ((y : ℕ) → is_in y ys ≡ true → is_in y (rhs_vars t) ≡ true) → NonePut (inserts n) ys
   operands_none n x t lt on [] among = tt
-  operands_none n x t lt on (y ∷ ys) among = (by (put_for (inserts n) y) refl, operands_none n x t lt on ys (λ z h. among z (later (nat_eq y z) h)))
+  operands_none n x t lt on (y ∷ ys) among = (by (put_for (inserts n) y) refl, operands_none n x t lt on ys (λ z h. among z (or_right (nat_eq y z) (is_in z ys) h)))
     where
-      later : (b : Bool) {c : Bool} → c ≡ true → (b || c) ≡ true
-      later true h = refl
-      later false h = h
-
       by : (o : Option Rhs) → put_for (inserts n) y ≡ o → o ≡ None
       by None e = refl
       by (Some u) e = elim (cases_eq x y) [

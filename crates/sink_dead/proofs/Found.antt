@@ -59,24 +59,30 @@ distinct_differ (p ∷ ps) d (suc i) (suc j) i_in j_in e = ap suc (distinct_diff
 pub moved_differ : (old new : List Pattern) → IsPermutation old new → AllDiffer old → AllDiffer new
 moved_differ old new same differ = distinct_differ new (IsDistinct-IsPermutation ghosts.eq flips old new same (differ_distinct old differ))
   where
-    turned : (p q : Pattern) → ghosts.eq p q ≡ true → ghosts.eq q p ≡ true
-    turned p q is = let one = same_patterns p q is in ap (ghosts.eq q) one ∙ pattern_self q
+    same_again : (p q : Pattern) → ghosts.eq p q ≡ true → ghosts.eq q p ≡ true
+    same_again p q is = let one = same_patterns p q is in ap (ghosts.eq q) one ∙ pattern_self q
 
     flips : (p q : Pattern) → ghosts.eq p q ≡ ghosts.eq q p
-    flips p q = same_says (ghosts.eq p q) (ghosts.eq q p) (turned p q, turned q p)
+    flips p q = same_says (ghosts.eq p q) (ghosts.eq q p) (same_again p q, same_again q p)
 
 -- ---- put in
 
--- each pattern of these nodes, up to a number, that is not stopped after its node is among the keys, which do not divide and are
--- over the variables
-pub record AreFound (graph : GraphShape) (vars : ℕ) (nodes : List Node) (i : ℕ) (keys : List Pattern) : Type 0 where
+-- the pattern occurs at one of these nodes, and is not stopped after it
+abbrev pub MovesAmong : GraphShape → List Node → Pattern → Type 0
+MovesAmong graph nodes p = (n next : ℕ) × (slice_get nodes n ≡ Some (Assign p.var p.rhs next)) × (IsStopped graph p next → ⊥)
+
+-- each pattern of these nodes, up to a number, that is not stopped after its node is among the keys, and each of the
+-- keys is such. They do not divide and are over the variables
+pub record AreMovingUpTo (graph : GraphShape) (vars : ℕ) (nodes : List Node) (i : ℕ) (keys : List Pattern) : Type 0 where
   pub all : (n next : ℕ) (p : Pattern) → n < i → slice_get nodes n ≡ Some (Assign p.var p.rhs next) → pattern_of (Assign p.var p.rhs next) ≡ Some p → Contains keys p ⊎ IsStopped graph p next
+  pub moves : (k : ℕ) (p : Pattern) → slice_get keys k ≡ Some p → MovesAmong graph nodes p
   pub each : AreSinkableBelow vars keys
 
 -- of no nodes
-pub found_none : (graph : GraphShape) (vars : ℕ) (nodes : List Node) (keys : List Pattern) → keys ≡ [] → AreFound graph vars nodes 0 keys
+pub found_none : (graph : GraphShape) (vars : ℕ) (nodes : List Node) (keys : List Pattern) → keys ≡ [] → AreMovingUpTo graph vars nodes 0 keys
 found_none graph vars nodes keys is = record {
   all = λ n next p lt. absurd (omega (arith, lt));
+  moves = λ k p at. (let none : slice_get [] k ≡ Some p = sym (ap (λ l. slice_get l k) is) ∙ at in cc);
   each = λ k p at. (let none : slice_get [] k ≡ Some p = sym (ap (λ l. slice_get l k) is) ∙ at in cc);
 }
 
@@ -99,7 +105,7 @@ node_sinkable vars (Return a) p below h = cc
 -- of one node more
 pub found_more : (graph : GraphShape) (vars : ℕ) (nodes : List Node) (i : ℕ) (node : Node) (found : Option Pattern) (keys new : List Pattern)
     → slice_get nodes i ≡ Some node → AllBelow vars (node_vars node) → MovesFrom graph node found → IsWithSome keys found new
-    → AreFound graph vars nodes i keys → AreFound graph vars nodes (i + 1) new
+    → AreMovingUpTo graph vars nodes i keys → AreMovingUpTo graph vars nodes (i + 1) new
 found_more graph vars nodes i node found keys new at below moves put before = record {
   all = λ n next p lt there is. elim (cases_eq n i) [
     | inl same ↦
@@ -110,12 +116,13 @@ found_more graph vars nodes i node found keys new at below moves put before = re
       | inr stopped ↦ inr stopped
     ]
   ];
+  moves = moving found moves put;
   each = sinkable found moves put;
 }
   where
     here : (o : Option Pattern) (p : Pattern) (next : ℕ) → node ≡ Assign p.var p.rhs next → pattern_of node ≡ Some p → MovesFrom graph node o → IsWithSome keys o new → Contains new p ⊎ IsStopped graph p next
     here None p next one is stops with_one = inr (stops p next one is)
-    here (Some q) p next one is moves' with_one = inl (subst (Contains new) (same_Some q p (sym moves' ∙ is)) (put_there keys q new with_one))
+    here (Some q) p next one is moves' with_one = inl (subst (Contains new) (same_Some q p (sym moves'.0 ∙ is)) (put_there keys q new with_one))
 
     stays : (o : Option Pattern) (p : Pattern) → IsWithSome keys o new → Contains keys p → Contains new p
     stays None p same there = subst (λ l. Contains l p) (sym same) there
@@ -125,5 +132,12 @@ found_more graph vars nodes i node found keys new at below moves put before = re
     sinkable None e same = subst (AreSinkableBelow vars) (sym same) before.each
     sinkable (Some p) e with_one = λ k q there. elim (put_only keys p new with_one k q there) as (λ _. (divides q.rhs ≡ false) × ((q.var < vars) × AllBelow vars (rhs_vars q.rhs))) [
       | inl old ↦ before.each k q old
-      | inr same ↦ subst (λ (r : Pattern). (divides r.rhs ≡ false) × ((r.var < vars) × AllBelow vars (rhs_vars r.rhs))) (sym same) (node_sinkable vars node p below e)
+      | inr same ↦ subst (λ (r : Pattern). (divides r.rhs ≡ false) × ((r.var < vars) × AllBelow vars (rhs_vars r.rhs))) (sym same) (node_sinkable vars node p below e.0)
+    ]
+
+    moving : (o : Option Pattern) → MovesFrom graph node o → IsWithSome keys o new → (k : ℕ) (q : Pattern) → slice_get new k ≡ Some q → MovesAmong graph nodes q
+    moving None e same k q there = before.moves k q (sym (ap (λ l. slice_get l k) same) ∙ there)
+    moving (Some p) e with_one k q there = elim (put_only keys p new with_one k q there) as (λ _. MovesAmong graph nodes q) [
+      | inl old ↦ before.moves k q old
+      | inr same ↦ subst (MovesAmong graph nodes) (sym same) (i, e.1.0, at ∙ ap Some e.1.1, e.1.2)
     ]

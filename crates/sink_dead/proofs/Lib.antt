@@ -10,7 +10,6 @@ pub mod Telling
 pub mod Listing
 pub mod SiteBits
 pub mod Found
-pub mod Emptied
 pub mod RowsTell
 pub mod BlockedLong
 pub mod JoinedLast
@@ -21,6 +20,7 @@ pub mod PrunedPaths
 pub mod RoundsSoFar
 pub mod Merged
 pub mod Skipping
+pub mod Stopping
 pub mod Settles
 pub mod Noting
 pub mod Edited

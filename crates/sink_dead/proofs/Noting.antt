@@ -2,7 +2,7 @@
 use Rattle.std.proofs.Common.{◌≡◌, ◌⊎◌, ◌<◌, ◌≤◌, ◌+◌, ℕ, zero, suc, false, if◌then◌else◌, List, length, get_or, set, slice_get, Option, Some, None, inl, inr, refl, sym, ap, ◌∙◌, subst, arith, get_or-set_same, get_or-set_other}
 use Rattle.std.proofs.lemmas.Bool.{cases_eq, cases_lt}
 use Rattle.std.proofs.lemmas.List.{length-set}
-use Rattle.std.proofs.lemmas.Option.{none-some, same_Some}
+use Rattle.std.proofs.lemmas.Option.{same_Some}
 use Rattle.mir_base.specs.declared.instructions.Rhs.{Rhs}
 use Rattle.mir_base.specs.Expressions.{divides}
 use Rattle.flow_graph.specs.declared.nodes.Node.{Node}
@@ -11,7 +11,7 @@ use Rattle.sink_dead.specs.declared.patterns.Pattern.{Pattern}
 use Rattle.sink_dead.specs.Settled.{AreNotedOn, AreSettled, AreSettledTo, NotesNode, SettlesAt}
 use Rattle.sink_dead.specs.Skips.{LeadsBy, skip_on}
 use Rattle.sink_dead.specs.Tables.{pattern_of}
-use Rattle.sink_dead.proofs.Skipping.{leads_same, steps_after}
+use Rattle.sink_dead.proofs.Skipping.{ends_there, leads_same}
 
 -- the pattern of an assignment that does not divide
 sinkable_of : (x n : ℕ) (t : Rhs) → divides t ≡ false → pattern_of (Assign x t n) ≡ Some (record { var = x; rhs = t })
@@ -62,9 +62,7 @@ noted_to_end nodes first p i at old new leads none before = record {
   long = before.long;
   each = before.each;
   noted = λ skips n few led. elim (cases_lt i skips) [
-    | inl more ↦
-        let past = steps_after nodes skips i first n more led in
-        absurd (none-some past.next (sym none ∙ ap (skip_on nodes) (sym (leads_same nodes i first past.at at past.leads leads)) ∙ past.steps))
+    | inl more ↦ absurd (ends_there nodes i skips first at n leads none more led)
     | inr le ↦ before.noted skips n le led
   ];
 }

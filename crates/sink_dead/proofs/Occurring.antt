@@ -1,6 +1,6 @@
 -- What nodes do with a pattern: which node is an occurrence, and what a node does that does not block.
-use Rattle.std.proofs.Common.{◌≡◌, ℕ, Bool, true, false, not, ◌&&◌, ◌||◌, nat_eq, Option, Some, None, refl, sym, ap, ◌∙◌, eqb-true}
-use Rattle.std.proofs.lemmas.Bool.{false≢true, true≢false, and_parts, and_from, eq-eqb}
+use Rattle.std.proofs.Common.{◌≡◌, ℕ, true, false, not, ◌&&◌, ◌||◌, nat_eq, Option, Some, None, refl, sym, ap, ◌∙◌, eqb-true}
+use Rattle.std.proofs.lemmas.Bool.{false≢true, and_parts, and_from, eq-eqb, not-true, or_left, or_parts, or_right}
 use Rattle.std.specs.List.{list_any}
 use Rattle.mir_base.specs.declared.instructions.Rhs.{Rhs}
 use Rattle.mir_base.specs.Expressions.{divides}
@@ -11,28 +11,6 @@ use Rattle.flow_graph.specs.Graphs.{GraphShape, assigns, is_start, node_reads}
 use Rattle.flow_graph.specs.Numbering.{is_in}
 use Rattle.sink_dead.specs.Accesses.{same_rhs, is_occurrence, blocks_pattern, is_sinkable}
 use Rattle.sink_dead.proofs.SameRhs.{same_rhs_is, same_rhs_itself}
-
--- ---- truth values
-
--- where a disjunction is false, both sides are
-pub neither : (a b : Bool) → (a || b) ≡ false → (a ≡ false) × (b ≡ false)
-neither true b h = absurd (true≢false h)
-neither false b h = (refl, h)
-
--- where one side is true, it is
-pub either_left : (a b : Bool) → a ≡ true → (a || b) ≡ true
-either_left true b h = refl
-either_left false b h = absurd (false≢true h)
-
--- on the right too
-pub either_right : (a b : Bool) → b ≡ true → (a || b) ≡ true
-either_right true b h = refl
-either_right false b h = h
-
--- a negation is true where the other is false
-pub not_of_true : (a : Bool) → not a ≡ true → a ≡ false
-not_of_true true h = absurd (false≢true h)
-not_of_true false h = refl
 
 -- ---- occurrences
 
@@ -46,7 +24,7 @@ occurrence_is x t (Some (Assign y rhs next)) is =
     let same = and_parts (nat_eq x y) (same_rhs t rhs) parts.0 in
     let var : x ≡ y = eqb-true x y same.0 in
     let rhs_same : t ≡ rhs = same_rhs_is t rhs same.1 in
-    (next, ap (λ z. Some (Assign z rhs next)) (sym var) ∙ ap (λ r. Some (Assign x r next)) (sym rhs_same), not_of_true (divides t) parts.1)
+    (next, ap (λ z. Some (Assign z rhs next)) (sym var) ∙ ap (λ r. Some (Assign x r next)) (sym rhs_same), not-true (divides t) parts.1)
 occurrence_is x t (Some (Print a next)) is = absurd (false≢true is)
 occurrence_is x t (Some (Call into unit operands next)) is = absurd (false≢true is)
 occurrence_is x t (Some (Test test taken other)) is = absurd (false≢true is)
@@ -65,7 +43,7 @@ pub sinkable_is : (o : Option Node) → is_sinkable o ≡ true → (x : ℕ) × 
 sinkable_is None is = absurd (false≢true is)
 sinkable_is (Some (Start next)) is = absurd (false≢true is)
 sinkable_is (Some (Skip next)) is = absurd (false≢true is)
-sinkable_is (Some (Assign x rhs next)) is = (x, rhs, next, refl, not_of_true (divides rhs) is)
+sinkable_is (Some (Assign x rhs next)) is = (x, rhs, next, refl, not-true (divides rhs) is)
 sinkable_is (Some (Print a next)) is = absurd (false≢true is)
 sinkable_is (Some (Call into unit operands next)) is = absurd (false≢true is)
 sinkable_is (Some (Test test taken other)) is = absurd (false≢true is)
@@ -83,17 +61,17 @@ pub record LetsPass (graph : GraphShape) (x : ℕ) (t : Rhs) (node : Node) : Typ
 module _ (graph : GraphShape) (x : ℕ) (t : Rhs) (node : Node) where
   pub lets_pass : blocks_pattern graph x t (Some node) ≡ false → LetsPass graph x t node
   lets_pass free =
-      let first = neither (is_start node) (is_in x (node_reads graph node) || (assigns graph x node || list_any (λ y. assigns graph y node) (rhs_vars t))) free in
-      let second = neither (is_in x (node_reads graph node)) (assigns graph x node || list_any (λ y. assigns graph y node) (rhs_vars t)) first.1 in
-      let third = neither (assigns graph x node) (list_any (λ y. assigns graph y node) (rhs_vars t)) second.1 in
+      let first = or_parts (is_start node) (is_in x (node_reads graph node) || (assigns graph x node || list_any (λ y. assigns graph y node) (rhs_vars t))) free in
+      let second = or_parts (is_in x (node_reads graph node)) (assigns graph x node || list_any (λ y. assigns graph y node) (rhs_vars t)) first.1 in
+      let third = or_parts (assigns graph x node) (list_any (λ y. assigns graph y node) (rhs_vars t)) second.1 in
       record { start = first.0; reads = second.0; sets = third.0; operands = third.1 }
 
   -- what assigns x blocks, and what reads x
   pub assigning_blocks : assigns graph x node ≡ true → blocks_pattern graph x t (Some node) ≡ true
-  assigning_blocks is = either_right (is_start node) _ (either_right (is_in x (node_reads graph node)) _ (either_left (assigns graph x node) (list_any (λ y. assigns graph y node) (rhs_vars t)) is))
+  assigning_blocks is = or_right (is_start node) _ (or_right (is_in x (node_reads graph node)) _ (or_left (assigns graph x node) (list_any (λ y. assigns graph y node) (rhs_vars t)) is))
 
   pub reading_blocks : is_in x (node_reads graph node) ≡ true → blocks_pattern graph x t (Some node) ≡ true
-  reading_blocks is = either_right (is_start node) _ (either_left (is_in x (node_reads graph node)) (assigns graph x node || list_any (λ y. assigns graph y node) (rhs_vars t)) is)
+  reading_blocks is = or_right (is_start node) _ (or_left (is_in x (node_reads graph node)) (assigns graph x node || list_any (λ y. assigns graph y node) (rhs_vars t)) is)
 
 -- an occurrence of a pattern of x blocks every pattern of x
 pub occurrence_blocks : (graph : GraphShape) (x : ℕ) (t u : Rhs) (o : Option Node) → is_occurrence x t o ≡ true → blocks_pattern graph x u o ≡ true

@@ -1,41 +1,25 @@
 -- The rows of what is live tell the dead assignments.
 use Rattle.std.proofs.Common.{◌≡◌, ◌↔◌, ℕ, zero, suc, ◌+◌, ◌&&◌, not, Bool, true, false, List, [], ◌∷◌, ◌++◌, drop, take, length, slice_get, Option, Some, None, inl, inr, refl, sym, ap, ◌∙◌, subst, arith}
-use Rattle.std.proofs.lemmas.Bool.{cases_Bool, and_parts, and_from, not-true, true≢false}
-use Rattle.std.proofs.lemmas.Option.{same_Some}
+use Rattle.std.proofs.lemmas.Bool.{cases_Bool, and_parts, and_from, not-true, not_from_false, true≢false}
 use Rattle.mir_base.specs.declared.instructions.Rhs.{Rhs}
 use Rattle.mir_base.specs.Expressions.{divides}
 use Rattle.flow_graph.specs.declared.nodes.Node.{Node}
 use Rattle.flow_graph.specs.declared.nodes.Node.TheVariants.{Start, Skip, Assign, Print, Call, Test, Return}
+use Rattle.flow_graph.specs.BlockLaws.{only_to}
 use Rattle.flow_graph.specs.Editing.{change_at}
 use Rattle.flow_graph.specs.Insertions.{changed}
 use Rattle.flow_graph.specs.Graphs.{GraphShape, IsGraph, succs_of}
 use Rattle.flow_graph.specs.NodeLaws.{changed_kept}
-use Rattle.flow_graph.specs.Paths.{HasEdge}
 use Rattle.path_laws.specs.Paths.{HaveShape, has_bit}
 use Rattle.sink_dead.specs.Liveness.{IsLiveBefore}
 use Rattle.sink_dead.specs.LiveRows.{HasBitAfter, HaveBitsAfter, NoneDead, TellLive, graph_pruned, is_dead_at, is_dead_node}
 use Rattle.sink_dead.specs.Pruned.{IsDeadAt, IsPruned, pruned_from, removed_if}
 use Rattle.sink_dead.specs.PrunedLaws.{pruned_alike}
+use Rattle.flow_graph.specs.PathLaws.{assign_edge}
 
 -- ---- one node
 
--- the negation of false is true
-not_false : (b : Bool) → b ≡ false → not b ≡ true
-not_false true h = absurd (true≢false h)
-not_false false h = refl
-
--- an assignment has one successor
-only_succ : (nodes : List Node) (n s x next : ℕ) (rhs : Rhs) → slice_get nodes n ≡ Some (Assign x rhs next) → HasEdge nodes n s → s ≡ next
-only_succ nodes n s x next rhs is edge = at edge.0 (sym (ap (λ o. slice_get (succs_of o) edge.0) is) ∙ edge.1)
-  where
-    at : (slot : ℕ) → slice_get (next ∷ []) slot ≡ Some s → s ≡ next
-    at zero e = sym (same_Some next s e)
-    at (suc slot) e = cc
-
 module _ (graph : GraphShape) (live : List (List Bool)) (is_graph : IsGraph graph.vars graph.received graph.nodes) (tell : TellLive graph live) where
-  next_edge : (n x next : ℕ) (rhs : Rhs) → slice_get graph.nodes n ≡ Some (Assign x rhs next) → HasEdge graph.nodes n next
-  next_edge n x next rhs is = (0, ap (λ o. slice_get (succs_of o) 0) is)
-
   -- the bit of the assigned variable at the successor tells whether it is live
   bit_told : (n x next : ℕ) (rhs : Rhs) → slice_get graph.nodes n ≡ Some (Assign x rhs next) → (has_bit live x next ≡ true) ↔ IsLiveBefore graph x next
   bit_told n x next rhs is = tell next x (is_graph.can.succs n 0 next (ap (λ o. slice_get (succs_of o) 0) is)).1 (is_graph.can.below n (Assign x rhs next) is).0
@@ -50,7 +34,7 @@ module _ (graph : GraphShape) (live : List (List Bool)) (is_graph : IsGraph grap
         is = is;
         sinkable = not-true (divides rhs) parts.0;
         unread = λ after.
-            let lives : IsLiveBefore graph x next = subst (IsLiveBefore graph x) (only_succ graph.nodes n after.0 x next rhs is after.1) after.2 in
+            let lives : IsLiveBefore graph x next = subst (IsLiveBefore graph x) (only_to graph.nodes n next after.0 (ap succs_of is) after.1) after.2 in
             true≢false (sym ((bit_told n x next rhs is).1 lives) ∙ not-true (has_bit live x next) parts.1);
       }
 
@@ -71,10 +55,10 @@ module _ (graph : GraphShape) (live : List (List Bool)) (is_graph : IsGraph grap
       back : IsDeadAt graph n → is_dead_at live graph.nodes n ≡ true
       back d =
           let unset : has_bit live d.var d.next ≡ false = elim (cases_Bool (has_bit live d.var d.next)) [
-            | inl set ↦ absurd (d.unread (d.next, next_edge n d.var d.next d.rhs d.is, (bit_told n d.var d.next d.rhs d.is).0 set))
+            | inl set ↦ absurd (d.unread (d.next, assign_edge graph.nodes n d.var d.next d.rhs d.is, (bit_told n d.var d.next d.rhs d.is).0 set))
             | inr unset ↦ unset
           ] in
-          ap (is_dead_node live) d.is ∙ and_from (not (divides d.rhs)) (not (has_bit live d.var d.next)) (not_false (divides d.rhs) d.sinkable) (not_false (has_bit live d.var d.next) unset)
+          ap (is_dead_node live) d.is ∙ and_from (not (divides d.rhs)) (not (has_bit live d.var d.next)) (not_from_false (divides d.rhs) d.sinkable) (not_from_false (has_bit live d.var d.next) unset)
 
   -- so the graph that is made by them is the exact one
   pub pruned_by : IsPruned graph (graph_pruned live graph)

@@ -1,7 +1,9 @@
 -- Rows of what nodes read and assign: marks of one node, and of the nodes as far as a loop has come.
 use Rattle.std.proofs.Common.{◌≡◌, ◌≢◌, ℕ, zero, suc, ◌+◌, ◌<◌, ◌≤◌, ◌||◌, ◌&&◌, Bool, true, false, nat_eq, List, [], ◌∷◌, ◌++◌, length, get_or, replicate, set, take, slice_get, Option, Some, None, inl, inr, refl, sym, ap, ◌∙◌, subst, arith, get_or-set_same, get_or-set_other}
+use Rattle.std.proofs.Math.Bool.{and-false, or-false, or-true, or_assoc}
 use Rattle.std.proofs.Math.Path.{fun_ext}
 use Rattle.std.proofs.lemmas.Bool.{cases_eq, cases_lt, eq-eqb, ne_eqb}
+use Rattle.std.proofs.lemmas.Cmp.{nat_eq_equiv}
 use Rattle.std.proofs.lemmas.List.{get_or-replicate, length-replicate, length-set, length-take}
 use Rattle.std.proofs.lemmas.Option.{slice_get_past}
 use Rattle.bit_rows.specs.Bits.{row_of}
@@ -10,21 +12,13 @@ use Rattle.flow_graph.specs.declared.nodes.Node.TheVariants.{Start, Skip, Assign
 use Rattle.flow_graph.specs.Graphs.{GraphShape, node_reads}
 use Rattle.flow_graph.specs.ListLaws.{get_take}
 use Rattle.flow_graph.specs.Numbering.{is_in}
+use Rattle.path_laws.specs.KeyRowLaws.{false_bit}
 use Rattle.path_laws.specs.Paths.{AreRows, has_bit}
 use Rattle.sink_dead.specs.Accesses.{assigns_at, assigns_var, reads_at, reads_var}
 use Rattle.sink_dead.specs.LiveRows.{AreMarked, IsMarkedAt, assigned_vars, vars_of}
+use Rattle.path_laws.specs.KeyRowLaws.{false_bit}
 
 -- ---- truth values
-
--- a disjunction with false
-pub or_false : (b : Bool) → (b || false) ≡ b
-or_false true = refl
-or_false false = refl
-
--- a conjunction with false
-pub and_false : (b : Bool) → (b && false) ≡ false
-and_false true = refl
-and_false false = refl
 
 -- one bit set by two lists one after the other
 set_twice : (old here one two : Bool) → ((old || (here && one)) || (here && two)) ≡ (old || (here && (one || two)))
@@ -38,11 +32,7 @@ set_twice false false one two = refl
 -- what stands in a joined list
 is_in_append : (x : ℕ) (xs ys : List ℕ) → is_in x (xs ++ ys) ≡ (is_in x xs || is_in x ys)
 is_in_append x [] ys = refl
-is_in_append x (y ∷ xs) ys = ap (λ b. nat_eq y x || b) (is_in_append x xs ys) ∙ sym (joined (nat_eq y x) (is_in x xs) (is_in x ys))
-  where
-    joined : (a b c : Bool) → ((a || b) || c) ≡ (a || (b || c))
-    joined true b c = refl
-    joined false b c = refl
+is_in_append x (y ∷ xs) ys = ap (λ b. nat_eq y x || b) (is_in_append x xs ys) ∙ sym (or_assoc (nat_eq y x) (is_in x xs) (is_in x ys))
 
 -- ---- marks of one node
 
@@ -51,7 +41,7 @@ pub marked_none : (n : ℕ) (rows : List (List Bool)) → IsMarkedAt n [] rows r
 marked_none n rows = record {
   len = refl;
   each = λ m. refl;
-  bits = λ m x. sym (or_false (has_bit rows x m)) ∙ ap (λ b. has_bit rows x m || b) (sym (and_false (nat_eq n m)));
+  bits = λ m x. sym (or-false (has_bit rows x m)) ∙ ap (λ b. has_bit rows x m || b) (sym (and-false (nat_eq n m)));
 }
 
 -- two lists one after the other
@@ -83,18 +73,14 @@ marked_one n x rows new n_in x_in is = subst (IsMarkedAt n (x ∷ []) rows) (sym
 
     bit : (y : ℕ) → get_or row y false ≡ (has_bit rows y n || (nat_eq x y || false))
     bit y = elim (cases_eq y x) [
-      | inl same ↦ ap (λ z. get_or row z false) same ∙ get_or-set_same (row_of rows n) x true false x_in ∙ sym (ap (λ b. has_bit rows y n || (b || false)) (eq-eqb x y (sym same)) ∙ or_true (has_bit rows y n))
-      | inr differ ↦ get_or-set_other (row_of rows n) x y true false differ ∙ sym (ap (λ b. has_bit rows y n || (b || false)) (ne_eqb x y (λ e. differ (sym e))) ∙ or_false (has_bit rows y n))
+      | inl same ↦ ap (λ z. get_or row z false) same ∙ get_or-set_same (row_of rows n) x true false x_in ∙ sym (ap (λ b. has_bit rows y n || (b || false)) (eq-eqb x y (sym same)) ∙ or-true (has_bit rows y n))
+      | inr differ ↦ get_or-set_other (row_of rows n) x y true false differ ∙ sym (ap (λ b. has_bit rows y n || (b || false)) (ne_eqb x y (λ e. differ (sym e))) ∙ or-false (has_bit rows y n))
     ]
-      where
-        or_true : (b : Bool) → (b || true) ≡ true
-        or_true true = refl
-        or_true false = refl
 
     bits : (m y : ℕ) → has_bit (set rows n row) y m ≡ (has_bit rows y m || (nat_eq n m && is_in y (x ∷ [])))
     bits m y = elim (cases_eq m n) [
       | inl same ↦ ap (λ k. has_bit (set rows n row) y k) same ∙ ap (λ r. get_or r y false) at_n ∙ bit y ∙ sym (ap (λ b. has_bit rows y m || (b && (nat_eq x y || false))) (eq-eqb n m (sym same)) ∙ ap (λ k. has_bit rows y k || (nat_eq x y || false)) same)
-      | inr differ ↦ ap (λ r. get_or r y false) (at_other m differ) ∙ sym (ap (λ b. has_bit rows y m || (b && (nat_eq x y || false))) (ne_eqb n m (λ e. differ (sym e))) ∙ or_false (has_bit rows y m))
+      | inr differ ↦ ap (λ r. get_or r y false) (at_other m differ) ∙ sym (ap (λ b. has_bit rows y m || (b && (nat_eq x y || false))) (ne_eqb n m (λ e. differ (sym e))) ∙ or-false (has_bit rows y m))
     ]
 
 -- ---- the nodes as far as a loop has come
@@ -110,14 +96,9 @@ false_rows nodes bits = record {
 pub none_marked : (vars : Node → List ℕ) (all : List Node) (nodes bits : ℕ) → AreMarked vars (take 0 all) (replicate nodes (replicate bits false))
 none_marked vars all nodes bits = λ m x. in_rows nodes m x
   where
-    in_row : (k x : ℕ) → get_or (replicate k false) x false ≡ false
-    in_row zero x = refl
-    in_row (suc k) zero = refl
-    in_row (suc k) (suc x) = in_row k x
-
     in_rows : (n m x : ℕ) → has_bit (replicate n (replicate bits false)) x m ≡ false
     in_rows zero m x = refl
-    in_rows (suc n) zero x = in_row bits x
+    in_rows (suc n) zero x = false_bit bits x
     in_rows (suc n) (suc m) x = in_rows n m x
 
 -- one node more
@@ -130,7 +111,7 @@ marked_more vars nodes n node old new at before marked m x =
           ∙ ap (λ o. is_in x (vars_of vars o)) (sym (ap (slice_get (take (n + 1) nodes)) same ∙ get_take nodes (n + 1) n (omega arith) ∙ at))
       | inr differ ↦
           ap (λ b. is_in x (vars_of vars (slice_get (take n nodes) m)) || (b && is_in x (vars node))) (ne_eqb n m (λ e. differ (sym e)))
-          ∙ or_false (is_in x (vars_of vars (slice_get (take n nodes) m)))
+          ∙ or-false (is_in x (vars_of vars (slice_get (take n nodes) m)))
           ∙ ap (λ o. is_in x (vars_of vars o)) (elim (cases_lt m n) [
             | inl lt ↦ get_take nodes n m lt ∙ sym (get_take nodes (n + 1) m (omega (arith, lt)))
             | inr ge ↦ slice_get_past (take n nodes) m (omega (arith, ge, long)) ∙ sym (slice_get_past (take (n + 1) nodes) m (omega (arith, ge, differ, longer)))
@@ -161,19 +142,16 @@ reads_are graph rows x marked = fun_ext (λ n. marked n x ∙ at (slice_get grap
 pub assigned_are : (graph : GraphShape) (rows : List (List Bool)) (x : ℕ) → AreMarked assigned_vars graph.nodes rows → has_bit rows x ≡ assigns_at graph x
 assigned_are graph rows x marked = fun_ext (λ n. marked n x ∙ at (slice_get graph.nodes n))
   where
-    turned : (y : ℕ) → (nat_eq y x || false) ≡ nat_eq x y
-    turned y = or_false (nat_eq y x) ∙ elim (cases_eq y x) [
-      | inl same ↦ eq-eqb y x same ∙ sym (eq-eqb x y (sym same))
-      | inr differ ↦ ne_eqb y x differ ∙ sym (ne_eqb x y (λ e. differ (sym e)))
-    ]
+    commuted : (y : ℕ) → (nat_eq y x || false) ≡ nat_eq x y
+    commuted y = or-false (nat_eq y x) ∙ nat_eq_equiv.symm y x
 
     at : (o : Option Node) → is_in x (vars_of assigned_vars o) ≡ assigns_var graph x o
     at None = refl
     at (Some (Start next)) = refl
     at (Some (Skip next)) = refl
-    at (Some (Assign y rhs next)) = turned y
+    at (Some (Assign y rhs next)) = commuted y
     at (Some (Print a next)) = refl
     at (Some (Call None unit operands next)) = refl
-    at (Some (Call (Some y) unit operands next)) = turned y
+    at (Some (Call (Some y) unit operands next)) = commuted y
     at (Some (Test test taken other)) = refl
     at (Some (Return a)) = refl

@@ -1,5 +1,5 @@
--- Patterns that cannot move: wherever they occur, Skips alone part them from a node that blocks them. So they are delayed at the
--- nodes to which these Skips lead, and inserted at the last of them.
+-- Patterns that cannot move: wherever they occur, Skips alone part them from a node that blocks them. So they are
+-- delayed at the nodes to which these Skips lead, and inserted at the last of them.
 use Rattle.std.proofs.Common.{◌≡◌, ◌<◌, ◌≤◌, ℕ, zero, suc, true, false, List, [], ◌∷◌, length, slice_get, Some, inl, inr, refl, sym, ◌∙◌, subst, arith}
 use Rattle.std.proofs.lemmas.Bool.{cases_Bool, cases_eq, cases_lt, true≢false}
 use Rattle.mir_base.specs.declared.instructions.Rhs.{Rhs}

@@ -1,6 +1,7 @@
 -- The bits of the rows of sites: of one node, and of the nodes as far as a loop has come.
-use Rattle.std.proofs.Common.{◌≡◌, inl, inr, ℕ, ◌<◌, ◌↔◌, Bool, true, false, ◌||◌, nat_eq, if◌then◌else◌, List, [], ◌∷◌, ◌++◌, length, get_or, map, replicate, subst, Option, None, Some, refl, sym, ap, ◌∙◌}
-use Rattle.std.proofs.lemmas.Bool.{cases_eq, eq-eqb, ne_eqb}
+use Rattle.std.proofs.Common.{◌≡◌, ℕ, ◌<◌, ◌↔◌, Bool, true, false, ◌||◌, nat_eq, if◌then◌else◌, List, [], ◌∷◌, ◌++◌, length, get_or, map, replicate, subst, Option, None, Some, refl, sym, ap, ◌∙◌}
+use Rattle.std.proofs.Math.Bool.{or-false, or_assoc}
+use Rattle.std.proofs.lemmas.Cmp.{nat_eq_equiv}
 use Rattle.std.proofs.lemmas.List.{get_or-replicate, length-replicate}
 use Rattle.std.proofs.lemmas.Option.{same_Some}
 use Rattle.std.specs.List.{list_any}
@@ -69,11 +70,6 @@ are_blocked_rows assigning naming bits nodes rows is n node at = ap (λ r. row_o
 
 -- ---- the bits of a blocked row
 
--- disjunctions may be bracketed otherwise
-or_again : (a b c : Bool) → ((a || b) || c) ≡ (a || (b || c))
-or_again true b c = refl
-or_again false b c = refl
-
 module _ (rows : List (List Bool)) (bits : ℕ) (shape : AreRows (length rows) bits rows) where
   -- a row with others joined to it has as many bits
   pub joined_long : (xs : List ℕ) (row : List Bool) → AllBelow (length rows) xs → length row ≡ bits → length (joined_rows rows xs row) ≡ bits
@@ -82,27 +78,16 @@ module _ (rows : List (List Bool)) (bits : ℕ) (shape : AreRows (length rows) b
 
   -- and each is set where one of theirs is
   pub joined_bit : (xs : List ℕ) (row : List Bool) (k : ℕ) → AllBelow (length rows) xs → length row ≡ bits → get_or (joined_rows rows xs row) k false ≡ (get_or row k false || list_any (λ x. has_bit rows k x) xs)
-  joined_bit [] row k below long = sym (or_none (get_or row k false))
-    where
-      or_none : (a : Bool) → (a || false) ≡ a
-      or_none true = refl
-      or_none false = refl
+  joined_bit [] row k below long = sym (or-false (get_or row k false))
   joined_bit (x ∷ xs) row k below long =
       joined_bit xs (or_bits row (row_of rows x)) k below.1 (length_or row (row_of rows x) (long ∙ sym (shape.each x below.0)) ∙ long)
       ∙ ap (λ b. b || list_any (λ y. has_bit rows k y) xs) (or_bit row (row_of rows x) k (long ∙ sym (shape.each x below.0)))
-      ∙ or_again (get_or row k false) (has_bit rows k x) (list_any (λ y. has_bit rows k y) xs)
+      ∙ or_assoc (get_or row k false) (has_bit rows k x) (list_any (λ y. has_bit rows k y) xs)
 
 -- joined in two steps
 pub joined_append : (rows : List (List Bool)) (xs ys : List ℕ) (row : List Bool) → joined_rows rows (xs ++ ys) row ≡ joined_rows rows ys (joined_rows rows xs row)
 joined_append rows [] ys row = refl
 joined_append rows (x ∷ xs) ys row = joined_append rows xs ys (or_bits row (row_of rows x))
-
--- equality of numbers is symmetric as a test
-pub test_turned : (x y : ℕ) → nat_eq x y ≡ nat_eq y x
-test_turned x y = elim (cases_eq x y) [
-  | inl same ↦ eq-eqb x y same ∙ sym (eq-eqb y x (sym same))
-  | inr differ ↦ ne_eqb x y differ ∙ sym (ne_eqb y x (λ e. differ (sym e)))
-]
 
 module _ (graph : GraphShape) (assigning naming : List (List Bool)) (bits vars : ℕ) (assigning_shape : AreRows vars bits assigning) (naming_shape : AreRows vars bits naming) (k : ℕ) (p : Pattern)
     (assigning_bits : (x : ℕ) → x < vars → has_bit assigning k x ≡ is_in x (p.var ∷ [])) (naming_bits : (x : ℕ) → x < vars → has_bit naming k x ≡ is_in x (pattern_vars p)) where
@@ -115,15 +100,11 @@ module _ (graph : GraphShape) (assigning naming : List (List Bool)) (bits vars :
   below_in : (rows : List (List Bool)) → AreRows vars bits rows → (xs : List ℕ) → AllBelow vars xs → AllBelow (length rows) xs
   below_in rows shape xs below = subst (λ n. AllBelow n xs) (sym shape.len) below
 
-  or_false : (a : Bool) → (a || false) ≡ a
-  or_false true = refl
-  or_false false = refl
-
   -- some read variable is that of the pattern
   any_read : (xs : List ℕ) → AllBelow vars xs → list_any (λ x. has_bit assigning k x) xs ≡ is_in p.var xs
   any_read [] below = refl
   any_read (x ∷ xs) below =
-      ap (λ b. b || list_any (λ y. has_bit assigning k y) xs) (assigning_bits x below.0 ∙ or_false (nat_eq p.var x) ∙ test_turned p.var x)
+      ap (λ b. b || list_any (λ y. has_bit assigning k y) xs) (assigning_bits x below.0 ∙ or-false (nat_eq p.var x) ∙ nat_eq_equiv.symm p.var x)
       ∙ ap (λ b. nat_eq x p.var || b) (any_read xs below.1)
 
   read_bit : (xs : List ℕ) → AllBelow vars xs → get_or (joined_rows assigning xs base) k false ≡ is_in p.var xs
@@ -137,11 +118,11 @@ module _ (graph : GraphShape) (assigning naming : List (List Bool)) (bits vars :
   set_bit xs z below z_in =
       joined_bit naming bits (shape_of naming naming_shape) (z ∷ []) (joined_rows assigning xs base) k (below_in naming naming_shape (z ∷ []) (z_in, tt)) (joined_long assigning bits (shape_of assigning assigning_shape) xs base (below_in assigning assigning_shape xs below) (length-replicate bits false))
       ∙ ap (λ b. b || (has_bit naming k z || false)) (read_bit xs below)
-      ∙ ap (λ b. is_in p.var xs || b) (or_false (has_bit naming k z) ∙ naming_bits z z_in ∙ ap (λ b. nat_eq p.var z || b) (in_any z (rhs_vars p.rhs)))
+      ∙ ap (λ b. is_in p.var xs || b) (or-false (has_bit naming k z) ∙ naming_bits z z_in ∙ ap (λ b. nat_eq p.var z || b) (in_any z (rhs_vars p.rhs)))
 
   -- where nothing is assigned
   unset : (b : Bool) → b ≡ (b || (false || list_any (λ y. false) (rhs_vars p.rhs)))
-  unset b = sym (or_false b) ∙ ap (λ c. b || c) (sym (assigns_none (rhs_vars p.rhs)))
+  unset b = sym (or-false b) ∙ ap (λ c. b || c) (sym (assigns_none (rhs_vars p.rhs)))
 
   -- the bit of a pattern in the row of what a node blocks
   pub blocked_bit : (node : Node) → k < bits → AllBelow vars (node_vars node) → get_or (blocked_row assigning naming bits node) k false ≡ blocks_pattern graph p.var p.rhs (Some node)

@@ -1,5 +1,5 @@
--- Skips one after the other, each the only predecessor of the next node: where they lead is determined, and so is where they come
--- from.
+-- Skips one after the other, each the only predecessor of the next node: where they lead is determined, and so is where
+-- they come from.
 use Rattle.std.proofs.Common.{◌≡◌, ◌<◌, ◌+◌, ℕ, zero, suc, Bool, true, false, nat_eq, if◌then◌else◌, List, length, slice_get, Option, Some, None, eqb-true, inl, inr, refl, sym, ap, ◌∙◌, subst, arith}
 use Rattle.std.proofs.lemmas.Bool.{cases_eq, true≢false}
 use Rattle.std.proofs.lemmas.Option.{none-some, same_Some}
@@ -90,6 +90,12 @@ module _ (nodes : List Node) where
     | inl same ↦ record { at = p.0; next = n; leads = subst (λ i. LeadsBy nodes i s p.0) (sym same) p.1; steps = p.2 }
     | inr differ ↦ steps_after k j s p.0 (omega (arith, lt, differ)) p.1
   ]
+
+  -- where no Skip leads on, no more Skips lead anywhere
+  pub ends_there : (i k s n m : ℕ) → LeadsBy nodes i s n → skip_on nodes n ≡ None → i < k → LeadsBy nodes k s m → ⊥
+  ends_there i k s n m leads none more led =
+      let past = steps_after k i s m more led in
+      none-some past.next (sym none ∙ ap (skip_on nodes) (sym (leads_same i s past.at n past.leads leads)) ∙ past.steps)
 
   -- where they come from: of two nodes that are no Skips, each with a successor that leads to this node, both are one
   pub one_source : AllWithin nodes → IsSplit nodes → (j i m k s r n : ℕ) → ((next : ℕ) → slice_get nodes m ≡ Some (Skip next) → ⊥) → ((next : ℕ) → slice_get nodes k ≡ Some (Skip next) → ⊥) → HasEdge nodes m s → HasEdge nodes k r → LeadsBy nodes j s n → LeadsBy nodes i r n → m ≡ k

@@ -34,6 +34,7 @@ use Rattle.sink_dead.specs.SunkGraphs.{AreInsertions, IsSunk, emptied, sinking}
 use Rattle.sink_dead.proofs.Credit.{credit, delayed_below, is_credit}
 use Rattle.sink_dead.proofs.Delays.{insertions_sink, none_at_start}
 use Rattle.sink_dead.proofs.Ordered.{EachPut, each_put, put_first}
+use Rattle.std.proofs.Math.Bool.{and-true}
 
 -- the weight that counts the nodes x <- t
 abbrev pub one_at : ℕ → Rhs → ℕ → Rhs → ℕ
@@ -44,11 +45,7 @@ weighs_one : (x : ℕ) (t : Rhs) → divides t ≡ false → (o : Option Node) �
 weighs_one x t sinkable None = refl
 weighs_one x t sinkable (Some (Start next)) = refl
 weighs_one x t sinkable (Some (Skip next)) = refl
-weighs_one x t sinkable (Some (Assign y u next)) = ap (λ b. one_if (nat_eq x y && same_rhs t u && not b)) sinkable ∙ ap one_if (both (nat_eq x y && same_rhs t u))
-  where
-    both : (a : Bool) → (a && true) ≡ a
-    both true = refl
-    both false = refl
+weighs_one x t sinkable (Some (Assign y u next)) = ap (λ b. one_if (nat_eq x y && same_rhs t u && not b)) sinkable ∙ ap one_if (and-true (nat_eq x y && same_rhs t u))
 weighs_one x t sinkable (Some (Print a next)) = refl
 weighs_one x t sinkable (Some (Call into unit operands next)) = refl
 weighs_one x t sinkable (Some (Test test taken other)) = refl

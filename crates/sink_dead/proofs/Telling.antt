@@ -1,13 +1,16 @@
--- Rows that tell where the moving patterns are delayed and inserted, with the settled ones, give the insertions of the graph.
-use Rattle.std.proofs.Common.{◌≡◌, ◌⊎◌, ◌↔◌, ◌<◌, ◌≤◌, ℕ, zero, suc, Bool, true, if◌then◌else◌, Contains, List, [], ◌∷◌, length, get_or, slice_get, Option, Some, None, inl, inr, refl, sym, ap, ◌∙◌, subst, arith}
+-- Rows that tell where the moving patterns are delayed and inserted, with the settled ones, give the insertions of the
+-- graph.
+use Rattle.std.proofs.Common.{◌≡◌, ◌⊎◌, ◌↔◌, ◌<◌, ◌≤◌, ℕ, Bool, true, if◌then◌else◌, Contains, List, [], length, get_or, slice_get, Option, Some, None, inl, inr, refl, sym, ap, ◌∙◌, subst, arith}
 use Rattle.std.specs.List.{list_any}
 use Rattle.std.proofs.lemmas.Bool.{cases_Bool, cases_eq, true≢false}
+use Rattle.std.proofs.lemmas.List.{get_or_past}
 use Rattle.std.proofs.lemmas.Option.{get_or_from_slice_get, none-some, same_Some, slice_get_past, slice_get_within}
 use Rattle.indexmap.proofs.CallerLemmas.{Contains-list_any}
 use Rattle.mir_base.specs.declared.instructions.Rhs.{Rhs}
 use Rattle.bit_rows.specs.Bits.{row_of}
 use Rattle.flow_graph.specs.declared.nodes.Node.{Node}
 use Rattle.flow_graph.specs.declared.nodes.Node.TheVariants.{Start, Skip, Assign, Print, Call, Test, Return}
+use Rattle.flow_graph.specs.BlockLaws.{only_to}
 use Rattle.flow_graph.specs.Edges.{IsSplit}
 use Rattle.flow_graph.specs.Graphs.{GraphShape, IsGraph, succs_of}
 use Rattle.flow_graph.specs.ListLaws.{some_at}
@@ -18,7 +21,7 @@ use Rattle.sink_dead.specs.Accesses.{is_occurrence, occurs_at}
 use Rattle.sink_dead.specs.Delaying.{IsDelayedTo, IsInsertedAt}
 use Rattle.sink_dead.specs.Puts.{chosen, chosen_at}
 use Rattle.sink_dead.specs.Settled.{AreSettled, delayed_by, held, held_at, inserted_by, merged}
-use Rattle.sink_dead.specs.SiteRows.{AreInsertionRows, AreRowsTelling}
+use Rattle.sink_dead.specs.SiteRows.{AreRowsTelling}
 use Rattle.sink_dead.specs.SunkGraphs.{AreInsertions, RisesFrom}
 use Rattle.sink_dead.specs.Moving.{AreMoving, IsStopped}
 use Rattle.sink_dead.proofs.Chosen.{RiseStrictly, chosen_from, chosen_none, chosen_put, chosen_rises}
@@ -46,14 +49,6 @@ some_one o p q is same = is ∙ ap Some same
 abbrev pub settled_at : List (Option Pattern) → ℕ → Option Pattern
 settled_at settled n = get_or settled n None
 
--- an assignment leads to one node
-only_succ : (nodes : List Node) (m x next s : ℕ) (t : Rhs) → slice_get nodes m ≡ Some (Assign x t next) → HasEdge nodes m s → next ≡ s
-only_succ nodes m x next s t at edge = only edge.0 (sym (ap (λ (found : Option Node). slice_get (succs_of found) edge.0) at) ∙ edge.1)
-  where
-    only : (slot : ℕ) → slice_get (next ∷ []) slot ≡ Some s → next ≡ s
-    only zero e = cc
-    only (suc slot) e = absurd (none-some s e)
-
 module _ (graph : GraphShape) (is_graph : IsGraph graph.vars graph.received graph.nodes) (split : IsSplit graph.nodes) (table : List Pattern) (are : AreMoving graph table) (settled : List (Option Pattern)) (notes : AreSettled graph.nodes table settled) where
   in_order : (i j : ℕ) (p q : Pattern) → i < j → slice_get table i ≡ Some p → slice_get table j ≡ Some q → p.var ≤ q.var
   in_order i j p q less at_i at_j =
@@ -68,7 +63,7 @@ module _ (graph : GraphShape) (is_graph : IsGraph graph.vars graph.received grap
   stops : (x : ℕ) (t : Rhs) → (Contains table (record { var = x; rhs = t }) → ⊥) → (m s : ℕ) → occurs_at x t graph m ≡ true → HasEdge graph.nodes m s → IsStopped graph (record { var = x; rhs = t }) s
   stops x t absent m s o edge =
       let w = occurrence_is x t (slice_get graph.nodes m) o in
-      let leads : w.0 ≡ s = only_succ graph.nodes m x w.0 s t w.1 edge in
+      let leads : w.0 ≡ s = sym (only_to graph.nodes m w.0 s (ap succs_of w.1) edge) in
       elim (are.all m w.0 (record { var = x; rhs = t }) w.1 (ap (λ b. if b then None else Some (record { var = x; rhs = t })) w.2)) [
         | inl there ↦ absurd (absent there)
         | inr stopped ↦ subst (IsStopped graph (record { var = x; rhs = t })) leads stopped
@@ -86,7 +81,7 @@ module _ (graph : GraphShape) (is_graph : IsGraph graph.vars graph.received grap
   delayed_noted n x t lt d absent =
       let c = delayed_comes graph is_graph split x t (stops x t absent) n lt d in
       let w = occurrence_is x t (slice_get graph.nodes c.from) c.occurs in
-      let leads : w.0 ≡ c.next = only_succ graph.nodes c.from x w.0 c.next t w.1 c.edge in
+      let leads : w.0 ≡ c.next = sym (only_to graph.nodes c.from w.0 c.next (ap succs_of w.1) c.edge) in
       let here : slice_get graph.nodes c.from ≡ Some (Assign x t c.next) = w.1 ∙ ap (λ k. Some (Assign x t k)) leads in
       let noted = notes.noted c.from c.skips n x t (slice_get_within graph.nodes c.from (Assign x t c.next) here) c.few (record { next = c.next; is = here; leads = c.leads; sinkable = w.2; absent = absent }) in
       let other = notes.found n noted.0 noted.1 in
@@ -221,20 +216,14 @@ module _ (graph : GraphShape) (is_graph : IsGraph graph.vars graph.received grap
       ap (λ o. held o (settled_at settled n)) node.1 ∙ held_of node.0 (settled_at settled n) (λ next e. other next (node.1 ∙ e)) ∙ delayed_noted n x t lt put.0 absent
 
   -- so rows of insertions, with what is noted, give the insertions
-  pub rows_insert : (rows : List (List Bool)) (tell : AreInsertionRows graph table rows) → AreInsertions graph (λ n x. put_for (delayed_by table settled tell.delayed n) x) (inserted_by graph.nodes table settled rows)
-  rows_insert rows tell = record {
-    delayed_are = λ n x t lt. merged_tell (settled_at settled) (IsDelayedTo graph) (λ x t n d. d) (λ n p lt is. noted_delayed n p is) delayed_noted tell.delayed tell.delayed_are n x t lt;
+  pub rows_insert : (delayed rows : List (List Bool)) → AreRowsTelling graph table (IsDelayedTo graph) delayed → AreRowsTelling graph table (IsInsertedAt graph) rows → AreInsertions graph (λ n x. put_for (delayed_by table settled delayed n) x) (inserted_by graph.nodes table settled rows)
+  rows_insert delayed rows tell_delayed tell_inserted = record {
+    delayed_are = λ n x t lt. merged_tell (settled_at settled) (IsDelayedTo graph) (λ x t n d. d) (λ n p lt is. noted_delayed n p is) delayed_noted delayed tell_delayed n x t lt;
     inserts_are = λ n lt. record {
-      exact = λ x t. merged_tell (held_at graph.nodes settled) (IsInsertedAt graph) (λ x t n put. put.0) held_inserted inserted_held rows tell.inserted_are n x t lt;
-      in_order = merged_order (held_at graph.nodes settled) (IsInsertedAt graph) (λ x t n put. put.0) held_inserted inserted_held rows tell.inserted_are n lt;
+      exact = λ x t. merged_tell (held_at graph.nodes settled) (IsInsertedAt graph) (λ x t n put. put.0) held_inserted inserted_held rows tell_inserted n x t lt;
+      in_order = merged_order (held_at graph.nodes settled) (IsInsertedAt graph) (λ x t n put. put.0) held_inserted inserted_held rows tell_inserted n lt;
     };
     none_past = λ n ge.
         ap (λ o. merged (held o (settled_at settled n)) (chosen_at table rows n)) (slice_get_past graph.nodes n ge)
-        ∙ ap (chosen table) (past rows [] n (omega (arith, ge, tell.inserted_are.shape.len))) ∙ chosen_none table;
+        ∙ ap (chosen table) (get_or_past rows n [] (omega (arith, ge, tell_inserted.shape.len))) ∙ chosen_none table;
   }
-    where
-      past : {A : Type 0} (xs : List A) (d : A) (k : ℕ) → length xs ≤ k → get_or xs k d ≡ d
-      past [] d zero le = refl
-      past [] d (suc k) le = refl
-      past (x ∷ xs) d zero le = absurd (omega (arith, le))
-      past (x ∷ xs) d (suc k) le = past xs d k (omega (arith, le))

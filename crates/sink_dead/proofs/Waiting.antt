@@ -1,5 +1,5 @@
--- Patterns that wait on one path: an occurrence has been passed, and no node since blocks. They have different variables, and
--- none assigns what another reads.
+-- Patterns that wait on one path: an occurrence has been passed, and no node since blocks. They have different
+-- variables, and none assigns what another reads.
 use Rattle.std.proofs.Common.{◌≡◌, ℕ, true, false, nat_eq, List, [], ◌∷◌, slice_get, Some, inl, inr, sym, ap, ◌∙◌}
 use Rattle.std.proofs.lemmas.Bool.{true≢false, eq-eqb}
 use Rattle.std.proofs.lemmas.Option.{same_Some}

@@ -1,5 +1,5 @@
--- What the nodes of a graph do with a variable and with an assignment of it: which nodes read and assign the variable, at
--- which nodes the assignment occurs, and which nodes block it. Cited by contracts.
+-- What the nodes of a graph do with a variable and with an assignment of it: which nodes read and assign the variable,
+-- at which nodes the assignment occurs, and which nodes block it. Cited by contracts.
 use Rattle.std.specs.Prelude.{ℕ, Bool, false, nat_eq, not, ◌&&◌, ◌||◌, slice_get, Option, Some, None}
 use Rattle.std.specs.List.{list_any}
 use Rattle.mir_base.specs.declared.instructions.Rhs.{Rhs}

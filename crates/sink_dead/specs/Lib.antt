@@ -18,5 +18,6 @@ pub mod PrunedLaws
 pub mod RoundsKept
 pub mod RoundsMade
 pub mod RoundLaws
-pub mod Sinkings
+pub mod PatternGraphs
+pub mod FoundPatterns
 pub mod SamePatterns

@@ -1,5 +1,5 @@
 -- Rows of bits by nodes and variables: what nodes read and assign, and which variables are live before them. Cited by
--- contracts of private functions.
+-- contracts.
 use Rattle.std.specs.Prelude.{◌≡◌, ℕ, ◌<◌, ◌||◌, ◌&&◌, not, Bool, false, nat_eq, List, [], ◌∷◌, length, slice_get, Option, Some, None}
 use Rattle.mir_base.specs.Expressions.{divides}
 use Rattle.mir_base.specs.Shapes.{into_vars}

@@ -7,8 +7,8 @@ use Rattle.flow_graph.specs.Over.{IsOver}
 use Rattle.flow_graph.specs.Paths.{IsFullPath}
 use Rattle.sink_dead.specs.Accesses.{occurs_at}
 
--- one path of the result lies over this path of the graph, and for every variable x and every plain or movable right side
--- t there are at most as many nodes x <- t on it
+-- one path of the result lies over this path of the graph, and for every variable x and every plain or movable right
+-- side t there are at most as many nodes x <- t on it
 pub record HasNoMoreOver (graph result : GraphShape) (path : List ℕ) : Type 0 where
   pub over : List ℕ
   pub is_over : IsOver graph.nodes result.nodes path over

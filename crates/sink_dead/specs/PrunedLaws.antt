@@ -1,10 +1,10 @@
--- Laws of the removal of dead assignments: it is one rewriting, whose result does the same, evaluates no more operators,
--- stays split, and keeps its divisions; and each graph has one result. For proofs only, those of the crates above too.
+-- Laws of the removal of dead assignments: it is one rewriting, whose result does the same, evaluates no more
+-- operators, stays split, and keeps its divisions; and each graph has one result. For proofs only, those of the crates
+-- above too.
 use Rattle.std.proofs.Common.{◌≡◌, ℕ, zero, suc, ◌+◌, ◌<◌, ◌||◌, Bool, true, false, List, [], ◌∷◌, ◌++◌, length, slice_get, Option, Some, None, option_map, inl, inr, refl, sym, ap, ◌∙◌, subst, arith, append-nil}
-use Rattle.std.proofs.lemmas.Bool.{cases_Bool, eq-eqb, true≢false}
+use Rattle.std.proofs.lemmas.Bool.{cases_Bool, eq-eqb, true≢false, or_right}
 use Rattle.std.proofs.lemmas.Option.{slice_get_within, same_Some}
 use Rattle.mir_base.specs.declared.instructions.Operand.{Operand}
-use Rattle.mir_base.specs.declared.instructions.Rhs.{Rhs}
 use Rattle.mir_base.specs.declared.instructions.Rhs.TheVariants.{Binary}
 use Rattle.mir_base.specs.Expressions.{divides}
 use Rattle.mir_base.specs.ExpressionLaws.{never_traps_where_undivided}
@@ -31,6 +31,8 @@ use Rattle.path_laws.specs.Paths.{EndsBorn}
 use Rattle.sink_dead.specs.Accesses.{assigns_at, assigns_var, reads_at, reads_var}
 use Rattle.sink_dead.specs.Liveness.{IsLiveBefore}
 use Rattle.sink_dead.specs.Pruned.{IsDeadAt, IsPruned, pruned_from, removed_if}
+use Rattle.path_laws.specs.Says.{same_says}
+use Rattle.flow_graph.specs.PathLaws.{assign_edge}
 
 -- ---- what is live
 
@@ -56,12 +58,8 @@ all_live : (Live : ℕ → Type 0) (xs : List ℕ) → ((x : ℕ) → is_in x xs
 all_live Live [] each = tt
 all_live Live (x ∷ xs) each = (each x (ap (λ b. b || is_in x xs) (eq-eqb x x refl)), all_live Live xs (λ y later. each y (among y later)))
   where
-    either : (a b : Bool) → b ≡ true → (a || b) ≡ true
-    either true b h = refl
-    either false b h = h
-
     among : (y : ℕ) → is_in y xs ≡ true → is_in y (x ∷ xs) ≡ true
-    among y later = either _ (is_in y xs) later
+    among y later = or_right _ (is_in y xs) later
 
 -- ---- the nodes
 
@@ -96,29 +94,24 @@ pruned_rewritten dead nodes =
 
 -- ---- one result
 
+-- nothing more is a number itself
+zero_more : (n : ℕ) → 0 + n ≡ n
+zero_more n = omega arith
+
 -- nodes that are dead alike are changed alike
 pub pruned_alike : (dead dead' : ℕ → Bool) (nodes : List Node) → ((n : ℕ) → n < length nodes → dead n ≡ dead' n) → pruned_from dead 0 nodes ≡ pruned_from dead' 0 nodes
 pruned_alike dead dead' nodes alike = same_places (pruned_from dead 0 nodes) (pruned_from dead' 0 nodes) (λ n. pruned_get dead nodes 0 n ∙ at n (slice_get nodes n) refl ∙ sym (pruned_get dead' nodes 0 n))
   where
-    zero_more : (n : ℕ) → 0 + n ≡ n
-    zero_more n = omega arith
-
     at : (n : ℕ) (o : Option Node) → slice_get nodes n ≡ o → option_map (changed (removed_if (dead (0 + n)))) o ≡ option_map (changed (removed_if (dead' (0 + n)))) o
     at n None is = refl
     at n (Some node) is =
         let there = alike n (slice_get_within nodes n node is) in
         ap (λ m. Some (changed (removed_if (dead m)) node)) (zero_more n) ∙ ap (λ b. Some (changed (removed_if b) node)) there ∙ ap (λ m. Some (changed (removed_if (dead' m)) node)) (sym (zero_more n))
 
--- truth values that follow from each other are equal
-both_ways : (a b : Bool) → (a ≡ true → b ≡ true) → (b ≡ true → a ≡ true) → a ≡ b
-both_ways true b f g = sym (f refl)
-both_ways false true f g = g refl
-both_ways false false f g = refl
-
 -- a graph has one graph without its dead assignments
 pub pruned_is_one : (graph a b : GraphShape) → IsPruned graph a → IsPruned graph b → a ≡ b
 pruned_is_one graph a b p q =
-    let alike = pruned_alike p.dead q.dead graph.nodes (λ n lt. both_ways (p.dead n) (q.dead n) (λ h. (q.dead_are n lt).1 ((p.dead_are n lt).0 h)) (λ h. (p.dead_are n lt).1 ((q.dead_are n lt).0 h))) in
+    let alike = pruned_alike p.dead q.dead graph.nodes (λ n lt. same_says (p.dead n) (q.dead n) (λ h. (q.dead_are n lt).1 ((p.dead_are n lt).0 h), λ h. (p.dead_are n lt).1 ((q.dead_are n lt).0 h))) in
     p.is ∙ ap (λ (l : List Node). record graph { nodes = l }) alike ∙ sym q.is
 
 -- ---- what is kept
@@ -154,13 +147,10 @@ module _ (graph pruned : GraphShape) (is_graph : IsGraph graph.vars graph.receiv
         let same_var : d.var ≡ x = cc in
         let same_rhs : d.rhs ≡ rhs = cc in
         let same_next : d.next ≡ s = cc in (
-          λ live. d.unread (s, edge_to n s x rhs is, subst (λ y. IsLiveBefore graph y s) (sym same_var) live),
+          λ live. d.unread (s, assign_edge graph.nodes n x s rhs is, subst (λ y. IsLiveBefore graph y s) (sym same_var) live),
           λ v. never_traps_where_undivided v rhs (ap divides (sym same_rhs) ∙ d.sinkable),
         );
   }
-    where
-      edge_to : (n s x : ℕ) (rhs : Rhs) → slice_get graph.nodes n ≡ Some (Assign x rhs s) → HasEdge graph.nodes n s
-      edge_to n s x rhs is = (0, ap (λ o. slice_get (succs_of o) 0) is)
 
   abbrev raw : List Node
   raw = rewritten_nodes (removing (λ n. removed_if (p.dead n))) graph.nodes
@@ -198,9 +188,6 @@ module _ (graph pruned : GraphShape) (is_graph : IsGraph graph.vars graph.receiv
   pub pruned_divides : GraphDivides graph pruned
   pruned_divides = subst (DividesStay graph.nodes) (sym (ap (λ (g : GraphShape). g.nodes) p.is)) (stay_in_place graph.nodes after stays)
     where
-      zero_more : (n : ℕ) → 0 + n ≡ n
-      zero_more n = omega arith
-
       alive : (n x : ℕ) (op : Op) (left right : Operand) (next : ℕ) → divides (Binary op left right) ≡ true → slice_get graph.nodes n ≡ Some (Assign x (Binary op left right) next) → dead n ≡ false
       alive n x op left right next may is = elim (cases_Bool (dead n)) [
         | inl gone ↦

@@ -16,7 +16,7 @@ use Rattle.sink_dead.specs.SunkGraphs.{RisesFrom}
 pub put_first : (put : Insertion) (puts : List Insertion) → put_for (put ∷ puts) put.var ≡ Some put.rhs
 put_first put puts = ap (λ b. (if b then Some put.rhs else put_for puts put.var)) (eq-eqb put.var put.var refl)
 
--- for another variable what the rest puts
+-- for another variable what the others put
 pub put_rest : (put : Insertion) (puts : List Insertion) (x : ℕ) → (x ≡ put.var → ⊥) → put_for (put ∷ puts) x ≡ put_for puts x
 put_rest put puts x differ = ap (λ b. (if b then Some put.rhs else put_for puts x)) (ne_eqb x put.var differ)
 

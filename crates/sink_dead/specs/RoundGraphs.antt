@@ -28,8 +28,8 @@ AreRoundsFrom more graph next [] = IsRound graph next × ((more ≡ 0) ⊎ HaveO
 AreRoundsFrom zero graph next (later ∷ rest) = ⊥
 AreRoundsFrom (suc more) graph next (later ∷ rest) = IsRound graph next × (¬ (HaveOneLayout graph next) × AreRoundsFrom more next later rest)
 
--- the rounds of a graph: the first is a round of the graph, each other one of the one before. There are one to sixteen; only
--- the last may have the layout of the graph before it, and it has unless there are sixteen
+-- the rounds of a graph: the first is a round of the graph, each other one of the one before. There are one to sixteen;
+-- only the last may have the layout of the graph before it, and it has unless there are sixteen
 abbrev pub AreRounds : GraphShape → List GraphShape → Type 0
 AreRounds graph [] = ⊥
 AreRounds graph (next ∷ rest) = AreRoundsFrom 15 graph next rest

@@ -1,5 +1,5 @@
--- Laws of rounds: a graph has one round and one list of rounds; each round keeps the graph; and what a loop knows that has
--- made some of them. For proofs only, those of mir_opt too.
+-- Laws of rounds: a graph has one round and one list of rounds; each round keeps the graph; and what a loop knows that
+-- has made some of them. For proofs only, those of mir_opt too.
 use Rattle.std.proofs.Common.{◌≡◌, ◌⊎◌, ℕ, zero, suc, ◌≤◌, List, [], ◌∷◌, ◌++◌, length, map, inl, inr, refl, sym, ap, ◌∙◌, subst, arith}
 use Rattle.std.specs.Prelude.{All}
 use Rattle.std.proofs.lemmas.List.Elements.{All-cons, All-nil}

@@ -1,6 +1,5 @@
--- The patterns that cannot move, each noted for the nodes to which it comes over Skips alone, and how those of the last of these
--- nodes are put among others.
--- Cited by contracts.
+-- The patterns that cannot move, each noted for the nodes to which it comes over Skips alone, and how those of the last
+-- of these nodes are put among others. Cited by contracts.
 use Rattle.std.specs.Prelude.{◌≡◌, ◌⊎◌, ◌<◌, ◌≤◌, ◌++◌, ℕ, Bool, false, if◌then◌else◌, nat_lt, Contains, List, [], ◌∷◌, length, slice_get, slice_index_or, Option, Some, None}
 use Rattle.mir_base.specs.declared.instructions.Rhs.{Rhs}
 use Rattle.mir_base.specs.Expressions.{divides}
@@ -13,8 +12,8 @@ use Rattle.sink_dead.specs.Puts.{chosen_at, insertion_of_pattern, puts_at}
 use Rattle.sink_dead.specs.Skips.{LeadsBy}
 use Rattle.sink_dead.specs.Tables.{pattern_of}
 
--- node m assigns t to x, and from its successor so many Skips lead to node n; t does not divide, and the table does not have
--- the pattern
+-- node m assigns t to x, and from its successor so many Skips lead to node n; t does not divide, and the table does not
+-- have the pattern
 pub record SettlesAt (nodes : List Node) (table : List Pattern) (m skips n x : ℕ) (t : Rhs) : Type 0 where
   pub next : ℕ
   pub is : slice_get nodes m ≡ Some (Assign x t next)
@@ -22,8 +21,8 @@ pub record SettlesAt (nodes : List Node) (table : List Pattern) (m skips n x : �
   pub sinkable : divides t ≡ false
   pub absent : Contains table (record { var = x; rhs = t }) → ⊥
 
--- of the nodes up to a number: what is noted for a node is a pattern that comes to it over Skips alone and is not in the table,
--- and where there is one, one is noted
+-- of the nodes up to a number: what is noted for a node is a pattern that comes to it over Skips alone and is not in
+-- the table, and where there is one, one is noted
 pub record AreSettledTo (nodes : List Node) (table : List Pattern) (upto : ℕ) (settled : List (Option Pattern)) : Type 0 where
   pub long : length settled ≡ length nodes
   pub found : (n : ℕ) (p : Pattern) → slice_index_or settled n None ≡ Some p → (m skips : ℕ) × SettlesAt nodes table m skips n p.var p.rhs
@@ -38,8 +37,8 @@ abbrev pub IsStill : List Pattern → Node → Option Pattern → Type 0
 IsStill table node None = (p : Pattern) → pattern_of node ≡ Some p → (Contains table p → ⊥) → ⊥
 IsStill table node (Some p) = (pattern_of node ≡ Some p) × (Contains table p → ⊥)
 
--- the pattern was noted for the nodes to which at most as many Skips as there are nodes lead from this one, and for the others
--- all is as it was
+-- the pattern was noted for the nodes to which at most as many Skips as there are nodes lead from this one, and for the
+-- others all is as it was
 pub record AreNotedOn (nodes : List Node) (first : ℕ) (p : Pattern) (old new : List (Option Pattern)) : Type 0 where
   pub long : length new ≡ length old
   pub each : (n : ℕ) → (slice_index_or new n None ≡ slice_index_or old n None) ⊎ ((slice_index_or new n None ≡ Some p) × ((skips : ℕ) × LeadsBy nodes skips first n))
@@ -59,8 +58,8 @@ merged None puts = puts
 merged (Some p) [] = insertion_of_pattern p ∷ []
 merged (Some p) (put ∷ puts) = if nat_lt p.var put.var then insertion_of_pattern p ∷ put ∷ puts else put ∷ merged (Some p) puts
 
--- the pattern that waits was pushed, where its variable comes before this one, and else still waits: with an insertion of this
--- variable next, the list comes out the same
+-- the pattern that waits was pushed, where its variable comes before this one, and else still waits: with an insertion
+-- of this variable next, the list comes out the same
 abbrev pub PushesEarlier : ℕ → Option Pattern → ℕ → List Put → List Put → Option Pattern → Type 0
 PushesEarlier node waiting var old new left = (q : Insertion) (rest : List Insertion) → q.var ≡ var → new ++ puts_at node (q ∷ merged left rest) ≡ old ++ puts_at node (merged waiting (q ∷ rest))
 

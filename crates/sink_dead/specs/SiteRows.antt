@@ -1,5 +1,5 @@
--- Rows by nodes of a graph and patterns of a table: where each pattern occurs, is blocked, is delayed and is inserted. Cited by
--- contracts.
+-- Rows by nodes of a graph and patterns of a table: where each pattern occurs, is blocked, is delayed and is inserted.
+-- Cited by contracts.
 use Rattle.std.specs.Prelude.{◌≡◌, ◌<◌, ℕ, Bool, true, false, List, [], ◌∷◌, length, flat_map, replicate, slice_get, Some}
 use Rattle.mir_base.specs.declared.instructions.Rhs.{Rhs}
 use Rattle.mir_base.specs.Shapes.{into_vars, operand_vars, rhs_vars, test_vars}
@@ -11,7 +11,6 @@ use Rattle.flow_graph.specs.Numbering.{is_in}
 use Rattle.path_laws.specs.KeyRows.{AreKeyRows, AreKeyRowsWhere}
 use Rattle.path_laws.specs.Paths.{AreRows, has_bit}
 use Rattle.sink_dead.specs.declared.patterns.Pattern.{Pattern}
-use Rattle.sink_dead.specs.Delaying.{IsDelayedTo, IsInsertedAt}
 
 -- one row for each node and one bit for each pattern: whether the test holds of the pattern at the node
 abbrev pub AreSiteRows : GraphShape → List Pattern → (ℕ → Rhs → ℕ → Bool) → List (List Bool) → Type 0
@@ -20,12 +19,6 @@ AreSiteRows graph table holds rows = AreKeyRows (length graph.nodes) table (λ p
 -- the same of a statement in place of a test
 abbrev pub AreRowsTelling : GraphShape → List Pattern → (ℕ → Rhs → ℕ → Type 0) → List (List Bool) → Type 0
 AreRowsTelling graph table Holds rows = AreKeyRowsWhere (length graph.nodes) table (λ p. Holds p.var p.rhs) rows
-
--- the rows tell where each pattern is inserted; and some rows tell where it is delayed
-pub record AreInsertionRows (graph : GraphShape) (table : List Pattern) (rows : List (List Bool)) : Type 0 where
-  pub delayed : List (List Bool)
-  pub delayed_are : AreRowsTelling graph table (IsDelayedTo graph) delayed
-  pub inserted_are : AreRowsTelling graph table (IsInsertedAt graph) rows
 
 -- ---- blocked patterns, by variable
 
@@ -58,8 +51,8 @@ pub record JoinsRows (from : List (List Bool)) (vars : List ℕ) (row : ℕ) (ol
   pub len : length new ≡ length old
   pub long : length (row_of new row) ≡ length (row_of old row)
 
--- where each variable has a row of the patterns that assign it, and one of those that name it: the row of the patterns that
--- the node blocks
+-- where each variable has a row of the patterns that assign it, and one of those that name it: the row of the patterns
+-- that the node blocks
 abbrev pub blocked_row : List (List Bool) → List (List Bool) → ℕ → Node → List Bool
 blocked_row assigning naming bits (Start next) = replicate bits true
 blocked_row assigning naming bits (Skip next) = replicate bits false

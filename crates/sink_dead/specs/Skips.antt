@@ -1,5 +1,5 @@
--- Skips that an assignment passes: the node after each, and where they lead. Cited by contracts of private functions.
-use Rattle.std.specs.Prelude.{◌≡◌, ◌≤◌, ℕ, zero, suc, nat_eq, if◌then◌else◌, List, length, slice_get, Option, Some, None}
+-- Skips that an assignment passes: the node after each, and where they lead. Cited by contracts.
+use Rattle.std.specs.Prelude.{◌≡◌, ◌<◌, ◌≤◌, ℕ, zero, suc, nat_eq, if◌then◌else◌, List, length, slice_get, Option, Some, None}
 use Rattle.flow_graph.specs.declared.nodes.Node.{Node}
 use Rattle.flow_graph.specs.declared.nodes.Node.TheVariants.{Start, Skip, Assign, Print, Call, Test, Return}
 use Rattle.flow_graph.specs.Edges.{preds_of}
@@ -33,3 +33,8 @@ pub record LeadsOn (nodes : List Node) (s n : ℕ) : Type 0 where
   pub skips : ℕ
   pub few : skips ≤ length nodes
   pub leads : LeadsBy nodes skips s n
+
+-- and no Skip leads on from there, as far as there are nodes
+pub record LeadsTo (nodes : List Node) (s n : ℕ) : Type 0 where
+  pub over : LeadsOn nodes s n
+  pub last : (k m : ℕ) → over.skips < k → k ≤ length nodes → LeadsBy nodes k s m → ⊥

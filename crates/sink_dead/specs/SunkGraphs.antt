@@ -1,5 +1,5 @@
--- The graph in which the assignments have sunk: what is put before each node, and what becomes of the old ones. Cited by
--- contracts.
+-- The graph in which the assignments have sunk: what is put before each node, and what becomes of the old ones. Cited
+-- by contracts.
 use Rattle.std.specs.Prelude.{◌≡◌, ◌↔◌, ◌<◌, ◌≤◌, ℕ, suc, if◌then◌else◌, Bool, List, [], ◌∷◌, length, slice_get, Option, Some}
 use Rattle.mir_base.specs.declared.instructions.Rhs.{Rhs}
 use Rattle.flow_graph.specs.Graphs.{GraphShape}
@@ -20,8 +20,8 @@ pub record AreInsertedAt (graph : GraphShape) (n : ℕ) (puts : List Insertion) 
   pub exact : (x : ℕ) (t : Rhs) → (put_for puts x ≡ Some t) ↔ IsInsertedAt graph x t n
   pub in_order : RisesFrom 0 puts
 
--- `delayed n x` is the right side of the one pattern of x that is delayed at node n, where one is, and `inserts n` is what
--- is put before it. Nothing is put before what is no node
+-- `delayed n x` is the right side of the one pattern of x that is delayed at node n, where one is, and `inserts n` is
+-- what is put before it. Nothing is put before what is no node
 pub record AreInsertions (graph : GraphShape) (delayed : ℕ → ℕ → Option Rhs) (inserts : ℕ → List Insertion) : Type 0 where
   pub delayed_are : (n x : ℕ) (t : Rhs) → n < length graph.nodes → (delayed n x ≡ Some t) ↔ IsDelayedTo graph x t n
   pub inserts_are : (n : ℕ) → n < length graph.nodes → AreInsertedAt graph n (inserts n)

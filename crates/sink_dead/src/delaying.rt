@@ -1,104 +1,173 @@
 // Where assignments are delayed to, and where they are inserted.
 ghost use Rattle.std.specs.Prelude.{◌≡◌, ◌<◌, ℕ, length, IfOk};
-ghost use Rattle.flow_graph.specs.Edges.{IsSplit};
+ghost use Rattle.flow_graph.specs.Edges.{IsSplit, edges_of};
 ghost use Rattle.flow_graph.specs.Graphs.{GraphShape, IsGraph};
-ghost use Rattle.sink_dead.specs.Delaying.{AreApartAt, IsPassedAtSkips};
-ghost use Rattle.sink_dead.specs.SiteRows.{AreInsertionRows};
-ghost use Rattle.sink_dead.specs.Sinkings.{AreBlockedIn, AreDelayedIn, AreInsertedIn, IsSinking};
+ghost use Rattle.sink_dead.specs.Accesses.{blocks_at};
+ghost use Rattle.sink_dead.specs.Delaying.{AreApartAt, IsDelayedTo, IsInsertedAt, IsPassedAtSkips};
+ghost use Rattle.sink_dead.specs.FoundPatterns.{AreFoundIn};
+ghost use Rattle.sink_dead.specs.Moving.{AreMoving};
+ghost use Rattle.sink_dead.specs.PatternGraphs.{AreBlockedIn, AreDelayedIn, AreInsertedIn, IsPatternGraph};
+ghost use Rattle.sink_dead.specs.SiteRows.{AreRowsTelling, AreSiteRows};
+ghost use Rattle.sink_dead.specs.Tables.{AreSinkableBelow};
 
-use crate::patterns::Patterns;
+use crate::patterns::{Pattern, Patterns, moving_patterns};
 use crate::sites::{blocking_rows, occurrence_rows};
 use bit_rows::Rows;
 use flow_graph::{Edges, Graph};
+use key_table::KeyTable;
 use mir_base::Memory;
 use path_laws::{forward_all, some_successor};
 use std::alloc::Global;
 
-/// Carries the law that what is inserted before one node leaves each other alone: the patterns have different
-/// variables, and none assigns what another reads. So their order makes no difference.
+/// Has no effect; carries the theorem that what is inserted before one node leaves each other alone: the patterns have
+/// different variables, and none assigns what another reads. So their order makes no difference.
 pub fn inserted_apart()
     ensures { (graph : GraphShape) → IsGraph graph.vars graph.received graph.nodes →
         (n : ℕ) → n < length graph.nodes → AreApartAt graph n }
 {}
 
-/// Carries the law that in a split graph a pattern that is inserted before a node that does not block it is inserted
-/// before a Skip. So it is put on an edge, and the paths that do not come over this edge do not evaluate it.
+/// Has no effect; carries the theorem that in a split graph a pattern that is inserted before a node that does not
+/// block it is inserted before a Skip. So it is put on an edge, and the paths that do not come over this edge do not
+/// evaluate it.
 pub fn inserted_at_skips()
     ensures { (graph : GraphShape) → IsGraph graph.vars graph.received graph.nodes →
         IsSplit graph.nodes → (n : ℕ) → IsPassedAtSkips graph n }
 {}
 
-/// What sinks in a graph: the patterns of a table. The edges are those of the graph.
+/// The patterns of a graph that can still move, and where they are blocked, delayed and inserted: rows with one row for
+/// each node and one bit for each pattern.
 #[derive(Drop)]
-pub(crate) struct Sinking<'a> {
-    pub(crate) graph: &'a Graph,
-    pub(crate) edges: &'a Edges,
-    pub(crate) table: &'a Patterns,
+pub struct DelayedPatterns {
+    /// The patterns, in order of their variables: those with an occurrence from which Skips lead on to no node that
+    /// blocks them. A Skip leads on to a node that no other edge enters.
+    pub table: KeyTable<Pattern>,
+    /// Where a pattern is blocked: the node is Start, reads the variable, or assigns it or one of the right side.
+    pub blocked: Rows,
+    /// Where it is delayed: on every path to the node it has occurred before, and no node has blocked it since.
+    pub delayed: Rows,
+    /// Where it is inserted, before the node: it is delayed there, and blocked, or not delayed at some successor.
+    pub inserted: Rows,
 }
 
-/// At which nodes each pattern is inserted: it is delayed there, and blocked, or not delayed at some successor. It
-/// fails only with `Memory`.
-pub(crate) fn insertion_rows(alloc: Global, sinking: &Sinking<'_>) -> Result<Rows, Memory>
-    requires { IsSinking sinking.now }
-    ensures { IfOk result (AreInsertionRows sinking.now.graph.now sinking.now.table.now) }
-{
-    if sinking.table.len() == 0 {
-        let rows = rows_of_none(alloc, sinking.graph, sinking.table)?;
-        Ok(rows)
-    } else {
-        let rows = rows_of_some(alloc, sinking)?;
-        Ok(rows)
+impl DelayedPatterns {
+    /// The patterns of a graph that can still move, and where they are blocked, delayed and inserted. `edges` are those
+    /// of the graph. It fails only with `Memory`. The rules are those of sinking in Knoop, Ruething and Steffen,
+    /// *Partial Dead Code Elimination*, PLDI 1994, for nodes of one instruction.
+    pub fn of(alloc: Global, graph: &Graph, edges: &Edges) -> Result<DelayedPatterns, Memory>
+        requires { edges.now ≡ edges_of graph.now.nodes }
+        ensures moving { IfOk result (λ found. AreMoving graph.now found.table) }
+        ensures blocked { IfOk result (λ found.
+            AreSiteRows graph.now found.table (λ x t. blocks_at x t graph.now) found.blocked) }
+        ensures delayed { IfOk result (λ found.
+            AreRowsTelling graph.now found.table (IsDelayedTo graph.now) found.delayed) }
+        ensures inserted { IfOk result (λ found.
+            AreRowsTelling graph.now found.table (IsInsertedAt graph.now) found.inserted) }
+    {
+        let table = moving_patterns(alloc, graph, edges)?;
+        let found = found_of(alloc, graph, edges, table)?;
+        Ok(found)
     }
 }
 
-/// The rows of a table of no patterns: one for each node, with no bits.
-fn rows_of_none(alloc: Global, graph: &Graph, table: &Patterns) -> Result<Rows, Memory>
-    requires { length table.now ≡ 0 }
-    ensures { IfOk result (AreInsertionRows graph.now table.now) }
+/// The patterns of this table, and where they are delayed and inserted. Where there is no pattern, nothing is solved.
+fn found_of(
+    alloc: Global,
+    graph: &Graph,
+    edges: &Edges,
+    table: Patterns,
+) -> Result<DelayedPatterns, Memory>
+    requires edges { edges.now ≡ edges_of graph.now.nodes }
+    requires sinkable { AreSinkableBelow (length graph.now.vars) table }
+    ensures { IfOk result (AreFoundIn graph.now table) }
 {
-    let rows = Rows::new(alloc, graph.len(), 0)?;
-    Ok(rows)
+    if table.len() == 0 {
+        let found = found_of_none(alloc, graph, table)?;
+        Ok(found)
+    } else {
+        let found = found_of_some(alloc, graph, edges, table)?;
+        Ok(found)
+    }
 }
 
-/// The rows of a table, by the paths to each node.
-fn rows_of_some(alloc: Global, sinking: &Sinking<'_>) -> Result<Rows, Memory>
-    requires { IsSinking sinking.now }
-    ensures { IfOk result (AreInsertionRows sinking.now.graph.now sinking.now.table.now) }
+/// The same of a table of no patterns: each row has no bits.
+fn found_of_none(alloc: Global, graph: &Graph, table: Patterns) -> Result<DelayedPatterns, Memory>
+    requires { length table ≡ 0 }
+    ensures { IfOk result (AreFoundIn graph.now table) }
 {
-    let blocks = blocking_rows(alloc, sinking.graph, sinking.table)?;
-    let delayed = delayed_rows(alloc, sinking, &blocks)?;
-    let rows = inserted_rows(alloc, sinking, &blocks, &delayed)?;
-    Ok(rows)
+    let blocked = Rows::new(alloc, graph.len(), 0)?;
+    let delayed = Rows::new(alloc, graph.len(), 0)?;
+    let inserted = Rows::new(alloc, graph.len(), 0)?;
+    Ok(DelayedPatterns {
+        table,
+        blocked,
+        delayed,
+        inserted,
+    })
+}
+
+/// The same of any table, by the paths to each node.
+fn found_of_some(
+    alloc: Global,
+    graph: &Graph,
+    edges: &Edges,
+    table: Patterns,
+) -> Result<DelayedPatterns, Memory>
+    requires edges { edges.now ≡ edges_of graph.now.nodes }
+    requires sinkable { AreSinkableBelow (length graph.now.vars) table }
+    ensures { IfOk result (AreFoundIn graph.now table) }
+{
+    let over = PatternGraph {
+        graph,
+        edges,
+        table: &table,
+    };
+    let blocked = blocking_rows(alloc, graph, &table)?;
+    let delayed = delayed_rows(alloc, &over, &blocked)?;
+    let inserted = inserted_rows(alloc, &over, &blocked, &delayed)?;
+    Ok(DelayedPatterns {
+        table,
+        blocked,
+        delayed,
+        inserted,
+    })
+}
+
+/// A graph with its edges, and a table of patterns of it.
+#[derive(Drop)]
+struct PatternGraph<'a> {
+    graph: &'a Graph,
+    edges: &'a Edges,
+    table: &'a Patterns,
 }
 
 /// At which nodes each pattern is delayed: on every path from Start it has occurred, and no node has blocked it since.
-fn delayed_rows(alloc: Global, sinking: &Sinking<'_>, blocks: &Rows) -> Result<Rows, Memory>
-    requires sinking { IsSinking sinking.now }
-    requires blocks { AreBlockedIn sinking.now blocks.now }
-    ensures { IfOk result (AreDelayedIn sinking.now) }
+fn delayed_rows(alloc: Global, over: &PatternGraph<'_>, blocked: &Rows) -> Result<Rows, Memory>
+    requires over { IsPatternGraph over.now }
+    requires blocked { AreBlockedIn over.now blocked.now }
+    ensures { IfOk result (AreDelayedIn over.now) }
 {
-    let occurs = occurrence_rows(alloc, sinking.graph, sinking.table)?;
-    let _nodes = sinking.graph.nodes();
-    let rows = forward_all(alloc, sinking.graph, sinking.edges, &occurs, blocks)?;
+    let occurs = occurrence_rows(alloc, over.graph, over.table)?;
+    let _nodes = over.graph.nodes();
+    let rows = forward_all(alloc, over.graph, over.edges, &occurs, blocked)?;
     Ok(rows)
 }
 
 /// At which nodes each pattern is inserted.
 fn inserted_rows(
     alloc: Global,
-    sinking: &Sinking<'_>,
-    blocks: &Rows,
+    over: &PatternGraph<'_>,
+    blocked: &Rows,
     delayed: &Rows,
 ) -> Result<Rows, Memory>
-    requires sinking { IsSinking sinking.now }
-    requires blocks { AreBlockedIn sinking.now blocks.now }
-    requires delayed { AreDelayedIn sinking.now delayed.now }
-    ensures { IfOk result (AreInsertedIn sinking.now) }
+    requires over { IsPatternGraph over.now }
+    requires blocked { AreBlockedIn over.now blocked.now }
+    requires delayed { AreDelayedIn over.now delayed.now }
+    ensures { IfOk result (AreInsertedIn over.now) }
 {
     let mut ended = delayed.copied(alloc)?;
     ended.flip_rows(0);
-    let mut rows = some_successor(alloc, sinking.graph, sinking.edges, &ended)?;
-    rows.or_rows(blocks);
+    let mut rows = some_successor(alloc, over.graph, over.edges, &ended)?;
+    rows.or_rows(blocked);
     rows.and_rows(delayed);
     Ok(rows)
 }

@@ -12,9 +12,10 @@ use mir_base::{Memory, Operand, Rhs, Test};
 use path_laws::backward_some;
 use std::alloc::Global;
 
-/// Which variables are live before each node: one row for each node, one bit for each variable. It fails only with
-/// `Memory`.
-pub(crate) fn live_rows(alloc: Global, graph: &Graph) -> Result<Rows, Memory>
+/// Which variables are live before each node, as rows with one row for each node and one bit for each variable. It
+/// fails only with `Memory`. The rule is that of dead variables in Knoop, Ruething and Steffen, *Partial Dead Code
+/// Elimination*, PLDI 1994, for nodes of one instruction.
+pub fn live_rows(alloc: Global, graph: &Graph) -> Result<Rows, Memory>
     ensures shape { IfOk result (HaveShape graph.now (length graph.now.vars)) }
     ensures live { IfOk result (TellLive graph.now) }
 {

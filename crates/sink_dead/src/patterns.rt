@@ -18,16 +18,18 @@ use std::alloc::Global;
 /// A pattern of assignments. Its occurrences are the nodes that assign this right side, which does not divide, to this
 /// variable.
 #[derive(Clone, Copy, Debug, PartialEq, Eq, Hash)]
-pub(crate) struct Pattern {
-    pub(crate) var: usize,
-    pub(crate) rhs: Rhs,
+pub struct Pattern {
+    /// The variable that is assigned, by number.
+    pub var: usize,
+    /// The right side.
+    pub rhs: Rhs,
 }
 
 /// A table of distinct patterns, numbered from 0. Contracts see it as the list of them.
 pub(crate) type Patterns = KeyTable<Pattern>;
 
-/// The patterns that can still move, in order of their variables: those with an occurrence from which Skips lead to no
-/// node that blocks them. `edges` are those of the graph. It fails only with `Memory`.
+/// The patterns that can still move, in order of their variables: those with an occurrence from which Skips lead on to
+/// no node that blocks them. `edges` are those of the graph. It fails only with `Memory`.
 pub(crate) fn moving_patterns(
     alloc: Global,
     graph: &Graph,
@@ -70,7 +72,7 @@ fn listed(alloc: Global, table: &Patterns) -> Result<Vec<Pattern>, Memory>
     Ok(patterns)
 }
 
-/// The pattern that occurs at a node, where Skips do not lead from there to a node that blocks it.
+/// The pattern that occurs at a node, where Skips do not lead on from there to a node that blocks it.
 fn moving_at(nodes: &[Node], edges: &Edges, node: &Node) -> Option<Pattern>
     requires edges { edges.now ≡ edges_of nodes.now }
     requires within { AllWithin nodes.now }
@@ -83,7 +85,7 @@ fn moving_at(nodes: &[Node], edges: &Edges, node: &Node) -> Option<Pattern>
     }
 }
 
-/// The pattern that occurs at a node, where Skips do not lead from its successor to a node that blocks it.
+/// The pattern that occurs at a node, where Skips do not lead on from its successor to a node that blocks it.
 fn moving_on(nodes: &[Node], edges: &Edges, node: &Node, next: usize) -> Option<Pattern>
     requires edges { edges.now ≡ edges_of nodes.now }
     requires within { AllWithin nodes.now }

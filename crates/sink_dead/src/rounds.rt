@@ -34,9 +34,9 @@ pub fn round(alloc: Global, graph: &Graph) -> Result<Round, Memory>
     })
 }
 
-/// The rounds of a split graph: the first is a round of the graph, and each other one of the one before. There are one to
-/// `MOST_ROUNDS`. Only the last may have the layout of the graph before it, and it has unless there are `MOST_ROUNDS`. It
-/// fails only with `Memory`.
+/// The rounds of a split graph: the first is a round of the graph, and each other one of the one before. There are one
+/// to `MOST_ROUNDS`. Only the last may have the layout of the graph before it, and it has unless there are
+/// `MOST_ROUNDS`. It fails only with `Memory`.
 pub fn sink(alloc: Global, graph: &Graph) -> Result<Sunk, Memory>
     requires { IsSplit graph.now.nodes }
     ensures rounds { IfOk result (λ sunk. AreRounds graph.now sunk.rounds) }

@@ -1,5 +1,5 @@
-// The assignments that cannot move: Skips alone part them from a node that blocks them. Each is put right before that
-// node.
+// The assignments that cannot move: from them Skips lead on to a node that blocks them, each to a node that no other
+// edge enters. Each assignment is put right before the node that blocks it.
 ghost use Rattle.std.specs.Prelude.{◌≡◌, ◌<◌, length, IfOk};
 ghost use Rattle.flow_graph.specs.Edges.{edges_of};
 ghost use Rattle.flow_graph.specs.Graphs.{AllWithin, SuccsBelow};
@@ -30,7 +30,7 @@ pub(crate) fn settled(
     Ok(settled)
 }
 
-/// Notes the pattern of a node for the nodes to which Skips lead from its successor, where it cannot move.
+/// Notes the pattern of a node for the nodes to which Skips lead on from its successor, where it cannot move.
 fn note(
     settled: &mut Vec<Option<Pattern>>,
     nodes: &[Node],
@@ -58,7 +58,7 @@ fn note(
     }
 }
 
-/// Notes a pattern for a node and for those to which Skips lead from there.
+/// Notes a pattern for a node and for those to which Skips lead on from there.
 fn note_on(
     settled: &mut Vec<Option<Pattern>>,
     nodes: &[Node],

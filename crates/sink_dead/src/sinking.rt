@@ -6,9 +6,8 @@ ghost use Rattle.sink_dead.specs.Puts.{ArePutsOf};
 ghost use Rattle.sink_dead.specs.RoundsKept.{RoundKeeps};
 ghost use Rattle.sink_dead.specs.SunkGraphs.{IsSunk};
 
-use crate::delaying::{Sinking, insertion_rows};
+use crate::delaying::DelayedPatterns;
 use crate::inserting::{Put, empty_occurrences, put_each, puts_of};
-use crate::patterns::moving_patterns;
 use crate::settling::settled;
 use flow_graph::{Edges, Editor, Graph};
 use mir_base::Memory;
@@ -52,15 +51,15 @@ fn insertions(alloc: Global, graph: &Graph) -> Result<Vec<Put>, Memory>
     ensures puts { IfOk result (λ puts. ArePutsOf graph.now puts.items) }
 {
     let edges = Edges::of(alloc, graph)?;
-    let table = moving_patterns(alloc, graph, &edges)?;
+    let found = DelayedPatterns::of(alloc, graph, &edges)?;
     let nodes = graph.nodes();
-    let settled = settled(alloc, nodes, &edges, &table)?;
-    let sinking = Sinking {
-        graph,
-        edges: &edges,
-        table: &table,
-    };
-    let insert = insertion_rows(alloc, &sinking)?;
-    let puts = puts_of(alloc, nodes, &table, settled.as_slice(), &insert)?;
+    let settled = settled(alloc, nodes, &edges, &found.table)?;
+    let puts = puts_of(
+        alloc,
+        nodes,
+        &found.table,
+        settled.as_slice(),
+        &found.inserted,
+    )?;
     Ok(puts)
 }

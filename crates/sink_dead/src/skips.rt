@@ -3,17 +3,17 @@ ghost use Rattle.std.specs.Prelude.{◌≡◌, ◌<◌, List, Some, length, IfSo
 ghost use Rattle.flow_graph.specs.declared.nodes.Node.{Node};
 ghost use Rattle.flow_graph.specs.Edges.{edges_of};
 ghost use Rattle.flow_graph.specs.Graphs.{AllWithin, SuccsBelow};
-ghost use Rattle.sink_dead.specs.Skips.{LeadsOn, entered_once, skip_on, skip_over};
+ghost use Rattle.sink_dead.specs.Skips.{LeadsTo, entered_once, skip_on, skip_over};
 
 use flow_graph::{Edges, Node};
 
-/// The node to which Skips lead from this one: it is no Skip, or its successor is entered by other edges too. `edges`
-/// are those of the nodes.
+/// The node to which Skips lead on from this one: it is no Skip, or its successor is entered by other edges too.
+/// `edges` are those of the nodes.
 pub(crate) fn stop_after(nodes: &[Node], edges: &Edges, first: usize) -> usize
     requires edges { edges.now ≡ edges_of nodes.now }
     requires within { AllWithin nodes.now }
     requires first { first < length nodes.now }
-    ensures leads { LeadsOn nodes.now first result }
+    ensures leads { LeadsTo nodes.now first result }
     ensures within { result < length nodes.now }
 {
     let mut at = first;

@@ -1,10 +1,12 @@
-use Rattle.std.proofs.Common.{◌≡◌, ℕ, Option, Some, None, sym, ◌∙◌, subst}
+use Rattle.std.proofs.Common.{◌≡◌, ℕ, Option, Some, None, ap, sym, ◌∙◌, subst}
 use Rattle.mir_base.specs.declared.instructions.Rhs.{Rhs}
 use Rattle.flow_graph.specs.declared.nodes.Node.{Node}
 use Rattle.flow_graph.specs.declared.nodes.Node.TheVariants.{Assign}
 use Rattle.flow_graph.specs.Graphs.{GraphShape}
 use Rattle.sink_dead.specs.declared.patterns.Pattern.{Pattern}
 use Rattle.sink_dead.specs.Moving.{IsStopped, MovesFrom, MovesOn}
+use Rattle.sink_dead.specs.Tables.{pattern_of}
+use Rattle.sink_dead.proofs.Stopping.{pattern_is}
 use Rattle.sink_dead.proofs.patterns.moving_at.Goals as goal
 
 -- an assignment has one successor
@@ -13,7 +15,9 @@ moves_from graph node x next t is None stops = λ p k at here.
     let one : Assign x t next ≡ Assign p.var p.rhs k = sym is ∙ at in
     let same : next ≡ k = cc in
     subst (IsStopped graph p) same (stops p here)
-moves_from graph node x next t is (Some p) moves = moves
+moves_from graph node x next t is (Some p) moves =
+    let one = pattern_is x next t p (sym (ap pattern_of is) ∙ moves.0) in
+    (moves.0, (next, is ∙ ap (λ (q : Pattern). Assign q.var q.rhs next) one, moves.1))
 
 pub returns-in-Assign : goal.returns-in-Assign
 returns-in-Assign c = λ graph same. moves_from graph c.args.node.now c.in-Assign.field-0 c.in-Assign.next c.in-Assign.field-1 c.in-Assign.is c.moving_on.result (c.moving_on.ensures graph same)

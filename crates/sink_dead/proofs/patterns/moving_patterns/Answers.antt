@@ -7,17 +7,18 @@ use Rattle.flow_graph.specs.declared.nodes.Node.TheVariants.{Assign}
 use Rattle.flow_graph.specs.Edges.{edges_of}
 use Rattle.flow_graph.specs.Graphs.{succs_of}
 use Rattle.key_table.specs.Keys.{IsWithSome}
-use Rattle.key_table.specs.KeyLaws.{contained_at, place_of}
+use Rattle.key_table.specs.KeyLaws.{place_of}
 use Rattle.sink_dead.specs.declared.patterns.Pattern.{Pattern}
 use Rattle.sink_dead.specs.Moving.{MovesFrom}
-use Rattle.sink_dead.proofs.Found.{AreFound, found_more, found_none}
+use Rattle.sink_dead.proofs.Found.{AreMovingUpTo, found_more, found_none}
 use Rattle.sink_dead.proofs.patterns.moving_patterns.Goals as goal
 use Rattle.sink_dead.proofs.patterns.moving_patterns.Goals.{After-moving_at, in-Some+in_ok-number, in_default}
+use Rattle.mir_base.specs.ItemLaws.{contained_at}
 
 pub loop-node-init : goal.loop-node-init
 loop-node-init c = found_none c.args.graph.now (length c.args.graph.now.vars) c.nodes-nodes.result.now c.new-found.result c.new-found.ensures
 
-more : (c : After-moving_at) (found : Option Pattern) (new : List Pattern) → c.moving_at.result ≡ found → IsWithSome c.loop-node.found found new → AreFound c.args.graph.now (length c.args.graph.now.vars) c.nodes-nodes.result.now (c.loop-node.node-index + 1) new
+more : (c : After-moving_at) (found : Option Pattern) (new : List Pattern) → c.moving_at.result ≡ found → IsWithSome c.loop-node.found found new → AreMovingUpTo c.args.graph.now (length c.args.graph.now.vars) c.nodes-nodes.result.now (c.loop-node.node-index + 1) new
 more c found new is put =
     let nodes = c.nodes-nodes.result.now in
     let i = c.loop-node.node-index in
@@ -61,5 +62,9 @@ returns c =
             | inl there ↦ inl (Contains-permutation old new p sorted.same there)
             | inr stopped ↦ inr stopped
           ];
+      moves = λ k p at.
+          let there = place_of old p (Contains-permutation new old p (IsPermutation-sym old new sorted.same) (contained_at new p k at)) in
+          let one = c.loop-node.invariant.moves there.0 p there.1 in
+          record { at = one.0; next = one.1; is = ap (λ (l : List Node). slice_get l one.0) (sym same) ∙ one.2; free = one.3 };
       each = λ k p at. (let there = place_of old p (Contains-permutation new old p (IsPermutation-sym old new sorted.same) (contained_at new p k at)) in c.loop-node.invariant.each there.0 p there.1);
     }

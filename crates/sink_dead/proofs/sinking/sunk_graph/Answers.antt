@@ -8,7 +8,7 @@ use Rattle.sink_dead.specs.declared.inserting.Put.{Put}
 use Rattle.sink_dead.specs.Accesses.{is_sinkable}
 use Rattle.sink_dead.specs.Puts.{CanPut, all_puts, graph_emptied, graph_with}
 use Rattle.sink_dead.specs.SunkGraphs.{emptied, sinking}
-use Rattle.sink_dead.proofs.Emptied.{emptied_length}
+use Rattle.flow_graph.specs.EditingLaws.{change_each_length}
 use Rattle.sink_dead.proofs.Listing.{can_all, with_all}
 use Rattle.sink_dead.proofs.SunkKeeps.{inserts_below, start_free}
 use Rattle.sink_dead.proofs.sinking.sunk_graph.Goals as goal
@@ -25,7 +25,7 @@ put_each-requires-clause-can c =
     let is_graph = c.in_ok-puts.ensures.graph in
     let puts = c.in_ok-puts.ensures.puts in
     let now = c.empty_occurrences.new.editor.graph in
-    let long : length c.empty_occurrences.new.editor.graph.nodes ≡ length c.args.graph.now.nodes = ap (λ (g : GraphShape). length g.nodes) (emptied_is known) ∙ emptied_length (λ n. emptied (is_sinkable (slice_get c.args.graph.now.nodes n))) (length graph.nodes) 0 graph.nodes in
+    let long : length c.empty_occurrences.new.editor.graph.nodes ≡ length c.args.graph.now.nodes = ap (λ (g : GraphShape). length g.nodes) (emptied_is known) ∙ change_each_length (λ n. emptied (is_sinkable (slice_get c.args.graph.now.nodes n))) (length graph.nodes) 0 graph.nodes in
     let vars : length c.empty_occurrences.new.editor.graph.vars ≡ length c.args.graph.now.vars = ap (λ (g : GraphShape). length g.vars) (emptied_is known) ∙ ap length (append-nil graph.vars) in
     subst (CanPut now) (sym (c.as_slice.ensures.value ∙ puts.are))
     (can_all now puts.inserts (length graph.nodes) 0 (start_free graph is_graph c.requires puts.delayed puts.inserts puts.insertions)
