@@ -28,14 +28,15 @@ use Rattle.mir_opt.specs.Stages.{AreLaid, graph_at, move_graph_at}
 
 -- ---- code motion
 
--- the placement has a row for each node and a bit for each expression, and is the lazy one of each expression by the rule
+-- the placement has a row for each node and a bit for each expression, and is the lazy one of each expression by the
+-- rule
 pub record IsLazyPlacement (Down : GraphShape → Expr → ℕ → Type 0) (graph : GraphShape) (table : List Expr) (placement : Placement) : Type 0 where
   pub insert_rows : HaveShape graph (length table) placement.insert
   pub replace_rows : HaveShape graph (length table) placement.replace
   pub lazy : AreLazy graph table (Down graph) placement
 
--- the steps of code motion: the split graph, the expressions of it that are moved, their lazy placement by the rule, and
--- the graph rewritten by it
+-- the steps of code motion: the split graph, the expressions of it that are moved, their lazy placement by the rule,
+-- and the graph rewritten by it
 pub record IsMotion (exprs : List Node → List Expr) (Down : GraphShape → Expr → ℕ → Type 0) (graph split : GraphShape) (table : List Expr) (placement : Placement) (moved : GraphShape) : Type 0 where
   pub splits : IsEdgeSplit graph split
   pub table_is : table ≡ exprs split.nodes

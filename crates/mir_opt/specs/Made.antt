@@ -33,8 +33,8 @@ pub record UnitBest (unit : UnitTrail) : Type 0 where
   pub moves : MovesBest unit
   pub divisions : DivisionsStay unit
 
--- the steps are linked, their code motion is the best, the graph of each stage keeps the unit, and those that are cleaned
--- lead to nodes
+-- the steps are linked, their code motion is the best, the graph of each stage keeps the unit, and those that are
+-- cleaned lead to nodes
 pub record UnitMade {T S : Type 0} (graph_of : T → S → GraphShape) (Links : UnitShape → T → Type 0) (Best Within : T → Type 0) (source : UnitShape) (unit : T) : Type 0 where
   pub linked : Links source unit
   pub best : Best unit

@@ -1,5 +1,5 @@
--- The graphs of the stages of a unit, and that each of them keeps the unit; and what a program keeps of another. Cited by
--- contracts.
+-- The graphs of the stages of a unit, and that each of them keeps the unit; and what a program keeps of another. Cited
+-- by contracts.
 use Rattle.std.specs.Prelude.{ℕ, zero, suc, max, List, [], ◌∷◌, ◌++◌, fold, length}
 use Rattle.std.specs.List.{AllZip}
 use Rattle.mir_base.specs.Runs.{Cheaper, Same}
@@ -77,8 +77,8 @@ AllKeep {S = S} graph_of sources units = AllZip (λ source unit. (stage : S) →
 abbrev pub AreLaid : {T S : Type 0} → (T → S → GraphShape) → S → List T → List UnitShape → Type 0
 AreLaid graph_of stage units targets = AllZip (λ unit target. IsLayout (graph_of unit stage) target) units targets
 
--- the second program is the same as the first, as a whole and unit by unit, evaluates no more operators, and calls no units
--- but those that the first calls
+-- the second program is the same as the first, as a whole and unit by unit, evaluates no more operators, and calls no
+-- units but those that the first calls
 pub record KeepsProgram (first second : ProgramShape) : Type 0 where
   pub same : Same first second
   pub cheaper : Cheaper first second

@@ -1,6 +1,6 @@
 -- Where all nodes stand in one block, no edge leads from block to block, and a call pushes nothing.
-use Rattle.std.proofs.Common.{◌≡◌, ℕ, zero, suc, ◌+◌, ◌*◌, ◌<◌, ◌≤◌, Bool, true, false, ◌&&◌, if◌then◌else◌, List, [], ◌∷◌, length, slice_get, Some, refl, sym, ap, subst, arith, ◌∙◌}
-use Rattle.std.proofs.lemmas.Bool.{ne_eqb}
+use Rattle.std.proofs.Common.{◌≡◌, ℕ, zero, suc, ◌+◌, ◌*◌, ◌<◌, ◌≤◌, false, if◌then◌else◌, List, [], ◌∷◌, length, slice_get, Some, refl, sym, ap, subst, arith, ◌∙◌}
+use Rattle.std.proofs.lemmas.Bool.{and_right, ne_eqb}
 use Rattle.std.proofs.lemmas.Option.{slice_get_within}
 use Rattle.flow_graph.specs.declared.edges.Edge.{Edge}
 use Rattle.flow_graph.specs.declared.nodes.Node.{Node}
@@ -9,13 +9,9 @@ use Rattle.flow_graph.specs.Blocks.{IsBlocks, StandsIn}
 use Rattle.flow_graph.specs.EdgeLaws.{edge_is}
 use Rattle.flow_graph.specs.Edges.{EdgesShape, edges_from, edges_of}
 use Rattle.flow_graph.specs.Graphs.{IsEdge}
+use Rattle.flow_graph.specs.PathLaws.{first_begins}
 use Rattle.flow_graph.specs.Paths.{Begins, HasEdge}
 use Rattle.path_laws.specs.Crossings.{begins_with, crossings, ends_with, some_list}
-
--- a list whose first item is this node begins with it
-first_begins : (list : List ℕ) (n : ℕ) → slice_get list 0 ≡ Some n → Begins n list
-first_begins [] n e = cc
-first_begins (m ∷ list) n e = cc
 
 -- Start has nothing before it, so its block begins with it
 start_first : (nodes : List Node) (lists : List (List ℕ)) (b : ℕ) → IsBlocks nodes lists → ((m slot s : ℕ) → IsEdge nodes m slot s → 1 ≤ s) → StandsIn lists b 0 → (list : List ℕ) → slice_get lists b ≡ Some list → Begins 0 list
@@ -54,16 +50,12 @@ none_cross nodes lists are late some one = all (edges_from 0 nodes) (λ e edge h
         let b : s.0 ≡ 0 = omega (arith, slice_get_within lists s.0 s.1.list s.1.listed, one) in
         subst (λ k. StandsIn lists k 0) b s.1
 
-    and_no : (a c : Bool) → c ≡ false → (a && c) ≡ false
-    and_no true c h = h
-    and_no false c h = refl
-
     all : (edges : List Edge) → ((e : ℕ) (edge : Edge) → slice_get edges e ≡ Some edge → HasEdge nodes edge.source edge.target) → crossings lists edges ≡ 0
     all [] steps = refl
     all (edge ∷ edges) steps =
         let step = steps zero edge refl in
         let to = none_begins lists edge.target (omega (arith, one)) (late edge.source step.0 edge.target step.1) (start_first nodes lists 0 are late zero_stands) in
-        let off = and_no (some_list (ends_with edge.source) lists) (some_list (begins_with edge.target) lists) to in
+        let off = and_right (some_list (ends_with edge.source) lists) (some_list (begins_with edge.target) lists) to in
         omega (arith, all edges (λ e x h. steps (suc e) x h), ap {B = ℕ} (λ t. if t then 1 else 0) off)
 
 -- so a counter that rises by no more than the crossings stays as it was

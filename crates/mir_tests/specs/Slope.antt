@@ -1,5 +1,5 @@
--- A flow of the tests: levels up to 255 that run down a line of nodes, each of which leads to the one of the next lower number.
--- Cited by contracts of the tests.
+-- A flow of the tests: levels up to 255 that run down a line of nodes, each of which leads to the one of the next lower
+-- number. Cited by contracts of the tests.
 use Rattle.std.specs.Prelude.{ℕ, ◌+◌, ◌-◌, ◌<◌}
 use Rattle.std.proofs.Common.{arith}
 use Rattle.fix_solve.specs.Net.{Net, NetLaws}

@@ -1,6 +1,6 @@
--- A flow of the tests: three truth values along the 15 edges of a loop's graph. The nodes 0 to 3 follow one another, 3 leads
--- to 4 and to 10, the nodes 4 to 9 follow one another and lead back to 3, 10 to 13 follow one another, and 13 leads to itself.
--- Cited by the tests.
+-- A flow of the tests: three truth values along the 15 edges of a loop's graph. The nodes 0 to 3 follow one another, 3
+-- leads to 4 and to 10, the nodes 4 to 9 follow one another and lead back to 3, 10 to 13 follow one another, and 13
+-- leads to itself. Cited by the tests.
 use Rattle.std.specs.Prelude.{◌≡◌, ℕ, ◌+◌, ◌-◌, ◌<◌, ◌≤◌, min, Bool, true, false, nat_eq, if◌then◌else◌, refl}
 use Rattle.std.proofs.Common.{arith, inl, inr, if◌then◌else◌, nat_eq}
 use Rattle.std.proofs.lemmas.Bool.{cases_cond, cases_lt}
@@ -33,7 +33,8 @@ size_of_three x = 0
 abbrev pub trues_of : Three → ℕ
 trues_of x = rank_of x.0 + (rank_of x.1 + rank_of x.2)
 
--- the edges are numbered by their sources, of which 3 has two; the third value stops on the edge 8, and each begins at one node
+-- the edges are numbered by their sources, of which 3 has two; the third value stops on the edge 8, and each begins at
+-- one node
 abbrev pub squares : Net Three
 squares = record {
   nodes = 14;

@@ -17,7 +17,7 @@ use Rattle.mir_top.specs.Calls.{Call, answer_of, refusal_with, answer_at_end, co
 use Rattle.mir_top.specs.Commands.{command_of, inputs_in, Asks, Reads}
 use Rattle.mir_top.specs.Complaints.{Complaint, complaint_of, of_text, of_program, usage, too_long, wrong_inputs, deep, read_fault, write_fault, out_of_memory}
 use Rattle.mir_top.specs.Due.{Refuses, no_command, no_text, wrong_number, too_deep, long, unreadable, invalid}
-use Rattle.mir_top.specs.Outputs.{CannotMake, too_few_or_many, too_deep as stops_deep, no_memory}
+use Rattle.mir_top.specs.Outputs.{CannotMake, too_few_or_many, too_many_frames, no_memory}
 use Rattle.mir_top.specs.Promises.{HasSeen}
 use Rattle.mir_top.specs.Streams.{Untouched, HasFailed, TookAll, Tried}
 use Rattle.mir_top.specs.Texts.{IsInvalid}
@@ -55,7 +55,7 @@ module _ (call : Call) where
   making : (text : List ℕ) (command : Command) (program : ProgramShape) (fault : RunFault) → WorkedOn call.words call.source text command program → CannotMake (inputs_in call.words) program command fault → EndsSo (complaint_of (Making fault)) → EndingCase call
   making text _ program _ worked (too_few_or_many steps wrong) so =
       ends_refused text (wrong_inputs _) so.answered (seen_all text worked.read) (wrong_number steps program worked.asked worked.subject wrong) so.silent so.told
-  making text _ program _ worked (stops_deep steps right above) so =
+  making text _ program _ worked (too_many_frames steps right above) so =
       ends_refused text deep so.answered (seen_all text worked.read) (too_deep steps program worked.asked worked.subject right above) so.silent so.told
   making text _ program _ worked (no_memory command refusal) so = ends_out_of_memory so.answered (asks call.words command worked.asked) so.silent so.told
 

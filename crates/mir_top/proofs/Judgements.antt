@@ -47,14 +47,6 @@ within_of Move text program reads on = on
 within_of (Run steps) text program reads on = on
 within_of (Trial number units) text program reads on = absurd (cc)
 
--- and a command works on the program of the text
-pub works_on : (command : Command) (text : List ℕ) (program : ProgramShape) → IsTrue (reads_text command) → IsShortTextOf text program → WorksOn command text program
-works_on Optimise text program reads within = within
-works_on Stages text program reads within = within
-works_on Move text program reads within = within
-works_on (Run steps) text program reads within = within
-works_on (Trial number units) text program reads within = absurd (cc)
-
 -- where the words are of this command, and read the text, so does the command
 pub reads_of : (words : List (List ℕ)) (command : Command) → command_of words ≡ Some command → Reads words → IsTrue (reads_text command)
 reads_of words command asked reads = subst (λ (c : Command). IsTrue (reads_text c)) (same_command reads.0 command (command_of words) reads.1 asked) reads.2

@@ -8,13 +8,13 @@ use Rattle.mir_opt.specs.Stages.{KeepsProgram}
 use Rattle.mir_top.specs.declared.command.Command.{Command}
 use Rattle.mir_top.specs.declared.command.Command.TheVariants.{Run}
 use Rattle.mir_top.specs.declared.outcome.Outcome.{Outcome}
-use Rattle.mir_top.specs.Outputs.{Improves, Makes, CannotMake, too_few_or_many, too_deep, no_memory}
+use Rattle.mir_top.specs.Outputs.{Improves, Makes, CannotMake, too_few_or_many, too_many_frames, no_memory}
 
 -- why a run ends without a report is why the command makes nothing
 pub run_stops : (program : ProgramShape) (inputs : List ℤ) (steps : ℕ) (fault : RunFault) → IsRunAnswer program inputs steps (Err fault) → CannotMake inputs program (Run steps) fault
 run_stops program inputs steps (WrongInputs wanted) is =
     subst (λ (n : ℕ). CannotMake inputs program (Run steps) (WrongInputs n)) (sym is.0) (too_few_or_many steps (λ right. is.1 (right ∙ sym is.0)))
-run_stops program inputs steps Deep is = too_deep steps is.0 is.1
+run_stops program inputs steps Deep is = too_many_frames steps is.0 is.1
 run_stops program inputs steps (Memory refusal) is = no_memory (Run steps) refusal
 
 -- what a command makes, where the command and the output are known by equations

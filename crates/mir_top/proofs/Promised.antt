@@ -28,14 +28,14 @@ use Rattle.mir_top.proofs.Trails.{HasPasses, passes, motion, trail_has_output, t
 -- ---- a source whose bytes can be observed
 
 -- what was taken to the end is the whole text
-whole : (new : Option (List ℕ)) (text bytes : List ℕ) → Consumes (Some text) new bytes → IsAtEnd new → bytes ≡ text
-whole None text bytes taken end = absurd taken
-whole (Some rest) text bytes taken end = sym (taken ∙ ap (λ (l : List ℕ). bytes ++ l) end ∙ append-nil bytes)
+whole_text : (new : Option (List ℕ)) (text bytes : List ℕ) → Consumes (Some text) new bytes → IsAtEnd new → bytes ≡ text
+whole_text None text bytes taken end = absurd taken
+whole_text (Some rest) text bytes taken end = sym (taken ∙ ap (λ (l : List ℕ). bytes ++ l) end ∙ append-nil bytes)
 
 -- what was taken is no longer than the text
-within : (new : Option (List ℕ)) (text bytes : List ℕ) → Consumes (Some text) new bytes → length bytes ≤ length text
-within None text bytes taken = absurd taken
-within (Some rest) text bytes taken = omega (arith, ap length taken, length-append bytes rest)
+taken_within : (new : Option (List ℕ)) (text bytes : List ℕ) → Consumes (Some text) new bytes → length bytes ≤ length text
+taken_within None text bytes taken = absurd taken
+taken_within (Some rest) text bytes taken = omega (arith, ap length taken, length-append bytes rest)
 
 -- what was taken of a source with this text
 taken_of_text : (source : Stream) (text bytes : List ℕ) → source.old ≡ Some text → Took source bytes → Consumes (Some text) source.new bytes
@@ -124,7 +124,7 @@ module _ (laws : OneReading) (call : Call) where
   within_of_text text read program reads tells seen on = by (seen reads).enough
     where
       by : IsAtEnd call.source.new ⊎ (most_bytes < length read) → IsShortTextOf text program
-      by (inl end) = subst (λ (l : List ℕ). IsShortTextOf l program) (whole call.source.new text read (taken_of_text call.source text read (tells reads) (seen reads).taken) end) on
+      by (inl end) = subst (λ (l : List ℕ). IsShortTextOf l program) (whole_text call.source.new text read (taken_of_text call.source text read (tells reads) (seen reads).taken) end) on
       by (inr above) = let short = on.short in absurd (omega (arith, above, short))
 
   -- a refusal of what was read is one of the text that the source has
@@ -136,11 +136,11 @@ module _ (laws : OneReading) (call : Call) where
       taken = taken_of_text call.source text read (tells reads) (seen reads).taken
 
       by : IsRefused read complaint → IsAtEnd call.source.new ⊎ (most_bytes < length read) → Refuses call.words text complaint
-      by refused (inl end) = no_text complaint reads (subst (λ (l : List ℕ). IsRefused l complaint) (whole call.source.new text read taken end) refused)
+      by refused (inl end) = no_text complaint reads (subst (λ (l : List ℕ). IsRefused l complaint) (whole_text call.source.new text read taken end) refused)
       by refused (inr above) = longer complaint refused
         where
           longer : (other : Complaint) → IsRefused read other → Refuses call.words text other
-          longer _ (long over) = no_text _ reads (long (let h = within call.source.new text read taken in omega (arith, above, h)))
+          longer _ (long over) = no_text _ reads (long (let h = taken_within call.source.new text read taken in omega (arith, above, h)))
           longer _ (unreadable fault short refusal) = absurd (omega (arith, above, short))
           longer _ (invalid fault short refusal) = absurd (omega (arith, above, short))
   seen_refuses text read _ tells seen (wrong_number n program asked on wrong) =
@@ -157,7 +157,7 @@ module _ (laws : OneReading) (call : Call) where
       here : Reads call.words → IsShortTextOf read program → IsShortTextOf text program
       here reads on =
           let all = worked.read reads in
-          subst (λ (l : List ℕ). IsShortTextOf l program) (whole call.source.new text read (taken_of_text call.source text read (tells reads) all.0) all.1) on
+          subst (λ (l : List ℕ). IsShortTextOf l program) (whole_text call.source.new text read (taken_of_text call.source text read (tells reads) all.0) all.1) on
 
       by : (command : Command) → command_of call.words ≡ Some command → WorksOn command read program → WorksOn command text program
       by Optimise asked on = here (Optimise, asked, refl) on

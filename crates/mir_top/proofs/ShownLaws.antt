@@ -1,10 +1,10 @@
 -- The text of the stages of a trail is the only one, and it grows by that of one more stage.
-use Rattle.std.proofs.Common.{◌≡◌, ◌+◌, ℕ, List, [], ◌∷◌, ◌++◌, Some, take, slice_get, codes, refl, sym, ◌∙◌, ap, subst, append_assoc, add-one}
+use Rattle.std.proofs.Common.{◌≡◌, ◌+◌, ℕ, List, [], ◌∷◌, ◌++◌, Some, take, slice_get, codes, refl, sym, ◌∙◌, ap, subst, append_assoc}
 use Rattle.std.proofs.lemmas.List.{append-nil}
 use Rattle.mir_base.specs.Shapes.{ProgramShape, UnitShape}
 use Rattle.mir_base.specs.Text.{canonical_text}
 use Rattle.flow_graph.specs.Layouts.{IsLayout}
-use Rattle.flow_graph.specs.ListLaws.{take_next}
+use Rattle.flow_graph.specs.ListLaws.{take_one}
 use Rattle.flow_graph.specs.OneLaws.{layout_is_one}
 use Rattle.mir_opt.specs.declared.stages.Stage.{Stage}
 use Rattle.mir_opt.specs.declared.trails.Trail.{Trail}
@@ -16,8 +16,8 @@ use Rattle.mir_top.specs.StageTexts.{IsProgramAt, ShowsInTurn, ShowsStages, stag
 -- ---- one text
 
 -- a stage has one program, since each graph has one layout
-program_same : (trail : Trail) (stage : Stage) (a b : ProgramShape) → IsProgramAt trail stage a → IsProgramAt trail stage b → a ≡ b
-program_same trail stage a b p q = ap program_of units_same
+program_at_same : (trail : Trail) (stage : Stage) (a b : ProgramShape) → IsProgramAt trail stage a → IsProgramAt trail stage b → a ≡ b
+program_at_same trail stage a b p q = ap program_of units_same
   where
     program_of : List UnitShape → ProgramShape
     program_of units = record { units = units }
@@ -33,7 +33,7 @@ turn_same : (trail : Trail) (stages : List Stage) (a b : List ℕ) → ShowsInTu
 turn_same trail [] a b p q = p ∙ sym q
 turn_same trail (stage ∷ stages) a b p q =
     let name = title (stage_name stage) in
-    p.4 ∙ ap (λ (r : ProgramShape). (name ++ canonical_text r) ++ p.1) (program_same trail stage p.0 q.0 p.2 q.2)
+    p.4 ∙ ap (λ (r : ProgramShape). (name ++ canonical_text r) ++ p.1) (program_at_same trail stage p.0 q.0 p.2 q.2)
     ∙ ap (λ (l : List ℕ). (name ++ canonical_text q.0) ++ l) (turn_same trail stages p.1 q.1 p.3 q.3) ∙ sym q.4
 
 -- and a trail has one text
@@ -56,5 +56,5 @@ push_shown trail (first ∷ stages) stage text program shown at =
 -- of a list of which some are shown
 pub next_shown : (trail : Trail) (stages : List Stage) (n : ℕ) (stage : Stage) (text : List ℕ) (program : ProgramShape) → ShowsInTurn trail (take n stages) text → slice_get stages n ≡ Some stage → IsProgramAt trail stage program → ShowsInTurn trail (take (n + 1) stages) (text ++ (title (stage_name stage) ++ canonical_text program))
 next_shown trail stages n stage text program shown at is =
-    subst (λ (l : List Stage). ShowsInTurn trail l (text ++ (title (stage_name stage) ++ canonical_text program))) (sym (ap (λ (m : ℕ). take m stages) (add-one n) ∙ take_next stages n stage at))
+    subst (λ (l : List Stage). ShowsInTurn trail l (text ++ (title (stage_name stage) ++ canonical_text program))) (sym (take_one stages n stage at))
     (push_shown trail (take n stages) stage text program shown is)

@@ -1,5 +1,6 @@
 -- The classes of statuses, and the class of each complaint and outcome.
-use Rattle.std.proofs.Common.{◌≡◌, ◌≤◌, ℕ, zero, suc, List, [], ◌∷◌, Contains, refl, subst, arith, T, ◌==◌, ◌||◌}
+use Rattle.std.proofs.Common.{◌≡◌, ◌≤◌, ℕ, List, [], ◌∷◌, Contains, refl, arith, T, ◌==◌, ◌||◌}
+use Rattle.std.proofs.lemmas.List.Elements.{All-contains, All-from_recursion}
 use Rattle.std.specs.List.{AllByRecursion}
 use Rattle.mir_interp.specs.declared.report.Finish.{Finish}
 use Rattle.mir_interp.specs.declared.report.Finish.TheVariants.{Running, Ended as RunEnded, Trapped}
@@ -50,9 +51,7 @@ is_silent n = T (n == 1 || n == 2 || n == 5 || n == 6 || n == 8)
 
 -- the same of each number of a list
 among : (P : ℕ → Type 0) (xs : List ℕ) → AllByRecursion P xs → (n : ℕ) → Contains xs n → P n
-among P [] all n (k, within, is) = absurd (omega (arith, within))
-among P (x ∷ xs) all n (zero, within, is) = subst P is all.0
-among P (x ∷ xs) all n (suc k, within, is) = among P xs all.1 n (k, omega (arith, within), is)
+among P xs all n is = All-contains P xs n (All-from_recursion P xs all) is
 
 -- what holds of 0, 3 and 4 holds of each status of success
 pub success_has : (P : ℕ → Type 0) → P 0 → P 3 → P 4 → (n : ℕ) → IsSuccess n → P n

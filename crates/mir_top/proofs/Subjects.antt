@@ -1,37 +1,26 @@
--- What the command of the words works on: the program of the text, or the one that the numbers of a trial draw.
-use Rattle.std.proofs.Common.{◌≡◌, ◌<◌, ◌≤◌, ℕ, List, [], ◌∷◌, Option, None, Some, Bool, true, false, ◌&&◌, if◌then◌else◌, nat_le, IsTrue, refl, sym, ◌∙◌, ap, subst, arith, codes}
+-- What a trial works on: the program that its numbers draw, which has from 1 to 256 units.
+use Rattle.std.proofs.Common.{◌≡◌, ◌<◌, ◌≤◌, ℕ, List, [], ◌∷◌, Option, None, Some, Bool, true, false, ◌&&◌, if◌then◌else◌, length, nat_le, refl, sym, ◌∙◌, ap, subst, arith, codes}
 use Rattle.std.proofs.lemmas.Bool.Decides.{nat_tests}
 use Rattle.std.specs.declared.alloc.AllocError.{AllocError}
 use Rattle.std.specs.List.{list_all}
 use Rattle.std.specs.Option.{option_map}
 use Rattle.mir_base.specs.Limits.{most_units}
+use Rattle.mir_base.specs.Runs.{inputs_of}
 use Rattle.mir_base.specs.Shapes.{ProgramShape}
+use Rattle.mir_base.specs.Words.{is_text}
 use Rattle.mir_interp.specs.declared.report.RunFault.TheVariants.{Memory}
 use Rattle.mir_lex.specs.Numbers.{unsigned_number}
+use Rattle.mir_sim.specs.Calls.{CallsHigher}
 use Rattle.mir_trial.specs.Trial.{trial_program}
 use Rattle.mir_top.specs.declared.cause.Cause.TheVariants.{Making}
 use Rattle.mir_top.specs.declared.command.Command.{Command}
 use Rattle.mir_top.specs.declared.command.Command.TheVariants.{Optimise, Stages, Move, Run, Trial}
 use Rattle.mir_top.specs.Calls.{IsSubject, Prevents}
-use Rattle.mir_top.specs.Commands.{alone_of, command_of, is_input, is_word, reads_text, run_of, step_count, trial_of, trial_with}
-use Rattle.mir_top.specs.Due.{IsShortTextOf, Needs, WorksOn}
+use Rattle.mir_top.specs.Commands.{alone_of, command_of, is_input, run_of, step_count, trial_of, trial_with}
+use Rattle.mir_top.specs.Due.{Needs, WorksOn}
 use Rattle.mir_top.specs.Outputs.{no_memory}
-use Rattle.mir_top.specs.Streams.{Stream, TookAll}
-use Rattle.mir_top.proofs.Judgements.{trial_reads, works_on}
-
--- ---- a text
-
--- a command that reads the text works on the program of the text that was read
-pub read_subject : (words : List (List ℕ)) (source : Stream) (command : Command) (text : List ℕ) (program : ProgramShape) → command_of words ≡ Some command → IsTrue (reads_text command) → TookAll source text → IsShortTextOf text program → IsSubject words source command program
-read_subject words source command text program asked reads read within = (text, record { asked = asked; read = λ _. read; subject = works_on command text program reads within })
-
--- and it needs nothing of the program
-pub read_needs : (command : Command) (program : ProgramShape) → IsTrue (reads_text command) → Needs command program
-read_needs Optimise program reads = tt
-read_needs Stages program reads = tt
-read_needs Move program reads = tt
-read_needs (Run steps) program reads = tt
-read_needs (Trial number units) program reads = absurd (cc)
+use Rattle.mir_top.specs.Streams.{Stream}
+use Rattle.mir_top.proofs.Judgements.{trial_reads}
 
 -- ---- a trial
 
@@ -112,7 +101,18 @@ by_word false false false false true arguments n units is = after_trial argument
 by_word false false false false false arguments n units is = absurd (cc)
 
 -- the units of a trial that words ask for
-pub units_of_trial : (words : List (List ℕ)) (number units : ℕ) → command_of words ≡ Some (Trial number units) → IsUnitCount units
-units_of_trial [] number units is = absurd (cc)
-units_of_trial (word ∷ arguments) number units is =
-    by_word (is_word word (codes "optimise")) (is_word word (codes "stages")) (is_word word (codes "move")) (is_word word (codes "run")) (is_word word (codes "trial")) arguments number units is
+trial_units : (words : List (List ℕ)) (number units : ℕ) → command_of words ≡ Some (Trial number units) → IsUnitCount units
+trial_units [] number units is = absurd (cc)
+trial_units (word ∷ arguments) number units is =
+    by_word (is_text (codes "optimise") word) (is_text (codes "stages") word) (is_text (codes "move") word) (is_text (codes "run") word) (is_text (codes "trial") word) arguments number units is
+
+-- the same where the command is known by an equation
+pub units_of_trial : (words : List (List ℕ)) (command : Command) (number units : ℕ) → command_of words ≡ Some command → command ≡ Trial number units → IsUnitCount units
+units_of_trial words command number units asked is = trial_units words number units (trial_asked words command number units asked is)
+
+-- so a program that was drawn, with so many units, can be tried
+pub drawn_needs : (words : List (List ℕ)) (command : Command) (number units : ℕ) (program : ProgramShape) → command_of words ≡ Some command → command ≡ Trial number units
+    → inputs_of program ≡ 2 → CallsHigher program → length program.units ≡ units → Needs command program
+drawn_needs words command number units program asked is inputs higher long =
+    let few = (units_of_trial words command number units asked is).1 in
+    subst (λ (c : Command). Needs c program) (sym is) (record { inputs = inputs; higher = higher; few = omega (arith, long, few) })

@@ -1,10 +1,10 @@
 -- What each command asks of its words. Cited by contracts.
-use Rattle.std.specs.Prelude.{ℕ, ◌≡◌, ℤ, pos, Bool, true, false, ◌&&◌, List, [], ◌∷◌, map, codes, String, string_bytes, Option, None, Some, nat_eq, nat_le, if◌then◌else◌, IsTrue, IsSome, is_some, unwrap_or}
+use Rattle.std.specs.Prelude.{ℕ, ◌≡◌, ℤ, pos, Bool, true, false, ◌&&◌, List, [], ◌∷◌, map, codes, String, string_bytes, Option, None, Some, nat_le, if◌then◌else◌, IsTrue, IsSome, is_some, unwrap_or}
 use Rattle.std.specs.declared.alloc.Global.{Global}
 use Rattle.std.specs.List.{list_all}
 use Rattle.std.specs.Option.{option_map}
-use Rattle.std.specs.Cmp.Lexicographic.{pointwise}
 use Rattle.mir_base.specs.Limits.{most_steps, most_units}
+use Rattle.mir_base.specs.Words.{is_text}
 use Rattle.mir_lex.specs.Numbers.{signed_number, unsigned_number}
 use Rattle.mir_top.specs.declared.command.Command.{Command}
 use Rattle.mir_top.specs.declared.command.Command.TheVariants.{Optimise, Stages, Move, Run, Trial}
@@ -12,10 +12,6 @@ use Rattle.mir_top.specs.declared.command.Command.TheVariants.{Optimise, Stages,
 -- the bytes of each word of the command line
 abbrev pub word_bytes : List (String Global) → List (List ℕ)
 word_bytes words = map string_bytes words
-
--- a word is this text
-abbrev pub is_word : List ℕ → List ℕ → Bool
-is_word word text = pointwise nat_eq word text
 
 -- the number, where it is at most so much
 abbrev pub at_most : ℕ → Option ℕ → Option ℕ
@@ -59,11 +55,11 @@ trial_of (number ∷ units ∷ other ∷ others) = None
 abbrev pub command_of : List (List ℕ) → Option Command
 command_of [] = None
 command_of (word ∷ arguments) =
-    if is_word word (codes "optimise") then alone_of Optimise arguments else
-    if is_word word (codes "stages") then alone_of Stages arguments else
-    if is_word word (codes "move") then alone_of Move arguments else
-    if is_word word (codes "run") then run_of arguments else
-    if is_word word (codes "trial") then trial_of arguments else None
+    if is_text (codes "optimise") word then alone_of Optimise arguments else
+    if is_text (codes "stages") word then alone_of Stages arguments else
+    if is_text (codes "move") word then alone_of Move arguments else
+    if is_text (codes "run") word then run_of arguments else
+    if is_text (codes "trial") word then trial_of arguments else None
 
 -- the words are those of a command
 abbrev pub Asks : List (List ℕ) → Type 0

@@ -118,10 +118,10 @@ of_program (WrongCount line) = refused_at line (codes ": wrong number of argumen
 of_program (NoMemoryForProgram refusal) = out_of_memory
 
 -- the complaint of a command that makes nothing of its program
-abbrev pub of_run : RunFault → Complaint
-of_run (WrongInputs wanted) = wrong_inputs wanted
-of_run Deep = deep
-of_run (NoMemoryForRun refusal) = out_of_memory
+abbrev pub of_making : RunFault → Complaint
+of_making (WrongInputs wanted) = wrong_inputs wanted
+of_making Deep = deep
+of_making (NoMemoryForRun refusal) = out_of_memory
 
 -- the complaint of a cause
 abbrev pub complaint_of : Cause → Complaint
@@ -129,4 +129,4 @@ complaint_of Usage = usage
 complaint_of (Reading fault) = of_reading fault
 complaint_of (Text fault) = of_text fault
 complaint_of (Program fault) = of_program fault
-complaint_of (Making fault) = of_run fault
+complaint_of (Making fault) = of_making fault

@@ -145,7 +145,7 @@ IsMadeBy inputs program command made =
 pub data CannotMake (inputs : List ℤ) (program : ProgramShape) : Command → RunFault → Type 0 where
   too_few_or_many : (steps : ℕ) → length inputs ≢ inputs_of program
       → CannotMake inputs program (Run steps) (WrongInputs (inputs_of program))
-  too_deep : (steps : ℕ) → length inputs ≡ inputs_of program
+  too_many_frames : (steps : ℕ) → length inputs ≡ inputs_of program
       → most_frames < (run program inputs steps).depth
       → CannotMake inputs program (Run steps) Deep
   no_memory : (command : Command) (refusal : AllocError)

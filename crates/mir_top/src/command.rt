@@ -2,9 +2,10 @@
 ghost use Rattle.std.specs.Prelude.{◌≡◌, map, IfOk};
 ghost use Rattle.std.specs.List.{list_all};
 ghost use Rattle.mir_base.specs.Limits.{most_steps};
-ghost use Rattle.mir_top.specs.Commands.{command_of, alone_of, run_of, trial_of, trial_with, at_most, step_count, is_input, is_word, input_value, inputs_in, word_bytes};
+ghost use Rattle.mir_base.specs.Words.{is_text};
+ghost use Rattle.mir_top.specs.Commands.{command_of, alone_of, run_of, trial_of, trial_with, at_most, step_count, is_input, input_value, inputs_in, word_bytes};
 
-use mir_base::{MOST_STEPS, MOST_UNITS, Memory};
+use mir_base::{MOST_STEPS, MOST_UNITS, Memory, is_text};
 use mir_lex::{number, unsigned};
 use std::alloc::Global;
 
@@ -32,15 +33,15 @@ impl Command {
         match words {
             [] => None,
             [word, arguments @ ..] => {
-                if is_word(word.as_bytes(), b"optimise") {
+                if is_text(b"optimise", word.as_bytes()) {
                     alone(Command::Optimise, arguments)
-                } else if is_word(word.as_bytes(), b"stages") {
+                } else if is_text(b"stages", word.as_bytes()) {
                     alone(Command::Stages, arguments)
-                } else if is_word(word.as_bytes(), b"move") {
+                } else if is_text(b"move", word.as_bytes()) {
                     alone(Command::Move, arguments)
-                } else if is_word(word.as_bytes(), b"run") {
+                } else if is_text(b"run", word.as_bytes()) {
                     run(arguments)
-                } else if is_word(word.as_bytes(), b"trial") {
+                } else if is_text(b"trial", word.as_bytes()) {
                     trial(arguments)
                 } else {
                     None
@@ -162,11 +163,4 @@ fn are_numbers(words: &[String]) -> bool
         }
     }
     true
-}
-
-/// Whether the word is this text.
-fn is_word(word: &[u8], text: &[u8]) -> bool
-    ensures { result ≡ is_word word.now text.now }
-{
-    word == text
 }

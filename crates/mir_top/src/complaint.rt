@@ -4,7 +4,7 @@ ghost use Rattle.std.specs.Io.KnownBytes.{Appends};
 ghost use Rattle.mir_outside.specs.Causes.{HasCause};
 ghost use Rattle.mir_outside.specs.Transfer.{AppendsPart};
 ghost use Rattle.mir_top.specs.Streams.{stream_of, Tried};
-ghost use Rattle.mir_top.specs.Complaints.{complaint_of, complaint_line, number_text, of_bytes, of_program, of_reading, of_run, of_text, of_tokens, out_of_memory, refused_at, write_fault, ArePartsOf};
+ghost use Rattle.mir_top.specs.Complaints.{complaint_of, complaint_line, number_text, of_bytes, of_making, of_program, of_reading, of_text, of_tokens, out_of_memory, refused_at, write_fault, ArePartsOf};
 
 use crate::Cause;
 use itoa::Buffer;
@@ -125,7 +125,7 @@ fn of_cause(cause: &Cause) -> ComplaintParts
         Cause::Reading(fault) => of_reading(fault),
         Cause::Text(fault) => of_text(fault),
         Cause::Program(fault) => of_program(fault),
-        Cause::Making(fault) => of_run(fault),
+        Cause::Making(fault) => of_making(fault),
     }
 }
 
@@ -194,8 +194,8 @@ fn of_program(fault: &ValidFault) -> ComplaintParts
 }
 
 /// The complaint of a command that makes nothing of its program.
-fn of_run(fault: &RunFault) -> ComplaintParts
-    ensures { ArePartsOf (of_run fault.now) result }
+fn of_making(fault: &RunFault) -> ComplaintParts
+    ensures { ArePartsOf (of_making fault.now) result }
 {
     match fault {
         RunFault::WrongInputs { wanted } => ComplaintParts {

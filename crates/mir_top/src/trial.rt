@@ -91,7 +91,8 @@ fn summary(alloc: Global, trail: &Trail, before: &Report, after: &Report) -> Res
     Ok(text)
 }
 
-/// How many instructions the bodies have in all. A sum that passes the greatest `u64` is taken for want of memory.
+/// How many instructions the bodies have in all. Where the sum passes the greatest `u64`, it fails
+/// with `Memory`.
 fn instructions(program: &Program) -> Result<u64, Memory>
     ensures { IfOk result (λ count. count ≡ instructions_in program.now) }
 {

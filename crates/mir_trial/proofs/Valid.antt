@@ -1,6 +1,7 @@
 -- The trial program is valid, its units are short, and each calls the next one alone.
 use Rattle.std.proofs.Common.{◌≡◌, ◌<◌, ◌≤◌, ◌+◌, ◌*◌, ◌/◌, ◌^◌, ◌==◌, ℕ, zero, suc, Bool, true, false, List, [], ◌∷◌, ◌++◌, length, map, flat_map, slice_get, Option, Some, None, if◌then◌else◌, refl, sym, ◌∙◌, ap, subst, arith, length-append}
 use Rattle.std.proofs.lemmas.Bool.Decides.{nat_tests}
+use Rattle.std.proofs.lemmas.Grind.{flat_map-append}
 use Rattle.std.proofs.lemmas.Nat.{mod_below}
 use Rattle.std.proofs.lemmas.List.{length-map}
 use Rattle.mir_base.specs.declared.instructions.Inst.{Inst}
@@ -8,7 +9,7 @@ use Rattle.mir_base.specs.declared.instructions.Inst.TheVariants.{Receive, Assig
 use Rattle.mir_base.specs.declared.instructions.Operand.TheVariants.{Var}
 use Rattle.mir_base.specs.Limits.{most_units}
 use Rattle.mir_base.specs.Shapes.{UnitShape, AllBelow, AllDiffer, inst_vars, receives_in, body_or_empty, body_at, names_of, InstFits, BodyFits, IsProgram}
-use Rattle.mir_base.specs.BelowLaws.{all_below_append, all_below_left, all_below_right}
+use Rattle.mir_base.specs.BelowLaws.{all_below_append}
 use Rattle.flow_graph.specs.Numbering.{position, renamed, renamed_operand, seen_in}
 use Rattle.flow_graph.specs.NumberingLaws.{seen_grows}
 use Rattle.mir_sim.specs.Calls.{CallsHigher}
@@ -368,10 +369,7 @@ is_short number count u unit at =
 
 -- of two parts of a body
 below_insts : (m : ℕ) (xs ys : List Inst) → AllBelow m (flat_map inst_vars xs) → AllBelow m (flat_map inst_vars ys) → AllBelow m (flat_map inst_vars (xs ++ ys))
-below_insts m [] ys h k = k
-below_insts m (x ∷ xs) ys h k =
-    all_below_append m (inst_vars x) (flat_map inst_vars (xs ++ ys)) (all_below_left m (inst_vars x) (flat_map inst_vars xs) h)
-    (below_insts m xs ys (all_below_right m (inst_vars x) (flat_map inst_vars xs) h) k)
+below_insts m xs ys h k = subst (AllBelow m) (sym (flat_map-append inst_vars xs ys)) (all_below_append m (flat_map inst_vars xs) (flat_map inst_vars ys) h k)
 
 -- a drawn number is below its bound
 drawn_below : (k z : ℕ) → 0 < k → drawn k z < k

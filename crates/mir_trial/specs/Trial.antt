@@ -1,6 +1,6 @@
 -- The trial program of a number: each unit has sixty groups of instructions, which are drawn, and calls the next unit.
 -- Cited by contracts.
-use Rattle.std.specs.Prelude.{ℕ, zero, suc, pos, ◌+◌, ◌==◌, Bool, List, [], ◌∷◌, ◌++◌, length, codes, decimal, if◌then◌else◌, Some}
+use Rattle.std.specs.Prelude.{ℕ, zero, suc, pos, ◌+◌, ◌==◌, Bool, List, [], ◌∷◌, ◌++◌, length, codes, if◌then◌else◌, Some}
 use Rattle.mir_base.specs.declared.instructions.Inst.{Inst}
 use Rattle.mir_base.specs.declared.instructions.Inst.TheVariants.{Receive, Assign, If, Call, Print, Return}
 use Rattle.mir_base.specs.declared.instructions.Operand.{Operand}
@@ -11,6 +11,7 @@ use Rattle.mir_base.specs.declared.instructions.Test.TheVariants.{Rel, Holds}
 use Rattle.mir_base.specs.declared.operators.Op.{Op}
 use Rattle.mir_base.specs.declared.operators.Op.TheVariants.{Add, Sub, Mul, Min, Max, And, Or, Xor}
 use Rattle.mir_base.specs.declared.operators.RelOp.TheVariants.{Lt}
+use Rattle.mir_base.specs.Names.{numbered_name}
 use Rattle.mir_base.specs.Shapes.{UnitShape, ProgramShape}
 use Rattle.flow_graph.specs.Tidied.{tidied_unit}
 use Rattle.mir_trial.specs.Draws.{next, drawn}
@@ -53,8 +54,8 @@ operation z =
     Assign (variable (next z)) (Binary (operator_of (drawn 8 (next (next (next z))))) (parameter (next (next z))) (parameter (next (next (next (next z))))))
 
 -- `a + b`
-abbrev pub sum : Rhs
-sum = Binary Add (Var 0) (Var 1)
+abbrev pub parameter_sum : Rhs
+parameter_sum = Binary Add (Var 0) (Var 1)
 
 -- `V <- P o Q`
 abbrev pub plain_group : ℕ → Group
@@ -63,7 +64,7 @@ plain_group z = record { insts = operation z ∷ []; state = next (next (next (n
 -- `if P goto T`, `V <- a + b`, `T: W <- a + b`, at this place
 abbrev pub branch_group : ℕ → ℕ → Group
 branch_group at z = record {
-  insts = If (Holds (parameter (next z))) (at + 2) ∷ Assign (variable (next (next z))) sum ∷ Assign (variable (next (next (next z)))) sum ∷ [];
+  insts = If (Holds (parameter (next z))) (at + 2) ∷ Assign (variable (next (next z))) parameter_sum ∷ Assign (variable (next (next (next z)))) parameter_sum ∷ [];
   state = next (next (next z));
 }
 
@@ -111,7 +112,7 @@ body_of j last z = (Receive 0 ∷ Receive 1 ∷ []) ++ (groups 60 2 z).insts ++ 
 
 -- `u` and the unit's number
 abbrev pub name_of : ℕ → List ℕ
-name_of j = codes "u" ++ decimal j
+name_of = numbered_name (codes "u")
 
 -- unit number j, whose draws begin at this state
 abbrev pub unit_of : ℕ → Bool → ℕ → UnitShape

@@ -1,6 +1,6 @@
 // Groups of instructions.
 ghost use Rattle.std.specs.Prelude.{◌≡◌, ◌+◌, ◌<◌, ◌++◌, length, OnOk};
-ghost use Rattle.mir_trial.specs.Trial.{branch_group, group, group_of, groups, loop_group, operation, operator_of, plain_group, print_group, parameter, variable, sum};
+ghost use Rattle.mir_trial.specs.Trial.{branch_group, group, group_of, groups, loop_group, operation, operator_of, plain_group, print_group, parameter, parameter_sum, variable};
 ghost use Rattle.mir_trial.specs.Draws.{next};
 
 use crate::draws::Draws;
@@ -117,14 +117,14 @@ fn push_branch(body: &mut Vec<Inst>, draws: &mut Draws) -> Result<(), Memory>
     let skipped = variable(draws);
     let kept = variable(draws);
     body.push(Inst::If(Test::Holds(asked), place))?;
-    body.push(Inst::Assign(skipped, sum()))?;
-    body.push(Inst::Assign(kept, sum()))?;
+    body.push(Inst::Assign(skipped, parameter_sum()))?;
+    body.push(Inst::Assign(kept, parameter_sum()))?;
     Ok(())
 }
 
 /// `a + b`.
-fn sum() -> Rhs
-    ensures { result ≡ sum }
+fn parameter_sum() -> Rhs
+    ensures { result ≡ parameter_sum }
 {
     Rhs::Binary(Op::Add, Operand::Var(0), Operand::Var(1))
 }

@@ -5,12 +5,11 @@ ghost use Rattle.mir_base.specs.Names.{IsName};
 ghost use Rattle.mir_base.specs.Runs.{inputs_of};
 ghost use Rattle.mir_base.specs.Shapes.{UnitShape};
 ghost use Rattle.mir_sim.specs.Calls.{CallsHigher};
-ghost use Rattle.mir_trial.specs.Trial.{body_of, groups, name_of, trial_program, unit_of, variables};
+ghost use Rattle.mir_trial.specs.Trial.{body_of, groups, trial_program, unit_of, variables};
 
 use crate::draws::Draws;
 use crate::groups::push_groups;
 use flow_graph::tidied;
-use itoa::Buffer;
 use mir_base::{Args, Inst, Items, Memory, Name, Operand, Program, Unit as MirUnit};
 use std::alloc::Global;
 
@@ -54,7 +53,7 @@ fn unit(
     ensures state { OnOk result (draws.new.state ≡ (groups 60 2 draws.old.state).state) }
 {
     let body = body(alloc, draws, number, last)?;
-    let name = unit_name(alloc, number)?;
+    let name = Name::numbered(alloc, b"u", number)?;
     let unit = tidied(alloc, name, vars, &body)?;
     Ok(unit)
 }
@@ -103,14 +102,4 @@ fn body(alloc: Global, draws: &mut Draws, number: usize, last: bool) -> Result<V
     body.push(Inst::Print(Operand::Var(2)))?;
     body.push(Inst::Return(Operand::Var(5)))?;
     Ok(body)
-}
-
-/// The name of unit number `number`.
-fn unit_name(alloc: Global, number: usize) -> Result<Name, Memory>
-    ensures { IfOk result (λ name. name ≡ name_of number) }
-{
-    let mut buffer = Buffer::new();
-    let mut bytes = Vec::from_slice(alloc, b"u")?;
-    bytes.extend_from_slice(buffer.format(number).as_bytes())?;
-    Ok(Name::new(bytes).unwrap())
 }

@@ -1,11 +1,13 @@
 // Examples of passes.
 
-/// An example is a line with a remark, a program, and what becomes of the graph of its first unit, once or more: after `$`
-/// the passes in turn, of which the first is `lower`, and then the graph that they make, node by node. Where the line of
-/// the passes ends with `: changes`, its nodes follow that the lowered graph does not have, and how many it has; with
-/// `: blocks` its blocks; with `: copies` where each of its copies holds; with `: motion` what code motion finds out of its
-/// first expression, and with `: motion of the second` of its second; and with a statement about paths the nodes at which a
-/// bit holds by it that is born and stopped at these nodes.
+/// An example is a line with a remark, a program, and what becomes of the graph of its first unit, once or more: after
+/// `$` the passes in turn, of which the first is `lower`, and then the graph that they make, node by node. Where the
+/// line of the passes ends with `: changes`, its nodes follow that the lowered graph does not have, and how many it
+/// has; with `: blocks` its blocks; with `: copies` where each of its copies holds; with `: delays` where each of its
+/// patterns that can still move is blocked, delayed and inserted; with `: live` before and after which nodes each of
+/// its variables is live; with `: motion` what code motion finds out of its first expression, and with `: motion of the
+/// second` of its second; and with a statement about paths the nodes at which a bit holds by it that is born and
+/// stopped at these nodes.
 pub(crate) const EXAMPLES: &str = "\
 # each kind of node
 main: begin

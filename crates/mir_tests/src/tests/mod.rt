@@ -1,6 +1,7 @@
 // One file for each layer.
 mod blocks;
 mod copied;
+mod delayed;
 mod examples;
 mod flows;
 mod language;

@@ -1,6 +1,7 @@
-// What the passes make of small programs, and what they find out: the examples of `examples.rt`, `value_examples.rt` and
-// `row_examples.rt`.
+// What the passes make of small programs, and what they find out: the examples of `examples.rt`, `value_examples.rt`
+// and `row_examples.rt`.
 use crate::tests::copied::copies_text;
+use crate::tests::delayed::{delays_text, live_text};
 use crate::tests::examples::EXAMPLES;
 use crate::tests::paths::held_text;
 use crate::tests::placing::motion_text;
@@ -94,13 +95,16 @@ fn round_of(alloc: Global, graph: &Graph) -> Result<Graph, Fail> {
 }
 
 /// What is shown of the graph that was made of a text: its nodes, or those that the passes changed; its blocks; where
-/// its copies hold; what code motion finds out of its first expression, or of its second; or where a bit holds.
+/// its copies hold; where its patterns are delayed and inserted; where its variables are live; what code motion finds
+/// out of its first expression, or of its second; or where a bit holds.
 fn shown_of(alloc: Global, text: &str, shown: &str, graph: &Graph) -> Result<String, Fail> {
     match shown {
         "graph" => Ok(graph_text(alloc, graph)?),
         "changes" => changes_text(alloc, text, graph),
         "blocks" => Ok(blocks_text(alloc, graph)?),
         "copies" => Ok(copies_text(alloc, graph)?),
+        "delays" => Ok(delays_text(alloc, graph)?),
+        "live" => Ok(live_text(alloc, graph)?),
         "motion" => motion_text(alloc, graph, 0),
         "motion of the second" => motion_text(alloc, graph, 1),
         _ => held_text(alloc, shown, graph),

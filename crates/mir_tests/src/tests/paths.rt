@@ -12,9 +12,9 @@ use std::alloc::Global;
 use std::mem;
 use std::test::Fail;
 
-/// Where a bit holds by a statement about paths. The words are the statement's name and, after `born` and `stop`, the nodes
-/// at which the bit is born and stopped. It holds `before` a node on every path to it, `after` it on every path from it,
-/// `ahead` on some path from it, and `beyond` it on some path from a successor.
+/// Where a bit holds by a statement about paths. The words are the statement's name and, after `born` and `stop`, the
+/// nodes at which the bit is born and stopped. It holds `before` a node on every path to it, `after` it on every path
+/// from it, `ahead` on some path from it, and `beyond` it on some path from a successor.
 pub(crate) fn held_text(alloc: Global, words: &str, graph: &Graph) -> Result<String, Fail> {
     let (statement, sites) = words.split_once(" born").ok_or("no births")?;
     let sites = sites.split_once(" stop").ok_or("no stops")?;

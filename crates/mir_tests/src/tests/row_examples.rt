@@ -1,8 +1,6 @@
 // Examples of what the passes find out before they change a graph: the tables of `docs/PASSES.md`.
 
-/// Examples in the form of `EXAMPLES`. Where a bit holds is asked of one bit at a time: of a pattern, which is born
-/// where it occurs and stopped where a node blocks it; of a variable that is live, born where it is read and stopped
-/// where it is assigned.
+/// Examples in the form of `EXAMPLES`. Where a bit holds by a statement about paths is asked of one bit at a time.
 pub(crate) const ROW_EXAMPLES: &str = "\
 # a loop without exit: a bit that is born at a sum, and stopped at Start and at a copy
 main: begin
@@ -297,8 +295,11 @@ if a goto L1
 return b
 L1: return x
 end
-$ lower split: before born 1 stop 0 1 4
-before 2 3 4
+$ lower split: delays
+x <- a + b
+blocked 0 1 4
+delayed 2 3 4
+inserted 4
 $ lower split round
 0: start to 1
 1: skip to 2
@@ -306,8 +307,33 @@ $ lower split round
 3: return b
 4: return x
 5: x <- a + b to 4
-$ lower split round: beyond born 4 stop 5
-beyond 5
+$ lower split round: delays
+$ lower split round: live
+a before 0 1 2 5
+a after 0 1 2
+b before 0 1 2 3 5
+b after 0 1 2
+x before 4
+x after 5
+# two assignments that lead to a join, from which a Skip parts each: each can move to its Skip, and no further
+main: begin
+receive a(val)
+if a goto L1
+x <- 1
+goto L2
+L1: x <- 2
+L2: print x
+return x
+end
+$ lower clean split: delays
+x <- 1
+blocked 0 2 3 4 5
+delayed 6
+inserted 6
+x <- 2
+blocked 0 2 3 4 5
+delayed 7
+inserted 7
 # where n, i and x are live in turn: the first assignment is dead, and a division stays
 main: begin
 receive n(val)
@@ -319,12 +345,15 @@ i <- i + 1
 if i < n goto L1
 return 0
 end
-$ lower: ahead born 2 3 6 stop
-ahead 0 1 2 3 4 5 6
-$ lower: ahead born 5 6 stop 5
-ahead 0 1 2 3 4 5 6
-$ lower: ahead born 4 stop 1 2
-ahead 3 4 5 6
+$ lower: live
+n before 0 1 2 3 4 5 6
+n after 0 1 2 3 4 5 6
+x before 3 4 5 6
+x after 2 3 4 5 6
+d before
+d after
+i before 0 1 2 3 4 5 6
+i after 0 1 2 3 4 5 6
 $ lower split round
 0: start to 1
 1: skip to 10

@@ -71,7 +71,7 @@ fn put_operands(text: &mut String, vars: &[Name], operands: &[Operand]) -> Resul
 }
 
 /// Appends a right side.
-fn put_rhs(text: &mut String, vars: &[Name], rhs: &Rhs) -> Result<(), Memory> {
+pub(crate) fn put_rhs(text: &mut String, vars: &[Name], rhs: &Rhs) -> Result<(), Memory> {
     match rhs {
         Rhs::Plain(a) => put_operand(text, vars, a),
         Rhs::Unary(op, a) => put_one(text, vars, un_op_text(*op), a),

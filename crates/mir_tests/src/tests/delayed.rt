@@ -1,0 +1,95 @@
+// Where the assignments of a graph are delayed and inserted, and where its variables are live.
+ghost use Rattle.std.specs.Prelude.{◌<◌, length};
+ghost use Rattle.path_laws.specs.Paths.{HaveShape};
+
+use crate::tests::shown::{put_bit, put_rhs, put_var};
+use bit_rows::Rows;
+use flow_graph::{Edges, Graph};
+use mir_base::{Memory, Name};
+use path_laws::some_successor;
+use sink_dead::{DelayedPatterns, live_rows};
+use std::alloc::Global;
+use std::mem;
+
+// ---- patterns
+
+/// For each pattern of a graph that can still move, a line with the pattern, and one each with the nodes at which it is
+/// blocked, delayed and inserted.
+pub(crate) fn delays_text(alloc: Global, graph: &Graph) -> Result<String, Memory> {
+    let edges = Edges::of(alloc, graph)?;
+    let found = DelayedPatterns::of(alloc, graph, &edges);
+    mem::drop(edges);
+    let found = found?;
+    let text = pattern_lines(alloc, graph.vars(), &found);
+    mem::drop(found);
+    text
+}
+
+/// The lines of these patterns.
+fn pattern_lines(alloc: Global, vars: &[Name], found: &DelayedPatterns) -> Result<String, Memory> {
+    let mut text = String::new(alloc);
+    for number in 0..found.table.len() {
+        put_pattern(&mut text, vars, found, number)?;
+    }
+    Ok(text)
+}
+
+/// Appends the lines of the pattern of this number.
+fn put_pattern(
+    text: &mut String,
+    vars: &[Name],
+    found: &DelayedPatterns,
+    number: usize,
+) -> Result<(), Memory>
+    requires { number < length found.now.table }
+{
+    let pattern = *found.table.get(number);
+    put_var(text, vars, pattern.var)?;
+    text.push_str(" <- ")?;
+    put_rhs(text, vars, &pattern.rhs)?;
+    text.push('\n')?;
+    put_bit(text, "blocked", &found.blocked, number)?;
+    put_bit(text, "delayed", &found.delayed, number)?;
+    put_bit(text, "inserted", &found.inserted, number)
+}
+
+// ---- variables
+
+/// For each variable of a graph, a line with the nodes before which it is live, and one with those after which it is,
+/// that is before some successor.
+pub(crate) fn live_text(alloc: Global, graph: &Graph) -> Result<String, Memory> {
+    let live = live_rows(alloc, graph)?;
+    let text = text_with(alloc, graph, &live);
+    mem::drop(live);
+    text
+}
+
+/// The same, by the rows of what is live before the nodes.
+fn text_with(alloc: Global, graph: &Graph, live: &Rows) -> Result<String, Memory>
+    requires { HaveShape graph.now (length graph.now.vars) live.now }
+{
+    let edges = Edges::of(alloc, graph)?;
+    let after = some_successor(alloc, graph, &edges, live);
+    mem::drop(edges);
+    let after = after?;
+    let text = variable_lines(alloc, graph.vars(), live, &after);
+    mem::drop(after);
+    text
+}
+
+/// The lines of these variables.
+fn variable_lines(
+    alloc: Global,
+    vars: &[Name],
+    live: &Rows,
+    after: &Rows,
+) -> Result<String, Memory> {
+    let mut text = String::new(alloc);
+    for x in 0..vars.len() {
+        put_var(&mut text, vars, x)?;
+        put_bit(&mut text, " before", live, x)?;
+        put_var(&mut text, vars, x)?;
+        put_bit(&mut text, " after", after, x)?;
+    }
+    Ok(text)
+}
