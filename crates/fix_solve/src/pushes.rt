@@ -44,7 +44,7 @@ fn enlist(waiting: &mut Links, node: usize, wanted: bool)
     ensures here { is_listed waiting.new.lists node ≡ (is_listed waiting.old.lists node || wanted) }
 {
     if wanted {
-        if !waiting.is_in(node) {
+        if !waiting.is_listed(node) {
             waiting.push_back(0, node);
         }
     }

@@ -110,7 +110,7 @@ impl Links {
 
     /// Whether a node is in a list. It does not allocate. Whatever was done before, no node stands twice, and those
     /// that are listed are in range.
-    pub fn is_in(&self, node: usize) -> bool
+    pub fn is_listed(&self, node: usize) -> bool
         requires { node < self.now.nodes }
         ensures listed { result ≡ is_listed self.now.lists node }
         ensures once { (n : ℕ) → times self.now.lists n ≤ 1 }

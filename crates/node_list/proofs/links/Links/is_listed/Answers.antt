@@ -3,7 +3,7 @@ use Rattle.std.proofs.lemmas.List.{get_or_read}
 use Rattle.node_list.specs.Lists.{Lists, is_listed}
 use Rattle.node_list.specs.ListedLaws.{some_listed}
 use Rattle.node_list.proofs.Writes.{lists_of, tells}
-use Rattle.node_list.proofs.links.Links.is_in.Goals as goal
+use Rattle.node_list.proofs.links.Links.is_listed.Goals as goal
 
 pub returns-clause-listed : goal.returns-clause-listed
 returns-clause-listed c =
