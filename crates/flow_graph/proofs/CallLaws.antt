@@ -13,7 +13,7 @@ use Rattle.flow_graph.specs.declared.nodes.Node.TheVariants.{Start, Skip, Assign
 use Rattle.flow_graph.specs.Graphs.{GraphShape}
 use Rattle.flow_graph.specs.Kept.{AreKept, IsMade, marked, marked_below}
 use Rattle.flow_graph.specs.Lowered.{IsLowered, all_nodes, nodes_from, place_node}
-use Rattle.flow_graph.specs.Numbering.{position, renamed, renamed_operand, renumbered, seen_in}
+use Rattle.flow_graph.specs.Numbering.{first_index, renamed, renamed_operand, renumbered, seen_in}
 use Rattle.flow_graph.specs.Layouts.{IsLaid, emitted, emitted_by, item_insts, place_in, plain_body}
 use Rattle.flow_graph.specs.Calls.{BodyCalls, NodesCall, inst_call, node_call}
 use Rattle.flow_graph.specs.NodeLaws.{mapped_from}
@@ -162,7 +162,7 @@ plain_calls received nodes plan called count c = go (either_calls (map insts.Rec
 -- new numbers of variables leave the calls
 renumbered_calls : (body : List Inst) (called count : ℕ) → BodyCalls (renumbered body) called count → BodyCalls body called count
 renumbered_calls body called count c =
-    let to = position (seen_in body) in
+    let to = first_index (seen_in body) in
     let from = mapped_from (renamed to) (slice_get body c.place) c.inst (sym (slice_get-map (renamed to) body c.place) ∙ c.here) in
     record { place = c.place; inst = from.0; here = from.1; calls = sym (renamed_call to from.0) ∙ ap inst_call from.2 ∙ c.calls }
 

@@ -14,7 +14,7 @@ use Rattle.flow_graph.specs.declared.nodes.Node.TheVariants.{Start, Skip, Assign
 use Rattle.flow_graph.specs.Graphs.{IsGraph, following}
 use Rattle.flow_graph.specs.Lowered.{CanLower, target_of}
 use Rattle.flow_graph.specs.Plans.{IsPlan, after_node, first_open, is_placed, next_item, start_succ}
-use Rattle.flow_graph.specs.Numbering.{is_in, position, renamed, renumbered, seen_in}
+use Rattle.flow_graph.specs.Numbering.{is_in, first_index, renamed, renumbered, seen_in}
 use Rattle.flow_graph.specs.Layouts.{IsLaid, emitted, emitted_by, item_insts, place_in, plain_body}
 use Rattle.flow_graph.proofs.Plans.{is_plan_drop, placed_at, place_at, taken_placed, is_placed_drop, size_is, emitted_drop, no_receive, all_received}
 use Rattle.flow_graph.proofs.Renames.{all_seen, inst_in, positions_differ, renamed_receives}
@@ -186,7 +186,7 @@ module _ (vars : List (List ℕ)) (received : List ℕ) (nodes : List Node) (gra
   plain = plain_body received nodes plan
 
   abbrev to : ℕ → ℕ
-  to = position (seen_in plain)
+  to = first_index (seen_in plain)
 
   receives_are : receives_in (renumbered plain) ≡ length received
   receives_are = renamed_receives to plain ∙ all_received received (emitted nodes place plan) (no_receive nodes place plan)

@@ -16,7 +16,7 @@ use Rattle.flow_graph.specs.Graphs.{GraphShape, IsGraph, following, node_vars, s
 use Rattle.flow_graph.specs.Machines.{graph_machine, machine_of}
 use Rattle.std.specs.Option.{option_or}
 use Rattle.flow_graph.specs.Plans.{IsPlan, after_node, first_open, is_placed, next_item, open_at, start_succ}
-use Rattle.flow_graph.specs.Numbering.{position, renamed, renumbered, seen_in}
+use Rattle.flow_graph.specs.Numbering.{first_index, renamed, renumbered, seen_in}
 use Rattle.flow_graph.specs.Layouts.{IsLaid, IsLayout, emitted, emitted_by, item_insts, place_in, plain_body}
 use Rattle.flow_graph.proofs.Places.{IsPlaceable, placed_same, placed_cheaper}
 use Rattle.flow_graph.proofs.Renames.{renumbered_same, renumbered_cheaper, renumbered_tidy, seen_below}
@@ -174,12 +174,12 @@ seen_low vars received nodes g plan plain seen e e' =
     subst (AllBelow (length vars)) (sym (e' ∙ ap seen_in e)) (seen_below (length vars) [] (flat_map inst_vars (plain_body received nodes plan)) tt (plain_below vars received nodes g plan))
 
 -- what `lay` makes is a layout
-pub laid_by : (vars : List (List ℕ)) (received : List ℕ) (nodes : List Node) (plan : List Item) (first : ℕ) (plain body : List Inst) (seen : List ℕ) (names : List (List ℕ)) → first ≡ start_succ (slice_get nodes 0) → IsPlan nodes first plan → next_item nodes first plan ≡ None → plain ≡ plain_body received nodes plan → seen ≡ seen_in plain → body ≡ map (renamed (position seen)) plain → names ≡ map (λ x. slice_index_or vars x []) seen → IsLaid vars received nodes names body
+pub laid_by : (vars : List (List ℕ)) (received : List ℕ) (nodes : List Node) (plan : List Item) (first : ℕ) (plain body : List Inst) (seen : List ℕ) (names : List (List ℕ)) → first ≡ start_succ (slice_get nodes 0) → IsPlan nodes first plan → next_item nodes first plan ≡ None → plain ≡ plain_body received nodes plan → seen ≡ seen_in plain → body ≡ map (renamed (first_index seen)) plain → names ≡ map (λ x. slice_index_or vars x []) seen → IsLaid vars received nodes names body
 laid_by vars received nodes plan first plain body seen names f p done e e' e'' n = record {
   plan = plan;
   is_plan = record { is_plan = subst (λ k. IsPlan nodes k plan) f p; complete = subst (λ k. next_item nodes k plan ≡ None) f done };
   names_are = n ∙ ap (map (λ x. slice_index_or vars x [])) (e' ∙ ap seen_in e);
-  body_is = e'' ∙ ap (λ s. map (renamed (position s)) plain) e' ∙ ap (λ b. map (renamed (position (seen_in b))) b) e;
+  body_is = e'' ∙ ap (λ s. map (renamed (first_index s)) plain) e' ∙ ap (λ b. map (renamed (first_index (seen_in b))) b) e;
 }
 
 -- the unit of a graph does the same

@@ -23,7 +23,7 @@ use Rattle.mir_base.specs.BelowLaws.{all_below_append, all_below_at}
 use Rattle.mir_base.specs.Shapes.{receives_in, operand_vars, rhs_vars, test_vars, into_vars, inst_vars, numbered_from, AllDiffer, AllBelow, IsTidy}
 use Rattle.mir_base.specs.Locksteps.{Alike, Lockstep}
 use Rattle.mir_base.specs.LockstepLaws.{lockstep_same, lockstep_cheaper}
-use Rattle.flow_graph.specs.Numbering.{is_in, position, renamed, renamed_operand, renamed_rhs, renamed_test, renumbered, seen_after, seen_in}
+use Rattle.flow_graph.specs.Numbering.{is_in, first_index, renamed, renamed_operand, renamed_rhs, renamed_test, renumbered, seen_after, seen_in}
 use Rattle.flow_graph.specs.ListLaws.{get_seam, get_left, listed_in}
 use Rattle.flow_graph.specs.NumberingLaws.{is_in_first, is_in_last, seen_grows}
 
@@ -64,20 +64,20 @@ inst_in seen (i ∷ body) zero inst h e = let same : i ≡ inst = cc in subst (�
 inst_in seen (i ∷ body) (suc place) inst h e = inst_in seen body place inst (all_back seen (inst_vars i) (flat_map inst_vars body) h) e
 
 -- the number at the place of x is x
-position_holds : (seen : List ℕ) (x : ℕ) → is_in x seen ≡ true → slice_get seen (position seen x) ≡ Some x
+position_holds : (seen : List ℕ) (x : ℕ) → is_in x seen ≡ true → slice_get seen (first_index seen x) ≡ Some x
 position_holds [] x e = cc
 position_holds (y ∷ ys) x e = chosen (eqb y x) refl e (position_holds ys x)
   where
-    chosen : (b : Bool) → eqb y x ≡ b → b || is_in x ys ≡ true → (is_in x ys ≡ true → slice_get ys (position ys x) ≡ Some x) → slice_get (y ∷ ys) (cond b 0 (suc (position ys x))) ≡ Some x
+    chosen : (b : Bool) → eqb y x ≡ b → b || is_in x ys ≡ true → (is_in x ys ≡ true → slice_get ys (first_index ys x) ≡ Some x) → slice_get (y ∷ ys) (cond b 0 (suc (first_index ys x))) ≡ Some x
     chosen true is e' ih = ap Some (eqb-true y x is)
     chosen false is e' ih = ih e'
 
 -- variables in the list have different positions
-pub positions_differ : (seen : List ℕ) (x y : ℕ) → is_in x seen ≡ true → is_in y seen ≡ true → position seen x ≡ position seen y → x ≡ y
+pub positions_differ : (seen : List ℕ) (x y : ℕ) → is_in x seen ≡ true → is_in y seen ≡ true → first_index seen x ≡ first_index seen y → x ≡ y
 positions_differ seen x y e e' same =
     let a = position_holds seen x e in
     let b = position_holds seen y e' in
-    let c : slice_get seen (position seen x) ≡ slice_get seen (position seen y) = ap (slice_get seen) same in
+    let c : slice_get seen (first_index seen x) ≡ slice_get seen (first_index seen y) = ap (slice_get seen) same in
     cc
 
 -- ---- the same runs
@@ -95,7 +95,7 @@ renamed_receives to (Return a ∷ body) = refl
 
 module _ (seen : List ℕ) (body : List Inst) (all : AllIn seen (flat_map inst_vars body)) where
   abbrev to : ℕ → ℕ
-  to = position seen
+  to = first_index seen
 
   abbrev SameValues : Values → Values → Type 0
   SameValues v w = (x : ℕ) → is_in x seen ≡ true → w (to x) ≡ v x
@@ -254,44 +254,44 @@ renamed_vars to (inst ∷ body) =
     ap (λ l. l ++ flat_map inst_vars (map (renamed to) body)) (renamed_inst_vars to inst) ∙ ap (λ l. map to (inst_vars inst) ++ l) (renamed_vars to body) ∙ sym (map-append to (inst_vars inst) (flat_map inst_vars body))
 
 -- one that stands in the front has its place there
-position_first : (s rest : List ℕ) (x : ℕ) → is_in x s ≡ true → position (s ++ rest) x < length s
+position_first : (s rest : List ℕ) (x : ℕ) → is_in x s ≡ true → first_index (s ++ rest) x < length s
 position_first [] rest x e = cc
 position_first (y ∷ s) rest x e = chosen (eqb y x) e (position_first s rest x)
   where
-    chosen : (b : Bool) → b || is_in x s ≡ true → (is_in x s ≡ true → position (s ++ rest) x < length s) → cond b 0 (suc (position (s ++ rest) x)) < suc (length s)
+    chosen : (b : Bool) → b || is_in x s ≡ true → (is_in x s ≡ true → first_index (s ++ rest) x < length s) → cond b 0 (suc (first_index (s ++ rest) x)) < suc (length s)
     chosen true e' ih = omega arith
     chosen false e' ih = omega (arith, ih e')
 
 -- an item that is new after a list stands at the length of that list
-position_next : (s rest : List ℕ) (x : ℕ) → is_in x s ≡ false → position (s ++ x ∷ rest) x ≡ length s
-position_next [] rest x e = ap (λ b. cond b 0 (suc (position rest x))) (eq-eqb x x refl)
+position_next : (s rest : List ℕ) (x : ℕ) → is_in x s ≡ false → first_index (s ++ x ∷ rest) x ≡ length s
+position_next [] rest x e = ap (λ b. cond b 0 (suc (first_index rest x))) (eq-eqb x x refl)
 position_next (y ∷ s) rest x e = chosen (eqb y x) e (position_next s rest x)
   where
-    chosen : (b : Bool) → b || is_in x s ≡ false → (is_in x s ≡ false → position (s ++ x ∷ rest) x ≡ length s) → cond b 0 (suc (position (s ++ x ∷ rest) x)) ≡ suc (length s)
+    chosen : (b : Bool) → b || is_in x s ≡ false → (is_in x s ≡ false → first_index (s ++ x ∷ rest) x ≡ length s) → cond b 0 (suc (first_index (s ++ x ∷ rest) x)) ≡ suc (length s)
     chosen true e' ih = cc
     chosen false e' ih = ap suc (ih e')
 
 -- numbered by first occurrence, the numbers follow each other from the count of those seen before
-numbered_seen : (s xs F : List ℕ) → F ≡ seen_after s xs → numbered_from (length s) (map (position F) xs) ≡ Some (length F)
+numbered_seen : (s xs F : List ℕ) → F ≡ seen_after s xs → numbered_from (length s) (map (first_index F) xs) ≡ Some (length F)
 numbered_seen s [] F e = ap (λ l. Some (length l)) (sym e)
 numbered_seen s (x ∷ xs) F e = chosen (is_in x s) refl e (numbered_seen s xs F) (numbered_seen (s ++ x ∷ []) xs F)
   where
-    chosen : (b : Bool) → is_in x s ≡ b → F ≡ cond b (seen_after s xs) (seen_after (s ++ x ∷ []) xs) → (F ≡ seen_after s xs → numbered_from (length s) (map (position F) xs) ≡ Some (length F)) → (F ≡ seen_after (s ++ x ∷ []) xs → numbered_from (length (s ++ x ∷ [])) (map (position F) xs) ≡ Some (length F)) → numbered_from (length s) (position F x ∷ map (position F) xs) ≡ Some (length F)
+    chosen : (b : Bool) → is_in x s ≡ b → F ≡ cond b (seen_after s xs) (seen_after (s ++ x ∷ []) xs) → (F ≡ seen_after s xs → numbered_from (length s) (map (first_index F) xs) ≡ Some (length F)) → (F ≡ seen_after (s ++ x ∷ []) xs → numbered_from (length (s ++ x ∷ [])) (map (first_index F) xs) ≡ Some (length F)) → numbered_from (length s) (first_index F x ∷ map (first_index F) xs) ≡ Some (length F)
     chosen true is e' ih ih' =
         let g = seen_grows s xs in
-        let lt : position F x < length s = subst (λ l. position l x < length s) (sym (e' ∙ g.1)) (position_first s g.0 x is) in
-        ap (λ b. cond b (numbered_from (length s) (map (position F) xs)) (cond (nat_eq (position F x) (length s)) (numbered_from (suc (length s)) (map (position F) xs)) None)) (lt-ltb (position F x) (length s) lt) ∙ ih e'
+        let lt : first_index F x < length s = subst (λ l. first_index l x < length s) (sym (e' ∙ g.1)) (position_first s g.0 x is) in
+        ap (λ b. cond b (numbered_from (length s) (map (first_index F) xs)) (cond (nat_eq (first_index F x) (length s)) (numbered_from (suc (length s)) (map (first_index F) xs)) None)) (lt-ltb (first_index F x) (length s) lt) ∙ ih e'
     chosen false is e' ih ih' =
         let g = seen_grows (s ++ x ∷ []) xs in
         let whole : F ≡ s ++ (x ∷ g.0) = e' ∙ g.1 ∙ append_assoc s (x ∷ []) g.0 in
-        let here : position F x ≡ length s = ap (λ l. position l x) whole ∙ position_next s g.0 x is in
+        let here : first_index F x ≡ length s = ap (λ l. first_index l x) whole ∙ position_next s g.0 x is in
         let long : length (s ++ x ∷ []) ≡ suc (length s) = omega (arith, length-append s (x ∷ [])) in
-        ap (λ b. cond b (numbered_from (length s) (map (position F) xs)) (cond (nat_eq (position F x) (length s)) (numbered_from (suc (length s)) (map (position F) xs)) None)) (le-ltb (position F x) (length s) (omega (arith, here))) ∙ ap (λ b. cond b (numbered_from (suc (length s)) (map (position F) xs)) None) (eq-eqb (position F x) (length s) here) ∙ ap (λ n. numbered_from n (map (position F) xs)) (sym long) ∙ ih' e'
+        ap (λ b. cond b (numbered_from (length s) (map (first_index F) xs)) (cond (nat_eq (first_index F x) (length s)) (numbered_from (suc (length s)) (map (first_index F) xs)) None)) (le-ltb (first_index F x) (length s) (omega (arith, here))) ∙ ap (λ b. cond b (numbered_from (suc (length s)) (map (first_index F) xs)) None) (eq-eqb (first_index F x) (length s) here) ∙ ap (λ n. numbered_from n (map (first_index F) xs)) (sym long) ∙ ih' e'
 
 -- its variables are numbered by their first occurrence
 pub renumbered_numbered : (body : List Inst) → numbered_from 0 (flat_map inst_vars (renumbered body)) ≡ Some (length (seen_in body))
 renumbered_numbered body =
-    ap (numbered_from 0) (renamed_vars (position (seen_in body)) body) ∙ numbered_seen [] (flat_map inst_vars body) (seen_in body) refl
+    ap (numbered_from 0) (renamed_vars (first_index (seen_in body)) body) ∙ numbered_seen [] (flat_map inst_vars body) (seen_in body) refl
 
 -- an item that is not found in a list stands nowhere in it
 not_there : (s : List ℕ) (y i : ℕ) → is_in y s ≡ false → slice_get s i ≡ Some y → ⊥

@@ -1,6 +1,7 @@
 -- Laws of runs along paths. A run that goes along a path ends in its return, after as many steps as the path has
 -- places; in a graph it counts what the assignments on the path count; and each run of a graph that ends in its
--- return goes along a full path. For proofs only: `InsertionRunLaws` stands on them.
+-- return goes along a full path. They say what `RunsAlong` is worth; no contract and no other proof cites
+-- them.
 use Rattle.std.proofs.Common.{◌≡◌, ℕ, zero, suc, ◌+◌, ◌<◌, Bool, true, false, if◌then◌else◌, List, [], ◌∷◌, length, slice_get, Option, Some, None, refl, sym, ap, ◌∙◌, subst, arith}
 use Rattle.std.proofs.lemmas.Option.{slice_get_within}
 use Rattle.mir_base.specs.declared.instructions.Rhs.{Rhs}
@@ -77,8 +78,8 @@ module _ (graph : GraphShape) where
           assign over after y t s rest true trap goes =
               let is = assign_is y t s frame ∙ ap (λ q. (if q then Traps ZeroDivisor 1 else Continues (rhs_count t) (assigned y (rhs_value frame.values t) s frame))) trap in
               absurd (subst (λ q. StepsAlong over (GoesAlong code over) q rest) is goes)
-          assign over after y t s rest false calm goes =
-              let is = assign_is y t s frame ∙ ap (λ q. (if q then Traps ZeroDivisor 1 else Continues (rhs_count t) (assigned y (rhs_value frame.values t) s frame))) calm in
+          assign over after y t s rest false untrapped goes =
+              let is = assign_is y t s frame ∙ ap (λ q. (if q then Traps ZeroDivisor 1 else Continues (rhs_count t) (assigned y (rhs_value frame.values t) s frame))) untrapped in
               ap (λ q. (after_transition (frame_run code (length over)) q rest).counted) is
               ∙ counted over after (rhs_count t) (assigned y (rhs_value frame.values t) s frame) rest (subst (λ q. StepsAlong over (GoesAlong code over) q rest) is goes)
       step path later (Some (Print a next)) more steps = and_none _ _ (later (at next frame) more steps)

@@ -108,7 +108,7 @@ redirected_weight weight to change (Call into unit operands next) = refl
 redirected_weight weight to change (Test test taken other) = refl
 redirected_weight weight to change (Return a) = refl
 
--- ---- the path over a path
+-- ---- the corresponding path of a path
 
 module _ (r : Rewriting) (nodes : List Node) where
   abbrev raw : List Node

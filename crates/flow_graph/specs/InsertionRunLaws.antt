@@ -46,11 +46,11 @@ module _ (received : List ℕ) (nodes : List Node) where
   code_of = graph_code received nodes
 
   -- a new assignment that does not trap
-  one_calm : (a x next : ℕ) (rhs : Rhs) (f : Frame) → slice_get nodes a ≡ Some (Assign x rhs next) → rhs_traps f.values rhs ≡ false → code_of (at a f) ≡ Continues (rhs_count rhs) (at next (record f { values = with_value x (rhs_value f.values rhs) f.values }))
-  one_calm a x next rhs f is calm =
+  one_goes_on : (a x next : ℕ) (rhs : Rhs) (f : Frame) → slice_get nodes a ≡ Some (Assign x rhs next) → rhs_traps f.values rhs ≡ false → code_of (at a f) ≡ Continues (rhs_count rhs) (at next (record f { values = with_value x (rhs_value f.values rhs) f.values }))
+  one_goes_on a x next rhs f is untrapped =
       ap (λ o. node_transition received o (at a f)) is
       ∙ assign_is x rhs next (at a f)
-      ∙ ap (λ b. (if b then Traps ZeroDivisor 1 else Continues (rhs_count rhs) (assigned x (rhs_value f.values rhs) next f))) calm
+      ∙ ap (λ b. (if b then Traps ZeroDivisor 1 else Continues (rhs_count rhs) (assigned x (rhs_value f.values rhs) next f))) untrapped
 
   one_trap : (a x next : ℕ) (rhs : Rhs) (f : Frame) → slice_get nodes a ≡ Some (Assign x rhs next) → rhs_traps f.values rhs ≡ true → code_of (at a f) ≡ Traps ZeroDivisor 1
   one_trap a x next rhs f is trap =
@@ -59,24 +59,24 @@ module _ (received : List ℕ) (nodes : List Node) where
       ∙ ap (λ b. (if b then Traps ZeroDivisor 1 else Continues (rhs_count rhs) (assigned x (rhs_value f.values rhs) next f))) trap
 
   chain_silent : (n k : ℕ) (puts : List Insertion) → IsInsertionChain nodes n k puts → (f : Frame) → none_traps puts f.values ≡ true → Silently code_of (length puts) (at (entry_among n k puts) f) (landed n puts f) (weigh_all counts puts)
-  chain_silent n k [] c f calm = (refl, refl)
-  chain_silent n k (put ∷ puts) c f calm =
+  chain_silent n k [] c f untrapped = (refl, refl)
+  chain_silent n k (put ∷ puts) c f untrapped =
       let g = record f { values = with_value put.var (rhs_value f.values put.rhs) f.values } in
-      let both = and_parts _ _ calm in
-      (at (entry_among n (suc k) puts) g, rhs_count put.rhs, weigh_all counts puts, one_calm k put.var (entry_among n (suc k) puts) put.rhs f c.0 (not-true _ both.0), chain_silent n (suc k) puts c.1 g both.1, refl)
+      let both = and_parts _ _ untrapped in
+      (at (entry_among n (suc k) puts) g, rhs_count put.rhs, weigh_all counts puts, one_goes_on k put.var (entry_among n (suc k) puts) put.rhs f c.0 (not-true _ both.0), chain_silent n (suc k) puts c.1 g both.1, refl)
 
   chain_traps : (n k : ℕ) (puts : List Insertion) → IsInsertionChain nodes n k puts → (f : Frame) → none_traps puts f.values ≡ false → (steps : ℕ) × TrapsAfter code_of steps (at (entry_among n k puts) f)
   chain_traps n k [] c f trap = absurd (true≢false trap)
   chain_traps n k (put ∷ puts) c f trap = elim (cases_Bool (rhs_traps f.values put.rhs)) [
     | inl now ↦ (0, record { there = at k f; cost = 0; silent = (refl, refl); counted = 1; is = one_trap k put.var (entry_among n (suc k) puts) put.rhs f c.0 now })
-    | inr calm ↦
+    | inr untrapped ↦
         let g = record f { values = with_value put.var (rhs_value f.values put.rhs) f.values } in
-        let later = chain_traps n (suc k) puts c.1 g (sym (ap (λ b. not b && none_traps puts g.values) calm) ∙ trap) in (
+        let later = chain_traps n (suc k) puts c.1 g (sym (ap (λ b. not b && none_traps puts g.values) untrapped) ∙ trap) in (
           suc later.0,
           record {
             there = later.1.there;
             cost = rhs_count put.rhs + later.1.cost;
-            silent = (at (entry_among n (suc k) puts) g, rhs_count put.rhs, later.1.cost, one_calm k put.var (entry_among n (suc k) puts) put.rhs f c.0 calm, later.1.silent, refl);
+            silent = (at (entry_among n (suc k) puts) g, rhs_count put.rhs, later.1.cost, one_goes_on k put.var (entry_among n (suc k) puts) put.rhs f c.0 untrapped, later.1.silent, refl);
             counted = later.1.counted;
             is = later.1.is;
           },
@@ -112,8 +112,8 @@ module _ (r : Rewriting) (extra : List (List ℕ)) (graph : GraphShape) (Holds :
   abbrev cost : ℕ → ℕ
   cost = weight_at counts graph.nodes
 
-  abbrev paid : ℕ → ℕ
-  paid = new_weight_at counts r graph.nodes
+  abbrev new_cost : ℕ → ℕ
+  new_cost = new_weight_at counts r graph.nodes
 
   -- the second frame stands before what is put before the node at which the first stands, and none of it traps
   record NearAt (before : List ℕ) (x y : ℕ) (f g : Frame) : Type 0 where
@@ -121,9 +121,9 @@ module _ (r : Rewriting) (extra : List (List ℕ)) (graph : GraphShape) (Holds :
     place : g.place ≡ to f.place
     arguments : g.arguments ≡ f.arguments
     holds : (f.place ≡ 0) ⊎ Holds f.place before f.values g.values
-    calm : none_traps (r.inserts f.place) g.values ≡ true
+    untrapped : none_traps (r.inserts f.place) g.values ≡ true
     counted : x ≡ sum_on cost before
-    counted' : y ≡ sum_on paid before
+    counted' : y ≡ sum_on new_cost before
 
   -- both sides will trap, the first after so many steps
   record BothTrap (z : ℕ) (f g : Frame) : Type 0 where
@@ -155,10 +155,10 @@ module _ (r : Rewriting) (extra : List (List ℕ)) (graph : GraphShape) (Holds :
   -- ---- to a successor
 
   -- where the values are related before the successor, the two are near each other, or both will trap
-  settle : (n s : ℕ) (before : List ℕ) (x y : ℕ) (arguments : List ℤ) (v w : Values) → Trace nodes n before → HasEdge nodes n s → Holds s (n ∷ before) v w → x ≡ sum_on cost (n ∷ before) → y ≡ sum_on paid (n ∷ before)
+  settle : (n s : ℕ) (before : List ℕ) (x y : ℕ) (arguments : List ℤ) (v w : Values) → Trace nodes n before → HasEdge nodes n s → Holds s (n ∷ before) v w → x ≡ sum_on cost (n ∷ before) → y ≡ sum_on new_cost (n ∷ before)
       → Next (n ∷ before) x y (record { place = s; arguments = arguments; values = v }) (record { place = to s; arguments = arguments; values = w })
   settle n s before x y arguments v w trace edge holds is_x is_y = elim (cases_Bool (none_traps (r.inserts s) w)) [
-    | inl calm ↦ inl (record { trace = goes_on n s before trace edge; place = refl; arguments = refl; holds = inr holds; calm = calm; counted = is_x; counted' = is_y })
+    | inl untrapped ↦ inl (record { trace = goes_on n s before trace edge; place = refl; arguments = refl; holds = inr holds; untrapped = untrapped; counted = is_x; counted' = is_y })
     | inr trap ↦
         let first = preserves.traps s (n ∷ before) arguments v w (goes_on n s before trace edge) holds trap in
         let g : Frame = record { place = to s; arguments = arguments; values = w } in
@@ -167,7 +167,7 @@ module _ (r : Rewriting) (extra : List (List ℕ)) (graph : GraphShape) (Holds :
   ]
 
   -- at a node: the first side with values v, the second after what is put before it
-  module _ (n : ℕ) (before : List ℕ) (x y : ℕ) (arguments : List ℤ) (v w : Values) (trace : Trace graph.nodes n before) (calm : none_traps (r.inserts n) w ≡ true) (counted : x ≡ sum_on cost before) (counted' : y ≡ sum_on paid before) where
+  module _ (n : ℕ) (before : List ℕ) (x y : ℕ) (arguments : List ℤ) (v w : Values) (trace : Trace graph.nodes n before) (untrapped : none_traps (r.inserts n) w ≡ true) (counted : x ≡ sum_on cost before) (counted' : y ≡ sum_on new_cost before) where
     abbrev w' : Values
     w' = values_after (r.inserts n) w
 
@@ -184,8 +184,8 @@ module _ (r : Rewriting) (extra : List (List ℕ)) (graph : GraphShape) (Holds :
         → Next (n ∷ before) x1 y1 (record { place = s; arguments = arguments; values = v1 }) (record { place = to s; arguments = arguments; values = w1 })
     onward node is s slot x1 y1 v1 w1 leads is_x is_y holds =
         let cost_is : cost n ≡ weigh counts (Some node) = ap (weigh counts) is in
-        let paid_is : paid n ≡ weigh_all counts (r.inserts n) + weigh counts (Some (changed (r.changes n) node)) = ap (λ o. weigh_all counts (r.inserts n) + weigh counts (option_map (changed (r.changes n)) o)) is in
-        settle n s before x1 y1 arguments v1 w1 trace (slot, ap (λ o. slice_get (succs_of o) slot) is ∙ leads) holds (omega (arith, counted, is_x, cost_is)) (omega (arith, counted', is_y, paid_is))
+        let new_cost_is : new_cost n ≡ weigh_all counts (r.inserts n) + weigh counts (Some (changed (r.changes n) node)) = ap (λ o. weigh_all counts (r.inserts n) + weigh counts (option_map (changed (r.changes n)) o)) is in
+        settle n s before x1 y1 arguments v1 w1 trace (slot, ap (λ o. slice_get (succs_of o) slot) is ∙ leads) holds (omega (arith, counted, is_x, cost_is)) (omega (arith, counted', is_y, new_cost_is))
 
     trapping : (c d : ℕ) (next next' : Frame) (b : Bool) → (b ≡ false → Next (n ∷ before) (x + c) (y' + d) next next') → Follows (n ∷ before) x y' (if b then Traps ZeroDivisor 1 else Continues c next) (if b then Traps ZeroDivisor 1 else Continues d next')
     trapping c d next next' true near = (1, refl)
@@ -206,7 +206,7 @@ module _ (r : Rewriting) (extra : List (List ℕ)) (graph : GraphShape) (Holds :
           → Next (n ∷ before) x1 y1 (record { place = s; arguments = arguments; values = v1 }) (record { place = to s; arguments = arguments; values = w1 })
       kept_next node is kept s slot x1 y1 v1 w1 leads is_x is_y both =
           let edge : HasEdge nodes n s = (slot, ap (λ o. slice_get (succs_of o) slot) is ∙ leads) in
-          onward node is s slot x1 y1 v1 w1 leads is_x (is_y ∙ ap (λ c. y' + weigh counts (Some (changed c node))) (sym kept)) (preserves.keeps n s node before v w v1 w1 trace is edge kept holds calm both)
+          onward node is s slot x1 y1 v1 w1 leads is_x (is_y ∙ ap (λ c. y' + weigh counts (Some (changed c node))) (sym kept)) (preserves.keeps n s node before v w v1 w1 trace is edge kept holds untrapped both)
 
       none_assigned : (node : Node) → ((z : ℕ) → assigns graph z node ≡ false) → BothAssign (λ z. assigns graph z node) v w' v w'
       none_assigned node none = record { same = λ z e. absurd (true≢false (sym e ∙ none z)); first_keeps = λ z e. refl; second_keeps = λ z e. refl }
@@ -220,13 +220,13 @@ module _ (r : Rewriting) (extra : List (List ℕ)) (graph : GraphShape) (Holds :
 
       follows_assign : (z : ℕ) (rhs : Rhs) (s : ℕ) → slice_get nodes n ≡ Some (Assign z rhs s) → (change : Change) → r.changes n ≡ change → Follows (n ∷ before) x y' (assign_transition z rhs s f) (node_transition graph.received (Some (redirected to (changed_assign change z rhs s))) h)
       follows_assign z rhs s is Kept kept =
-          let equal = preserves.reads n (Assign z rhs s) before v w trace is kept holds calm in
+          let equal = preserves.reads n (Assign z rhs s) before v w trace is kept holds untrapped in
           both_assign z rhs rhs s (sym (traps_equal w' v rhs equal)) (λ no_trap. kept_next (Assign z rhs s) is kept s 0 (x + rhs_count rhs) (y' + rhs_count rhs) _ _ refl refl refl (one_assigned z (rhs_value v rhs) (rhs_value w' rhs) (Assign z rhs s) (sym (rhs_equal w' v rhs equal)) (λ q. refl)))
       follows_assign z rhs s is (Replaced other) change =
-          let p = preserves.replaces n s z rhs other before v w trace is change holds calm in
+          let p = preserves.replaces n s z rhs other before v w trace is change holds untrapped in
           both_assign z rhs other s p.0 (λ no_trap. onward (Assign z rhs s) is s 0 (x + rhs_count rhs) (y' + rhs_count other) _ _ refl refl (ap (λ c. y' + weigh counts (Some (changed_assign c z rhs s))) (sym change)) (p.1 no_trap))
       follows_assign z rhs s is Removed change =
-          let p = preserves.removes n s z rhs before v w trace is change holds calm in
+          let p = preserves.removes n s z rhs before v w trace is change holds untrapped in
           let next = assigned z (rhs_value v rhs) s f in
           subst (λ t. Follows (n ∷ before) x y' t (Continues 0 (at (to s) h))) (sym (assign_is z rhs s f ∙ ap (λ b. (if b then Traps ZeroDivisor 1 else Continues (rhs_count rhs) next)) p.0))
           (0, at (to s) h, refl, onward (Assign z rhs s) is s 0 (x + rhs_count rhs) (y' + 0) _ _ refl refl (ap (λ c. y' + weigh counts (Some (changed_assign c z rhs s))) (sym change)) p.1)
@@ -244,8 +244,8 @@ module _ (r : Rewriting) (extra : List (List ℕ)) (graph : GraphShape) (Holds :
           let path = reverse before ++ n ∷ [] in
           let less = cheap path (full before n trace (ap is_return is)) in
           let cost_is : cost n ≡ 0 = ap (weigh counts) is in
-          let paid_is : paid n ≡ weigh_all counts (r.inserts n) + 0 = ap (λ o. weigh_all counts (r.inserts n) + weigh counts (option_map (changed (r.changes n)) o)) is in
-          omega (arith, less, cost_is, paid_is, counted, counted', sum_append cost (reverse before) (n ∷ []), sum_reverse cost before, sum_append paid (reverse before) (n ∷ []), sum_reverse paid before)
+          let new_cost_is : new_cost n ≡ weigh_all counts (r.inserts n) + 0 = ap (λ o. weigh_all counts (r.inserts n) + weigh counts (option_map (changed (r.changes n)) o)) is in
+          omega (arith, less, cost_is, new_cost_is, counted, counted', sum_append cost (reverse before) (n ∷ []), sum_reverse cost before, sum_append new_cost (reverse before) (n ∷ []), sum_reverse new_cost before)
         where
           ends : (path : List ℕ) (last : ℕ) → Ends last (path ++ last ∷ [])
           ends [] last = refl
@@ -276,25 +276,25 @@ module _ (r : Rewriting) (extra : List (List ℕ)) (graph : GraphShape) (Holds :
       ]
       follows (Print a s) is some = elim (preserves.changes n (Print a s) is) [
         | inl kept ↦
-            let equal = preserves.reads n (Print a s) before v w trace is kept holds calm in
+            let equal = preserves.reads n (Print a s) before v w trace is kept holds untrapped in
             (at (to s) h, ap (λ u. Prints u (at (to s) h)) (operand_equal w' v a equal), kept_next (Print a s) is kept s 0 x y' v w' refl (omega arith) (omega arith) (none_assigned (Print a s) (λ z. refl)))
         | inr other ↦ let never = other.3 in absurd (cc)
       ]
       follows (Call into unit operands s) is some = elim (preserves.changes n (Call into unit operands s) is) [
         | inl kept ↦
-            let equal = preserves.reads n (Call into unit operands s) before v w trace is kept holds calm in
+            let equal = preserves.reads n (Call into unit operands s) before v w trace is kept holds untrapped in
             (at (to s) h, ap (λ l. Calls unit (record { arguments = l }) into (at (to s) h)) (operands_equal w' v operands equal), follows_call into unit operands s is kept)
         | inr other ↦ let never = other.3 in absurd (cc)
       ]
       follows (Test test s o) is some = elim (preserves.changes n (Test test s o) is) [
         | inl kept ↦
-            let equal = preserves.reads n (Test test s o) before v w trace is kept holds calm in
+            let equal = preserves.reads n (Test test s o) before v w trace is kept holds untrapped in
             subst (λ b. Follows (n ∷ before) x y' (Continues 0 (at (if test_holds v test then s else o) f)) (Continues 0 (at (if b then to s else to o) h))) (sym (test_equal w' v test equal)) (follows_test test s o is kept (test_holds v test))
         | inr other ↦ let never = other.3 in absurd (cc)
       ]
       follows (Return a) is some = elim (preserves.changes n (Return a) is) [
         | inl kept ↦
-            let equal = preserves.reads n (Return a) before v w trace is kept holds calm in
+            let equal = preserves.reads n (Return a) before v w trace is kept holds untrapped in
             (ap (λ u. Returns (record { value = u })) (operand_equal w' v a equal), follows_return a is)
         | inr other ↦ let never = other.3 in absurd (cc)
       ]
@@ -328,13 +328,13 @@ module _ (r : Rewriting) (extra : List (List ℕ)) (graph : GraphShape) (Holds :
           | inr holds ↦
               subst (λ o. Follows (n ∷ before) x (y + weigh_all counts (r.inserts n)) (node_transition graph.received o f) (code' (record { place = n; arguments = f.arguments; values = values_after (r.inserts n) g.values }))) (sym node.1)
               (subst (λ o. Follows (n ∷ before) x (y + weigh_all counts (r.inserts n)) (node_transition graph.received (Some node.0) f) (node_transition graph.received o (record { place = n; arguments = f.arguments; values = values_after (r.inserts n) g.values }))) (sym (old_get r nodes n node.0 node.1))
-              (follows n before x y f.arguments f.values g.values near.trace near.calm near.counted near.counted' holds node.0 node.1 some))
+              (follows n before x y f.arguments f.values g.values near.trace near.untrapped near.counted near.counted' holds node.0 node.1 some))
         ]
-        | inr none ↦ follows_start n before x y f.arguments f.values g.values near.trace near.calm near.counted near.counted' (omega (arith, none))
+        | inr none ↦ follows_start n before x y f.arguments f.values g.values near.trace near.untrapped near.counted near.counted' (omega (arith, none))
       ])
 
   starts : (arguments : List ℤ) → NearAt [] 0 0 (record { place = 0; arguments = arguments; values = all_zero }) (record { place = 0; arguments = arguments; values = all_zero })
-  starts arguments = record { trace = from_start; place = sym (start_entry r extra graph fits); arguments = refl; holds = inl refl; calm = ap (λ l. none_traps l all_zero) fits.at_start; counted = refl; counted' = refl }
+  starts arguments = record { trace = from_start; place = sym (start_entry r extra graph fits); arguments = refl; holds = inl refl; untrapped = ap (λ l. none_traps l all_zero) fits.at_start; counted = refl; counted' = refl }
 
   -- ---- the simulation
 
@@ -369,8 +369,8 @@ module _ (r : Rewriting) (extra : List (List ℕ)) (graph : GraphShape) (Holds :
       })
 
   near_silent : (f g : Frame) → f.place < length nodes → g.place ≡ to f.place → none_traps (r.inserts f.place) g.values ≡ true → Silently code' (length (r.inserts f.place)) g (landed f.place (r.inserts f.place) g) (weigh_all counts (r.inserts f.place))
-  near_silent f g below e calm =
-      let run = chain_silent graph.received raw f.place (first_new f.place) (r.inserts f.place) (chain_is r nodes f.place below) g calm in
+  near_silent f g below e untrapped =
+      let run = chain_silent graph.received raw f.place (first_new f.place) (r.inserts f.place) (chain_is r nodes f.place below) g untrapped in
       let same : g ≡ at (to f.place) g = ap (λ q. at q g) e in
       subst (λ q. Silently code' (length (r.inserts f.place)) q (landed f.place (r.inserts f.place) g) (weigh_all counts (r.inserts f.place))) (sym same) run
 
@@ -383,7 +383,7 @@ module _ (r : Rewriting) (extra : List (List ℕ)) (graph : GraphShape) (Holds :
           let k = length (r.inserts f.place) in
           let c = weigh_all counts (r.inserts f.place) in
           let h = landed f.place (r.inserts f.place) g in
-          responds_past (CountsNoMore r graph.nodes) Near code' k c 0 z x y g h (code f) (near_silent f g (trace_within f.place near.0 near.1.trace) near.1.place near.1.calm) (inr (omega arith)) (from_follows (f.place ∷ near.0) x (y + c) h (code f) (moves near.0 x y f g near.1))
+          responds_past (CountsNoMore r graph.nodes) Near code' k c 0 z x y g h (code f) (near_silent f g (trace_within f.place near.0 near.1.trace) near.1.place near.1.untrapped) (inr (omega arith)) (from_follows (f.place ∷ near.0) x (y + c) h (code f) (moves near.0 x y f g near.1))
       | inr trap ↦ trap_responds z x y f g trap
     ];
   }
@@ -397,12 +397,12 @@ module _ (r : Rewriting) (extra : List (List ℕ)) (graph : GraphShape) (Holds :
   -- ---- runs along paths
 
   along_chain : (n k : ℕ) (puts : List Insertion) → IsInsertionChain raw n k puts → (rest : List ℕ) (g : Frame) (answers : List Answer) → none_traps puts g.values ≡ true → GoesAlong code' (n ∷ rest) (landed n puts g) answers → GoesAlong code' (through k puts (n ∷ rest)) (at (entry_among n k puts) g) answers
-  along_chain n k [] c rest g answers calm goes = goes
-  along_chain n k (put ∷ puts) c rest g answers calm goes =
+  along_chain n k [] c rest g answers untrapped goes = goes
+  along_chain n k (put ∷ puts) c rest g answers untrapped goes =
       let over = through (suc k) puts (n ∷ rest) in
       let h = record g { values = with_value put.var (rhs_value g.values put.rhs) g.values } in
-      let both = and_parts _ _ calm in
-      (refl, subst (λ t. StepsAlong over (GoesAlong code' over) t answers) (sym (one_calm graph.received raw k put.var (entry_among n (suc k) puts) put.rhs g c.0 (not-true _ both.0))) (along_chain n (suc k) puts c.1 rest h answers both.1 goes))
+      let both = and_parts _ _ untrapped in
+      (refl, subst (λ t. StepsAlong over (GoesAlong code' over) t answers) (sym (one_goes_on graph.received raw k put.var (entry_among n (suc k) puts) put.rhs g c.0 (not-true _ both.0))) (along_chain n (suc k) puts c.1 rest h answers both.1 goes))
 
   -- no run that will trap goes along a path to a return
   trap_returns : (z : ℕ) (path : List ℕ) (f : Frame) (answers : List Answer) → TrapsAfter code z f → GoesAlong code path f answers → ⊥
@@ -415,7 +415,7 @@ module _ (r : Rewriting) (extra : List (List ℕ)) (graph : GraphShape) (Holds :
   abbrev over_of : List ℕ → List ℕ
   over_of path = over_path r.inserts (length graph.nodes) path
 
-  -- the second goes along the path over the remainder of the path, wherever the first goes along the remainder
+  -- the second goes along the path that corresponds to the remainder of the path, wherever the first goes along the remainder
   abbrev GoesOver : List ℕ → Type 0
   GoesOver path = (before : List ℕ) (x y : ℕ) (f g : Frame) (answers : List Answer) → Next before x y f g → GoesAlong code path f answers → GoesAlong code' (over_of path) g answers
 
@@ -439,7 +439,7 @@ module _ (r : Rewriting) (extra : List (List ℕ)) (graph : GraphShape) (Holds :
         let h = landed m (r.inserts m) g in
         let moved = moves before x y f g near in
         let steps = steps_over path (goes_over path) (m ∷ before) x (y + weigh_all counts (r.inserts m)) (code f) (code' h) answers moved goes.1 in
-        let chain = along_chain m (first_new m) (r.inserts m) (chain_is r nodes m (trace_within m before near.trace)) (over_of path) g answers near.calm (refl, steps) in
+        let chain = along_chain m (first_new m) (r.inserts m) (chain_is r nodes m (trace_within m before near.trace)) (over_of path) g answers near.untrapped (refl, steps) in
         let stands : g ≡ at (to m) g = ap (λ q. at q g) near.place in
         subst (λ q. GoesAlong code' (over_of (q ∷ path)) g answers) goes.0 (subst (λ q. GoesAlong code' (over_of (m ∷ path)) q answers) (sym stands) chain)
     | inr trap ↦ absurd (trap_returns trap.0 (n ∷ path) f answers trap.1.first goes)

@@ -1,13 +1,13 @@
 -- Laws of lists that std has only for reads with a default: `slice_get` of joined, shortened and written lists, and a
 -- list item by item. For proofs only; the crates above cite them too. std's `lemmas.List` has those of `length`,
 -- `take`, `drop`, `slice_set` and `slice_index_or` that are not here.
-use Rattle.std.proofs.Common.{◌≡◌, ◌≢◌, ℕ, zero, suc, ◌+◌, ◌<◌, List, [], ◌∷◌, ◌++◌, length, map, take, drop, slice_get, slice_set, slice_index_or, Some, ◌⊎◌, inl, inr, refl, sym, ap, ◌∙◌, subst, arith, append_assoc, true, ◌||◌, eqb, eq-eqb}
+use Rattle.std.proofs.Common.{◌≡◌, ◌≢◌, ℕ, zero, suc, ◌+◌, ◌<◌, List, [], ◌∷◌, ◌++◌, length, map, take, drop, slice_get, slice_set, slice_index_or, Some, ◌⊎◌, inl, inr, refl, sym, ap, ◌∙◌, subst, arith, append_assoc, true, ◌||◌, nat_eq, eq-eqb}
 use Rattle.std.proofs.lemmas.Bool.{cases_eq}
 use Rattle.std.proofs.lemmas.List.{get_or_append_left, get_or_push}
 use Rattle.std.proofs.lemmas.Option.{slice_get_within}
 use Rattle.std.proofs.Math.Bool.{or-true}
 use Rattle.flow_graph.specs.Numbering.{is_in}
-pub use Rattle.mir_base.specs.ItemLaws.{get_left, get_last}
+pub use Rattle.mir_base.specs.ItemLaws.{get_left, get_last, get_take}
 
 -- two lists with equal first items and equal remainders
 pub cons_same : {A : Type 0} {x y : A} {xs ys : List A} → x ≡ y → xs ≡ ys → x ∷ xs ≡ y ∷ ys
@@ -29,7 +29,7 @@ get_left_some xs ys i x at = get_left xs ys i (slice_get_within xs i x at) ∙ a
 pub listed_in : (xs : List ℕ) (i x : ℕ) → slice_get xs i ≡ Some x → is_in x xs ≡ true
 listed_in [] i x at = cc
 listed_in (y ∷ ys) zero x at = let same : y ≡ x = cc in ap (λ b. b || is_in x ys) (eq-eqb y x same)
-listed_in (y ∷ ys) (suc i) x at = ap (λ b. eqb y x || b) (listed_in ys i x at) ∙ or-true (eqb y x)
+listed_in (y ∷ ys) (suc i) x at = ap (λ b. nat_eq y x || b) (listed_in ys i x at) ∙ or-true (nat_eq y x)
 
 -- an index into the second
 pub get_right_at : {A : Type 0} (xs ys : List A) (n i : ℕ) → n ≡ length xs + i → slice_get (xs ++ ys) n ≡ slice_get ys i
@@ -60,14 +60,6 @@ get_push (z ∷ xs) x y zero e = inl e
 get_push (z ∷ xs) x y (suc i) e = elim (get_push xs x y i e) [ inl h ↦ inl h | inr p ↦ inr (ap suc p.0, p.1) ]
 
 -- ---- a prefix, and what stands at an index and after it
-
--- an index into a prefix
-pub get_take : {A : Type 0} (xs : List A) (n i : ℕ) → i < n → slice_get (take n xs) i ≡ slice_get xs i
-get_take [] zero i lt = refl
-get_take [] (suc n) i lt = refl
-get_take (x ∷ xs) zero i lt = absurd (omega (arith, lt))
-get_take (x ∷ xs) (suc n) zero lt = refl
-get_take (x ∷ xs) (suc n) (suc i) lt = get_take xs n i (omega (arith, lt))
 
 -- one more item: with `suc i`, and with `i + 1`, as loops count
 pub take_next : {A : Type 0} (xs : List A) (i : ℕ) (x : A) → slice_get xs i ≡ Some x → take (suc i) xs ≡ take i xs ++ x ∷ []

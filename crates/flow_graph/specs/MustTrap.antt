@@ -1,5 +1,5 @@
 -- Law: where every way leads silently to an evaluation that traps now, and nothing on the way assigns what it reads,
--- the graph traps after silent steps. For proofs only, of passes that move assignments.
+-- the graph traps after silent steps. No contract and no other proof cites it.
 use Rattle.std.proofs.Common.{◌≡◌, ℕ, suc, ◌+◌, Bool, true, false, if◌then◌else◌, List, [], ◌∷◌, slice_get, ℤ, Some, inl, inr, refl, sym, ap, ◌∙◌, nat_eq}
 use Rattle.std.proofs.lemmas.Bool.{cases_Bool}
 use Rattle.mir_base.specs.declared.instructions.Rhs.{Rhs}
@@ -63,10 +63,10 @@ module _ (graph : GraphShape) (rhs : Rhs) where
       let steps = ap (λ o. node_transition graph.received o f) is ∙ assign_is x t next f in
       elim (cases_Bool (rhs_traps v t)) [
         | inl now ↦ (0, record { there = f; cost = 0; silent = (refl, refl); counted = 1; is = steps ∙ ap (λ b. (if b then Traps ZeroDivisor 1 else Continues (rhs_count t) (assigned x (rhs_value v t) next f))) now })
-        | inr calm ↦
+        | inr untrapped ↦
             let c = rhs_value v t in
             let still = traps_equal (with_value x c v) v rhs (still_traps x c v (Assign x t next) (rhs_vars rhs) (λ y. refl) none) ∙ trap in
-            one_step f (assigned x c next f) (rhs_count t) (steps ∙ ap (λ b. (if b then Traps ZeroDivisor 1 else Continues (rhs_count t) (assigned x c next f))) calm) (must_trap j next arguments (with_value x c v) (must 0 next refl) still)
+            one_step f (assigned x c next f) (rhs_count t) (steps ∙ ap (λ b. (if b then Traps ZeroDivisor 1 else Continues (rhs_count t) (assigned x c next f))) untrapped) (must_trap j next arguments (with_value x c v) (must 0 next refl) still)
       ]
   must_trap k n arguments v (onward j m (Print a next) is silent none must) trap = let never : false ≡ true = silent in absurd (cc)
   must_trap k n arguments v (onward j m (Call into unit operands next) is silent none must) trap = let never : false ≡ true = silent in absurd (cc)

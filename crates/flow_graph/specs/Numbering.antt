@@ -22,9 +22,9 @@ IsIn x [] = ⊥
 IsIn x (y ∷ ys) = (y ≡ x) ⊎ IsIn x ys
 
 -- the place of the first x in a list, and its length where there is none
-abbrev pub position : List ℕ → ℕ → ℕ
-position [] x = 0
-position (y ∷ ys) x = if nat_eq y x then 0 else suc (position ys x)
+abbrev pub first_index : List ℕ → ℕ → ℕ
+first_index [] x = 0
+first_index (y ∷ ys) x = if nat_eq y x then 0 else suc (first_index ys x)
 
 -- a list of variables, and after it those of another list that are new, in the order of their first occurrence
 abbrev pub seen_after : List ℕ → List ℕ → List ℕ
@@ -66,4 +66,4 @@ renamed to (insts.Return a) = insts.Return (renamed_operand to a)
 
 -- the body with each variable numbered by its first occurrence
 abbrev pub renumbered : List Inst → List Inst
-renumbered body = map (renamed (position (seen_in body))) body
+renumbered body = map (renamed (first_index (seen_in body))) body

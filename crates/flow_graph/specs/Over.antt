@@ -1,5 +1,5 @@
--- The path of a rewritten graph over a path of the graph, and what assignments weigh on it. For proofs only, of
--- motion_rewrite.
+-- The path of a rewritten graph over a path of the graph, and what assignments weigh on it. `IsOver` is cited by
+-- contracts of the crates above, the others by proofs.
 use Rattle.std.specs.Prelude.{◌≡◌, ℕ, suc, ◌+◌, nat_lt, filter, List, [], ◌∷◌, length, slice_get, Option, Some, None, option_map}
 use Rattle.mir_base.specs.declared.instructions.Rhs.{Rhs}
 use Rattle.flow_graph.specs.declared.nodes.Node.{Node}

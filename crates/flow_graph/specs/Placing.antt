@@ -7,7 +7,7 @@ use Rattle.flow_graph.specs.declared.nodes.Node.{Node}
 use Rattle.flow_graph.specs.declared.nodes.Node.TheVariants.{Test}
 use Rattle.flow_graph.specs.Graphs.{following}
 use Rattle.flow_graph.specs.Layouts.{place_in}
-use Rattle.flow_graph.specs.Numbering.{is_in, position}
+use Rattle.flow_graph.specs.Numbering.{is_in, first_index}
 use Rattle.flow_graph.specs.Plans.{first_open, is_placed, open_at}
 use Rattle.flow_graph.specs.Walks.{unmarked}
 
@@ -98,7 +98,7 @@ pub record Seen : Type 0 where
 
 -- the place of a variable that was seen
 abbrev pub place_of : List ℕ → ℕ → Option ℕ
-place_of seen x = if is_in x seen then Some (position seen x) else None
+place_of seen x = if is_in x seen then Some (first_index seen x) else None
 
 -- the table has the places of the variables seen
 pub record ArePositions (seen : List ℕ) (table : List (Option ℕ)) : Type 0 where

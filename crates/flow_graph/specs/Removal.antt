@@ -56,15 +56,15 @@ module _ (graph : GraphShape) (changes : ℕ → Change) (Live : ℕ → ℕ →
     changes = λ n node is. elim (removes.only n node is) [ inl kept ↦ inl kept | inr removed ↦ inr removed.1 ];
     starts = λ s values edge. record { equal = λ x live. refl };
     traps = λ n before arguments v w trace holds trap. absurd (true≢false trap);
-    reads = λ n node before v w trace is kept holds calm. equal_on n before v w holds (node_reads graph node) (removes.reads n node is kept);
-    keeps = λ n s node before v w v1 w1 trace is edge kept holds calm both. record {
+    reads = λ n node before v w trace is kept holds untrapped. equal_on n before v w holds (node_reads graph node) (removes.reads n node is kept);
+    keeps = λ n s node before v w v1 w1 trace is edge kept holds untrapped both. record {
       equal = λ x live. elim (cases_Bool (assigns graph x node)) [
         | inl assigned ↦ both.same x assigned
         | inr stays ↦ both.first_keeps x stays ∙ holds.equal x (removes.back n s x node is edge live stays) ∙ sym (both.second_keeps x stays)
       ];
     };
-    replaces = λ n s x rhs other before v w trace is change holds calm. absurd (never_replaced n (Assign x rhs s) other is change);
-    removes = λ n s x rhs before v w trace is change holds calm.
+    replaces = λ n s x rhs other before v w trace is change holds untrapped. absurd (never_replaced n (Assign x rhs s) other is change);
+    removes = λ n s x rhs before v w trace is change holds untrapped.
         let dead = removes.dead n s x rhs is change in (
           dead.1 v,
           record {

@@ -1,5 +1,6 @@
 -- Law: assignments may be moved along the edges to places where they are put anew, if no node in between reads or
--- assigns what they assign, or assigns what they read. For proofs only, of a pass that moves them.
+-- assigns what they assign, or assigns what they read. `put_for` is cited by contracts of sink_dead, the others
+-- by proofs.
 use Rattle.std.proofs.Common.{◌≡◌, ℕ, ℤ, Bool, true, false, not, ◌&&◌, if◌then◌else◌, nat_eq, List, [], ◌∷◌, slice_get, Option, Some, None, ◌⊎◌, inl, inr, refl, sym, ap, ◌∙◌, eq-eqb}
 use Rattle.std.proofs.lemmas.Bool.{cases_Bool, true≢false, eqb-true}
 use Rattle.std.proofs.lemmas.Option.{same_Some}
@@ -185,10 +186,10 @@ module _ (r : Rewriting) (extra : List (List ℕ)) (graph : GraphShape) (late : 
     changes = λ n node is. elim (sinks.only n node is) [ inl kept ↦ inl kept | inr removed ↦ inr removed.1 ];
     starts = λ s values edge. record { each = λ x. sym (ap (delayed_value values x) (sinks.starts s x edge)) };
     traps = λ n before arguments v w trace delayed trap. absurd (true≢false (sym (puts_never_trap (r.inserts n) (sinks.never n) w) ∙ trap));
-    reads = λ n node before v w trace is kept delayed calm. reads_equal n before v w delayed (node_reads graph node) (sinks.reads n node is);
-    keeps = λ n s node before v w v1 w1 trace is edge kept delayed calm both. record { each = λ x. kept_each n before v w delayed s node is edge kept v1 w1 both x (late s x) refl };
-    replaces = λ n s x rhs other before v w trace is change delayed calm. absurd (never_replaced n (Assign x rhs s) other is change);
-    removes = λ n s x rhs before v w trace is change delayed calm.
+    reads = λ n node before v w trace is kept delayed untrapped. reads_equal n before v w delayed (node_reads graph node) (sinks.reads n node is);
+    keeps = λ n s node before v w v1 w1 trace is edge kept delayed untrapped both. record { each = λ x. kept_each n before v w delayed s node is edge kept v1 w1 both x (late s x) refl };
+    replaces = λ n s x rhs other before v w trace is change delayed untrapped. absurd (never_replaced n (Assign x rhs s) other is change);
+    removes = λ n s x rhs before v w trace is change delayed untrapped.
         ((sinks.removed n s x rhs is change).1 v, record { each = λ y. removed_each n before v w delayed s x rhs is (0, ap (λ o. slice_get (succs_of o) 0) is) change y (late s y) refl });
   }
     where

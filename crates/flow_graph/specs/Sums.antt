@@ -1,4 +1,4 @@
--- Sums over the nodes of a path. For proofs only, of motion_rewrite.
+-- Sums over the nodes of a path. `one_if` is cited by contracts of the crates above, the others by proofs.
 use Rattle.std.proofs.Common.{◌≡◌, ℕ, ◌+◌, Bool, if◌then◌else◌, List, [], ◌∷◌, ◌++◌, reverse, count_by, refl, ap, ◌∙◌, arith}
 use Rattle.std.proofs.lemmas.List.{reverse-append}
 use Rattle.std.proofs.lemmas.List.Sums.{sum_by-cons}

@@ -69,7 +69,8 @@ impl Node {
     }
 }
 
-/// The node with other successors: `to[s]` in the place of each successor `s`, which is an index into `to`.
+/// The node with other successors: `to[s]` in the place of each successor `s`, which is an index into `to`. It does not
+/// allocate.
 pub fn redirect(node: Node, to: &[usize]) -> Node
     requires { SuccsBelow (length to.now) node }
     ensures { result ≡ redirected_by to.now node }

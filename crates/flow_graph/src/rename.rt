@@ -2,7 +2,7 @@
 ghost use Rattle.std.specs.Prelude.{◌≡◌, ◌<◌, ◌++◌, [], flat_map, length, map, option_map, slice_index_or, IfOk};
 ghost use Rattle.mir_base.specs.Shapes.{AllBelow, inst_vars, into_vars, operand_vars, rhs_vars, test_vars};
 ghost use Rattle.mir_base.specs.declared.instructions.Inst.TheVariants.{Call};
-ghost use Rattle.flow_graph.specs.Numbering.{position, renamed, renamed_operand, renamed_rhs, renamed_test};
+ghost use Rattle.flow_graph.specs.Numbering.{first_index, renamed, renamed_operand, renamed_rhs, renamed_test};
 
 use crate::seen::SeenVars;
 use mir_base::{Args, Inst, Memory, Name, Operand, Rhs, Test};
@@ -11,7 +11,7 @@ use std::alloc::Global;
 /// The body with each variable numbered by its place among those seen.
 pub(crate) fn rename(alloc: Global, seen: &SeenVars, body: &[Inst]) -> Result<Vec<Inst>, Memory>
     requires { AllBelow seen.now.vars (flat_map inst_vars body.now) }
-    ensures { IfOk result (λ new. new.items ≡ map (renamed (position seen.now.seen)) body.now) }
+    ensures { IfOk result (λ new. new.items ≡ map (renamed (first_index seen.now.seen)) body.now) }
 {
     let mut renamed = Vec::with_capacity(alloc, body.len())?;
     for inst in body {
@@ -23,11 +23,11 @@ pub(crate) fn rename(alloc: Global, seen: &SeenVars, body: &[Inst]) -> Result<Ve
 /// The instruction with its variables renumbered.
 fn rename_inst(alloc: Global, seen: &SeenVars, inst: &Inst) -> Result<Inst, Memory>
     requires { AllBelow seen.now.vars (inst_vars inst.now) }
-    ensures { IfOk result (λ new. new ≡ renamed (position seen.now.seen) inst.now) }
+    ensures { IfOk result (λ new. new ≡ renamed (first_index seen.now.seen) inst.now) }
 {
     Ok(match inst {
-        Inst::Receive(x) => Inst::Receive(seen.position(*x)),
-        Inst::Assign(x, rhs) => Inst::Assign(seen.position(*x), rename_rhs(seen, *rhs)),
+        Inst::Receive(x) => Inst::Receive(seen.first_index(*x)),
+        Inst::Assign(x, rhs) => Inst::Assign(seen.first_index(*x), rename_rhs(seen, *rhs)),
         Inst::Goto(place) => Inst::Goto(*place),
         Inst::If(test, place) => Inst::If(rename_test(seen, *test), *place),
         Inst::Call(into, unit, args) => rename_call(alloc, seen, *into, *unit, args.items())?,
@@ -39,10 +39,10 @@ fn rename_inst(alloc: Global, seen: &SeenVars, inst: &Inst) -> Result<Inst, Memo
 /// The operand with its variable, if it is one, renumbered.
 fn rename_operand(seen: &SeenVars, a: Operand) -> Operand
     requires { AllBelow seen.now.vars (operand_vars a) }
-    ensures { result ≡ renamed_operand (position seen.now.seen) a }
+    ensures { result ≡ renamed_operand (first_index seen.now.seen) a }
 {
     match a {
-        Operand::Var(x) => Operand::Var(seen.position(x)),
+        Operand::Var(x) => Operand::Var(seen.first_index(x)),
         Operand::Const(c) => Operand::Const(c),
     }
 }
@@ -50,7 +50,7 @@ fn rename_operand(seen: &SeenVars, a: Operand) -> Operand
 /// The right side with its variables renumbered.
 fn rename_rhs(seen: &SeenVars, rhs: Rhs) -> Rhs
     requires { AllBelow seen.now.vars (rhs_vars rhs) }
-    ensures { result ≡ renamed_rhs (position seen.now.seen) rhs }
+    ensures { result ≡ renamed_rhs (first_index seen.now.seen) rhs }
 {
     match rhs {
         Rhs::Plain(a) => Rhs::Plain(rename_operand(seen, a)),
@@ -62,7 +62,7 @@ fn rename_rhs(seen: &SeenVars, rhs: Rhs) -> Rhs
 /// The test with its variables renumbered.
 fn rename_test(seen: &SeenVars, test: Test) -> Test
     requires { AllBelow seen.now.vars (test_vars test) }
-    ensures { result ≡ renamed_test (position seen.now.seen) test }
+    ensures { result ≡ renamed_test (first_index seen.now.seen) test }
 {
     match test {
         Test::Rel(op, a, b) => Test::Rel(op, rename_operand(seen, a), rename_operand(seen, b)),
@@ -81,7 +81,7 @@ fn rename_call(
 ) -> Result<Inst, Memory>
     requires { AllBelow seen.now.vars (into_vars into ++ flat_map operand_vars operands.now) }
     ensures { IfOk result (λ new.
-        new ≡ renamed (position seen.now.seen) (Call into unit operands.now)) }
+        new ≡ renamed (first_index seen.now.seen) (Call into unit operands.now)) }
 {
     let args = rename_args(alloc, seen, operands)?;
     Ok(Inst::Call(rename_into(seen, into), unit, args))
@@ -91,7 +91,7 @@ fn rename_call(
 fn rename_args(alloc: Global, seen: &SeenVars, operands: &[Operand]) -> Result<Args, Memory>
     requires { AllBelow seen.now.vars (flat_map operand_vars operands.now) }
     ensures { IfOk result (λ args.
-        args ≡ map (renamed_operand (position seen.now.seen)) operands.now) }
+        args ≡ map (renamed_operand (first_index seen.now.seen)) operands.now) }
 {
     let mut renamed = Vec::new(alloc);
     for a in operands {
@@ -103,11 +103,11 @@ fn rename_args(alloc: Global, seen: &SeenVars, operands: &[Operand]) -> Result<A
 /// The variable that gets the result, renumbered.
 fn rename_into(seen: &SeenVars, into: Option<usize>) -> Option<usize>
     requires { AllBelow seen.now.vars (into_vars into) }
-    ensures { result ≡ option_map (position seen.now.seen) into }
+    ensures { result ≡ option_map (first_index seen.now.seen) into }
 {
     match into {
         None => None,
-        Some(x) => Some(seen.position(x)),
+        Some(x) => Some(seen.first_index(x)),
     }
 }
 

@@ -1,7 +1,7 @@
 // The variables that occur in a body, in the order of their first occurrence.
 ghost use Rattle.std.specs.Prelude.{◌≡◌, ◌<◌, [], ◌∷◌, ◌++◌, flat_map, length, IfOk, OnOk};
 ghost use Rattle.mir_base.specs.Shapes.{AllBelow, inst_vars, into_vars, operand_vars, rhs_vars};
-ghost use Rattle.flow_graph.specs.Numbering.{position, seen_after, seen_in};
+ghost use Rattle.flow_graph.specs.Numbering.{first_index, seen_after, seen_in};
 
 use mir_base::{Inst, Memory, Operand, Rhs, Test};
 use std::alloc::Global;
@@ -46,9 +46,9 @@ impl SeenVars {
     }
 
     /// The place of a variable in that order; of one that was not seen, the number of those that were.
-    pub(crate) fn position(&self, x: usize) -> usize
+    pub(crate) fn first_index(&self, x: usize) -> usize
         requires { x < self.now.vars }
-        ensures { result ≡ position self.now.seen x }
+        ensures { result ≡ first_index self.now.seen x }
     {
         match self.places[x] {
             Some(place) => place,

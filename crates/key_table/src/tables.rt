@@ -1,5 +1,5 @@
 // Tables of keys.
-ghost use Rattle.std.specs.Prelude.{◌≡◌, ◌<◌, [], length, slice_get, IfOk, IfSome, OnOk, Some};
+ghost use Rattle.std.specs.Prelude.{◌≡◌, ◌<◌, [], length, slice_get, IfOk, IfSome, OnErr, OnOk, Some};
 ghost use Rattle.mir_base.specs.Shapes.{AllDiffer};
 ghost use Rattle.key_table.specs.Keys.{FindsKey, FindsSome, IsWithKey};
 
@@ -85,10 +85,12 @@ impl<K: Key> KeyTable<K> {
         self.find(&key)
     }
 
-    /// The number of a key, which is put at the end where the table does not have it. It fails only with `Memory`.
+    /// The number of a key, which is put at the end where the table does not have it. It fails only with `Memory`,
+    /// and the table is then as it was.
     pub fn number(&mut self, key: K) -> Result<usize, Memory>
         ensures here { IfOk result (λ number. slice_get self.new number ≡ Some key) }
         ensures with_key { OnOk result (IsWithKey self.old key self.new) }
+        ensures err { OnErr result (self.new ≡ self.old) }
     {
         let (number, _) = self.keys.insert_full(key)?;
         Ok(number)

@@ -1,6 +1,7 @@
--- The item at a place of a list, of joined lists and of what a function makes of a list, and what is there or is not.
+-- The item at a place of a list, of joined lists, of a prefix and of what a function makes of a list, and what is there
+-- or is not.
 -- For proofs only, of the crates above too.
-use Rattle.std.proofs.Common.{◌≡◌, ℕ, zero, suc, ◌<◌, true, false, List, [], ◌∷◌, ◌++◌, length, slice_get, Option, None, Some, is_some, refl, subst, arith, Contains, map, sym, ◌∙◌}
+use Rattle.std.proofs.Common.{◌≡◌, ℕ, zero, suc, ◌<◌, true, false, List, [], ◌∷◌, ◌++◌, length, slice_get, Option, None, Some, is_some, refl, subst, arith, Contains, map, take, sym, ◌∙◌}
 use Rattle.std.specs.List.{All}
 use Rattle.std.proofs.lemmas.Option.{slice_get_within, get_or_from_slice_get}
 use Rattle.std.specs.Option.{option_or}
@@ -39,6 +40,14 @@ get_left (x ∷ xs) ys (suc i) low = get_left xs ys i (omega (arith, low))
 pub get_last : {A : Type 0} (xs : List A) (x : A) → slice_get (xs ++ x ∷ []) (length xs) ≡ Some x
 get_last [] x = refl
 get_last (y ∷ xs) x = get_last xs x
+
+-- a place in a prefix
+pub get_take : {A : Type 0} (xs : List A) (n i : ℕ) → i < n → slice_get (take n xs) i ≡ slice_get xs i
+get_take [] zero i lt = refl
+get_take [] (suc n) i lt = refl
+get_take (x ∷ xs) zero i lt = absurd (omega (arith, lt))
+get_take (x ∷ xs) (suc n) zero lt = refl
+get_take (x ∷ xs) (suc n) (suc i) lt = get_take xs n i (omega (arith, lt))
 
 -- what is there, and that nothing is
 pub some_of : {A : Type 0} (found : Option A) → is_some found ≡ true → (x : A) × (found ≡ Some x)

@@ -1,9 +1,10 @@
--- The rule for a rewriting that keeps each step: two machines go in lockstep. Cited by contracts.
+-- The rule for a rewriting that keeps each step: two machines go in lockstep. For proofs only, of
+-- the crates above too.
 use Rattle.std.specs.Prelude.{◌≡◌, ◌≤◌}
 use Rattle.mir_base.specs.Frames.{CallEntry, Answer, Frame, first_frame, resumed, Transition, Continues, Prints, Calls, Returns, Traps}
 use Rattle.mir_base.specs.UnitRuns.{Machine, IsEntry, IsCallAnswer}
 
--- two transitions that show the same, the second counting no more, to frames that are related by S
+-- two transitions that show the same, the second evaluating no more operators, to frames that are related by S
 abbrev pub Alike : (Frame → Frame → Type 0) → Transition → Transition → Type 0
 Alike S (Continues n f) (Continues m g) = (m ≤ n) × S f g
 Alike S (Prints v f) (Prints w g) = (v ≡ w) × S f g

@@ -1,6 +1,6 @@
 -- The rule by which a rewriting is shown to keep what a unit or a graph does: one relation between the frames of the
--- two sides, which holds at the start, and which the second side keeps up at each transition of the first. Cited by
--- contracts.
+-- two sides, which holds at the start, and which the second side keeps up at each transition of the first. For
+-- proofs only, of the crates above too.
 use Rattle.std.specs.Prelude.{◌≡◌, ℕ, zero, suc, ◌+◌, ◌≤◌, ◌<◌, ◌⊎◌, ℤ, Option}
 use Rattle.mir_base.specs.declared.operators.Trap.{Trap}
 use Rattle.mir_base.specs.Frames.{CallEntry, Answer, Frame, first_frame, resumed, Transition, Continues, Prints, Calls, Returns, Traps, Code}
@@ -50,7 +50,8 @@ pub record AfterCalling (R : Relation) (second : Code) (x y : ℕ) (g : Frame) (
   pub is : second there ≡ Calls unit entry second_into second_next
   pub related : (answer : Answer) → IsCallAnswer answer → (measure : ℕ) × R measure x (y + cost) (resumed into answer next) (resumed second_into answer second_next)
 
--- Where the first side returns, the second returns the same after some silent steps, and under P it has counted no more
+-- Where the first side returns, the second returns the same after some silent steps, and under P it has evaluated no
+-- more operators
 pub record AfterReturning (P : Type 0) (second : Code) (x y : ℕ) (g : Frame) (answer : Answer) : Type 0 where
   pub steps : ℕ
   pub cost : ℕ

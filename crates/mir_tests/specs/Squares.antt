@@ -6,14 +6,8 @@ use Rattle.std.proofs.Common.{arith, inl, inr, if◌then◌else◌, nat_eq}
 use Rattle.std.proofs.lemmas.Bool.{cases_cond, cases_lt}
 use Rattle.fix_solve.specs.Order.{OrderLaws}
 use Rattle.fix_solve.specs.Net.{Net, NetLaws}
-
--- false lies below true
-abbrev pub Implies : Bool → Bool → Type 0
-Implies x y = x ≡ true → y ≡ true
-
--- false ranks below true
-abbrev pub rank_of : Bool → ℕ
-rank_of x = if x then 1 else 0
+use Rattle.flow_graph.specs.Sums.{one_if}
+use Rattle.path_laws.specs.Order.{BelowBit}
 
 -- three truth values
 abbrev pub Three : Type 0
@@ -21,9 +15,9 @@ Three = Bool × Bool × Bool
 
 -- each of the first lies below that of the second
 pub record EachImplies (x y : Three) : Type 0 where
-  pub first : Implies x.0 y.0
-  pub second : Implies x.1 y.1
-  pub third : Implies x.2 y.2
+  pub first : BelowBit x.0 y.0
+  pub second : BelowBit x.1 y.1
+  pub third : BelowBit x.2 y.2
 
 -- all are of one size
 abbrev pub size_of_three : Three → ℕ
@@ -31,7 +25,7 @@ size_of_three x = 0
 
 -- how many are true
 abbrev pub trues_of : Three → ℕ
-trues_of x = rank_of x.0 + (rank_of x.1 + rank_of x.2)
+trues_of x = one_if x.0 + (one_if x.1 + one_if x.2)
 
 -- the edges are numbered by their sources, of which 3 has two; the third value stops on the edge 8, and each begins at
 -- one node
@@ -50,20 +44,20 @@ squares = record {
 }
 
 -- a truth value that lies below another is it, or ranks lower
-same_or_lower : (x y : Bool) → Implies x y → rank_of y ≤ rank_of x → x ≡ y
+same_or_lower : (x y : Bool) → BelowBit x y → one_if y ≤ one_if x → x ≡ y
 same_or_lower true true h l = refl
 same_or_lower true false h l = absurd (let e : false ≡ true = h refl in cc)
 same_or_lower false true h l = absurd (let l' : 1 ≤ 0 = l in omega arith)
 same_or_lower false false h l = refl
 
 -- a truth value that lies below another ranks no higher
-implied_rank : (x y : Bool) → Implies x y → rank_of x ≤ rank_of y
+implied_rank : (x y : Bool) → BelowBit x y → one_if x ≤ one_if y
 implied_rank true true h = omega arith
 implied_rank true false h = absurd (let e : false ≡ true = h refl in cc)
 implied_rank false y h = omega arith
 
 -- no truth value ranks above 1
-low_rank : (x : Bool) → rank_of x ≤ 1
+low_rank : (x : Bool) → one_if x ≤ 1
 low_rank true = omega arith
 low_rank false = omega arith
 
@@ -77,7 +71,7 @@ below_same (a, b, c) (x, y, z) p l =
     let i = implied_rank a x p.first in
     let j = implied_rank b y p.second in
     let k = implied_rank c z p.third in
-    let l' : rank_of x + (rank_of y + rank_of z) ≤ rank_of a + (rank_of b + rank_of c) = l in
+    let l' : one_if x + (one_if y + one_if z) ≤ one_if a + (one_if b + one_if c) = l in
     same_three a b c x y z (same_or_lower a x p.first (omega (arith, i, j, k, l'))) (same_or_lower b y p.second (omega (arith, i, j, k, l'))) (same_or_lower c z p.third (omega (arith, i, j, k, l')))
 
 -- of three that lie below others no more are true
@@ -114,7 +108,7 @@ end_of e h = elim (cases_cond (nat_eq e 4) 10 (if nat_eq e 10 then 3 else min 13
 ]
 
 -- a value that stops on an edge is false there, so the order is kept
-stops_at : (b x y : Bool) → Implies x y → Implies (if b then false else x) (if b then false else y)
+stops_at : (b x y : Bool) → BelowBit x y → BelowBit (if b then false else x) (if b then false else y)
 stops_at true x y h = λ e. e
 stops_at false x y h = h
 

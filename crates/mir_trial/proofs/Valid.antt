@@ -10,7 +10,7 @@ use Rattle.mir_base.specs.declared.instructions.Operand.TheVariants.{Var}
 use Rattle.mir_base.specs.Limits.{most_units}
 use Rattle.mir_base.specs.Shapes.{UnitShape, AllBelow, AllDiffer, inst_vars, receives_in, body_or_empty, body_at, names_of, InstFits, BodyFits, IsProgram}
 use Rattle.mir_base.specs.BelowLaws.{all_below_append}
-use Rattle.flow_graph.specs.Numbering.{position, renamed, renamed_operand, seen_in}
+use Rattle.flow_graph.specs.Numbering.{first_index, renamed, renamed_operand, seen_in}
 use Rattle.flow_graph.specs.NumberingLaws.{seen_grows}
 use Rattle.mir_sim.specs.Calls.{CallsHigher}
 use Rattle.mir_trial.specs.Draws.{next, drawn}
@@ -164,7 +164,7 @@ inner_receives total k last (Return a ∷ insts) h = refl
 
 -- the new numbers
 abbrev to_of : ℕ → Bool → ℕ → ℕ → ℕ
-to_of j last z = position (seen_in (body_of j last z))
+to_of j last z = first_index (seen_in (body_of j last z))
 
 -- the unit's body behind its two receives
 abbrev tail_of : ℕ → Bool → ℕ → List Inst
@@ -186,7 +186,7 @@ unit_long j last z = length-map (body_of j last z) (renamed (to_of j last z))
 parameters : (j : ℕ) (last : Bool) (z : ℕ) → (to_of j last z 0 ≡ 0) × (to_of j last z 1 ≡ 1)
 parameters j last z =
     let more = seen_grows (0 ∷ 1 ∷ []) (flat_map inst_vars (rest_of j last z)) in
-    (ap (λ (seen : List ℕ). position seen 0) more.1, ap (λ (seen : List ℕ). position seen 1) more.1)
+    (ap (λ (seen : List ℕ). first_index seen 0) more.1, ap (λ (seen : List ℕ). first_index seen 1) more.1)
 
 -- ---- the units of the program
 

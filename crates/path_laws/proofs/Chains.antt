@@ -2,10 +2,11 @@
 use Rattle.std.proofs.Common.{◌≡◌, ℕ, zero, suc, ◌<◌, ◌↔◌, inl, inr, Bool, true, false, not, ◌||◌, ◌&&◌, List, [], ◌∷◌, ◌++◌, length, take, slice_get, Some, refl, sym, ap, subst, arith, ◌∙◌}
 use Rattle.flow_graph.specs.ListLaws.{take_next}
 use Rattle.std.proofs.lemmas.List.{take_all}
-use Rattle.std.proofs.Math.Bool.{and-true, or_assoc}
+use Rattle.std.proofs.Math.Bool.{and-true}
 use Rattle.std.proofs.lemmas.Bool.{or_cases, or_left, or_right, and_parts, not-true, not_from_false}
+use Rattle.std.specs.List.{list_any}
 use Rattle.path_laws.specs.Leads.{Leads, at_seed, one_more}
-use Rattle.path_laws.specs.Blockwise.{blocks_some, passed, passed_all}
+use Rattle.path_laws.specs.Blockwise.{passed, passed_all}
 
 -- what a block does as a whole: its seeds, and what comes to it where none of its nodes blocks that
 apart : (r s x k a : Bool) → (r || ((s || (x && not k)) && not a)) ≡ ((r || ((s || (false && not k)) && not a)) || (x && not (k || a)))
@@ -23,12 +24,12 @@ apart false false true false false = refl
 apart false false false k a = refl
 
 -- what comes out of a path: what it seeds itself, and what comes to it where none of its nodes blocks that
-pub passed_apart : (seed block : ℕ → Bool) (path : List ℕ) (x : Bool) → passed_all seed block x path ≡ (passed_all seed block false path || (x && not (blocks_some block path)))
+pub passed_apart : (seed block : ℕ → Bool) (path : List ℕ) (x : Bool) → passed_all seed block x path ≡ (passed_all seed block false path || (x && not (list_any block path)))
 passed_apart seed block [] x = sym (and-true x)
 passed_apart seed block (n ∷ path) x =
     let first = passed_apart seed block path (passed seed block n x) in
     let empty = passed_apart seed block path (passed seed block n false) in
-    first ∙ apart (passed_all seed block false path) (seed n) x (block n) (blocks_some block path) ∙ ap (λ r. r || (x && not (block n || blocks_some block path))) (sym empty)
+    first ∙ apart (passed_all seed block false path) (seed n) x (block n) (list_any block path) ∙ ap (λ r. r || (x && not (block n || list_any block path))) (sym empty)
 
 -- a path that goes on is passed in two steps
 pub passed_append : (seed block : ℕ → Bool) (xs ys : List ℕ) (x : Bool) → passed_all seed block x (xs ++ ys) ≡ passed_all seed block (passed_all seed block x xs) ys
@@ -38,11 +39,6 @@ passed_append seed block (n ∷ xs) ys x = passed_append seed block xs ys (passe
 -- and one that goes on by one node
 pub passed_next : (seed block : ℕ → Bool) (xs : List ℕ) (i n : ℕ) (x : Bool) → slice_get xs i ≡ Some n → passed_all seed block x (take (suc i) xs) ≡ passed seed block n (passed_all seed block x (take i xs))
 passed_next seed block xs i n x e = ap (passed_all seed block x) (take_next xs i n e) ∙ passed_append seed block (take i xs) (n ∷ []) x
-
--- a path that goes on blocks where either part does
-pub blocks_append : (block : ℕ → Bool) (xs ys : List ℕ) → blocks_some block (xs ++ ys) ≡ (blocks_some block xs || blocks_some block ys)
-blocks_append block [] ys = refl
-blocks_append block (n ∷ xs) ys = ap (λ b. block n || b) (blocks_append block xs ys) ∙ sym (or_assoc (block n) (blocks_some block xs) (blocks_some block ys))
 
 -- each node but the first has the one before it as its only step back
 abbrev pub IsRun : (ℕ → ℕ → Type 0) → List ℕ → Type 0
@@ -93,7 +89,7 @@ module _ (steps : ℕ → ℕ → Type 0) (seed block : ℕ → Bool) where
     block_seed c = passed_all seed block false (paths c)
 
     abbrev block_stop : ℕ → Bool
-    block_stop c = blocks_some block (paths c)
+    block_stop c = list_any block (paths c)
 
     -- the last node of a block in the order of the flow
     abbrev Ahead : ℕ → ℕ → Type 0
@@ -104,7 +100,7 @@ module _ (steps : ℕ → ℕ → Type 0) (seed block : ℕ → Bool) where
     last_leads d h (at_seed c on) k (i, at, end) = run_sound (paths d) false i k (are.runs d h) (λ m first bad free. absurd (cc)) at (ap (passed_all seed block false) (take_all (suc i) (paths d) (omega (arith, end))) ∙ on)
     last_leads d h (one_more c e step free rest) k (i, at, end) =
         let s = are.sound d e step in
-        let whole : passed_all seed block true (paths d) ≡ true = passed_apart seed block (paths d) true ∙ or_right (passed_all seed block false (paths d)) (not (blocks_some block (paths d))) (not_from_false (blocks_some block (paths d)) free) in
+        let whole : passed_all seed block true (paths d) ≡ true = passed_apart seed block (paths d) true ∙ or_right (passed_all seed block false (paths d)) (not (list_any block (paths d))) (not_from_false (list_any block (paths d)) free) in
         run_sound (paths d) true i k (are.runs d h)
         (λ m first on m_free.
         let both : Some s.2.0 ≡ Some m = sym s.2.3 ∙ first in

@@ -3,13 +3,14 @@ use Rattle.std.proofs.Common.{◌≡◌, ℕ, zero, suc, ◌-◌, ◌<◌, ◌�
 use Rattle.std.proofs.lemmas.Bool.{and_from, and_parts, eq-eqb, eqb-true, not-true, or_cases, or_left, or_right}
 use Rattle.std.proofs.lemmas.List.{get_or-reverse, length-reverse, take_all}
 use Rattle.std.proofs.lemmas.Option.{get_or_from_slice_get, slice_get_within, slice_get-get_or}
+use Rattle.std.specs.List.{list_any}
 use Rattle.flow_graph.specs.declared.edges.Edge.{Edge}
 use Rattle.flow_graph.specs.declared.nodes.Node.{Node}
 use Rattle.flow_graph.specs.Blocks.{IsBlocks}
 use Rattle.flow_graph.specs.Graphs.{AllWithin}
 use Rattle.path_laws.specs.Between.{AreBetween}
 use Rattle.node_list.specs.Lists.{list_at}
-use Rattle.path_laws.specs.Blockwise.{HasAnswer, AreGrowing, AreBlockedByPaths, initial_bit, blocks_some, brought, flow_order, handed_on, passed_all}
+use Rattle.path_laws.specs.Blockwise.{HasAnswer, AreGrowing, AreBlockedByPaths, initial_bit, brought, flow_order, handed_on, passed_all}
 use Rattle.path_laws.specs.Leads.{Leads, at_seed, one_more, steps_of}
 use Rattle.flow_graph.specs.FlowEdges.{StepAlong, edge_at}
 use Rattle.path_laws.specs.Paths.{AreRows, has_bit}
@@ -55,14 +56,14 @@ module _ (against : Bool) (nodes : List Node) (lists : List (List ℕ)) (edges :
   -- ---- at the first nodes of blocks
 
   module _ (work : List (List Bool))
-      (leads : (c b : ℕ) → c < length lists → b < bits → (has_bit work b c ≡ true) ↔ Leads (StepAlong edges) (λ k. passed_all (seed b) (stop b) false (path k)) (λ k. blocks_some (stop b) (path k)) c) (b : ℕ) (b_in : b < bits) where
+      (leads : (c b : ℕ) → c < length lists → b < bits → (has_bit work b c ≡ true) ↔ Leads (StepAlong edges) (λ k. passed_all (seed b) (stop b) false (path k)) (λ k. list_any (stop b) (path k)) c) (b : ℕ) (b_in : b < bits) where
     abbrev w : ℕ → Bool
     w c = has_bit work b c
 
     abbrev x : ℕ → Bool
     x c = comes_over edges w c
 
-    w_is : (c : ℕ) → c < length lists → (w c ≡ true) ↔ Leads (StepAlong edges) (λ k. passed_all (seed b) (stop b) false (path k)) (λ k. blocks_some (stop b) (path k)) c
+    w_is : (c : ℕ) → c < length lists → (w c ≡ true) ↔ Leads (StepAlong edges) (λ k. passed_all (seed b) (stop b) false (path k)) (λ k. list_any (stop b) (path k)) c
     w_is c h = leads c b h b_in
 
     x_sound : (c : ℕ) → c < length lists → x c ≡ true → (d : ℕ) × StepAlong edges c d × (w d ≡ true)
@@ -116,12 +117,12 @@ module _ (against : Bool) (nodes : List Node) (lists : List (List ℕ)) (edges :
 pub led_blocks : (against : Bool) (nodes : List Node) (lists : List (List ℕ)) (bits count : ℕ) (edges slice : List Edge) (firsts : List ℕ) (path : ℕ → List ℕ) (seed stop : ℕ → ℕ → Bool) (seeds stops work : List (List Bool))
     → AreBetween against nodes lists (length lists) edges firsts → ArePassed (length lists) bits path seed stop seeds → AreBlockedByPaths (length lists) bits path stop stops → count ≡ length lists → slice ≡ edges
     → ((n b : ℕ) → n < count → b < bits → (has_bit work b n ≡ true) ↔ Leads (StepAlong slice) (has_bit seeds b) (has_bit stops b) n)
-    → (c b : ℕ) → c < length lists → b < bits → (has_bit work b c ≡ true) ↔ Leads (StepAlong edges) (λ k. passed_all (seed b) (stop b) false (path k)) (λ k. blocks_some (stop b) (path k)) c
+    → (c b : ℕ) → c < length lists → b < bits → (has_bit work b c ≡ true) ↔ Leads (StepAlong edges) (λ k. passed_all (seed b) (stop b) false (path k)) (λ k. list_any (stop b) (path k)) c
 led_blocks against nodes lists bits count edges slice firsts path seed stop seeds stops work between passed stopped count_is slice_is leads c b h l =
     let was : (has_bit work b c ≡ true) ↔ Leads (StepAlong edges) (has_bit seeds b) (has_bit stops b) c
     = subst (λ (s : List Edge). (has_bit work b c ≡ true) ↔ Leads (StepAlong s) (has_bit seeds b) (has_bit stops b) c) slice_is (leads c b (rw count_is h) l) in (
-      λ on. leads_same (length lists) (StepAlong edges) (has_bit seeds b) (λ k. passed_all (seed b) (stop b) false (path k)) (has_bit stops b) (λ k. blocks_some (stop b) (path k)) within (λ n h'. passed.are n b h' l) (λ n h'. stopped.are n b h' l) c h (was.0 on),
-      λ led. was.1 (leads_same (length lists) (StepAlong edges) (λ k. passed_all (seed b) (stop b) false (path k)) (has_bit seeds b) (λ k. blocks_some (stop b) (path k)) (has_bit stops b) within (λ n h'. sym (passed.are n b h' l)) (λ n h'. sym (stopped.are n b h' l)) c h led),
+      λ on. leads_same (length lists) (StepAlong edges) (has_bit seeds b) (λ k. passed_all (seed b) (stop b) false (path k)) (has_bit stops b) (λ k. list_any (stop b) (path k)) within (λ n h'. passed.are n b h' l) (λ n h'. stopped.are n b h' l) c h (was.0 on),
+      λ led. was.1 (leads_same (length lists) (StepAlong edges) (λ k. passed_all (seed b) (stop b) false (path k)) (has_bit seeds b) (λ k. list_any (stop b) (path k)) (has_bit stops b) within (λ n h'. sym (passed.are n b h' l)) (λ n h'. sym (stopped.are n b h' l)) c h led),
     )
   where
     within : (m n : ℕ) → StepAlong edges m n → n < length lists

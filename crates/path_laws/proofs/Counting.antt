@@ -2,6 +2,7 @@
 use Rattle.std.proofs.Common.{◌≡◌, ℕ, zero, suc, ◌+◌, ◌<◌, ◌≤◌, ◌⊎◌, inl, inr, Bool, true, false, cond, nat_eq, List, [], ◌∷◌, length, slice_get, Some, refl, sym, ap, subst, arith, ◌∙◌}
 use Rattle.std.proofs.lemmas.Bool.{cases_eq, cases_lt, eq-eqb, ne_eqb, lt-ltb, le-ltb, or_right}
 use Rattle.std.proofs.lemmas.Option.{slice_get-get_or}
+use Rattle.std.specs.List.{list_any}
 use Rattle.flow_graph.specs.declared.edges.Edge.{Edge}
 use Rattle.flow_graph.specs.declared.nodes.Node.{Node}
 use Rattle.flow_graph.specs.BlockLaws.{one_block}
@@ -13,7 +14,7 @@ use Rattle.flow_graph.specs.PathLaws.{first_begins, begins_first}
 use Rattle.flow_graph.specs.Paths.{Begins, Ends, HasEdge}
 use Rattle.path_laws.specs.Between.{IsAhead, ahead_of, count_at, end_at, out_below}
 use Rattle.node_list.specs.Lists.{list_at}
-use Rattle.path_laws.specs.Crossings.{begins_with, crosses, crossings, ends_with, some_list}
+use Rattle.path_laws.specs.Crossings.{begins_with, crosses, crossings, ends_with}
 use Rattle.flow_graph.specs.FlowEdges.{first_among}
 use Rattle.flow_graph.specs.BoundLaws.{slot_within}
 use Rattle.path_laws.proofs.Runs.{enters_first, steps_ahead}
@@ -124,10 +125,10 @@ module _ (way : Bool) (nodes : List Node) (lists : List (List ℕ)) (are : IsBlo
   ]
 
 -- a test that holds of one list holds of some list
-some_at : (test : List ℕ → Bool) (lists : List (List ℕ)) (b : ℕ) (list : List ℕ) → slice_get lists b ≡ Some list → test list ≡ true → some_list test lists ≡ true
+some_at : (test : List ℕ → Bool) (lists : List (List ℕ)) (b : ℕ) (list : List ℕ) → slice_get lists b ≡ Some list → test list ≡ true → list_any test lists ≡ true
 some_at test [] b list e on = cc
 some_at test (l ∷ lists) zero list e on = let same : l ≡ list = cc in rw (same, on) refl
-some_at test (l ∷ lists) (suc b) list e on = or_right (test l) (some_list test lists) (some_at test lists b list e on)
+some_at test (l ∷ lists) (suc b) list e on = or_right (test l) (list_any test lists) (some_at test lists b list e on)
 
 -- the computed tests agree with the propositions, here that a list begins with a node
 begins_true : (list : List ℕ) (n : ℕ) → Begins n list → begins_with n list ≡ true

@@ -4,18 +4,19 @@ use Rattle.std.proofs.Math.Bool.{or-false, or-true, or_comm}
 use Rattle.std.proofs.lemmas.Bool.{cases_eq}
 use Rattle.std.proofs.lemmas.List.{get_or-map, get_or-replicate, length-map, length-replicate, take_all}
 use Rattle.std.proofs.lemmas.Option.{slice_get-get_or}
+use Rattle.std.specs.List.{list_any}
 use Rattle.flow_graph.specs.ListLaws.{take_next}
 use Rattle.node_list.specs.Lists.{list_at}
 use Rattle.bit_rows.specs.BitLaws.{length_minus, length_not, length_or, minus_bit, not_bit, or_bit}
 use Rattle.bit_rows.specs.Bits.{minus_bits, not_bits, or_bits, row_of}
 use Rattle.flow_graph.specs.declared.nodes.Node.{Node}
-use Rattle.path_laws.specs.Blockwise.{AreBlockedByPaths, blocks_some, flow_order, passed, passed_all}
+use Rattle.path_laws.specs.Blockwise.{AreBlockedByPaths, flow_order, passed, passed_all}
 use Rattle.path_laws.specs.Paths.{AreRows, has_bit}
 use Rattle.path_laws.specs.declared.problems.Problem.{Problem}
 use Rattle.path_laws.specs.Problem.{IsProblem, block_seeds, is_blocked, is_seed, orders, row_after, row_through}
 use Rattle.path_laws.specs.RowLaws.{Written, put, written_shape}
 use Rattle.path_laws.specs.Seeds.{blocks_of, is_end, passed_row, seeds_of}
-use Rattle.path_laws.proofs.Chains.{blocks_append}
+use Rattle.std.proofs.lemmas.List.Folds.{list_any-append}
 use Rattle.path_laws.proofs.Complements.{seed_bit}
 use Rattle.path_laws.proofs.Places.{flow_within}
 use Rattle.path_laws.proofs.Pushing.{pushed_before, pushed_last, pushed_shape}
@@ -205,16 +206,16 @@ module _ (count bits : ℕ) (paths : ℕ → List ℕ) (stops : List (List Bool)
   -- the last row of blocks says which bits so many nodes of its block block, and the others are whole
   pub record AreStoppedTo (place : ℕ) (rows : List (List Bool)) : Type 0 where
     pub shape : AreRows (count + 1) bits rows
-    pub whole : (c b : ℕ) → c < count → b < bits → has_bit rows b c ≡ blocks_some (has_bit stops b) (paths c)
-    pub part : (b : ℕ) → b < bits → has_bit rows b count ≡ blocks_some (has_bit stops b) (take place (paths count))
+    pub whole : (c b : ℕ) → c < count → b < bits → has_bit rows b c ≡ list_any (has_bit stops b) (paths c)
+    pub part : (b : ℕ) → b < bits → has_bit rows b count ≡ list_any (has_bit stops b) (take place (paths count))
 
   -- what the nodes up to a place block, and the one there, the nodes up to the next place block
-  one_more_blocks : (b place n : ℕ) → slice_get (paths count) place ≡ Some n → (blocks_some (has_bit stops b) (take place (paths count)) || has_bit stops b n) ≡ blocks_some (has_bit stops b) (take (place + 1) (paths count))
+  one_more_blocks : (b place n : ℕ) → slice_get (paths count) place ≡ Some n → (list_any (has_bit stops b) (take place (paths count)) || has_bit stops b n) ≡ list_any (has_bit stops b) (take (place + 1) (paths count))
   one_more_blocks b place n at =
       let one : place + 1 ≡ suc place = omega arith in
-      ap (λ v. blocks_some (has_bit stops b) (take place (paths count)) || v) (sym (or-false (has_bit stops b n)))
-      ∙ sym (blocks_append (has_bit stops b) (take place (paths count)) (n ∷ []))
-      ∙ sym (ap (blocks_some (has_bit stops b)) (ap (λ k. take k (paths count)) one ∙ take_next (paths count) place n at))
+      ap (λ v. list_any (has_bit stops b) (take place (paths count)) || v) (sym (or-false (has_bit stops b n)))
+      ∙ sym (list_any-append (has_bit stops b) (take place (paths count)) (n ∷ []))
+      ∙ sym (ap (list_any (has_bit stops b)) (ap (λ k. take k (paths count)) one ∙ take_next (paths count) place n at))
 
   -- the row of the first node is put at the end
   module _ (n : ℕ) (rows after : List (List Bool)) (are : AreBlockedByPaths count bits paths (has_bit stops) rows) (long : length (row_of stops n) ≡ bits) (is : after ≡ rows ++ row_of stops n ∷ []) where
@@ -245,8 +246,8 @@ module _ (count bits : ℕ) (paths : ℕ → List ℕ) (stops : List (List Bool)
   pub stopped_all : (place : ℕ) (rows : List (List Bool)) → AreStoppedTo place rows → length (paths count) ≤ place → AreBlockedByPaths (count + 1) bits paths (has_bit stops) rows
   stopped_all place rows are late = record {
     shape = are.shape;
-    are = λ c b h l. elim (cases_eq c count) as (λ _. has_bit rows b c ≡ blocks_some (has_bit stops b) (paths c)) [
-      | inl e ↦ rw e (are.part b l ∙ ap (blocks_some (has_bit stops b)) (take_all place (paths count) late))
+    are = λ c b h l. elim (cases_eq c count) as (λ _. has_bit rows b c ≡ list_any (has_bit stops b) (paths c)) [
+      | inl e ↦ rw e (are.part b l ∙ ap (list_any (has_bit stops b)) (take_all place (paths count) late))
       | inr d ↦ are.whole c b (omega (arith, h, d)) l
     ];
   }

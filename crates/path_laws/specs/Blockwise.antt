@@ -1,6 +1,7 @@
 -- A bit along the nodes of a block, in the order in which the flow passes them: what comes out of a node, of a block,
 -- and what a block does to it as a whole. Cited by contracts.
 use Rattle.std.specs.Prelude.{◌≡◌, ℕ, ◌<◌, Bool, true, false, not, ◌||◌, ◌&&◌, List, [], ◌∷◌, length, reverse}
+use Rattle.std.specs.List.{list_any}
 use Rattle.flow_graph.specs.declared.nodes.Node.{Node}
 use Rattle.flow_graph.specs.Paths.{HasEdge}
 use Rattle.path_laws.specs.Leads.{Leads, steps_of}
@@ -14,11 +15,6 @@ passed seed block n x = seed n || (x && not (block n))
 abbrev pub passed_all : (ℕ → Bool) → (ℕ → Bool) → Bool → List ℕ → Bool
 passed_all seed block x [] = x
 passed_all seed block x (n ∷ path) = passed_all seed block (passed seed block n x) path
-
--- whether some of these nodes blocks
-abbrev pub blocks_some : (ℕ → Bool) → List ℕ → Bool
-blocks_some block [] = false
-blocks_some block (n ∷ path) = block n || blocks_some block path
 
 -- the nodes of a block in the order of the flow: along the edges as they are passed, against them the other way round
 abbrev pub flow_order : Bool → List ℕ → List ℕ
@@ -34,7 +30,7 @@ HasAnswer false nodes seed block n = (m : ℕ) × HasEdge nodes m n × Leads (st
 -- the row of each block says which bits some of these nodes blocks
 pub record AreBlockedByPaths (count bits : ℕ) (paths : ℕ → List ℕ) (stop : ℕ → ℕ → Bool) (rows : List (List Bool)) : Type 0 where
   pub shape : AreRows count bits rows
-  pub are : (c b : ℕ) → c < count → b < bits → has_bit rows b c ≡ blocks_some (stop b) (paths c)
+  pub are : (c b : ℕ) → c < count → b < bits → has_bit rows b c ≡ list_any (stop b) (paths c)
 
 -- ---- answers
 

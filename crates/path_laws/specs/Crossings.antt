@@ -1,5 +1,6 @@
 -- How many edges lead from the last node of a block to the first of one. Cited by contracts.
-use Rattle.std.specs.Prelude.{ℕ, ◌+◌, ◌*◌, nat_eq, if◌then◌else◌, Bool, false, ◌||◌, ◌&&◌, List, [], ◌∷◌}
+use Rattle.std.specs.Prelude.{ℕ, ◌+◌, ◌*◌, nat_eq, if◌then◌else◌, Bool, false, ◌&&◌, List, [], ◌∷◌}
+use Rattle.std.specs.List.{list_any}
 use Rattle.flow_graph.specs.declared.edges.Edge.{Edge}
 use Rattle.flow_graph.specs.Blocks.{BlocksShape}
 use Rattle.flow_graph.specs.Edges.{EdgesShape}
@@ -16,14 +17,9 @@ ends_with n [] = false
 ends_with n (m ∷ []) = nat_eq m n
 ends_with n (m ∷ k ∷ list) = ends_with n (k ∷ list)
 
--- whether some list is such
-abbrev pub some_list : (List ℕ → Bool) → List (List ℕ) → Bool
-some_list test [] = false
-some_list test (list ∷ lists) = test list || some_list test lists
-
 -- whether an edge leads from the last node of a block to the first of one
 abbrev pub crosses : List (List ℕ) → Edge → Bool
-crosses lists edge = some_list (ends_with edge.source) lists && some_list (begins_with edge.target) lists
+crosses lists edge = list_any (ends_with edge.source) lists && list_any (begins_with edge.target) lists
 
 -- how many of these edges do
 abbrev pub crossings : List (List ℕ) → List Edge → ℕ

@@ -6,7 +6,8 @@ use Rattle.fix_solve.specs.Order.{OrderLaws, IsLeastUpper}
 use Rattle.bit_rows.specs.BitLaws.{length_minus}
 use Rattle.bit_rows.specs.Bits.{or_bits, minus_bits}
 use Rattle.fix_solve.specs.Pointwise.{pointwise_antisym, pointwise_length, pointwise_refl, pointwise_rises, pointwise_trans}
-use Rattle.path_laws.specs.Order.{BelowBits, BelowBit, bit_rank, trues}
+use Rattle.flow_graph.specs.Sums.{one_if}
+use Rattle.path_laws.specs.Order.{BelowBits, BelowBit, trues}
 
 -- the order is reflexive
 pub below_refl : (xs : List Bool) → BelowBits xs xs
@@ -31,7 +32,7 @@ pub below_length : (xs ys : List Bool) → BelowBits xs ys → length xs ≡ len
 below_length = pointwise_length BelowBit
 
 -- a bit that implies another and differs from it is false, and the other is true
-bit_rises : (x y : Bool) → BelowBit x y → (x ≡ y) ⊎ (bit_rank x < bit_rank y)
+bit_rises : (x y : Bool) → BelowBit x y → (x ≡ y) ⊎ (one_if x < one_if y)
 bit_rises true true h = inl refl
 bit_rises true false h = let bad : false ≡ true = h refl in absurd (cc)
 bit_rises false true h = inr (omega arith)
@@ -39,7 +40,7 @@ bit_rises false false h = inl refl
 
 -- the number of true places rises, and the rows are the same or it rises strictly
 trues_rise : (xs ys : List Bool) → BelowBits xs ys → (xs ≡ ys) ⊎ (trues xs < trues ys)
-trues_rise = pointwise_rises BelowBit bit_rank bit_rises
+trues_rise = pointwise_rises BelowBit one_if bit_rises
 
 -- a row that lies below another and differs from it has fewer true bits
 trues_rise_strictly : (xs ys : List Bool) → BelowBits xs ys → xs ≢ ys → trues xs < trues ys

@@ -1,13 +1,14 @@
 -- A path problem as its functions see it: what holds of it, and what the rows on the way to its answers say. Cited by
 -- contracts.
 use Rattle.std.specs.Prelude.{◌≡◌, ℕ, ◌+◌, ◌*◌, ◌<◌, ◌↔◌, Bool, true, false, List, [], ◌∷◌, length, map, replicate, slice_get, Some}
+use Rattle.std.specs.List.{list_any}
 use Rattle.flow_graph.specs.declared.edges.Edge.{Edge}
 use Rattle.flow_graph.specs.Graphs.{IsGraph}
 use Rattle.node_list.specs.Lists.{list_at}
 use Rattle.path_laws.specs.declared.between.BlockEdges.{BlockEdges}
 use Rattle.path_laws.specs.declared.problems.Problem.{Problem}
 use Rattle.path_laws.specs.Between.{AreBetween, AreBlockEdges}
-use Rattle.path_laws.specs.Blockwise.{AreGrowing, AreBlockedByPaths, HasAnswer, IsWhole, initial_bit, blocks_some, brought, flow_order, handed_on, passed_all}
+use Rattle.path_laws.specs.Blockwise.{AreGrowing, AreBlockedByPaths, HasAnswer, IsWhole, initial_bit, brought, flow_order, handed_on, passed_all}
 use Rattle.path_laws.specs.Crossings.{push_room}
 use Rattle.path_laws.specs.Leads.{Leads}
 use Rattle.flow_graph.specs.FlowEdges.{StepAlong}
@@ -68,7 +69,7 @@ HaveBlocked p count rows = AreBlockedByPaths count p.bits (orders p) (is_blocked
 
 -- these rows say to which blocks each bit comes over these edges from a block that seeds it
 abbrev pub AreLed : Problem → List Edge → List (List Bool) → Type 0
-AreLed p edges rows = (c b : ℕ) → c < length p.blocks.now.lists → b < p.bits → (has_bit rows b c ≡ true) ↔ Leads (StepAlong edges) (λ k. passed_all (is_seed p b) (is_blocked p b) false (orders p k)) (λ k. blocks_some (is_blocked p b) (orders p k)) c
+AreLed p edges rows = (c b : ℕ) → c < length p.blocks.now.lists → b < p.bits → (has_bit rows b c ≡ true) ↔ Leads (StepAlong edges) (λ k. passed_all (is_seed p b) (is_blocked p b) false (orders p k)) (λ k. list_any (is_blocked p b) (orders p k)) c
 
 -- rows of nodes as the answers begin
 pub record AreInitial (p : Problem) (rows : List (List Bool)) : Type 0 where

@@ -31,7 +31,7 @@ pub(crate) fn answers<L: Ledger>(
     ensures graph { OnOk result (HasGraph problem.now) }
     ensures shape { IfOk result (HaveBornShape problem.now) }
     ensures answers { IfOk result (AreSolved problem.now) }
-    ensures pushes { OnOk result (steps.new ≤ steps.old + born_room problem.now) }
+    ensures pushes { steps.new ≤ steps.old + born_room problem.now }
     ensures counts { steps.old ≤ steps.new }
 {
     let _nodes = problem.graph.nodes();
@@ -58,7 +58,7 @@ fn led<L: Ledger>(
     requires between { HasBetween problem.now between.now }
     ensures shape { IfOk result (HaveBlockShape problem.now) }
     ensures leads { IfOk result (AreLed problem.now between.now.edges.items) }
-    ensures pushes { OnOk result (steps.new ≤ steps.old + room_along problem.now between.now) }
+    ensures pushes { steps.new ≤ steps.old + room_along problem.now between.now }
     ensures counts { steps.old ≤ steps.new }
 {
     let stops = blocked_by_blocks(alloc, problem)?;

@@ -1,5 +1,5 @@
 // Rows by variables, and the rows by nodes that are made of them.
-ghost use Rattle.std.specs.Prelude.{◌≡◌, ℕ, ◌<◌, [], ◌∷◌, ◌++◌, true, length, replicate, IfOk, OnOk, Some};
+ghost use Rattle.std.specs.Prelude.{◌≡◌, ℕ, ◌<◌, [], ◌∷◌, ◌++◌, true, length, replicate, IfOk, OnErr, OnOk, Some};
 ghost use Rattle.mir_base.specs.Shapes.{AllBelow, operand_vars};
 ghost use Rattle.bit_rows.specs.Bits.{AreEquallyLong, row_of};
 ghost use Rattle.flow_graph.specs.Graphs.{HaveVarsBelow, node_vars};
@@ -54,10 +54,11 @@ fn push_assigned(
     }
 }
 
-/// Puts a row of so many bits, all true, at the end. It fails only with `Memory`.
+/// Puts a row of so many bits, all true, at the end. It fails only with `Memory`, and the rows are then as they were.
 pub fn push_true(rows: &mut Rows, bits: usize) -> Result<(), Memory>
     requires { AreEquallyLong bits rows.old }
-    ensures { OnOk result (rows.new ≡ rows.old ++ replicate bits true ∷ []) }
+    ensures ok { OnOk result (rows.new ≡ rows.old ++ replicate bits true ∷ []) }
+    ensures err { OnErr result (rows.new ≡ rows.old) }
 {
     let last = rows.len();
     rows.push_false(bits)?;
@@ -67,7 +68,7 @@ pub fn push_true(rows: &mut Rows, bits: usize) -> Result<(), Memory>
 
 /// Sets the bit of this number in the row of the variable, where it has a row. It does not allocate.
 pub fn mark_var(rows: &mut Rows, number: usize, x: usize)
-    requires { (x : ℕ) → x < length rows.old → number < length (row_of rows.old x) }
+    requires { (row : ℕ) → row < length rows.old → number < length (row_of rows.old row) }
     ensures { SetsBitAt number (x ∷ []) rows.old rows.new }
 {
     if x < rows.len() {
@@ -77,7 +78,7 @@ pub fn mark_var(rows: &mut Rows, number: usize, x: usize)
 
 /// Sets the bit of this number in the row of the operand, where it is a variable that has a row. It does not allocate.
 pub fn mark_operand(rows: &mut Rows, number: usize, operand: Operand)
-    requires { (x : ℕ) → x < length rows.old → number < length (row_of rows.old x) }
+    requires { (row : ℕ) → row < length rows.old → number < length (row_of rows.old row) }
     ensures { SetsBitAt number (operand_vars operand) rows.old rows.new }
 {
     match operand {

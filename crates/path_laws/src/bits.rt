@@ -132,7 +132,7 @@ pub(crate) fn least<L: Ledger>(
     requires { IsInOrder flow.now }
     ensures shape { IfOk result (AreRows flow.now.nodes flow.now.bits) }
     ensures leads { IfOk result (AreLedBy flow.now) }
-    ensures pushes { OnOk result (steps.new ≤ steps.old + most_pushes (net_of flow.now)) }
+    ensures pushes { steps.new ≤ steps.old + most_pushes (net_of flow.now) }
     ensures counts { steps.old ≤ steps.new }
 {
     let mut work = Work::new(alloc, flow)?;

@@ -56,7 +56,7 @@ pub fn forward_all_in<L: Ledger>(
     requires stop { HaveShape graph.now (width born.now) stop.now }
     ensures shape { IfOk result (HaveShape graph.now (width born.now)) }
     ensures paths { IfOk result (AreBornBefore graph.now born.now stop.now) }
-    ensures pushes { OnOk result (steps.new ≤ steps.old + push_room blocks.now edges.now born.now) }
+    ensures pushes { steps.new ≤ steps.old + push_room blocks.now edges.now born.now }
     ensures counts { steps.old ≤ steps.new }
 {
     let statement = Statement::Before;
@@ -103,7 +103,7 @@ pub fn backward_all_in<L: Ledger>(
     requires stop { HaveShape graph.now (width born.now) stop.now }
     ensures shape { IfOk result (HaveShape graph.now (width born.now)) }
     ensures paths { IfOk result (AreBornAfter graph.now born.now stop.now) }
-    ensures pushes { OnOk result (steps.new ≤ steps.old + push_room blocks.now edges.now born.now) }
+    ensures pushes { steps.new ≤ steps.old + push_room blocks.now edges.now born.now }
     ensures counts { steps.old ≤ steps.new }
 {
     let statement = Statement::After;
@@ -147,7 +147,7 @@ pub fn backward_some_in<L: Ledger>(
     requires stop { HaveShape graph.now (width born.now) stop.now }
     ensures shape { IfOk result (HaveShape graph.now (width born.now)) }
     ensures paths { IfOk result (AreBornAhead graph.now born.now stop.now) }
-    ensures pushes { OnOk result (steps.new ≤ steps.old + push_room blocks.now edges.now born.now) }
+    ensures pushes { steps.new ≤ steps.old + push_room blocks.now edges.now born.now }
     ensures counts { steps.old ≤ steps.new }
 {
     let statement = Statement::Ahead;
@@ -222,7 +222,7 @@ fn told_in<L: Ledger>(
     requires blocks { AreBlocksOf graph.now.nodes blocks.now }
     ensures shape { IfOk result (HaveShape graph.now (width born.now)) }
     ensures told { IfOk result (AreTold statement graph.now born.now stop.now) }
-    ensures pushes { OnOk result (steps.new ≤ steps.old + push_room blocks.now edges.now born.now) }
+    ensures pushes { steps.new ≤ steps.old + push_room blocks.now edges.now born.now }
     ensures counts { steps.old ≤ steps.new }
 {
     let problem = Problem {

@@ -11,6 +11,42 @@ use flow_graph::{Edges, Graph};
 use mir_base::Memory;
 use std::alloc::Global;
 
+/// Bit b at node n is true exactly where some predecessor of n has it. Rows go by nodes, and have equally many bits;
+/// `edges` are those of `graph`. It fails only with `Memory`.
+pub fn some_predecessor(
+    alloc: Global,
+    graph: &Graph,
+    edges: &Edges,
+    rows: &Rows,
+) -> Result<Rows, Memory>
+    requires edges { edges.now ≡ edges_of graph.now.nodes }
+    requires rows { HaveShape graph.now (width rows.now) rows.now }
+    ensures graph { OnOk result (IsGraph graph.now.vars graph.now.received graph.now.nodes) }
+    ensures shape { IfOk result (HaveShape graph.now (width rows.now)) }
+    ensures joins { IfOk result (TellEach graph.now (SomePred graph.now.nodes rows.now)) }
+{
+    let all = one_step_on(alloc, graph, edges, false, rows.bits(), rows)?;
+    Ok(all)
+}
+
+/// Bit b at node n is true exactly where some successor of n has it. Rows go by nodes, and have equally many bits;
+/// `edges` are those of `graph`. It fails only with `Memory`.
+pub fn some_successor(
+    alloc: Global,
+    graph: &Graph,
+    edges: &Edges,
+    rows: &Rows,
+) -> Result<Rows, Memory>
+    requires edges { edges.now ≡ edges_of graph.now.nodes }
+    requires rows { HaveShape graph.now (width rows.now) rows.now }
+    ensures graph { OnOk result (IsGraph graph.now.vars graph.now.received graph.now.nodes) }
+    ensures shape { IfOk result (HaveShape graph.now (width rows.now)) }
+    ensures joins { IfOk result (TellEach graph.now (SomeSucc graph.now.nodes rows.now)) }
+{
+    let all = one_step_on(alloc, graph, edges, true, rows.bits(), rows)?;
+    Ok(all)
+}
+
 /// At which nodes each bit is true one step on, from a node to a successor, or, against the edges, to a predecessor.
 fn one_step_on(
     alloc: Global,
@@ -64,40 +100,4 @@ fn push_step(
     } else {
         all.push_false(bits)
     }
-}
-
-/// Bit b at node n is true exactly where some predecessor of n has it. Rows go by nodes, and have equally many bits;
-/// `edges` are those of `graph`. It fails only with `Memory`.
-pub fn some_predecessor(
-    alloc: Global,
-    graph: &Graph,
-    edges: &Edges,
-    rows: &Rows,
-) -> Result<Rows, Memory>
-    requires edges { edges.now ≡ edges_of graph.now.nodes }
-    requires rows { HaveShape graph.now (width rows.now) rows.now }
-    ensures graph { OnOk result (IsGraph graph.now.vars graph.now.received graph.now.nodes) }
-    ensures shape { IfOk result (HaveShape graph.now (width rows.now)) }
-    ensures joins { IfOk result (TellEach graph.now (SomePred graph.now.nodes rows.now)) }
-{
-    let all = one_step_on(alloc, graph, edges, false, rows.bits(), rows)?;
-    Ok(all)
-}
-
-/// Bit b at node n is true exactly where some successor of n has it. Rows go by nodes, and have equally many bits;
-/// `edges` are those of `graph`. It fails only with `Memory`.
-pub fn some_successor(
-    alloc: Global,
-    graph: &Graph,
-    edges: &Edges,
-    rows: &Rows,
-) -> Result<Rows, Memory>
-    requires edges { edges.now ≡ edges_of graph.now.nodes }
-    requires rows { HaveShape graph.now (width rows.now) rows.now }
-    ensures graph { OnOk result (IsGraph graph.now.vars graph.now.received graph.now.nodes) }
-    ensures shape { IfOk result (HaveShape graph.now (width rows.now)) }
-    ensures joins { IfOk result (TellEach graph.now (SomeSucc graph.now.nodes rows.now)) }
-{
-    let all = one_step_on(alloc, graph, edges, true, rows.bits(), rows)?;
-    Ok(all)
 }

@@ -1,6 +1,6 @@
 use Rattle.std.proofs.Common.{◌<◌, ◌∙◌, [], ap, sym, subst, map, reverse, flat_map, length, slice_index_or}
 use Rattle.mir_base.specs.Shapes.{AllBelow, inst_vars}
-use Rattle.flow_graph.specs.Numbering.{position, renamed, seen_in}
+use Rattle.flow_graph.specs.Numbering.{first_index, renamed, seen_in}
 use Rattle.flow_graph.specs.Layouts.{plain_body}
 use Rattle.flow_graph.specs.Placing.{Seen}
 use Rattle.flow_graph.proofs.Laid.{body_low, first_low, seen_low, laid_by}
@@ -29,6 +29,6 @@ pub returns : goal.returns
 returns c =
     let e = c.in_ok-plain.ensures ∙ ap (λ l. plain_body c.args.received.now c.args.nodes.now (reverse l)) c.as_slice-2.ensures.value in
     let seen = ap (λ (s : Seen). s.seen) c.in_ok-seen.ensures ∙ ap seen_in c.as_slice-4.ensures.value in
-    let body = c.in_ok-body.ensures ∙ ap (map (renamed (position c.in_ok-seen.seen.seen))) c.as_slice-5.ensures.value in
+    let body = c.in_ok-body.ensures ∙ ap (map (renamed (first_index c.in_ok-seen.seen.seen))) c.as_slice-5.ensures.value in
     let names = c.in_ok-names.ensures ∙ ap (map (λ x. slice_index_or c.args.vars.now x [])) c.seen-2.ensures in
     laid_by c.args.vars.now c.args.received.now c.args.nodes.now (reverse c.in_ok-items.items.items) c.start_succ.result c.in_ok-plain.plain.items c.in_ok-body.body.items c.in_ok-seen.seen.seen c.in_ok-names.names.items c.start_succ.ensures c.in_ok-items.ensures.plan c.in_ok-items.ensures.complete e seen body names

@@ -1,6 +1,6 @@
 use Rattle.std.proofs.Common.{◌≡◌, ◌∙◌, ℕ, List, [], ap, sym, subst, map, flat_map, length, slice_index_or}
 use Rattle.mir_base.specs.Shapes.{AllBelow, IsTidy, inst_vars}
-use Rattle.flow_graph.specs.Numbering.{position, renamed, renumbered, seen_in}
+use Rattle.flow_graph.specs.Numbering.{first_index, renamed, renumbered, seen_in}
 use Rattle.flow_graph.specs.Placing.{Seen}
 use Rattle.flow_graph.proofs.Renames.{renumbered_tidy, seen_below}
 use Rattle.flow_graph.proofs.tidying.tidied.Goals as goal
@@ -14,7 +14,7 @@ vars_are : (c : goal.After-of-3) → c.of-2.result ≡ map (λ x. slice_index_or
 vars_are c = c.of-2.ensures ∙ c.in_ok-names.ensures ∙ ap (map (λ x. slice_index_or c.args.vars.now x [])) (c.seen-2.ensures ∙ ap (λ (s : Seen). s.seen) c.in_ok-seen.ensures)
 
 body_is : (c : goal.After-of-3) → c.of-3.result ≡ renumbered c.args.body.now
-body_is c = c.of-3.ensures ∙ c.in_ok-insts.ensures ∙ ap (λ (s : List ℕ). map (renamed (position s)) c.args.body.now) (ap (λ (s : Seen). s.seen) c.in_ok-seen.ensures)
+body_is c = c.of-3.ensures ∙ c.in_ok-insts.ensures ∙ ap (λ (s : List ℕ). map (renamed (first_index s)) c.args.body.now) (ap (λ (s : Seen). s.seen) c.in_ok-seen.ensures)
 
 pub invariant_of-result : goal.invariant_of-result
 invariant_of-result c =
@@ -25,5 +25,5 @@ pub returns : goal.returns
 returns c =
     let seen = ap (λ (s : Seen). s.seen) c.in_ok-seen.ensures in
     let vars : c.of-2.result ≡ map (λ x. slice_index_or c.args.vars.now x []) (seen_in c.args.body.now) = c.of-2.ensures ∙ c.in_ok-names.ensures ∙ ap (map (λ x. slice_index_or c.args.vars.now x [])) (c.seen-2.ensures ∙ seen) in
-    let body : c.of-3.result ≡ renumbered c.args.body.now = c.of-3.ensures ∙ c.in_ok-insts.ensures ∙ ap (λ (s : List ℕ). map (renamed (position s)) c.args.body.now) seen in
+    let body : c.of-3.result ≡ renumbered c.args.body.now = c.of-3.ensures ∙ c.in_ok-insts.ensures ∙ ap (λ (s : List ℕ). map (renamed (first_index s)) c.args.body.now) seen in
     λ i. record { name = c.args.name; vars = vars i; body = body i }
