@@ -11,7 +11,7 @@ use Rattle.mir_base.specs.Runs.{Caller as CallerState, Running, returned}
 use Rattle.mir_interp.specs.declared.stack.Frame.{Frame}
 use Rattle.mir_interp.specs.declared.stack.Caller.{Caller}
 use Rattle.mir_interp.specs.declared.stack.Stack.{Stack}
-use Rattle.mir_interp.specs.Machines.{values_of, frame_of, callers_of, waiting, vars_at, AreCallers}
+use Rattle.mir_interp.specs.RunsSoFar.{values_of, frame_of, callers_of, waiting, vars_at, AreCallers}
 use Rattle.mir_base.specs.Shapes.{ProgramShape, AllBelow, into_vars}
 
 -- the frame of these

@@ -7,7 +7,7 @@ use Rattle.mir_base.specs.declared.instructions.Operand.TheVariants.{Var, Const}
 use Rattle.mir_base.specs.Shapes.{AllBelow, operand_vars}
 use Rattle.mir_base.specs.BelowLaws.{all_below_item}
 use Rattle.mir_base.specs.Units.{operand_value}
-use Rattle.mir_interp.specs.Machines.{values_of}
+use Rattle.mir_interp.specs.RunsSoFar.{values_of}
 
 -- each of the operands
 pub operand_below : (m : ℕ) (operands : List Operand) (i : ℕ) (d : Operand) → i < length operands → AllBelow m (flat_map operand_vars operands) → AllBelow m (operand_vars (get_or operands i d))

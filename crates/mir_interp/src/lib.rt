@@ -5,9 +5,9 @@
 //! steps or at its end, whichever is first.
 #![tactic(auto)]
 
-mod machine;
 mod report;
 mod runs;
+mod so_far;
 mod stack;
 
 pub use report::{Finish, Report, RunFault};

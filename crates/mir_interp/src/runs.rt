@@ -1,10 +1,10 @@
 // Whole runs, with a bound on their steps.
 ghost use Rattle.std.specs.Prelude.{◌≡◌, ◌<◌, length, IfOk};
 ghost use Rattle.mir_base.specs.Runs.{first_state, inputs_of};
-ghost use Rattle.mir_interp.specs.Machines.{IsMachine, state_of};
+ghost use Rattle.mir_interp.specs.RunsSoFar.{IsRunSoFar, state_of};
 ghost use Rattle.mir_interp.specs.Reports.{IsRunAnswer};
 
-use crate::machine::Machine;
+use crate::so_far::RunSoFar;
 use crate::stack::Stack;
 use crate::{Finish, Report, RunFault};
 use mir_base::{Items, Memory, Program};
@@ -23,26 +23,26 @@ pub fn run(alloc: Global, program: &Program, inputs: &[i64], steps: u64) -> Resu
     if inputs.len() != wanted {
         return Err(RunFault::WrongInputs { wanted });
     }
-    let mut machine = start(alloc, program, inputs)?;
+    let mut so_far = start(alloc, program, inputs)?;
     for _ in 0..steps {
-        match machine.step(program)? {
+        match so_far.step(program)? {
             Finish::Running => {}
-            Finish::Ended(result) => return Ok(report(machine, Finish::Ended(result))),
-            Finish::Trapped(kind) => return Ok(report(machine, Finish::Trapped(kind))),
+            Finish::Ended(result) => return Ok(report(so_far, Finish::Ended(result))),
+            Finish::Trapped(kind) => return Ok(report(so_far, Finish::Trapped(kind))),
         }
     }
-    Ok(report(machine, Finish::Running))
+    Ok(report(so_far, Finish::Running))
 }
 
 /// The run at its start: a frame of the first unit, whose arguments are the inputs.
-fn start(alloc: Global, program: &Program, inputs: &[i64]) -> Result<Machine, Memory>
+fn start(alloc: Global, program: &Program, inputs: &[i64]) -> Result<RunSoFar, Memory>
     requires some_unit { 0 < length program.now.units }
     requires inputs { length inputs.now ≡ inputs_of program.now }
-    ensures state { IfOk result (λ machine.
-        state_of machine Finish.Running ≡ first_state inputs.now) }
-    ensures machine { IfOk result (λ machine. IsMachine program.now machine) }
+    ensures state { IfOk result (λ so_far.
+        state_of so_far Finish.Running ≡ first_state inputs.now) }
+    ensures so_far { IfOk result (λ so_far. IsRunSoFar program.now so_far) }
 {
-    Ok(Machine {
+    Ok(RunSoFar {
         printed: Vec::new(alloc),
         stack: Stack::new(alloc, program, inputs)?,
         counted: 0,
@@ -50,15 +50,15 @@ fn start(alloc: Global, program: &Program, inputs: &[i64]) -> Result<Machine, Me
     })
 }
 
-/// The report of a machine whose run stands so.
-fn report(machine: Machine, finish: Finish) -> Report
-    ensures lines { result.lines ≡ machine.printed.items }
+/// The report of the run so far, which stands so.
+fn report(so_far: RunSoFar, finish: Finish) -> Report
+    ensures lines { result.lines ≡ so_far.printed.items }
     ensures finish { result.finish ≡ finish }
-    ensures evals { result.evals ≡ machine.counted }
+    ensures evals { result.evals ≡ so_far.counted }
 {
     Report {
-        lines: Items::of(machine.printed),
+        lines: Items::of(so_far.printed),
         finish,
-        evals: machine.counted,
+        evals: so_far.counted,
     }
 }

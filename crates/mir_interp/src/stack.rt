@@ -4,7 +4,7 @@ ghost use Rattle.mir_base.specs.Frames.{first_frame};
 ghost use Rattle.mir_base.specs.Runs.{Control, inputs_of, returned};
 ghost use Rattle.mir_base.specs.Shapes.{AllBelow, ProgramShape, body_at, into_vars, operand_vars, receives_in};
 ghost use Rattle.mir_base.specs.Units.{assigned, at, operand_value};
-ghost use Rattle.mir_interp.specs.Machines.{IsStack, SameStackRoom, StaysStack, caller_of, control_of, entry_of, running, running_vars, values_of, waiting, with_running};
+ghost use Rattle.mir_interp.specs.RunsSoFar.{IsStack, SameStackRoom, StaysStack, caller_of, control_of, entry_of, running, running_vars, values_of, waiting, with_running};
 
 use crate::Finish;
 use mir_base::{Memory, Operand, Program};

@@ -1,4 +1,4 @@
--- Each piece behind a row that was scanned is scanned as that piece. For proofs only.
+-- Each piece behind pieces that were scanned is scanned as that piece. For proofs only.
 use Rattle.std.specs.List.{list_all, fold}
 use Rattle.mir_base.specs.Names.{is_name_byte, begins_as_name}
 use Rattle.mir_lex.specs.declared.words.Mark.{Mark}
@@ -21,7 +21,7 @@ use Rattle.mir_lex.proofs.Runs.{Lands, at_end, begin_blank, digits_run, goes_on,
 use Rattle.mir_lex.proofs.KindLemmas.{name_kind, small_number, word_facts}
 use Rattle.mir_base.specs.NameLaws.{name_shape}
 
--- ---- what is known of a row that was scanned
+-- ---- what is known of pieces that were scanned
 
 -- what is known where a piece begins
 pub record From (text prefix : List ℕ) (items : List Token) (previous : Previous) (line : ℕ) (tail : Pending) : Type 0 where

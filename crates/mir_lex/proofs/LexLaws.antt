@@ -8,7 +8,7 @@ use Rattle.mir_lex.specs.Spelling.{IsTokens, IsRefusal}
 use Rattle.mir_lex.specs.Scanner.{scanned}
 use Rattle.mir_lex.proofs.Sound.{EndsScan, scanned_ends}
 use Rattle.mir_lex.proofs.Stops.{bad_run}
-use Rattle.mir_lex.proofs.Rows.{pieces_refusal, pieces_tokens, refusal_pieces, tokens_pieces}
+use Rattle.mir_lex.proofs.SpelledPieces.{pieces_refusal, pieces_tokens, refusal_pieces, tokens_pieces}
 use Rattle.mir_lex.proofs.Complete.{tokens_run}
 
 -- ---- where the scan goes to the end of the text

@@ -3,7 +3,7 @@ mod Classes
 mod KindLemmas
 mod Marks
 mod Longest
-mod Rows
+mod SpelledPieces
 mod Placed
 mod Runs
 mod Lands

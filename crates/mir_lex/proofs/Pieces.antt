@@ -1,4 +1,4 @@
--- The row of a text as the scanner sees it: whether a piece goes on depends on the next byte alone. For proofs only.
+-- The pieces of a text as the scanner sees them: whether a piece goes on depends on the next byte alone. For proofs only.
 use Rattle.std.specs.Prelude.{ℕ, ◌≡◌, ◌+◌, ◌<◌, ◌==◌, Bool, true, false, ◌||◌, not, ◌⊎◌, List, [], ◌∷◌, ◌++◌, length, None}
 use Rattle.std.proofs.Common.{refl, subst, arith}
 use Rattle.std.specs.List.{list_all}
@@ -55,7 +55,7 @@ abbrev pub NotContinued : Pending → List ℕ → Type 0
 NotContinued tail [] = Unit {0}
 NotContinued tail (b ∷ rest) = continues tail b ≡ false
 
--- ---- pieces, and rows of them
+-- ---- pieces
 
 -- the bytes are a token of this kind, and may go on as the last argument says
 abbrev pub IsPieceToken : Previous → List ℕ → Kind → Pending → Type 0
@@ -65,7 +65,7 @@ IsPieceToken previous s (NumberKind z) tail = IsNumeral previous s × IsInRange 
 IsPieceToken previous s (MarkKind mark) tail = IsMark mark s × (tail ≡ open_of_mark previous mark)
 IsPieceToken previous s LineEndKind tail = ⊥
 
--- the bytes are a row of tokens, blanks and comments, with these tokens; the last of them, the line that the next
+-- the bytes are tokens, blanks, comments and line feeds, with these tokens; the last of them, the line that the next
 -- byte is on, and how the last piece may go on
 pub data Pieces : List ℕ → List Token → Previous → ℕ → Pending → Type 0 where
   no_piece : Pieces [] [] AfterLineEnd 1 Idle
@@ -88,7 +88,7 @@ pub record PiecesTokens (text : List ℕ) (items : List Token) : Type 0 where
   pub previous : Previous
   pub line : ℕ
   pub tail : Pending
-  pub row : Pieces text before previous line tail
+  pub pieces : Pieces text before previous line tail
   pub items_are : items ≡ with_line_end before previous line (length text) 0
 
 -- ---- refusals
@@ -135,7 +135,7 @@ pub record PieceRefusal (text : List ℕ) (bad : LexFault) : Type 0 where
   pub line : ℕ
   pub tail : Pending
   pub is : text ≡ prefix ++ rest
-  pub row : Pieces prefix items previous line tail
+  pub pieces : Pieces prefix items previous line tail
   pub ends : NotContinued tail rest
   pub stops : PieceStops previous rest line bad
 

@@ -1,4 +1,4 @@
--- The tokens of a row lie in the text, one behind the other, each on its line.
+-- The tokens of a text lie in it, one behind the other, each on its line.
 use Rattle.mir_lex.specs.declared.words.Kind.{Kind}
 use Rattle.mir_lex.specs.declared.words.Kind.TheVariants.{Name as NameKind, Word as WordKind, Number as NumberKind, Mark as MarkKind, LineEnd as LineEndKind}
 use Rattle.mir_lex.specs.declared.tokens.Token.{Token}
@@ -6,7 +6,7 @@ use Rattle.mir_lex.specs.declared.scan.Previous.{Previous}
 use Rattle.mir_lex.specs.declared.scan.Previous.TheVariants.{LineEnd as AfterLineEnd, Operand as AfterOperand, Other as AfterOther}
 use Rattle.std.proofs.Common.{◌≡◌, ℕ, ◌+◌, ◌≤◌, List, [], ◌∷◌, ◌++◌, length, take, drop, refl, sym, ◌∙◌, ap, subst, append_assoc, arith}
 use Rattle.std.proofs.lemmas.List.{append-nil, take_at, drop_at, length-append}
-use Rattle.mir_lex.specs.Spelling.{with_line_end, IsToken, comment_text, Row, start as row_start, token as row_token, blank as row_blank, comment as row_comment, line_feed as row_line_feed, IsTokens}
+use Rattle.mir_lex.specs.Spelling.{with_line_end, IsToken, comment_text, Spelled, start as spelled_start, token as spelled_token, blank as spelled_blank, comment as spelled_comment, line_feed as spelled_line_feed, IsTokens}
 use Rattle.mir_lex.specs.Tokens.{line_after, NameIsSpelled, IsTokenOf, EndsBefore, AreTokens}
 use Rattle.std.specs.List.{All}
 use Rattle.std.proofs.lemmas.List.Elements.{All-push, All-nil}
@@ -40,7 +40,7 @@ one_more text end later items token h is starts ends = record {
   before = All-push (λ token. token.start + token.length ≤ later) items token (λ k d short. let near = h.before k d short in omega (arith, near, starts, ends)) ends;
 }
 
--- ---- the tokens of a row
+-- ---- the tokens of a text
 
 -- the token of these bytes
 placed : (text prefix bytes rest : List ℕ) (kind : Kind) → text ≡ prefix ++ bytes ++ rest → NameIsSpelled kind bytes → IsTokenOf text (record { kind = kind; start = length prefix; length = length bytes; line = line_after prefix })
@@ -69,21 +69,21 @@ line_end text prefix bytes rest items AfterLineEnd is h = farther text (length p
 line_end text prefix bytes rest items AfterOperand is h = one_more text (length prefix) (length (prefix ++ bytes)) items _ h (placed text prefix bytes rest LineEndKind is tt) (omega arith) (omega (arith, length-append prefix bytes))
 line_end text prefix bytes rest items AfterOther is h = one_more text (length prefix) (length (prefix ++ bytes)) items _ h (placed text prefix bytes rest LineEndKind is tt) (omega arith) (omega (arith, length-append prefix bytes))
 
--- by the pieces of the row
-row_within : (text prefix : List ℕ) (items : List Token) (previous : Previous) → Row text prefix items previous → Within text (length prefix) items
-row_within _ _ _ _ (row_start {text}) = no_tokens text 0
-row_within _ _ _ _ (row_token {text} {prefix} {items} {previous} bytes after kind row split token longest) =
-    one_more text (length prefix) (length (prefix ++ bytes)) items _ (row_within text prefix items previous row) (placed text prefix bytes after kind split (spelled previous bytes after kind token)) (omega arith)
+-- of what spells a prefix, the tokens lie in it
+spelled_within : (text prefix : List ℕ) (items : List Token) (previous : Previous) → Spelled text prefix items previous → Within text (length prefix) items
+spelled_within _ _ _ _ (spelled_start {text}) = no_tokens text 0
+spelled_within _ _ _ _ (spelled_token {text} {prefix} {items} {previous} bytes after kind before split token longest) =
+    one_more text (length prefix) (length (prefix ++ bytes)) items _ (spelled_within text prefix items previous before) (placed text prefix bytes after kind split (spelled previous bytes after kind token)) (omega arith)
     (omega (arith, length-append prefix bytes))
-row_within _ _ _ _ (row_blank {text} {prefix} {items} {previous} byte after row split blank) =
-    farther text (length prefix) (length (prefix ++ byte ∷ [])) items (omega (arith, length-append prefix (byte ∷ []))) (row_within text prefix items previous row)
-row_within _ _ _ _ (row_comment {text} {prefix} {items} {previous} body after row split no_feed ends) =
-    farther text (length prefix) (length (prefix ++ comment_text body)) items (omega (arith, length-append prefix (comment_text body))) (row_within text prefix items previous row)
-row_within _ _ _ _ (row_line_feed {text} {prefix} {items} {previous} after row split) =
-    line_end text prefix (10 ∷ []) after items previous (split ∙ sym (append_assoc prefix (10 ∷ []) after)) (row_within text prefix items previous row)
+spelled_within _ _ _ _ (spelled_blank {text} {prefix} {items} {previous} byte after before split blank) =
+    farther text (length prefix) (length (prefix ++ byte ∷ [])) items (omega (arith, length-append prefix (byte ∷ []))) (spelled_within text prefix items previous before)
+spelled_within _ _ _ _ (spelled_comment {text} {prefix} {items} {previous} body after before split no_feed ends) =
+    farther text (length prefix) (length (prefix ++ comment_text body)) items (omega (arith, length-append prefix (comment_text body))) (spelled_within text prefix items previous before)
+spelled_within _ _ _ _ (spelled_line_feed {text} {prefix} {items} {previous} after before split) =
+    line_end text prefix (10 ∷ []) after items previous (split ∙ sym (append_assoc prefix (10 ∷ []) after)) (spelled_within text prefix items previous before)
 
 -- the tokens of a text are tokens of it, in its order
 pub tokens_each : (text : List ℕ) (items : List Token) → IsTokens text items → AreTokens text items
 tokens_each text items h =
     let whole : text ≡ text ++ [] ++ [] = sym (ap (λ (l : List ℕ). l ++ []) (append-nil text) ∙ append-nil text) in
-    subst (AreTokens text) (sym h.items_are) (line_end text text [] [] h.before h.previous whole (row_within text text h.before h.previous h.row)).tokens
+    subst (AreTokens text) (sym h.items_are) (line_end text text [] [] h.before h.previous whole (spelled_within text text h.before h.previous h.spelled)).tokens

@@ -97,7 +97,7 @@ restarts text st b Comment is h = ap (λ (t : Bool). if t then Going (extend st 
 restarts text st b ArrowFirst is h = ap (λ (t : Bool). if t then Going (extend st ArrowSecond) else Stopped (BadByte st.line)) h ∙ ap (λ (p : Pending). begin_after (emit_as text st p) b) (sym is)
 restarts text st b ArrowSecond is h = ap (λ (t : Bool). if t then complete st Arrow else Stopped (BadByte st.line)) h ∙ ap (λ (p : Pending). begin_after (emit_as text st p) b) (sym is)
 
--- the first byte of a piece after a row
+-- the first byte of a piece after others
 pub goes_on : (text prefix : List ℕ) (items : List Token) (previous : Previous) (line : ℕ) (tail : Pending) (b : ℕ) (s : List ℕ) → Lands text (length prefix) items previous line tail (scan text prefix) → continues tail b ≡ false
     → scan text (prefix ++ b ∷ s) ≡ fold (scan_step text) (begin (at_end items previous line (length prefix)) b) s
 goes_on text prefix items previous line tail b s h ends =

@@ -1,4 +1,4 @@
--- What the scanner has read is a row of pieces, or has a place where no token stands.
+-- What the scanner has read are pieces, or has a place where no token stands.
 use Rattle.std.specs.List.{list_all, fold}
 use Rattle.std.specs.Char.{is_ascii_digit}
 use Rattle.mir_base.specs.Names.{is_name_byte, is_letter, begins_as_name}
@@ -45,21 +45,21 @@ ReadsBytes previous tail Comment s = (body : List ℕ) × (s ≡ 124 ∷ 124 ∷
 ReadsBytes previous tail ArrowFirst s = s ≡ 226 ∷ []
 ReadsBytes previous tail ArrowSecond s = s ≡ 226 ∷ 134 ∷ []
 
--- what was read is a row of pieces and the bytes of what is pending
+-- what was read are pieces and the bytes of what is pending
 pub record StandsAs (prefix : List ℕ) (st : Scan) (p : Pending) : Type 0 where
   pub base : List ℕ
   pub own : List ℕ
   pub tail : Pending
   pub is : prefix ≡ base ++ own
-  pub row : Pieces base st.items st.previous st.line tail
+  pub pieces : Pieces base st.items st.previous st.line tail
   pub ends : NotContinued tail own
   pub starts : st.start ≡ length base
   pub size : st.length ≡ length own
   pub reads : ReadsBytes st.previous tail p own
 
--- the scan is at the end of a row
+-- the scan is at the end of a piece
 pub record Fresh (prefix : List ℕ) (st : Scan) (tail : Pending) : Type 0 where
-  pub row : Pieces prefix st.items st.previous st.line tail
+  pub pieces : Pieces prefix st.items st.previous st.line tail
   pub starts : st.start ≡ length prefix
   pub size : st.length ≡ 0
 
@@ -76,12 +76,12 @@ Emits text prefix tail (Stopped bad) = PieceRefusal text bad
 -- ---- what is pending is handed over
 
 -- the token of the bytes since the start
-row_put : (base own : List ℕ) (st : Scan) (tail next : Pending) (k : Kind) → Pieces base st.items st.previous st.line tail → NotContinued tail own → st.start ≡ length base → st.length ≡ length own → IsPieceToken st.previous own k next
+pieces_put : (base own : List ℕ) (st : Scan) (tail next : Pending) (k : Kind) → Pieces base st.items st.previous st.line tail → NotContinued tail own → st.start ≡ length base → st.length ≡ length own → IsPieceToken st.previous own k next
     → Pieces (base ++ own) (with_token st.items k st.start st.length st.line) (previous_of k) st.line next
-row_put base own st tail next k row ends starts size is =
+pieces_put base own st tail next k pieces ends starts size is =
     subst (λ (n : ℕ). Pieces (base ++ own) (with_token st.items k n st.length st.line) (previous_of k) st.line next) (sym starts)
     (subst (λ (n : ℕ). Pieces (base ++ own) (with_token st.items k (length base) n st.line) (previous_of k) st.line next) (sym size)
-    (token_piece own k next row ends is))
+    (token_piece own k next pieces ends is))
 
 -- the place after the bytes since the start
 place : (prefix base own : List ℕ) (st : Scan) → prefix ≡ base ++ own → st.start ≡ length base → st.length ≡ length own → st.start + st.length ≡ length prefix
@@ -90,7 +90,7 @@ place prefix base own st is starts size = let e : length prefix ≡ length base 
 -- what is pending is a token
 put_fresh : (prefix : List ℕ) (st : Scan) (p next : Pending) (k : Kind) (h : StandsAs prefix st p) → IsPieceToken st.previous h.own k next → Fresh prefix (push st k) next
 put_fresh prefix st p next k h is = record {
-  row = subst (λ (l : List ℕ). Pieces l (push st k).items (previous_of k) st.line next) (sym h.is) (row_put h.base h.own st h.tail next k h.row h.ends h.starts h.size is);
+  pieces = subst (λ (l : List ℕ). Pieces l (push st k).items (previous_of k) st.line next) (sym h.is) (pieces_put h.base h.own st h.tail next k h.pieces h.ends h.starts h.size is);
   starts = place prefix h.base h.own st h.is h.starts h.size;
   size = refl;
 }
@@ -109,7 +109,7 @@ bad_at text prefix rest st p bad is h some stops = record {
   line = st.line;
   tail = h.tail;
   is = is ∙ ap (λ (l : List ℕ). l ++ rest) h.is ∙ append_assoc h.base h.own rest;
-  row = h.row;
+  pieces = h.pieces;
   ends = ends_append h.tail h.own rest some h.ends;
   stops = stops;
 }
@@ -137,8 +137,8 @@ minus_open_is AfterOther h = refl
 -- where nothing is pending, nothing is handed over
 drop_idle : (prefix : List ℕ) (st : Scan) → StandsAs prefix st Idle → Fresh prefix (skip st) Idle
 drop_idle prefix st h = record {
-  row = subst (λ (l : List ℕ). Pieces l st.items st.previous st.line Idle) (sym (h.is ∙ ap (λ (l : List ℕ). h.base ++ l) h.reads.0 ∙ append-nil h.base))
-      (subst (λ (t : Pending). Pieces h.base st.items st.previous st.line t) h.reads.1 h.row);
+  pieces = subst (λ (l : List ℕ). Pieces l st.items st.previous st.line Idle) (sym (h.is ∙ ap (λ (l : List ℕ). h.base ++ l) h.reads.0 ∙ append-nil h.base))
+      (subst (λ (t : Pending). Pieces h.base st.items st.previous st.line t) h.reads.1 h.pieces);
   starts = place prefix h.base h.own st h.is h.starts h.size;
   size = refl;
 }
@@ -146,8 +146,8 @@ drop_idle prefix st h = record {
 -- a comment is handed over as nothing
 drop_comment : (prefix : List ℕ) (st : Scan) → StandsAs prefix st Comment → Fresh prefix (skip st) Comment
 drop_comment prefix st h = record {
-  row = subst (λ (l : List ℕ). Pieces l st.items st.previous st.line Comment) (sym (h.is ∙ ap (λ (l : List ℕ). h.base ++ l) h.reads.1))
-      (comment_piece h.reads.0 h.row (begins_closed h.tail h.own 124 (124 ∷ h.reads.0) h.reads.1 h.ends) h.reads.2);
+  pieces = subst (λ (l : List ℕ). Pieces l st.items st.previous st.line Comment) (sym (h.is ∙ ap (λ (l : List ℕ). h.base ++ l) h.reads.1))
+      (comment_piece h.reads.0 h.pieces (begins_closed h.tail h.own 124 (124 ∷ h.reads.0) h.reads.1 h.ends) h.reads.2);
   starts = place prefix h.base h.own st h.is h.starts h.size;
   size = refl;
 }
@@ -186,16 +186,16 @@ opened prefix st tail p b h ends reads = record {
   own = b ∷ [];
   tail = tail;
   is = refl;
-  row = h.row;
+  pieces = h.pieces;
   ends = ends;
   starts = h.starts;
   size = omega (arith, h.size);
   reads = reads;
 }
 
--- the scan is again at the end of a row
+-- the scan is again at the end of a piece
 settled : (prefix : List ℕ) (st : Scan) → Pieces prefix st.items st.previous st.line Idle → st.start ≡ length prefix → st.length ≡ 0 → StandsAs prefix st Idle
-settled prefix st row starts size = record { base = prefix; own = []; tail = Idle; is = sym (append-nil prefix); row = row; ends = tt; starts = starts; size = size; reads = (refl, refl) }
+settled prefix st pieces starts size = record { base = prefix; own = []; tail = Idle; is = sym (append-nil prefix); pieces = pieces; ends = tt; starts = starts; size = size; reads = (refl, refl) }
 
 -- the place behind the byte
 next_place : (prefix : List ℕ) (b : ℕ) (n m : ℕ) → n ≡ length prefix → m ≡ 0 → n + (m + 1) ≡ length (prefix ++ b ∷ [])
@@ -204,26 +204,26 @@ next_place prefix b n m p q = omega (arith, length-append prefix (b ∷ []), p, 
 -- a token of one byte
 single : (prefix : List ℕ) (st : Scan) (tail : Pending) (b : ℕ) (k : Kind) → Fresh prefix st tail → continues tail b ≡ false → IsPieceToken st.previous (b ∷ []) k Idle → StandsAs (prefix ++ b ∷ []) (push (extend st Idle) k) Idle
 single prefix st tail b k h ends is =
-    settled (prefix ++ b ∷ []) (push (extend st Idle) k) (row_put prefix (b ∷ []) (extend st Idle) tail Idle k h.row ends h.starts (omega (arith, h.size)) is) (next_place prefix b st.start st.length h.starts h.size) refl
+    settled (prefix ++ b ∷ []) (push (extend st Idle) k) (pieces_put prefix (b ∷ []) (extend st Idle) tail Idle k h.pieces ends h.starts (omega (arith, h.size)) is) (next_place prefix b st.start st.length h.starts h.size) refl
 
 -- the tokens with a line end, unless the last of them is one
 with_end : (st : Scan) (previous : Previous) (n : ℕ) → List Token
 with_end st previous n = with_line_end st.items previous st.line n 1
 
--- the row with the line feed
+-- the pieces with the line feed
 feed_row : (prefix : List ℕ) (st : Scan) (tail : Pending) → Fresh prefix st tail → continues tail 10 ≡ false → Pieces (prefix ++ 10 ∷ []) (with_line_end st.items st.previous st.line st.start (st.length + 1)) AfterLineEnd (st.line + 1) Idle
 feed_row prefix st tail h ends =
     subst (λ (n : ℕ). Pieces (prefix ++ 10 ∷ []) (with_line_end st.items st.previous st.line n (st.length + 1)) AfterLineEnd (st.line + 1) Idle) (sym h.starts)
     (subst (λ (n : ℕ). Pieces (prefix ++ 10 ∷ []) (with_line_end st.items st.previous st.line (length prefix) (n + 1)) AfterLineEnd (st.line + 1) Idle) (sym h.size)
-    (feed_piece h.row ends))
+    (feed_piece h.pieces ends))
 
 -- a line feed, by the token before it
 feed_as : (prefix : List ℕ) (st : Scan) (tail : Pending) (previous : Previous) → st.previous ≡ previous → Fresh prefix st tail → Pieces (prefix ++ 10 ∷ []) (with_line_end st.items previous st.line st.start (st.length + 1)) AfterLineEnd (st.line + 1) Idle
     → StandsAs (prefix ++ 10 ∷ []) (next_line (skip (end_line (extend st Idle) previous))) Idle
-feed_as prefix st tail AfterLineEnd is h row = settled (prefix ++ 10 ∷ []) (next_line (skip (extend st Idle)))
-    (subst (λ (l : Previous). Pieces (prefix ++ 10 ∷ []) st.items l (st.line + 1) Idle) (sym is) row) (next_place prefix 10 st.start st.length h.starts h.size) refl
-feed_as prefix st tail AfterOperand is h row = settled (prefix ++ 10 ∷ []) (next_line (skip (push (extend st Idle) LineEndKind))) row (let e = next_place prefix 10 st.start st.length h.starts h.size in omega (arith, e)) refl
-feed_as prefix st tail AfterOther is h row = settled (prefix ++ 10 ∷ []) (next_line (skip (push (extend st Idle) LineEndKind))) row (let e = next_place prefix 10 st.start st.length h.starts h.size in omega (arith, e)) refl
+feed_as prefix st tail AfterLineEnd is h pieces = settled (prefix ++ 10 ∷ []) (next_line (skip (extend st Idle)))
+    (subst (λ (l : Previous). Pieces (prefix ++ 10 ∷ []) st.items l (st.line + 1) Idle) (sym is) pieces) (next_place prefix 10 st.start st.length h.starts h.size) refl
+feed_as prefix st tail AfterOperand is h pieces = settled (prefix ++ 10 ∷ []) (next_line (skip (push (extend st Idle) LineEndKind))) pieces (let e = next_place prefix 10 st.start st.length h.starts h.size in omega (arith, e)) refl
+feed_as prefix st tail AfterOther is h pieces = settled (prefix ++ 10 ∷ []) (next_line (skip (push (extend st Idle) LineEndKind))) pieces (let e = next_place prefix 10 st.start st.length h.starts h.size in omega (arith, e)) refl
 
 -- a minus, by the token before it
 minus_as : (prefix : List ℕ) (st : Scan) (tail : Pending) (previous : Previous) → st.previous ≡ previous → Fresh prefix st tail → continues tail 45 ≡ false → KeepsBytes prefix (prefix ++ 45 ∷ []) (Going (minus_after st previous))
@@ -255,7 +255,7 @@ single_is previous b =
 
 -- a byte that is a mark, or begins nothing
 mark_keeps : (text prefix rest : List ℕ) (st : Scan) (tail : Pending) (b : ℕ) (o : Option Mark) → text ≡ prefix ++ b ∷ rest → Fresh prefix st tail → continues tail b ≡ false → MarkIs st.previous b o → (o ≡ None → ByteBeginsNone (b ∷ rest)) → KeepsBytes text (prefix ++ b ∷ []) (push_mark st o)
-mark_keeps text prefix rest st tail b None is h ends mark bad = record { prefix = prefix; rest = b ∷ rest; items = st.items; previous = st.previous; line = st.line; tail = tail; is = is; row = h.row; ends = ends; stops = (refl, bad refl) }
+mark_keeps text prefix rest st tail b None is h ends mark bad = record { prefix = prefix; rest = b ∷ rest; items = st.items; previous = st.previous; line = st.line; tail = tail; is = is; pieces = h.pieces; ends = ends; stops = (refl, bad refl) }
 mark_keeps text prefix rest st tail b (Some m) is h ends mark bad = single prefix st tail b (MarkKind m) h ends mark
 
 -- facts of one byte, at that byte
@@ -268,7 +268,7 @@ unfolding begin
 begin_keeps text prefix rest st tail b is h ends =
     let P : Scanned → Type 0 = KeepsBytes text (prefix ++ b ∷ []) in
     cond_both (b == 10) (Going (line_feed st)) _ P (λ e. at_byte (λ b. continues tail b ≡ false → KeepsBytes text (prefix ++ b ∷ []) (Going (line_feed st))) b 10 e (λ ends. feed_as prefix st tail st.previous refl h (feed_row prefix st tail h ends)) ends) (λ n10.
-    cond_both (is_blank b) (Going (skip (extend st Idle))) _ P (λ e. settled (prefix ++ b ∷ []) (skip (extend st Idle)) (blank_piece b h.row ends e) (next_place prefix b st.start st.length h.starts h.size) refl) (λ nblank.
+    cond_both (is_blank b) (Going (skip (extend st Idle))) _ P (λ e. settled (prefix ++ b ∷ []) (skip (extend st Idle)) (blank_piece b h.pieces ends e) (next_place prefix b st.start st.length h.starts h.size) refl) (λ nblank.
     cond_both (is_letter b) (Going (extend st PWord)) _ P (λ e. opened prefix st tail PWord b h ends (e, letter_name b e)) (λ nletter.
     cond_both (is_ascii_digit b) (Going (extend st PNumber)) _ P (λ e. opened prefix st tail PNumber b h ends (inl (omega arith, and_from _ _ e refl))) (λ ndigit.
     cond_both (b == 45) (Going (minus_after st st.previous)) _ P (λ e. at_byte (λ b. continues tail b ≡ false → KeepsBytes text (prefix ++ b ∷ []) (Going (minus_after st st.previous))) b 45 e (λ ends. minus_as prefix st tail st.previous refl h ends) ends) (λ n45.
@@ -293,7 +293,7 @@ grows prefix st p q b h some reads = record {
   own = h.own ++ b ∷ [];
   tail = h.tail;
   is = ap (λ (l : List ℕ). l ++ b ∷ []) h.is ∙ append_assoc h.base h.own (b ∷ []);
-  row = h.row;
+  pieces = h.pieces;
   ends = ends_append h.tail h.own (b ∷ []) some h.ends;
   starts = h.starts;
   size = omega (arith, h.size, length-append h.own (b ∷ []));
@@ -307,7 +307,7 @@ close_keeps prefix st p b m h some is =
     let size : st.length + 1 ≡ length (h.own ++ b ∷ []) = omega (arith, h.size, length-append h.own (b ∷ [])) in
     settled (prefix ++ b ∷ []) (push (extend st Idle) (MarkKind m))
     (subst (λ (l : List ℕ). Pieces l (push (extend st Idle) (MarkKind m)).items AfterOther st.line Idle) (sym whole)
-    (row_put h.base (h.own ++ b ∷ []) (extend st Idle) h.tail Idle (MarkKind m) h.row (ends_append h.tail h.own (b ∷ []) some h.ends) h.starts size is))
+    (pieces_put h.base (h.own ++ b ∷ []) (extend st Idle) h.tail Idle (MarkKind m) h.pieces (ends_append h.tail h.own (b ∷ []) some h.ends) h.starts size is))
     (place (prefix ++ b ∷ []) h.base (h.own ++ b ∷ []) (extend st Idle) whole h.starts size) refl
 
 -- one byte more than one byte
@@ -384,7 +384,7 @@ scan_keeps text = run_keeps text [] text (Going start) refl (settled [] start no
 
 -- ---- the end of the text
 
--- the tokens of a row of pieces, or a place where no token stands
+-- the tokens of pieces, or a place where no token stands
 abbrev pub EndsScan : List ℕ → Scanned → Type 0
 EndsScan text (Going st) = PiecesTokens text st.items
 EndsScan text (Stopped bad) = PieceRefusal text bad
@@ -396,7 +396,7 @@ finish_with_ends text (Going st) tail h = record {
   previous = st.previous;
   line = st.line;
   tail = tail;
-  row = h.row;
+  pieces = h.pieces;
   items_are = last_line st st.previous ∙ ap (λ (n : ℕ). with_line_end st.items st.previous st.line n st.length) h.starts ∙ ap (λ (n : ℕ). with_line_end st.items st.previous st.line (length text) n) h.size;
 }
 finish_with_ends text (Stopped bad) tail h = h
@@ -406,6 +406,6 @@ finish_ends : (text : List ℕ) (r : Scanned) → KeepsBytes text text r → End
 finish_ends text (Going st) h = finish_with_ends text (emit text st) st.pending (emit_keeps text text [] st (sym (append-nil text)) h tt)
 finish_ends text (Stopped bad) h = h
 
--- a scan is a row of tokens, or it stops at a place that is no token
+-- a scan has the tokens of pieces, or it stops at a place that is no token
 pub scanned_ends : (text : List ℕ) → EndsScan text (scanned text)
 scanned_ends text = finish_ends text (scan text text) (scan_keeps text)

@@ -20,7 +20,7 @@ use Rattle.mir_lex.proofs.Pieces.{ByteBeginsNone, NotContinued, PieceBadNumber, 
 use Rattle.mir_lex.proofs.Lands.{From, numeral_run}
 use Rattle.mir_lex.proofs.Runs.{at_end, goes_on, number_out, pended, restarts, since, stopped_run, word_out, word_run}
 use Rattle.mir_lex.proofs.KindLemmas.{large_number, long_word}
-use Rattle.mir_lex.proofs.Complete.{row_run}
+use Rattle.mir_lex.proofs.Complete.{pieces_run}
 
 -- ---- where the scan has stopped, it stays so
 
@@ -83,7 +83,7 @@ byte_stops text st b rest (inr (inl (h, inr more))) =
     ∙ emit_stops text (extend (extend st ArrowFirst) ArrowSecond) ArrowSecond (BadByte st.line) more.0 refl (byte_out text (extend (extend st ArrowFirst) ArrowSecond) ArrowSecond refl (inr (inr refl))) more.2
 byte_stops text st b rest (inr (inr h)) = ap (λ (r : Scanned). finish text (fold (scan_step text) r rest)) (begin_none st b h.0 h.1 h.2 h.3 h.4 h.5 h.6 h.7 h.8 h.9 h.10) ∙ stopped_stops text (BadByte st.line) rest
 
--- a bad byte behind a row
+-- a bad byte behind pieces
 bad_byte : (text prefix rest : List ℕ) (items : List Token) (previous : Previous) (line : ℕ) (tail : Pending) → text ≡ prefix ++ rest → From text prefix items previous line tail → NotContinued tail rest → ByteBeginsNone rest → scanned text ≡ Stopped (BadByte line)
 bad_byte text prefix [] items previous line tail is h ends bad = absurd bad
 bad_byte text prefix (b ∷ rest) items previous line tail is h ends bad = whole text prefix (b ∷ []) rest (begin (at_end items previous line (length prefix)) b) (BadByte line) (is ∙ sym (append_assoc prefix (b ∷ []) rest))
@@ -98,7 +98,7 @@ digit_ends text st b rest is digit name =
     ∙ ap (λ (r : Scanned). finish text (fold (scan_step text) r rest)) (cond-false (is_ascii_digit b) (Going (extend st PNumber)) _ digit ∙ cond-true (is_name_byte b) (Stopped (BadNumber st.line)) _ name)
     ∙ stopped_stops text (BadNumber st.line) rest
 
--- a bad number behind a row
+-- a bad number behind pieces
 bad_number : (text prefix bytes : List ℕ) (items : List Token) (previous : Previous) (line : ℕ) (tail : Pending) → text ≡ prefix ++ bytes → From text prefix items previous line tail → NotContinued tail bytes → PieceBadNumber previous bytes → scanned text ≡ Stopped (BadNumber line)
 bad_number text prefix bytes items previous line tail is h ends bad =
     let is_whole : text ≡ (prefix ++ bad.s) ++ bad.rest = is ∙ ap (λ (l : List ℕ). prefix ++ l) bad.is ∙ sym (append_assoc prefix bad.s bad.rest) in
@@ -110,7 +110,7 @@ bad_number text prefix bytes items previous line tail is h ends bad =
       | inr more ↦ ap (λ (l : List ℕ). finish text (fold (scan_step text) (Going st) l)) more.2 ∙ digit_ends text st more.0 more.1 refl more.3 more.4
     ])
 
--- a long name behind a row
+-- a long name behind pieces
 long_run : (text prefix s rest : List ℕ) (items : List Token) (previous : Previous) (line : ℕ) (tail : Pending) → text ≡ (prefix ++ s) ++ rest → From text prefix items previous line tail → NotContinued tail (s ++ rest) → begins_as_name s ≡ true → list_all is_name_byte s ≡ true → 64 < length s → NotContinued PWord rest → scanned text ≡ Stopped (LongName line)
 long_run text prefix [] rest items previous line tail is h ends begins all long after = absurd (cc)
 long_run text prefix (b ∷ s) rest items previous line tail is h ends begins all long after =
@@ -132,4 +132,4 @@ stops_run text prefix rest items previous line tail (Memory refused) is h ends s
 
 -- the first place that is no token stops the scan
 pub bad_run : (text : List ℕ) (bad : LexFault) → PieceRefusal text bad → scanned text ≡ Stopped bad
-bad_run text bad h = stops_run text h.prefix h.rest h.items h.previous h.line h.tail bad h.is (row_run text h.prefix h.rest h.items h.previous h.line h.tail h.row h.is) h.ends h.stops
+bad_run text bad h = stops_run text h.prefix h.rest h.items h.previous h.line h.tail bad h.is (pieces_run text h.prefix h.rest h.items h.previous h.line h.tail h.pieces h.is) h.ends h.stops

@@ -1,5 +1,5 @@
--- How a text is spelled: from the left, a row of tokens, blanks, comments and line feeds, each token as long as it can
--- be. Cited by contracts.
+-- How a text is spelled: from the left, tokens, blanks, comments and line feeds, each token as long as it can be. Cited
+-- by contracts.
 use Rattle.std.specs.Prelude.{ℕ, ◌≡◌, ◌≢◌, ◌<◌, ◌==◌, Bool, true, false, ◌||◌, not, ◌⊎◌, List, [], ◌∷◌, ◌++◌, length, codes, IsTrue, FitsSigned}
 use Rattle.std.specs.List.{list_all}
 use Rattle.std.specs.Str.{all_ascii_digits}
@@ -125,28 +125,28 @@ abbrev pub EndsLine : List ℕ → Type 0
 EndsLine [] = Unit {0}
 EndsLine (byte ∷ bytes) = byte ≡ 10
 
--- the prefix of the text is a row of tokens, blanks, comments and line feeds, with these tokens, the last of them as
--- said
-pub data Row : List ℕ → List ℕ → List Token → Previous → Type 0 where
-  start : {text : List ℕ} → Row text [] [] AfterLineEnd
+-- the prefix of the text is spelled from the left by tokens, blanks, comments and line feeds, with these tokens, the
+-- last of them as said
+pub data Spelled : List ℕ → List ℕ → List Token → Previous → Type 0 where
+  start : {text : List ℕ} → Spelled text [] [] AfterLineEnd
   token : {text prefix : List ℕ} {items : List Token} {previous : Previous} (bytes after : List ℕ) (kind : Kind)
-      → Row text prefix items previous → text ≡ prefix ++ bytes ++ after → IsToken previous bytes after kind → IsLongest previous bytes after
-      → Row text (prefix ++ bytes) (with_token items kind (length prefix) (length bytes) (line_after prefix)) (previous_of kind)
+      → Spelled text prefix items previous → text ≡ prefix ++ bytes ++ after → IsToken previous bytes after kind → IsLongest previous bytes after
+      → Spelled text (prefix ++ bytes) (with_token items kind (length prefix) (length bytes) (line_after prefix)) (previous_of kind)
   blank : {text prefix : List ℕ} {items : List Token} {previous : Previous} (byte : ℕ) (after : List ℕ)
-      → Row text prefix items previous → text ≡ prefix ++ byte ∷ after → IsTrue (is_blank byte)
-      → Row text (prefix ++ byte ∷ []) items previous
+      → Spelled text prefix items previous → text ≡ prefix ++ byte ∷ after → IsTrue (is_blank byte)
+      → Spelled text (prefix ++ byte ∷ []) items previous
   comment : {text prefix : List ℕ} {items : List Token} {previous : Previous} (body after : List ℕ)
-      → Row text prefix items previous → text ≡ prefix ++ comment_text body ++ after → HasNoLineFeed body → EndsLine after
-      → Row text (prefix ++ comment_text body) items previous
+      → Spelled text prefix items previous → text ≡ prefix ++ comment_text body ++ after → HasNoLineFeed body → EndsLine after
+      → Spelled text (prefix ++ comment_text body) items previous
   line_feed : {text prefix : List ℕ} {items : List Token} {previous : Previous} (after : List ℕ)
-      → Row text prefix items previous → text ≡ prefix ++ 10 ∷ after
-      → Row text (prefix ++ 10 ∷ []) (with_line_end items previous (line_after prefix) (length prefix) 1) AfterLineEnd
+      → Spelled text prefix items previous → text ≡ prefix ++ 10 ∷ after
+      → Spelled text (prefix ++ 10 ∷ []) (with_line_end items previous (line_after prefix) (length prefix) 1) AfterLineEnd
 
 -- these are the tokens of the text: one more line end stands behind a last line that has no line feed
 pub record IsTokens (text : List ℕ) (items : List Token) : Type 0 where
   pub before : List Token
   pub previous : Previous
-  pub row : Row text text before previous
+  pub spelled : Spelled text text before previous
   pub items_are : items ≡ with_line_end before previous (line_after text) (length text) 0
 
 -- ---- refusals
@@ -190,7 +190,7 @@ pub record IsRefusal (text : List ℕ) (fault : LexFault) : Type 0 where
   pub items : List Token
   pub previous : Previous
   pub split : text ≡ prefix ++ after
-  pub row : Row text prefix items previous
+  pub spelled : Spelled text prefix items previous
   pub stops : StopsLexing prefix previous after fault
 
 -- the call ran out of memory

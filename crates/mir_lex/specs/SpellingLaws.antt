@@ -2,7 +2,7 @@
 -- only, of this crate and of the canonical text.
 use Rattle.std.specs.Char.{is_ascii_digit}
 use Rattle.std.specs.List.{list_all}
-use Rattle.std.proofs.Common.{◌≡◌, ℕ, ◌+◌, ◌<◌, ◌==◌, Bool, true, false, not, List, [], ◌∷◌, ◌++◌, length, refl, sym, ◌∙◌, ap, subst, inl, inr, arith, cond}
+use Rattle.std.proofs.Common.{◌≡◌, ℕ, ◌+◌, ◌<◌, ◌==◌, Bool, true, false, not, List, [], ◌∷◌, ◌++◌, length, refl, sym, ◌∙◌, ap, subst, inl, inr, arith, if◌then◌else◌}
 use Rattle.std.proofs.lemmas.Bool.{and_from, and_parts, not-true}
 use Rattle.std.proofs.lemmas.Bool.Decides.{nat_tests}
 use Rattle.std.proofs.lemmas.List.Sums.{sum_by-append}
@@ -44,18 +44,18 @@ no_feeds : (bytes : List ℕ) → HasNoLineFeed bytes → line_feeds bytes ≡ 0
 no_feeds [] h = refl
 no_feeds (byte ∷ bytes) h =
     let parts = and_parts (not (byte == 10)) (list_all (λ byte. not (byte == 10)) bytes) h in
-    let here : 0 + cond (byte == 10) 1 0 ≡ 0 = ap (λ (t : Bool). 0 + cond t 1 0) (not-true (byte == 10) parts.0) in
-    let sum : line_feeds (byte ∷ bytes) ≡ (0 + cond (byte == 10) 1 0) + line_feeds bytes = sum_by-append (λ byte. cond (byte == 10) 1 0) (byte ∷ []) bytes in
+    let here : 0 + (if byte == 10 then 1 else 0) ≡ 0 = ap (λ (t : Bool). 0 + (if t then 1 else 0)) (not-true (byte == 10) parts.0) in
+    let sum : line_feeds (byte ∷ bytes) ≡ (0 + (if byte == 10 then 1 else 0)) + line_feeds bytes = sum_by-append (λ byte. if byte == 10 then 1 else 0) (byte ∷ []) bytes in
     omega (arith, sum, here, no_feeds bytes parts.1)
 
 -- what has no line feed leaves the line as it is
 pub line_stays : (prefix bytes : List ℕ) → HasNoLineFeed bytes → line_after (prefix ++ bytes) ≡ line_after prefix
 line_stays prefix bytes h =
-    let sum : line_feeds (prefix ++ bytes) ≡ line_feeds prefix + line_feeds bytes = sum_by-append (λ byte. cond (byte == 10) 1 0) prefix bytes in
+    let sum : line_feeds (prefix ++ bytes) ≡ line_feeds prefix + line_feeds bytes = sum_by-append (λ byte. if byte == 10 then 1 else 0) prefix bytes in
     omega (arith, sum, no_feeds bytes h)
 
 -- a line feed begins the next line
 pub line_begins : (prefix : List ℕ) → line_after (prefix ++ 10 ∷ []) ≡ line_after prefix + 1
 line_begins prefix =
-    let sum : line_feeds (prefix ++ 10 ∷ []) ≡ line_feeds prefix + 1 = sum_by-append (λ byte. cond (byte == 10) 1 0) prefix (10 ∷ []) in
+    let sum : line_feeds (prefix ++ 10 ∷ []) ≡ line_feeds prefix + 1 = sum_by-append (λ byte. if byte == 10 then 1 else 0) prefix (10 ∷ []) in
     omega (arith, sum)

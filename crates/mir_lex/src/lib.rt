@@ -21,7 +21,7 @@ mod words;
 pub use faults::LexFault;
 pub use laws::{refusal_is_unique, tokens_are_unique};
 pub use lexing::lex;
-pub use numbers::{number, unsigned};
+pub use numbers::{signed, unsigned};
 pub use terminals::{Symbol, Terminal};
 pub use tokens::{Token, Tokens};
 pub use words::{Kind, Mark};

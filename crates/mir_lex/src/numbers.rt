@@ -8,7 +8,7 @@ use std::str;
 
 /// The number that an optional `-` and decimal digits spell, and `None` where the bytes are no such, or the number does
 /// not fit 64 bits with a sign. It does not allocate.
-pub fn number(bytes: &[u8]) -> Option<i64>
+pub fn signed(bytes: &[u8]) -> Option<i64>
     ensures number { result ≡ signed_number bytes.now }
     ensures numeral { (number : ℤ) → (result ≡ Some number) ↔ IsSignedWord bytes.now number }
 {
@@ -34,7 +34,7 @@ fn parsed_unsigned(bytes: &[u8]) -> Option<u64>
     }
 }
 
-/// The same as `number`, as the scanner speaks of it.
+/// The same as `signed`, as the scanner speaks of it.
 pub fn scanned_number(bytes: &[u8]) -> Option<i64>
     ensures { result ≡ number_of bytes.now }
 {

@@ -3,7 +3,7 @@
 //! Bytes come in by a `Source` and go out by a `Sink`. A device outside may fail at any call, so each keeps a count of
 //! its faults: `Failed` is returned only where that count rose in the call, or has saturated. `StdSource` and `StdSink`
 //! are those over std's readers and writers, and `MemSource` and `MemSink` those in memory, which fail at the calls
-//! that are listed when they are made. `CalmSource` and `CalmSink` never fail.
+//! that are listed when they are made. `FaultlessSource` and `FaultlessSink` never fail.
 //!
 //! The theorem is that `read_all` returns all bytes of its source to the end, and that `write_all` writes all of its
 //! piece, or that they say why not. `TooLong` comes exactly where one byte more than the limit came, and `Failed` where
@@ -11,13 +11,13 @@
 //! a prefix of those that there were, and no more than one byte beyond the limit is taken.
 #![tactic(auto)]
 
-mod calm;
+mod faultless;
 mod memory;
 mod sink;
 mod source;
 mod transfer;
 
-pub use calm::{CalmSink, CalmSource};
+pub use faultless::{FaultlessSink, FaultlessSource};
 pub use memory::{MemSink, MemSource};
 pub use sink::{Sink, StdSink};
 pub use source::{Source, StdSource};

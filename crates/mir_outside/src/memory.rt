@@ -42,7 +42,7 @@ impl Model for MemSource {
 
 impl MemSource {
     /// A source of these bytes that gives at most `piece` of them in a call, which is at least 1. The calls whose
-    /// numbers, counted from 1, stand in `fails` fail, and no others.
+    /// numbers, counted from 1, stand in `fails` fail, and no others. It does not allocate.
     pub fn new(bytes: Vec<u8>, piece: usize, fails: Vec<u64>) -> Self
         requires { 0 < piece }
         ensures { result ≡ record {
@@ -79,7 +79,7 @@ impl Source for MemSource {
         ensures fails { IsErr result ↔ Contains self.old.fails self.new.calls }
         ensures count { IfOk result (λ n.
             n ≡ min (length buf.old) (min self.old.piece (length self.old.left))) }
-        ensures rest { MatchResult result
+        ensures remainder { MatchResult result
             (λ n. drop n buf.new ≡ drop n buf.old) (λ _. buf.new ≡ buf.old) }
         ensures no_fault { OnOk result (self.new.faults ≡ self.old.faults) }
         ensures rises { OnErr result (self.new.faults ≡ next_count self.old.faults) }
@@ -156,7 +156,7 @@ impl MemSink {
         })
     }
 
-    /// The bytes that were written so far.
+    /// The bytes that were written so far. It does not allocate.
     pub fn written(&self) -> &[u8]
         ensures { result.now ≡ self.now.written }
     {

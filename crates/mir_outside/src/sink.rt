@@ -43,7 +43,7 @@ pub struct StdSink<W> {
 }
 
 impl<W: Write> StdSink<W> {
-    /// A sink over this writer that has not failed yet.
+    /// A sink over this writer that has not failed yet. It does not allocate.
     pub fn new(inner: W) -> Self
         ensures written { ⟦<StdSink<W> as Sink>⟧.written result ≡ W.contents inner }
         ensures faults { ⟦<StdSink<W> as Sink>⟧.faults result ≡ 0 }

@@ -23,15 +23,15 @@ use Rattle.mir_parse.specs.declared.raw.RawForm.TheVariants.{Receive, Assign, Go
 use Rattle.mir_parse.specs.declared.raw.RawInst.{RawInst}
 use Rattle.mir_parse.specs.declared.raw.RawLabel.{RawLabel}
 use Rattle.mir_parse.specs.RawUnit.{RawUnitShape}
-use Rattle.mir_parse.specs.declared.state.Hole.{Hole}
-use Rattle.mir_parse.specs.declared.state.Hole.TheVariants.{Unary as OfUnary, Binary as OfBinary, Arg as OfArg, Fails as OfFails, Rel as OfRel, Print as OfPrint}
-use Rattle.mir_parse.specs.declared.state.Part.TheVariants.{Fresh, Named, Arrowed, Wants, Opening, FirstArg, Given, Typed, If as PIf, IfOperand}
-use Rattle.mir_parse.specs.declared.state.Next.{Next}
-use Rattle.mir_parse.specs.declared.state.Next.TheVariants.{No, Go, Done, Label}
-use Rattle.mir_parse.specs.declared.state.Spot.TheVariants.{Named as UnitNamed, Headed, Begun, Inside, Mid, AfterEnd}
-use Rattle.mir_parse.specs.declared.state.Reading.{Reading}
-use Rattle.mir_parse.specs.declared.state.State.{State}
-use Rattle.mir_parse.specs.declared.state.State.TheVariants.{Outside, In}
+use Rattle.mir_parse.specs.declared.so_far.Hole.{Hole}
+use Rattle.mir_parse.specs.declared.so_far.Hole.TheVariants.{Unary as OfUnary, Binary as OfBinary, Arg as OfArg, Fails as OfFails, Rel as OfRel, Print as OfPrint}
+use Rattle.mir_parse.specs.declared.so_far.Part.TheVariants.{Fresh, Named, Arrowed, Wants, Opening, FirstArg, Given, Typed, If as PIf, IfOperand}
+use Rattle.mir_parse.specs.declared.so_far.Next.{Next}
+use Rattle.mir_parse.specs.declared.so_far.Next.TheVariants.{No, Go, Done, Label}
+use Rattle.mir_parse.specs.declared.so_far.Spot.TheVariants.{Named as UnitNamed, Headed, Begun, Inside, Mid, AfterEnd}
+use Rattle.mir_parse.specs.declared.so_far.Reading.{Reading}
+use Rattle.mir_parse.specs.declared.so_far.ReadSoFar.{ReadSoFar}
+use Rattle.mir_parse.specs.declared.so_far.ReadSoFar.TheVariants.{Outside, In}
 use Rattle.mir_parse.specs.Grammar.{operand_symbol, relop_symbol, binop_symbol, rhs_symbols, test_symbols, more_symbols, open_args, args_symbols, IsCallStart, IsForm, symbols, IsBreak, IsLabel, IsInst, Body, IsHead, IsUnit, IsText, bare, label, inst, no_unit, more}
 use Rattle.mir_parse.specs.Reader.{filled, wants, fresh, named, plain_name, plain_number, first_arg, if_operand, part_step, begin_unit, with_inst, with_label, reading_after, outside, inside, read_step, reads}
 
@@ -209,24 +209,24 @@ rows_run b _ _ _ (label {ts} {us} {labels} {body} l rows is at) =
     let front = rows_run b ts labels body rows in
     let run = label_run (grown b labels body) front.0 us l is at in (
       run.0,
-      fold-append read_step (In (grown b [] []) (Inside false)) ts us ∙ ap (λ (st : State). fold read_step st us) front.1 ∙ run.1,
+      fold-append read_step (In (grown b [] []) (Inside false)) ts us ∙ ap (λ (st : ReadSoFar). fold read_step st us) front.1 ∙ run.1,
     )
 rows_run b _ _ _ (inst {ts} {us} {labels} {body} i rows is) =
     let front = rows_run b ts labels body rows in (
       false,
-      fold-append read_step (In (grown b [] []) (Inside false)) ts us ∙ ap (λ (st : State). fold read_step st us) front.1 ∙ inst_run (grown b labels body) front.0 us i is,
+      fold-append read_step (In (grown b [] []) (Inside false)) ts us ∙ ap (λ (st : ReadSoFar). fold read_step st us) front.1 ∙ inst_run (grown b labels body) front.0 us i is,
     )
 
 -- tokens with these symbols, one by one
-run_on : (st next : State) (s : Symbol) (ss : List Symbol) (ts : List Terminal) → symbols ts ≡ s ∷ ss → ((at : ℕ) → read_step st (record { symbol = s; line = at }) ≡ next) → (us : List Terminal) × (symbols us ≡ ss) × (fold read_step st ts ≡ fold read_step next us)
+run_on : (st next : ReadSoFar) (s : Symbol) (ss : List Symbol) (ts : List Terminal) → symbols ts ≡ s ∷ ss → ((at : ℕ) → read_step st (record { symbol = s; line = at }) ≡ next) → (us : List Terminal) × (symbols us ≡ ss) × (fold read_step st ts ≡ fold read_step next us)
 run_on st next s ss [] h goes = absurd (cc)
 run_on st next s ss (t ∷ ts) h goes =
     let is : t.symbol ≡ s = cc in
     let rest : symbols ts ≡ ss = cc in
-    (ts, rest, ap (λ (st : State). fold read_step st ts) (ap (λ (s : Symbol). read_step st (record { symbol = s; line = t.line })) is ∙ goes t.line))
+    (ts, rest, ap (λ (st : ReadSoFar). fold read_step st ts) (ap (λ (s : Symbol). read_step st (record { symbol = s; line = t.line })) is ∙ goes t.line))
 
 -- no symbols, no step
-run_end : (st : State) (ts : List Terminal) → symbols ts ≡ [] → fold read_step st ts ≡ st
+run_end : (st : ReadSoFar) (ts : List Terminal) → symbols ts ≡ [] → fold read_step st ts ≡ st
 run_end st [] h = refl
 run_end st (t ∷ ts) h = absurd (cc)
 
@@ -274,11 +274,11 @@ unit_run : (units : List RawUnitShape) (u : RawUnitShape) (ts : List Terminal) �
 unit_run units u ts h =
     let rows = rows_run (begin_unit units u.name u.line) h.body u.labels u.body h.is_body in
     ap (λ (l : List Terminal). fold read_step (Outside units) l) (h.text ∙ append_assoc h.head h.body h.tail) ∙ fold-append read_step (Outside units) h.head (h.body ++ h.tail)
-    ∙ ap (λ (st : State). fold read_step st (h.body ++ h.tail)) (head_run units u.name u.line h.head h.is_head)
-    ∙ fold-append read_step (In (begin_unit units u.name u.line) (Inside false)) h.body h.tail ∙ ap (λ (st : State). fold read_step st h.tail) rows.1
+    ∙ ap (λ (st : ReadSoFar). fold read_step st (h.body ++ h.tail)) (head_run units u.name u.line h.head h.is_head)
+    ∙ fold-append read_step (In (begin_unit units u.name u.line) (Inside false)) h.body h.tail ∙ ap (λ (st : ReadSoFar). fold read_step st h.tail) rows.1
     ∙ tail_run (grown (begin_unit units u.name u.line) u.labels u.body) rows.0 h.tail h.is_tail
 
 -- a text is read as its units
 pub text_run : (ts : List Terminal) (units : List RawUnitShape) → IsText ts units → reads ts ≡ Outside units
 text_run _ _ no_unit = refl
-text_run _ _ (more {ts} {us} {units} u text is) = fold-append read_step (Outside []) ts us ∙ ap (λ (st : State). fold read_step st us) (text_run ts units text) ∙ unit_run units u us is
+text_run _ _ (more {ts} {us} {units} u text is) = fold-append read_step (Outside []) ts us ∙ ap (λ (st : ReadSoFar). fold read_step st us) (text_run ts units text) ∙ unit_run units u us is

@@ -1,6 +1,6 @@
 -- What a part of an instruction has read, and that each token keeps it.
-use Rattle.std.proofs.Common.{option_map, ◌≡◌, ℕ, ℤ, Bool, List, [], ◌∷◌, ◌++◌, codes, Option, None, Some, refl, sym, ◌∙◌, ap, subst, append_assoc, inl, inr, if◌then◌else◌, nat_eq}
-use Rattle.std.specs.Cmp.Lexicographic.{pointwise, same_text}
+use Rattle.std.proofs.Common.{option_map, ◌≡◌, ℕ, ℤ, Bool, List, [], ◌∷◌, ◌++◌, codes, Option, None, Some, refl, sym, ◌∙◌, ap, subst, append_assoc, inl, inr, if◌then◌else◌}
+use Rattle.std.specs.Cmp.Lexicographic.{same_text}
 use Rattle.std.proofs.lemmas.Bool.{cases_Bool}
 use Rattle.mir_base.specs.declared.operators.Op.{Op}
 use Rattle.mir_base.specs.declared.operators.RelOp.{RelOp}
@@ -9,6 +9,7 @@ use Rattle.mir_lex.specs.declared.terminals.Symbol.{Symbol}
 use Rattle.mir_lex.specs.declared.terminals.Symbol.TheVariants.{Name as NAME, Word as WORD, Number as NUMBER, Mark as MARK, LineEnd as NL}
 use Rattle.mir_lex.specs.declared.words.Mark.{Mark}
 use Rattle.mir_lex.specs.declared.words.Mark.TheVariants.{Colon, Comma, Semicolon, LeftParen, RightParen, Plus, Minus, Star, Slash, Equal, NotEqual, Less, LessEqual, Greater, GreaterEqual, Bang, Arrow}
+use Rattle.mir_base.specs.Words.{is_text}
 use Rattle.mir_base.specs.declared.words.Word.{Word}
 use Rattle.mir_base.specs.declared.words.Word.TheVariants.{Receive as ReceiveWord, Goto as GotoWord, If as IfWord, Call as CallWord, Return as ReturnWord, Print as PrintWord, Mod as ModWord, Min as MinWord, Max as MaxWord, Shl as ShlWord, Shr as ShrWord, Shra as ShraWord, And as AndWord, Or as OrWord, Xor as XorWord}
 use Rattle.mir_parse.specs.declared.raw.RawOperand.{RawOperand}
@@ -16,12 +17,12 @@ use Rattle.mir_parse.specs.declared.raw.RawOperand.TheVariants.{Var, Const}
 use Rattle.mir_parse.specs.declared.raw.RawTest.{RawTest}
 use Rattle.mir_parse.specs.declared.raw.RawForm.{RawForm}
 use Rattle.mir_parse.specs.declared.raw.RawForm.TheVariants.{Receive}
-use Rattle.mir_parse.specs.declared.state.Hole.{Hole}
-use Rattle.mir_parse.specs.declared.state.Hole.TheVariants.{Unary as OfUnary, Binary as OfBinary, Arg as OfArg, Fails as OfFails, Rel as OfRel, Print as OfPrint}
-use Rattle.mir_parse.specs.declared.state.Part.{Part}
-use Rattle.mir_parse.specs.declared.state.Part.TheVariants.{Fresh, Receive as PReceive, ReceiveName, ReceiveOpen, ReceiveVal, Named, Arrowed, PlainName, PlainNumber, Wants, Call as PCall, Callee, Opening, FirstArg, Given, Typing, Typed, Goto as PGoto, If as PIf, IfOperand, Tested, IfGoto, Return as PReturn, Full}
-use Rattle.mir_parse.specs.declared.state.Next.{Next}
-use Rattle.mir_parse.specs.declared.state.Next.TheVariants.{No, Go, Done, Label}
+use Rattle.mir_parse.specs.declared.so_far.Hole.{Hole}
+use Rattle.mir_parse.specs.declared.so_far.Hole.TheVariants.{Unary as OfUnary, Binary as OfBinary, Arg as OfArg, Fails as OfFails, Rel as OfRel, Print as OfPrint}
+use Rattle.mir_parse.specs.declared.so_far.Part.{Part}
+use Rattle.mir_parse.specs.declared.so_far.Part.TheVariants.{Fresh, Receive as PReceive, ReceiveName, ReceiveOpen, ReceiveVal, Named, Arrowed, PlainName, PlainNumber, Wants, Call as PCall, Callee, Opening, FirstArg, Given, Typing, Typed, Goto as PGoto, If as PIf, IfOperand, Tested, IfGoto, Return as PReturn, Full}
+use Rattle.mir_parse.specs.declared.so_far.Next.{Next}
+use Rattle.mir_parse.specs.declared.so_far.Next.TheVariants.{No, Go, Done, Label}
 use Rattle.mir_parse.specs.Grammar.{operand_symbol, relop_symbol, binop_symbol, unop_symbol, test_symbols, more_symbols, open_args, IsCallStart, IsForm}
 use Rattle.mir_parse.specs.Reader.{relop_of_mark, op_of_mark, op_of_word, filled, wants, mark_then, name_then, fresh, receive_word, named, arrowed, binary_with, plain_name, plain_number, call_word, first_arg, typed, goto_word, if_word, rel_with, if_operand, tested, if_goto, return_word, full, part_step}
 
@@ -294,7 +295,7 @@ mark_then_keeps mark p s ss h = tt
 
 -- where one name alone may follow
 name_keeps : (x : List ℕ) (p : Part) (s : Symbol) (ss : List Symbol) → Read p (ss ++ NAME x ∷ []) → KeepsSymbols (name_then x p s) (ss ++ s ∷ [])
-name_keeps x p (NAME y) ss h = elim (cases_Bool (pointwise nat_eq y x)) [
+name_keeps x p (NAME y) ss h = elim (cases_Bool (is_text y x)) [
   | inl is ↦ subst (λ (b : Bool). KeepsSymbols (if b then Go p else No) (ss ++ NAME y ∷ [])) (sym is) (subst (λ (z : List ℕ). Read p (ss ++ NAME z ∷ [])) (sym (same_text y x (sym is))) h)
   | inr other ↦ subst (λ (b : Bool). KeepsSymbols (if b then Go p else No) (ss ++ NAME y ∷ [])) (sym other) tt
 ]

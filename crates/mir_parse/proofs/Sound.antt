@@ -10,14 +10,14 @@ use Rattle.mir_parse.specs.declared.raw.RawForm.{RawForm}
 use Rattle.mir_parse.specs.declared.raw.RawInst.{RawInst}
 use Rattle.mir_parse.specs.declared.raw.RawLabel.{RawLabel}
 use Rattle.mir_parse.specs.RawUnit.{RawUnitShape}
-use Rattle.mir_parse.specs.declared.state.Part.{Part}
-use Rattle.mir_parse.specs.declared.state.Next.{Next}
-use Rattle.mir_parse.specs.declared.state.Next.TheVariants.{No, Go, Done, Label}
-use Rattle.mir_parse.specs.declared.state.Spot.{Spot}
-use Rattle.mir_parse.specs.declared.state.Spot.TheVariants.{Named as UnitNamed, Headed, Begun, Inside, Mid, AfterEnd}
-use Rattle.mir_parse.specs.declared.state.Reading.{Reading}
-use Rattle.mir_parse.specs.declared.state.State.{State}
-use Rattle.mir_parse.specs.declared.state.State.TheVariants.{Outside, In, Dead}
+use Rattle.mir_parse.specs.declared.so_far.Part.{Part}
+use Rattle.mir_parse.specs.declared.so_far.Next.{Next}
+use Rattle.mir_parse.specs.declared.so_far.Next.TheVariants.{No, Go, Done, Label}
+use Rattle.mir_parse.specs.declared.so_far.Spot.{Spot}
+use Rattle.mir_parse.specs.declared.so_far.Spot.TheVariants.{Named as UnitNamed, Headed, Begun, Inside, Mid, AfterEnd}
+use Rattle.mir_parse.specs.declared.so_far.Reading.{Reading}
+use Rattle.mir_parse.specs.declared.so_far.ReadSoFar.{ReadSoFar}
+use Rattle.mir_parse.specs.declared.so_far.ReadSoFar.TheVariants.{Outside, In, Stopped}
 use Rattle.mir_parse.specs.Grammar.{symbols, StartsAt, Are, IsBreak, Body, IsHead, IsText, bare, label, inst, no_unit, more}
 use Rattle.mir_parse.specs.Reader.{fresh, part_step, begin_unit, with_inst, with_label, reading_after, outside, unit_named, headed, begun, inside, after_end, spot_step, read_step, reads}
 use Rattle.mir_parse.proofs.PartSound.{Read, KeepsSymbols, fresh_keeps, part_keeps}
@@ -95,10 +95,10 @@ pub record InUnit (b : Reading) (spot : Spot) (ts : List Terminal) : Type 0 wher
   pub at : At b spot own
 
 -- what the state has read
-abbrev pub IsStateOf : State → List Terminal → Type 0
-IsStateOf (Outside units) ts = IsText ts units
-IsStateOf (In b spot) ts = InUnit b spot ts
-IsStateOf (Dead line) ts = Unit {0}
+abbrev pub IsReadFrom : ReadSoFar → List Terminal → Type 0
+IsReadFrom (Outside units) ts = IsText ts units
+IsReadFrom (In b spot) ts = InUnit b spot ts
+IsReadFrom (Stopped line) ts = Unit {0}
 
 -- the token of this symbol on this line
 abbrev token : Symbol → ℕ → Terminal
@@ -185,14 +185,14 @@ part_label b line p name s at own h keeps = record {
 }
 
 -- each of the three ways, and none is claimed where the token is refused
-after_keeps : (b : Reading) (line : ℕ) (p : Part) (n : Next) (s : Symbol) (at : ℕ) (before own : List Terminal) → IsText before b.units → (h : InPart b line p own) → KeepsSymbols n (h.ss ++ s ∷ []) → IsStateOf (reading_after b line at n) (before ++ (own ++ token s at ∷ []))
+after_keeps : (b : Reading) (line : ℕ) (p : Part) (n : Next) (s : Symbol) (at : ℕ) (before own : List Terminal) → IsText before b.units → (h : InPart b line p own) → KeepsSymbols n (h.ss ++ s ∷ []) → IsReadFrom (reading_after b line at n) (before ++ (own ++ token s at ∷ []))
 after_keeps b line p No s at before own text h keeps = tt
 after_keeps b line p (Go q) s at before own text h keeps = in_unit b (Mid line q) before (own ++ token s at ∷ []) text (part_goes b line p q s at own h keeps)
 after_keeps b line p (Done form) s at before own text h keeps = in_unit (with_inst b line form) (Inside false) before (own ++ token s at ∷ []) text (part_done b line p form s at own h keeps)
 after_keeps b line p (Label name) s at before own text h keeps = in_unit (with_label b line name) (Inside true) before (own ++ token s at ∷ []) text (part_label b line p name s at own h keeps)
 
 -- the first token of an instruction
-first_keeps : (b : Reading) (n : Next) (s : Symbol) (at : ℕ) (before own : List Terminal) → IsText before b.units → InRows b own → KeepsSymbols n (s ∷ []) → IsStateOf (reading_after b at at n) (before ++ (own ++ token s at ∷ []))
+first_keeps : (b : Reading) (n : Next) (s : Symbol) (at : ℕ) (before own : List Terminal) → IsText before b.units → InRows b own → KeepsSymbols n (s ∷ []) → IsReadFrom (reading_after b at at n) (before ++ (own ++ token s at ∷ []))
 first_keeps b No s at before own text h keeps = tt
 first_keeps b (Go q) s at before own text h keeps = in_unit b (Mid at q) before (own ++ token s at ∷ []) text (record {
   head = h.head;
@@ -243,30 +243,30 @@ broken b at own h = record {
 }
 
 -- the state that follows a symbol says what was read: between two instructions
-inside_keeps : (b : Reading) (colon : Bool) (s : Symbol) (at : ℕ) (before own : List Terminal) → IsText before b.units → At b (Inside colon) own → IsStateOf (inside b colon s at) (before ++ (own ++ token s at ∷ []))
+inside_keeps : (b : Reading) (colon : Bool) (s : Symbol) (at : ℕ) (before own : List Terminal) → IsText before b.units → At b (Inside colon) own → IsReadFrom (inside b colon s at) (before ++ (own ++ token s at ∷ []))
 inside_keeps b colon (WORD EndWord) at before own text h = in_unit b AfterEnd before (own ++ token (WORD EndWord) at ∷ []) text (end_of_rows b at own (rows_of b colon own h))
 inside_keeps b true NL at before own text h = in_unit b (Inside false) before (own ++ token NL at ∷ []) text (broken b at own h)
 inside_keeps b colon s at before own text h = first_keeps b (fresh s) s at before own text (rows_of b colon own h) (fresh_keeps s)
 
 -- outside units
-outside_keeps : (units : List RawUnitShape) (s : Symbol) (at : ℕ) (before : List Terminal) → IsText before units → IsStateOf (outside units s at) (before ++ token s at ∷ [])
+outside_keeps : (units : List RawUnitShape) (s : Symbol) (at : ℕ) (before : List Terminal) → IsText before units → IsReadFrom (outside units s at) (before ++ token s at ∷ [])
 outside_keeps units (NAME x) at before text = in_unit (begin_unit units x at) UnitNamed before (token (NAME x) at ∷ []) text (record { spelled = refl; starts = refl }, (refl, refl))
 outside_keeps units s at before text = tt
 
 -- after the name of a unit
-unit_named_keeps : (b : Reading) (s : Symbol) (at : ℕ) (before own : List Terminal) → IsText before b.units → At b UnitNamed own → IsStateOf (unit_named b s at) (before ++ (own ++ token s at ∷ []))
+unit_named_keeps : (b : Reading) (s : Symbol) (at : ℕ) (before own : List Terminal) → IsText before b.units → At b UnitNamed own → IsReadFrom (unit_named b s at) (before ++ (own ++ token s at ∷ []))
 unit_named_keeps b (MARK Colon) at before own text h = in_unit b (Headed true) before (own ++ token (MARK Colon) at ∷ []) text (record { are = are_on own b.unit.line (NAME b.unit.name ∷ []) (MARK Colon) at h.0; empty = h.1 })
 unit_named_keeps b s at before own text h = tt
 
 -- after its colon
-headed_keeps : (b : Reading) (colon : Bool) (s : Symbol) (at : ℕ) (before own : List Terminal) → IsText before b.units → At b (Headed colon) own → IsStateOf (headed b colon s at) (before ++ (own ++ token s at ∷ []))
+headed_keeps : (b : Reading) (colon : Bool) (s : Symbol) (at : ℕ) (before own : List Terminal) → IsText before b.units → At b (Headed colon) own → IsReadFrom (headed b colon s at) (before ++ (own ++ token s at ∷ []))
 headed_keeps b true (WORD BeginWord) at before own text h = in_unit b Begun before (own ++ token (WORD BeginWord) at ∷ []) text ([], inl refl, record { are = are_on own b.unit.line (NAME b.unit.name ∷ MARK Colon ∷ []) (WORD BeginWord) at h.are; empty = h.empty })
 headed_keeps b false (WORD BeginWord) at before own text h = in_unit b Begun before (own ++ token (WORD BeginWord) at ∷ []) text (NL ∷ [], inr refl, record { are = are_on own b.unit.line (NAME b.unit.name ∷ MARK Colon ∷ NL ∷ []) (WORD BeginWord) at h.are; empty = h.empty })
 headed_keeps b true NL at before own text h = in_unit b (Headed false) before (own ++ token NL at ∷ []) text (record { are = are_on own b.unit.line (NAME b.unit.name ∷ MARK Colon ∷ []) NL at h.are; empty = h.empty })
 headed_keeps b colon s at before own text h = tt
 
 -- after `begin`
-begun_keeps : (b : Reading) (s : Symbol) (at : ℕ) (before own : List Terminal) → IsText before b.units → At b Begun own → IsStateOf (begun b s at) (before ++ (own ++ token s at ∷ []))
+begun_keeps : (b : Reading) (s : Symbol) (at : ℕ) (before own : List Terminal) → IsText before b.units → At b Begun own → IsReadFrom (begun b s at) (before ++ (own ++ token s at ∷ []))
 begun_keeps b NL at before own text h = in_unit b (Inside false) before (own ++ token NL at ∷ []) text (record {
   head = own ++ token NL at ∷ [];
   rows = [];
@@ -283,7 +283,7 @@ begun_keeps b NL at before own text h = in_unit b (Inside false) before (own ++ 
 begun_keeps b s at before own text h = tt
 
 -- after `end`
-after_end_keeps : (b : Reading) (s : Symbol) (at : ℕ) (before own : List Terminal) → IsText before b.units → At b AfterEnd own → IsStateOf (after_end b s at) (before ++ (own ++ token s at ∷ []))
+after_end_keeps : (b : Reading) (s : Symbol) (at : ℕ) (before own : List Terminal) → IsText before b.units → At b AfterEnd own → IsReadFrom (after_end b s at) (before ++ (own ++ token s at ∷ []))
 after_end_keeps b NL at before own text h = more b.unit text (record {
   head = h.head;
   body = h.rows;
@@ -296,7 +296,7 @@ after_end_keeps b NL at before own text h = more b.unit text (record {
 after_end_keeps b s at before own text h = tt
 
 -- at each place in a unit
-spot_keeps : (b : Reading) (spot : Spot) (s : Symbol) (at : ℕ) (before own : List Terminal) → IsText before b.units → At b spot own → IsStateOf (spot_step b spot s at) (before ++ (own ++ token s at ∷ []))
+spot_keeps : (b : Reading) (spot : Spot) (s : Symbol) (at : ℕ) (before own : List Terminal) → IsText before b.units → At b spot own → IsReadFrom (spot_step b spot s at) (before ++ (own ++ token s at ∷ []))
 spot_keeps b UnitNamed s at before own text h = unit_named_keeps b s at before own text h
 spot_keeps b (Headed colon) s at before own text h = headed_keeps b colon s at before own text h
 spot_keeps b Begun s at before own text h = begun_keeps b s at before own text h
@@ -305,18 +305,18 @@ spot_keeps b (Mid line p) s at before own text h = after_keeps b line p (part_st
 spot_keeps b AfterEnd s at before own text h = after_end_keeps b s at before own text h
 
 -- what was read stays true with each token
-token_keeps : (st : State) (t : Terminal) (ts : List Terminal) → IsStateOf st ts → IsStateOf (read_step st t) (ts ++ t ∷ [])
+token_keeps : (st : ReadSoFar) (t : Terminal) (ts : List Terminal) → IsReadFrom st ts → IsReadFrom (read_step st t) (ts ++ t ∷ [])
 token_keeps (Outside units) t ts h = outside_keeps units t.symbol t.line ts h
-token_keeps (In b spot) t ts h = subst (λ (l : List Terminal). IsStateOf (spot_step b spot t.symbol t.line) l)
+token_keeps (In b spot) t ts h = subst (λ (l : List Terminal). IsReadFrom (spot_step b spot t.symbol t.line) l)
     (sym (ap (λ (l : List Terminal). l ++ t ∷ []) h.is ∙ append_assoc h.before h.own (t ∷ [])))
     (spot_keeps b spot t.symbol t.line h.before h.own h.text h.at)
-token_keeps (Dead line) t ts h = tt
+token_keeps (Stopped line) t ts h = tt
 
 -- what a state has read, with more tokens
-pub tokens_keep : (st : State) (ts us : List Terminal) → IsStateOf st ts → IsStateOf (fold read_step st us) (ts ++ us)
-tokens_keep st ts [] h = subst (λ (l : List Terminal). IsStateOf st l) (sym (append-nil ts)) h
-tokens_keep st ts (u ∷ us) h = subst (λ (l : List Terminal). IsStateOf (fold read_step (read_step st u) us) l) (append_assoc ts (u ∷ []) us) (tokens_keep (read_step st u) (ts ++ u ∷ []) us (token_keeps st u ts h))
+pub tokens_keep : (st : ReadSoFar) (ts us : List Terminal) → IsReadFrom st ts → IsReadFrom (fold read_step st us) (ts ++ us)
+tokens_keep st ts [] h = subst (λ (l : List Terminal). IsReadFrom st l) (sym (append-nil ts)) h
+tokens_keep st ts (u ∷ us) h = subst (λ (l : List Terminal). IsReadFrom (fold read_step (read_step st u) us) l) (append_assoc ts (u ∷ []) us) (tokens_keep (read_step st u) (ts ++ u ∷ []) us (token_keeps st u ts h))
 
 -- what is read outside a unit is a text
-pub reads_keeps : (ts : List Terminal) → IsStateOf (reads ts) ts
+pub reads_keeps : (ts : List Terminal) → IsReadFrom (reads ts) ts
 reads_keeps ts = tokens_keep (Outside []) [] ts no_unit

@@ -14,7 +14,7 @@ use Rattle.mir_parse.specs.RawUnit.{RawUnitShape}
 use Rattle.mir_parse.specs.Fault.{IsParseMemory}
 use Rattle.mir_parse.specs.Grammar.{IsText, IsUnexpected, IsUnfinished}
 use Rattle.mir_parse.specs.Spells.{Spells, IsTextRefusal, TokensRefused}
-use Rattle.mir_parse.proofs.Exact.{text_same, unexpected_dead, outside_unexpected, outside_unfinished, dead_unfinished}
+use Rattle.mir_parse.proofs.Exact.{text_same, unexpected_stopped, outside_unexpected, outside_unfinished, stopped_unfinished}
 use Rattle.mir_parse.proofs.Complete.{text_run}
 
 -- a fact of the terminals of a text, at a text and tokens that are the same
@@ -57,10 +57,10 @@ same_lex other fault (inr memory) = inr memory
 
 -- tokens are refused for at most one cause
 tokens_refused_same : (bytes : List ℕ) (items : List Token) (one other : ParseFault) → TokensRefused bytes items one → TokensRefused bytes items other → one ≡ other
-tokens_refused_same bytes items (Unexpected m) (Unexpected n) is also = let e = sym (unexpected_dead _ m is) ∙ unexpected_dead _ n also in cc
-tokens_refused_same bytes items (Unexpected m) Unfinished is also = absurd (dead_unfinished _ m (sym (unexpected_dead _ m is)) also)
+tokens_refused_same bytes items (Unexpected m) (Unexpected n) is also = let e = sym (unexpected_stopped _ m is) ∙ unexpected_stopped _ n also in cc
+tokens_refused_same bytes items (Unexpected m) Unfinished is also = absurd (stopped_unfinished _ m (sym (unexpected_stopped _ m is)) also)
 tokens_refused_same bytes items (Unexpected m) (Memory refusal) is also = absurd also
-tokens_refused_same bytes items Unfinished (Unexpected n) is also = absurd (dead_unfinished _ n (sym (unexpected_dead _ n also)) is)
+tokens_refused_same bytes items Unfinished (Unexpected n) is also = absurd (stopped_unfinished _ n (sym (unexpected_stopped _ n also)) is)
 tokens_refused_same bytes items Unfinished Unfinished is also = refl
 tokens_refused_same bytes items Unfinished (Memory refusal) is also = absurd also
 tokens_refused_same bytes items (Memory refusal) other is also = absurd is
@@ -73,14 +73,14 @@ tokens_refused_none bytes items (Memory refusal) units is text = is
 
 -- a text is refused for at most one cause, where this is so of its tokens
 pub refusals_same : (bytes : List ℕ) → TokensAreUnique bytes → RefusalIsUnique bytes → HasNoTokensIfRefused bytes → (one other : TextFault) → IsTextRefusal bytes one → IsTextRefusal bytes other → one ≡ other
-refusals_same bytes row fault none (Lex one) (Lex other) is also = ap Lex (fault one other is also)
-refusals_same bytes row fault none (Lex one) (Parse other) is also = absurd (none one is also.0 also.1)
-refusals_same bytes row fault none (Parse one) (Lex other) is also = absurd (none other also is.0 is.1)
-refusals_same bytes row fault none (Parse one) (Parse other) is also =
-    ap Parse (tokens_refused_same bytes is.0 one other is.2 (subst (λ (items : List Token). TokensRefused bytes items other) (row also.0 is.0 also.1 is.1) also.2))
+refusals_same bytes unique fault none (Lex one) (Lex other) is also = ap Lex (fault one other is also)
+refusals_same bytes unique fault none (Lex one) (Parse other) is also = absurd (none one is also.0 also.1)
+refusals_same bytes unique fault none (Parse one) (Lex other) is also = absurd (none other also is.0 is.1)
+refusals_same bytes unique fault none (Parse one) (Parse other) is also =
+    ap Parse (tokens_refused_same bytes is.0 one other is.2 (subst (λ (items : List Token). TokensRefused bytes items other) (unique also.0 is.0 also.1 is.1) also.2))
 
 -- and one that spells a raw program is not refused
 pub refusal_spells : (bytes : List ℕ) → TokensAreUnique bytes → HasNoTokensIfRefused bytes → (fault : TextFault) → IsTextRefusal bytes fault → (raw : Raw) → Spells bytes raw → ⊥
-refusal_spells bytes row none (Lex fault) is raw spells = none fault is spells.items spells.tokens
-refusal_spells bytes row none (Parse fault) is raw spells =
-    tokens_refused_none bytes spells.items fault raw.units (subst (λ (items : List Token). TokensRefused bytes items fault) (row is.0 spells.items is.1 spells.tokens) is.2) spells.text
+refusal_spells bytes unique none (Lex fault) is raw spells = none fault is spells.items spells.tokens
+refusal_spells bytes unique none (Parse fault) is raw spells =
+    tokens_refused_none bytes spells.items fault raw.units (subst (λ (items : List Token). TokensRefused bytes items fault) (unique is.0 spells.items is.1 spells.tokens) is.2) spells.text

@@ -1,7 +1,6 @@
 -- The reader: what each token makes of what was read before it. A comment names what stands before the token. Cited by
 -- contracts of functions that are not public.
-use Rattle.std.specs.Prelude.{◌≡◌, slice_get, Result, IfOk, ℕ, ℤ, Bool, true, false, List, [], ◌∷◌, ◌++◌, fold, nat_eq, codes, option_map, Option, None, Some, if◌then◌else◌}
-use Rattle.std.specs.Cmp.Lexicographic.{pointwise}
+use Rattle.std.specs.Prelude.{◌≡◌, slice_get, Result, IfOk, ℕ, ℤ, Bool, true, false, List, [], ◌∷◌, ◌++◌, fold, codes, option_map, Option, None, Some, if◌then◌else◌}
 use Rattle.mir_base.specs.declared.operators.Op.{Op}
 use Rattle.mir_base.specs.declared.operators.Op.TheVariants.{Add, Sub, Mul, Div, Mod, Min, Max, Shl, Shr, Shra, And, Or, Xor}
 use Rattle.mir_base.specs.Operators.{op_of_relation}
@@ -13,6 +12,7 @@ use Rattle.mir_lex.specs.declared.terminals.Symbol.TheVariants.{Name as NAME, Wo
 use Rattle.mir_lex.specs.declared.terminals.Terminal.{Terminal}
 use Rattle.mir_lex.specs.declared.words.Mark.{Mark}
 use Rattle.mir_lex.specs.declared.words.Mark.TheVariants.{Colon, Comma, Semicolon, LeftParen, RightParen, Plus, Minus, Star, Slash, Equal, NotEqual, Less, LessEqual, Greater, GreaterEqual, Bang, Arrow}
+use Rattle.mir_base.specs.Words.{is_text}
 use Rattle.mir_base.specs.declared.words.Word.{Word}
 use Rattle.mir_base.specs.declared.words.Word.TheVariants.{Begin as BeginWord, End as EndWord, Receive as ReceiveWord, Goto as GotoWord, If as IfWord, Call as CallWord, Return as ReturnWord, Print as PrintWord, Mod as ModWord, Min as MinWord, Max as MaxWord, Shl as ShlWord, Shr as ShrWord, Shra as ShraWord, And as AndWord, Or as OrWord, Xor as XorWord}
 use Rattle.mir_parse.specs.declared.raw.RawOperand.{RawOperand}
@@ -23,19 +23,19 @@ use Rattle.mir_parse.specs.declared.raw.RawTest.TheVariants.{Rel, Holds, Fails}
 use Rattle.mir_parse.specs.declared.raw.RawForm.{RawForm}
 use Rattle.mir_parse.specs.declared.raw.RawForm.TheVariants.{Receive, Assign, Goto, If, Call, Print, Return}
 use Rattle.mir_parse.specs.RawUnit.{RawUnitShape, unit_begun, unit_with_inst, unit_with_label}
-use Rattle.mir_parse.specs.declared.state.Hole.{Hole}
-use Rattle.mir_parse.specs.declared.state.Hole.TheVariants.{Unary as OfUnary, Binary as OfBinary, Arg as OfArg, Fails as OfFails, Rel as OfRel, Print as OfPrint}
-use Rattle.mir_parse.specs.declared.state.Part.{Part}
-use Rattle.mir_parse.specs.declared.state.Part.TheVariants.{Fresh, Receive as PReceive, ReceiveName, ReceiveOpen, ReceiveVal, Named, Arrowed, PlainName, PlainNumber, Wants, Call as PCall, Callee, Opening, FirstArg, Given, Typing, Typed, Goto as PGoto, If as PIf, IfOperand, Tested, IfGoto, Return as PReturn, Full}
-use Rattle.mir_parse.specs.declared.state.Next.{Next}
-use Rattle.mir_parse.specs.declared.state.Next.TheVariants.{No, Go, Done, Label}
-use Rattle.mir_parse.specs.declared.state.Spot.{Spot}
-use Rattle.mir_parse.specs.declared.state.Spot.TheVariants.{Named as UnitNamed, Headed, Begun, Inside, Mid, AfterEnd}
-use Rattle.mir_parse.specs.declared.state.Reading.{Reading}
-use Rattle.mir_parse.specs.declared.state.State.{State}
-use Rattle.mir_parse.specs.declared.state.Turn.{Turn}
-use Rattle.mir_parse.specs.declared.state.Turn.TheVariants.{Goes, Ends, Stops}
-use Rattle.mir_parse.specs.declared.state.State.TheVariants.{Outside, In, Dead}
+use Rattle.mir_parse.specs.declared.so_far.Hole.{Hole}
+use Rattle.mir_parse.specs.declared.so_far.Hole.TheVariants.{Unary as OfUnary, Binary as OfBinary, Arg as OfArg, Fails as OfFails, Rel as OfRel, Print as OfPrint}
+use Rattle.mir_parse.specs.declared.so_far.Part.{Part}
+use Rattle.mir_parse.specs.declared.so_far.Part.TheVariants.{Fresh, Receive as PReceive, ReceiveName, ReceiveOpen, ReceiveVal, Named, Arrowed, PlainName, PlainNumber, Wants, Call as PCall, Callee, Opening, FirstArg, Given, Typing, Typed, Goto as PGoto, If as PIf, IfOperand, Tested, IfGoto, Return as PReturn, Full}
+use Rattle.mir_parse.specs.declared.so_far.Next.{Next}
+use Rattle.mir_parse.specs.declared.so_far.Next.TheVariants.{No, Go, Done, Label}
+use Rattle.mir_parse.specs.declared.so_far.Spot.{Spot}
+use Rattle.mir_parse.specs.declared.so_far.Spot.TheVariants.{Named as UnitNamed, Headed, Begun, Inside, Mid, AfterEnd}
+use Rattle.mir_parse.specs.declared.so_far.Reading.{Reading}
+use Rattle.mir_parse.specs.declared.so_far.ReadSoFar.{ReadSoFar}
+use Rattle.mir_parse.specs.declared.so_far.Turn.{Turn}
+use Rattle.mir_parse.specs.declared.so_far.Turn.TheVariants.{Goes, Ends, Stops}
+use Rattle.mir_parse.specs.declared.so_far.ReadSoFar.TheVariants.{Outside, In, Stopped}
 
 -- the relation that a mark names in a test
 abbrev pub relop_of_mark : Mark → Option RelOp
@@ -92,7 +92,7 @@ mark_then mark part symbol = No
 
 -- a place where only this name may stand
 abbrev pub name_then : List ℕ → Part → Symbol → Next
-name_then x part (NAME y) = if pointwise nat_eq y x then Go part else No
+name_then x part (NAME y) = if is_text y x then Go part else No
 name_then x part symbol = No
 
 -- nothing: the first token of an instruction
@@ -247,46 +247,46 @@ abbrev pub with_label : Reading → ℕ → List ℕ → Reading
 with_label reading line name = record reading { unit = unit_with_label reading.unit line name }
 
 -- what a token on line `at` made of an instruction that began on `line`
-abbrev pub reading_after : Reading → ℕ → ℕ → Next → State
-reading_after reading line at No = Dead at
+abbrev pub reading_after : Reading → ℕ → ℕ → Next → ReadSoFar
+reading_after reading line at No = Stopped at
 reading_after reading line at (Go part) = In reading (Mid line part)
 reading_after reading line at (Done form) = In (with_inst reading line form) (Inside false)
 reading_after reading line at (Label name) = In (with_label reading line name) (Inside true)
 
 -- between two units
-abbrev pub outside : List RawUnitShape → Symbol → ℕ → State
+abbrev pub outside : List RawUnitShape → Symbol → ℕ → ReadSoFar
 outside units (NAME x) at = In (begin_unit units x at) UnitNamed
-outside units symbol at = Dead at
+outside units symbol at = Stopped at
 
 -- after the name of a unit
-abbrev pub unit_named : Reading → Symbol → ℕ → State
+abbrev pub unit_named : Reading → Symbol → ℕ → ReadSoFar
 unit_named reading (MARK Colon) at = In reading (Headed true)
-unit_named reading symbol at = Dead at
+unit_named reading symbol at = Stopped at
 
 -- after the name and the colon of a unit
-abbrev pub headed : Reading → Bool → Symbol → ℕ → State
+abbrev pub headed : Reading → Bool → Symbol → ℕ → ReadSoFar
 headed reading after_colon (WORD BeginWord) at = In reading Begun
 headed reading true NL at = In reading (Headed false)
-headed reading after_colon symbol at = Dead at
+headed reading after_colon symbol at = Stopped at
 
 -- after `begin`
-abbrev pub begun : Reading → Symbol → ℕ → State
+abbrev pub begun : Reading → Symbol → ℕ → ReadSoFar
 begun reading NL at = In reading (Inside false)
-begun reading symbol at = Dead at
+begun reading symbol at = Stopped at
 
 -- between two instructions
-abbrev pub inside : Reading → Bool → Symbol → ℕ → State
+abbrev pub inside : Reading → Bool → Symbol → ℕ → ReadSoFar
 inside reading after_colon (WORD EndWord) at = In reading AfterEnd
 inside reading true NL at = In reading (Inside false)
 inside reading after_colon symbol at = reading_after reading at at (fresh symbol)
 
 -- after `end`
-abbrev pub after_end : Reading → Symbol → ℕ → State
+abbrev pub after_end : Reading → Symbol → ℕ → ReadSoFar
 after_end reading NL at = Outside (reading.units ++ reading.unit ∷ [])
-after_end reading symbol at = Dead at
+after_end reading symbol at = Stopped at
 
 -- what a token makes of the unit that is read
-abbrev pub spot_step : Reading → Spot → Symbol → ℕ → State
+abbrev pub spot_step : Reading → Spot → Symbol → ℕ → ReadSoFar
 spot_step reading UnitNamed symbol at = unit_named reading symbol at
 spot_step reading (Headed after_colon) symbol at = headed reading after_colon symbol at
 spot_step reading Begun symbol at = begun reading symbol at
@@ -295,34 +295,34 @@ spot_step reading (Mid line part) symbol at = reading_after reading line at (par
 spot_step reading AfterEnd symbol at = after_end reading symbol at
 
 -- the state after a token that turned the unit to this, with what was read and the place in it after the token
-abbrev pub unit_turned : Turn → Reading → Spot → ℕ → State
+abbrev pub unit_turned : Turn → Reading → Spot → ℕ → ReadSoFar
 unit_turned Goes reading spot at = In reading spot
 unit_turned Ends reading spot at = Outside (reading.units ++ reading.unit ∷ [])
-unit_turned Stops reading spot at = Dead at
+unit_turned Stops reading spot at = Stopped at
 
 -- the token turned the unit so that this is the state after it, unless memory runs out
-abbrev pub Turns : {E : Type 0} → State → Reading → Spot → ℕ → Result Turn E → Type 0
+abbrev pub Turns : {E : Type 0} → ReadSoFar → Reading → Spot → ℕ → Result Turn E → Type 0
 Turns state reading spot at result = IfOk result (λ turn. unit_turned turn reading spot at ≡ state)
 
 -- the same for a token that leaves what was read as it is
-abbrev pub TurnsEach : (Reading → ℕ → State) → Spot → Turn → Type 0
+abbrev pub TurnsEach : (Reading → ℕ → ReadSoFar) → Spot → Turn → Type 0
 TurnsEach step spot turn = (reading : Reading) → (at : ℕ) → unit_turned turn reading spot at ≡ step reading at
 
 -- the second state is what a token made of the first one, in a unit
-abbrev pub state_turned : Turn → State → ℕ → State → Type 0
+abbrev pub state_turned : Turn → ReadSoFar → ℕ → ReadSoFar → Type 0
 state_turned turn (In reading spot) at next = next ≡ unit_turned turn reading spot at
 state_turned turn state at next = Unit {0}
 
 -- what a token makes of what was read
-abbrev pub read_step : State → Terminal → State
+abbrev pub read_step : ReadSoFar → Terminal → ReadSoFar
 read_step (Outside units) token = outside units token.symbol token.line
 read_step (In reading spot) token = spot_step reading spot token.symbol token.line
-read_step (Dead line) token = Dead line
+read_step (Stopped line) token = Stopped line
 
 -- what was read after these tokens
-abbrev pub reads : List Terminal → State
+abbrev pub reads : List Terminal → ReadSoFar
 reads ts = fold read_step (Outside []) ts
 
 -- the second state is what the token of this number makes of the first one
-abbrev pub HasStepped : List Terminal → ℕ → State → State → Type 0
+abbrev pub HasStepped : List Terminal → ℕ → ReadSoFar → ReadSoFar → Type 0
 HasStepped ts number state next = (terminal : Terminal) × (slice_get ts number ≡ Some terminal) × (next ≡ read_step state terminal)

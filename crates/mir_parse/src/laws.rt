@@ -4,14 +4,15 @@ ghost use Rattle.mir_parse.specs.Spells.{RawIsUnique, TextRefusalIsUnique, Refus
 
 use mir_lex::tokens_are_unique;
 
-/// A law: no text spells two raw programs. It does not allocate.
+/// Has no effect; carries the theorem that no text spells two raw programs.
 pub fn raw_is_unique()
     ensures { (text : List ℕ) → RawIsUnique text }
 {
     tokens_are_unique();
 }
 
-/// A law: no text is refused for two causes, and none that spells a raw program is refused. It does not allocate.
+/// Has no effect; carries the theorem that no text is refused for two causes, and none that spells a raw program is
+/// refused.
 pub fn refusal_is_unique()
     ensures one { (text : List ℕ) → TextRefusalIsUnique text }
     ensures none { (text : List ℕ) → RefusedSpellsNothing text }

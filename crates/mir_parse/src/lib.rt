@@ -14,7 +14,7 @@ mod parsing;
 mod parts;
 mod raw;
 mod reading;
-mod state;
+mod so_far;
 mod units;
 
 pub use faults::{ParseFault, TextFault};

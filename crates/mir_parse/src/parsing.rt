@@ -4,7 +4,7 @@ ghost use Rattle.mir_parse.specs.Grammar.{IsText, IsUnfinished, UnitsAreUnique, 
 ghost use Rattle.mir_parse.specs.Reader.{reads, HasStepped};
 ghost use Rattle.mir_parse.specs.Answers.{IsRefusedFor, AnswersUnits, OnlyUnexpectedIsRefused, UnexpectedIsRefused};
 
-use crate::state::State;
+use crate::so_far::ReadSoFar;
 use crate::units::step;
 use crate::{Memory, ParseFault, Raw};
 use mir_base::Items;
@@ -36,9 +36,9 @@ pub fn parse(alloc: Global, tokens: &Tokens) -> Result<Raw, ParseFault>
         → IsRefusedFor result ParseFault.Unfinished }
 {
     match read(alloc, tokens) {
-        Ok(State::Outside(units)) => Ok(Raw { units }),
-        Ok(State::Dead(line)) => Err(ParseFault::Unexpected(line)),
-        Ok(State::In(reading, spot)) => {
+        Ok(ReadSoFar::Outside(units)) => Ok(Raw { units }),
+        Ok(ReadSoFar::Stopped(line)) => Err(ParseFault::Unexpected(line)),
+        Ok(ReadSoFar::In(reading, spot)) => {
             mem::drop(reading);
             mem::drop(spot);
             Err(ParseFault::Unfinished)
@@ -49,12 +49,12 @@ pub fn parse(alloc: Global, tokens: &Tokens) -> Result<Raw, ParseFault>
 
 // The state behind the last token, or behind the first one that cannot stand where it stands. It fails only with
 // `Memory`.
-fn read(alloc: Global, tokens: &Tokens) -> Result<State, Memory>
+fn read(alloc: Global, tokens: &Tokens) -> Result<ReadSoFar, Memory>
     ensures { IfOk result (λ state. state ≡ reads (terminals_of tokens.now)) }
 {
-    let mut state = State::Outside(Items::new(alloc));
+    let mut state = ReadSoFar::Outside(Items::new(alloc));
     for number in 0..tokens.items.items().len() {
-        if let State::Dead(_) = state {
+        if let ReadSoFar::Stopped(_) = state {
             return Ok(state);
         }
         if let Err(refused) = step_at(alloc, tokens, number, &mut state) {
@@ -66,7 +66,12 @@ fn read(alloc: Global, tokens: &Tokens) -> Result<State, Memory>
 }
 
 // Changes the state as the token of this number does. It fails only with `Memory`.
-fn step_at(alloc: Global, tokens: &Tokens, number: usize, state: &mut State) -> Result<(), Memory>
+fn step_at(
+    alloc: Global,
+    tokens: &Tokens,
+    number: usize,
+    state: &mut ReadSoFar,
+) -> Result<(), Memory>
     requires { number < length tokens.now.items }
     ensures { OnOk result (HasStepped (terminals_of tokens.now) number state.old state.new) }
 {

@@ -3,7 +3,7 @@
 ghost use Rattle.std.specs.Prelude.{◌≡◌, IfOk};
 ghost use Rattle.mir_parse.specs.Reader.{relop_of_mark, op_of_mark, op_of_word, filled, wants, mark_then, name_then, fresh, receive_word, named, arrowed, binary_with, plain_name, plain_number, call_word, first_arg, typed, goto_word, if_word, rel_with, if_operand, tested, if_goto, return_word, full, part_step};
 
-use crate::state::{Hole, Next, Part};
+use crate::so_far::{Hole, Next, Part};
 use crate::{Memory, RawForm, RawOperand, RawRhs, RawTest};
 use mir_base::{Items, Name, Op, RelOp, UnOp, Word, op_of_relation};
 use mir_lex::{Mark, Symbol};

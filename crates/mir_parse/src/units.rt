@@ -4,7 +4,7 @@ ghost use Rattle.std.specs.Prelude.{◌≡◌, OnOk};
 ghost use Rattle.mir_parse.specs.Reader.{Turns, TurnsEach, state_turned, reading_after, outside, unit_named, headed, begun, inside, after_end, spot_step, read_step};
 
 use crate::parts::{fresh, part_step};
-use crate::state::{Next, Reading, Spot, State, Turn};
+use crate::so_far::{Next, ReadSoFar, Reading, Spot, Turn};
 use crate::{Memory, RawUnit};
 use mir_base::{Items, Word};
 use mir_lex::{Mark, Symbol, Terminal};
@@ -12,68 +12,68 @@ use std::alloc::Global;
 use std::mem;
 
 /// Changes the state as the token does. It fails only with `Memory`.
-pub fn step(alloc: Global, state: &mut State, token: Terminal) -> Result<(), Memory>
+pub fn step(alloc: Global, state: &mut ReadSoFar, token: Terminal) -> Result<(), Memory>
     ensures { OnOk result (state.new ≡ read_step state.old token) }
 {
     match state {
-        State::Outside(units) => {
+        ReadSoFar::Outside(units) => {
             let units = mem::replace(units, Items::new(alloc));
             put(state, outside(alloc, units, token.symbol, token.line));
             Ok(())
         }
-        State::In(reading, spot) => {
+        ReadSoFar::In(reading, spot) => {
             let turn = spot_step(alloc, reading, spot, token.symbol, token.line)?;
             turned(state, turn, token.line)
         }
-        State::Dead(_) => Ok(()),
+        ReadSoFar::Stopped(_) => Ok(()),
     }
 }
 
 // Puts a state in the place of another, which is dropped.
-fn put(state: &mut State, next: State)
+fn put(state: &mut ReadSoFar, next: ReadSoFar)
     ensures { state.new ≡ next }
 {
     mem::drop(mem::replace(state, next));
 }
 
 // The state after a token between two units, where only the name of a unit may stand.
-fn outside(alloc: Global, units: Items<RawUnit>, symbol: Symbol, at: usize) -> State
+fn outside(alloc: Global, units: Items<RawUnit>, symbol: Symbol, at: usize) -> ReadSoFar
     ensures { result ≡ outside units symbol at }
 {
     match symbol {
-        Symbol::Name(name) => State::In(
+        Symbol::Name(name) => ReadSoFar::In(
             Reading {
                 units,
                 unit: RawUnit::begun(alloc, name, at),
             },
             Spot::Named,
         ),
-        _ => State::Dead(at),
+        _ => ReadSoFar::Stopped(at),
     }
 }
 
 // The state in a unit of which a token made this.
-fn turned(state: &mut State, turn: Turn, at: usize) -> Result<(), Memory>
+fn turned(state: &mut ReadSoFar, turn: Turn, at: usize) -> Result<(), Memory>
     ensures { OnOk result (state_turned turn state.old at state.new) }
 {
     match turn {
         Turn::Goes => Ok(()),
         Turn::Ends => whole(state),
         Turn::Stops => {
-            put(state, State::Dead(at));
+            put(state, ReadSoFar::Stopped(at));
             Ok(())
         }
     }
 }
 
 // The unit that is read becomes the last of the whole units.
-fn whole(state: &mut State) -> Result<(), Memory>
+fn whole(state: &mut ReadSoFar) -> Result<(), Memory>
     ensures { OnOk result (state_turned Turn.Ends state.old 0 state.new) }
 {
-    match mem::replace(state, State::Dead(0)) {
-        State::In(reading, spot) => {
+    match mem::replace(state, ReadSoFar::Stopped(0)) {
+        ReadSoFar::In(reading, spot) => {
             mem::drop(spot);
-            put(state, State::Outside(reading.units.with(reading.unit)?));
+            put(state, ReadSoFar::Outside(reading.units.with(reading.unit)?));
             Ok(())
         }
         other => {
@@ -106,15 +106,6 @@ fn spot_step(
     }
 }
 
-// Sets the place in the unit, which goes on there.
-fn go_to(spot: &mut Spot, next: Spot) -> Turn
-    ensures turn { result ≡ Turn.Goes }
-    ensures spot { spot.new ≡ next }
-{
-    mem::drop(mem::replace(spot, next));
-    Turn::Goes
-}
-
 // A token after the name of a unit: only `:`.
 fn unit_named(spot: &mut Spot, symbol: Symbol) -> Turn
     ensures { TurnsEach (λ reading at. unit_named reading symbol at) spot.new result }
@@ -123,6 +114,15 @@ fn unit_named(spot: &mut Spot, symbol: Symbol) -> Turn
         Symbol::Mark(Mark::Colon) => go_to(spot, Spot::Headed(true)),
         _ => Turn::Stops,
     }
+}
+
+// Sets the place in the unit, which goes on there.
+fn go_to(spot: &mut Spot, next: Spot) -> Turn
+    ensures turn { result ≡ Turn.Goes }
+    ensures spot { spot.new ≡ next }
+{
+    mem::drop(mem::replace(spot, next));
+    Turn::Goes
 }
 
 // A token after the name and the colon of a unit: `begin`, or one line end before it.

@@ -30,9 +30,9 @@ mark_at marks target place before low is = elim (cases_Bool (nat_eq target place
 ]
 
 -- an instruction that does not jump to the place leaves the answer for it as it was
-calm : (body : List Inst) (i : ℕ) (inst : Inst) (marks : List Bool) (place : ℕ) → i < length body → inst ≡ get_or body i inst → jumps_to place inst ≡ false → get_or marks place false ≡ is_target (take i body) place
+no_jump : (body : List Inst) (i : ℕ) (inst : Inst) (marks : List Bool) (place : ℕ) → i < length body → inst ≡ get_or body i inst → jumps_to place inst ≡ false → get_or marks place false ≡ is_target (take i body) place
     → get_or marks place false ≡ is_target (take (i + 1) body) place
-calm body i inst marks place low at still is =
+no_jump body i inst marks place low at still is =
     is ∙ sym (or-false (is_target (take i body) place)) ∙ ap (λ (b : Bool). is_target (take i body) place || b) (sym still) ∙ sym (target_more body i inst place low at)
 
 -- a jump marks its target, and so the answer for each place is that of one more instruction
@@ -46,7 +46,7 @@ pub marked_more : (body : List Inst) (i : ℕ) (inst : Inst) (marks : List Bool)
     → get_or (target_marked marks inst) place false ≡ is_target (take (i + 1) body) place
 marked_more body i (Goto target) marks place low at within is = jump body i (Goto target) marks target place low at refl within is
 marked_more body i (If test target) marks place low at within is = jump body i (If test target) marks target place low at refl within is
-marked_more body i inst marks place low at within is = calm body i inst marks place low at refl is
+marked_more body i inst marks place low at within is = no_jump body i inst marks place low at refl is
 
 -- marking a place keeps the number of marks
 pub length_marked : (marks : List Bool) (inst : Inst) → length (target_marked marks inst) ≡ length marks

@@ -244,6 +244,6 @@ text_spells program spelled =
     let all = units_read (map (λ (unit : UnitShape). unit.name) program.units) program.units text [] 1 [] [] [] spelled (read_start text) no_unit (sym (append-nil text)) in
     record {
       items = all.read.items;
-      tokens = record { before = all.read.items; previous = AfterLineEnd; row = all.read.row; items_are = refl };
+      tokens = record { before = all.read.items; previous = AfterLineEnd; spelled = all.read.spelled; items_are = refl };
       text = subst (λ (ts : List Terminal). IsText ts (raw_of program).units) (sym all.read.tokens) all.is;
     }

@@ -1,4 +1,4 @@
--- Lines as rows of tokens and blanks: what their tokens are.
+-- Lines as pieces, which are tokens and blanks: what their tokens are.
 use Rattle.std.proofs.Common.{◌≡◌, ◌≢◌, ℕ, ◌+◌, ◌<◌, true, false, List, [], ◌∷◌, ◌++◌, length, map, take, drop, codes, FitsSigned, w64, refl, sym, ap, ◌∙◌, subst, inl, append_assoc, arith}
 use Rattle.std.specs.Fmt.{signed_decimal}
 use Rattle.std.proofs.lemmas.Bool.Decides.{nat_tests}
@@ -20,7 +20,7 @@ use Rattle.mir_lex.specs.declared.scan.Previous.TheVariants.{LineEnd as AfterLin
 use Rattle.mir_lex.specs.Tokens.{line_after}
 use Rattle.mir_lex.specs.Terminals.{symbol_of, terminal_of, terminals}
 use Rattle.mir_base.specs.Words.{word_text}
-use Rattle.mir_lex.specs.Spelling.{HasNoLineFeed, mark_text, IsMark, CanBeSigned, IsLongest, BeginsWith, IsToken, previous_of, with_line_end, Row, start as row_start, token as row_token, blank as row_blank, line_feed as row_line_feed}
+use Rattle.mir_lex.specs.Spelling.{HasNoLineFeed, mark_text, IsMark, CanBeSigned, IsLongest, BeginsWith, IsToken, previous_of, with_line_end, Spelled, start as spelled_start, token as spelled_token, blank as spelled_blank, line_feed as spelled_line_feed}
 use Rattle.mir_lex.specs.SpellingLaws.{all_no_feed, line_begins, line_stays, name_feed, numeral_no_feed, numeral_some}
 use Rattle.mir_print.proofs.Numerals.{signed_numeral, signed_value}
 use Rattle.mir_print.proofs.Ends.{is_separator, longest_before, longest_alone, left_alone, comma_alone, semicolon_alone}
@@ -156,18 +156,18 @@ no_feed previous (NUMBER z) fits = numeral_no_feed previous (signed_decimal z) (
 no_feed previous (MARK mark) fits = mark_no_feed mark
 no_feed previous NL fits = absurd fits
 
--- ---- rows
+-- ---- what is read
 
--- the front of the text is a row of these terminals; the line and the token before what follows
+-- the front of the text is spelled by these terminals; the line and the token before what follows
 pub record Read (text front : List ℕ) (line : ℕ) (previous : Previous) (ts : List Terminal) : Type 0 where
   pub items : List Token
-  pub row : Row text front items previous
+  pub spelled : Spelled text front items previous
   pub tokens : terminals text items ≡ ts
   pub on : line_after front ≡ line
 
 -- nothing is read of nothing
 pub read_start : (text : List ℕ) → Read text [] 1 AfterLineEnd []
-read_start text = record { items = []; row = row_start; tokens = refl; on = refl }
+read_start text = record { items = []; spelled = spelled_start; tokens = refl; on = refl }
 
 -- a token at these bytes is read as the symbol that they spell
 bytes_are : (text front bytes after : List ℕ) (kind : Kind) → text ≡ (front ++ bytes) ++ after → (line : ℕ)
@@ -194,7 +194,7 @@ read_token text front line previous ts symbol after was split fits ends =
     let token : Token = record { kind = kind_of symbol; start = length front; length = length bytes; line = line_after front } in
     record {
       items = was.items ++ token ∷ [];
-      row = row_token bytes after (kind_of symbol) was.row cut (token_is previous symbol after fits ends) (is_longest previous symbol after fits ends);
+      spelled = spelled_token bytes after (kind_of symbol) was.spelled cut (token_is previous symbol after fits ends) (is_longest previous symbol after fits ends);
       tokens =
           map_push (terminal_of text) was.items token
           ∙ ap (λ (us : List Terminal). us ++ terminal_of text token ∷ []) was.tokens
@@ -206,12 +206,12 @@ read_token text front line previous ts symbol after was split fits ends =
 read_blank : (text front : List ℕ) (line : ℕ) (previous : Previous) (ts : List Terminal) (after : List ℕ) → Read text front line previous ts → text ≡ front ++ 32 ∷ after → Read text (front ++ 32 ∷ []) line previous ts
 read_blank text front line previous ts after was split = record {
   items = was.items;
-  row = row_blank 32 after was.row split refl;
+  spelled = spelled_blank 32 after was.spelled split refl;
   tokens = was.tokens;
   on = line_stays front (32 ∷ []) refl ∙ was.on;
 }
 
--- the same row, with its front and its terminals written in another way
+-- the same, with its front and its terminals written in another way
 pub read_as : (text : List ℕ) (line : ℕ) (previous : Previous) (front other : List ℕ) (ts us : List Terminal) → front ≡ other → ts ≡ us → Read text front line previous ts → Read text other line previous us
 read_as text line previous front other ts us same_front same_ts was =
     subst (λ (us : List Terminal). Read text other line previous us) same_ts (subst (λ (front : List ℕ). Read text front line previous ts) same_front was)
@@ -264,7 +264,7 @@ read_feed text front line previous ts after other was split =
     let token : Token = record { kind = LineEndKind; start = length front; length = 1; line = line_after front } in
     record {
       items = with_line_end was.items previous (line_after front) (length front) 1;
-      row = row_line_feed after was.row split;
+      spelled = spelled_line_feed after was.spelled split;
       tokens =
           ap (terminals text) (line_end_added was.items previous (line_after front) (length front) 1 other)
           ∙ map_push (terminal_of text) was.items token

@@ -80,6 +80,18 @@ pub fn put_test(text: &mut Vec<u8>, scope: &Scope, test: &Test) -> Result<(), Me
     }
 }
 
+/// The arguments of a call, as `(a,int;b,int)`.
+pub fn put_args(text: &mut Vec<u8>, scope: &Scope, operands: &[Operand]) -> Result<(), Memory>
+    ensures { AppendsOnOk result text.old text.new (args_text (naming_of scope.now) operands.now) }
+{
+    text.push(b'(')?;
+    for (number, operand) in operands.iter().enumerate() {
+        put_arg(text, scope, number, operand)?;
+    }
+    text.push(b')')?;
+    Ok(())
+}
+
 /// Two operands with an operator between them, and a blank on each side of it.
 fn put_spaced(
     text: &mut Vec<u8>,
@@ -113,16 +125,4 @@ fn put_arg(
     }
     put_operand(text, scope, operand)?;
     text.extend_from_slice(b",int")
-}
-
-/// The arguments of a call, as `(a,int;b,int)`.
-pub fn put_args(text: &mut Vec<u8>, scope: &Scope, operands: &[Operand]) -> Result<(), Memory>
-    ensures { AppendsOnOk result text.old text.new (args_text (naming_of scope.now) operands.now) }
-{
-    text.push(b'(')?;
-    for (number, operand) in operands.iter().enumerate() {
-        put_arg(text, scope, number, operand)?;
-    }
-    text.push(b')')?;
-    Ok(())
 }

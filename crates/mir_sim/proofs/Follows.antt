@@ -1,4 +1,5 @@
--- One frame follows another: what the first shows, the second shows too, and in the end it has counted no more.
+-- One frame follows another: what the first shows, the second shows too, and in the end it has evaluated no more
+-- operators.
 use Rattle.std.proofs.Common.{◌≡◌, ℕ, zero, suc, ◌+◌, ◌≤◌, List, [], ◌∷◌, ◌++◌, ℤ, Option, refl, sym, ap, ◌∙◌, subst, arith, append-nil}
 use Rattle.std.proofs.lemmas.List.Elements.{All-nil, All-cons}
 use Rattle.mir_base.specs.Frames.{CallEntry, Answer, Frame, resumed, Transition, Continues, Prints, Calls, Returns, Traps, Code}

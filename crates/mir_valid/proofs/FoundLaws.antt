@@ -7,7 +7,7 @@ use Rattle.mir_base.specs.Words.{is_text}
 use Rattle.mir_valid.specs.Names.{has_name, number_in}
 use Rattle.mir_valid.specs.Rules.{unit_names, label_names, is_receive, receive_counts}
 use Rattle.mir_valid.specs.Stands.{IsNumber, IsPlace}
-use Rattle.mir_valid.specs.Tables.{number_or_zero, numbered, table_of}
+use Rattle.mir_valid.specs.Tables.{number_or_zero, entries_from, table_of}
 use Rattle.mir_valid.specs.Numbered.{label_places, unit_numbers}
 use Rattle.mir_valid.proofs.TableLaws.{number_in_table_of, has_entry, has_number}
 use Rattle.mir_valid.specs.NameLaws.{same_is}
@@ -36,10 +36,10 @@ label_found labels l has =
 
 -- a unit's name is found in the numbered names, with the number that the table gives
 unit_number : (units : List RawUnitShape) (f : List ℕ) → has_name (unit_names units) f ≡ true
-    → (n : ℕ) × (number_or_zero (unit_numbers units) f ≡ n) × (number_in (numbered 0 (unit_names units)) f ≡ Some n)
+    → (n : ℕ) × (number_or_zero (unit_numbers units) f ≡ n) × (number_in (entries_from 0 (unit_names units)) f ≡ Some n)
 unit_number units f has =
-    let found = some_of (number_in (numbered 0 (unit_names units)) f) (has_number 0 (unit_names units) f ∙ has) in
-    (found.0, ap (λ o. unwrap_or o 0) (number_in_table_of (numbered 0 (unit_names units)) f ∙ found.1), found.1)
+    let found = some_of (number_in (entries_from 0 (unit_names units)) f) (has_number 0 (unit_names units) f ∙ has) in
+    (found.0, ap (λ o. unwrap_or o 0) (number_in_table_of (entries_from 0 (unit_names units)) f ∙ found.1), found.1)
 
 -- the number of a name that some unit has
 pub unit_found : (units : List RawUnitShape) (f : List ℕ) → has_name (unit_names units) f ≡ true → IsNumber (unit_names units) f (number_or_zero (unit_numbers units) f)
@@ -54,14 +54,14 @@ pub record IsCalled (units : List RawUnitShape) (f : List ℕ) (place : ℕ) : T
   pub count : number_in (receive_counts units) f ≡ Some (count_by is_receive unit.body)
 
 -- the number that is found counts the units before the first of the name
-first_called : (k : ℕ) (units : List RawUnitShape) (f : List ℕ) (n : ℕ) → number_in (numbered k (unit_names units)) f ≡ Some n → (place : ℕ) × (n ≡ k + place) × IsCalled units f place
+first_called : (k : ℕ) (units : List RawUnitShape) (f : List ℕ) (n : ℕ) → number_in (entries_from k (unit_names units)) f ≡ Some n → (place : ℕ) × (n ≡ k + place) × IsCalled units f place
 first_called k [] f n e = absurd (cc)
 first_called k (unit ∷ units) f n e = by (is_text f unit.name) refl (first_called (suc k) units f n)
   where
-    by : (b : Bool) → is_text f unit.name ≡ b → (number_in (numbered (suc k) (unit_names units)) f ≡ Some n → (place : ℕ) × (n ≡ suc k + place) × IsCalled units f place)
+    by : (b : Bool) → is_text f unit.name ≡ b → (number_in (entries_from (suc k) (unit_names units)) f ≡ Some n → (place : ℕ) × (n ≡ suc k + place) × IsCalled units f place)
         → (place : ℕ) × (n ≡ k + place) × IsCalled (unit ∷ units) f place
     by true same later =
-        let first : k ≡ n = cc (sym (ap (λ b. cond b (Some k) (number_in (numbered (suc k) (unit_names units)) f)) same) ∙ e) in (
+        let first : k ≡ n = cc (sym (ap (λ b. cond b (Some k) (number_in (entries_from (suc k) (unit_names units)) f)) same) ∙ e) in (
           0,
           omega (arith, first),
           record {
@@ -71,7 +71,7 @@ first_called k (unit ∷ units) f n e = by (is_text f unit.name) refl (first_cal
           },
         )
     by false other later =
-        let there = later (sym (ap (λ b. cond b (Some k) (number_in (numbered (suc k) (unit_names units)) f)) other) ∙ e) in (
+        let there = later (sym (ap (λ b. cond b (Some k) (number_in (entries_from (suc k) (unit_names units)) f)) other) ∙ e) in (
           suc there.0,
           omega (arith, there.1),
           record {

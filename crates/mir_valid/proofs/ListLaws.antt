@@ -1,5 +1,5 @@
 -- Items of mapped and filtered lists, and lists without lines.
-use Rattle.std.proofs.Common.{◌≡◌, ℕ, zero, suc, ◌<◌, Bool, true, false, cond, List, [], ◌∷◌, ◌++◌, map, filter, take, slice_get, Some, refl, ap, sym, ◌∙◌, arith}
+use Rattle.std.proofs.Common.{◌≡◌, ℕ, zero, suc, Bool, true, false, cond, List, [], ◌∷◌, ◌++◌, map, filter, slice_get, Some, refl, ap, sym, ◌∙◌, arith}
 use Rattle.std.specs.List.{flat_map}
 use Rattle.std.specs.Option.{option_map}
 use Rattle.std.proofs.lemmas.Option.{slice_get-map}
@@ -10,13 +10,6 @@ use Rattle.mir_valid.specs.Rules.{lines_where}
 -- an item gives one of the mapped list
 pub at_map : {A B : Type 0} (f : A → B) (xs : List A) (i : ℕ) (x : A) → slice_get xs i ≡ Some x → slice_get (map f xs) i ≡ Some (f x)
 at_map f xs i x at = slice_get-map f xs i ∙ ap (option_map f) at
-
--- an item is one of the first ones
-pub at_take : {A : Type 0} (xs : List A) (i j : ℕ) (x : A) → i < j → slice_get xs i ≡ Some x → slice_get (take j xs) i ≡ Some x
-at_take [] i j x low at = absurd (cc)
-at_take (y ∷ xs) i zero x low at = absurd (omega arith)
-at_take (y ∷ xs) zero (suc j) x low at = at
-at_take (y ∷ xs) (suc i) (suc j) x low at = at_take xs i j x (omega arith) at
 
 -- of two lists that are empty together each is empty
 both_nil : {A : Type 0} (xs ys : List A) → xs ++ ys ≡ [] → (xs ≡ []) × (ys ≡ [])

@@ -5,7 +5,7 @@ use Rattle.mir_parse.specs.declared.raw.RawLabel.{RawLabel}
 use Rattle.mir_parse.specs.RawUnit.{RawUnitShape}
 use Rattle.mir_valid.specs.Names.{has_name, number_in}
 use Rattle.mir_valid.specs.Rules.{jumped_to, called_by, label_names, misses_label, unit_names, misses_unit, receive_counts, differs_from}
-use Rattle.mir_valid.specs.Tables.{table_of, numbered, misses_place, misses_number}
+use Rattle.mir_valid.specs.Tables.{table_of, entries_from, misses_place, misses_number}
 use Rattle.mir_valid.specs.Numbered.{label_places, unit_numbers}
 use Rattle.mir_valid.proofs.TableLaws.{number_in_table_of, has_entry, has_number}
 
@@ -19,7 +19,7 @@ misses_place_labels labels = λ i form. option_map_or (λ l. missing_label label
 
 -- the table of units lacks a name exactly where no unit has it
 missing_unit : (units : List RawUnitShape) (f : List ℕ) → is_none (number_in (unit_numbers units) f) ≡ not (has_name (unit_names units) f)
-missing_unit units f = ap is_none (number_in_table_of (numbered 0 (unit_names units)) f) ∙ ap not (has_number 0 (unit_names units) f)
+missing_unit units f = ap is_none (number_in_table_of (entries_from 0 (unit_names units)) f) ∙ ap not (has_number 0 (unit_names units) f)
 
 -- a call of a unit that the table of units does not have is one of none of the units
 pub misses_number_units : (units : List RawUnitShape) → misses_number (unit_numbers units) ≡ misses_unit units

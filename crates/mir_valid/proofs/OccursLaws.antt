@@ -15,10 +15,10 @@ use Rattle.mir_base.specs.Words.{is_text}
 use Rattle.mir_valid.specs.Names.{has_name}
 use Rattle.mir_valid.specs.Variables.{form_names, body_names, FirstNames, none, again, first}
 use Rattle.mir_valid.specs.Rules.{broken, received_by, received, receives_again}
-use Rattle.mir_valid.specs.Tables.{number_or_zero, numbered}
+use Rattle.mir_valid.specs.Tables.{number_or_zero, entries_from}
 use Rattle.mir_valid.specs.Numbered.{with_name, variables_of, Numbers, numbered_form, numbered_body}
 use Rattle.mir_valid.proofs.BrokenLaws.{kept_at}
-use Rattle.mir_valid.proofs.ListLaws.{at_take}
+use Rattle.mir_base.specs.ItemLaws.{get_take}
 use Rattle.mir_valid.specs.NameLaws.{same_self, same_is}
 use Rattle.mir_valid.proofs.NumberLaws.{numbered_is}
 use Rattle.mir_base.specs.ItemLaws.{map_at}
@@ -124,12 +124,12 @@ received_apart : (body : List RawInst) → broken (λ inst. inst.line) receives_
 received_apart body e i j inst later name low at_i at_j is_i is_j =
     let kept : has_name (received (take j body)) name ≡ false =
     ap (λ form. option_map_or (has_name (received (take j body))) (received_by form) false) (sym is_j) ∙ kept_at (λ inst. inst.line) receives_again body e j later at_j in
-    let has : has_name (received (take j body)) name ≡ true = received_at (take j body) i inst name (at_take body i j inst low at_i) is_i in
+    let has : has_name (received (take j body)) name ≡ true = received_at (take j body) i inst name (get_take body j i low ∙ at_i) is_i in
     let wrong = sym has ∙ kept in
     cc
 
 -- no variable is received twice
-pub received_once : (numbers : Numbers) (body : List RawInst) → numbers.vars ≡ numbered 0 (variables_of body) → broken (λ inst. inst.line) receives_again body ≡ []
+pub received_once : (numbers : Numbers) (body : List RawInst) → numbers.vars ≡ entries_from 0 (variables_of body) → broken (λ inst. inst.line) receives_again body ≡ []
     → (i j x : ℕ) → slice_get (numbered_body numbers body) i ≡ Some (Receive x) → slice_get (numbered_body numbers body) j ≡ Some (Receive x) → i ≡ j
 received_once numbers body vars e i j x at_i at_j =
     let raw_i = map_at (λ inst. numbered_form numbers inst.form) body i (Receive x) at_i in

@@ -32,7 +32,7 @@ use Rattle.mir_valid.specs.Variables.{operand_names, rhs_names, test_names, into
 use Rattle.mir_valid.specs.Rules.{unit_names, label_names, misses_label, misses_unit, no_label_lines, no_unit_lines, same_label_lines}
 use Rattle.mir_valid.specs.Refusals.{AreValid}
 use Rattle.mir_valid.specs.Stands.{EachStands, UnitNames, IsNumber, IsPlace, OperandStands, RhsStands, TestStands, IntoStands, ReturnStands, FormStands, UnitStands, UnitsStand}
-use Rattle.mir_valid.specs.Tables.{number_or_zero, numbered, table_of}
+use Rattle.mir_valid.specs.Tables.{number_or_zero, entries_from, table_of}
 use Rattle.mir_valid.specs.Numbered.{with_name, variables_of, Numbers, numbers_of, numbered_operand, numbered_rhs, numbered_test, numbered_into, numbered_return, numbered_form, label_places, numbered_unit, unit_numbers, numbered_units}
 use Rattle.mir_valid.proofs.ListLaws.{at_map, no_lines_at, fails_at}
 use Rattle.mir_valid.specs.NameLaws.{same_is, has_at}
@@ -50,13 +50,13 @@ each_map R f [] stands = tt
 each_map R f (x ∷ xs) stands = (stands 0 x refl, each_map R f xs (λ i y at. stands (suc i) y at))
 
 -- each part of an instruction stands for itself with its names numbered: an operand
-operand_stands : (vars : List (List ℕ)) (a : RawOperand) → Within vars (operand_names a) → OperandStands vars a (numbered_operand (numbered 0 vars) a)
+operand_stands : (vars : List (List ℕ)) (a : RawOperand) → Within vars (operand_names a) → OperandStands vars a (numbered_operand (entries_from 0 vars) a)
 operand_stands vars (RawVar x) within = numbered_is vars x (within_one vars x within)
 operand_stands vars (RawConst z) within = refl
 
 -- operands
 operands_stand : (vars : List (List ℕ)) (operands : List RawOperand) → Within vars (flat_map operand_names operands)
-    → EachStands (OperandStands vars) operands (map (numbered_operand (numbered 0 vars)) operands)
+    → EachStands (OperandStands vars) operands (map (numbered_operand (entries_from 0 vars)) operands)
 operands_stand vars [] within = tt
 operands_stand vars (a ∷ operands) within = (
   operand_stands vars a (within_front vars (operand_names a) (flat_map operand_names operands) within),
@@ -64,26 +64,26 @@ operands_stand vars (a ∷ operands) within = (
 )
 
 -- a right side
-rhs_stands : (vars : List (List ℕ)) (rhs : RawRhs) → Within vars (rhs_names rhs) → RhsStands vars rhs (numbered_rhs (numbered 0 vars) rhs)
+rhs_stands : (vars : List (List ℕ)) (rhs : RawRhs) → Within vars (rhs_names rhs) → RhsStands vars rhs (numbered_rhs (entries_from 0 vars) rhs)
 rhs_stands vars (RawPlain a) within = operand_stands vars a within
 rhs_stands vars (RawUnary op a) within = (refl, operand_stands vars a within)
 rhs_stands vars (RawBinary op a b) within =
     (refl, operand_stands vars a (within_front vars (operand_names a) (operand_names b) within), operand_stands vars b (within_back vars (operand_names a) (operand_names b) within))
 
 -- a test
-test_stands : (vars : List (List ℕ)) (test : RawTest) → Within vars (test_names test) → TestStands vars test (numbered_test (numbered 0 vars) test)
+test_stands : (vars : List (List ℕ)) (test : RawTest) → Within vars (test_names test) → TestStands vars test (numbered_test (entries_from 0 vars) test)
 test_stands vars (RawRel op a b) within =
     (refl, operand_stands vars a (within_front vars (operand_names a) (operand_names b) within), operand_stands vars b (within_back vars (operand_names a) (operand_names b) within))
 test_stands vars (RawHolds a) within = operand_stands vars a within
 test_stands vars (RawFails a) within = operand_stands vars a within
 
 -- the variable for a call's result, if there is one
-into_stands : (vars : List (List ℕ)) (into : Option (List ℕ)) → Within vars (into_names into) → IntoStands vars into (numbered_into (numbered 0 vars) into)
+into_stands : (vars : List (List ℕ)) (into : Option (List ℕ)) → Within vars (into_names into) → IntoStands vars into (numbered_into (entries_from 0 vars) into)
 into_stands vars None within = tt
 into_stands vars (Some x) within = numbered_is vars x (within_one vars x within)
 
 -- what is returned, if anything is
-return_stands : (vars : List (List ℕ)) (a : Option RawOperand) → Within vars (returned_names a) → ReturnStands vars a (numbered_return (numbered 0 vars) a)
+return_stands : (vars : List (List ℕ)) (a : Option RawOperand) → Within vars (returned_names a) → ReturnStands vars a (numbered_return (entries_from 0 vars) a)
 return_stands vars None within = refl
 return_stands vars (Some a) within = operand_stands vars a within
 
@@ -153,35 +153,35 @@ first_only _ _ (first {names} {vars} x before fresh) =
     by false e = ap (λ b. if b then vars else vars ++ x ∷ []) e
 
 module _ (vars : List (List ℕ)) (differ : AllDiffer vars) where
-  number_only : (x : List ℕ) (n : ℕ) → IsNumber vars x n → n ≡ number_or_zero (numbered 0 vars) x
-  number_only x n at = one_place vars differ n (number_or_zero (numbered 0 vars) x) x at (numbered_is vars x (has_at vars n x at))
+  number_only : (x : List ℕ) (n : ℕ) → IsNumber vars x n → n ≡ number_or_zero (entries_from 0 vars) x
+  number_only x n at = one_place vars differ n (number_or_zero (entries_from 0 vars) x) x at (numbered_is vars x (has_at vars n x at))
 
-  operand_only : (raw : RawOperand) (a : Operand) → OperandStands vars raw a → a ≡ numbered_operand (numbered 0 vars) raw
+  operand_only : (raw : RawOperand) (a : Operand) → OperandStands vars raw a → a ≡ numbered_operand (entries_from 0 vars) raw
   operand_only (RawVar x) (Var n) stands = ap Var (number_only x n stands)
   operand_only (RawConst z) (Const w) stands = ap Const stands
   operand_only raw a stands = absurd stands
 
-  operands_only : (raw : List RawOperand) (operands : List Operand) → EachStands (OperandStands vars) raw operands → operands ≡ map (numbered_operand (numbered 0 vars)) raw
-  operands_only raw operands stands = each_only (OperandStands vars) (numbered_operand (numbered 0 vars)) raw operands stands (λ i x y at. operand_only x y)
+  operands_only : (raw : List RawOperand) (operands : List Operand) → EachStands (OperandStands vars) raw operands → operands ≡ map (numbered_operand (entries_from 0 vars)) raw
+  operands_only raw operands stands = each_only (OperandStands vars) (numbered_operand (entries_from 0 vars)) raw operands stands (λ i x y at. operand_only x y)
 
-  rhs_only : (raw : RawRhs) (rhs : Rhs) → RhsStands vars raw rhs → rhs ≡ numbered_rhs (numbered 0 vars) raw
+  rhs_only : (raw : RawRhs) (rhs : Rhs) → RhsStands vars raw rhs → rhs ≡ numbered_rhs (entries_from 0 vars) raw
   rhs_only (RawPlain a) (Plain b) stands = ap Plain (operand_only a b stands)
   rhs_only (RawUnary raw_op a) (Unary op b) stands = λ i. Unary (stands.0 i) (operand_only a b stands.1 i)
   rhs_only (RawBinary raw_op a b) (Binary op c d) stands = λ i. Binary (stands.0 i) (operand_only a c stands.1 i) (operand_only b d stands.2 i)
   rhs_only raw rhs stands = absurd stands
 
-  test_only : (raw : RawTest) (test : Test) → TestStands vars raw test → test ≡ numbered_test (numbered 0 vars) raw
+  test_only : (raw : RawTest) (test : Test) → TestStands vars raw test → test ≡ numbered_test (entries_from 0 vars) raw
   test_only (RawRel raw_op a b) (Rel op c d) stands = λ i. Rel (stands.0 i) (operand_only a c stands.1 i) (operand_only b d stands.2 i)
   test_only (RawHolds a) (Holds b) stands = ap Holds (operand_only a b stands)
   test_only (RawFails a) (Fails b) stands = ap Fails (operand_only a b stands)
   test_only raw test stands = absurd stands
 
-  into_only : (raw : Option (List ℕ)) (into : Option ℕ) → IntoStands vars raw into → into ≡ numbered_into (numbered 0 vars) raw
+  into_only : (raw : Option (List ℕ)) (into : Option ℕ) → IntoStands vars raw into → into ≡ numbered_into (entries_from 0 vars) raw
   into_only None None stands = refl
   into_only (Some x) (Some n) stands = ap Some (number_only x n stands)
   into_only raw into stands = absurd stands
 
-  return_only : (raw : Option RawOperand) (a : Operand) → ReturnStands vars raw a → a ≡ numbered_return (numbered 0 vars) raw
+  return_only : (raw : Option RawOperand) (a : Operand) → ReturnStands vars raw a → a ≡ numbered_return (entries_from 0 vars) raw
   return_only None a stands = stands
   return_only (Some raw) a stands = operand_only raw a stands
 

@@ -9,7 +9,7 @@ use Rattle.indexmap.specs.IndexMap.{insert_entry}
 use Rattle.mir_base.specs.Words.{is_text}
 use Rattle.mir_valid.specs.Names.{NameEntry, has_name, number_in}
 use Rattle.mir_valid.specs.NameLaws.{same_is}
-use Rattle.mir_valid.specs.Tables.{with_entry, table_of, numbered}
+use Rattle.mir_valid.specs.Tables.{with_entry, table_of, entries_from}
 use Rattle.mir_valid.specs.Numbered.{with_name}
 use Rattle.mir_base.specs.ItemLaws.{or_none}
 
@@ -49,34 +49,34 @@ is_some_cond true n found = refl
 is_some_cond false n found = refl
 
 -- the names that are numbered are those that are found
-pub has_number : (n : ℕ) (names : List (List ℕ)) (x : List ℕ) → is_some (number_in (numbered n names) x) ≡ has_name names x
+pub has_number : (n : ℕ) (names : List (List ℕ)) (x : List ℕ) → is_some (number_in (entries_from n names) x) ≡ has_name names x
 has_number n [] x = refl
 has_number n (name ∷ names) x =
-    is_some_cond (is_text x name) n (number_in (numbered (suc n) names) x) ∙ ap (λ b. is_text x name || b) (has_number (suc n) names x)
+    is_some_cond (is_text x name) n (number_in (entries_from (suc n) names) x) ∙ ap (λ b. is_text x name || b) (has_number (suc n) names x)
 
 -- one more name has the next number
-pub numbered_push : (n : ℕ) (names : List (List ℕ)) (x : List ℕ) → numbered n (names ++ x ∷ []) ≡ numbered n names ++ (x, n + length names) ∷ []
-numbered_push n [] x = ap (λ k. (x, k) ∷ []) (omega arith)
-numbered_push n (name ∷ names) x =
+pub entries_push : (n : ℕ) (names : List (List ℕ)) (x : List ℕ) → entries_from n (names ++ x ∷ []) ≡ entries_from n names ++ (x, n + length names) ∷ []
+entries_push n [] x = ap (λ k. (x, k) ∷ []) (omega arith)
+entries_push n (name ∷ names) x =
     let k : suc n + length names ≡ n + length (name ∷ names) = omega arith in
-    ap (λ es. (name, n) ∷ es) (numbered_push (suc n) names x ∙ ap (λ k. numbered (suc n) names ++ (x, k) ∷ []) k)
+    ap (λ es. (name, n) ∷ es) (entries_push (suc n) names x ∙ ap (λ k. entries_from (suc n) names ++ (x, k) ∷ []) k)
 
 -- a name that is new gets the number of the names so far, and one that is not leaves the table
-pub with_entry_numbered : (names : List (List ℕ)) (x : List ℕ) → with_entry (numbered 0 names) (x, length names) ≡ numbered 0 (with_name names x)
-with_entry_numbered names x = by (has_name names x) refl
+pub with_entry_from : (names : List (List ℕ)) (x : List ℕ) → with_entry (entries_from 0 names) (x, length names) ≡ entries_from 0 (with_name names x)
+with_entry_from names x = by (has_name names x) refl
   where
-    by : (b : Bool) → has_name names x ≡ b → with_entry (numbered 0 names) (x, length names) ≡ numbered 0 (with_name names x)
+    by : (b : Bool) → has_name names x ≡ b → with_entry (entries_from 0 names) (x, length names) ≡ entries_from 0 (with_name names x)
     by true e =
-        ap (λ b. if b then numbered 0 names else numbered 0 names ++ (x, length names) ∷ []) (has_number 0 names x ∙ e)
-        ∙ ap (λ b. numbered 0 (if b then names else names ++ x ∷ [])) (sym e)
+        ap (λ b. if b then entries_from 0 names else entries_from 0 names ++ (x, length names) ∷ []) (has_number 0 names x ∙ e)
+        ∙ ap (λ b. entries_from 0 (if b then names else names ++ x ∷ [])) (sym e)
     by false e =
         let k : 0 + length names ≡ length names = omega arith in
-        ap (λ b. if b then numbered 0 names else numbered 0 names ++ (x, length names) ∷ []) (has_number 0 names x ∙ e)
-        ∙ sym (numbered_push 0 names x ∙ ap (λ k. numbered 0 names ++ (x, k) ∷ []) k)
-        ∙ ap (λ b. numbered 0 (if b then names else names ++ x ∷ [])) (sym e)
+        ap (λ b. if b then entries_from 0 names else entries_from 0 names ++ (x, length names) ∷ []) (has_number 0 names x ∙ e)
+        ∙ sym (entries_push 0 names x ∙ ap (λ k. entries_from 0 names ++ (x, k) ∷ []) k)
+        ∙ ap (λ b. entries_from 0 (if b then names else names ++ x ∷ [])) (sym e)
 
 -- the names after one more, which is new or was found
-pub names_with : (table : List NameEntry) (names names' : List (List ℕ)) (x : List ℕ) (is_new : Bool) → table ≡ numbered 0 names → is_new ≡ is_none (number_in table x)
+pub names_with : (table : List NameEntry) (names names' : List (List ℕ)) (x : List ℕ) (is_new : Bool) → table ≡ entries_from 0 names → is_new ≡ is_none (number_in table x)
     → (is_new ≡ true → names' ≡ names ++ x ∷ []) → (is_new ≡ false → names' ≡ names) → names' ≡ with_name names x
 names_with table names names' x is_new same told new old = by (has_name names x) refl
   where

@@ -17,7 +17,7 @@ use Rattle.mir_parse.specs.declared.raw.RawForm.TheVariants.{Receive, Assign, Go
 use Rattle.mir_parse.specs.declared.raw.RawInst.{RawInst}
 use Rattle.mir_valid.specs.Names.{NameEntry, has_name, number_in}
 use Rattle.mir_valid.specs.Variables.{operand_names, rhs_names, test_names, into_names, returned_names, form_names, body_names}
-use Rattle.mir_valid.specs.Tables.{number_or_zero, numbered}
+use Rattle.mir_valid.specs.Tables.{number_or_zero, entries_from}
 use Rattle.mir_valid.specs.Numbered.{with_name, variables_of, Numbers, numbered_operand, numbered_rhs, numbered_test, numbered_into, numbered_return, numbered_form, numbered_body}
 use Rattle.mir_valid.proofs.TableLaws.{has_number}
 use Rattle.mir_valid.proofs.NumberLaws.{number_place, number_kept, number_new}
@@ -101,45 +101,45 @@ names_grown (x ∷ names) vars = by (has_name vars x) refl (names_grown names (w
     by false e later = (x ∷ later.0, later.1 ∙ ap (λ b. (if b then vars else vars ++ x ∷ []) ++ later.0) e ∙ append_assoc vars (x ∷ []) later.0)
 
 -- a name that is among the variables has a number below their count
-old_number : (vars all : List (List ℕ)) (names : List (List ℕ)) (x : List ℕ) → has_name vars x ≡ true → all ≡ fold with_name vars names → number_or_zero (numbered 0 all) x < length vars
+old_number : (vars all : List (List ℕ)) (names : List (List ℕ)) (x : List ℕ) → has_name vars x ≡ true → all ≡ fold with_name vars names → number_or_zero (entries_from 0 all) x < length vars
 old_number vars all names x has is =
-    let found = some_of (number_in (numbered 0 vars) x) (has_number 0 vars x ∙ has) in
+    let found = some_of (number_in (entries_from 0 vars) x) (has_number 0 vars x ∙ has) in
     let place = number_place 0 vars x found.0 found.1 in
     let more = names_grown names vars in
-    let number : number_or_zero (numbered 0 all) x ≡ found.0 =
-    ap (λ ns. number_or_zero (numbered 0 ns) x) (is ∙ more.1) ∙ ap (λ o. unwrap_or o 0) (number_kept vars more.0 x found.0 found.1) in
+    let number : number_or_zero (entries_from 0 all) x ≡ found.0 =
+    ap (λ ns. number_or_zero (entries_from 0 ns) x) (is ∙ more.1) ∙ ap (λ o. unwrap_or o 0) (number_kept vars more.0 x found.0 found.1) in
     let low : place.0 < length vars = slice_get_within vars place.0 x place.2 in
     omega (arith, number, low, place.1)
 
 -- a new name has the number of variables before it
 new_number : (vars all : List (List ℕ)) (names : List (List ℕ)) (x : List ℕ) → has_name vars x ≡ false → all ≡ fold with_name (vars ++ x ∷ []) names
-    → number_or_zero (numbered 0 all) x ≡ length vars
+    → number_or_zero (entries_from 0 all) x ≡ length vars
 new_number vars all names x new is =
     let more = names_grown names (vars ++ x ∷ []) in
-    ap (λ ns. number_or_zero (numbered 0 ns) x) (is ∙ more.1)
+    ap (λ ns. number_or_zero (entries_from 0 ns) x) (is ∙ more.1)
     ∙ ap (λ o. unwrap_or o 0) (number_kept (vars ++ x ∷ []) more.0 x (length vars) (number_new vars x new))
 
 -- so the numbers of the names come in the order of first occurrence
-in_order : (names vars all : List (List ℕ)) → all ≡ fold with_name vars names → numbered_from (length vars) (map (number_or_zero (numbered 0 all)) names) ≡ Some (length all)
+in_order : (names vars all : List (List ℕ)) → all ≡ fold with_name vars names → numbered_from (length vars) (map (number_or_zero (entries_from 0 all)) names) ≡ Some (length all)
 in_order [] vars all is = ap (λ ns. Some (length ns)) (sym is)
 in_order (x ∷ names) vars all is = by (has_name vars x) refl (in_order names vars all) (in_order names (vars ++ x ∷ []) all)
   where
     by : (b : Bool) → has_name vars x ≡ b
-        → (all ≡ fold with_name vars names → numbered_from (length vars) (map (number_or_zero (numbered 0 all)) names) ≡ Some (length all))
-        → (all ≡ fold with_name (vars ++ x ∷ []) names → numbered_from (length (vars ++ x ∷ [])) (map (number_or_zero (numbered 0 all)) names) ≡ Some (length all))
-        → numbered_from (length vars) (map (number_or_zero (numbered 0 all)) (x ∷ names)) ≡ Some (length all)
+        → (all ≡ fold with_name vars names → numbered_from (length vars) (map (number_or_zero (entries_from 0 all)) names) ≡ Some (length all))
+        → (all ≡ fold with_name (vars ++ x ∷ []) names → numbered_from (length (vars ++ x ∷ [])) (map (number_or_zero (entries_from 0 all)) names) ≡ Some (length all))
+        → numbered_from (length vars) (map (number_or_zero (entries_from 0 all)) (x ∷ names)) ≡ Some (length all)
     by true e old new =
         let is' : all ≡ fold with_name vars names = is ∙ ap (λ b. fold with_name (if b then vars else vars ++ x ∷ []) names) e in
-        numbered_old (length vars) (number_or_zero (numbered 0 all) x) (map (number_or_zero (numbered 0 all)) names) (old_number vars all names x e is') ∙ old is'
+        numbered_old (length vars) (number_or_zero (entries_from 0 all) x) (map (number_or_zero (entries_from 0 all)) names) (old_number vars all names x e is') ∙ old is'
     by false e old new =
         let is' : all ≡ fold with_name (vars ++ x ∷ []) names = is ∙ ap (λ b. fold with_name (if b then vars else vars ++ x ∷ []) names) e in
         let size : suc (length vars) ≡ length (vars ++ x ∷ []) = omega (arith, length-append vars (x ∷ [])) in
-        numbered_first (length vars) (number_or_zero (numbered 0 all) x) (map (number_or_zero (numbered 0 all)) names) (new_number vars all names x e is')
-        ∙ ap (λ k. numbered_from k (map (number_or_zero (numbered 0 all)) names)) size
+        numbered_first (length vars) (number_or_zero (entries_from 0 all) x) (map (number_or_zero (entries_from 0 all)) names) (new_number vars all names x e is')
+        ∙ ap (λ k. numbered_from k (map (number_or_zero (entries_from 0 all)) names)) size
         ∙ new is'
 
 -- a numbered body is tidy
-pub tidy_numbered : (numbers : Numbers) (insts : List RawInst) → numbers.vars ≡ numbered 0 (variables_of insts) → IsTidy (variables_of insts) (numbered_body numbers insts)
+pub tidy_numbered : (numbers : Numbers) (insts : List RawInst) → numbers.vars ≡ entries_from 0 (variables_of insts) → IsTidy (variables_of insts) (numbered_body numbers insts)
 tidy_numbered numbers insts is = record {
   numbered =
       ap (numbered_from 0) (body numbers insts ∙ ap (λ vars. map (number_or_zero vars) (body_names insts)) is)

@@ -4,9 +4,9 @@ use Rattle.std.proofs.lemmas.List.{take_more, length-take-le, length-map, map-ap
 use Rattle.std.proofs.lemmas.List.Sums.{fold-append}
 use Rattle.mir_parse.specs.RawUnit.{RawUnitShape}
 use Rattle.mir_valid.specs.Rules.{unit_names}
-use Rattle.mir_valid.specs.Tables.{table_of, with_entry, numbered}
+use Rattle.mir_valid.specs.Tables.{table_of, with_entry, entries_from}
 use Rattle.mir_valid.specs.Numbered.{unit_numbers}
-use Rattle.mir_valid.proofs.TableLaws.{numbered_push}
+use Rattle.mir_valid.proofs.TableLaws.{entries_push}
 
 -- one more unit is numbered by its place
 pub unit_numbers_next : (units : List RawUnitShape) (i : ℕ) (unit : RawUnitShape) → i < length units → unit ≡ get_or units i unit
@@ -16,5 +16,5 @@ unit_numbers_next units i unit low at =
     ap unit_names (take_more units i unit low ∙ ap (λ u. take i units ++ u ∷ []) (sym at)) ∙ map-append (λ u. u.name) (take i units) (unit ∷ []) in
     let size : 0 + length (unit_names (take i units)) ≡ i =
     omega (arith, length-map (take i units) (λ u. u.name), length-take-le i units (omega arith)) in
-    ap table_of (ap (numbered 0) names ∙ numbered_push 0 (unit_names (take i units)) unit.name ∙ ap (λ k. numbered 0 (unit_names (take i units)) ++ (unit.name, k) ∷ []) size)
-    ∙ fold-append with_entry [] (numbered 0 (unit_names (take i units))) ((unit.name, i) ∷ [])
+    ap table_of (ap (entries_from 0) names ∙ entries_push 0 (unit_names (take i units)) unit.name ∙ ap (λ k. entries_from 0 (unit_names (take i units)) ++ (unit.name, k) ∷ []) size)
+    ∙ fold-append with_entry [] (entries_from 0 (unit_names (take i units))) ((unit.name, i) ∷ [])

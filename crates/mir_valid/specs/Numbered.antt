@@ -23,7 +23,7 @@ use Rattle.mir_parse.specs.declared.raw.RawInst.{RawInst}
 use Rattle.mir_parse.specs.declared.raw.RawLabel.{RawLabel}
 use Rattle.mir_parse.specs.RawUnit.{RawUnitShape}
 use Rattle.mir_valid.specs.Names.{NameEntry, has_name}
-use Rattle.mir_valid.specs.Tables.{number_or_zero, numbered, table_of}
+use Rattle.mir_valid.specs.Tables.{number_or_zero, entries_from, table_of}
 use Rattle.mir_valid.specs.Variables.{body_names}
 use Rattle.mir_valid.specs.Rules.{unit_names}
 
@@ -92,13 +92,13 @@ label_places labels = map (λ label. (label.name, label.place)) labels
 
 -- the units with their numbers
 abbrev pub unit_numbers : List RawUnitShape → List NameEntry
-unit_numbers units = table_of (numbered 0 (unit_names units))
+unit_numbers units = table_of (entries_from 0 (unit_names units))
 
 -- the numbers by which a unit is read, where the units have these
 abbrev pub numbers_of : List NameEntry → RawUnitShape → Numbers
 numbers_of units unit = record {
   units = units;
-  vars = numbered 0 (variables_of unit.body);
+  vars = entries_from 0 (variables_of unit.body);
   labels = table_of (label_places unit.labels);
 }
 

@@ -20,10 +20,10 @@ with_entry table entry = if is_some (number_in table entry.0) then table else ta
 abbrev pub table_of : List NameEntry → List NameEntry
 table_of entries = fold with_entry [] entries
 
--- the names, numbered from n on
-abbrev pub numbered : ℕ → List (List ℕ) → List NameEntry
-numbered n [] = []
-numbered n (x ∷ xs) = (x, n) ∷ numbered (suc n) xs
+-- the names with their numbers, from n on, as entries of a table
+abbrev pub entries_from : ℕ → List (List ℕ) → List NameEntry
+entries_from n [] = []
+entries_from n (x ∷ xs) = (x, n) ∷ entries_from (suc n) xs
 
 -- a `goto` or `if` names no label of the table
 abbrev pub misses_place : List NameEntry → RawForm → Bool

@@ -38,6 +38,25 @@ pub fn same_unit(alloc: Global, units: &[RawUnit]) -> Result<Least, Memory>
     Ok(best)
 }
 
+/// The smallest line of a call that names no unit. It fails only with `Memory`.
+pub fn no_such_unit(alloc: Global, units: &[RawUnit]) -> Result<Least, Memory>
+    ensures { IfOk result (λ line. line ≡ least_over (no_unit_lines units.now) units.now) }
+{
+    let numbers = unit_numbers(alloc, units)?;
+    let line = least_call(alloc, Lookup::NoUnit, &numbers, units)?;
+    Ok(line)
+}
+
+/// The smallest line of a call with another number of arguments than the called unit has receives. It fails only with
+/// `Memory`.
+pub fn wrong_count(alloc: Global, units: &[RawUnit]) -> Result<Least, Memory>
+    ensures { IfOk result (λ line. line ≡ least_over (wrong_count_lines units.now) units.now) }
+{
+    let counts = receive_counts(alloc, units)?;
+    let line = least_call(alloc, Lookup::OtherCount, &counts, units)?;
+    Ok(line)
+}
+
 /// The table of each unit's name with the number of its receives. It fails only with `Memory`.
 fn receive_counts<'a>(alloc: Global, units: &'a [RawUnit]) -> Result<Table<'a>, Memory>
     ensures { IfOk result (λ table. table ≡ table_of (receive_counts units.now)) }
@@ -59,25 +78,6 @@ fn count_receives(body: &[RawInst]) -> usize
         count += usize::from(is_receive(inst));
     }
     count
-}
-
-/// The smallest line of a call that names no unit. It fails only with `Memory`.
-pub fn no_such_unit(alloc: Global, units: &[RawUnit]) -> Result<Least, Memory>
-    ensures { IfOk result (λ line. line ≡ least_over (no_unit_lines units.now) units.now) }
-{
-    let numbers = unit_numbers(alloc, units)?;
-    let line = least_call(alloc, Lookup::NoUnit, &numbers, units)?;
-    Ok(line)
-}
-
-/// The smallest line of a call with another number of arguments than the called unit has receives. It fails only with
-/// `Memory`.
-pub fn wrong_count(alloc: Global, units: &[RawUnit]) -> Result<Least, Memory>
-    ensures { IfOk result (λ line. line ≡ least_over (wrong_count_lines units.now) units.now) }
-{
-    let counts = receive_counts(alloc, units)?;
-    let line = least_call(alloc, Lookup::OtherCount, &counts, units)?;
-    Ok(line)
 }
 
 /// The smallest line of a call that breaks this rule. It fails only with `Memory`.

@@ -5,12 +5,12 @@ ghost use Rattle.mir_valid.specs.declared.faults.ValidFault.{ValidFault as AFaul
 ghost use Rattle.mir_valid.specs.Refusals.{IsValidMemory, IsValid, refusal};
 ghost use Rattle.mir_valid.specs.Stands.{StandsForAtMostOne};
 
-/// A law: no valid raw program stands for two programs. It does not allocate.
+/// Has no effect; carries the theorem that no valid raw program stands for two programs.
 pub fn program_is_unique()
     ensures { (raw : ARaw) → IsValid raw → StandsForAtMostOne raw }
 {}
 
-/// A law: what is refused is not valid, and a refusal is not of memory. It does not allocate.
+/// Has no effect; carries the theorem that what is refused is not valid, and a refusal is not of memory.
 pub fn refused_is_not_valid()
     ensures valid { (raw : ARaw) (fault : AFault) → refusal raw ≡ Some fault → IsValid raw → ⊥ }
     ensures memory { (raw : ARaw) (fault : AFault) →

@@ -2,7 +2,7 @@
 ghost use Rattle.std.specs.Prelude.{◌≡◌, [], IfOk};
 ghost use Rattle.std.specs.List.{flat_map};
 ghost use Rattle.mir_valid.specs.Variables.{operand_names, rhs_names, test_names, into_names, returned_names, form_names};
-ghost use Rattle.mir_valid.specs.Tables.{numbered};
+ghost use Rattle.mir_valid.specs.Tables.{entries_from};
 ghost use Rattle.mir_valid.specs.Numbered.{variables_of, with_name, AddsNames};
 
 use crate::Memory;
@@ -22,13 +22,13 @@ pub struct Variables<'a> {
 
 impl<'a> Model for Variables<'a> {
     ghost use Rattle.std.specs.Prelude.{◌≡◌, List, ℕ};
-    ghost use Rattle.mir_valid.specs.Tables.{numbered};
+    ghost use Rattle.mir_valid.specs.Tables.{entries_from};
 
     ghost Value = { List (List ℕ) };
 
     ghost view = { λ vars. vars.names.items };
 
-    ghost invariant = { λ vars. vars.numbers ≡ numbered 0 vars.names.items };
+    ghost invariant = { λ vars. vars.numbers ≡ entries_from 0 vars.names.items };
 }
 
 impl<'a> Variables<'a> {
@@ -45,7 +45,7 @@ impl<'a> Variables<'a> {
 
     /// The numbers of the variables. It does not allocate.
     pub fn numbers(&self) -> &Table<'a>
-        ensures { result.now ≡ numbered 0 self.now }
+        ensures { result.now ≡ entries_from 0 self.now }
     {
         &self.numbers
     }

@@ -1,10 +1,10 @@
 use Rattle.std.proofs.Common.{◌∙◌}
 use Rattle.mir_lex.specs.Terminals.{terminals}
-use Rattle.mir_parse.proofs.Early.{dead_early, read_more}
+use Rattle.mir_parse.proofs.Early.{stopped_early, read_more}
 use Rattle.mir_parse.proofs.parsing.read.Goals as goal
 
-pub returns-in-Dead : goal.returns-in-Dead
-returns-in-Dead c = c.in-Dead.is ∙ dead_early (terminals c.args.tokens.now.text c.args.tokens.now.items) c.loop-number.number c.loop-number.state c.in-Dead.field-0 c.loop-number.invariant c.in-Dead.is
+pub returns-in-Stopped : goal.returns-in-Stopped
+returns-in-Stopped c = c.in-Stopped.is ∙ stopped_early (terminals c.args.tokens.now.text c.args.tokens.now.items) c.loop-number.number c.loop-number.state c.in-Stopped.field-0 c.loop-number.invariant c.in-Stopped.is
 
 pub loop-number-preserved : goal.loop-number-preserved
 loop-number-preserved c =

@@ -1,7 +1,7 @@
 use Rattle.std.proofs.Common.{◌+◌, ap, ◌∙◌, arith, reverse, w64, to_z, of_z, to_z-of_z}
 use Rattle.std.proofs.lemmas.List.{take-set-le}
 use Rattle.mir_base.specs.Units.{assigned}
-use Rattle.mir_interp.specs.Machines.{callers_of, running}
+use Rattle.mir_interp.specs.RunsSoFar.{callers_of, running}
 use Rattle.mir_interp.proofs.Frames.{running_same, assigned_is}
 use Rattle.mir_interp.proofs.stack.Stack.assign.Goals as goal
 

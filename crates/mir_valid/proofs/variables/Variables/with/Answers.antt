@@ -1,8 +1,8 @@
 use Rattle.std.proofs.Common.{◌≡◌, ap, ◌∙◌, sym, length, arith, rules}
 use Rattle.std.proofs.lemmas.Grind.{common_steps}
-use Rattle.mir_valid.specs.Tables.{with_entry, numbered}
+use Rattle.mir_valid.specs.Tables.{with_entry, entries_from}
 use Rattle.mir_valid.specs.Numbered.{with_name}
-use Rattle.mir_valid.proofs.TableLaws.{with_entry_numbered, names_with}
+use Rattle.mir_valid.proofs.TableLaws.{with_entry_from, names_with}
 use Rattle.mir_valid.proofs.variables.Variables.with.Goals as goal
 use Rattle.mir_valid.proofs.variables.Variables.with.Goals.{then-is_new+in_ok-clone+in_ok-push, else-is_new}
 
@@ -20,6 +20,6 @@ invariant_of-result c =
     let size : c.len.result ≡ length c.self.inside.names.items = search rules in
     c.in_ok-is_new.ensures.added
     ∙ ap (λ table. with_entry table (c.args.name.now, c.len.result)) c.self.invariant
-    ∙ ap (λ n. with_entry (numbered 0 c.self.inside.names.items) (c.args.name.now, n)) size
-    ∙ with_entry_numbered c.self.inside.names.items c.args.name.now
-    ∙ ap (numbered 0) (sym (names-are c))
+    ∙ ap (λ n. with_entry (entries_from 0 c.self.inside.names.items) (c.args.name.now, n)) size
+    ∙ with_entry_from c.self.inside.names.items c.args.name.now
+    ∙ ap (entries_from 0) (sym (names-are c))

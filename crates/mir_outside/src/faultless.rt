@@ -11,13 +11,13 @@ use std::marker::Model;
 ///
 /// Contracts see the bytes that are left.
 #[derive(Drop)]
-pub struct CalmSource {
+pub struct FaultlessSource {
     bytes: Vec<u8>,
     // How many of the bytes were given.
     position: usize,
 }
 
-impl Model for CalmSource {
+impl Model for FaultlessSource {
     ghost use Rattle.std.specs.Prelude.{ℕ, List, ◌≤◌, drop, length};
 
     ghost Value = { List ℕ };
@@ -27,16 +27,16 @@ impl Model for CalmSource {
     ghost invariant = { λ s. s.position ≤ length s.bytes.items };
 }
 
-impl CalmSource {
+impl FaultlessSource {
     /// A source of these bytes. It does not allocate.
     pub fn new(bytes: Vec<u8>) -> Self
         ensures { result ≡ bytes.items }
     {
-        CalmSource { bytes, position: 0 }
+        FaultlessSource { bytes, position: 0 }
     }
 }
 
-impl Source for CalmSource {
+impl Source for FaultlessSource {
     ghost left = { λ s. Some s };
 
     ghost faults = { λ s. 0 };
@@ -59,16 +59,16 @@ impl Source for CalmSource {
 
 /// A sink that takes every piece whole, keeps none of it, and never fails. Its bytes cannot be observed.
 #[derive(Clone, Copy, Debug, PartialEq, Eq)]
-pub struct CalmSink;
+pub struct FaultlessSink;
 
-impl CalmSink {
+impl FaultlessSink {
     /// A sink that never fails. It does not allocate.
     pub fn new() -> Self {
-        CalmSink
+        FaultlessSink
     }
 }
 
-impl Sink for CalmSink {
+impl Sink for FaultlessSink {
     ghost written = { λ s. None };
 
     ghost faults = { λ s. 0 };

@@ -1,4 +1,4 @@
--- The row of a text and the row as the scanner sees it are the same.
+-- What spells a text by the definition and its pieces as the scanner sees them are the same.
 use Rattle.std.specs.Char.{is_ascii_digit}
 use Rattle.mir_base.specs.Names.{is_name_byte, is_letter}
 use Rattle.mir_lex.specs.declared.words.Mark.{Mark}
@@ -16,7 +16,7 @@ use Rattle.std.proofs.Common.{◌≡◌, ℕ, ◌+◌, ◌<◌, ◌==◌, true, 
 use Rattle.std.proofs.lemmas.Bool.{cases_Bool, eqb-true, and_from, false_from_ne_true, not-false}
 use Rattle.std.proofs.lemmas.List.{append-nil, append_cancel_left}
 use Rattle.mir_base.specs.Words.{word_text}
-use Rattle.mir_lex.specs.Spelling.{with_token, IsMark, IsInRange, with_line_end, is_blank, previous_of, HasNoLineFeed, IsSpelled, BeginsWith, IsToken, comment_text, EndsLine, Row, start as row_start, token as row_token, blank as row_blank, comment as row_comment, line_feed as row_line_feed, IsTokens, BeginsNone, IsBadNumber, StopsLexing, IsRefusal}
+use Rattle.mir_lex.specs.Spelling.{with_token, IsMark, IsInRange, with_line_end, is_blank, previous_of, HasNoLineFeed, IsSpelled, BeginsWith, IsToken, comment_text, EndsLine, Spelled, start as spelled_start, token as spelled_token, blank as spelled_blank, comment as spelled_comment, line_feed as spelled_line_feed, IsTokens, BeginsNone, IsBadNumber, StopsLexing, IsRefusal}
 use Rattle.mir_lex.specs.Scanner.{single_mark}
 use Rattle.mir_lex.specs.Tokens.{line_after}
 use Rattle.mir_lex.proofs.Pieces.{ByteBeginsNone, IsPieceToken, NotContinued, PieceBadNumber, PieceRefusal, PieceStops, Pieces, PiecesTokens, blank_piece, closed_before, comment_piece, ends_append, feed_piece, idle_closed, no_piece, token_piece}
@@ -44,7 +44,7 @@ token_no_feed previous bytes after (NumberKind value) is = numeral_no_feed previ
 token_no_feed previous bytes after (MarkKind mark) is = mark_no_feed mark bytes is
 token_no_feed previous bytes after LineEndKind is = absurd is
 
--- ---- from the row of a text to the scanner's
+-- ---- from the definition to the scanner
 
 -- the same tokens, as the scanner sees them, where this is what is left of the text
 record Reached (prefix : List ℕ) (items : List Token) (previous : Previous) (rest : List ℕ) : Type 0 where
@@ -61,12 +61,12 @@ comment_closed (byte ∷ rest) h = ap (λ b. not (b == 10)) h
 on_line : (prefix items-prefix : List ℕ) (items : List Token) (previous : Previous) (tail : Pending) (line other : ℕ) → line ≡ other → Pieces prefix items previous line tail → Pieces prefix items previous other tail
 on_line prefix items-prefix items previous tail line other same pieces = subst (λ (n : ℕ). Pieces prefix items previous n tail) same pieces
 
--- by the pieces of the row
-row_pieces : (text prefix rest : List ℕ) (items : List Token) (previous : Previous) → Row text prefix items previous → text ≡ prefix ++ rest → Reached prefix items previous rest
-row_pieces _ _ rest _ _ row_start is = record { tail = Idle; pieces = no_piece; closed = idle_closed rest }
-row_pieces _ _ rest _ _ (row_token {text} {prefix} {items} {previous} bytes after kind row split token longest) is =
+-- what spells a prefix is seen as pieces, one by one
+spelled_pieces : (text prefix rest : List ℕ) (items : List Token) (previous : Previous) → Spelled text prefix items previous → text ≡ prefix ++ rest → Reached prefix items previous rest
+spelled_pieces _ _ rest _ _ spelled_start is = record { tail = Idle; pieces = no_piece; closed = idle_closed rest }
+spelled_pieces _ _ rest _ _ (spelled_token {text} {prefix} {items} {previous} bytes after kind spelled split token longest) is =
     let behind : after ≡ rest = append_cancel_left (prefix ++ bytes) after rest (sym split ∙ is) in
-    let before = row_pieces text prefix (bytes ++ rest) items previous row (is ∙ append_assoc prefix bytes rest) in
+    let before = spelled_pieces text prefix (bytes ++ rest) items previous spelled (is ∙ append_assoc prefix bytes rest) in
     let piece = token_piece_is previous bytes after kind token longest in
     record {
       tail = piece.tail;
@@ -75,40 +75,40 @@ row_pieces _ _ rest _ _ (row_token {text} {prefix} {items} {previous} bytes afte
           (token_piece bytes kind piece.tail before.pieces (closed_before before.tail bytes rest before.closed) piece.token);
       closed = subst (NotContinued piece.tail) behind piece.closed;
     }
-row_pieces _ _ rest _ _ (row_blank {text} {prefix} {items} {previous} byte after row split blank) is =
-    let before = row_pieces text prefix (byte ∷ rest) items previous row (is ∙ append_assoc prefix (byte ∷ []) rest) in
+spelled_pieces _ _ rest _ _ (spelled_blank {text} {prefix} {items} {previous} byte after spelled split blank) is =
+    let before = spelled_pieces text prefix (byte ∷ rest) items previous spelled (is ∙ append_assoc prefix (byte ∷ []) rest) in
     record {
       tail = Idle;
       pieces = subst (λ (n : ℕ). Pieces (prefix ++ byte ∷ []) items previous n Idle) (sym (line_stays prefix (byte ∷ []) (and_from _ _ (ap not (blank_feed byte blank)) refl))) (blank_piece byte before.pieces before.closed blank);
       closed = idle_closed rest;
     }
-row_pieces _ _ rest _ _ (row_comment {text} {prefix} {items} {previous} body after row split no_feed ends) is =
+spelled_pieces _ _ rest _ _ (spelled_comment {text} {prefix} {items} {previous} body after spelled split no_feed ends) is =
     let behind : after ≡ rest = append_cancel_left (prefix ++ comment_text body) after rest (sym split ∙ is) in
-    let before = row_pieces text prefix (comment_text body ++ rest) items previous row (is ∙ append_assoc prefix (comment_text body) rest) in
+    let before = spelled_pieces text prefix (comment_text body ++ rest) items previous spelled (is ∙ append_assoc prefix (comment_text body) rest) in
     record {
       tail = Comment;
       pieces = subst (λ (n : ℕ). Pieces (prefix ++ comment_text body) items previous n Comment) (sym (line_stays prefix (comment_text body) no_feed)) (comment_piece body before.pieces before.closed no_feed);
       closed = comment_closed rest (subst EndsLine behind ends);
     }
-row_pieces _ _ rest _ _ (row_line_feed {text} {prefix} {items} {previous} after row split) is =
-    let before = row_pieces text prefix (10 ∷ rest) items previous row (is ∙ append_assoc prefix (10 ∷ []) rest) in
+spelled_pieces _ _ rest _ _ (spelled_line_feed {text} {prefix} {items} {previous} after spelled split) is =
+    let before = spelled_pieces text prefix (10 ∷ rest) items previous spelled (is ∙ append_assoc prefix (10 ∷ []) rest) in
     record {
       tail = Idle;
       pieces = subst (λ (n : ℕ). Pieces (prefix ++ 10 ∷ []) (with_line_end items previous (line_after prefix) (length prefix) 1) AfterLineEnd n Idle) (sym (line_begins prefix)) (feed_piece before.pieces before.closed);
       closed = idle_closed rest;
     }
 
--- the tokens of a text are those of a row of pieces
+-- the tokens of a text are those of its pieces
 pub tokens_pieces : (text : List ℕ) (items : List Token) → IsTokens text items → PiecesTokens text items
 tokens_pieces text items h =
-    let reached = row_pieces text text [] h.before h.previous h.row (sym (append-nil text)) in
-    record { before = h.before; previous = h.previous; line = line_after text; tail = reached.tail; row = reached.pieces; items_are = h.items_are }
+    let reached = spelled_pieces text text [] h.before h.previous h.spelled (sym (append-nil text)) in
+    record { before = h.before; previous = h.previous; line = line_after text; tail = reached.tail; pieces = reached.pieces; items_are = h.items_are }
 
 -- ---- and back
 
--- the row of the text, and the line that the next byte is on
+-- the prefix is spelled so, and the next byte is on this line
 record Came (text prefix : List ℕ) (items : List Token) (previous : Previous) (line : ℕ) : Type 0 where
-  row : Row text prefix items previous
+  spelled : Spelled text prefix items previous
   at : line ≡ line_after prefix
 
 -- no token is empty
@@ -129,37 +129,37 @@ comment_ends (byte ∷ rest) h = eqb-true byte 10 (not-false (byte == 10) h)
 piece_some : (previous : Previous) (bytes : List ℕ) (kind : Kind) (tail : Pending) → IsPieceToken previous bytes kind tail → 0 < length bytes
 piece_some previous bytes kind tail is = token_some previous bytes kind tail [] (piece_token previous bytes [] kind tail is tt).0
 
--- by the pieces of the row
-pieces_row : (text prefix rest : List ℕ) (items : List Token) (previous : Previous) (line : ℕ) (tail : Pending) → Pieces prefix items previous line tail → text ≡ prefix ++ rest → NotContinued tail rest → Came text prefix items previous line
-pieces_row text _ rest _ _ _ _ no_piece is closed = record { row = row_start; at = refl }
-pieces_row text _ rest _ _ _ _ (token_piece {prefix} {items} {previous} {line} {tail} bytes kind next pieces ends token) is closed =
-    let before = pieces_row text prefix (bytes ++ rest) items previous line tail pieces (is ∙ append_assoc prefix bytes rest) (ends_append tail bytes rest (piece_some previous bytes kind next token) ends) in
+-- pieces spell the prefix, one by one
+pieces_spelled : (text prefix rest : List ℕ) (items : List Token) (previous : Previous) (line : ℕ) (tail : Pending) → Pieces prefix items previous line tail → text ≡ prefix ++ rest → NotContinued tail rest → Came text prefix items previous line
+pieces_spelled text _ rest _ _ _ _ no_piece is closed = record { spelled = spelled_start; at = refl }
+pieces_spelled text _ rest _ _ _ _ (token_piece {prefix} {items} {previous} {line} {tail} bytes kind next pieces ends token) is closed =
+    let before = pieces_spelled text prefix (bytes ++ rest) items previous line tail pieces (is ∙ append_assoc prefix bytes rest) (ends_append tail bytes rest (piece_some previous bytes kind next token) ends) in
     let found = piece_token previous bytes rest kind next token closed in
     record {
-      row = subst (λ (n : ℕ). Row text (prefix ++ bytes) (with_token items kind (length prefix) (length bytes) n) (previous_of kind)) (sym before.at)
-          (row_token bytes rest kind before.row is found.0 found.1);
+      spelled = subst (λ (n : ℕ). Spelled text (prefix ++ bytes) (with_token items kind (length prefix) (length bytes) n) (previous_of kind)) (sym before.at)
+          (spelled_token bytes rest kind before.spelled is found.0 found.1);
       at = before.at ∙ sym (line_stays prefix bytes (token_no_feed previous bytes rest kind found.0));
     }
-pieces_row text _ rest _ _ _ _ (blank_piece {prefix} {items} {previous} {line} {tail} byte pieces ends blank) is closed =
+pieces_spelled text _ rest _ _ _ _ (blank_piece {prefix} {items} {previous} {line} {tail} byte pieces ends blank) is closed =
     let split : text ≡ prefix ++ byte ∷ rest = is ∙ append_assoc prefix (byte ∷ []) rest in
-    let before = pieces_row text prefix (byte ∷ rest) items previous line tail pieces split ends in
-    record { row = row_blank byte rest before.row split blank; at = before.at ∙ sym (line_stays prefix (byte ∷ []) (and_from _ _ (ap not (blank_feed byte blank)) refl)) }
-pieces_row text _ rest _ _ _ _ (comment_piece {prefix} {items} {previous} {line} {tail} body pieces ends no_feed) is closed =
-    let before = pieces_row text prefix (comment_text body ++ rest) items previous line tail pieces (is ∙ append_assoc prefix (comment_text body) rest) ends in
-    record { row = row_comment body rest before.row is no_feed (comment_ends rest closed); at = before.at ∙ sym (line_stays prefix (comment_text body) no_feed) }
-pieces_row text _ rest _ _ _ _ (feed_piece {prefix} {items} {previous} {line} {tail} pieces ends) is closed =
+    let before = pieces_spelled text prefix (byte ∷ rest) items previous line tail pieces split ends in
+    record { spelled = spelled_blank byte rest before.spelled split blank; at = before.at ∙ sym (line_stays prefix (byte ∷ []) (and_from _ _ (ap not (blank_feed byte blank)) refl)) }
+pieces_spelled text _ rest _ _ _ _ (comment_piece {prefix} {items} {previous} {line} {tail} body pieces ends no_feed) is closed =
+    let before = pieces_spelled text prefix (comment_text body ++ rest) items previous line tail pieces (is ∙ append_assoc prefix (comment_text body) rest) ends in
+    record { spelled = spelled_comment body rest before.spelled is no_feed (comment_ends rest closed); at = before.at ∙ sym (line_stays prefix (comment_text body) no_feed) }
+pieces_spelled text _ rest _ _ _ _ (feed_piece {prefix} {items} {previous} {line} {tail} pieces ends) is closed =
     let split : text ≡ prefix ++ 10 ∷ rest = is ∙ append_assoc prefix (10 ∷ []) rest in
-    let before = pieces_row text prefix (10 ∷ rest) items previous line tail pieces split ends in
+    let before = pieces_spelled text prefix (10 ∷ rest) items previous line tail pieces split ends in
     record {
-      row = subst (λ (n : ℕ). Row text (prefix ++ 10 ∷ []) (with_line_end items previous n (length prefix) 1) AfterLineEnd) (sym before.at) (row_line_feed rest before.row split);
+      spelled = subst (λ (n : ℕ). Spelled text (prefix ++ 10 ∷ []) (with_line_end items previous n (length prefix) 1) AfterLineEnd) (sym before.at) (spelled_line_feed rest before.spelled split);
       at = ap (λ (n : ℕ). n + 1) before.at ∙ sym (line_begins prefix);
     }
 
--- the tokens of a row of pieces are those of the text
+-- the tokens of the pieces are those of the text
 pub pieces_tokens : (text : List ℕ) (items : List Token) → PiecesTokens text items → IsTokens text items
 pieces_tokens text items h =
-    let came = pieces_row text text [] h.before h.previous h.line h.tail h.row (sym (append-nil text)) tt in
-    record { before = h.before; previous = h.previous; row = came.row; items_are = h.items_are ∙ ap (λ (n : ℕ). with_line_end h.before h.previous n (length text) 0) came.at }
+    let came = pieces_spelled text text [] h.before h.previous h.line h.tail h.pieces (sym (append-nil text)) tt in
+    record { before = h.before; previous = h.previous; spelled = came.spelled; items_are = h.items_are ∙ ap (λ (n : ℕ). with_line_end h.before h.previous n (length text) 0) came.at }
 
 -- ---- refusals
 
@@ -334,7 +334,7 @@ pieces_stops prefix previous after line (Memory refused) at h = absurd h
 -- a refusal of the text is one of the scanner
 pub refusal_pieces : (text : List ℕ) (fault : LexFault) → IsRefusal text fault → PieceRefusal text fault
 refusal_pieces text fault h =
-    let reached = row_pieces text h.prefix h.after h.items h.previous h.row h.split in
+    let reached = spelled_pieces text h.prefix h.after h.items h.previous h.spelled h.split in
     record {
       prefix = h.prefix;
       rest = h.after;
@@ -343,7 +343,7 @@ refusal_pieces text fault h =
       line = line_after h.prefix;
       tail = reached.tail;
       is = h.split;
-      row = reached.pieces;
+      pieces = reached.pieces;
       ends = reached.closed;
       stops = stops_pieces h.prefix h.previous h.after fault h.stops;
     }
@@ -351,13 +351,13 @@ refusal_pieces text fault h =
 -- and the other way round
 pub pieces_refusal : (text : List ℕ) (fault : LexFault) → PieceRefusal text fault → IsRefusal text fault
 pieces_refusal text fault h =
-    let came = pieces_row text h.prefix h.rest h.items h.previous h.line h.tail h.row h.is h.ends in
+    let came = pieces_spelled text h.prefix h.rest h.items h.previous h.line h.tail h.pieces h.is h.ends in
     record {
       prefix = h.prefix;
       after = h.rest;
       items = h.items;
       previous = h.previous;
       split = h.is;
-      row = came.row;
+      spelled = came.spelled;
       stops = pieces_stops h.prefix h.previous h.rest h.line fault came.at h.stops;
     }

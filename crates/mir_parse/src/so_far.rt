@@ -109,15 +109,15 @@ pub struct Reading {
     pub unit: RawUnit,
 }
 
-/// What was read.
+/// What was read so far.
 #[derive(Drop)]
-pub enum State {
+pub enum ReadSoFar {
     /// These units.
     Outside(Items<RawUnit>),
     /// These units, and a part of the next one.
     In(Reading, Spot),
     /// A token of this line that cannot stand there.
-    Dead(usize),
+    Stopped(usize),
 }
 
 /// What a token makes of the unit that is read.

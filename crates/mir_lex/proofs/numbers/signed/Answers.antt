@@ -2,7 +2,7 @@ use Rattle.std.proofs.Common.{◌≡◌, sym, ◌∙◌}
 use Rattle.mir_lex.specs.Numbers.{signed_number}
 use Rattle.mir_lex.proofs.NumberLemmas.{signed_is}
 use Rattle.mir_lex.proofs.WordLemmas.{signed_word, word_signed}
-use Rattle.mir_lex.proofs.numbers.number.Goals as goal
+use Rattle.mir_lex.proofs.numbers.signed.Goals as goal
 
 pub returns-clause-number : goal.returns-clause-number
 returns-clause-number c = c.scanned_number.ensures ∙ signed_is c.args.bytes.now

@@ -1,7 +1,7 @@
 use Rattle.std.proofs.Common.{◌≡◌, ◌+◌, ℕ, suc, max, List, ℤ, arith, sym, ◌∙◌}
 use Rattle.mir_base.specs.Runs.{Control, State}
 use Rattle.mir_interp.proofs.Frames.{length_waiting}
-use Rattle.mir_interp.proofs.machine.Machine.execute.Goals as goal
+use Rattle.mir_interp.proofs.so_far.RunSoFar.execute.Goals as goal
 
 -- the depth that the code finds is that of the definition
 depth_is : (depth high found n waits : ℕ) → high ≡ max depth (found + 2) → found ≡ n → waits ≡ n → high ≡ max depth (suc (suc waits))

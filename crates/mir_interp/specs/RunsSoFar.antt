@@ -1,4 +1,4 @@
--- The state of a run that a machine stands for, and what is true of every machine. Cited by contracts.
+-- The state of a run so far by the definition, and what is true of every run so far. Cited by contracts.
 use Rattle.std.specs.Vec.{vec_capacity}
 use Rattle.std.specs.Prelude.{◌≡◌, ℕ, ◌+◌, ◌<◌, ◌≤◌, List, [], ◌∷◌, length, map, take, drop, reverse, slice_get, slice_index_or, ℤ, pos, Option, Some, None, Result, Ok}
 use Rattle.mir_base.specs.Limits.{most_frames}
@@ -16,7 +16,7 @@ use Rattle.mir_base.specs.Runs.{Caller as CallerState, Control, Running, Ended, 
 use Rattle.mir_interp.specs.declared.stack.Frame.{Frame}
 use Rattle.mir_interp.specs.declared.stack.Caller.{Caller}
 use Rattle.mir_interp.specs.declared.stack.Stack.{Stack}
-use Rattle.mir_interp.specs.declared.machine.Machine.{Machine}
+use Rattle.mir_interp.specs.declared.so_far.RunSoFar.{RunSoFar}
 use Rattle.mir_interp.specs.declared.report.Finish.{Finish}
 use Rattle.mir_interp.specs.declared.report.Finish.TheVariants.{Running as GoesOn, Ended as EndedWith, Trapped}
 use Rattle.mir_interp.specs.declared.report.RunFault.{RunFault}
@@ -74,21 +74,21 @@ control_of stack (EndedWith result) = Ended result
 control_of stack (Trapped kind) = Stopped kind
 
 -- the state of the run
-abbrev pub state_of : Machine → Finish → State
-state_of machine finish =
-    record { printed = machine.printed.items; control = control_of machine.stack finish; counted = machine.counted; depth = machine.depth }
+abbrev pub state_of : RunSoFar → Finish → State
+state_of so_far finish =
+    record { printed = so_far.printed.items; control = control_of so_far.stack finish; counted = so_far.counted; depth = so_far.depth }
 
 -- the state after a transition of the running frame
-abbrev pub state_by : Machine → Transition → State
-state_by machine transition = state_after machine.stack.running.unit (waiting machine.stack) transition (state_of machine GoesOn)
+abbrev pub state_by : RunSoFar → Transition → State
+state_by so_far transition = state_after so_far.stack.running.unit (waiting so_far.stack) transition (state_of so_far GoesOn)
 
 -- the state after an instruction of the running frame
-abbrev pub state_past : Machine → Option Inst → State
-state_past machine inst = state_by machine (inst_transition inst (running machine.stack))
+abbrev pub state_past : RunSoFar → Option Inst → State
+state_past so_far inst = state_by so_far (inst_transition inst (running so_far.stack))
 
 -- the state after one step of the program
-abbrev pub state_stepped : ProgramShape → Machine → State
-state_stepped program machine = step (codes_of program) (state_of machine GoesOn)
+abbrev pub state_stepped : ProgramShape → RunSoFar → State
+state_stepped program so_far = step (codes_of program) (state_of so_far GoesOn)
 
 -- the value of a right side, or its trap
 abbrev pub value_of_rhs : Values → Rhs → Result ℤ Trap
@@ -96,7 +96,7 @@ value_of_rhs values (Plain a) = Ok (operand_value values a)
 value_of_rhs values (Unary op a) = Ok (value_of_un_op op (operand_value values a))
 value_of_rhs values (Binary op a b) = evaluation op (operand_value values a) (operand_value values b)
 
--- ---- what is true of every machine
+-- ---- what is true of every run so far
 
 -- the variables of the unit, and none where there is no unit
 abbrev pub vars_or_none : Option UnitShape → List (List ℕ)
@@ -137,17 +137,17 @@ pub record IsStack (program : ProgramShape) (stack : Stack) : Type 0 where
 abbrev pub StaysStack : Stack → Stack → Type 0
 StaysStack old new = (program : ProgramShape) → IsStack program old → IsStack program new
 
--- the machine is of a run of the program, which has had no more frames than a run may have
-pub record IsMachine (program : ProgramShape) (machine : Machine) : Type 0 where
-  pub stack : IsStack program machine.stack
-  pub frames : length machine.stack.callers.items < machine.depth
-  pub depth : machine.depth ≤ most_frames
+-- the run so far is one of the program, which has had no more frames than a run may have
+pub record IsRunSoFar (program : ProgramShape) (so_far : RunSoFar) : Type 0 where
+  pub stack : IsStack program so_far.stack
+  pub frames : length so_far.stack.callers.items < so_far.depth
+  pub depth : so_far.depth ≤ most_frames
 
--- after it the machine is of a run of each program that it was of before
-abbrev pub StaysMachine : Machine → Machine → Type 0
-StaysMachine old new = (program : ProgramShape) → IsMachine program old → IsMachine program new
+-- after it the run so far is one of each program that it was one of before
+abbrev pub StaysRunSoFar : RunSoFar → RunSoFar → Type 0
+StaysRunSoFar old new = (program : ProgramShape) → IsRunSoFar program old → IsRunSoFar program new
 
--- why a machine stops before this state
+-- why a run stops before this state
 abbrev pub StopsBefore : State → RunFault → Type 0
 StopsBefore state (WrongInputs wanted) = ⊥
 StopsBefore state Deep = most_frames < state.depth
@@ -165,6 +165,6 @@ pub record SameStackRoom (old new : Stack) : Type 0 where
   pub values : vec_capacity new.values ≡ vec_capacity old.values
 
 -- and so has the list of what was printed
-pub record SameRoom (old new : Machine) : Type 0 where
+pub record SameRoom (old new : RunSoFar) : Type 0 where
   pub printed : vec_capacity new.printed ≡ vec_capacity old.printed
   pub stack : SameStackRoom old.stack new.stack

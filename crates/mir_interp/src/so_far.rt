@@ -4,30 +4,30 @@ ghost use Rattle.mir_base.specs.Expressions.{rhs_count};
 ghost use Rattle.mir_base.specs.Frames.{Prints};
 ghost use Rattle.mir_base.specs.Shapes.{AllBelow, InstFits, body_at, inst_vars, rhs_vars, test_vars};
 ghost use Rattle.mir_base.specs.Units.{test_holds};
-ghost use Rattle.mir_interp.specs.Machines.{IsMachine, SameRoom, StaysMachine, StopsBefore, TakesMemory, at_next, running_inst, running_vars, state_by, state_of, state_past, state_stepped, value_of_rhs, values_of};
+ghost use Rattle.mir_interp.specs.RunsSoFar.{IsRunSoFar, SameRoom, StaysRunSoFar, StopsBefore, TakesMemory, at_next, running_inst, running_vars, state_by, state_of, state_past, state_stepped, value_of_rhs, values_of};
 
 use crate::stack::{Stack, operand};
 use crate::{Finish, RunFault};
 use mir_base::{Inst, MOST_FRAMES, Memory, Program, Rhs, Test, Trap, eval, eval1, relates};
 
-/// A run on its way: what it printed, its frames, the evaluations so far, and the greatest number of frames so far.
+/// A run so far: what it printed, its frames, the evaluations that it counted, and the greatest number of its frames.
 #[derive(Drop)]
-pub(crate) struct Machine {
+pub(crate) struct RunSoFar {
     pub(crate) printed: Vec<i64>,
     pub(crate) stack: Stack,
     pub(crate) counted: u64,
     pub(crate) depth: usize,
 }
 
-impl Machine {
+impl RunSoFar {
     /// One step: the instruction at which the running frame stands, or the return of 0 at its end. Only a call and a
     /// print allocate. `Deep` comes before the step that would pass `MOST_FRAMES` frames.
     pub(crate) fn step(&mut self, program: &Program) -> Result<Finish, RunFault>
-        requires machine { IsMachine program.now self.old }
+        requires so_far { IsRunSoFar program.now self.old }
         requires count { self.old.counted + 1 < 2 ^ 64 }
         ensures state { IfOk result (λ finish.
             state_of self.new finish ≡ state_stepped program.now self.old) }
-        ensures kept { IfOk result (λ _. IsMachine program.now self.new) }
+        ensures kept { IfOk result (λ _. IsRunSoFar program.now self.new) }
         ensures few { IfOk result (λ _. self.new.counted ≤ self.old.counted + 1) }
         ensures fault { IfErr result (StopsBefore (state_stepped program.now self.old)) }
         ensures memory { let inst = running_inst program.now self.old.stack in
@@ -44,7 +44,7 @@ impl Machine {
 
     /// One instruction of the running frame.
     fn execute(&mut self, program: &Program, inst: &Inst) -> Result<Finish, RunFault>
-        requires machine { IsMachine program.now self.old }
+        requires so_far { IsRunSoFar program.now self.old }
         requires below { AllBelow (running_vars program.now self.old.stack) (inst_vars inst.now) }
         requires fits { let frame = self.old.stack.running in
             InstFits program.now.units (body_at program.now.units frame.unit) frame.place inst.now }
@@ -52,7 +52,7 @@ impl Machine {
         requires count { self.old.counted + 1 < 2 ^ 64 }
         ensures state { IfOk result (λ finish.
             state_of self.new finish ≡ state_past self.old (Some inst.now)) }
-        ensures kept { IfOk result (λ _. IsMachine program.now self.new) }
+        ensures kept { IfOk result (λ _. IsRunSoFar program.now self.new) }
         ensures few { IfOk result (λ _. self.new.counted ≤ self.old.counted + 1) }
         ensures fault { IfErr result (StopsBefore (state_past self.old (Some inst.now))) }
         ensures memory { IfErr result (λ _. TakesMemory (Some inst.now)) }
@@ -112,7 +112,7 @@ impl Machine {
         requires { self.old.stack.running.place + 1 < 2 ^ 64 }
         ensures state { IfOk result (λ _. state_of self.new Finish.Running ≡
             state_by self.old (Prints value (at_next self.old.stack))) }
-        ensures kept { IfOk result (λ _. StaysMachine self.old self.new) }
+        ensures kept { IfOk result (λ _. StaysRunSoFar self.old self.new) }
         ensures counted { IfOk result (λ _. self.new.counted ≡ self.old.counted) }
     {
         self.printed.push(value)?;

@@ -2,7 +2,7 @@ use Rattle.std.proofs.Common.{ℕ, List, ◌+◌, ◌-◌, ◌≤◌, arith, tak
 use Rattle.std.proofs.lemmas.List.{drop_all}
 use Rattle.std.proofs.lemmas.Grind.{common_steps}
 use Rattle.mir_outside.proofs.Pieces.{split_left}
-use Rattle.mir_outside.proofs.calm.CalmSourceSource.read.Goals as goal
+use Rattle.mir_outside.proofs.faultless.FaultlessSourceSource.read.Goals as goal
 
 pub returns-clause-bytes : goal.returns-clause-bytes
 returns-clause-bytes c =
