@@ -1,5 +1,5 @@
--- The nodes of the blocks, rewritten one after the other.
-use Rattle.std.proofs.Common.{◌≡◌, ℕ, ◌+◌, ◌<◌, ◌⊎◌, inl, inr, List, length, take, slice_get, slice_set, Some, option_map, sym, ap, ◌∙◌, subst, arith}
+-- The nodes of the blocks, rewritten one after the other, and what is known before a node.
+use Rattle.std.proofs.Common.{◌≡◌, ℕ, ◌+◌, ◌<◌, ◌⊎◌, inl, inr, List, length, take, slice_get, slice_set, Bool, true, false, Option, Some, option_map, refl, sym, ap, ◌∙◌, subst, arith}
 use Rattle.std.proofs.lemmas.Bool.{cases_eq, cases_lt}
 use Rattle.std.proofs.lemmas.List.{length-set, get_or_default}
 use Rattle.std.proofs.lemmas.Option.{same_Some, slice_get_past, slice_get_within}
@@ -9,9 +9,11 @@ use Rattle.flow_graph.specs.Blocks.{BlocksShape, StandsIn}
 use Rattle.flow_graph.specs.Graphs.{AllWithin, GraphShape, IsEdge}
 use Rattle.flow_graph.specs.ListLaws.{set_here, set_elsewhere, some_at}
 use Rattle.flow_graph.specs.OneLaws.{same_places}
-use Rattle.cond_const.specs.States.{NodeState, Unreached}
+use Rattle.cond_const.specs.declared.known.Known.{Known}
+use Rattle.cond_const.specs.States.{NodeState, Unreached, size_of, state_where}
 use Rattle.cond_const.specs.Folding.{folded_at, folded_nodes}
-use Rattle.cond_const.specs.Folded.{AreFolded}
+use Rattle.cond_const.specs.Folded.{AreFolded, HasLeastStates}
+use Rattle.cond_const.specs.KnownBefore.{IsKnownBefore, PassesTo, state_of_known}
 use Rattle.cond_const.specs.Blockwise.{AreLeastOver, net_in, through_nodes}
 use Rattle.cond_const.specs.Rewriting.{AreThrough, AreThroughBlocks, FoldsBlock, FoldsBlocks, IsAmong, IsFoldedAt, value_of}
 use Rattle.cond_const.proofs.Folds.{folded_get}
@@ -64,6 +66,11 @@ module _ (received : List ℕ) (nodes : List Node) (lists : List (List ℕ)) (va
         ];
   }
 
+-- a state speaks of as many variables as its list has
+where_size : (reached : Bool) (known : List Known) → size_of (state_where reached known) ≡ length known
+where_size true known = refl
+where_size false known = refl
+
 -- once all blocks are done, the nodes are folded by the least states
 module _ (graph : GraphShape) (blocks : BlocksShape) (values : List NodeState) (within : AllWithin graph.nodes) (no_entry : (m slot : ℕ) → IsEdge graph.nodes m slot 0 → ⊥) (are : AreLeastOver graph blocks values) where
   abbrev value : ℕ → NodeState
@@ -79,6 +86,21 @@ module _ (graph : GraphShape) (blocks : BlocksShape) (values : List NodeState) (
       state_at graph.received graph.nodes blocks.lists are.is_net.blocks value b n s
       ∙ ap (through_nodes graph.received graph.nodes (take i list)) (get_or_default values b ((net_in graph blocks are.entry are.targets).first b) (Unreached 0) b_low)
 
+  least_states : HasLeastStates graph states
+  least_states = are_least (length graph.vars) graph.received graph.nodes blocks.lists are.entry are.targets are.is_net within no_entry value are.least
+
+  -- what passes to a node from the first node of its block is what is known before the node
+  pub passes_known : (b node : ℕ) (list : List ℕ) (s : NodeState) (reaches : Bool) (known : List Known) (told : Option (List Known)) → node < length graph.nodes → slice_get blocks.lists b ≡ Some list → s ≡ value_of values b
+      → PassesTo graph list node s (state_where reaches known) → state_of_known (length known) told ≡ state_where reaches known → IsKnownBefore graph node told
+  passes_known b node list s reaches known told lt listed state_is passes told_is =
+      let here : states node ≡ state_where reaches known = all_through b list listed passes.place node passes.stands ∙ ap (through_nodes graph.received graph.nodes (take passes.place list)) (sym state_is) ∙ sym passes.passes in
+      let long : length known ≡ length graph.vars = sym (where_size reaches known) ∙ ap size_of (sym here) ∙ least_states.are.sizes node lt in
+      record {
+        states = states;
+        least = least_states;
+        here = here ∙ sym told_is ∙ ap (λ n. state_of_known n told) long;
+      }
+
   module _ (made : List Node) (folds : FoldsBlocks graph.received graph.nodes blocks.lists values (length blocks.lists) made) where
     by_place : (n : ℕ) → slice_get made n ≡ slice_get (folded_nodes states graph.nodes) n
     by_place n = elim (cases_lt n (length graph.nodes)) as (λ _. slice_get made n ≡ slice_get (folded_nodes states graph.nodes) n) [
@@ -93,6 +115,6 @@ module _ (graph : GraphShape) (blocks : BlocksShape) (values : List NodeState) (
     pub blocks_all : AreFolded graph made
     blocks_all = record {
       states = states;
-      least = are_least (length graph.vars) graph.received graph.nodes blocks.lists are.entry are.targets are.is_net within no_entry value are.least;
+      least = least_states;
       are = same_places made (folded_nodes states graph.nodes) by_place;
     }

@@ -6,6 +6,7 @@ use Rattle.flow_graph.specs.declared.nodes.Node.{Node}
 use Rattle.flow_graph.specs.Blocks.{AreBlocksOf, BlocksShape, IsBlocks, StandsIn}
 use Rattle.flow_graph.specs.Graphs.{GraphShape, IsEdge}
 use Rattle.flow_graph.specs.Tables.{number_at}
+use Rattle.node_list.specs.Lists.{list_at}
 use Rattle.cond_const.specs.declared.flow.StateFlow.{StateFlow}
 use Rattle.cond_const.specs.declared.known.Known.TheVariants.{Fixed}
 use Rattle.cond_const.specs.States.{NodeState, Unreached, BelowState}
@@ -33,7 +34,7 @@ out_of received nodes list slot s = along_at received (slice_get nodes (last_of 
 
 -- the nodes of the block of this number
 abbrev pub block_at : List (List ℕ) → ℕ → List ℕ
-block_at lists b = slice_index_or lists b []
+block_at = list_at
 
 -- ---- the flow
 

@@ -1,18 +1,31 @@
--- A graph has exactly one folded graph. For proofs only.
-use Rattle.std.proofs.Common.{◌≡◌, ℕ, suc, ◌+◌, ◌<◌, List, [], ◌∷◌, length, refl, sym, ap, subst, arith, add-zero, zero-add}
+-- One thing is known before a node of a graph, and a graph has exactly one folded graph. For proofs only.
+use Rattle.std.proofs.Common.{◌≡◌, ℕ, suc, ◌+◌, ◌<◌, List, [], ◌∷◌, length, refl, sym, ap, ◌∙◌, subst, arith, add-zero, zero-add, Option, Some, None}
 use Rattle.flow_graph.specs.declared.nodes.Node.{Node}
 use Rattle.flow_graph.specs.Graphs.{GraphShape}
 use Rattle.flow_graph.specs.Kept.{IsMade}
 use Rattle.flow_graph.specs.ListLaws.{cons_same}
 use Rattle.flow_graph.specs.OneLaws.{made_is_one}
-use Rattle.cond_const.specs.States.{NodeState}
+use Rattle.cond_const.specs.declared.known.Known.{Known}
+use Rattle.cond_const.specs.States.{NodeState, Unreached, Knows}
 use Rattle.cond_const.specs.Folding.{folded_at, folded_from, folded_nodes}
 use Rattle.cond_const.specs.Folded.{HasLeastStates, IsFolded}
+use Rattle.cond_const.specs.KnownBefore.{IsKnownBefore, state_of_known}
 use Rattle.cond_const.specs.StateLaws.{below_antisym}
 
 -- the least states are determined at the nodes
 states_are_one : (graph : GraphShape) (states others : ℕ → NodeState) → HasLeastStates graph states → HasLeastStates graph others → (n : ℕ) → n < length graph.nodes → states n ≡ others n
 states_are_one graph states others p q n lt = below_antisym (states n) (others n) (p.least others q.are n lt) (q.least states p.are n lt)
+
+-- what is told gives one state, and one state tells one thing
+told_is_one : (size : ℕ) (a b : Option (List Known)) → state_of_known size a ≡ state_of_known size b → a ≡ b
+told_is_one size None None e = refl
+told_is_one size None (Some ks) e = cc
+told_is_one size (Some ks) None e = cc
+told_is_one size (Some ks) (Some ls) e = let same : ks ≡ ls = cc in ap Some same
+
+-- so what is known before a node is determined
+pub known_is_one : (graph : GraphShape) (node : ℕ) (a b : Option (List Known)) → node < length graph.nodes → IsKnownBefore graph node a → IsKnownBefore graph node b → a ≡ b
+known_is_one graph node a b lt p q = told_is_one (length graph.vars) a b (sym p.here ∙ states_are_one graph p.states q.states p.least q.least node lt ∙ q.here)
 
 -- so is what the nodes become
 folded_are_one : (k : ℕ) (states others : ℕ → NodeState) (nodes : List Node) → ((n : ℕ) → n < length nodes → states (k + n) ≡ others (k + n)) → folded_from k states nodes ≡ folded_from k others nodes

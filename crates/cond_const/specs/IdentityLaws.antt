@@ -123,8 +123,8 @@ same_keeps _ a fits = tt
 
 -- a shift by a multiple of 64
 no_distance : (op : Op) (a c : ℤ) → traps op c ≡ false → ((k : ℕ) → k ≡ distance c → k ≡ 0 → value_of_op op a c ≡ a) → (b : Bool) → nat_eq (distance c) 0 ≡ b → IsIdentity (if b then Itself else Absent) a op a c
-no_distance op a c calm is true e = (calm, is (distance c) refl (eqb-true (distance c) 0 e))
-no_distance op a c calm is false e = tt
+no_distance op a c no_trap is true e = (no_trap, is (distance c) refl (eqb-true (distance c) 0 e))
+no_distance op a c no_trap is false e = tt
 
 -- an identity of a variable and a constant that holds at one number, and there is none elsewhere
 right_at : (op : Op) (a c d : ℤ) (rule : Identity) → IsIdentity rule a op a d → IsIdentity (where_equal c d rule Absent) a op a c
@@ -156,13 +156,13 @@ right_keeps _ a c fits fits' = tt
 
 -- an identity of an operator that does not trap, and gives the same in the other order
 flipped : (op : Op) (a c : ℤ) (rule : Identity) → traps op a ≡ false → value_of_op op c a ≡ value_of_op op a c → IsIdentity rule a op a c → IsIdentity rule a op c a
-flipped op a c Absent calm same is = tt
-flipped op a c Itself calm same is = (calm, same ∙ is.1)
-flipped op a c (Always d) calm same is = (calm, same ∙ is.1)
+flipped op a c Absent no_trap same is = tt
+flipped op a c Itself no_trap same is = (no_trap, same ∙ is.1)
+flipped op a c (Always d) no_trap same is = (no_trap, same ∙ is.1)
 
 -- a shift of 0 is 0
 zero_shifted : (op : Op) (a c : ℤ) → traps op a ≡ false → value_of_op op (pos 0) a ≡ pos 0 → IsIdentity (where_equal c (pos 0) (Always (pos 0)) Absent) a op c a
-zero_shifted op a c calm is = at_number c (pos 0) (Always (pos 0)) Absent (λ r d. IsIdentity r a op d a) (calm, is) tt
+zero_shifted op a c no_trap is = at_number c (pos 0) (Always (pos 0)) Absent (λ r d. IsIdentity r a op d a) (no_trap, is) tt
 
 -- the table of a constant and a variable: where the operands may change places, it is the one before
 pub left_keeps : (op : Op) (a c : ℤ) → FitsSigned w64 a → FitsSigned w64 c → IsIdentity (identity_left op c) a op c a

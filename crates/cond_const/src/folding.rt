@@ -1,12 +1,11 @@
 // The graph with what is known in the place of what is computed.
 ghost use Rattle.std.specs.Prelude.{IfOk};
-ghost use Rattle.flow_graph.specs.Blocks.{AreBlocksOf};
 ghost use Rattle.flow_graph.specs.Passes.{GraphKeeps};
-ghost use Rattle.cond_const.specs.Folded.{AreFolded, IsFolded, IsOnlyFolded, KeepsDivisions};
+ghost use Rattle.cond_const.specs.Folded.{IsFolded, IsOnlyFolded, KeepsDivisions};
 
+use crate::least_states::LeastStates;
 use crate::rewriting::rewrite;
-use crate::solving::least;
-use flow_graph::{Blocks, Edges, Graph, Node};
+use flow_graph::Graph;
 use mir_base::Memory;
 use std::alloc::Global;
 
@@ -34,27 +33,8 @@ pub fn fold(alloc: Global, graph: &Graph) -> Result<Graph, Memory>
     ensures divides { IfOk result (KeepsDivisions graph.now) }
 {
     let _nodes = graph.nodes();
-    let blocks = blocks(alloc, graph)?;
-    let nodes = folded(alloc, graph, &blocks)?;
+    let states = LeastStates::of(alloc, graph)?;
+    let nodes = rewrite(alloc, graph, &states.blocks, &states.values)?;
     let folded = graph.with_nodes(alloc, nodes)?;
     Ok(folded)
-}
-
-/// What the nodes of the graph become by its least states.
-fn folded(alloc: Global, graph: &Graph, blocks: &Blocks) -> Result<Vec<Node>, Memory>
-    requires { AreBlocksOf graph.now.nodes blocks.now }
-    ensures { IfOk result (λ folded. AreFolded graph.now folded.items) }
-{
-    let states = least(alloc, graph, blocks)?;
-    let folded = rewrite(alloc, graph, blocks, &states)?;
-    Ok(folded)
-}
-
-/// The blocks of the graph.
-fn blocks(alloc: Global, graph: &Graph) -> Result<Blocks, Memory>
-    ensures { IfOk result (AreBlocksOf graph.now.nodes) }
-{
-    let edges = Edges::of(alloc, graph)?;
-    let blocks = Blocks::of(alloc, graph, &edges)?;
-    Ok(blocks)
 }

@@ -6,6 +6,16 @@ ghost use mir.Syntax.{w64};
 
 use mir_base::Op;
 
+/// Has no effect; carries the theorem that each identity of the tables holds for all signed 64-bit numbers, without a
+/// trap.
+pub fn identities_hold()
+    ensures same { (op : Op) (a : ℤ) → FitsSigned w64 a → IsIdentity (identity_same op) a op a a }
+    ensures right { (op : Op) (a c : ℤ) → FitsSigned w64 a → FitsSigned w64 c
+        → IsIdentity (identity_right op c) a op a c }
+    ensures left { (op : Op) (a c : ℤ) → FitsSigned w64 a → FitsSigned w64 c
+        → IsIdentity (identity_left op c) a op c a }
+{}
+
 /// What is said of an operator on a variable and itself, or on a variable and a constant.
 #[derive(Clone, Copy, Debug, PartialEq, Eq)]
 pub enum Identity {
@@ -114,13 +124,3 @@ fn shifts_nowhere(by: i64) -> bool
 {
     by.rem_euclid(64) == 0
 }
-
-/// Has no effect; carries the theorem that each identity of the tables holds for all signed 64-bit numbers, without a
-/// trap.
-pub fn identities_hold()
-    ensures same { (op : Op) (a : ℤ) → FitsSigned w64 a → IsIdentity (identity_same op) a op a a }
-    ensures right { (op : Op) (a c : ℤ) → FitsSigned w64 a → FitsSigned w64 c
-        → IsIdentity (identity_right op c) a op a c }
-    ensures left { (op : Op) (a c : ℤ) → FitsSigned w64 a → FitsSigned w64 c
-        → IsIdentity (identity_left op c) a op c a }
-{}

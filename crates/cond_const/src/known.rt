@@ -1,15 +1,16 @@
 // What is known of variables, and what operands, right sides and tests become by it.
-ghost use Rattle.std.specs.Prelude.{◌≡◌, ◌↔◌, false};
+ghost use Rattle.std.specs.Prelude.{◌≡◌, ◌↔◌, false, IfOk};
 ghost use Rattle.mir_base.specs.declared.instructions.Operand.TheVariants.{Const};
 ghost use Rattle.cond_const.specs.Folding.{by_identity, decided_relation, decided_test, folded_binary, folded_rhs, known_at, known_rhs, relates_itself, resolved, resolved_test};
 ghost use Rattle.cond_const.specs.States.{joined_known};
 
 use crate::identities::{Identity, identity_left, identity_right, identity_same};
-use mir_base::{Op, Operand, RelOp, Rhs, Test, eval, eval1, relates};
+use mir_base::{Memory, Op, Operand, RelOp, Rhs, Test, eval, eval1, relates};
+use std::alloc::Global;
 
 /// What is known of a variable before a node.
 #[derive(Clone, Copy, Debug, PartialEq, Eq)]
-pub(crate) enum Known {
+pub enum Known {
     /// It has this value.
     Fixed(i64),
     /// It may have different values.
@@ -199,4 +200,12 @@ pub(crate) fn differ(a: Known, b: Known) -> bool
             Known::Fixed(y) => x != y,
         },
     }
+}
+
+/// A copy of what is known.
+pub(crate) fn copied(alloc: Global, known: &[Known]) -> Result<Vec<Known>, Memory>
+    ensures { IfOk result (λ copy. copy.items ≡ known.now) }
+{
+    let copy = Vec::from_slice(alloc, known)?;
+    Ok(copy)
 }

@@ -5,12 +5,15 @@
 //!
 //! The theorem that this crate carries is the contract of `fold`: the answer is the exact graph, made from the least
 //! states of the nodes, it does the same as the graph that goes in, and it evaluates no more operators.
+//!
+//! `LeastStates::of` answers what it finds out first: the least states, and so what is known before each node.
 #![tactic(auto)]
 
 mod flow;
 mod folding;
 mod identities;
 mod known;
+mod least_states;
 mod rewriting;
 mod solving;
 mod states;
@@ -18,3 +21,5 @@ mod transfer;
 
 pub use folding::fold;
 pub use identities::identities_hold;
+pub use known::Known;
+pub use least_states::LeastStates;

@@ -7,7 +7,7 @@ ghost use Rattle.cond_const.specs.Folding.{folded_at, folded_node, resolved};
 ghost use Rattle.cond_const.specs.Rewriting.{FoldsBlock};
 ghost use Rattle.cond_const.specs.States.{state_where};
 
-use crate::known::{Known, decided_test, folded_rhs, resolved, resolved_test};
+use crate::known::{Known, copied, decided_test, folded_rhs, resolved, resolved_test};
 use crate::states::BlockState;
 use crate::transfer::step;
 use fix_solve::Work;
@@ -99,14 +99,6 @@ fn rewrite_list(
         reaches = step(reaches, known, node, 0, graph.received());
     }
     Ok(())
-}
-
-/// A copy of what is known.
-fn copied(alloc: Global, known: &[Known]) -> Result<Vec<Known>, Memory>
-    ensures { IfOk result (λ copy. copy.items ≡ known.now) }
-{
-    let copy = Vec::from_slice(alloc, known)?;
-    Ok(copy)
 }
 
 /// Puts what a node becomes in its place.

@@ -1,5 +1,6 @@
 -- Where all nodes stand in one block, no edge leads from block to block, and a call pushes nothing.
 use Rattle.std.proofs.Common.{◌≡◌, ℕ, zero, suc, ◌+◌, ◌*◌, ◌<◌, ◌≤◌, false, if◌then◌else◌, List, [], ◌∷◌, length, slice_get, Some, refl, sym, ap, subst, arith, ◌∙◌}
+use Rattle.std.specs.List.{list_any}
 use Rattle.std.proofs.lemmas.Bool.{and_right, ne_eqb}
 use Rattle.std.proofs.lemmas.Option.{slice_get_within}
 use Rattle.flow_graph.specs.declared.edges.Edge.{Edge}
@@ -11,7 +12,7 @@ use Rattle.flow_graph.specs.Edges.{EdgesShape, edges_from, edges_of}
 use Rattle.flow_graph.specs.Graphs.{IsEdge}
 use Rattle.flow_graph.specs.PathLaws.{first_begins}
 use Rattle.flow_graph.specs.Paths.{Begins, HasEdge}
-use Rattle.path_laws.specs.Crossings.{begins_with, crossings, ends_with, some_list}
+use Rattle.path_laws.specs.Crossings.{begins_with, crossings, ends_with}
 
 -- Start has nothing before it, so its block begins with it
 start_first : (nodes : List Node) (lists : List (List ℕ)) (b : ℕ) → IsBlocks nodes lists → ((m slot s : ℕ) → IsEdge nodes m slot s → 1 ≤ s) → StandsIn lists b 0 → (list : List ℕ) → slice_get lists b ≡ Some list → Begins 0 list
@@ -31,7 +32,7 @@ start_first nodes lists b are late s list listed = subst (Begins 0) same (go s.p
         absurd (omega (arith, late glued.0 edge.0 0 edge.1))
 
 -- no list begins with a node other than Start where Start begins the one list
-none_begins : (lists : List (List ℕ)) (t : ℕ) → length lists ≤ 1 → 1 ≤ t → ((list : List ℕ) → slice_get lists 0 ≡ Some list → Begins 0 list) → some_list (begins_with t) lists ≡ false
+none_begins : (lists : List (List ℕ)) (t : ℕ) → length lists ≤ 1 → 1 ≤ t → ((list : List ℕ) → slice_get lists 0 ≡ Some list → Begins 0 list) → list_any (begins_with t) lists ≡ false
 none_begins [] t few h first = refl
 none_begins (list ∷ []) t few h first = rw (begins_not list (first list refl)) refl
   where
@@ -55,7 +56,7 @@ none_cross nodes lists are late some one = all (edges_from 0 nodes) (λ e edge h
     all (edge ∷ edges) steps =
         let step = steps zero edge refl in
         let to = none_begins lists edge.target (omega (arith, one)) (late edge.source step.0 edge.target step.1) (start_first nodes lists 0 are late zero_stands) in
-        let off = and_right (some_list (ends_with edge.source) lists) (some_list (begins_with edge.target) lists) to in
+        let off = and_right (list_any (ends_with edge.source) lists) (list_any (begins_with edge.target) lists) to in
         omega (arith, all edges (λ e x h. steps (suc e) x h), ap {B = ℕ} (λ t. if t then 1 else 0) off)
 
 -- so a counter that rises by no more than the crossings stays as it was

@@ -13,8 +13,8 @@ use Rattle.mir_base.specs.declared.operators.UnOp.{UnOp}
 use Rattle.mir_base.specs.Expressions.{divides}
 use Rattle.mir_base.specs.Shapes.{AllDiffer}
 use Rattle.flow_graph.specs.declared.nodes.Node.TheVariants.{Assign, Call}
-use Rattle.value_number.specs.declared.finding.Change.{Change}
-use Rattle.value_number.specs.declared.finding.Found.{Found}
+use Rattle.value_number.specs.declared.finding.NewTerm.{NewTerm}
+use Rattle.value_number.specs.declared.finding.AtNode.{AtNode}
 use Rattle.value_number.specs.declared.terms.TermKey.{TermKey}
 use Rattle.value_number.specs.declared.terms.TermKey.TheVariants as keys
 use Rattle.value_number.specs.Terms.{Term, Terms, Initial, Opaque, Number, UnaryOf, BinaryOf, with_term, assigned_term, rhs_term, movable_rhs_term}
@@ -118,15 +118,15 @@ represent_changed table numbers root terms x number t represent lt stands = reco
         subst (λ o. RepresentsAt table root v o (terms v)) (sym (get_or-set_other numbers x v (Some number) None other)) (represent.each v v_lt)
 
 -- a record of these two parts
-same_found : (found : Found) (holder : Option ℕ) (change : Option Change) → found.holder ≡ holder → found.change ≡ change → record { holder = holder; change = change } ≡ found
-same_found found holder change e e' = ap (λ (h : Option ℕ). record { holder = h; change = change }) (sym e) ∙ ap (λ (c : Option Change). record { holder = found.holder; change = c }) (sym e')
+same_found : (found : AtNode) (holder : Option ℕ) (change : Option NewTerm) → found.holder ≡ holder → found.change ≡ change → record { holder = holder; change = change } ≡ found
+same_found found holder change e e' = ap (λ (h : Option ℕ). record { holder = h; change = change }) (sym e) ∙ ap (λ (c : Option NewTerm). record { holder = found.holder; change = c }) (sym e')
 
 -- this change
-abbrev to_number : ℕ → ℕ → Option Change
+abbrev to_number : ℕ → ℕ → Option NewTerm
 to_number x number = Some (record { variable = x; number = number })
 
 -- a call's result has a leaf of its own
-pub finds_call : (old new : List TermKey) (numbers : List (Option ℕ)) (root n x unit next number : ℕ) (operands : List Operand) (found : Found) → Stay old new → x < length numbers → slice_get new number ≡ Some (keys.Opaque n)
+pub finds_call : (old new : List TermKey) (numbers : List (Option ℕ)) (root n x unit next number : ℕ) (operands : List Operand) (found : AtNode) → Stay old new → x < length numbers → slice_get new number ≡ Some (keys.Opaque n)
     → found.holder ≡ None → found.change ≡ to_number x number → Finds old new numbers root n (Call (Some x) unit operands next) found
 finds_call old new numbers root n x unit next number operands found stay lt here holder change = subst (Finds old new numbers root n (Call (Some x) unit operands next)) (same_found found None (to_number x number) holder change) (record {
   stay = stay;
@@ -137,7 +137,7 @@ finds_call old new numbers root n x unit next number operands found stay lt here
 })
 
 -- an assignment whose right side has this term
-pub finds_assigned : (old new : List TermKey) (numbers : List (Option ℕ)) (root n x next number : ℕ) (rhs : Rhs) (holder : Option ℕ) (found : Found) → Stay old new → x < length numbers
+pub finds_assigned : (old new : List TermKey) (numbers : List (Option ℕ)) (root n x next number : ℕ) (rhs : Rhs) (holder : Option ℕ) (found : AtNode) → Stay old new → x < length numbers
     → ((terms : Terms) → Represent old numbers root terms → Stands new number (assigned_term n terms rhs)) → ((terms : Terms) → Represent old numbers root terms → IsHolder (length numbers) terms (movable_rhs_term terms rhs) holder)
     → found.holder ≡ holder → found.change ≡ to_number x number → Finds old new numbers root n (Assign x rhs next) found
 finds_assigned old new numbers root n x next number rhs holder found stay lt stands holds is_holder change = subst (Finds old new numbers root n (Assign x rhs next)) (same_found found holder (to_number x number) is_holder change) (record {

@@ -5,5 +5,6 @@ pub mod Stands
 pub mod Covers
 pub mod Holders
 pub mod Walks
+pub mod Unvisited
 pub mod Weights
 pub mod Pushes

@@ -11,17 +11,18 @@ use Rattle.flow_graph.specs.Graphs.{GraphShape, IsGraph, Reached, at_start, alon
 use Rattle.flow_graph.specs.ListLaws.{get_left_some, get_push, get_seam, set_here}
 use Rattle.flow_graph.specs.MarkLaws.{marked_before, set_keeps}
 use Rattle.flow_graph.specs.Paths.{HasEdge}
-use Rattle.value_number.specs.declared.finding.Change.{Change}
-use Rattle.value_number.specs.declared.finding.Found.{Found}
+use Rattle.value_number.specs.declared.finding.NewTerm.{NewTerm}
+use Rattle.value_number.specs.declared.finding.AtNode.{AtNode}
 use Rattle.value_number.specs.declared.terms.TermKey.{TermKey}
 use Rattle.value_number.specs.declared.walk.Step.{Step}
 use Rattle.value_number.specs.declared.walk.Step.TheVariants.{Visit, Restore}
 use Rattle.value_number.specs.Terms.{Terms, initial_terms, node_terms, terms_after, movable_term}
 use Rattle.value_number.specs.Roots.{FromRoot, is_root, terms_before}
 use Rattle.value_number.specs.RootLaws.{only_enters, root_or_not}
+use Rattle.value_number.specs.NodeTerms.{AreTermsBefore}
 use Rattle.value_number.specs.Numbered.{IsHolder, IsHolderAt}
 use Rattle.value_number.specs.Table.{Represent, RepresentsAt, Stay}
-use Rattle.value_number.specs.Walks.{AreRoots, VisitRoots, changed_numbers, undoing, ChangeWithin, Finds, restored, IsReady, AreReady, IsToVisit, holder_at, IsVisited, KeepsTerms, listed_after, steps_after, weight_left, AreHolders}
+use Rattle.value_number.specs.Walks.{AreRoots, VisitRoots, changed_numbers, undoing, NewTermWithin, Finds, restored, IsReady, AreReady, IsToVisit, holder_at, IsVisited, KeepsTerms, listed_after, steps_after, weight_left, AreHolders}
 use Rattle.value_number.proofs.Stands.{represent_on}
 use Rattle.value_number.proofs.Weights.{visit_light}
 
@@ -71,7 +72,7 @@ module _ (nodes : List Node) (table : List TermKey) where
   put_restore (Restore v old ∷ steps) w o numbers lt h = (subst (λ k. v < k) (length-set numbers w o) h.0, put_restore steps w o numbers lt h.1)
 
   -- a change, and the step that undoes it
-  change_ready : (steps : List Step) (numbers : List (Option ℕ)) (change : Option Change) → ChangeWithin (length numbers) change → AreReady nodes table numbers steps → AreReady nodes table (changed_numbers numbers change) (steps ++ undoing steps numbers change)
+  change_ready : (steps : List Step) (numbers : List (Option ℕ)) (change : Option NewTerm) → NewTermWithin (length numbers) change → AreReady nodes table numbers steps → AreReady nodes table (changed_numbers numbers change) (steps ++ undoing steps numbers change)
   change_ready steps numbers None within h = subst (AreReady nodes table numbers) (sym (append-nil steps)) h
   change_ready [] numbers (Some change) within h = tt
   change_ready (first ∷ rest) numbers (Some change) within h =
@@ -90,18 +91,18 @@ ready_on nodes old new numbers (Visit n root ∷ steps) stay h =
 ready_on nodes old new numbers (Restore v o ∷ steps) stay h = (h.0, ready_on nodes old new numbers steps stay h.1)
 
 -- the numbers keep their length
-changed_long : (numbers : List (Option ℕ)) (change : Option Change) → length (changed_numbers numbers change) ≡ length numbers
+changed_long : (numbers : List (Option ℕ)) (change : Option NewTerm) → length (changed_numbers numbers change) ≡ length numbers
 changed_long numbers None = refl
 changed_long numbers (Some change) = length-set numbers change.variable (Some change.number)
 
 -- ---- visits among the steps
 
 -- a visit stays among more steps
-visit_stays : (n : ℕ) (steps more : List Step) → IsToVisit n steps → IsToVisit n (steps ++ more)
+pub visit_stays : (n : ℕ) (steps more : List Step) → IsToVisit n steps → IsToVisit n (steps ++ more)
 visit_stays n steps more v = (v.0, v.1, get_left_some steps more v.0 _ v.2)
 
 -- the visit that is put on is among them
-visit_put : (n root : ℕ) (steps : List Step) → IsToVisit n (steps ++ Visit n root ∷ [])
+pub visit_put : (n root : ℕ) (steps : List Step) → IsToVisit n (steps ++ Visit n root ∷ [])
 visit_put n root steps = (length steps, root, get_seam steps [] (Visit n root))
 
 -- equal visits are of one node
@@ -109,14 +110,14 @@ same_visit : {n m root q : ℕ} → Visit m q ≡ Visit n root → m ≡ n
 same_visit e = cc
 
 -- once a visit is taken off, the others are left
-visit_left : (n m root : ℕ) (steps : List Step) → IsToVisit n (steps ++ Visit m root ∷ []) → IsToVisit n steps ⊎ (m ≡ n)
+pub visit_left : (n m root : ℕ) (steps : List Step) → IsToVisit n (steps ++ Visit m root ∷ []) → IsToVisit n steps ⊎ (m ≡ n)
 visit_left n m root steps v = elim (get_push steps (Visit m root) (Visit n v.1) v.0 v.2) as (λ _. IsToVisit n steps ⊎ (m ≡ n)) [
   | inl there ↦ inl (v.0, v.1, there)
   | inr last ↦ inr (same_visit last.1)
 ]
 
 -- a restoring step is no visit
-no_visit : (n v : ℕ) (old : Option ℕ) (steps : List Step) → IsToVisit n (steps ++ Restore v old ∷ []) → IsToVisit n steps
+pub no_visit : (n v : ℕ) (old : Option ℕ) (steps : List Step) → IsToVisit n (steps ++ Restore v old ∷ []) → IsToVisit n steps
 no_visit n v old steps h = elim (get_push steps (Restore v old) (Visit n h.1) h.0 h.2) as (λ _. IsToVisit n steps) [
   | inl there ↦ (h.0, h.1, there)
   | inr last ↦ differs last.1
@@ -128,7 +129,7 @@ no_visit n v old steps h = elim (get_push steps (Restore v old) (Visit n h.1) h.
 -- ---- marks
 
 -- setting what is set changes nothing
-set_again : (listed : List Bool) (s : ℕ) → slice_index_or listed s false ≡ true → slice_set listed s true ≡ listed
+pub set_again : (listed : List Bool) (s : ℕ) → slice_index_or listed s false ≡ true → slice_set listed s true ≡ listed
 set_again listed s e = ap (slice_set listed s) (sym e) ∙ set-get_or listed s false
 
 -- a mark that is not set
@@ -143,7 +144,7 @@ module _ (graph : GraphShape) where
   visited_on listed listed' holders n more v = record { holder = v.holder; succs = λ s edge. more s (v.succs s edge) }
 
   -- the visit that is taken: its node is at hand, with its holder, its change and the steps that undo it
-  module _ (is_graph : IsGraph graph.vars graph.received graph.nodes) (table table' : List TermKey) (numbers : List (Option ℕ)) (listed : List Bool) (steps : List Step) (holders : List (Option ℕ)) (n root : ℕ) (node : Node) (found : Found)
+  module _ (is_graph : IsGraph graph.vars graph.received graph.nodes) (table table' : List TermKey) (numbers : List (Option ℕ)) (listed : List Bool) (steps : List Step) (holders : List (Option ℕ)) (n root : ℕ) (node : Node) (found : AtNode)
       (walk : KeepsTerms graph table numbers listed (steps ++ Visit n root ∷ []) holders None) (here : slice_get graph.nodes n ≡ Some node) (finds : Finds table table' numbers root n node found) where
     -- the numbers after it
     abbrev numbers' : List (Option ℕ)
@@ -303,7 +304,7 @@ listed_all (t ∷ succs) listed zero s at lt = let same : t ≡ s = same_Some _ 
 listed_all (t ∷ succs) listed (suc i) s at lt = listed_all succs (slice_set listed t true) i s at (subst (λ m. s < m) (sym (length-set listed t true)) lt)
 
 -- a node is visited: the walk goes on
-pub visit_walks : (graph : GraphShape) → IsGraph graph.vars graph.received graph.nodes → (table table' : List TermKey) (numbers : List (Option ℕ)) (listed : List Bool) (steps : List Step) (holders : List (Option ℕ)) (n root : ℕ) (node : Node) (found : Found)
+pub visit_walks : (graph : GraphShape) → IsGraph graph.vars graph.received graph.nodes → (table table' : List TermKey) (numbers : List (Option ℕ)) (listed : List Bool) (steps : List Step) (holders : List (Option ℕ)) (n root : ℕ) (node : Node) (found : AtNode)
     → KeepsTerms graph table numbers listed (steps ++ Visit n root ∷ []) holders None → slice_get graph.nodes n ≡ Some node → Finds table table' numbers root n node found
     → KeepsTerms graph table' (changed_numbers numbers found.change) (listed_after (succs_at graph.nodes n) listed) (steps_after root (succs_at graph.nodes n) listed (steps ++ undoing steps numbers found.change)) (slice_set holders n found.holder) None
 visit_walks graph is_graph table table' numbers listed steps holders n root node found walk here finds = record {
@@ -362,12 +363,18 @@ visit_walks graph is_graph table table' numbers listed steps holders n root node
 pub at_visit : {graph : GraphShape} {table : List TermKey} {numbers : List (Option ℕ)} {listed : List Bool} (steps : List Step) {holders : List (Option ℕ)} {n : ℕ} (root : ℕ) → KeepsTerms graph table numbers listed (steps ++ Visit n root ∷ []) holders None → n < length graph.nodes
 at_visit {graph = graph} {table = table} {numbers = numbers} steps {n = n} root walk = let ready = (ready_visit graph.nodes table steps n root numbers walk.ready).1 in ready.within
 
+-- and the numbers are those of the terms before it
+pub known_at : {graph : GraphShape} {table : List TermKey} {numbers : List (Option ℕ)} {listed : List Bool} (steps : List Step) {holders : List (Option ℕ)} {n : ℕ} (root : ℕ) → KeepsTerms graph table numbers listed (steps ++ Visit n root ∷ []) holders None → AreTermsBefore graph n root table numbers
+known_at {graph = graph} {table = table} {numbers = numbers} steps {n = n} root walk =
+    let ready = (ready_visit graph.nodes table steps n root numbers walk.ready).1 in
+    record { long = walk.numbers_long; before = ready.before; path = ready.path; represent = ready.represent }
+
 -- its successors are nodes of the graph, for which there are marks
 pub succs_below : (graph : GraphShape) → IsGraph graph.vars graph.received graph.nodes → (listed : List Bool) (n : ℕ) → length listed ≡ length graph.nodes → AllBelow (length listed) (succs_at graph.nodes n)
 succs_below graph is_graph listed n long = all_below (length listed) (succs_at graph.nodes n) (λ i s at. omega (arith, (is_graph.can.succs n i s at).1, long))
 
 -- a visit, as the code makes it: the walk goes on, and less is left
-module _ (graph : GraphShape) (is_graph : IsGraph graph.vars graph.received graph.nodes) (table table' : List TermKey) (numbers : List (Option ℕ)) (listed : List Bool) (steps : List Step) (holders : List (Option ℕ)) (n root : ℕ) (node : Node) (found : Found)
+module _ (graph : GraphShape) (is_graph : IsGraph graph.vars graph.received graph.nodes) (table table' : List TermKey) (numbers : List (Option ℕ)) (listed : List Bool) (steps : List Step) (holders : List (Option ℕ)) (n root : ℕ) (node : Node) (found : AtNode)
     (numbers' : List (Option ℕ)) (listed' : List Bool) (changed steps' : List Step) (holders' : List (Option ℕ)) (succs : List ℕ)
     (numbers_are : numbers' ≡ changed_numbers numbers found.change) (changed_are : changed ≡ steps ++ undoing steps numbers found.change) (succs_are : succs ≡ succs_at graph.nodes n)
     (listed_are : listed' ≡ listed_after succs listed) (steps_are : steps' ≡ steps_after root succs listed changed) (holders_are : holders' ≡ slice_set holders n found.holder) where
@@ -472,18 +479,26 @@ begins graph table numbers holders roots steps none unheld are visits = record {
 }
 
 -- when no step is left, all nodes have been visited
-pub all_visited : (graph : GraphShape) → IsGraph graph.vars graph.received graph.nodes → (table : List TermKey) (numbers : List (Option ℕ)) (listed : List Bool) (holders : List (Option ℕ)) → KeepsTerms graph table numbers listed [] holders None → AreHolders graph holders
-all_visited graph is_graph table numbers listed holders walk = record { long = walk.holders_long; each = each }
-  where
-    visited : (n : ℕ) → slice_get listed n ≡ Some true → IsVisited graph listed holders n
-    visited n at = elim (walk.all n at) as (λ _. IsVisited graph listed holders n) [
-      | inl v ↦ (let none : None ≡ Some (Visit n v.1) = v.2 in cc)
-      | inr rest ↦ elim rest as (λ _. IsVisited graph listed holders n) [ inl e ↦ (let none : None ≡ Some n = e in cc) | inr v ↦ v ]
-    ]
+module _ (graph : GraphShape) (is_graph : IsGraph graph.vars graph.received graph.nodes) (table : List TermKey) (numbers : List (Option ℕ)) (listed : List Bool) (holders : List (Option ℕ)) (walk : KeepsTerms graph table numbers listed [] holders None) where
+  -- each node that is listed
+  listed_visited : (n : ℕ) → slice_get listed n ≡ Some true → IsVisited graph listed holders n
+  listed_visited n at = elim (walk.all n at) as (λ _. IsVisited graph listed holders n) [
+    | inl v ↦ (let none : None ≡ Some (Visit n v.1) = v.2 in cc)
+    | inr rest ↦ elim rest as (λ _. IsVisited graph listed holders n) [ inl e ↦ (let none : None ≡ Some n = e in cc) | inr v ↦ v ]
+  ]
 
-    listed_where : (n : ℕ) → Reached graph.nodes n → slice_get listed n ≡ Some true
-    listed_where n at_start = walk.roots 0 (slice_get_within graph.nodes 0 _ is_graph.can.start.1) refl
-    listed_where n (along m slot s reached edge) = let v = visited m (listed_where m reached) in v.succs s (slot, edge)
+  -- as each is that is reached
+  reached_listed : (n : ℕ) → Reached graph.nodes n → slice_get listed n ≡ Some true
+  reached_listed n at_start = walk.roots 0 (slice_get_within graph.nodes 0 _ is_graph.can.start.1) refl
+  reached_listed n (along m slot s reached edge) = let v = listed_visited m (reached_listed m reached) in v.succs s (slot, edge)
 
-    each : (n : ℕ) (node : Node) → slice_get graph.nodes n ≡ Some node → IsHolderAt graph.nodes (length graph.vars) n node (holder_at holders n)
-    each n node here = let v = visited n (listed_where n (is_graph.reached n (slice_get_within graph.nodes n node here))) in v.holder node here
+  -- so all are listed
+  pub all_listed : (n : ℕ) → n < length graph.nodes → slice_get listed n ≡ Some true
+  all_listed n lt = reached_listed n (is_graph.reached n lt)
+
+  -- and have their holders
+  pub all_visited : AreHolders graph holders
+  all_visited = record {
+    long = walk.holders_long;
+    each = λ n node here. let v = listed_visited n (all_listed n (slice_get_within graph.nodes n node here)) in v.holder node here;
+  }

@@ -3,7 +3,7 @@ use Rattle.std.proofs.Common.{◌≡◌, ℕ, ◌+◌, ◌<◌, ◌≤◌, Bool,
 use Rattle.std.proofs.lemmas.List.{length-set}
 use Rattle.mir_base.specs.Shapes.{AllBelow}
 use Rattle.flow_graph.specs.MarkLaws.{unmarked_same, unmarked_set}
-use Rattle.value_number.specs.declared.finding.Change.{Change}
+use Rattle.value_number.specs.declared.finding.NewTerm.{NewTerm}
 use Rattle.value_number.specs.declared.walk.Step.{Step}
 use Rattle.value_number.specs.declared.walk.Step.TheVariants.{Visit, Restore}
 use Rattle.value_number.specs.Walks.{undoing, listed_after, steps_after, steps_weight, weight_left}
@@ -14,7 +14,7 @@ weight_append [] ys = omega arith
 weight_append (x ∷ xs) ys = omega (arith, weight_append xs ys)
 
 -- a change weighs at most one
-undoing_light : (steps : List Step) (numbers : List (Option ℕ)) (change : Option Change) → steps_weight (undoing steps numbers change) ≤ 1
+undoing_light : (steps : List Step) (numbers : List (Option ℕ)) (change : Option NewTerm) → steps_weight (undoing steps numbers change) ≤ 1
 undoing_light steps numbers None = omega arith
 undoing_light [] numbers (Some change) = omega arith
 undoing_light (step ∷ steps) numbers (Some change) = omega arith
@@ -33,7 +33,7 @@ list_all_light root (s ∷ succs) listed steps below =
     omega (arith, rest, one)
 
 -- a visit makes it less
-pub visit_light : (n root : ℕ) (succs : List ℕ) (listed : List Bool) (steps : List Step) (numbers : List (Option ℕ)) (change : Option Change) → AllBelow (length listed) succs
+pub visit_light : (n root : ℕ) (succs : List ℕ) (listed : List Bool) (steps : List Step) (numbers : List (Option ℕ)) (change : Option NewTerm) → AllBelow (length listed) succs
     → weight_left (listed_after succs listed) (steps_after root succs listed (steps ++ undoing steps numbers change)) < weight_left listed (steps ++ Visit n root ∷ [])
 visit_light n root succs listed steps numbers change below =
     omega (arith, list_all_light root succs listed (steps ++ undoing steps numbers change) below, weight_append steps (undoing steps numbers change), undoing_light steps numbers change, weight_append steps (Visit n root ∷ []))

@@ -1,12 +1,12 @@
 -- What the walk over the graph keeps: numbers for the terms of the variables, and steps that are still to be taken.
 -- Cited by contracts of private functions.
-use Rattle.std.specs.Prelude.{◌≡◌, ◌⊎◌, ℕ, ◌+◌, ◌*◌, ◌<◌, Bool, true, false, if◌then◌else◌, List, [], ◌∷◌, ◌++◌, length, slice_get, slice_index_or, slice_set, Option, Some, None}
+use Rattle.std.specs.Prelude.{◌≡◌, ◌≢◌, ◌⊎◌, ℕ, ◌+◌, ◌*◌, ◌<◌, Bool, true, false, if◌then◌else◌, List, [], ◌∷◌, ◌++◌, length, slice_get, slice_index_or, slice_set, Option, Some, None}
 use Rattle.flow_graph.specs.declared.nodes.Node.{Node}
 use Rattle.flow_graph.specs.Graphs.{GraphShape, is_start}
 use Rattle.flow_graph.specs.Paths.{HasEdge}
 use Rattle.flow_graph.specs.Walks.{unmarked}
-use Rattle.value_number.specs.declared.finding.Change.{Change}
-use Rattle.value_number.specs.declared.finding.Found.{Found}
+use Rattle.value_number.specs.declared.finding.NewTerm.{NewTerm}
+use Rattle.value_number.specs.declared.finding.AtNode.{AtNode}
 use Rattle.value_number.specs.declared.terms.TermKey.{TermKey}
 use Rattle.value_number.specs.declared.walk.Step.{Step}
 use Rattle.value_number.specs.declared.walk.Step.TheVariants.{Visit, Restore}
@@ -14,7 +14,7 @@ use Rattle.value_number.specs.declared.walk.Walk.{Walk}
 use Rattle.value_number.specs.Terms.{Terms, movable_term, node_terms}
 use Rattle.value_number.specs.Roots.{FromRoot, is_root, terms_before}
 use Rattle.value_number.specs.Numbered.{IsHolder, IsHolderAt}
-use Rattle.value_number.specs.Table.{Represent, Stay}
+use Rattle.value_number.specs.Table.{Represent, Stay, kept_number}
 
 -- ---- roots
 
@@ -35,7 +35,7 @@ with_root steps n root = if root then steps ++ Visit n n ∷ [] else steps
 -- ---- one node
 
 -- the numbers once a node has changed one, where it does
-abbrev pub changed_numbers : List (Option ℕ) → Option Change → List (Option ℕ)
+abbrev pub changed_numbers : List (Option ℕ) → Option NewTerm → List (Option ℕ)
 changed_numbers numbers None = numbers
 changed_numbers numbers (Some change) = slice_set numbers change.variable (Some change.number)
 
@@ -45,20 +45,20 @@ where_any [] step = []
 where_any (other ∷ steps) step = step ∷ []
 
 -- and what undoes it before these steps
-abbrev pub undoing : List Step → List (Option ℕ) → Option Change → List Step
+abbrev pub undoing : List Step → List (Option ℕ) → Option NewTerm → List Step
 undoing steps numbers None = []
 undoing steps numbers (Some change) = where_any steps (Restore change.variable (slice_index_or numbers change.variable None))
 
 -- a change is that of a variable below `count`
-abbrev pub ChangeWithin : ℕ → Option Change → Type 0
-ChangeWithin count None = Unit {0}
-ChangeWithin count (Some change) = change.variable < count
+abbrev pub NewTermWithin : ℕ → Option NewTerm → Type 0
+NewTermWithin count None = Unit {0}
+NewTermWithin count (Some change) = change.variable < count
 
 -- what was found at node n, where the numbers stood for the terms before it: the holder of its term, and numbers that
 -- stand for the terms after it. A Start changes none
-pub record Finds (old new : List TermKey) (numbers : List (Option ℕ)) (root n : ℕ) (node : Node) (found : Found) : Type 0 where
+pub record Finds (old new : List TermKey) (numbers : List (Option ℕ)) (root n : ℕ) (node : Node) (found : AtNode) : Type 0 where
   pub stay : Stay old new
-  pub within : ChangeWithin (length numbers) found.change
+  pub within : NewTermWithin (length numbers) found.change
   pub holder : (terms : Terms) → Represent old numbers root terms → IsHolder (length numbers) terms (movable_term terms node) found.holder
   pub change : (terms : Terms) → Represent old numbers root terms → is_start node ≡ false → Represent new (changed_numbers numbers found.change) root (node_terms n node terms)
   pub start : is_start node ≡ true → found.change ≡ None
@@ -88,9 +88,23 @@ AreReady nodes table numbers (Restore v old ∷ steps) = (v < length numbers) ×
 abbrev pub IsToVisit : ℕ → List Step → Type 0
 IsToVisit n steps = (i : ℕ) × (root : ℕ) × (slice_get steps i ≡ Some (Visit n root))
 
+-- this step is no visit of node n
+abbrev pub IsNoVisit : ℕ → Step → Type 0
+IsNoVisit n (Visit m root) = m ≢ n
+IsNoVisit n (Restore v old) = Unit {0}
+
+-- node n has not been visited: where it is listed, a visit of it is among the steps
+abbrev pub IsUnvisited : ℕ → List Bool → List Step → Type 0
+IsUnvisited n listed steps = slice_get listed n ≡ Some true → IsToVisit n steps
+
+-- each node that was not visited before this step, which was the last, is not visited after it either, but for the node
+-- that the step visits
+abbrev pub LeavesUnvisited : Step → List Bool → List Step → List Bool → List Step → Type 0
+LeavesUnvisited step listed steps listed' steps' = (n : ℕ) → IsNoVisit n step → IsUnvisited n listed (steps ++ step ∷ []) → IsUnvisited n listed' steps'
+
 -- the holder of node n, as the table has it
 abbrev pub holder_at : List (Option ℕ) → ℕ → Option ℕ
-holder_at holders n = slice_index_or holders n None
+holder_at = kept_number
 
 -- node n has been visited: its holder is known, and its successors are listed
 pub record IsVisited (graph : GraphShape) (listed : List Bool) (holders : List (Option ℕ)) (n : ℕ) : Type 0 where

@@ -11,7 +11,7 @@ ghost use Rattle.value_number.specs.Table.{Represent, Stands, Stay};
 ghost use Rattle.value_number.specs.Terms.{Terms, movable_rhs_term, rhs_term};
 ghost use Rattle.value_number.specs.Walks.{Finds};
 
-use crate::numbers::Numbers;
+use crate::numbers::TermNumbers;
 use crate::terms::{TermKey, rhs_number, term_number};
 use flow_graph::Node;
 use key_table::KeyTable;
@@ -19,7 +19,7 @@ use mir_base::{Memory, Rhs, divides};
 
 /// A variable gets a term.
 #[derive(Clone, Copy, Debug)]
-pub(crate) struct Change {
+pub(crate) struct NewTerm {
     /// The variable.
     pub(crate) variable: usize,
     /// The number of the term.
@@ -28,22 +28,22 @@ pub(crate) struct Change {
 
 /// What is found at a node.
 #[derive(Clone, Copy, Debug)]
-pub(crate) struct Found {
+pub(crate) struct AtNode {
     /// The first variable that has the term of the node's movable right side, where there is one.
     pub(crate) holder: Option<usize>,
     /// The term that the node gives a variable, where it gives one.
-    pub(crate) change: Option<Change>,
+    pub(crate) change: Option<NewTerm>,
 }
 
 /// What is found at node `n`, which is this one, where `numbers` are those of the variables before it. It fails only
 /// with `Memory`. A variable is looked for only where the table had the term before.
 pub(crate) fn find(
     table: &mut KeyTable<TermKey>,
-    numbers: &mut Numbers,
+    numbers: &mut TermNumbers,
     root: usize,
     n: usize,
     node: &Node,
-) -> Result<Found, Memory>
+) -> Result<AtNode, Memory>
     requires { AllBelow (length numbers.old) (node_vars node.now) }
     ensures finds { IfOk result (Finds table.old table.new numbers.old root n node.now) }
     ensures same { numbers.new ≡ numbers.old }
@@ -66,24 +66,13 @@ pub(crate) fn find(
 }
 
 /// No holder, and no change.
-const NOTHING: Found = Found {
+const NOTHING: AtNode = AtNode {
     holder: None,
     change: None,
 };
 
-/// This holder, and the change of the variable to the term of this number.
-fn changes(holder: Option<usize>, variable: usize, number: usize) -> Found
-    ensures holder { result.holder ≡ holder }
-    ensures change { result.change ≡ Some (record { variable = variable; number = number }) }
-{
-    Found {
-        holder,
-        change: Some(Change { variable, number }),
-    }
-}
-
 /// What is found at node `n`, which calls a unit, whose result goes to this variable, where there is one.
-fn called(table: &mut KeyTable<TermKey>, n: usize, into: Option<usize>) -> Result<Found, Memory>
+fn called(table: &mut KeyTable<TermKey>, n: usize, into: Option<usize>) -> Result<AtNode, Memory>
     ensures { IfOk result (λ found. (numbers : List (Option ℕ)) (root unit next : ℕ)
         (operands : List Operand) → AllBelow (length numbers) (into_vars into)
         → Finds table.old table.new numbers root n (Call into unit operands next) found) }
@@ -100,13 +89,13 @@ fn called(table: &mut KeyTable<TermKey>, n: usize, into: Option<usize>) -> Resul
 /// What is found at node `n`, which assigns this right side to this variable.
 fn assigned(
     table: &mut KeyTable<TermKey>,
-    numbers: &mut Numbers,
+    numbers: &mut TermNumbers,
     root: usize,
     n: usize,
     x: usize,
     rhs: Rhs,
     next: usize,
-) -> Result<Found, Memory>
+) -> Result<AtNode, Memory>
     requires within { x < length numbers.old }
     requires below { AllBelow (length numbers.old) (rhs_vars rhs) }
     ensures finds { IfOk result
@@ -125,9 +114,20 @@ fn assigned(
     }
 }
 
+/// This holder, and the change of the variable to the term of this number.
+fn changes(holder: Option<usize>, variable: usize, number: usize) -> AtNode
+    ensures holder { result.holder ≡ holder }
+    ensures change { result.change ≡ Some (record { variable = variable; number = number }) }
+{
+    AtNode {
+        holder,
+        change: Some(NewTerm { variable, number }),
+    }
+}
+
 /// The first variable whose number is that of the term of a right side, which does not divide; none for a plain one.
 /// Before it the table had so many terms, so a number that is not below has been given to no variable yet.
-fn holder(numbers: &mut Numbers, rhs: Rhs, number: usize, known: usize) -> Option<usize>
+fn holder(numbers: &mut TermNumbers, rhs: Rhs, number: usize, known: usize) -> Option<usize>
     requires { divides rhs ≡ false }
     ensures holder { (old new : List TermKey) (root : ℕ) (terms : Terms)
         → length old ≡ known → Stay old new → AllDiffer new
@@ -143,7 +143,7 @@ fn holder(numbers: &mut Numbers, rhs: Rhs, number: usize, known: usize) -> Optio
 }
 
 /// The same, where the table had the term.
-fn known_holder(numbers: &mut Numbers, rhs: Rhs, number: usize) -> Option<usize>
+fn known_holder(numbers: &mut TermNumbers, rhs: Rhs, number: usize) -> Option<usize>
     requires { divides rhs ≡ false }
     ensures holder { (table : List TermKey) (root : ℕ) (terms : Terms) → AllDiffer table
         → Represent table numbers.old root terms → Stands table number (rhs_term terms rhs)

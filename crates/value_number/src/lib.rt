@@ -4,6 +4,8 @@
 //! The theorem that this crate carries is the contract of `number`: the answer is the exact graph, it does the same as
 //! the graph that goes in, and it evaluates no more operators.
 //!
+//! `NodeTerms::before` answers what it finds out first: the terms that the variables have before a node.
+//!
 //! In `specs/Terms.antt` and `specs/Roots.antt` stands what the term of a variable before a node is: a tree of
 //! operators, read off the nodes on the way from the last root. The code builds no tree: a term is a number in a hashed
 //! table, whose entries name the numbers of its operands (`terms.rt`), so a term that has doubled its size a thousand
@@ -11,6 +13,7 @@
 //! for each number the variables that may have it, of which the first is at hand (`numbers.rt`, `candidates.rt`).
 #![tactic(auto)]
 
+mod before;
 mod candidates;
 mod finding;
 mod keys;
@@ -19,4 +22,6 @@ mod numbers;
 mod terms;
 mod walk;
 
+pub use before::NodeTerms;
 pub use numbering::number;
+pub use terms::TermKey;

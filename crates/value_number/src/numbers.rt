@@ -10,14 +10,14 @@ use std::marker::Model;
 
 /// The number of each variable's term, where it has one. Contracts see it as the list of them.
 #[derive(Drop)]
-pub(crate) struct Numbers {
+pub(crate) struct TermNumbers {
     numbers: Vec<Option<usize>>,
     /// For each number the variables that may have it.
     table: Vec<Candidates>,
     alloc: Global,
 }
 
-impl Model for Numbers {
+impl Model for TermNumbers {
     ghost use Rattle.std.specs.Prelude.{List, Option, ℕ};
     ghost use Rattle.value_number.specs.Candidates.{CoverAll};
 
@@ -28,13 +28,13 @@ impl Model for Numbers {
     ghost invariant = { λ numbers. CoverAll numbers.numbers.items numbers.table.items };
 }
 
-impl Numbers {
+impl TermNumbers {
     /// So many variables, of which none has a number.
-    pub(crate) fn none(alloc: Global, count: usize) -> Result<Numbers, Memory>
+    pub(crate) fn none(alloc: Global, count: usize) -> Result<TermNumbers, Memory>
         ensures { IfOk result (λ numbers. numbers ≡ replicate count None) }
     {
         let numbers = vec![in alloc; None; count]?;
-        Ok(Numbers {
+        Ok(TermNumbers {
             numbers,
             table: Vec::new(alloc),
             alloc,
@@ -46,6 +46,13 @@ impl Numbers {
         ensures { result.now ≡ self.now }
     {
         self.numbers.as_slice()
+    }
+
+    /// The numbers, as a list.
+    pub(crate) fn into_numbers(self) -> Vec<Option<usize>>
+        ensures { result.items ≡ self }
+    {
+        self.numbers
     }
 
     /// Gives a variable a number, or none. It fails only with `Memory`.

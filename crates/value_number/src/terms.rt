@@ -9,7 +9,7 @@ use mir_base::{Memory, Op, Operand, Rhs, UnOp};
 
 /// A term, whose operands are named by their numbers in the table.
 #[derive(Clone, Copy, Debug, PartialEq, Eq, Hash)]
-pub(crate) enum TermKey {
+pub enum TermKey {
     /// The value that this variable has before this root.
     Initial(usize, usize),
     /// The value that this node gives.

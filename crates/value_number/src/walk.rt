@@ -1,13 +1,14 @@
 // The walk over the graph, which finds at each node the variable that has the term of its right side.
-ghost use Rattle.std.specs.Prelude.{◌≡◌, ◌<◌, ◌++◌, [], ◌∷◌, None, Some, IfOk, OnOk, length, replicate, slice_set};
+ghost use Rattle.std.specs.Prelude.{◌≡◌, ℕ, ◌<◌, ◌++◌, [], ◌∷◌, None, Some, IfNone, IfOk, IfSome, OnOk, length, replicate, slice_set};
 ghost use Rattle.mir_base.specs.Shapes.{AllBelow};
 ghost use Rattle.flow_graph.specs.Edges.{edges_of};
 ghost use Rattle.value_number.specs.declared.walk.Step.TheVariants.{Visit};
+ghost use Rattle.value_number.specs.NodeTerms.{AreTermsBefore};
 ghost use Rattle.value_number.specs.Roots.{is_root};
-ghost use Rattle.value_number.specs.Walks.{AreHolders, AreRoots, ChangeWithin, VisitRoots, GoesOver, changed_numbers, listed_after, steps_after, undoing, weight_left, where_any, with_root};
+ghost use Rattle.value_number.specs.Walks.{AreHolders, AreRoots, NewTermWithin, VisitRoots, GoesOver, IsNoVisit, IsUnvisited, LeavesUnvisited, changed_numbers, listed_after, steps_after, undoing, weight_left, where_any, with_root};
 
-use crate::finding::{Change, find};
-use crate::numbers::Numbers;
+use crate::finding::{NewTerm, find};
+use crate::numbers::TermNumbers;
 use crate::terms::TermKey;
 use flow_graph::{Edges, Graph};
 use key_table::KeyTable;
@@ -29,7 +30,7 @@ pub(crate) struct Walk {
     /// The terms so far.
     pub(crate) table: KeyTable<TermKey>,
     /// The number of each variable's term at the node at hand; none where it is the variable's leaf of the root.
-    pub(crate) numbers: Numbers,
+    pub(crate) numbers: TermNumbers,
     /// Which nodes have been visited, or are to be.
     pub(crate) listed: Vec<bool>,
     /// What is still to be done.
@@ -52,9 +53,11 @@ pub(crate) fn holders(alloc: Global, graph: &Graph) -> Result<Vec<Option<usize>>
     Ok(walk.holders)
 }
 
-/// The walk before its first step.
-fn begin(alloc: Global, graph: &Graph) -> Result<Walk, Memory>
-    ensures { IfOk result (λ walk. GoesOver graph.now walk walk.steps.items) }
+/// The walk before its first step. It fails only with `Memory`.
+pub(crate) fn begin(alloc: Global, graph: &Graph) -> Result<Walk, Memory>
+    ensures walks { IfOk result (λ walk. GoesOver graph.now walk walk.steps.items) }
+    ensures unvisited { IfOk result (λ walk. (n : ℕ)
+        → IsUnvisited n walk.listed.items walk.steps.items) }
 {
     let listed = roots(alloc, graph)?;
     let steps = visits(alloc, listed.as_slice())?;
@@ -76,7 +79,7 @@ fn unnumbered(
     ensures listed { IfOk result (λ walk. walk.listed.items ≡ listed.items) }
     ensures steps { IfOk result (λ walk. walk.steps.items ≡ steps.items) }
 {
-    let numbers = Numbers::none(alloc, graph.vars().len())?;
+    let numbers = TermNumbers::none(alloc, graph.vars().len())?;
     let holders = vec![in alloc; None; graph.len()]?;
     Ok(Walk {
         table: KeyTable::new(alloc),
@@ -131,6 +134,39 @@ fn visit_root(steps: &mut Vec<Step>, n: usize, is_root: bool) -> Result<(), Memo
 }
 
 impl Walk {
+    /// Takes steps until the last is to visit node `n`, which was not visited, and takes it off. The answer is the root
+    /// at which the terms before the node begin. It fails only with `Memory`.
+    pub(crate) fn walk_to(&mut self, graph: &Graph, n: usize) -> Result<usize, Memory>
+        requires there { n < length graph.now.nodes }
+        requires walks { GoesOver graph.now self.old self.old.steps.items }
+        requires unvisited { IsUnvisited n self.old.listed.items self.old.steps.items }
+        ensures { IfOk result (λ root.
+            AreTermsBefore graph.now n root self.new.table self.new.numbers) }
+    {
+        let _nodes = graph.nodes();
+        while let Some(step) = self.steps.pop() {
+            if let Some(root) = self.stop_at(graph, step, n) {
+                return Ok(root);
+            }
+            self.take(graph, step)?;
+        }
+        unreachable!()
+    }
+
+    /// The root of a step, which was the last, where it is to visit node `n`.
+    fn stop_at(&self, graph: &Graph, step: Step, n: usize) -> Option<usize>
+        requires { GoesOver graph.now self.now (self.now.steps.items ++ step ∷ []) }
+        ensures terms { IfSome result (λ root.
+            AreTermsBefore graph.now n root self.now.table self.now.numbers) }
+        ensures other { IfNone result (IsNoVisit n step) }
+    {
+        let _ = graph;
+        match step {
+            Step::Visit(node, root) => { if node == n { Some(root) } else { None } }
+            Step::Restore(_, _) => None,
+        }
+    }
+
     /// Takes a step, which was the last.
     fn take(&mut self, graph: &Graph, step: Step) -> Result<(), Memory>
         requires walks { GoesOver graph.now self.old (self.old.steps.items ++ step ∷ []) }
@@ -138,6 +174,8 @@ impl Walk {
         ensures lighter { OnOk result
             (weight_left self.new.listed.items self.new.steps.items
             < weight_left self.old.listed.items (self.old.steps.items ++ step ∷ [])) }
+        ensures unvisited { OnOk result (LeavesUnvisited step self.old.listed.items
+            self.old.steps.items self.new.listed.items self.new.steps.items) }
     {
         match step {
             Step::Visit(node, root) => self.visit(graph, node, root),
@@ -155,6 +193,8 @@ impl Walk {
         ensures lighter { OnOk result
             (weight_left self.new.listed.items self.new.steps.items
             < weight_left self.old.listed.items (self.old.steps.items ++ Visit n root ∷ [])) }
+        ensures unvisited { OnOk result (LeavesUnvisited (Visit n root) self.old.listed.items
+            self.old.steps.items self.new.listed.items self.new.steps.items) }
     {
         let _nodes = graph.nodes();
         let node = graph.node(n);
@@ -181,11 +221,11 @@ fn put(list: &mut Vec<Option<usize>>, index: usize, value: Option<usize>)
 
 /// Changes the number of a variable, where there is a change, and lists the step that undoes it, where steps are left.
 fn change(
-    numbers: &mut Numbers,
+    numbers: &mut TermNumbers,
     steps: &mut Vec<Step>,
-    change: Option<Change>,
+    change: Option<NewTerm>,
 ) -> Result<(), Memory>
-    requires { ChangeWithin (length numbers.old) change }
+    requires { NewTermWithin (length numbers.old) change }
     ensures numbers { OnOk result (numbers.new ≡ changed_numbers numbers.old change) }
     ensures steps { OnOk result
         (steps.new.items ≡ steps.old.items ++ undoing steps.old.items numbers.old change) }

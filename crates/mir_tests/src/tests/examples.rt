@@ -3,7 +3,8 @@
 /// An example is a line with a remark, a program, and what becomes of the graph of its first unit, once or more: after
 /// `$` the passes in turn, of which the first is `lower`, and then the graph that they make, node by node. Where the
 /// line of the passes ends with `: changes`, its nodes follow that the lowered graph does not have, and how many it
-/// has; with `: blocks` its blocks; with `: copies` where each of its copies holds; with `: delays` where each of its
+/// has; with `: blocks` its blocks; with `: known` what is known of its variables before each node; with `: terms` the
+/// terms that they have there; with `: copies` where each of its copies holds; with `: delays` where each of its
 /// patterns that can still move is blocked, delayed and inserted; with `: live` before and after which nodes each of
 /// its variables is live; with `: motion` what code motion finds out of its first expression, and with `: motion of the
 /// second` of its second; and with a statement about paths the nodes at which a bit holds by it that is born and
@@ -47,6 +48,37 @@ block 0 1
 block 2 3
 block 4
 block 5
+# a print that is not reached, a jump on the way to another one, and a test that makes no difference
+main: begin
+receive a(val)
+if a goto then
+x <- 1
+goto join
+then: x <- 2
+goto join
+print 9
+join: goto out
+out: if x goto last
+last: print x
+end
+$ lower
+0: start to 1
+1: if a to 4 else 2
+2: x <- 1 to 3
+3: skip to 6
+4: x <- 2 to 5
+5: skip to 6
+6: skip to 7
+7: if x to 8 else 8
+8: print x to 9
+9: return 0
+$ lower clean
+0: start to 1
+1: if a to 3 else 2
+2: x <- 1 to 4
+3: x <- 2 to 4
+4: print x to 5
+5: return 0
 # a circle of jumps stays as one jump to itself
 main: begin
 print a
@@ -87,6 +119,13 @@ print a
 goto L
 N: return a
 end
+$ lower
+0: start to 1
+1: skip to 2
+2: if ! a to 5 else 3
+3: print a to 4
+4: skip to 1
+5: return a
 $ lower clean
 0: start to 1
 1: if ! a to 3 else 2
@@ -94,18 +133,24 @@ $ lower clean
 3: return a
 # two nodes that lie on a loop are each entered from within it and from the test before it
 main: begin
-receive a(val)
-if a goto M
-L: print a
-M: if a goto L
-return a
+receive n(val)
+if n goto M
+L: n <- n - 1
+M: if n > 0 goto L
+return n
 end
+$ lower
+0: start to 1
+1: if n to 3 else 2
+2: n <- n - 1 to 3
+3: if n > 0 to 2 else 4
+4: return n
 $ lower split
 0: start to 1
-1: if a to 5 else 6
-2: print a to 7
-3: if a to 8 else 4
-4: return a
+1: if n to 5 else 6
+2: n <- n - 1 to 7
+3: if n > 0 to 8 else 4
+4: return n
 5: skip to 3
 6: skip to 2
 7: skip to 3

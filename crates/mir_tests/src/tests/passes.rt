@@ -3,11 +3,13 @@
 use crate::tests::copied::copies_text;
 use crate::tests::delayed::{delays_text, live_text};
 use crate::tests::examples::EXAMPLES;
+use crate::tests::known::known_text;
 use crate::tests::paths::held_text;
 use crate::tests::placing::motion_text;
 use crate::tests::row_examples::ROW_EXAMPLES;
 use crate::tests::shown::{graph_text, put_changes};
 use crate::tests::support::graph_of;
+use crate::tests::terms::terms_text;
 use crate::tests::value_examples::VALUE_EXAMPLES;
 use cond_const::fold;
 use copy_flow::copies;
@@ -94,17 +96,20 @@ fn round_of(alloc: Global, graph: &Graph) -> Result<Graph, Fail> {
     Ok(round(alloc, graph)?.graph)
 }
 
-/// What is shown of the graph that was made of a text: its nodes, or those that the passes changed; its blocks; where
-/// its copies hold; where its patterns are delayed and inserted; where its variables are live; what code motion finds
-/// out of its first expression, or of its second; or where a bit holds.
+/// What is shown of the graph that was made of a text: its nodes, or those that the passes changed; its blocks; what is
+/// known before its nodes; where its copies hold; where its patterns are delayed and inserted; where its variables are
+/// live; which terms they have; what code motion finds out of its first expression, or of its second; or where a bit
+/// holds.
 fn shown_of(alloc: Global, text: &str, shown: &str, graph: &Graph) -> Result<String, Fail> {
     match shown {
         "graph" => Ok(graph_text(alloc, graph)?),
         "changes" => changes_text(alloc, text, graph),
         "blocks" => Ok(blocks_text(alloc, graph)?),
+        "known" => Ok(known_text(alloc, graph)?),
         "copies" => Ok(copies_text(alloc, graph)?),
         "delays" => Ok(delays_text(alloc, graph)?),
         "live" => Ok(live_text(alloc, graph)?),
+        "terms" => Ok(terms_text(alloc, graph)?),
         "motion" => motion_text(alloc, graph, 0),
         "motion of the second" => motion_text(alloc, graph, 1),
         _ => held_text(alloc, shown, graph),

@@ -43,6 +43,20 @@ return w
 L2: q <- a / d
 return q
 end
+$ lower clean: known
+0 a=0 d=0 x=0 y=0 z=0 w=0 q=0
+1 a=? d=0 x=0 y=0 z=0 w=0 q=0
+2 a=? d=0 x=0 y=0 z=0 w=0 q=0
+3 a=? d=0 x=0 y=0 z=0 w=0 q=0
+4 a=? d=0 x=4 y=0 z=0 w=0 q=0
+5 a=? d=0 x=4 y=0 z=0 w=0 q=0
+6 a=? d=0 x=4 y=0 z=0 w=0 q=0
+7 a=? d=0 x=4 y=? z=0 w=0 q=0
+8 a=? d=0 x=4 y=? z=? w=0 q=0
+9 a=? d=0 x=4 y=? z=? w=? q=0
+10 a=? d=0 x=4 y=? z=? w=? q=0
+11 not reached
+12 not reached
 $ lower clean fold
 0: start to 1
 1: d <- 0 to 2
@@ -55,63 +69,6 @@ $ lower clean fold
 8: w <- a to 9
 9: print z to 10
 10: return w
-# the same, with a call of all variables before each node: an argument is a constant where its variable is known to be
-main: begin
-receive a(val)
-call f,(a,int;d,int;x,int;y,int;z,int;w,int)
-d <- 0
-call f,(a,int;d,int;x,int;y,int;z,int;w,int)
-if d goto L2
-call f,(a,int;d,int;x,int;y,int;z,int;w,int)
-x <- 4
-call f,(a,int;d,int;x,int;y,int;z,int;w,int)
-if a goto L1
-call f,(a,int;d,int;x,int;y,int;z,int;w,int)
-x <- 2 * 2
-call f,(a,int;d,int;x,int;y,int;z,int;w,int)
-y <- 1
-L1: call f,(a,int;d,int;x,int;y,int;z,int;w,int)
-z <- x + y
-call f,(a,int;d,int;x,int;y,int;z,int;w,int)
-w <- a + d
-call f,(a,int;d,int;x,int;y,int;z,int;w,int)
-print z
-call f,(a,int;d,int;x,int;y,int;z,int;w,int)
-return w
-L2: call f,(a,int;d,int;x,int;y,int;z,int;w,int)
-q <- a / d
-return q
-end
-f: begin
-receive a(val)
-receive d(val)
-receive x(val)
-receive y(val)
-receive z(val)
-receive w(val)
-end
-$ lower fold
-0: start to 1
-1: call 1 a 0 0 0 0 0 to 2
-2: d <- 0 to 3
-3: call 1 a 0 0 0 0 0 to 4
-4: skip to 5
-5: call 1 a 0 0 0 0 0 to 6
-6: x <- 4 to 7
-7: call 1 a 0 4 0 0 0 to 8
-8: if a to 13 else 9
-9: call 1 a 0 4 0 0 0 to 10
-10: x <- 4 to 11
-11: call 1 a 0 4 0 0 0 to 12
-12: y <- 1 to 13
-13: call 1 a 0 4 y 0 0 to 14
-14: z <- 4 + y to 15
-15: call 1 a 0 4 y z 0 to 16
-16: w <- a to 17
-17: call 1 a 0 4 y z w to 18
-18: print z to 19
-19: call 1 a 0 4 y z w to 20
-20: return w
 # terms: the product of y and b is that of a and b, and after a is assigned the product of a and b is another
 main: begin
 receive a(val)
@@ -121,33 +78,47 @@ y <- a
 z <- y * b
 a <- b
 w <- a * b
+print w
 return z
 end
+$ lower: terms
+0 from 0
+1 from 0
+2 from 0 x=(a0*b0)
+3 from 0 x=(a0*b0) y=a0
+4 from 0 x=(a0*b0) y=a0 z=(a0*b0)
+5 from 0 a=b0 x=(a0*b0) y=a0 z=(a0*b0)
+6 from 0 a=b0 x=(a0*b0) y=a0 z=(a0*b0) w=(b0*b0)
+7 from 0 a=b0 x=(a0*b0) y=a0 z=(a0*b0) w=(b0*b0)
 $ lower number: changes
 3: z <- x to 4
-6 stay
-# the same, where the terms that variables have are asked for after each node: those of y * a and b * b are x's and w's
+7 stay
+# terms begin anew at the loop, and what one way from a test assigns is no term on the other
 main: begin
 receive a(val)
-receive b(val)
-x <- a * b
-q <- a * b
-y <- a
-q <- y * b
-z <- y * b
-a <- b
-q <- y * a
-w <- a * b
-q <- b * b
+x <- -a
+L: x <- x + 1
+y <- x / a
+if y goto M
+x <- -y
+goto L
+M: z <- call f,(x,int)
 return z
 end
-$ lower number: changes
-2: q <- x to 3
-4: q <- x to 5
-5: z <- x to 6
-7: q <- x to 8
-9: q <- w to 10
-6 stay
+f: begin
+receive a(val)
+return a
+end
+$ lower: terms
+0 from 0
+1 from 0
+2 from 2
+3 from 2 x=(x2+1)
+4 from 2 x=(x2+1) y=node3
+5 from 2 x=(x2+1) y=node3
+6 from 2 x=-node3 y=node3
+7 from 2 x=(x2+1) y=node3
+8 from 2 x=(x2+1) y=node3 z=node7
 # copies: b of a, c of b, b of i and b of c in turn, and what becomes of the nodes
 main: begin
 receive a(val)

@@ -125,7 +125,7 @@ pub(crate) fn put_var(text: &mut String, vars: &[Name], x: usize) -> Result<(), 
 }
 
 /// Appends bytes of ASCII.
-fn put_bytes(text: &mut String, bytes: &[u8]) -> Result<(), Memory> {
+pub(crate) fn put_bytes(text: &mut String, bytes: &[u8]) -> Result<(), Memory> {
     for byte in bytes {
         text.push(char::from(*byte))?;
     }

@@ -1,5 +1,6 @@
 use Rattle.std.proofs.Common.{◌++◌, ◌∷◌, [], None, subst}
 use Rattle.value_number.specs.Walks.{KeepsTerms}
+use Rattle.value_number.proofs.Unvisited.{restore_leaves}
 use Rattle.value_number.proofs.Walks.{restore_walks}
 use Rattle.value_number.proofs.Weights.{restore_light}
 use Rattle.value_number.proofs.walk.Walk.take.Goals as goal
@@ -22,3 +23,11 @@ pub returns-in_ok-set-in-Restore-clause-lighter : goal.returns-in_ok-set-in-Rest
 returns-in_ok-set-in-Restore-clause-lighter c =
     let walk = c.args.self.now in
     rw c.in-Restore.is (restore_light c.in-Restore.variable c.in-Restore.number walk.listed.items walk.steps.items)
+
+pub returns-in_ok-set-in-Restore-clause-unvisited : goal.returns-in_ok-set-in-Restore-clause-unvisited
+returns-in_ok-set-in-Restore-clause-unvisited c =
+    let walk = c.args.self.now in
+    rw c.in-Restore.is (restore_leaves c.in-Restore.variable c.in-Restore.number walk.listed.items walk.steps.items)
+
+pub returns-in-Visit-clause-unvisited : goal.returns-in-Visit-clause-unvisited
+returns-in-Visit-clause-unvisited c = rw c.in-Visit.is c.visit.ensures.unvisited

@@ -1,7 +1,8 @@
 use Rattle.std.proofs.Common.{◌≡◌, ◌∙◌, ◌++◌, ap, sym, subst, arith, length}
 use Rattle.mir_base.specs.Shapes.{AllBelow}
 use Rattle.flow_graph.specs.Graphs.{IsGraph, node_vars}
-use Rattle.value_number.specs.Walks.{ChangeWithin, changed_numbers, undoing}
+use Rattle.value_number.specs.Walks.{NewTermWithin, changed_numbers, undoing}
+use Rattle.value_number.proofs.Unvisited.{visit_leaves}
 use Rattle.value_number.proofs.Walks.{at_visit, succs_below, visit_goes_on, visit_less}
 use Rattle.value_number.proofs.walk.Walk.visit.Goals as goal
 use Rattle.value_number.proofs.walk.Walk.visit.Goals.{In_ok-change}
@@ -19,7 +20,7 @@ pub put-requires : goal.put-requires
 put-requires c = omega (arith, at_visit c.args.self.now.steps.items c.args.root c.requires.walks, c.requires.walks.holders_long)
 
 pub change-requires : goal.change-requires
-change-requires c = let found = c.in_ok-found.ensures.finds in subst (λ l. ChangeWithin (length l) c.in_ok-found.found.change) (sym c.find.ensures.same) found.within
+change-requires c = let found = c.in_ok-found.ensures.finds in subst (λ l. NewTermWithin (length l) c.in_ok-found.found.change) (sym c.find.ensures.same) found.within
 
 pub succs-requires : goal.succs-requires
 succs-requires c = at_visit c.args.self.now.steps.items c.args.root c.requires.walks
@@ -55,3 +56,10 @@ returns-clause-lighter c =
     let known = (goal.at.returns-clause-lighter c).In_ok-change in
     visit_less c.args.graph.now (is_graph known) walk.table c.find.new.table walk.numbers walk.listed.items walk.steps.items walk.holders.items c.args.n c.args.root c.node-node.result.now c.in_ok-found.found c.change.new.numbers c.list.new.listed.items c.change.new.steps.items c.list.new.steps.items c.put.new.list.items c.as_slice-2.result.now
     (numbers_are known) (steps_are known) (c.as_slice-2.ensures ∙ c.succs.ensures) c.in_ok-list.ensures.listed c.in_ok-list.ensures.steps c.put.ensures c.requires.walks.listed_long
+
+pub returns-clause-unvisited : goal.returns-clause-unvisited
+returns-clause-unvisited c =
+    let walk = c.args.self.now in
+    let steps = walk.steps.items in
+    let known = (goal.at.returns-clause-unvisited c).In_ok-change in
+    visit_leaves c.args.n c.args.root c.as_slice-2.result.now walk.listed.items c.list.new.listed.items steps (undoing steps walk.numbers c.in_ok-found.found.change) c.change.new.steps.items c.list.new.steps.items (steps_are known) c.in_ok-list.ensures.listed c.in_ok-list.ensures.steps

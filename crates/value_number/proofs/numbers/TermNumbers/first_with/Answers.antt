@@ -3,7 +3,7 @@ use Rattle.std.proofs.lemmas.Grind.{common_steps}
 use Rattle.std.proofs.lemmas.Option.{slice_get_read}
 use Rattle.value_number.specs.Candidates.{Cover}
 use Rattle.value_number.proofs.Covers.{cover_put}
-use Rattle.value_number.proofs.numbers.Numbers.first_with.Goals as goal
+use Rattle.value_number.proofs.numbers.TermNumbers.first_with.Goals as goal
 
 pub least-requires : goal.least-requires
 least-requires c =

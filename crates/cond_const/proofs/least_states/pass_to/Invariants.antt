@@ -1,0 +1,14 @@
+use Rattle.std.proofs.Common.{◌≡◌, ◌-◌, ◌≤◌, ℕ, length, take, slice_get, Some}
+use Rattle.cond_const.specs.States.{state_where}
+use Rattle.cond_const.specs.Blockwise.{through_nodes}
+use Rattle.cond_const.proofs.least_states.pass_to.Given as goal
+
+abbrev pub invariant-loop-place : goal.invariant-loop-place
+invariant-loop-place l = record {
+  passes : state_where l.reaches l.known ≡ through_nodes l.graph.received l.graph.nodes (take l.place l.list) (state_where l.reached l.fn.known);
+  long : length l.known ≡ length l.fn.known;
+  ahead : (i : ℕ) × (l.place ≤ i) × (slice_get l.list i ≡ Some l.node);
+}
+
+abbrev pub decreases-loop-place : goal.decreases-loop-place
+decreases-loop-place l = length l.list - l.place

@@ -1,0 +1,107 @@
+// The least states of a graph, and what is known before a node.
+ghost use Rattle.std.specs.Prelude.{◌≡◌, ◌<◌, length, IfOk};
+ghost use Rattle.std.specs.Option.{option_map};
+ghost use Rattle.flow_graph.specs.Blocks.{AreBlocksOf, IsChain};
+ghost use Rattle.cond_const.specs.KnownBefore.{AreStatesOf, IsKnownBefore, IsOnlyKnownBefore, PassesTo, state_of_known};
+ghost use Rattle.cond_const.specs.Rewriting.{IsAmong};
+ghost use Rattle.cond_const.specs.States.{state_where};
+
+use crate::known::{Known, copied};
+use crate::solving::least;
+use crate::states::BlockState;
+use crate::transfer::step;
+use fix_solve::Work;
+use flow_graph::{Blocks, Edges, Graph};
+use mir_base::Memory;
+use std::alloc::Global;
+use std::marker::Model;
+
+/// The least states of a graph, by which `fold` makes its graph: what is known before each node. They are kept for the
+/// first nodes of the blocks. Contracts see the blocks, and the state of each.
+#[derive(Drop)]
+pub struct LeastStates {
+    pub(crate) blocks: Blocks,
+    pub(crate) values: Work<BlockState>,
+}
+
+impl Model for LeastStates {
+    ghost use Rattle.cond_const.specs.KnownBefore.{StatesShape};
+
+    ghost Value = { StatesShape };
+
+    ghost view = { λ s. record { blocks = s.blocks; values = s.values } };
+}
+
+impl LeastStates {
+    /// The least states of a graph. It fails only with `Memory`.
+    pub fn of(alloc: Global, graph: &Graph) -> Result<LeastStates, Memory>
+        ensures { IfOk result (AreStatesOf graph.now) }
+    {
+        let blocks = blocks(alloc, graph)?;
+        let values = least(alloc, graph, &blocks)?;
+        Ok(LeastStates { blocks, values })
+    }
+
+    /// The state of a node by the least states: what is known of each variable before it, by the numbers of the
+    /// variables, or `None` where they say that no run comes to the node. The states are those of `graph`. It walks
+    /// from the first node of the block to this one. It fails only with `Memory`.
+    pub fn before(
+        &self,
+        alloc: Global,
+        graph: &Graph,
+        node: usize,
+    ) -> Result<Option<Vec<Known>>, Memory>
+        requires states { AreStatesOf graph.now self.now }
+        requires there { node < length graph.now.nodes }
+        ensures known { IfOk result (λ known.
+            IsKnownBefore graph.now node (option_map (λ list. list.items) known)) }
+
+        // nothing else is
+        ensures only { IfOk result (λ known.
+            IsOnlyKnownBefore graph.now node (option_map (λ list. list.items) known)) }
+    {
+        let _nodes = graph.nodes();
+        let block = self.blocks.block_of(node);
+        let list = self.blocks.nodes(block);
+        let state = self.values.value(block);
+        let mut known = copied(alloc, state.known())?;
+        let reaches = pass_to(graph, list, node, state.is_reached(), known.as_mut_slice());
+        let known = where_reached(reaches, known);
+        Ok(known)
+    }
+}
+
+/// The blocks of the graph.
+fn blocks(alloc: Global, graph: &Graph) -> Result<Blocks, Memory>
+    ensures { IfOk result (AreBlocksOf graph.now.nodes) }
+{
+    let edges = Edges::of(alloc, graph)?;
+    let blocks = Blocks::of(alloc, graph, &edges)?;
+    Ok(blocks)
+}
+
+/// Leaves what passes to this node from the first node of its block, and answers whether anything does.
+fn pass_to(graph: &Graph, list: &[usize], node: usize, reached: bool, known: &mut [Known]) -> bool
+    requires chain { IsChain graph.now.nodes list.now }
+    requires stands { IsAmong list.now (length list.now) node }
+    ensures passes { PassesTo graph.now list.now node (state_where reached known.old)
+        (state_where result known.new) }
+    ensures long { length known.new ≡ length known.old }
+{
+    let mut reaches = reached;
+    let mut place = 0;
+    while list[place] != node {
+        let here = graph.node(list[place]);
+        reaches = step(reaches, known, here, 0, graph.received());
+        place += 1;
+    }
+    reaches
+}
+
+/// What is known, where the node is reached.
+fn where_reached(reached: bool, known: Vec<Known>) -> Option<Vec<Known>>
+    ensures { state_of_known (length known.items) (option_map (λ list. list.items) result)
+        ≡ state_where reached known.items }
+{
+    if reached { Some(known) } else { None }
+}

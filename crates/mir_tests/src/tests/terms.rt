@@ -1,0 +1,123 @@
+// The terms that the variables of a graph have before each node.
+ghost use Rattle.std.specs.Prelude.{◌<◌, length};
+
+use crate::tests::shown::{put_bytes, put_var};
+use flow_graph::Graph;
+use mir_base::{Memory, Name, op_text, un_op_text};
+use std::alloc::Global;
+use std::mem;
+use value_number::{NodeTerms, TermKey};
+
+/// A line for each node of a graph: the root at which the terms before it begin, and the term of each variable that has
+/// a number, as all have that have another than their leaf of the root. The leaf of a variable is its name with the
+/// number of its root.
+pub(crate) fn terms_text(alloc: Global, graph: &Graph) -> Result<String, Memory> {
+    let mut text = String::new(alloc);
+    for n in 0..graph.len() {
+        put_node_terms(alloc, &mut text, graph, n)?;
+    }
+    Ok(text)
+}
+
+/// Appends the line of node `n`.
+fn put_node_terms(alloc: Global, text: &mut String, graph: &Graph, n: usize) -> Result<(), Memory>
+    requires { n < length graph.now.nodes }
+{
+    let terms = NodeTerms::before(alloc, graph, n)?;
+    let put = put_terms(alloc, text, graph.vars(), n, &terms);
+    mem::drop(terms);
+    put
+}
+
+/// The same, of these terms.
+fn put_terms(
+    alloc: Global,
+    text: &mut String,
+    vars: &[Name],
+    n: usize,
+    terms: &NodeTerms,
+) -> Result<(), Memory> {
+    let texts = term_texts(alloc, vars, terms)?;
+    let put = put_line(text, vars, n, terms, texts.as_slice());
+    mem::drop(texts);
+    put
+}
+
+/// The same, where each term has this text.
+fn put_line(
+    text: &mut String,
+    vars: &[Name],
+    n: usize,
+    terms: &NodeTerms,
+    texts: &[String],
+) -> Result<(), Memory> {
+    write!(text, "{n} from {}", terms.root)?;
+    for (x, number) in terms.numbers.iter().enumerate() {
+        if let Some(number) = number {
+            text.push(' ')?;
+            put_var(text, vars, x)?;
+            text.push('=')?;
+            put_part(text, texts, *number)?;
+        }
+    }
+    text.push('\n')
+}
+
+/// The text of each term of the table, by its number. The walk puts those of the operands before it; where one did not
+/// stand there, its text would be a `?`.
+fn term_texts(alloc: Global, vars: &[Name], terms: &NodeTerms) -> Result<Vec<String>, Memory> {
+    let mut texts = Vec::new(alloc);
+    for number in 0..terms.table.len() {
+        let text = term_text(alloc, vars, texts.as_slice(), *terms.table.get(number))?;
+        texts.push(text)?;
+    }
+    Ok(texts)
+}
+
+/// The text of a term, where its operands have these.
+fn term_text(
+    alloc: Global,
+    vars: &[Name],
+    texts: &[String],
+    key: TermKey,
+) -> Result<String, Memory> {
+    let mut text = String::new(alloc);
+    put_term(&mut text, vars, texts, key)?;
+    Ok(text)
+}
+
+/// Appends it.
+fn put_term(
+    text: &mut String,
+    vars: &[Name],
+    texts: &[String],
+    key: TermKey,
+) -> Result<(), Memory> {
+    match key {
+        TermKey::Initial(x, root) => {
+            put_var(text, vars, x)?;
+            write!(text, "{root}")
+        }
+        TermKey::Opaque(node) => write!(text, "node{node}"),
+        TermKey::Number(number) => write!(text, "{number}"),
+        TermKey::Unary(op, a) => {
+            put_bytes(text, un_op_text(op))?;
+            put_part(text, texts, a)
+        }
+        TermKey::Binary(op, a, b) => {
+            text.push('(')?;
+            put_part(text, texts, a)?;
+            put_bytes(text, op_text(op))?;
+            put_part(text, texts, b)?;
+            text.push(')')
+        }
+    }
+}
+
+/// Appends the text of the term of this number.
+fn put_part(text: &mut String, texts: &[String], number: usize) -> Result<(), Memory> {
+    match texts.get(number) {
+        Some(part) => text.push_str(part.as_str()),
+        None => text.push('?'),
+    }
+}
