@@ -48,17 +48,6 @@ fn on_side(side: Side, copy: VarCopy) -> usize
     }
 }
 
-/// For each variable, which copies of the table have it on either side, where `targets` has those that have it as
-/// target.
-fn touched_rows(alloc: Global, table: &KeyTable<VarCopy>, targets: &Rows) -> Result<Rows, Memory>
-    requires { AreTargetRows (length targets.now) table.now targets.now }
-    ensures { IfOk result (AreKeyRows (length targets.now) table.now is_on_either) }
-{
-    let mut rows = side_rows(alloc, targets.len(), table, Side::Source)?;
-    rows.or_rows(targets);
-    Ok(rows)
-}
-
 // ---- by nodes
 
 /// Which copy of the table each node is: one row for each node, one bit for each copy.
@@ -90,5 +79,16 @@ pub(crate) fn ended_rows(
     let nodes = graph.nodes();
     let touched = touched_rows(alloc, table, targets)?;
     let rows = assigned_rows(alloc, nodes, &touched, table.len(), false)?;
+    Ok(rows)
+}
+
+/// For each variable, which copies of the table have it on either side, where `targets` has those that have it as
+/// target.
+fn touched_rows(alloc: Global, table: &KeyTable<VarCopy>, targets: &Rows) -> Result<Rows, Memory>
+    requires { AreTargetRows (length targets.now) table.now targets.now }
+    ensures { IfOk result (AreKeyRows (length targets.now) table.now is_on_either) }
+{
+    let mut rows = side_rows(alloc, targets.len(), table, Side::Source)?;
+    rows.or_rows(targets);
     Ok(rows)
 }

@@ -1,5 +1,5 @@
 -- A loop whose test stands last, as an example: its split graph, and an assignment that an editor puts before the Skip
--- by which the loop is entered. For proofs only.
+-- by which the loop is entered. No contract and no proof cites it.
 use Rattle.std.proofs.Common.{◌≡◌, List, [], ◌∷◌, slice_get, Some, refl}
 use Rattle.std.specs.Prelude.{pos}
 use Rattle.mir_base.specs.declared.operators.Op.TheVariants.{Add}

@@ -8,8 +8,8 @@ use Rattle.mir_base.specs.Shapes.{AllBelow}
 use Rattle.flow_graph.specs.declared.nodes.Node.{Node}
 use Rattle.flow_graph.specs.declared.nodes.Node.TheVariants.{Start, Skip, Assign, Print, Call, Test, Return}
 use Rattle.flow_graph.specs.Graphs.{AllWithin}
-use Rattle.jump_clean.specs.declared.chains.Found.{Found}
-use Rattle.jump_clean.specs.declared.chains.Found.TheVariants.{Nothing, InChain, End}
+use Rattle.jump_clean.specs.declared.chains.ChainPlace.{ChainPlace}
+use Rattle.jump_clean.specs.declared.chains.ChainPlace.TheVariants.{Nothing, InChain, End}
 use Rattle.jump_clean.specs.Chains.{IsEnd}
 use Rattle.jump_clean.specs.ChainLaws.{IsSkipChain, in_push, in_last, chain_leads, led_to, leads_on, chain_push, chain_rest, circle_ends, ends_at_other, end_from}
 use Rattle.jump_clean.specs.ReductionLaws.{skips_within}
@@ -48,11 +48,11 @@ chain_below nodes [] n m w = tt
 chain_below nodes (k ∷ chain) n m w = (slice_get_within nodes k _ w.2, chain_below nodes chain w.1 m w.3)
 
 -- each Skip of the chain is a node
-pub note_below : (nodes : List Node) (found : List Found) (chain : List ℕ) (start n : ℕ) → IsFollowed nodes found chain start n → AllBelow (length found) chain
+pub note_below : (nodes : List Node) (found : List ChainPlace) (chain : List ℕ) (start n : ℕ) → IsFollowed nodes found chain start n → AllBelow (length found) chain
 note_below nodes found chain start n f = subst (λ k. AllBelow k chain) (sym f.long) (chain_below nodes chain start n f.is_chain)
 
 -- the successor of a Skip of which nothing is known
-onward_is : (node : Node) (found : Found) (next : ℕ) → onward_of node found ≡ Some next → (node ≡ Skip next) × (found ≡ Nothing)
+onward_is : (node : Node) (found : ChainPlace) (next : ℕ) → onward_of node found ≡ Some next → (node ≡ Skip next) × (found ≡ Nothing)
 onward_is (Skip s) Nothing next e = let same : s ≡ next = cc in (ap Skip same, refl)
 onward_is (Skip s) InChain next e = cc
 onward_is (Skip s) (End x) next e = cc
@@ -68,7 +68,7 @@ not_onward : (node : Node) (next : ℕ) → onward_of node Nothing ≡ None → 
 not_onward node next none is = let both : Some next ≡ None = subst (λ n. onward_of n Nothing ≡ None) is none in cc
 
 -- one more Skip of the chain: of one node less nothing is known
-pub known_less : (found : List Found) (n : ℕ) → slice_get found n ≡ Some Nothing → suc (unknown (slice_set found n InChain)) ≡ unknown found
+pub known_less : (found : List ChainPlace) (n : ℕ) → slice_get found n ≡ Some Nothing → suc (unknown (slice_set found n InChain)) ≡ unknown found
 known_less [] n e = cc
 known_less (Nothing ∷ found) zero e = refl
 known_less (InChain ∷ found) zero e = cc
@@ -78,7 +78,7 @@ known_less (InChain ∷ found) (suc n) e = known_less found n e
 known_less (End x ∷ found) (suc n) e = known_less found n e
 
 -- one Skip further
-pub one_further : (nodes : List Node) (found : List Found) (chain : List ℕ) (start n next : ℕ) (node : Node) (here : Found) → AllWithin nodes → IsFollowed nodes found chain start n → slice_get nodes n ≡ Some node → slice_get found n ≡ Some here → onward_of node here ≡ Some next → (slice_get found n ≡ Some Nothing) × IsFollowed nodes (slice_set found n InChain) (chain ++ n ∷ []) start next
+pub one_further : (nodes : List Node) (found : List ChainPlace) (chain : List ℕ) (start n next : ℕ) (node : Node) (here : ChainPlace) → AllWithin nodes → IsFollowed nodes found chain start n → slice_get nodes n ≡ Some node → slice_get found n ≡ Some here → onward_of node here ≡ Some next → (slice_get found n ≡ Some Nothing) × IsFollowed nodes (slice_set found n InChain) (chain ++ n ∷ []) start next
 one_further nodes found chain start n next node here within f at_node at_found onward =
     let is = onward_is node here next onward in
     let skip : slice_get nodes n ≡ Some (Skip next) = at_node ∙ ap Some is.0 in
@@ -100,11 +100,11 @@ one_further nodes found chain start n next node here within f at_node at_found o
     )
 
 -- where the search ends, the end of the chain is found
-pub search_ends : (nodes : List Node) (found : List Found) (chain : List ℕ) (start n end : ℕ) (node : Node) (here : Found) → IsFollowed nodes found chain start n → slice_get nodes n ≡ Some node → slice_get found n ≡ Some here → onward_of node here ≡ None → EndsAt here chain n end → IsEnd nodes n end
+pub search_ends : (nodes : List Node) (found : List ChainPlace) (chain : List ℕ) (start n end : ℕ) (node : Node) (here : ChainPlace) → IsFollowed nodes found chain start n → slice_get nodes n ≡ Some node → slice_get found n ≡ Some here → onward_of node here ≡ None → EndsAt here chain n end → IsEnd nodes n end
 search_ends nodes found chain start n end node Nothing f at_node at_found none at_end = subst (IsEnd nodes n) (sym at_end) (record { leads = chain_leads nodes [] n n refl; ends = ends_at_other nodes n (λ next is. not_onward node next none (same_Some node (Skip next) (sym at_node ∙ is))) })
 search_ends nodes found chain start n end node InChain f at_node at_found none at_end =
-    let r = chain_rest nodes at_end.front at_end.rest n start n (subst (λ l. IsSkipChain nodes l start n) at_end.are f.is_chain) in
-    record { leads = led_to nodes (n ∷ at_end.rest) n n end r.1 at_end.is_one; ends = circle_ends nodes at_end.rest n end r.1 at_end.is_one at_end.least_is }
+    let r = chain_rest nodes at_end.front at_end.remainder n start n (subst (λ l. IsSkipChain nodes l start n) at_end.are f.is_chain) in
+    record { leads = led_to nodes (n ∷ at_end.remainder) n n end r.1 at_end.is_one; ends = circle_ends nodes at_end.remainder n end r.1 at_end.is_one at_end.least_is }
 search_ends nodes found chain start n end node (End e) f at_node at_found none at_end = subst (IsEnd nodes n) (sym at_end) (f.right n e at_found)
 
 -- the end of the chain is that of the node from which it was followed
@@ -112,7 +112,7 @@ pub start_end : (nodes : List Node) (chain : List ℕ) (start n end : ℕ) → I
 start_end nodes chain start n end w is = end_from nodes start n end (chain_leads nodes chain start n w) is
 
 -- the end is noted for each Skip of the chain
-pub search_noted : (nodes : List Node) (found found' : List Found) (chain : List ℕ) (start n end : ℕ) → IsFollowed nodes found chain start n → IsEnd nodes n end → length found' ≡ length found → ((m : ℕ) → IsIn m chain → slice_get found' m ≡ Some (End end)) → ((m : ℕ) → (slice_get found' m ≡ slice_get found m) ⊎ ((slice_get found' m ≡ Some (End end)) × IsIn m chain)) → AreFound nodes found'
+pub search_noted : (nodes : List Node) (found found' : List ChainPlace) (chain : List ℕ) (start n end : ℕ) → IsFollowed nodes found chain start n → IsEnd nodes n end → length found' ≡ length found → ((m : ℕ) → IsIn m chain → slice_get found' m ≡ Some (End end)) → ((m : ℕ) → (slice_get found' m ≡ slice_get found m) ⊎ ((slice_get found' m ≡ Some (End end)) × IsIn m chain)) → AreFound nodes found'
 search_noted nodes found found' chain start n end f is long noted others = record {
   long = long ∙ f.long;
   right = λ m e at_m. elim (others m) [
@@ -151,10 +151,10 @@ found_place chain place n h e = slice_get-get_or chain place 0 (some_left chain 
 -- the numbers from there on are those of the circle
 pub least_from : (chain rest : List ℕ) (first place least : ℕ) → slice_get chain place ≡ Some first → rest ≡ drop (place + 1) chain → IsIn least (first ∷ rest) → ((n : ℕ) → IsIn n (first ∷ rest) → least ≤ n) → IsLeastFrom chain first least
 least_from chain rest first place least at_place is one all =
-    record { front = take place chain; rest = rest; are = around_at chain place first at_place ∙ ap (λ l. take place chain ++ first ∷ l) (sym is); is_one = one; least_is = all }
+    record { front = take place chain; remainder = rest; are = around_at chain place first at_place ∙ ap (λ l. take place chain ++ first ∷ l) (sym is); is_one = one; least_is = all }
 
 -- one more end is noted
-pub note_step : (chain : List ℕ) (end i : ℕ) (found first : List Found) → i < length chain → length found ≡ length first → AllBelow (length found) (drop i chain) → ((n : ℕ) → IsIn n chain → (slice_get found n ≡ Some (End end)) ⊎ IsIn n (drop i chain)) → ((n : ℕ) → (slice_get found n ≡ slice_get first n) ⊎ ((slice_get found n ≡ Some (End end)) × IsIn n chain)) →
+pub note_step : (chain : List ℕ) (end i : ℕ) (found first : List ChainPlace) → i < length chain → length found ≡ length first → AllBelow (length found) (drop i chain) → ((n : ℕ) → IsIn n chain → (slice_get found n ≡ Some (End end)) ⊎ IsIn n (drop i chain)) → ((n : ℕ) → (slice_get found n ≡ slice_get first n) ⊎ ((slice_get found n ≡ Some (End end)) × IsIn n chain)) →
     (length (slice_set found (slice_index_or chain i 0) (End end)) ≡ length first)
     × AllBelow (length (slice_set found (slice_index_or chain i 0) (End end))) (drop (i + 1) chain)
     × ((n : ℕ) → IsIn n chain → (slice_get (slice_set found (slice_index_or chain i 0) (End end)) n ≡ Some (End end)) ⊎ IsIn n (drop (i + 1) chain))

@@ -1,5 +1,6 @@
 -- Classes of nodes: the number of the class of each node, and the members of each class. Cited by contracts.
-use Rattle.std.specs.Prelude.{◌≡◌, ◌≢◌, ℕ, ◌<◌, List, length, map, slice_index_or, slice_set, [], ◌++◌, ◌⊎◌}
+use Rattle.std.specs.Prelude.{◌≡◌, ◌≢◌, ℕ, ◌<◌, List, length, map, slice_set, ◌++◌, ◌⊎◌}
+use Rattle.node_list.specs.Lists.{list_at}
 use Rattle.mir_base.specs.Shapes.{AllBelow}
 use Rattle.jump_clean.specs.declared.classes.Classes.{Classes}
 use Rattle.flow_graph.specs.Numbering.{IsIn}
@@ -11,7 +12,7 @@ class = number_at
 
 -- the members of a class
 abbrev pub members_of : List (List ℕ) → ℕ → List ℕ
-members_of members c = slice_index_or members c []
+members_of = list_at
 
 -- each class has exactly its members, and each class number is that of a node
 pub record HasMembers (of : List ℕ) (members : List (List ℕ)) : Type 0 where

@@ -3,7 +3,7 @@ ghost use Rattle.std.specs.Prelude.{◌≡◌, ℕ, ◌<◌, ◌≤◌, ◌∷�
 ghost use Rattle.flow_graph.specs.Graphs.{AllWithin};
 ghost use Rattle.flow_graph.specs.Numbering.{IsIn};
 ghost use Rattle.mir_base.specs.Shapes.{AllBelow};
-ghost use Rattle.jump_clean.specs.declared.chains.Found.TheVariants.{Nothing, InChain, End};
+ghost use Rattle.jump_clean.specs.declared.chains.ChainPlace.TheVariants.{Nothing, InChain, End};
 ghost use Rattle.jump_clean.specs.Chains.{AreEnds, IsEnd};
 ghost use Rattle.jump_clean.specs.Following.{AreFound, EndsAt, IsLeastFrom, OnlyNoted, onward_of, skip_succ};
 
@@ -13,7 +13,7 @@ use std::alloc::Global;
 
 /// What is known of a node while the ends of chains are looked for.
 #[derive(Clone, Copy, Debug, PartialEq, Eq)]
-pub(crate) enum Found {
+pub(crate) enum ChainPlace {
     /// Nothing.
     Nothing,
     /// It is a Skip of the chain that is followed now.
@@ -37,17 +37,17 @@ pub(crate) fn ends(alloc: Global, nodes: &[Node]) -> Result<Vec<usize>, Memory>
 }
 
 /// The table in which nothing is known of so many nodes.
-fn nothing_found(alloc: Global, count: usize) -> Result<Vec<Found>, Memory>
+fn nothing_found(alloc: Global, count: usize) -> Result<Vec<ChainPlace>, Memory>
     ensures { IfOk result (λ found. found.items ≡ replicate count Nothing) }
 {
-    Ok(vec![in alloc; Found::Nothing; count]?)
+    Ok(vec![in alloc; ChainPlace::Nothing; count]?)
 }
 
 /// The end of the chain that begins at a node. It is noted for each Skip of the chain.
 fn end_of(
     alloc: Global,
     nodes: &[Node],
-    found: &mut Vec<Found>,
+    found: &mut Vec<ChainPlace>,
     start: usize,
 ) -> Result<usize, Memory>
     requires within { AllWithin nodes.now }
@@ -59,7 +59,7 @@ fn end_of(
     let mut chain = Vec::new(alloc);
     let mut n = start;
     while let Some(next) = onward(&nodes[n], found[n]) {
-        found[n] = Found::InChain;
+        found[n] = ChainPlace::InChain;
         chain.push(n)?;
         n = next;
     }
@@ -69,13 +69,13 @@ fn end_of(
 }
 
 /// The successor of a Skip of which nothing is known.
-fn onward(node: &Node, found: Found) -> Option<usize>
+fn onward(node: &Node, found: ChainPlace) -> Option<usize>
     ensures { result ≡ onward_of node.now found }
 {
     match found {
-        Found::Nothing => skip_succ(node),
-        Found::InChain => None,
-        Found::End(_) => None,
+        ChainPlace::Nothing => skip_succ(node),
+        ChainPlace::InChain => None,
+        ChainPlace::End(_) => None,
     }
 }
 
@@ -90,14 +90,14 @@ pub(crate) fn skip_succ(node: &Node) -> Option<usize>
 }
 
 /// The end of the chain, where node `n` is no Skip, or comes for the second time, or its end of chain is known.
-fn end_at(found: Found, chain: &[usize], n: usize) -> usize
+fn end_at(found: ChainPlace, chain: &[usize], n: usize) -> usize
     requires { found ≡ InChain → IsIn n chain.now }
     ensures { EndsAt found chain.now n result }
 {
     match found {
-        Found::Nothing => n,
-        Found::InChain => least_on_circle(chain, n),
-        Found::End(end) => end,
+        ChainPlace::Nothing => n,
+        ChainPlace::InChain => least_on_circle(chain, n),
+        ChainPlace::End(end) => end,
     }
 }
 
@@ -135,13 +135,13 @@ fn least(first: usize, others: &[usize]) -> usize
 }
 
 /// Notes the end of chain of each node of the chain.
-fn note(found: &mut Vec<Found>, chain: &[usize], end: usize)
+fn note(found: &mut Vec<ChainPlace>, chain: &[usize], end: usize)
     requires { AllBelow (length found.old.items) chain.now }
     ensures long { length found.new.items ≡ length found.old.items }
     ensures noted { (n : ℕ) → IsIn n chain.now → slice_get found.new.items n ≡ Some (End end) }
     ensures others { OnlyNoted found.old.items found.new.items end chain.now }
 {
     for n in chain {
-        found[*n] = Found::End(end);
+        found[*n] = ChainPlace::End(end);
     }
 }

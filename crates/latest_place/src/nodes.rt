@@ -48,6 +48,19 @@ pub(crate) fn latest_rows(alloc: Global, uses: &Uses<'_>, delayed: &Rows) -> Res
     Ok(rows)
 }
 
+/// Where nothing after the node uses what is evaluated.
+pub(crate) fn isolated_rows(alloc: Global, uses: &Uses<'_>, latest: &Rows) -> Result<Rows, Memory>
+    requires { AreLikeUses uses.now latest.now }
+    ensures graph { OnOk result
+        (IsGraph uses.now.graph.now.vars uses.now.graph.now.received uses.now.graph.now.nodes) }
+    ensures shape { IfOk result (HaveShape uses.now.graph.now (width latest.now)) }
+    ensures bits { IfOk result (AreIsolatedRows uses.now.graph.now latest.now uses.now.rows.now) }
+{
+    let mut rows = needed_rows(alloc, uses, latest)?;
+    rows.flip_rows(0);
+    Ok(rows)
+}
+
 /// Where what is evaluated is still used after the node.
 fn needed_rows(alloc: Global, uses: &Uses<'_>, latest: &Rows) -> Result<Rows, Memory>
     requires { AreLikeUses uses.now latest.now }
@@ -61,19 +74,6 @@ fn needed_rows(alloc: Global, uses: &Uses<'_>, latest: &Rows) -> Result<Rows, Me
     let ahead = backward_some(alloc, uses.graph, uses.edges, &born, latest)?;
     let needed = some_successor(alloc, uses.graph, uses.edges, &ahead)?;
     Ok(needed)
-}
-
-/// Where nothing after the node uses what is evaluated.
-pub(crate) fn isolated_rows(alloc: Global, uses: &Uses<'_>, latest: &Rows) -> Result<Rows, Memory>
-    requires { AreLikeUses uses.now latest.now }
-    ensures graph { OnOk result
-        (IsGraph uses.now.graph.now.vars uses.now.graph.now.received uses.now.graph.now.nodes) }
-    ensures shape { IfOk result (HaveShape uses.now.graph.now (width latest.now)) }
-    ensures bits { IfOk result (AreIsolatedRows uses.now.graph.now latest.now uses.now.rows.now) }
-{
-    let mut rows = needed_rows(alloc, uses, latest)?;
-    rows.flip_rows(0);
-    Ok(rows)
 }
 
 /// The placement that inserts at the latest nodes that are not isolated, and replaces the uses that are not both latest

@@ -153,14 +153,14 @@ module _ {graph : GraphShape} {table : List Expr} {p : Placement} (r : IsRewrita
 
   -- ---- on the whole path
 
-  -- the path over a path, in the rewritten graph
+  -- the corresponding path of the rewritten graph
   abbrev over : List ℕ → List ℕ
   over path = over_path (rewriting_by graph table p).inserts (length graph.nodes) path
 
   abbrev result : GraphShape
   result = record graph { nodes = rewritten_nodes (rewriting_by graph table p) graph.nodes }
 
-  -- where the nodes weigh so, the uses on the path over a path sum so
+  -- where the nodes weigh so, the uses on the corresponding path sum so
   over_counts : (e : Expr) (own : ℕ → ℕ) → ((n : ℕ) → new_weight_at (being e) (rewriting_by graph table p) graph.nodes n ≡ own n) → (path : List ℕ) → AllBelow (length graph.nodes) path → count_by (uses result e) (over path) ≡ sum_on own path
   over_counts e own each path within =
       count_sums (uses result e) (over path)

@@ -1,4 +1,4 @@
--- The evaluations on the path of the rewritten graph over a path: with those of the table's expressions in the old
+-- The evaluations on the corresponding path of the rewritten graph: with those of the table's expressions in the old
 -- graph added they are as many as the old graph's with those that the placement counts. So they are no more where the
 -- placement is no dearer.
 use Rattle.std.proofs.Common.{◌≡◌, ℕ, zero, suc, ◌+◌, ◌<◌, ◌≤◌, Bool, true, false, not, ◌&&◌, List, [], ◌∷◌, length, count_by, slice_get, slice_index_or, Option, Some, None, option_map, ◌⊎◌, inl, inr, refl, sym, ap, ◌∙◌, subst, arith}
@@ -165,7 +165,7 @@ module _ {graph : GraphShape} {table : List Expr} {p : Placement} (r : IsRewrita
   counts_without : (i : ℕ) (e : Expr) (path : List ℕ) → slice_get table i ≡ Some e → count_by (uses graph e) path ≡ sum_on (evaluated_without i) path
   counts_without i e path at_i = count_sums (uses graph e) path ∙ sym (on_same (evaluated_without i) (λ n. one_if (uses graph e n)) path (λ n. ap (λ o. one_if (used graph o n)) at_i))
 
-  -- so the new nodes count no more
+  -- so the new nodes evaluate no more operators
   pub counts_no_more : IsNoDearer graph table p → CountsNoMore (rewriting_by graph table p) graph.nodes
   counts_no_more no_dearer path full =
       let least = sum_least size (λ i. sum_on (evaluated_with i) path) (λ i. sum_on (evaluated_without i) path) (λ i lt. (let e = some_at table i lt in

@@ -7,10 +7,10 @@ ghost use Rattle.path_laws.specs.Paths.{AreRows};
 ghost use Rattle.motion_rewrite.specs.Edits.{CanChange, CanChangeEach, ChangesBelow, PutsBelow, change_by, graph_evaluating, graph_read, puts_by};
 ghost use Rattle.motion_rewrite.specs.Flatten.{inserted, inserted_below, set_from};
 
-use crate::{ExprTable, Memory};
+use crate::ExprTable;
 use bit_rows::{RowView, Rows};
 use flow_graph::Editor;
-use mir_base::{Expr, Operand, Rhs};
+use mir_base::{Expr, Memory, Operand, Rhs};
 use std::alloc::AllocError;
 
 /// How many insertions there are. It fails only with `Memory`, where there are more than any memory holds.

@@ -14,8 +14,9 @@ ghost use Rattle.motion_rewrite.specs.Tables.{AreMovable};
 use crate::editing::{insertions_in, put_evaluations, read_temporaries};
 use crate::naming::temporary_names;
 use crate::temporaries::number_temporaries;
-use crate::{ExprTable, Memory, Placement};
+use crate::{ExprTable, Placement};
 use flow_graph::{Editor, Graph};
+use mir_base::Memory;
 use std::alloc::Global;
 
 /// The graph rewritten by a placement. Each expression with an insertion gets a temporary: a new variable with the next

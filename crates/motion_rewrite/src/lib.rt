@@ -19,7 +19,6 @@ mod table;
 mod temporaries;
 
 pub use flattening::flatten;
-pub use mir_base::Memory;
 pub use placement::Placement;
 pub use rows::{kill_rows, use_rows};
 pub use table::{ExprTable, exprs};

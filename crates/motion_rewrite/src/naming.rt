@@ -2,9 +2,8 @@
 ghost use Rattle.std.specs.Prelude.{◌≡◌, ◌↔◌, Contains, IsTrue, IfOk};
 ghost use Rattle.motion_rewrite.specs.Temporaries.{AreTemporaryNames, HaveSameNames};
 
-use crate::Memory;
 use indexmap::IndexSet;
-use mir_base::Name;
+use mir_base::{Memory, Name};
 use std::alloc::{AllocError, Global};
 use std::marker::Model;
 

@@ -7,11 +7,11 @@ ghost use Rattle.path_laws.specs.Paths.{AreRows};
 ghost use Rattle.motion_rewrite.specs.Expressions.{kills, uses};
 ghost use Rattle.motion_rewrite.specs.Rows.{AreOperandBits, AreRowsOf};
 
+use crate::ExprTable;
 use crate::table::Written;
-use crate::{ExprTable, Memory};
 use bit_rows::Rows;
 use flow_graph::Graph;
-use mir_base::Expr;
+use mir_base::{Expr, Memory};
 use path_laws::{assigned_rows, key_rows, mark_operand};
 use std::alloc::Global;
 

@@ -5,10 +5,9 @@ ghost use Rattle.mir_base.specs.Shapes.{AllDiffer};
 ghost use Rattle.flow_graph.specs.Graphs.{node_rhs};
 ghost use Rattle.motion_rewrite.specs.Tables.{AreMovable, expr_at, movable_exprs};
 
-use crate::Memory;
 use flow_graph::{Graph, Node};
 use key_table::KeyTable;
-use mir_base::{Expr, Rhs, expr_of};
+use mir_base::{Expr, Memory, Rhs, expr_of};
 use path_laws::{KeyOf, node_keys};
 use std::alloc::Global;
 

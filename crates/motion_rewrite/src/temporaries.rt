@@ -3,8 +3,8 @@ ghost use Rattle.std.specs.Prelude.{◌≡◌, ◌+◌, length, IfOk};
 ghost use Rattle.path_laws.specs.Paths.{AreRows};
 ghost use Rattle.motion_rewrite.specs.Temporaries.{AreTemporaries, IsInsertionRow, temporaries_before};
 
-use crate::Memory;
 use bit_rows::{Row, Rows};
+use mir_base::Memory;
 use std::alloc::{AllocError, Global};
 
 /// The temporaries of a placement.

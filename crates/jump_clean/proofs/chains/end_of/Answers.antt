@@ -1,7 +1,7 @@
 use Rattle.std.proofs.Common.{◌≡◌, ℕ, ◌++◌, [], ◌∷◌, ◌∙◌, ap, sym, subst, refl, arith, inl, inr, length, Some, slice_get, slice_set}
 use Rattle.std.proofs.lemmas.Option.{slice_get_read}
 use Rattle.mir_base.specs.Shapes.{AllBelow}
-use Rattle.jump_clean.specs.declared.chains.Found.TheVariants.{InChain, Nothing}
+use Rattle.jump_clean.specs.declared.chains.ChainPlace.TheVariants.{InChain, Nothing}
 use Rattle.jump_clean.specs.Chains.{IsEnd}
 use Rattle.jump_clean.specs.Following.{IsFollowed, EndsAt, onward_of}
 use Rattle.jump_clean.proofs.Follow.{one_further, search_ends, start_end, search_noted, note_below, known_less}

@@ -1,6 +1,6 @@
 use Rattle.std.proofs.Common.{◌≡◌, ℕ, ◌⊎◌, drop, length, slice_get, Some}
 use Rattle.mir_base.specs.Shapes.{AllBelow}
-use Rattle.jump_clean.specs.declared.chains.Found.TheVariants.{End}
+use Rattle.jump_clean.specs.declared.chains.ChainPlace.TheVariants.{End}
 use Rattle.jump_clean.proofs.chains.note.Given as goal
 use Rattle.flow_graph.specs.Numbering.{IsIn}
 
