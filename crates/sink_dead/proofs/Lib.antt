@@ -9,6 +9,7 @@ pub mod Chosen
 pub mod Telling
 pub mod Listing
 pub mod SiteBits
+pub mod KeptTies
 pub mod Found
 pub mod RowsTell
 pub mod BlockedLong
@@ -20,7 +21,7 @@ pub mod PrunedPaths
 pub mod RoundsSoFar
 pub mod Merged
 pub mod Skipping
-pub mod Stopping
+pub mod HeldUp
 pub mod Settles
 pub mod Noting
 pub mod Edited

@@ -60,18 +60,15 @@ module _ (graph pruned : GraphShape) (is_graph : IsGraph graph.vars graph.receiv
   as_many : length pruned.nodes ≡ length graph.nodes
   as_many = ap (λ (g : GraphShape). length g.nodes) p.is ∙ pruned_length p.dead 0 graph.nodes
 
-  same_succs : (n : ℕ) → succs_at pruned.nodes n ≡ succs_at graph.nodes n
-  same_succs n = pruned_succs graph pruned is_graph p n
-
   same_returns : (n : ℕ) → is_return (slice_get pruned.nodes n) ≡ is_return (slice_get graph.nodes n)
   same_returns n = ap is_return (node_is n) ∙ return_stays (p.dead (0 + n)) (slice_get graph.nodes n)
 
   -- so the full paths of the two graphs are the same
   full_stood : (path : List ℕ) → IsFullPath pruned.nodes path → IsFullPath graph.nodes path
-  full_stood path full = full_by pruned.nodes graph.nodes as_many (λ n. sym (same_succs n)) (λ n. sym (same_returns n)) path full
+  full_stood path full = full_by pruned.nodes graph.nodes as_many (λ n. sym (pruned_succs graph pruned is_graph p n)) (λ n. sym (same_returns n)) path full
 
   full_stays : (path : List ℕ) → IsFullPath graph.nodes path → IsFullPath pruned.nodes path
-  full_stays path full = full_by graph.nodes pruned.nodes (sym as_many) same_succs same_returns path full
+  full_stays path full = full_by graph.nodes pruned.nodes (sym as_many) (pruned_succs graph pruned is_graph p) same_returns path full
 
   fewer : (x : ℕ) (t : Rhs) (path : List ℕ) → sum_on (λ n. one_if (occurs_at x t pruned n)) path ≤ sum_on (λ n. one_if (occurs_at x t graph n)) path
   fewer x t [] = omega arith
@@ -83,7 +80,7 @@ module _ (graph pruned : GraphShape) (is_graph : IsGraph graph.vars graph.receiv
   counts_less : (x : ℕ) (t : Rhs) (path : List ℕ) → count_by (occurs_at x t pruned) path ≤ count_by (occurs_at x t graph) path
   counts_less x t path = omega (arith, count_sums (occurs_at x t pruned) path, count_sums (occurs_at x t graph) path, fewer x t path)
 
-  -- so it is on the path over each full path of a graph before
+  -- so it is on the corresponding path of each full path of a graph before
   pub still_no_more : (before : GraphShape) → HasNoMore before graph → HasNoMore before pruned
   still_no_more before no_more = λ path full.
       let has = no_more path full in

@@ -10,14 +10,14 @@ use Rattle.flow_graph.specs.JoinLaws.{skip_leads}
 use Rattle.flow_graph.specs.Paths.{HasEdge, Trace, goes_on}
 use Rattle.sink_dead.specs.Accesses.{blocks_at, occurs_at}
 use Rattle.sink_dead.specs.Delaying.{IsDelayedTo, IsInsertedAt}
-use Rattle.sink_dead.specs.Moving.{IsStopped}
+use Rattle.sink_dead.specs.Moving.{IsHeldUp}
 use Rattle.sink_dead.specs.Skips.{LeadsBy, skip_on}
 use Rattle.sink_dead.proofs.Delays.{at_start, occurs_on, start_unentered, trace_of}
 use Rattle.sink_dead.proofs.Skipping.{blocked_ends, leads_same, skip_lets_pass, step_alone, step_edge, step_free, steps_after, steps_on}
 use Rattle.sink_dead.proofs.Waiting.{Waits}
 
 module _ (graph : GraphShape) (is_graph : IsGraph graph.vars graph.received graph.nodes) (split : IsSplit graph.nodes) (x : ℕ) (t : Rhs)
-    (stops : (m s : ℕ) → occurs_at x t graph m ≡ true → HasEdge graph.nodes m s → IsStopped graph (record { var = x; rhs = t }) s) where
+    (holds_up : (m s : ℕ) → occurs_at x t graph m ≡ true → HasEdge graph.nodes m s → IsHeldUp graph (record { var = x; rhs = t }) s) where
   -- the pattern comes to node n over so many Skips
   pub record ComesTo (n : ℕ) : Type 0 where
     pub from : ℕ
@@ -46,8 +46,8 @@ module _ (graph : GraphShape) (is_graph : IsGraph graph.vars graph.received grap
     ])
   ]
     where
-      last : IsStopped graph (record { var = x; rhs = t }) c.next
-      last = stops c.from c.next c.occurs c.edge
+      last : IsHeldUp graph (record { var = x; rhs = t }) c.next
+      last = holds_up c.from c.next c.occurs c.edge
 
       on : c.skips < last.leads.skips → ComesPast n
       on before =

@@ -23,7 +23,7 @@ use Rattle.sink_dead.specs.Puts.{chosen, chosen_at}
 use Rattle.sink_dead.specs.Settled.{AreSettled, delayed_by, held, held_at, inserted_by, merged}
 use Rattle.sink_dead.specs.SiteRows.{AreRowsTelling}
 use Rattle.sink_dead.specs.SunkGraphs.{AreInsertions, RisesFrom}
-use Rattle.sink_dead.specs.Moving.{AreMoving, IsStopped}
+use Rattle.sink_dead.specs.Moving.{AreMoving, IsHeldUp}
 use Rattle.sink_dead.proofs.Chosen.{RiseStrictly, chosen_from, chosen_none, chosen_put, chosen_rises}
 use Rattle.sink_dead.proofs.Delays.{one_delayed}
 use Rattle.key_table.specs.KeyLaws.{contained_any, place_of}
@@ -59,14 +59,14 @@ module _ (graph : GraphShape) (is_graph : IsGraph graph.vars graph.received grap
       let high = ap (λ (r : Pattern). r.var) second in
       omega (arith, le, low, high)
 
-  -- a pattern that the table does not have is stopped wherever it occurs
-  stops : (x : ℕ) (t : Rhs) → (Contains table (record { var = x; rhs = t }) → ⊥) → (m s : ℕ) → occurs_at x t graph m ≡ true → HasEdge graph.nodes m s → IsStopped graph (record { var = x; rhs = t }) s
-  stops x t absent m s o edge =
+  -- a pattern that the table does not have is held up wherever it occurs
+  holds_up : (x : ℕ) (t : Rhs) → (Contains table (record { var = x; rhs = t }) → ⊥) → (m s : ℕ) → occurs_at x t graph m ≡ true → HasEdge graph.nodes m s → IsHeldUp graph (record { var = x; rhs = t }) s
+  holds_up x t absent m s o edge =
       let w = occurrence_is x t (slice_get graph.nodes m) o in
       let leads : w.0 ≡ s = sym (only_to graph.nodes m w.0 s (ap succs_of w.1) edge) in
       elim (are.all m w.0 (record { var = x; rhs = t }) w.1 (ap (λ b. if b then None else Some (record { var = x; rhs = t })) w.2)) [
         | inl there ↦ absurd (absent there)
-        | inr stopped ↦ subst (IsStopped graph (record { var = x; rhs = t })) leads stopped
+        | inr held_up ↦ subst (IsHeldUp graph (record { var = x; rhs = t })) leads held_up
       ]
 
   -- what is noted is delayed, and is not in the table
@@ -74,12 +74,12 @@ module _ (graph : GraphShape) (is_graph : IsGraph graph.vars graph.received grap
   noted_delayed n p is =
       let w = notes.found n p is in
       let edge : HasEdge graph.nodes w.0 w.2.next = (0, ap (λ (found : Option Node). slice_get (succs_of found) 0) w.2.is) in
-      (leads_delayed graph is_graph split p.var p.rhs (stops p.var p.rhs w.2.absent) w.1 w.0 w.2.next n (ap (is_occurrence p.var p.rhs) w.2.is ∙ is_occurrence_of p.var p.rhs w.2.next w.2.sinkable) edge w.2.leads, w.2.absent)
+      (leads_delayed graph is_graph split p.var p.rhs (holds_up p.var p.rhs w.2.absent) w.1 w.0 w.2.next n (ap (is_occurrence p.var p.rhs) w.2.is ∙ is_occurrence_of p.var p.rhs w.2.next w.2.sinkable) edge w.2.leads, w.2.absent)
 
   -- what is delayed and not in the table is noted
   delayed_noted : (n x : ℕ) (t : Rhs) → n < length graph.nodes → IsDelayedTo graph x t n → (Contains table (record { var = x; rhs = t }) → ⊥) → settled_at settled n ≡ Some (record { var = x; rhs = t })
   delayed_noted n x t lt d absent =
-      let c = delayed_comes graph is_graph split x t (stops x t absent) n lt d in
+      let c = delayed_comes graph is_graph split x t (holds_up x t absent) n lt d in
       let w = occurrence_is x t (slice_get graph.nodes c.from) c.occurs in
       let leads : w.0 ≡ c.next = sym (only_to graph.nodes c.from w.0 c.next (ap succs_of w.1) c.edge) in
       let here : slice_get graph.nodes c.from ≡ Some (Assign x t c.next) = w.1 ∙ ap (λ k. Some (Assign x t k)) leads in
@@ -206,13 +206,13 @@ module _ (graph : GraphShape) (is_graph : IsGraph graph.vars graph.received grap
   held_inserted n p lt is =
       let h = held_is (slice_get graph.nodes n) (settled_at settled n) p is in
       let d = noted_delayed n p h.0 in
-      (delayed_inserted graph is_graph split p.var p.rhs (stops p.var p.rhs d.1) n lt h.1 d.0, d.1)
+      (delayed_inserted graph is_graph split p.var p.rhs (holds_up p.var p.rhs d.1) n lt h.1 d.0, d.1)
 
   -- and what is inserted and not in the table is noted there
   inserted_held : (n x : ℕ) (t : Rhs) → n < length graph.nodes → IsInsertedAt graph x t n → (Contains table (record { var = x; rhs = t }) → ⊥) → held_at graph.nodes settled n ≡ Some (record { var = x; rhs = t })
   inserted_held n x t lt put absent =
       let node = some_at graph.nodes n lt in
-      let other = inserted_no_skip graph is_graph split x t (stops x t absent) n lt put in
+      let other = inserted_no_skip graph is_graph split x t (holds_up x t absent) n lt put in
       ap (λ o. held o (settled_at settled n)) node.1 ∙ held_of node.0 (settled_at settled n) (λ next e. other next (node.1 ∙ e)) ∙ delayed_noted n x t lt put.0 absent
 
   -- so rows of insertions, with what is noted, give the insertions

@@ -1,4 +1,5 @@
--- On the path over each full path no plain or movable assignment stands more often than before. Cited by contracts.
+-- On the corresponding path of each full path no plain or movable assignment stands more often than before. Cited by
+-- contracts.
 use Rattle.std.specs.Prelude.{◌≡◌, ◌≤◌, ℕ, false, count_by, List}
 use Rattle.mir_base.specs.declared.instructions.Rhs.{Rhs}
 use Rattle.mir_base.specs.Expressions.{divides}

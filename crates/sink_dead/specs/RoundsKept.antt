@@ -9,8 +9,8 @@ use Rattle.sink_dead.specs.NoMore.{HasNoMore}
 abbrev pub KeepsNoMore : GraphShape → GraphShape → Type 0
 KeepsNoMore graph pruned = (before : GraphShape) → HasNoMore before graph → HasNoMore before pruned
 
--- the second graph keeps all of the unit that the first does, and each dividing assignment; on the path over each full
--- path no plain or movable assignment stands more often; it is split, and its edges lead to nodes
+-- the second graph keeps all of the unit that the first does, and each dividing assignment; on the corresponding path
+-- of each full path no plain or movable assignment stands more often; it is split, and its edges lead to nodes
 pub record RoundKeeps (graph round : GraphShape) : Type 0 where
   pub keeps : GraphKeeps graph round
   pub divides : GraphDivides graph round

@@ -38,8 +38,9 @@ pub fn inserted_at_skips()
 /// each node and one bit for each pattern.
 #[derive(Drop)]
 pub struct DelayedPatterns {
-    /// The patterns, in order of their variables: those with an occurrence from which Skips lead on to no node that
-    /// blocks them. A Skip leads on to a node that no other edge enters.
+    /// The patterns with an occurrence from which Skips lead on to no node that blocks them, in order of their
+    /// variables; those of one variable in order of the first such occurrence. A Skip leads on to a node that no other
+    /// edge enters.
     pub table: KeyTable<Pattern>,
     /// Where a pattern is blocked: the node is Start, reads the variable, or assigns it or one of the right side.
     pub blocked: Rows,

@@ -24,6 +24,5 @@ mod skips;
 pub use answers::{Round, Sunk};
 pub use delaying::{DelayedPatterns, inserted_apart, inserted_at_skips};
 pub use liveness::live_rows;
-pub use mir_base::Memory;
 pub use patterns::Pattern;
 pub use rounds::{MOST_ROUNDS, round, sink};

@@ -4,6 +4,8 @@ ghost use Rattle.mir_base.specs.Shapes.{AllDiffer, operand_vars, rhs_vars, test_
 ghost use Rattle.flow_graph.specs.Edges.{edges_of};
 ghost use Rattle.flow_graph.specs.Graphs.{AllWithin, GraphShape, SuccsBelow, is_start, node_reads};
 ghost use Rattle.std.specs.List.{list_any};
+ghost use Rattle.std.specs.List.Sorted.{IsStableByKey};
+ghost use Rattle.std.specs.Ordering.{nat_cmp};
 ghost use Rattle.flow_graph.specs.Numbering.{is_in};
 ghost use Rattle.sink_dead.specs.Accesses.{blocks_pattern};
 ghost use Rattle.sink_dead.specs.Moving.{AreMoving, MovesFrom, MovesOn};
@@ -28,8 +30,9 @@ pub struct Pattern {
 /// A table of distinct patterns, numbered from 0. Contracts see it as the list of them.
 pub(crate) type Patterns = KeyTable<Pattern>;
 
-/// The patterns that can still move, in order of their variables: those with an occurrence from which Skips lead on to
-/// no node that blocks them. `edges` are those of the graph. It fails only with `Memory`.
+/// The patterns that can still move: those with an occurrence from which Skips lead on to no node that blocks them.
+/// They are in order of their variables, and those of one variable in order of the first such occurrence. `edges` are
+/// those of the graph. It fails only with `Memory`.
 pub(crate) fn moving_patterns(
     alloc: Global,
     graph: &Graph,
@@ -49,10 +52,12 @@ pub(crate) fn moving_patterns(
     Ok(table)
 }
 
-/// The same patterns in order of their variables. It fails only with `Memory`.
+/// The same patterns in order of their variables, where those of one variable keep their order. It fails only with
+/// `Memory`.
 fn in_order(alloc: Global, found: &Patterns) -> Result<Patterns, Memory>
     ensures ordered { IfOk result AreOrdered }
     ensures same { IfOk result (IsPermutation found.now) }
+    ensures stable { IfOk result (IsStableByKey (λ pattern. pattern.var) nat_cmp found.now) }
 {
     let mut patterns = listed(alloc, found)?;
     patterns.sort_by_key(|pattern| pattern.var)?;

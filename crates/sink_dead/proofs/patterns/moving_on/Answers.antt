@@ -4,7 +4,7 @@ use Rattle.flow_graph.specs.declared.nodes.Node.{Node}
 use Rattle.sink_dead.specs.Accesses.{blocks_pattern}
 use Rattle.sink_dead.specs.Skips.{LeadsTo}
 use Rattle.sink_dead.specs.Tables.{pattern_of}
-use Rattle.sink_dead.proofs.Stopping.{not_stopped}
+use Rattle.sink_dead.proofs.HeldUp.{not_held_up}
 use Rattle.sink_dead.proofs.patterns.moving_on.Goals as goal
 
 pub returns-else-blocks : goal.returns-else-blocks
@@ -15,7 +15,7 @@ returns-else-blocks c = λ graph same.
     let at = slice_get-get_or c.args.nodes.now stop c.index-nodes-stop.result c.stop_after-stop.ensures.within ∙ ap Some (sym c.index-nodes-stop.is) in
     let free = ap (blocks_pattern graph pattern.var pattern.rhs) at ∙ sym (c.blocks-2.ensures graph) ∙ c.if-blocks.false in (
       found,
-      not_stopped graph pattern c.args.next stop
+      not_held_up graph pattern c.args.next stop
           (subst (λ (l : List Node). LeadsTo l c.args.next stop) same c.stop_after-stop.ensures.leads)
           (subst (λ (l : List Node). blocks_pattern graph pattern.var pattern.rhs (slice_get l stop) ≡ false) same free),
     )

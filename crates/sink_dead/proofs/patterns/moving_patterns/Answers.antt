@@ -10,7 +10,8 @@ use Rattle.key_table.specs.Keys.{IsWithSome}
 use Rattle.key_table.specs.KeyLaws.{place_of}
 use Rattle.sink_dead.specs.declared.patterns.Pattern.{Pattern}
 use Rattle.sink_dead.specs.Moving.{MovesFrom}
-use Rattle.sink_dead.proofs.Found.{AreMovingUpTo, found_more, found_none}
+use Rattle.sink_dead.proofs.Found.{AreMovingUpTo, MovesAt, found_more, found_none}
+use Rattle.sink_dead.proofs.KeptTies.{ties_kept}
 use Rattle.sink_dead.proofs.patterns.moving_patterns.Goals as goal
 use Rattle.sink_dead.proofs.patterns.moving_patterns.Goals.{After-moving_at, in-Some+in_ok-number, in_default}
 use Rattle.mir_base.specs.ItemLaws.{contained_at}
@@ -56,15 +57,19 @@ returns c =
     let same = c.nodes-nodes.ensures.value in
     record {
       ordered = sorted.ordered;
+      ties = λ i j p q less at_i at_j one m moves.
+          let stood = ties_kept old new sorted.stable i j p q less at_i at_j one in
+          let first = c.loop-node.invariant.in_turn stood.0 stood.1 p q stood.2 stood.3 stood.4 m (subst (λ (l : List Node). MovesAt c.args.graph.now l q m) (sym same) moves) in
+          (first.0, first.1, subst (λ (l : List Node). MovesAt c.args.graph.now l p first.0) same first.2);
       all = λ n next p at is.
           let here : slice_get nodes n ≡ Some (Assign p.var p.rhs next) = ap (λ (l : List Node). slice_get l n) same ∙ at in
           elim (c.loop-node.invariant.all n next p (omega (arith, late, slice_get_within nodes n (Assign p.var p.rhs next) here)) here is) [
             | inl there ↦ inl (Contains-permutation old new p sorted.same there)
-            | inr stopped ↦ inr stopped
+            | inr held_up ↦ inr held_up
           ];
       moves = λ k p at.
           let there = place_of old p (Contains-permutation new old p (IsPermutation-sym old new sorted.same) (contained_at new p k at)) in
           let one = c.loop-node.invariant.moves there.0 p there.1 in
-          record { at = one.0; next = one.1; is = ap (λ (l : List Node). slice_get l one.0) (sym same) ∙ one.2; free = one.3 };
+          (one.0, subst (λ (l : List Node). MovesAt c.args.graph.now l p one.0) same one.2);
       each = λ k p at. (let there = place_of old p (Contains-permutation new old p (IsPermutation-sym old new sorted.same) (contained_at new p k at)) in c.loop-node.invariant.each there.0 p there.1);
     }
