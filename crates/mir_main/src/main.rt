@@ -1,6 +1,9 @@
 //! The program `mir`: it hands the words of its command line and the standard streams to `mir_top::top`, and ends with
 //! the status that this answers. Where it cannot get the words it writes nothing, and ends with status 8 if memory ran
 //! out and with status 1 otherwise.
+//!
+//! The theorem is on `status`: the status is that of a call with these words of which all promises of `top` hold, is 1
+//! where the words are of no command, and is at most 8. That `main` ends with it no clause says.
 #![tactic(auto)]
 
 ghost use Rattle.std.specs.Prelude.{◌≡◌, ◌≢◌, ◌≤◌, None};

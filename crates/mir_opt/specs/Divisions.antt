@@ -10,4 +10,4 @@ use Rattle.mir_opt.specs.declared.trails.UnitTrail.{UnitTrail}
 pub record DivisionsStay (unit : UnitTrail) : Type 0 where
   pub cleans : GraphDivides unit.lowered unit.cleaned
   pub folds : KeepsDivisions unit.cleaned unit.folded
-  pub rest : GraphDivides unit.folded unit.swept
+  pub keeps : GraphDivides unit.folded unit.swept

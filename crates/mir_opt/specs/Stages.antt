@@ -37,8 +37,8 @@ graph_at unit (Round count) = after_rounds unit.recopied unit.sunk.rounds count
 graph_at unit Result = unit.swept
 
 -- the greatest number of rounds that any of these units had
-abbrev pub most_rounds : List UnitTrail → ℕ
-most_rounds units = fold (λ most unit. max most (length unit.sunk.rounds)) 0 units
+abbrev pub longest_rounds : List UnitTrail → ℕ
+longest_rounds units = fold (λ most unit. max most (length unit.sunk.rounds)) 0 units
 
 -- so many rounds
 abbrev pub first_rounds : ℕ → List Stage
@@ -51,7 +51,7 @@ before_rounds = Lower ∷ Clean ∷ Fold ∷ Number ∷ Copies ∷ Split ∷ Mot
 
 -- the stages of these units, in their order
 abbrev pub stages_in : List UnitTrail → List Stage
-stages_in units = (before_rounds ++ first_rounds (most_rounds units)) ++ Result ∷ []
+stages_in units = (before_rounds ++ first_rounds (longest_rounds units)) ++ Result ∷ []
 
 -- the graph of a unit at a stage of code motion alone
 abbrev pub move_graph_at : MoveUnit → MoveStage → GraphShape

@@ -3,11 +3,11 @@ ghost use Rattle.std.specs.Prelude.{IfOk};
 ghost use Rattle.flow_graph.specs.Edges.{IsSplit};
 ghost use Rattle.mir_opt.specs.Made.{BackMade};
 
-use crate::Memory;
 use crate::stages::last_round;
 use copy_flow::copies;
 use flow_graph::Graph;
 use jump_clean::clean;
+use mir_base::Memory;
 use sink_dead::{Sunk, sink};
 use std::alloc::Global;
 

@@ -8,10 +8,10 @@ use crate::back::make_back;
 use crate::front::make_front;
 use crate::moving::move_code;
 use crate::steps::UnitSteps;
-use crate::{Memory, Stage, UnitTrail};
+use crate::{Stage, UnitTrail};
 use down_safe::EveryPath;
 use flow_graph::Graph;
-use mir_base::Unit as MirUnit;
+use mir_base::{Memory, Unit as MirUnit};
 use std::alloc::Global;
 
 impl UnitSteps for UnitTrail {

@@ -6,8 +6,8 @@ ghost use Rattle.mir_opt.specs.Links.{IsLinked, IsMoveLinked, IsOnlyMoveTrail, I
 ghost use Rattle.mir_opt.specs.Stages.{AllKeep, AreLaid, KeepsProgram, graph_at, move_graph_at};
 
 use crate::walking::{program_at, walk};
-use crate::{Memory, MoveStage, MoveTrail, Stage, Trail};
-use mir_base::Program;
+use crate::{MoveStage, MoveTrail, Stage, Trail};
+use mir_base::{Memory, Program};
 use std::alloc::Global;
 
 /// What the passes make of the program: for each unit its graph, what each pass makes of it in turn, and the unit that

@@ -3,12 +3,11 @@ ghost use Rattle.std.specs.Prelude.{IfOk};
 ghost use Rattle.flow_graph.specs.Lowered.{CanLower};
 ghost use Rattle.mir_opt.specs.Made.{FrontMade, LoweredMade, ValuesMade};
 
-use crate::Memory;
 use cond_const::fold;
 use copy_flow::copies;
 use flow_graph::{Graph, lower};
 use jump_clean::clean;
-use mir_base::Unit as MirUnit;
+use mir_base::{Memory, Unit as MirUnit};
 use std::alloc::Global;
 use value_number::number;
 

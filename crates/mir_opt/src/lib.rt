@@ -24,6 +24,5 @@ mod trails;
 mod walking;
 
 pub use commands::{motion, optimise, stage_program};
-pub use mir_base::Memory;
 pub use stages::{MoveStage, Stage, stages_of};
 pub use trails::{MoveTrail, MoveUnit, Trail, UnitTrail};

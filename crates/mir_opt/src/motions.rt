@@ -7,11 +7,11 @@ ghost use Rattle.mir_opt.specs.Stages.{MotionCleansWithin, move_graph_at};
 use crate::front::lower_clean;
 use crate::moving::move_code;
 use crate::steps::UnitSteps;
-use crate::{Memory, MoveStage, MoveUnit};
+use crate::{MoveStage, MoveUnit};
 use down_safe::EveryPath;
 use flow_graph::Graph;
 use jump_clean::clean;
-use mir_base::Unit as MirUnit;
+use mir_base::{Memory, Unit as MirUnit};
 use std::alloc::Global;
 
 impl UnitSteps for MoveUnit {

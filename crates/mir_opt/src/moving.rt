@@ -4,11 +4,11 @@ ghost use Rattle.flow_graph.specs.Edges.{IsSplit};
 ghost use Rattle.motion_rewrite.specs.Tables.{AreMovable};
 ghost use Rattle.mir_opt.specs.Made.{CodeMade, MotionMade};
 
-use crate::Memory;
 use down_safe::DownRule;
 use edge_split::split;
 use flow_graph::{Edges, Graph};
 use latest_place::lazy;
+use mir_base::Memory;
 use motion_rewrite::{ExprTable, Placement, exprs, flatten};
 use std::alloc::Global;
 

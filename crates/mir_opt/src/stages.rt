@@ -1,10 +1,11 @@
 // The stages of the passes, and the graph of a unit at each.
 ghost use Rattle.std.specs.Prelude.{◌≡◌, ◌++◌, IfOk, OnOk};
 ghost use Rattle.sink_dead.specs.RoundGraphs.{last_round};
-ghost use Rattle.mir_opt.specs.Stages.{after_rounds, first_rounds, graph_at, most_rounds, move_graph_at, stages_in};
+ghost use Rattle.mir_opt.specs.Stages.{after_rounds, first_rounds, graph_at, longest_rounds, move_graph_at, stages_in};
 
-use crate::{Memory, MoveUnit, Trail, UnitTrail};
+use crate::{MoveUnit, Trail, UnitTrail};
 use flow_graph::Graph;
+use mir_base::Memory;
 use std::alloc::Global;
 
 /// A stage of the passes of `optimise`, at which each unit has a graph.
@@ -37,7 +38,7 @@ pub fn stages_of(alloc: Global, trail: &Trail) -> Result<Vec<Stage>, Memory>
     ensures { IfOk result (λ stages. stages.items ≡ stages_in trail.now.units) }
 {
     let mut stages = Vec::from_array(alloc, BEFORE_ROUNDS)?;
-    put_rounds(&mut stages, most_rounds(trail.units.items()))?;
+    put_rounds(&mut stages, longest_rounds(trail.units.items()))?;
     stages.push(Stage::Result)?;
     Ok(stages)
 }
@@ -65,8 +66,8 @@ fn put_rounds(stages: &mut Vec<Stage>, rounds: usize) -> Result<(), Memory>
 }
 
 /// The greatest number of rounds that any of these units had.
-fn most_rounds(units: &[UnitTrail]) -> usize
-    ensures { result ≡ most_rounds units.now }
+fn longest_rounds(units: &[UnitTrail]) -> usize
+    ensures { result ≡ longest_rounds units.now }
 {
     let mut most = 0;
     for unit in units {

@@ -6,9 +6,8 @@ ghost use Rattle.flow_graph.specs.Lowered.{CanLower};
 ghost use Rattle.mir_opt.specs.Made.{UnitMade};
 ghost use Rattle.mir_opt.specs.Links.{HasOneLink};
 
-use crate::Memory;
 use flow_graph::Graph;
-use mir_base::Unit as MirUnit;
+use mir_base::{Memory, Unit as MirUnit};
 use std::alloc::Global;
 
 /// The steps that a command makes of one unit, with a graph at each stage. `linked` says when steps are those of a

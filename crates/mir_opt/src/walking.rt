@@ -5,10 +5,9 @@ ghost use Rattle.mir_base.specs.Shapes.{IsProgram};
 ghost use Rattle.mir_opt.specs.Made.{AllLaidOut, AllMade, IsKept, WalkMade};
 ghost use Rattle.mir_opt.specs.Stages.{AllKeep, AreLaid, KeepsProgram};
 
-use crate::Memory;
 use crate::steps::UnitSteps;
 use flow_graph::layout;
-use mir_base::{Items, Program, Unit as MirUnit};
+use mir_base::{Items, Memory, Program, Unit as MirUnit};
 use mir_sim::lift;
 use std::alloc::Global;
 

@@ -13,7 +13,7 @@ use Rattle.mir_valid.specs.Texts.{IsTextOf}
 use Rattle.mir_top.specs.declared.command.Command.{Command}
 use Rattle.mir_top.specs.declared.command.Command.TheVariants.{Optimise, Stages, Move, Run, Trial}
 use Rattle.mir_top.specs.declared.outcome.Outcome.{Outcome}
-use Rattle.mir_top.specs.Calls.{answer_of}
+use Rattle.mir_top.specs.Calls.{reply_of}
 use Rattle.mir_top.specs.Commands.{command_of, inputs_in, reads_text, Reads}
 use Rattle.mir_top.specs.Complaints.{Complaint, wrong_inputs, deep, of_text, of_program}
 use Rattle.mir_top.specs.Due.{IsShortTextOf, WorksOn, IsRefused, long, unreadable, invalid, Refuses, no_command, no_text, wrong_number, too_deep, Completes, of_optimise, of_stages, of_move, of_run, of_trial, status_of_finish}
@@ -127,7 +127,7 @@ refuses_same laws words text _ other (too_deep n program asked on right above) a
 
 -- what a run makes
 pub runs_of : (inputs : List ℤ) (program : ProgramShape) (command : Command) (outcome : Outcome) (output : List ℕ) (steps : ℕ) → Makes inputs program command outcome output → command ≡ Run steps
-    → Runs program inputs steps × ((answer_of outcome).status ≡ status_of_finish (reported program inputs steps).finish) × (output ≡ report_text (reported program inputs steps))
+    → Runs program inputs steps × ((reply_of outcome).status ≡ status_of_finish (reported program inputs steps).finish) × (output ≡ report_text (reported program inputs steps))
 runs_of inputs program _ _ _ steps (optimised trail source optimises) is = absurd (cc)
 runs_of inputs program _ _ _ steps (shown trail source optimises text shows) is = absurd (cc)
 runs_of inputs program _ _ _ steps (moved trail source moves) is = absurd (cc)
@@ -140,7 +140,7 @@ runs_of inputs program _ _ _ steps (ran n runs report reports) is =
     )
 
 -- an outcome with status 3 or 4 is that of a run
-pub run_of_status : (inputs : List ℤ) (program : ProgramShape) (command : Command) (outcome : Outcome) (output : List ℕ) → Makes inputs program command outcome output → is_of_run (answer_of outcome).status → (n : ℕ) × (command ≡ Run n)
+pub run_of_status : (inputs : List ℤ) (program : ProgramShape) (command : Command) (outcome : Outcome) (output : List ℕ) → Makes inputs program command outcome output → is_of_run (reply_of outcome).status → (n : ℕ) × (command ≡ Run n)
 run_of_status inputs program _ _ _ (optimised trail source optimises) is = absurd is
 run_of_status inputs program _ _ _ (shown trail source optimises text shows) is = absurd is
 run_of_status inputs program _ _ _ (moved trail source moves) is = absurd is
@@ -156,7 +156,7 @@ summary_of inputs program _ _ _ number units (ran n runs report reports) is = ab
 summary_of inputs program _ _ _ number units (compared other count output summary) is = summary
 
 -- what a trial makes has status 0
-pub status_of_trial : (inputs : List ℤ) (program : ProgramShape) (command : Command) (outcome : Outcome) (output : List ℕ) (number units : ℕ) → Makes inputs program command outcome output → command ≡ Trial number units → (answer_of outcome).status ≡ 0
+pub status_of_trial : (inputs : List ℤ) (program : ProgramShape) (command : Command) (outcome : Outcome) (output : List ℕ) (number units : ℕ) → Makes inputs program command outcome output → command ≡ Trial number units → (reply_of outcome).status ≡ 0
 status_of_trial inputs program _ _ _ number units (optimised trail source optimises) is = refl
 status_of_trial inputs program _ _ _ number units (shown trail source optimises text shows) is = refl
 status_of_trial inputs program _ _ _ number units (moved trail source moves) is = refl
@@ -210,7 +210,7 @@ completes_no_refusal laws words text _ complaint (of_run n program asked on runs
     let over = (refused.1 runs.enough).0 in let shallow = runs.shallow in omega (arith, over, shallow)
 
 -- what is made by a command that is no run has status 0
-status_of_text : (inputs : List ℤ) (program : ProgramShape) (command : Command) (outcome : Outcome) (output : List ℕ) → Makes inputs program command outcome output → ((n : ℕ) → command ≡ Run n → ⊥) → (answer_of outcome).status ≡ 0
+status_of_text : (inputs : List ℤ) (program : ProgramShape) (command : Command) (outcome : Outcome) (output : List ℕ) → Makes inputs program command outcome output → ((n : ℕ) → command ≡ Run n → ⊥) → (reply_of outcome).status ≡ 0
 status_of_text inputs program _ _ _ (optimised trail source optimises) no_run = refl
 status_of_text inputs program _ _ _ (shown trail source optimises text shows) no_run = refl
 status_of_text inputs program _ _ _ (moved trail source moves) no_run = refl
@@ -219,7 +219,7 @@ status_of_text inputs program _ _ _ (ran n runs report reports) no_run = absurd 
 
 -- what is made where an output is due has the status that is due
 pub completes_status : OneReading → (words : List (List ℕ)) (text : List ℕ) (status : ℕ) (command : Command) (program : ProgramShape) (outcome : Outcome) (output : List ℕ) → Completes words text status → command_of words ≡ Some command → WorksOn command text program
-    → Makes (inputs_in words) program command outcome output → (answer_of outcome).status ≡ status
+    → Makes (inputs_in words) program command outcome output → (reply_of outcome).status ≡ status
 completes_status laws words text _ command program outcome output (of_optimise other also within) asked on makes =
     status_of_text (inputs_in words) program command outcome output makes (λ n is. let e = sym (same_command command Optimise (command_of words) asked also) ∙ is in absurd (cc))
 completes_status laws words text _ command program outcome output (of_stages other also within) asked on makes =

@@ -8,11 +8,11 @@ use Rattle.mir_base.specs.Shapes.{ProgramShape}
 use Rattle.mir_opt.specs.declared.trails.MoveTrail.{MoveTrail}
 use Rattle.mir_outside.specs.Transfer.{TakesAtMost}
 use Rattle.mir_trial.specs.Trial.{trial_program}
-use Rattle.mir_top.specs.declared.answer.Answer.{Answer}
+use Rattle.mir_top.specs.declared.reply.Reply.{Reply}
 use Rattle.mir_top.specs.declared.command.Command.{Command}
 use Rattle.mir_top.specs.declared.command.Command.TheVariants.{Optimise, Stages, Move, Run, Trial}
 use Rattle.mir_top.specs.declared.outcome.Outcome.{Outcome}
-use Rattle.mir_top.specs.Calls.{Call, answer_of, refusal_with, Answers, MakesOutput, WorkedOn}
+use Rattle.mir_top.specs.Calls.{Call, reply_of, refusal_with, HasReplied, MakesOutput, WorkedOn}
 use Rattle.mir_top.specs.Commands.{command_of, inputs_in, Asks, Reads}
 use Rattle.mir_top.specs.Complaints.{Complaint, usage, read_fault, write_fault, out_of_memory}
 use Rattle.mir_top.specs.Due.{IsShortTextOf, WorksOn, IsRefused, long, unreadable, invalid, Refuses, no_command, no_text, wrong_number, too_deep, Completes}
@@ -42,9 +42,9 @@ taken_of_text : (source : Stream) (text bytes : List ℕ) → source.old ≡ Som
 taken_of_text source text bytes told taken = subst (λ (o : Option (List ℕ)). Consumes o source.new bytes) told taken
 
 module _ (laws : OneReading) (call : Call) where
-  -- the status of an answer that is known
-  status_is : (answer : Answer) → call.answer ≡ answer → call.answer.status ≡ answer.status
-  status_is answer is = ap (λ (a : Answer). a.status) is
+  -- the status of a reply that is known
+  status_is : (reply : Reply) → call.reply ≡ reply → call.reply.status ≡ reply.status
+  status_is reply is = ap (λ (a : Reply). a.status) is
 
   -- what was made is the one output
   only_made : (outcome : Outcome) (output : List ℕ) (made : MakesOutput call.words call.source outcome output) → IsOnlyMade call outcome output made
@@ -53,24 +53,24 @@ module _ (laws : OneReading) (call : Call) where
   -- ---- statuses 0, 3 and 4
 
   -- the one output was made and written, and nothing was written to the error output
-  success_of : EndingCase call → is_success call.answer.status → HasMade call × Untouched call.err
-  success_of (ends_done outcome answered is quiet) success = (record { outcome = outcome; done = is; only = only_made outcome is.output is.made; answer = answered }, quiet)
-  success_of (ends_cut answered is told) success = absurd (subst is_success (status_is _ answered) success)
-  success_of (ends_failed answered reads fails silent told) success = absurd (subst is_success (status_is _ answered) success)
-  success_of (ends_out_of_memory answered asked silent told) success = absurd (subst is_success (status_is _ answered) success)
-  success_of (ends_refused text complaint answered seen refuses silent told) success =
-      absurd (refusal_no_success complaint.status (refuses_is_refusal laws call.words text complaint refuses) (subst is_success (status_is _ answered) success))
+  success_of : EndingCase call → is_success call.reply.status → HasMade call × Untouched call.err
+  success_of (ends_done outcome replied is quiet) success = (record { outcome = outcome; done = is; only = only_made outcome is.output is.made; reply = replied }, quiet)
+  success_of (ends_cut replied is told) success = absurd (subst is_success (status_is _ replied) success)
+  success_of (ends_failed replied reads fails silent told) success = absurd (subst is_success (status_is _ replied) success)
+  success_of (ends_out_of_memory replied asked silent told) success = absurd (subst is_success (status_is _ replied) success)
+  success_of (ends_refused text complaint replied seen refuses silent told) success =
+      absurd (refusal_no_success complaint.status (refuses_is_refusal laws call.words text complaint refuses) (subst is_success (status_is _ replied) success))
 
   -- 3 and 4 come under `run` alone
-  of_run : EndingCase call → Contains (3 ∷ 4 ∷ []) call.answer.status → (steps : ℕ) × (command_of call.words ≡ Some (Run steps))
+  of_run : EndingCase call → Contains (3 ∷ 4 ∷ []) call.reply.status → (steps : ℕ) × (command_of call.words ≡ Some (Run steps))
   of_run ends among =
-      let has = (success_of ends (run_has is_success tt tt call.answer.status among)).0 in
+      let has = (success_of ends (run_has is_success tt tt call.reply.status among)).0 in
       let made = has.done.made in
-      let under = run_of_status (inputs_in call.words) made.program made.command has.outcome has.done.output made.made (subst is_of_run (status_is _ has.answer) (run_has is_of_run tt tt call.answer.status among)) in
+      let under = run_of_status (inputs_in call.words) made.program made.command has.outcome has.done.output made.made (subst is_of_run (status_is _ has.reply) (run_has is_of_run tt tt call.reply.status among)) in
       (under.0, made.worked.asked ∙ ap (λ (c : Command). Some c) under.1)
 
   -- under `run` the report says how the run stands
-  reports : EndingCase call → (steps : ℕ) → command_of call.words ≡ Some (Run steps) → is_success call.answer.status → HasRun call steps
+  reports : EndingCase call → (steps : ℕ) → command_of call.words ≡ Some (Run steps) → is_success call.reply.status → HasRun call steps
   reports ends steps asked success =
       let has = (success_of ends success).0 in
       let made = has.done.made in
@@ -80,12 +80,12 @@ module _ (laws : OneReading) (call : Call) where
         program = made.program;
         read = has_read call.words call.source (Run steps) made.program made.program made.text refl asked made.worked.read (subst (λ (c : Command). WorksOn c made.text made.program) is made.worked.subject) refl;
         runs = runs.0;
-        status = status_is _ has.answer ∙ runs.1;
+        status = status_is _ has.reply ∙ runs.1;
         written = subst (Gave call.out) runs.2 has.done.written;
       }
 
   -- under a trial with status 0 its program was tried
-  tries : EndingCase call → (number units : ℕ) → command_of call.words ≡ Some (Trial number units) → is_success call.answer.status → HasTried call (trial_program number units)
+  tries : EndingCase call → (number units : ℕ) → command_of call.words ≡ Some (Trial number units) → is_success call.reply.status → HasTried call (trial_program number units)
   tries ends number units asked success =
       let has = (success_of ends success).0 in
       let made = has.done.made in
@@ -99,25 +99,25 @@ module _ (laws : OneReading) (call : Call) where
       }
 
   -- a trial ends with an output, or it is cut short, or memory runs out
-  of_trial : EndingCase call → (number units : ℕ) → command_of call.words ≡ Some (Trial number units) → Contains (0 ∷ 7 ∷ 8 ∷ []) call.answer.status
-  of_trial (ends_done outcome answered is quiet) number units asked =
+  of_trial : EndingCase call → (number units : ℕ) → command_of call.words ≡ Some (Trial number units) → Contains (0 ∷ 7 ∷ 8 ∷ []) call.reply.status
+  of_trial (ends_done outcome replied is quiet) number units asked =
       let same = same_command is.made.command (Trial number units) (command_of call.words) is.made.worked.asked asked in
-      (0, omega arith, sym (status_is _ answered ∙ status_of_trial (inputs_in call.words) is.made.program is.made.command outcome is.output number units is.made.made same))
-  of_trial (ends_cut answered is told) number units asked = (1, omega arith, sym (status_is _ answered))
-  of_trial (ends_failed answered reads fails silent told) number units asked = absurd (trial_reads call.words number units asked reads)
-  of_trial (ends_out_of_memory answered asked silent told) number units also = (2, omega arith, sym (status_is _ answered))
-  of_trial (ends_refused text complaint answered seen refuses silent told) number units asked =
+      (0, omega arith, sym (status_is _ replied ∙ status_of_trial (inputs_in call.words) is.made.program is.made.command outcome is.output number units is.made.made same))
+  of_trial (ends_cut replied is told) number units asked = (1, omega arith, sym (status_is _ replied))
+  of_trial (ends_failed replied reads fails silent told) number units asked = absurd (trial_reads call.words number units asked reads)
+  of_trial (ends_out_of_memory replied asked silent told) number units also = (2, omega arith, sym (status_is _ replied))
+  of_trial (ends_refused text complaint replied seen refuses silent told) number units asked =
       absurd (unread_refusal call.words text (Trial number units) complaint asked (λ is. absurd (cc)) refuses)
 
   -- ---- statuses 1, 2 and 5
 
-  refused_of : EndingCase call → is_refusal call.answer.status → HasRefused call
-  refused_of (ends_done outcome answered is quiet) among = absurd (success_no_refusal _ (outcome_is_success outcome) (subst is_refusal (status_is _ answered) among))
-  refused_of (ends_cut answered is told) among = absurd (subst is_refusal (status_is _ answered) among)
-  refused_of (ends_failed answered reads fails silent told) among = absurd (subst is_refusal (status_is _ answered) among)
-  refused_of (ends_out_of_memory answered asked silent told) among = absurd (subst is_refusal (status_is _ answered) among)
-  refused_of (ends_refused text complaint answered seen refuses silent told) among =
-      record { text = text; complaint = complaint; read = seen; refuses = refuses; status = status_is _ answered; written = told }
+  refused_of : EndingCase call → is_refusal call.reply.status → HasRefused call
+  refused_of (ends_done outcome replied is quiet) among = absurd (success_no_refusal _ (outcome_is_success outcome) (subst is_refusal (status_is _ replied) among))
+  refused_of (ends_cut replied is told) among = absurd (subst is_refusal (status_is _ replied) among)
+  refused_of (ends_failed replied reads fails silent told) among = absurd (subst is_refusal (status_is _ replied) among)
+  refused_of (ends_out_of_memory replied asked silent told) among = absurd (subst is_refusal (status_is _ replied) among)
+  refused_of (ends_refused text complaint replied seen refuses silent told) among =
+      record { text = text; complaint = complaint; read = seen; refuses = refuses; status = status_is _ replied; written = told }
 
   -- a text that was read within the limit is the one that the source has
   within_of_text : (text read : List ℕ) (program : ProgramShape) → Reads call.words → HasText call text → (Reads call.words → HasSeen call.source read) → IsShortTextOf read program → IsShortTextOf text program
@@ -168,123 +168,123 @@ module _ (laws : OneReading) (call : Call) where
 
   -- what a refusal that is due makes of a call
   ends_by : (text : List ℕ) (complaint : Complaint) → HasText call text → Refuses call.words text complaint → EndingCase call → EndsBy call complaint
-  ends_by text complaint tells due (ends_done outcome answered is quiet) = absurd (not_made is.made.text is.made.command is.made.program is.made.worked outcome is.output is.made.made)
+  ends_by text complaint tells due (ends_done outcome replied is quiet) = absurd (not_made is.made.text is.made.command is.made.program is.made.worked outcome is.output is.made.made)
     where
       not_made : (read : List ℕ) (command : Command) (program : ProgramShape) → WorkedOn call.words call.source read command program → (o : Outcome) (output : List ℕ) → Makes (inputs_in call.words) program command o output → ⊥
       not_made read command program worked o output makes = makes_no_refusal laws call.words text command program o output complaint worked.asked (works_on_text text read command program tells worked) makes due
-  ends_by text complaint tells due (ends_cut answered is told) =
+  ends_by text complaint tells due (ends_cut replied is told) =
       let made = is.made in
       absurd (makes_no_refusal laws call.words text made.command made.program is.outcome is.output complaint made.worked.asked (works_on_text text made.text made.command made.program tells made.worked) made.made due)
-  ends_by text complaint tells due (ends_failed answered reads fails silent told) =
-      record { status = (1, omega arith, sym (status_is _ answered)); written = λ is. absurd (subst is_refusal (sym is ∙ status_is _ answered) (refusal_is complaint.status (refuses_is_refusal laws call.words text complaint due))) }
-  ends_by text complaint tells due (ends_out_of_memory answered asked silent told) =
-      record { status = (2, omega arith, sym (status_is _ answered)); written = λ is. absurd (subst is_refusal (sym is ∙ status_is _ answered) (refusal_is complaint.status (refuses_is_refusal laws call.words text complaint due))) }
-  ends_by text complaint tells due (ends_refused read other answered seen refuses silent told) =
+  ends_by text complaint tells due (ends_failed replied reads fails silent told) =
+      record { status = (1, omega arith, sym (status_is _ replied)); written = λ is. absurd (subst is_refusal (sym is ∙ status_is _ replied) (refusal_is complaint.status (refuses_is_refusal laws call.words text complaint due))) }
+  ends_by text complaint tells due (ends_out_of_memory replied asked silent told) =
+      record { status = (2, omega arith, sym (status_is _ replied)); written = λ is. absurd (subst is_refusal (sym is ∙ status_is _ replied) (refusal_is complaint.status (refuses_is_refusal laws call.words text complaint due))) }
+  ends_by text complaint tells due (ends_refused read other replied seen refuses silent told) =
       let same : other ≡ complaint = refuses_same laws call.words text other complaint (seen_refuses text read other tells seen refuses) due in
       record {
-        status = (0, omega arith, ap (λ (c : Complaint). c.status) (sym same) ∙ sym (status_is _ answered));
+        status = (0, omega arith, ap (λ (c : Complaint). c.status) (sym same) ∙ sym (status_is _ replied));
         written = λ is. subst (λ (c : Complaint). Tried call.err c.line) same told;
       }
 
   -- ---- completeness
 
-  completes : (text : List ℕ) (status : ℕ) → HasText call text → Completes call.words text status → EndingCase call → Contains (status ∷ 6 ∷ 7 ∷ 8 ∷ []) call.answer.status
-  completes text status tells due (ends_done outcome answered is quiet) =
+  completes : (text : List ℕ) (status : ℕ) → HasText call text → Completes call.words text status → EndingCase call → Contains (status ∷ 6 ∷ 7 ∷ 8 ∷ []) call.reply.status
+  completes text status tells due (ends_done outcome replied is quiet) =
       let made = is.made in
-      (0, omega arith, sym (status_is _ answered ∙ completes_status laws call.words text status made.command made.program outcome is.output due made.worked.asked (works_on_text text made.text made.command made.program tells made.worked) made.made))
-  completes text status tells due (ends_cut answered is told) = (2, omega arith, sym (status_is _ answered))
-  completes text status tells due (ends_failed answered reads fails silent told) = (1, omega arith, sym (status_is _ answered))
-  completes text status tells due (ends_out_of_memory answered asked silent told) = (3, omega arith, sym (status_is _ answered))
-  completes text status tells due (ends_refused read complaint answered seen refuses silent told) =
+      (0, omega arith, sym (status_is _ replied ∙ completes_status laws call.words text status made.command made.program outcome is.output due made.worked.asked (works_on_text text made.text made.command made.program tells made.worked) made.made))
+  completes text status tells due (ends_cut replied is told) = (2, omega arith, sym (status_is _ replied))
+  completes text status tells due (ends_failed replied reads fails silent told) = (1, omega arith, sym (status_is _ replied))
+  completes text status tells due (ends_out_of_memory replied asked silent told) = (3, omega arith, sym (status_is _ replied))
+  completes text status tells due (ends_refused read complaint replied seen refuses silent told) =
       absurd (completes_no_refusal laws call.words text status complaint due (seen_refuses text read complaint tells seen refuses))
 
   -- ---- the other statuses
 
   -- an outcome has no status that is none of success
-  no_success : (outcome : Outcome) → call.answer ≡ answer_of outcome → {n : ℕ} → call.answer.status ≡ n → is_success n
-  no_success outcome answered at = subst is_success (sym (status_is _ answered) ∙ at) (success_is _ (outcome_is_success outcome))
+  no_success : (outcome : Outcome) → call.reply ≡ reply_of outcome → {n : ℕ} → call.reply.status ≡ n → is_success n
+  no_success outcome replied at = subst is_success (sym (status_is _ replied) ∙ at) (success_is _ (outcome_is_success outcome))
 
   -- a refusal has no status that is none of a refusal
-  no_refusal : (text : List ℕ) (complaint : Complaint) → call.answer ≡ refusal_with complaint.status → Refuses call.words text complaint → {n : ℕ} → call.answer.status ≡ n → is_refusal n
-  no_refusal text complaint answered refuses at =
-      subst is_refusal (sym (status_is _ answered) ∙ at) (refusal_is complaint.status (refuses_is_refusal laws call.words text complaint refuses))
+  no_refusal : (text : List ℕ) (complaint : Complaint) → call.reply ≡ refusal_with complaint.status → Refuses call.words text complaint → {n : ℕ} → call.reply.status ≡ n → is_refusal n
+  no_refusal text complaint replied refuses at =
+      subst is_refusal (sym (status_is _ replied) ∙ at) (refusal_is complaint.status (refuses_is_refusal laws call.words text complaint refuses))
 
-  usage_is : EndingCase call → command_of call.words ≡ None → call.answer.status ≡ 1
-  usage_is (ends_done outcome answered is quiet) none = absurd (no_command_of is.made.command (command_of call.words) none is.made.worked.asked)
-  usage_is (ends_cut answered is told) none = absurd (no_command_of is.made.command (command_of call.words) none is.made.worked.asked)
-  usage_is (ends_failed answered reads fails silent told) none = absurd (no_command_of reads.0 (command_of call.words) none reads.1)
-  usage_is (ends_out_of_memory answered asked silent told) none = let e = sym asked ∙ ap is_some none in absurd (cc)
-  usage_is (ends_refused text complaint answered seen refuses silent told) none =
-      status_is _ answered ∙ ap (λ (c : Complaint). c.status) (refuses_same laws call.words text complaint usage refuses (no_command none))
+  usage_is : EndingCase call → command_of call.words ≡ None → call.reply.status ≡ 1
+  usage_is (ends_done outcome replied is quiet) none = absurd (no_command_of is.made.command (command_of call.words) none is.made.worked.asked)
+  usage_is (ends_cut replied is told) none = absurd (no_command_of is.made.command (command_of call.words) none is.made.worked.asked)
+  usage_is (ends_failed replied reads fails silent told) none = absurd (no_command_of reads.0 (command_of call.words) none reads.1)
+  usage_is (ends_out_of_memory replied asked silent told) none = let e = sym asked ∙ ap is_some none in absurd (cc)
+  usage_is (ends_refused text complaint replied seen refuses silent told) none =
+      status_is _ replied ∙ ap (λ (c : Complaint). c.status) (refuses_same laws call.words text complaint usage refuses (no_command none))
 
-  read_fails : EndingCase call → call.answer.status ≡ 6 → Reads call.words × HasFailed call.source × Tried call.err read_fault.line
-  read_fails (ends_done outcome answered is quiet) at = absurd (no_success outcome answered at)
-  read_fails (ends_cut answered is told) at = absurd (omega (arith, status_is _ answered, at))
-  read_fails (ends_failed answered reads fails silent told) at = (reads, fails, told)
-  read_fails (ends_out_of_memory answered asked silent told) at = absurd (omega (arith, status_is _ answered, at))
-  read_fails (ends_refused text complaint answered seen refuses silent told) at = absurd (no_refusal text complaint answered refuses at)
+  read_fails : EndingCase call → call.reply.status ≡ 6 → Reads call.words × HasFailed call.source × Tried call.err read_fault.line
+  read_fails (ends_done outcome replied is quiet) at = absurd (no_success outcome replied at)
+  read_fails (ends_cut replied is told) at = absurd (omega (arith, status_is _ replied, at))
+  read_fails (ends_failed replied reads fails silent told) at = (reads, fails, told)
+  read_fails (ends_out_of_memory replied asked silent told) at = absurd (omega (arith, status_is _ replied, at))
+  read_fails (ends_refused text complaint replied seen refuses silent told) at = absurd (no_refusal text complaint replied refuses at)
 
-  write_fails : EndingCase call → call.answer.status ≡ 7 → HasCutShort call × Tried call.err write_fault.line
-  write_fails (ends_done outcome answered is quiet) at = absurd (no_success outcome answered at)
-  write_fails (ends_cut answered is told) at = (record { cut = is; only = only_made is.outcome is.output is.made }, told)
-  write_fails (ends_failed answered reads fails silent told) at = absurd (omega (arith, status_is _ answered, at))
-  write_fails (ends_out_of_memory answered asked silent told) at = absurd (omega (arith, status_is _ answered, at))
-  write_fails (ends_refused text complaint answered seen refuses silent told) at = absurd (no_refusal text complaint answered refuses at)
+  write_fails : EndingCase call → call.reply.status ≡ 7 → HasCutShort call × Tried call.err write_fault.line
+  write_fails (ends_done outcome replied is quiet) at = absurd (no_success outcome replied at)
+  write_fails (ends_cut replied is told) at = (record { cut = is; only = only_made is.outcome is.output is.made }, told)
+  write_fails (ends_failed replied reads fails silent told) at = absurd (omega (arith, status_is _ replied, at))
+  write_fails (ends_out_of_memory replied asked silent told) at = absurd (omega (arith, status_is _ replied, at))
+  write_fails (ends_refused text complaint replied seen refuses silent told) at = absurd (no_refusal text complaint replied refuses at)
 
-  memory_is : EndingCase call → call.answer.status ≡ 8 → Asks call.words × Tried call.err out_of_memory.line
-  memory_is (ends_done outcome answered is quiet) at = absurd (no_success outcome answered at)
-  memory_is (ends_cut answered is told) at = absurd (omega (arith, status_is _ answered, at))
-  memory_is (ends_failed answered reads fails silent told) at = absurd (omega (arith, status_is _ answered, at))
-  memory_is (ends_out_of_memory answered asked silent told) at = (asked, told)
-  memory_is (ends_refused text complaint answered seen refuses silent told) at = absurd (no_refusal text complaint answered refuses at)
+  memory_is : EndingCase call → call.reply.status ≡ 8 → Asks call.words × Tried call.err out_of_memory.line
+  memory_is (ends_done outcome replied is quiet) at = absurd (no_success outcome replied at)
+  memory_is (ends_cut replied is told) at = absurd (omega (arith, status_is _ replied, at))
+  memory_is (ends_failed replied reads fails silent told) at = absurd (omega (arith, status_is _ replied, at))
+  memory_is (ends_out_of_memory replied asked silent told) at = (asked, told)
+  memory_is (ends_refused text complaint replied seen refuses silent told) at = absurd (no_refusal text complaint replied refuses at)
 
-  silent_of : EndingCase call → is_silent call.answer.status → Untouched call.out
-  silent_of (ends_done outcome answered is quiet) among = absurd (success_no_silent _ (outcome_is_success outcome) (subst is_silent (status_is _ answered) among))
-  silent_of (ends_cut answered is told) among = absurd (subst is_silent (status_is _ answered) among)
-  silent_of (ends_failed answered reads fails silent told) among = silent
-  silent_of (ends_out_of_memory answered asked silent told) among = silent
-  silent_of (ends_refused text complaint answered seen refuses silent told) among = silent
+  silent_of : EndingCase call → is_silent call.reply.status → Untouched call.out
+  silent_of (ends_done outcome replied is quiet) among = absurd (success_no_silent _ (outcome_is_success outcome) (subst is_silent (status_is _ replied) among))
+  silent_of (ends_cut replied is told) among = absurd (subst is_silent (status_is _ replied) among)
+  silent_of (ends_failed replied reads fails silent told) among = silent
+  silent_of (ends_out_of_memory replied asked silent told) among = silent
+  silent_of (ends_refused text complaint replied seen refuses silent told) among = silent
 
-  below : EndingCase call → call.answer.status ≤ 8
-  below (ends_done outcome answered is quiet) = subst (λ (n : ℕ). n ≤ 8) (sym (status_is _ answered)) (success_below _ (outcome_is_success outcome))
-  below (ends_cut answered is told) = omega (arith, status_is _ answered)
-  below (ends_failed answered reads fails silent told) = omega (arith, status_is _ answered)
-  below (ends_out_of_memory answered asked silent told) = omega (arith, status_is _ answered)
-  below (ends_refused text complaint answered seen refuses silent told) = subst (λ (n : ℕ). n ≤ 8) (sym (status_is _ answered)) (refusal_below complaint.status (refuses_is_refusal laws call.words text complaint refuses))
+  below : EndingCase call → call.reply.status ≤ 8
+  below (ends_done outcome replied is quiet) = subst (λ (n : ℕ). n ≤ 8) (sym (status_is _ replied)) (success_below _ (outcome_is_success outcome))
+  below (ends_cut replied is told) = omega (arith, status_is _ replied)
+  below (ends_failed replied reads fails silent told) = omega (arith, status_is _ replied)
+  below (ends_out_of_memory replied asked silent told) = omega (arith, status_is _ replied)
+  below (ends_refused text complaint replied seen refuses silent told) = subst (λ (n : ℕ). n ≤ 8) (sym (status_is _ replied)) (refusal_below complaint.status (refuses_is_refusal laws call.words text complaint refuses))
 
   -- ---- trails
 
   -- words of a command that has a trail of all passes are those of `optimise` or `stages`
-  has_asked : EndingCase call → IsSome call.answer.trail → StatusIs call 0 × (Asked call Optimise ⊎ Asked call Stages)
+  has_asked : EndingCase call → IsSome call.reply.trail → StatusIs call 0 × (Asked call Optimise ⊎ Asked call Stages)
   has_asked ends some = (let is = trail_is_asked passes call ends some in (is.0, by is.1.0 is.1.1 is.1.2))
     where
       by : (command : Command) → Asked call command → HasPasses command → Asked call Optimise ⊎ Asked call Stages
       by command asked (inl is) = inl (asked ∙ ap (λ (c : Command). Some c) is)
       by command asked (inr is) = inr (asked ∙ ap (λ (c : Command). Some c) is)
 
-  passes_come : HasMade call → Asked call Optimise ⊎ Asked call Stages → IsSome call.answer.trail
+  passes_come : HasMade call → Asked call Optimise ⊎ Asked call Stages → IsSome call.reply.trail
   passes_come made (inl asked) = trail_comes passes call made Optimise asked (inl refl)
   passes_come made (inr asked) = trail_comes passes call made Stages asked (inr refl)
 
-  optimised_of : EndingCase call → Asked call Optimise → IfSome call.answer.trail (HasOptimised call)
-  optimised_of ends asked = IfSome_then call.answer.trail (trail_has_output passes call ends Optimise asked) (λ trail is. record { read = is.read; improves = is.improves; written = subst (Gave call.out) (is.is_output.0 refl) is.written })
+  optimised_of : EndingCase call → Asked call Optimise → IfSome call.reply.trail (HasOptimised call)
+  optimised_of ends asked = IfSome_then call.reply.trail (trail_has_output passes call ends Optimise asked) (λ trail is. record { read = is.read; improves = is.improves; written = subst (Gave call.out) (is.is_output.0 refl) is.written })
 
-  shown_of : EndingCase call → Asked call Stages → IfSome call.answer.trail (HasShown call)
-  shown_of ends asked = IfSome_then call.answer.trail (trail_has_output passes call ends Stages asked) (λ trail is. record { text = is.output; read = is.read; improves = is.improves; shows = is.is_output.1 refl; written = is.written })
+  shown_of : EndingCase call → Asked call Stages → IfSome call.reply.trail (HasShown call)
+  shown_of ends asked = IfSome_then call.reply.trail (trail_has_output passes call ends Stages asked) (λ trail is. record { text = is.output; read = is.read; improves = is.improves; shows = is.is_output.1 refl; written = is.written })
 
-  move_is_asked : EndingCase call → IsSome call.answer.moved → StatusIs call 0 × Asked call Move
+  move_is_asked : EndingCase call → IsSome call.reply.moved → StatusIs call 0 × Asked call Move
   move_is_asked ends some = (let is = trail_is_asked motion call ends some in (is.0, is.1.1 ∙ ap (λ (c : Command). Some c) is.1.2))
 
-  moved_of : EndingCase call → IfSome call.answer.moved (HasMoved call)
-  moved_of ends = by ends call.answer.moved refl
+  moved_of : EndingCase call → IfSome call.reply.moved (HasMoved call)
+  moved_of ends = by ends call.reply.moved refl
     where
-      by : EndingCase call → (o : Option MoveTrail) → call.answer.moved ≡ o → IfSome o (HasMoved call)
+      by : EndingCase call → (o : Option MoveTrail) → call.reply.moved ≡ o → IfSome o (HasMoved call)
       by ends None is = tt
-      by ends (Some trail) is = subst (λ (o : Option MoveTrail). IfSome o (HasMoved call)) is (IfSome_then call.answer.moved (trail_has_output motion call ends Move (move_is_asked ends (subst IsSome (sym is) refl)).1) (λ trail is. record { read = is.read; improves = is.improves; written = subst (Gave call.out) is.is_output is.written }))
+      by ends (Some trail) is = subst (λ (o : Option MoveTrail). IfSome o (HasMoved call)) is (IfSome_then call.reply.moved (trail_has_output motion call ends Move (move_is_asked ends (subst IsSome (sym is) refl)).1) (λ trail is. record { read = is.read; improves = is.improves; written = subst (Gave call.out) is.is_output is.written }))
 
   -- ---- all of them
 
-  pub promised : TakesAtMost call.source.old call.source.new (most_bytes + 1) → ((Reads call.words → ⊥) → Untouched call.source) → Answers call → Promises call
+  pub promised : TakesAtMost call.source.old call.source.new (most_bytes + 1) → ((Reads call.words → ⊥) → Untouched call.source) → HasReplied call → Promises call
   promised most unread answers = let whole : EndingCase call = ends call answers in record {
     most = most;
     unread = unread;

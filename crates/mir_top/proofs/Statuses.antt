@@ -16,7 +16,7 @@ use Rattle.mir_valid.specs.declared.faults.ValidFault.TheVariants.{NoUnit, TooMa
 use Rattle.mir_valid.specs.Refusals.{IsValidMemory}
 use Rattle.mir_top.specs.declared.outcome.Outcome.{Outcome}
 use Rattle.mir_top.specs.declared.outcome.Outcome.TheVariants.{Optimised, Shown, Moved, Ran, Compared}
-use Rattle.mir_top.specs.Calls.{answer_of}
+use Rattle.mir_top.specs.Calls.{reply_of}
 use Rattle.mir_top.specs.Complaints.{Complaint, of_text, of_program, out_of_memory}
 use Rattle.mir_top.specs.Due.{IsRefused, long, unreadable, invalid, Refuses, no_command, no_text, wrong_number, too_deep, status_of_finish}
 use Rattle.mir_top.specs.Texts.{OneReading}
@@ -108,7 +108,7 @@ finish_is_success (Trapped kind) = (1, omega arith, refl)
 finish_is_success Running = (2, omega arith, refl)
 
 -- so the status of each outcome is one of success
-pub outcome_is_success : (outcome : Outcome) → IsSuccess (answer_of outcome).status
+pub outcome_is_success : (outcome : Outcome) → IsSuccess (reply_of outcome).status
 outcome_is_success (Optimised trail) = (0, omega arith, refl)
 outcome_is_success (Shown trail) = (0, omega arith, refl)
 outcome_is_success (Moved trail) = (0, omega arith, refl)

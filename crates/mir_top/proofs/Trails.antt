@@ -6,11 +6,11 @@ use Rattle.mir_base.specs.Shapes.{ProgramShape}
 use Rattle.mir_base.specs.Text.{canonical_text}
 use Rattle.mir_opt.specs.declared.trails.Trail.{Trail}
 use Rattle.mir_opt.specs.declared.trails.MoveTrail.{MoveTrail}
-use Rattle.mir_top.specs.declared.answer.Answer.{Answer}
+use Rattle.mir_top.specs.declared.reply.Reply.{Reply}
 use Rattle.mir_top.specs.declared.command.Command.{Command}
 use Rattle.mir_top.specs.declared.command.Command.TheVariants.{Optimise, Stages, Move}
 use Rattle.mir_top.specs.declared.outcome.Outcome.{Outcome}
-use Rattle.mir_top.specs.Calls.{Call, answer_of, refusal_with, IsDone}
+use Rattle.mir_top.specs.Calls.{Call, reply_of, refusal_with, IsDone}
 use Rattle.mir_top.specs.Commands.{command_of, inputs_in, reads_text}
 use Rattle.mir_top.specs.Outputs.{Optimises, MovesCode, Makes, optimised, shown, moved, ran, compared}
 use Rattle.mir_top.specs.Promises.{Asked, HasMade, HasRead, StatusIs}
@@ -19,20 +19,20 @@ use Rattle.mir_top.specs.Streams.{Gave}
 use Rattle.mir_top.proofs.Endings.{EndingCase, ends_done, ends_cut, ends_failed, ends_out_of_memory, ends_refused}
 use Rattle.mir_top.proofs.Judgements.{same_command, has_read}
 
--- what a trail in this field of the answer says of its making: this is of one of its commands, with the program as the
+-- what a trail in this field of the reply says of its making: this is of one of its commands, with the program as the
 -- source, and the output is what the command asks of the trail
 abbrev IsTrailOf : {T : Type 0} → (Own : Command → Type 0) (source : T → ProgramShape) (Improved : T → Type 0) (Output : T → Command → List ℕ → Type 0) → ProgramShape → Command → Outcome → List ℕ → T → Type 0
 IsTrailOf Own source Improved Output program command outcome output trail =
-    ((answer_of outcome).status ≡ 0) × Own command × (source trail ≡ program) × Improved trail × Output trail command output
+    ((reply_of outcome).status ≡ 0) × Own command × (source trail ≡ program) × Improved trail × Output trail command output
 
--- a field of the answer has the trail of some commands: with an outcome of these, and with no other
-pub record HasTrails {T : Type 0} (Own : Command → Type 0) (field : Answer → Option T) (source : T → ProgramShape) (Improved : T → Type 0) (Output : T → Command → List ℕ → Type 0) : Type 0 where
+-- a field of the reply has the trail of some commands: with an outcome of these, and with no other
+pub record HasTrails {T : Type 0} (Own : Command → Type 0) (field : Reply → Option T) (source : T → ProgramShape) (Improved : T → Type 0) (Output : T → Command → List ℕ → Type 0) : Type 0 where
   reads : (command : Command) → Own command → IsTrue (reads_text command)
   empty : (status : ℕ) → field (refusal_with status) ≡ None
   of : (inputs : List ℤ) (program : ProgramShape) (command : Command) (outcome : Outcome) (output : List ℕ) → Makes inputs program command outcome output
-      → IfSome (field (answer_of outcome)) (IsTrailOf Own source Improved Output program command outcome output)
+      → IfSome (field (reply_of outcome)) (IsTrailOf Own source Improved Output program command outcome output)
   comes : (inputs : List ℤ) (program : ProgramShape) (command : Command) (outcome : Outcome) (output : List ℕ) → Makes inputs program command outcome output
-      → Own command → IsSome (field (answer_of outcome))
+      → Own command → IsSome (field (reply_of outcome))
 
 -- ---- the trail of all passes
 
@@ -51,7 +51,7 @@ passes_read command (inr is) = subst (λ (c : Command). IsTrue (reads_text c)) (
 
 -- of the outcomes those of the two alone have a trail of all passes, and it is of its making
 passes_of : (inputs : List ℤ) (program : ProgramShape) (command : Command) (outcome : Outcome) (output : List ℕ) → Makes inputs program command outcome output
-    → IfSome (answer_of outcome).trail (IsTrailOf HasPasses (λ (t : Trail). t.source) Optimises IsPassesOutput program command outcome output)
+    → IfSome (reply_of outcome).trail (IsTrailOf HasPasses (λ (t : Trail). t.source) Optimises IsPassesOutput program command outcome output)
 passes_of inputs program _ _ _ (optimised trail source optimises) = (refl, inl refl, source, optimises, (λ _. refl, λ is. absurd (cc)))
 passes_of inputs program _ _ _ (shown trail source optimises text shows) = (refl, inr refl, source, optimises, (λ is. absurd (cc), λ _. shows))
 passes_of inputs program _ _ _ (moved trail source moves) = tt
@@ -60,7 +60,7 @@ passes_of inputs program _ _ _ (compared number units output is) = tt
 
 -- under the two the outcome is one of these, as the others are of other commands
 passes_come : (inputs : List ℤ) (program : ProgramShape) (command : Command) (outcome : Outcome) (output : List ℕ) → Makes inputs program command outcome output
-    → HasPasses command → IsSome (answer_of outcome).trail
+    → HasPasses command → IsSome (reply_of outcome).trail
 passes_come inputs program _ _ _ (optimised trail source optimises) is = refl
 passes_come inputs program _ _ _ (shown trail source optimises text shows) is = refl
 passes_come inputs program _ _ _ (moved trail source moves) (inl is) = absurd (cc)
@@ -71,7 +71,7 @@ passes_come inputs program _ _ _ (compared number units output is_summary) (inl 
 passes_come inputs program _ _ _ (compared number units output is_summary) (inr is) = absurd (cc)
 
 -- so the field `trail` has the trail of both
-pub passes : HasTrails HasPasses (λ (a : Answer). a.trail) (λ (t : Trail). t.source) Optimises IsPassesOutput
+pub passes : HasTrails HasPasses (λ (a : Reply). a.trail) (λ (t : Trail). t.source) Optimises IsPassesOutput
 passes = record { reads = passes_read; empty = λ status. refl; of = passes_of; comes = passes_come }
 
 -- ---- the trail of code motion alone
@@ -86,7 +86,7 @@ IsMotionOutput trail command output = output ≡ canonical_text trail.target
 
 -- of the outcomes that of `move` alone has a trail of code motion, and it is of its making
 motion_of : (inputs : List ℤ) (program : ProgramShape) (command : Command) (outcome : Outcome) (output : List ℕ) → Makes inputs program command outcome output
-    → IfSome (answer_of outcome).moved (IsTrailOf HasMotion (λ (t : MoveTrail). t.source) MovesCode IsMotionOutput program command outcome output)
+    → IfSome (reply_of outcome).moved (IsTrailOf HasMotion (λ (t : MoveTrail). t.source) MovesCode IsMotionOutput program command outcome output)
 motion_of inputs program _ _ _ (optimised trail source optimises) = tt
 motion_of inputs program _ _ _ (shown trail source optimises text shows) = tt
 motion_of inputs program _ _ _ (moved trail source moves) = (refl, refl, source, moves, refl)
@@ -95,7 +95,7 @@ motion_of inputs program _ _ _ (compared number units output is) = tt
 
 -- under `move` the outcome is that one, as the others are of other commands
 motion_comes : (inputs : List ℤ) (program : ProgramShape) (command : Command) (outcome : Outcome) (output : List ℕ) → Makes inputs program command outcome output
-    → command ≡ Move → IsSome (answer_of outcome).moved
+    → command ≡ Move → IsSome (reply_of outcome).moved
 motion_comes inputs program _ _ _ (optimised trail source optimises) is = absurd (cc)
 motion_comes inputs program _ _ _ (shown trail source optimises text shows) is = absurd (cc)
 motion_comes inputs program _ _ _ (moved trail source moves) is = refl
@@ -103,7 +103,7 @@ motion_comes inputs program _ _ _ (ran n runs report reports) is = absurd (cc)
 motion_comes inputs program _ _ _ (compared number units output is_summary) is = absurd (cc)
 
 -- so the field `moved` has the trail of `move`
-pub motion : HasTrails HasMotion (λ (a : Answer). a.moved) (λ (t : MoveTrail). t.source) MovesCode IsMotionOutput
+pub motion : HasTrails HasMotion (λ (a : Reply). a.moved) (λ (t : MoveTrail). t.source) MovesCode IsMotionOutput
 motion = record {
   reads = λ command is. subst (λ (c : Command). IsTrue (reads_text c)) (sym is) refl;
   empty = λ status. refl;
@@ -118,7 +118,7 @@ some_has : {X Q : Type 0} (o : Option X) {P : X → Type 0} → IfSome o P → (
 some_has None is f some = absurd (cc)
 some_has (Some x) is f some = f x is
 
-module _ {T : Type 0} {Own : Command → Type 0} {field : Answer → Option T} {source : T → ProgramShape} {Improved : T → Type 0} {Output : T → Command → List ℕ → Type 0} (has : HasTrails Own field source Improved Output) (call : Call) where
+module _ {T : Type 0} {Own : Command → Type 0} {field : Reply → Option T} {source : T → ProgramShape} {Improved : T → Type 0} {Output : T → Command → List ℕ → Type 0} (has : HasTrails Own field source Improved Output) (call : Call) where
   -- the words are of a command that has such a trail, and what it asks was written
   record IsAsked (trail : T) : Type 0 where
     command : Command
@@ -128,32 +128,32 @@ module _ {T : Type 0} {Own : Command → Type 0} {field : Answer → Option T} {
     is_output : Output trail command output
     written : Gave call.out output
 
-  -- what is promised of a trail with this answer
-  abbrev IsPromised : Answer → T → Type 0
-  IsPromised answer trail = (answer.status ≡ 0) × IsAsked trail × HasRead call.source (source trail) × Improved trail
+  -- what is promised of a trail with this reply
+  abbrev IsPromised : Reply → T → Type 0
+  IsPromised reply trail = (reply.status ≡ 0) × IsAsked trail × HasRead call.source (source trail) × Improved trail
 
-  of_done : (outcome : Outcome) → IsDone call.words call.source call.out outcome → IfSome (field (answer_of outcome)) (IsPromised (answer_of outcome))
+  of_done : (outcome : Outcome) → IsDone call.words call.source call.out outcome → IfSome (field (reply_of outcome)) (IsPromised (reply_of outcome))
   of_done outcome is =
       let made = is.made in
       let worked = made.worked in
-      IfSome_then (field (answer_of outcome)) (has.of (inputs_in call.words) made.program made.command outcome is.output made.made) (λ trail of. (
+      IfSome_then (field (reply_of outcome)) (has.of (inputs_in call.words) made.program made.command outcome is.output made.made) (λ trail of. (
         of.0,
         record { command = made.command; asked = worked.asked; own = of.1; output = is.output; is_output = of.4; written = is.written },
         has_read call.words call.source made.command made.program (source trail) made.text (has.reads made.command of.1) worked.asked worked.read worked.subject of.2,
         of.3,
       ))
 
-  of_refusal : (status : ℕ) → call.answer ≡ refusal_with status → IfSome (field call.answer) (IsPromised call.answer)
-  of_refusal status is = subst (λ (o : Option T). IfSome o (IsPromised call.answer)) (sym (ap field is ∙ has.empty status)) tt
+  of_refusal : (status : ℕ) → call.reply ≡ refusal_with status → IfSome (field call.reply) (IsPromised call.reply)
+  of_refusal status is = subst (λ (o : Option T). IfSome o (IsPromised call.reply)) (sym (ap field is ∙ has.empty status)) tt
 
-  promised_of : EndingCase call → IfSome (field call.answer) (IsPromised call.answer)
-  promised_of (ends_done outcome answered is quiet) = subst (λ (a : Answer). IfSome (field a) (IsPromised a)) (sym answered) (of_done outcome is)
-  promised_of (ends_cut answered is told) = of_refusal 7 answered
-  promised_of (ends_failed answered reads fails silent told) = of_refusal 6 answered
-  promised_of (ends_out_of_memory answered asked silent told) = of_refusal 8 answered
-  promised_of (ends_refused text complaint answered seen refuses silent told) = of_refusal complaint.status answered
+  promised_of : EndingCase call → IfSome (field call.reply) (IsPromised call.reply)
+  promised_of (ends_done outcome replied is quiet) = subst (λ (a : Reply). IfSome (field a) (IsPromised a)) (sym replied) (of_done outcome is)
+  promised_of (ends_cut replied is told) = of_refusal 7 replied
+  promised_of (ends_failed replied reads fails silent told) = of_refusal 6 replied
+  promised_of (ends_out_of_memory replied asked silent told) = of_refusal 8 replied
+  promised_of (ends_refused text complaint replied seen refuses silent told) = of_refusal complaint.status replied
 
-  -- where the words are of this command, the trail of an answer has the output that it asks
+  -- where the words are of this command, the trail of a reply has the output that it asks
   pub record HasOutput (command : Command) (trail : T) : Type 0 where
     pub read : HasRead call.source (source trail)
     pub improves : Improved trail
@@ -161,8 +161,8 @@ module _ {T : Type 0} {Own : Command → Type 0} {field : Answer → Option T} {
     pub is_output : Output trail command output
     pub written : Gave call.out output
 
-  pub trail_has_output : EndingCase call → (command : Command) → Asked call command → IfSome (field call.answer) (HasOutput command)
-  trail_has_output ends command asked = IfSome_then (field call.answer) (promised_of ends) (λ trail is.
+  pub trail_has_output : EndingCase call → (command : Command) → Asked call command → IfSome (field call.reply) (HasOutput command)
+  trail_has_output ends command asked = IfSome_then (field call.reply) (promised_of ends) (λ trail is.
       let made = is.1 in record {
         read = is.2;
         improves = is.3;
@@ -172,12 +172,12 @@ module _ {T : Type 0} {Own : Command → Type 0} {field : Answer → Option T} {
       })
 
   -- where there is a trail, the status is 0, and the words are those of one of its commands
-  pub trail_is_asked : EndingCase call → IsSome (field call.answer) → StatusIs call 0 × ((command : Command) × Asked call command × Own command)
-  trail_is_asked ends some = some_has (field call.answer) (promised_of ends) (λ trail is. (is.0, (is.1.command, is.1.asked, is.1.own))) some
+  pub trail_is_asked : EndingCase call → IsSome (field call.reply) → StatusIs call 0 × ((command : Command) × Asked call command × Own command)
+  trail_is_asked ends some = some_has (field call.reply) (promised_of ends) (λ trail is. (is.0, (is.1.command, is.1.asked, is.1.own))) some
 
   -- where an output of one of its commands was made, there is a trail
-  pub trail_comes : HasMade call → (command : Command) → Asked call command → Own command → IsSome (field call.answer)
+  pub trail_comes : HasMade call → (command : Command) → Asked call command → Own command → IsSome (field call.reply)
   trail_comes made command asked own =
       let output = made.done.made in
-      subst (λ (a : Answer). IsSome (field a)) (sym made.answer)
+      subst (λ (a : Reply). IsSome (field a)) (sym made.reply)
       (has.comes (inputs_in call.words) output.program output.command made.outcome made.done.output output.made (subst Own (same_command command output.command (command_of call.words) asked output.worked.asked) own))

@@ -9,7 +9,7 @@ use Rattle.mir_parse.specs.declared.faults.TextFault.{TextFault}
 use Rattle.mir_parse.specs.Spells.{IsTextRefusal, IsTextMemory}
 use Rattle.mir_valid.specs.declared.faults.ValidFault.{ValidFault}
 use Rattle.mir_valid.specs.Refusals.{IsValidMemory}
-use Rattle.mir_top.specs.declared.answer.Answer.{Answer}
+use Rattle.mir_top.specs.declared.reply.Reply.{Reply}
 use Rattle.mir_top.specs.declared.cause.Cause.{Cause}
 use Rattle.mir_top.specs.declared.cause.Cause.TheVariants.{Usage, Reading, Text, Program, Making}
 use Rattle.mir_top.specs.declared.command.Command.{Command}
@@ -24,23 +24,23 @@ use Rattle.mir_top.specs.Outputs.{Makes, CannotMake}
 use Rattle.mir_top.specs.Streams.{Stream, Untouched, HasFailed, Took, TookAll, Gave, GavePart, Tried}
 use Rattle.mir_top.specs.Texts.{IsInvalid}
 
--- the words of a call, what it did to its source and its outputs, and what it answered
+-- the words of a call, what it did to its source and its outputs, and its reply
 pub record Call : Type 0 where
   pub words : List (List ℕ)
   pub source : Stream
   pub out : Stream
   pub err : Stream
-  pub answer : Answer
+  pub reply : Reply
 
 -- ---- outcomes
 
--- the answer where this was made and written
-abbrev pub answer_of : Outcome → Answer
-answer_of (Optimised trail) = record { status = 0; trail = Some trail; moved = None }
-answer_of (Shown trail) = record { status = 0; trail = Some trail; moved = None }
-answer_of (Moved trail) = record { status = 0; trail = None; moved = Some trail }
-answer_of (Ran finish) = record { status = status_of_finish finish; trail = None; moved = None }
-answer_of Compared = record { status = 0; trail = None; moved = None }
+-- the reply where this was made and written
+abbrev pub reply_of : Outcome → Reply
+reply_of (Optimised trail) = record { status = 0; trail = Some trail; moved = None }
+reply_of (Shown trail) = record { status = 0; trail = Some trail; moved = None }
+reply_of (Moved trail) = record { status = 0; trail = None; moved = Some trail }
+reply_of (Ran finish) = record { status = status_of_finish finish; trail = None; moved = None }
+reply_of Compared = record { status = 0; trail = None; moved = None }
 
 -- the command that the words are works on this program; where it reads the text, this is what was read, to the end
 pub record WorkedOn
@@ -130,15 +130,15 @@ complaint_at_end (Done outcome) = None
 complaint_at_end CutShort = Some write_fault
 complaint_at_end (Prevented cause) = Some (complaint_of cause)
 
--- an answer with this status and no trail
-abbrev pub refusal_with : ℕ → Answer
+-- a reply with this status and no trail
+abbrev pub refusal_with : ℕ → Reply
 refusal_with status = record { status = status; trail = None; moved = None }
 
--- the answer of an ending
-abbrev pub answer_at_end : Ending → Answer
-answer_at_end (Done outcome) = answer_of outcome
-answer_at_end CutShort = refusal_with write_fault.status
-answer_at_end (Prevented cause) = refusal_with (complaint_of cause).status
+-- the reply of a call that ended like this
+abbrev pub reply_at_end : Ending → Reply
+reply_at_end (Done outcome) = reply_of outcome
+reply_at_end CutShort = refusal_with write_fault.status
+reply_at_end (Prevented cause) = refusal_with (complaint_of cause).status
 
 -- the line of the complaint was written, whole unless the error output failed, or nothing where there is no complaint
 abbrev pub WritesLine : Option Complaint → Stream → Type 0
@@ -146,8 +146,8 @@ WritesLine None err = Untouched err
 WritesLine (Some complaint) err = Tried err complaint.line
 
 -- the whole of a call
-pub record Answers (call : Call) : Type 0 where
+pub record HasReplied (call : Call) : Type 0 where
   pub ending : Ending
   pub ended : HasEnded call.words call.source call.out ending
-  pub answered : call.answer ≡ answer_at_end ending
+  pub replied : call.reply ≡ reply_at_end ending
   pub written : WritesLine (complaint_at_end ending) call.err

@@ -11,7 +11,7 @@ use Rattle.mir_trial.specs.Trial.{trial_program}
 use Rattle.mir_top.specs.declared.command.Command.{Command}
 use Rattle.mir_top.specs.declared.command.Command.TheVariants.{Optimise, Stages, Move, Run, Trial}
 use Rattle.mir_top.specs.declared.outcome.Outcome.{Outcome}
-use Rattle.mir_top.specs.Calls.{Call, answer_of, MakesOutput, IsDone, IsCutShort}
+use Rattle.mir_top.specs.Calls.{Call, reply_of, MakesOutput, IsDone, IsCutShort}
 use Rattle.mir_top.specs.Commands.{command_of, inputs_in, Asks, Reads}
 use Rattle.mir_top.specs.Complaints.{Complaint, read_fault, write_fault, out_of_memory}
 use Rattle.mir_top.specs.Due.{IsShortTextOf, Refuses, Completes, status_of_finish}
@@ -44,12 +44,12 @@ abbrev pub IsOnlyMade : (call : Call) (outcome : Outcome) (output : List ℕ)
 IsOnlyMade call outcome output made =
     IsOnlyOutput (inputs_in call.words) made.program made.command output
 
--- the one output that the words ask was made and written, and the answer is that of this outcome
+-- the one output that the words ask was made and written, and the reply is that of this outcome
 pub record HasMade (call : Call) : Type 0 where
   pub outcome : Outcome
   pub done : IsDone call.words call.source call.out outcome
   pub only : IsOnlyMade call outcome done.output done.made
-  pub answer : call.answer ≡ answer_of outcome
+  pub reply : call.reply ≡ reply_of outcome
 
 -- the one output that the words ask was made and a write of it failed, so that a proper prefix of it was written
 pub record HasCutShort (call : Call) : Type 0 where
@@ -84,7 +84,7 @@ pub record HasRun (call : Call) (steps : ℕ) : Type 0 where
   pub program : ProgramShape
   pub read : HasRead call.source program
   pub runs : Runs program (inputs_in call.words) steps
-  pub status : call.answer.status
+  pub status : call.reply.status
       ≡ status_of_finish (reported program (inputs_in call.words) steps).finish
   pub written : Gave call.out (report_text (reported program (inputs_in call.words) steps))
 
@@ -107,23 +107,23 @@ pub record HasRefused (call : Call) : Type 0 where
   pub complaint : Complaint
   pub read : Reads call.words → HasSeen call.source text
   pub refuses : Refuses call.words text complaint
-  pub status : call.answer.status ≡ complaint.status
+  pub status : call.reply.status ≡ complaint.status
   pub written : LineIsWritten call complaint
 
 -- the call ends by this complaint, unless a read fails or memory runs out
 pub record EndsBy (call : Call) (complaint : Complaint) : Type 0 where
-  pub status : Contains (complaint.status ∷ 6 ∷ 8 ∷ []) call.answer.status
-  pub written : call.answer.status ≡ complaint.status → LineIsWritten call complaint
+  pub status : Contains (complaint.status ∷ 6 ∷ 8 ∷ []) call.reply.status
+  pub written : call.reply.status ≡ complaint.status → LineIsWritten call complaint
 
 -- ---- the promises
 
--- the call answered this status
+-- the status of the reply is this one
 abbrev pub StatusIs : Call → ℕ → Type 0
-StatusIs call status = call.answer.status ≡ status
+StatusIs call status = call.reply.status ≡ status
 
--- the call answered one of these statuses
+-- the status of the reply is one of these
 abbrev pub StatusIn : Call → List ℕ → Type 0
-StatusIn call statuses = Contains statuses call.answer.status
+StatusIn call statuses = Contains statuses call.reply.status
 
 -- the words are those of this command
 abbrev pub Asked : Call → Command → Type 0
@@ -137,12 +137,12 @@ pub record Promises (call : Call) : Type 0 where
   -- With the statuses 0, 3 and 4 the one output that the words ask was made, and written, whole and nothing else.
   pub made : StatusIn call (0 ∷ 3 ∷ 4 ∷ []) → HasMade call
   -- A trail comes exactly with status 0 under `optimise` and `stages`, a move trail so under `move`.
-  pub trail : IsSome call.answer.trail
+  pub trail : IsSome call.reply.trail
       ↔ (StatusIs call 0 × (Asked call Optimise ⊎ Asked call Stages))
-  pub optimised : Asked call Optimise → IfSome call.answer.trail (HasOptimised call)
-  pub stages : Asked call Stages → IfSome call.answer.trail (HasShown call)
-  pub moved : IsSome call.answer.moved ↔ (StatusIs call 0 × Asked call Move)
-  pub moves : IfSome call.answer.moved (HasMoved call)
+  pub optimised : Asked call Optimise → IfSome call.reply.trail (HasOptimised call)
+  pub stages : Asked call Stages → IfSome call.reply.trail (HasShown call)
+  pub moved : IsSome call.reply.moved ↔ (StatusIs call 0 × Asked call Move)
+  pub moves : IfSome call.reply.moved (HasMoved call)
   -- Under `run` the statuses 0, 3 and 4 say how the run stands; 3 and 4 come under `run` alone.
   pub reports : (steps : ℕ) → Asked call (Run steps) → StatusIn call (0 ∷ 3 ∷ 4 ∷ [])
       → HasRun call steps
@@ -168,11 +168,11 @@ pub record Promises (call : Call) : Type 0 where
   -- Nothing is written to `out` with 1, 2, 5, 6 and 8, and nothing to `err` with 0, 3 and 4.
   pub silent : StatusIn call (1 ∷ 2 ∷ 5 ∷ 6 ∷ 8 ∷ []) → Untouched call.out
   pub quiet : StatusIn call (0 ∷ 3 ∷ 4 ∷ []) → Untouched call.err
-  pub statuses : call.answer.status ≤ 8
+  pub statuses : call.reply.status ≤ 8
   -- Where an output is due, it comes with its status, unless a device fails or memory runs out.
   pub complete : (text : List ℕ) (status : ℕ) → HasText call text
       → Completes call.words text status → StatusIn call (status ∷ 6 ∷ 7 ∷ 8 ∷ [])
 
--- a call with these words, of which all this holds, answered this status
+-- a call with these words, of which all this holds, ended with this status
 abbrev pub IsStatusOfCall : List (List ℕ) → ℕ → Type 0
 IsStatusOfCall words status = (call : Call) × (call.words ≡ words) × Promises call × StatusIs call status

@@ -21,8 +21,8 @@ stream_of bytes faults old new = record {
 }
 
 -- a stream in which no fault occurs, so that its count of faults is always 0
-abbrev pub calm : Option (List ℕ) → Option (List ℕ) → Stream
-calm old new = record { old = old; new = new; before = 0; after = 0 }
+abbrev pub without_fault : Option (List ℕ) → Option (List ℕ) → Stream
+without_fault old new = record { old = old; new = new; before = 0; after = 0 }
 
 -- the bytes and the count are as before the call
 abbrev pub Untouched : Stream → Type 0

@@ -2,14 +2,14 @@
 ghost use Rattle.std.specs.Prelude.{◌≡◌, ◌+◌};
 ghost use Rattle.mir_base.specs.Limits.{most_bytes};
 ghost use Rattle.mir_outside.specs.Transfer.{TakesAtMost};
-ghost use Rattle.mir_top.specs.Calls.{answer_at_end, complaint_at_end, refusal_with, HasEnded, WritesLine};
+ghost use Rattle.mir_top.specs.Calls.{reply_at_end, complaint_at_end, refusal_with, HasEnded, WritesLine};
 ghost use Rattle.mir_top.specs.Promises.{Promises};
 ghost use Rattle.mir_top.specs.Commands.{word_bytes, Reads};
 ghost use Rattle.mir_top.specs.Streams.{stream_of, Untouched};
 
 use crate::complaint::{complain, complain_of_write};
 use crate::work::prepare;
-use crate::{Answer, Ending, text_has_one_reading};
+use crate::{Ending, Reply, text_has_one_reading};
 use mir_outside::{Sink, Source, write_all};
 use std::alloc::Global;
 
@@ -21,7 +21,7 @@ use std::alloc::Global;
 /// The words are judged before anything is read, the text before anything is made of its program, and all of the output
 /// is made before anything is written. What is read and made does not see `out` and `err`, and what writes is given the
 /// bytes and the sink alone: so a fault of `err` changes neither the status nor the output, and once writing has begun
-/// no memory is taken.
+/// nothing is allocated.
 ///
 /// `specs/Promises.antt` says what is promised of a call, `specs/Due.antt` what is due for which words and text, and
 /// `specs/Complaints.antt` has the statuses and lines.
@@ -31,13 +31,13 @@ pub fn top<S: Source, K: Sink, E: Sink>(
     source: &mut S,
     out: &mut K,
     err: &mut E,
-) -> Answer
+) -> Reply
     ensures { Promises (record {
       words = word_bytes words.now;
       source = stream_of S.left S.faults source.old source.new;
       out = stream_of K.written K.faults out.old out.new;
       err = stream_of E.written E.faults err.old err.new;
-      answer = result;
+      reply = result;
     }) }
 {
     // Has no effect; carries the theorem that a text is that of one program or is refused for one cause.
@@ -69,25 +69,25 @@ fn attempt<S: Source, K: Sink>(
     }
 }
 
-/// The answer of a call that ended like this. A complaint is written to the error output, which does not allocate; the
-/// answer is the same whatever the error output does.
-fn conclude<E: Sink>(ending: Ending, err: &mut E) -> Answer
-    ensures answer { result ≡ answer_at_end ending }
+/// The reply of a call that ended like this. A complaint is written to the error output, which does not allocate; the
+/// reply is the same whatever the error output does.
+fn conclude<E: Sink>(ending: Ending, err: &mut E) -> Reply
+    ensures reply { result ≡ reply_at_end ending }
     ensures told { WritesLine (complaint_at_end ending)
         (stream_of E.written E.faults err.old err.new) }
 {
     match ending {
-        Ending::Done(outcome) => outcome.answer(),
+        Ending::Done(outcome) => outcome.reply(),
         Ending::CutShort => refusal(complain_of_write(err)),
         Ending::Prevented(cause) => refusal(complain(&cause, err)),
     }
 }
 
-/// The answer without a trail, with this status.
-fn refusal(status: u8) -> Answer
+/// The reply without a trail, with this status.
+fn refusal(status: u8) -> Reply
     ensures { result ≡ refusal_with status }
 {
-    Answer {
+    Reply {
         status,
         trail: None,
         moved: None,

@@ -6,7 +6,7 @@ ghost use Rattle.mir_base.specs.Words.{is_text};
 ghost use Rattle.mir_top.specs.Commands.{command_of, alone_of, run_of, trial_of, trial_with, at_most, step_count, is_input, input_value, inputs_in, word_bytes};
 
 use mir_base::{MOST_STEPS, MOST_UNITS, Memory, is_text};
-use mir_lex::{number, unsigned};
+use mir_lex::{signed, unsigned};
 use std::alloc::Global;
 
 /// What the words ask for.
@@ -52,7 +52,7 @@ impl Command {
 }
 
 /// The inputs that the words of a run give. It fails only with `Memory`.
-pub fn inputs(alloc: Global, words: &[String]) -> Result<Vec<i64>, Memory>
+pub(crate) fn inputs(alloc: Global, words: &[String]) -> Result<Vec<i64>, Memory>
     ensures { IfOk result (λ inputs. inputs.items ≡ inputs_in (word_bytes words.now)) }
 {
     match words {
@@ -68,7 +68,7 @@ fn numbers(alloc: Global, words: &[String]) -> Result<Vec<i64>, Memory>
 {
     let mut numbers = Vec::new(alloc);
     for word in words {
-        numbers.push(number(word.as_bytes()).unwrap_or(0))?;
+        numbers.push(signed(word.as_bytes()).unwrap_or(0))?;
     }
     Ok(numbers)
 }
@@ -158,7 +158,7 @@ fn are_numbers(words: &[String]) -> bool
     ensures { result ≡ list_all is_input (word_bytes words.now) }
 {
     for word in words {
-        if number(word.as_bytes()).is_none() {
+        if signed(word.as_bytes()).is_none() {
             return false;
         }
     }

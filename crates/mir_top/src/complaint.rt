@@ -24,7 +24,7 @@ struct ComplaintParts {
 }
 
 /// Writes the line of the complaint of this cause, and returns its status. It does not allocate.
-pub fn complain<E: Sink>(cause: &Cause, err: &mut E) -> u8
+pub(crate) fn complain<E: Sink>(cause: &Cause, err: &mut E) -> u8
     ensures status { result ≡ (complaint_of cause.now).status }
     ensures told { Tried (stream_of E.written E.faults err.old err.new)
         (complaint_of cause.now).line }
@@ -35,7 +35,7 @@ pub fn complain<E: Sink>(cause: &Cause, err: &mut E) -> u8
 }
 
 /// Writes the line that says that a write failed, and returns the status. It does not allocate.
-pub fn complain_of_write<E: Sink>(err: &mut E) -> u8
+pub(crate) fn complain_of_write<E: Sink>(err: &mut E) -> u8
     ensures status { result ≡ write_fault.status }
     ensures told { Tried (stream_of E.written E.faults err.old err.new) write_fault.line }
 {
@@ -91,25 +91,6 @@ fn plain(status: u8, text: &'static [u8]) -> ComplaintParts
         before: text,
         number: None,
         after: b"",
-    }
-}
-
-/// The complaint that memory ran out.
-fn out_of_memory() -> ComplaintParts
-    ensures { ArePartsOf out_of_memory result }
-{
-    plain(8, b"out of memory\n")
-}
-
-/// What is wrong with a text at a line of it.
-fn at(line: usize, what: &'static [u8]) -> ComplaintParts
-    ensures { ArePartsOf (refused_at line what.now) result }
-{
-    ComplaintParts {
-        status: 2,
-        before: b"line ",
-        number: Some(line),
-        after: what,
     }
 }
 
@@ -206,5 +187,24 @@ fn of_making(fault: &RunFault) -> ComplaintParts
         },
         RunFault::Deep => plain(5, b"deep: more than 10000 frames\n"),
         RunFault::Memory(_) => out_of_memory(),
+    }
+}
+
+/// The complaint that memory ran out.
+fn out_of_memory() -> ComplaintParts
+    ensures { ArePartsOf out_of_memory result }
+{
+    plain(8, b"out of memory\n")
+}
+
+/// What is wrong with a text at a line of it.
+fn at(line: usize, what: &'static [u8]) -> ComplaintParts
+    ensures { ArePartsOf (refused_at line what.now) result }
+{
+    ComplaintParts {
+        status: 2,
+        before: b"line ",
+        number: Some(line),
+        after: what,
     }
 }

@@ -83,8 +83,8 @@ pub fn status_of<S: Source, K: Sink>(
     out: &mut K,
     err: &mut MemSink,
 ) -> u8 {
-    let answer = top(alloc, words, source, out, err);
-    answer.status
+    let reply = top(alloc, words, source, out, err);
+    reply.status
 }
 
 /// A text that has the same piece so many times, between a start and an end.

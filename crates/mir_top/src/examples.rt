@@ -97,7 +97,7 @@ main: begin
 print 7
 return 1
 end
-# the least number by -1 has a quotient and a rest
+# the least number by -1 has a quotient and a remainder
 main: begin
 m <- -9223372036854775808
 n <- 0 - 1

@@ -1,14 +1,15 @@
 // Broken texts, odd graphs and devices that fail: one table of calls, and what each of them leaves.
-use crate::calm_top;
 use crate::devices::{
     Devices, NO_FAULT, SMALLEST, SMALLEST_OUTPUT, Seen, call, owned, repeated, sink, source,
     status_of,
 };
+use crate::faultless_top;
 use crate::hostile::Given::{
-    Bytes, Calm, Front, InterruptedRead, InterruptedWrite, Lines, Name, Reads, Text, Units, Writes,
+    Bytes, Faultless, Front, InterruptedRead, InterruptedWrite, Lines, Name, Reads, Text, Units,
+    Writes,
 };
 use crate::hostile::Left::{All, Bad, Line, Output, Part, Refused, Same};
-use mir_outside::{CalmSink, CalmSource, MemSink, StdSink, StdSource};
+use mir_outside::{FaultlessSink, FaultlessSource, MemSink, StdSink, StdSource};
 use std::alloc::{AllocError, Global};
 use std::io;
 use std::io::{ErrorKind, Read, Write};
@@ -42,7 +43,7 @@ enum Given {
     /// The smallest program; a signal interrupts each write to the output.
     InterruptedWrite,
     /// This text, from a source that never fails to a sink that never fails and keeps nothing.
-    Calm(&'static [u8]),
+    Faultless(&'static [u8]),
 }
 
 /// What a case leaves.
@@ -101,7 +102,7 @@ const CASES: [Case; 24] = [
     (InterruptedRead, Line(6, b"read fault\n")),
     (InterruptedWrite, Line(7, b"write fault\n")),
     // Devices that never fail.
-    (Calm(MOST_FORMS), Output(b"")),
+    (Faultless(MOST_FORMS), Output(b"")),
 ];
 
 /// Cases of other commands: a loop that is entered at two places, and a trial, which reads nothing, and whose writes
@@ -231,7 +232,7 @@ impl Given {
             }
             Given::Front(text, ..) => text.get(..number as usize).unwrap_or(text).to_vec(alloc),
             Given::Lines(text, ..) => text.to_vec(alloc),
-            Given::Calm(text) => text.to_vec(alloc),
+            Given::Faultless(text) => text.to_vec(alloc),
             _ => SMALLEST.to_vec(alloc),
         }
     }
@@ -264,7 +265,7 @@ impl Given {
         match self {
             Given::InterruptedRead => seen_at_interrupted_read(alloc, words),
             Given::InterruptedWrite => seen_at_interrupted_write(alloc, words, text),
-            Given::Calm(_) => seen_by_calm_devices(alloc, words, text),
+            Given::Faultless(_) => seen_by_faultless_devices(alloc, words, text),
             _ => call(alloc, words, text, self.devices(number)),
         }
     }
@@ -351,17 +352,22 @@ fn seen_at_interrupted_write(alloc: Global, words: &str, text: &[u8]) -> Result<
 }
 
 /// What a call over devices that never fail leaves; of its output nothing is kept.
-fn seen_by_calm_devices(alloc: Global, words: &str, text: &[u8]) -> Result<Seen, AllocError> {
+fn seen_by_faultless_devices(alloc: Global, words: &str, text: &[u8]) -> Result<Seen, AllocError> {
     let words = owned(alloc, words)?;
-    let mut source = CalmSource::new(text.to_vec(alloc)?);
+    let mut source = FaultlessSource::new(text.to_vec(alloc)?);
     let out = sink(alloc, 1, 0, 0)?;
     let mut err = sink(alloc, 1, 0, 100)?;
-    let status = calm_status(alloc, &words, &mut source, &mut err);
+    let status = faultless_status(alloc, &words, &mut source, &mut err);
     Ok(Seen { status, out, err })
 }
 
 /// The status of a call over devices that never fail.
-fn calm_status(alloc: Global, words: &[String], source: &mut CalmSource, err: &mut MemSink) -> u8 {
-    let answer = calm_top(alloc, words, source, &mut CalmSink::new(), err);
-    answer.status
+fn faultless_status(
+    alloc: Global,
+    words: &[String],
+    source: &mut FaultlessSource,
+    err: &mut MemSink,
+) -> u8 {
+    let reply = faultless_top(alloc, words, source, &mut FaultlessSink::new(), err);
+    reply.status
 }

@@ -5,12 +5,10 @@
 //! error output, a status, and the programs that were read and made. The theorem is on `top`: what is written is the
 //! canonical text of a program that is the same as the one that was read, and whose code motion evaluates nothing more
 //! often on any full path than an admissible placement does, or that of the program at each stage on the way to it, or
-//! the report of its run; and every other answer has its cause.
+//! the report of its run; and every other reply has its cause.
 #![tactic(auto)]
 
-mod answer;
 mod call;
-mod calm;
 mod cause;
 mod command;
 mod complaint;
@@ -19,6 +17,7 @@ mod devices;
 mod ending;
 #[cfg(test)]
 mod examples;
+mod faultless;
 #[cfg(test)]
 mod hostile;
 mod laws;
@@ -28,6 +27,7 @@ mod motion_examples;
 mod outcome;
 #[cfg(test)]
 mod refusals;
+mod reply;
 mod report_text;
 #[cfg(test)]
 mod run_examples;
@@ -39,11 +39,11 @@ mod tests;
 mod trial;
 mod work;
 
-pub use answer::Answer;
 pub use call::top;
-pub use calm::calm_top;
 pub use cause::Cause;
 pub use command::Command;
 pub use ending::Ending;
+pub use faultless::faultless_top;
 pub use laws::{one_thing_is_due, text_has_one_reading};
 pub use outcome::Outcome;
+pub use reply::Reply;

@@ -20,15 +20,15 @@ use std::alloc::Global;
 
 /// What was made of a program, with the bytes that are to be written.
 #[derive(Drop)]
-pub struct Made {
+pub(crate) struct Made {
     /// What was made.
-    pub outcome: Outcome,
+    pub(crate) outcome: Outcome,
     /// The bytes that are to be written.
-    pub output: Vec<u8>,
+    pub(crate) output: Vec<u8>,
 }
 
 /// What the command makes of the program. The words are those of the command, for the inputs of a run.
-pub fn make(
+pub(crate) fn make(
     alloc: Global,
     command: Command,
     words: &[String],
@@ -87,7 +87,7 @@ fn optimised(alloc: Global, program: &Program) -> Result<(Trail, Vec<u8>), Memor
 }
 
 /// What the passes make of the program.
-pub fn trail_of(alloc: Global, program: &Program) -> Result<Trail, Memory>
+pub(crate) fn trail_of(alloc: Global, program: &Program) -> Result<Trail, Memory>
     ensures source { IfOk result (λ trail. trail.source ≡ program.now) }
     ensures optimises { IfOk result Optimises }
     ensures keeps { IfOk result (λ trail. KeepsProgram program.now trail.target) }

@@ -1,9 +1,9 @@
 // What was made of a program.
 ghost use Rattle.std.specs.Prelude.{◌≡◌};
-ghost use Rattle.mir_top.specs.Calls.{answer_of};
+ghost use Rattle.mir_top.specs.Calls.{reply_of};
 ghost use Rattle.mir_top.specs.Due.{status_of_finish};
 
-use crate::Answer;
+use crate::Reply;
 use mir_interp::Finish;
 use mir_opt::{MoveTrail, Trail};
 
@@ -23,32 +23,32 @@ pub enum Outcome {
 }
 
 impl Outcome {
-    /// The answer of a call with this outcome.
-    pub fn answer(self) -> Answer
-        ensures { result ≡ answer_of self }
+    /// The reply of a call with this outcome. It does not allocate.
+    pub fn reply(self) -> Reply
+        ensures { result ≡ reply_of self }
     {
         match self {
-            Outcome::Optimised(trail) => Answer {
+            Outcome::Optimised(trail) => Reply {
                 status: 0,
                 trail: Some(trail),
                 moved: None,
             },
-            Outcome::Shown(trail) => Answer {
+            Outcome::Shown(trail) => Reply {
                 status: 0,
                 trail: Some(trail),
                 moved: None,
             },
-            Outcome::Moved(trail) => Answer {
+            Outcome::Moved(trail) => Reply {
                 status: 0,
                 trail: None,
                 moved: Some(trail),
             },
-            Outcome::Ran(finish) => Answer {
+            Outcome::Ran(finish) => Reply {
                 status: status_of_finish(finish),
                 trail: None,
                 moved: None,
             },
-            Outcome::Compared => Answer {
+            Outcome::Compared => Reply {
                 status: 0,
                 trail: None,
                 moved: None,

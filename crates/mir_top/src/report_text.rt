@@ -9,7 +9,7 @@ use mir_interp::{Finish, Report};
 use std::alloc::Global;
 
 /// The printed numbers, one a line, then how the run stands, then its evaluations.
-pub fn text_of_report(alloc: Global, report: &Report) -> Result<Vec<u8>, Memory>
+pub(crate) fn text_of_report(alloc: Global, report: &Report) -> Result<Vec<u8>, Memory>
     ensures { IfOk result (λ text. text.items ≡ report_text report.now) }
 {
     let mut text = Vec::new(alloc);

@@ -1,7 +1,6 @@
 // The texts of the stages.
 ghost use Rattle.std.specs.Prelude.{◌++◌, codes, IfOk, OnOk};
 ghost use Rattle.mir_base.specs.Appending.{AppendsOnOk};
-ghost use Rattle.mir_base.specs.Shapes.{IsProgram};
 ghost use Rattle.mir_base.specs.Text.{canonical_text};
 ghost use Rattle.mir_opt.specs.Stages.{AllKeep, graph_at};
 ghost use Rattle.mir_top.specs.StageTexts.{AppendsStage, AppendsStages, ShowsStages, stage_name, title};
@@ -14,7 +13,7 @@ use std::alloc::Global;
 
 /// The text of the source, and then, for each stage, that of the program whose units are the layouts of the graphs of
 /// the stage, each behind a line with its name. It fails only with `Memory`.
-pub fn text_of_stages(alloc: Global, trail: &Trail) -> Result<Vec<u8>, Memory>
+pub(crate) fn text_of_stages(alloc: Global, trail: &Trail) -> Result<Vec<u8>, Memory>
     requires { AllKeep graph_at trail.now.source.units trail.now.units }
     ensures { IfOk result (λ text. ShowsStages trail.now text.items) }
 {
@@ -56,17 +55,11 @@ fn put_stage(alloc: Global, text: &mut Vec<u8>, trail: &Trail, stage: Stage) -> 
     ensures { OnOk result (AppendsStage trail.now stage text.old text.new) }
 {
     let program = stage_program(alloc, trail, stage)?;
-    fits_together(&program);
+    // Has no effect; hands on that the units of a program fit together, which is its invariant.
+    let _ = &program.units;
     put_title(text, stage)?;
     put_program(alloc, text, &program)?;
     Ok(())
-}
-
-/// Has no effect; carries the theorem that the units of a program fit together, which is its invariant.
-fn fits_together(program: &Program)
-    ensures { IsProgram program.now.units }
-{
-    let _ = &program.units;
 }
 
 /// Appends the line with the name of a stage.

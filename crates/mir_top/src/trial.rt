@@ -19,7 +19,7 @@ use std::alloc::{AllocError, Global};
 
 /// The summary of the program and of what the passes make of it: how many instructions both have, what the trial's runs
 /// of both evaluate, and how many numbers that of the program prints. It fails only with `Memory`.
-pub fn trial(alloc: Global, program: &Program) -> Result<Vec<u8>, Memory>
+pub(crate) fn trial(alloc: Global, program: &Program) -> Result<Vec<u8>, Memory>
     requires { CanBeTried program.now }
     ensures { IfOk result (λ output. IsSummary program.now output.items) }
 {

@@ -18,7 +18,11 @@ use mir_valid::check;
 use std::alloc::Global;
 
 /// Makes the output that the words ask, or answers why there is none. It is given no sink, so nothing is written yet.
-pub fn prepare<S: Source>(alloc: Global, words: &[String], source: &mut S) -> Result<Made, Cause>
+pub(crate) fn prepare<S: Source>(
+    alloc: Global,
+    words: &[String],
+    source: &mut S,
+) -> Result<Made, Cause>
     ensures most { TakesAtMost (S.left source.old) (S.left source.new) (most_bytes + 1) }
     ensures unread { ¬ Reads (word_bytes words.now) →
         Untouched (stream_of S.left S.faults source.old source.new) }

@@ -11,11 +11,11 @@ returns g c =
       source = stream_of g.S.Source.left g.S.Source.faults c.args.source.now c.attempt-ending.new.source;
       out = stream_of g.K.Sink.written g.K.Sink.faults c.args.out.now c.attempt-ending.new.out;
       err = stream_of g.E.Sink.written g.E.Sink.faults c.args.err.now c.conclude.new.err;
-      answer = c.conclude.result;
+      reply = c.conclude.result;
     } in
     promised c.text_has_one_reading.ensures call c.attempt-ending.ensures.most c.attempt-ending.ensures.unread (record {
       ending = c.attempt-ending.result;
       ended = c.attempt-ending.ensures.ended;
-      answered = c.conclude.ensures.answer;
+      replied = c.conclude.ensures.reply;
       written = c.conclude.ensures.told;
     })

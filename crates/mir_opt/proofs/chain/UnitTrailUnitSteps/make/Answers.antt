@@ -30,7 +30,7 @@ returns c =
     stay_trans values.folded.nodes values.copied.nodes back.swept.nodes front.values.copied_divides (stay_trans values.copied.nodes code.moved.nodes back.swept.nodes c.in_ok-code.ensures.divides after.divides) in
     record {
       linked = record { start = front.start.start; front = front.values.values; motion = c.in_ok-code.ensures.motion; back = after.back };
-      best = record { moves = c.in_ok-code.ensures.best; divisions = record { cleans = front.start.divides; folds = front.values.folded_divides; rest = rest } };
+      best = record { moves = c.in_ok-code.ensures.best; divisions = record { cleans = front.start.divides; folds = front.values.folded_divides; keeps = rest } };
       keeps = elim [
         | Lower ↦ keep 0 source (omega arith)
         | Clean ↦ keep 1 source (omega arith)

@@ -1,6 +1,6 @@
 use Rattle.std.proofs.Common.{inl, inr, arith}
 use Rattle.mir_outside.specs.Causes.{Rose}
-use Rattle.mir_top.proofs.calm.calm_top.Goals as goal
+use Rattle.mir_top.proofs.faultless.faultless_top.Goals as goal
 
 -- a count that is always 0 neither rises nor is saturated
 no_fault : Rose 0 0 → ⊥

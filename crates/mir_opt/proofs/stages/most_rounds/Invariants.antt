@@ -1,6 +1,0 @@
-use Rattle.std.proofs.Common.{◌≡◌, take}
-use Rattle.mir_opt.specs.Stages.{most_rounds}
-use Rattle.mir_opt.proofs.stages.most_rounds.Given as goal
-
-abbrev pub invariant-loop-unit : goal.invariant-loop-unit
-invariant-loop-unit l = l.most ≡ most_rounds (take l.unit-index l.units)
