@@ -1,7 +1,12 @@
 #!/usr/bin/env python3
 """Counts, over all crates, what the house rules of CONTRIBUTING.md ask to be none: lines of clauses over 100 columns,
 files over 600 lines, functions, definitions and lemmas with no comment above them, files of specs/ with no head, public
-names of specs/ that stand in two files, and must-fail edits whose text does not stand once or that give no reason.
+names of two things, and must-fail edits whose text does not stand once or that give no reason.
+
+Names of two things are those of specs/ that stand in two files, and those of types and functions that two crates
+export, or that one exports as a type and another has in its specs/. Not counted: a function with the name of a word of
+specs/, which says what that function answers; a law without parameters, which says of its crate's own subject what one
+of the same name says of another; methods; and aliases of types.
 
 `bench/counts.py NAME ..` lists the places in these crates; with no name it prints the numbers alone."""
 import os
@@ -11,6 +16,7 @@ import sys
 CLAUSE = re.compile(r"(requires|ensures|ghost (?!use))\b")
 FUNCTION = re.compile(r"(pub(\(\w+\))? )?(const )?fn \w+")
 DEFINITION = re.compile(r"(abbrev pub|pub abbrev|pub record|pub data|abbrev|record|data)\s+([\w']+)")
+EXPORTED = re.compile(r"pub (struct|enum|trait|(?:const )?fn) (\w+)(?!\w|\(\)$)")
 LEMMA = re.compile(r"(pub )?([A-Za-z_][\w']*) ?[:({]")
 WRITTEN_BY_THE_TOOLCHAIN = ("Answers.antt", "Invariants.antt", "Proof.antt", "Lib.antt")
 
@@ -60,6 +66,17 @@ def of_logic(path, lines):
             yield "lemmas with no comment", path, f"{number}: {line}"
 
 
+def exported(crate):
+    """The types and functions that other crates can name: each name with its file, and whether it is a type."""
+    root = f"crates/{crate}/src/lib.rt"
+    files_of_code = list(files(crate, "src", ".rt"))
+    named = re.findall(r"^pub use [^;]+;", "\n".join(dict(files_of_code).get(root, [])), re.M)
+    for path, lines in files_of_code:
+        for match in filter(None, map(EXPORTED.match, lines)):
+            if path == root or match[2] in re.findall(r"\w+", " ".join(named)):
+                yield match[2], path, not match[1].endswith("fn")
+
+
 def of_edits(crate):
     """What is found in the must-fail edits."""
     folder = f"crates/{crate}/must-fail"
@@ -100,14 +117,19 @@ def main():
                 match = DEFINITION.match(line)
                 if match and "pub" in match[1]:
                     names.setdefault(match[2], set()).add(path)
-    for name, paths in sorted(names.items()):
+    exports = {}
+    for crate in crates:
+        for name, path, is_type in exported(crate):
+            elsewhere = {other for other in names.get(name, ()) if is_type and not other.startswith(f"crates/{crate}/")}
+            exports.setdefault(name, set()).update({path}, elsewhere)
+    for name, paths in sorted([*names.items(), *exports.items()]):
         if len(paths) > 1:
-            found.append(("definitions of one name", " ".join(sorted(paths)), name))
+            found.append(("names of two things", " ".join(sorted(paths)), name))
     if sys.argv[1:]:
         for kind, path, text in found:
             print(f"{kind}: {path}:{text}"[:160])
     kinds = ("clauses over 100 columns", "functions with no comment", "definitions with no comment")
-    kinds += ("lemmas with no comment", "specs files with no head", "definitions of one name", "long files")
+    kinds += ("lemmas with no comment", "specs files with no head", "names of two things", "long files")
     for kind in (*kinds, "edits with no reason", "edits that do not apply"):
         print(f"{sum(1 for it in found if it[0] == kind):5} {kind}")
 
