@@ -6,6 +6,7 @@
 
 ghost use Rattle.mir_base.specs.Runs.{Cheaper, Follows, Same};
 ghost use Rattle.mir_sim.specs.Calls.{CallsHigher, CallsNoMore, HasFewFrames};
+ghost use Rattle.mir_sim.specs.Machines.{Shallower};
 ghost use Rattle.mir_sim.specs.Pairs.{AllUnitsCheaper, AllUnitsFollow, AllUnitsSame};
 
 use mir_base::Program;
@@ -16,14 +17,17 @@ mod tests;
 /// Has no effect; carries the theorem that where two programs have equally many units, and the units of each number
 /// receive equally many arguments and do the same, for all arguments and all answers to their calls, the programs are
 /// the same. Where each unit of the second besides evaluates no more operators than the first's, the second program
-/// evaluates no more operators on any inputs on which both end. It does not allocate.
+/// evaluates no more operators on any inputs on which both end. The second never has more frames than the first has had
+/// at some time. It does not allocate.
 pub fn lift(first: &Program, second: &Program)
     requires units { AllUnitsSame first.now second.now }
     ensures same { Same first.now second.now }
     ensures cheaper { AllUnitsCheaper first.now second.now → Cheaper first.now second.now }
+    ensures shallower { Shallower first.now second.now }
 {
-    // The proof needs that there is a first unit, which each program keeps as its invariant.
+    // The proof needs that there is a first unit, and that calls fit, which each program keeps as its invariant.
     let _ = &first.units;
+    let _ = &second.units;
     follow(first, second);
     follow(second, first);
     count(first, second);

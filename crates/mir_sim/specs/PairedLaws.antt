@@ -1,5 +1,7 @@
 -- One stack of frames follows another, where each frame of the one follows the frame of the other at the same height.
-use Rattle.std.proofs.Common.{◌≡◌, ℕ, zero, suc, ◌+◌, ◌≤◌, List, [], ◌∷◌, ℤ, Option, refl, sym, ap, ◌∙◌, subst, arith, add-zero}
+-- For proofs only.
+use Rattle.std.proofs.Common.{◌≡◌, ℕ, zero, suc, ◌+◌, ◌≤◌, List, [], ◌∷◌, length, ℤ, Option, refl, sym, ap, ◌∙◌, subst, arith, add-zero}
+use Rattle.std.specs.Prelude.{max}
 use Rattle.mir_base.specs.declared.operators.Trap.{Trap}
 use Rattle.mir_base.specs.Frames.{CallEntry, Answer, Frame, first_frame, resumed, Transition, Continues, Prints, Calls, Returns, Traps, Code}
 use Rattle.mir_base.specs.Runs.{Caller, Control, Running, Ended, Stopped, State, returned, state_after, step, steps}
@@ -7,7 +9,7 @@ use Rattle.mir_base.specs.UnitRuns.{Printed, Called, Returned, Trapped, IsCallAn
 use Rattle.mir_base.specs.Simulations.{Silently}
 use Rattle.mir_base.specs.RunLaws.{steps_add}
 use Rattle.mir_base.specs.FrameLaws.{FrameFits, resumed_fits}
-use Rattle.mir_sim.proofs.Follows.{Shows, catches_up, pair_on_left, pair_on_right, pair_after_prints, pair_after_call, pair_at_return, Pair}
+use Rattle.mir_sim.specs.FollowLaws.{Shows, catches_up, pair_on_left, pair_on_right, pair_after_prints, pair_after_call, pair_at_return, Pair}
 
 -- ---- the only transitions that show an event
 
@@ -96,9 +98,10 @@ MatchControl Q codes codes' (Ended v) (Ended w) E E' = (v ≡ w) × (Q → E' �
 MatchControl Q codes codes' (Stopped k) (Stopped l) E E' = k ≡ l
 MatchControl Q codes codes' _ _ E E' = ⊥
 
--- equal prints, and matching stacks
+-- equal prints, as many frames at most, and matching stacks
 pub record MatchState (Q : Type 0) (codes codes' : ℕ → Code) (s t : State) : Type 0 where
   pub prints : s.printed ≡ t.printed
+  pub depth : s.depth ≡ t.depth
   pub control : MatchControl Q codes codes' s.control t.control s.counted t.counted
 
 -- ---- steps of a stack
@@ -141,6 +144,13 @@ module _ (Q : Type 0) (codes codes' : ℕ → Code) (Callable : ℕ → CallEntr
         below = more_counted ps qs m.others m.others' a b h m.below;
       }
 
+  -- matching stacks are equally high
+  same_height : (ps qs : List Caller) (A A' : ℕ) → MatchCallers Q codes codes' ps qs A A' → length ps ≡ length qs
+  same_height [] [] A A' m = refl
+  same_height [] (q ∷ qs) A A' m = absurd m
+  same_height (p ∷ ps) [] A A' m = absurd m
+  same_height (p ∷ ps) (q ∷ qs) A A' m = ap suc (same_height ps qs m.others m.others' m.below)
+
   returns_alike : (answer : Answer) → IsCallAnswer answer → (ps qs : List Caller) (E E' : ℕ) → MatchCallers Q codes codes' ps qs E E' → MatchControl Q codes codes' (returned answer ps) (returned answer qs) E E'
   returns_alike answer is [] [] E E' m = (refl, m)
   returns_alike answer is [] (q ∷ qs) E E' m = absurd m
@@ -153,34 +163,37 @@ module _ (Q : Type 0) (codes codes' : ℕ → Code) (Callable : ℕ → CallEntr
   matches_after s printed u k g h n qs E D t silent is done = (k + 1, subst (MatchState Q codes codes' s) (sym (then_step codes' u k g h n silent t is printed qs E D)) done)
 
   -- one step of the first stack: some number of steps of the second match it
-  one_transition : (printed : List ℤ) (u : ℕ) (f : Frame) (ps : List Caller) (u' : ℕ) (g : Frame) (qs : List Caller) (E E' D D' : ℕ) (t : Transition) → codes u f ≡ t → MatchRunning Q codes codes' u f ps u' g qs E E' → (k : ℕ) × MatchState Q codes codes' (state_after u ps t (state printed (Running u f ps) E D)) (steps codes' k (state printed (Running u' g qs) E' D'))
-  one_transition printed u f ps u' g qs E E' D D' (Continues n next) is m =
+  one_transition : (printed : List ℤ) (u : ℕ) (f : Frame) (ps : List Caller) (u' : ℕ) (g : Frame) (qs : List Caller) (E E' D : ℕ) (t : Transition) → codes u f ≡ t → MatchRunning Q codes codes' u f ps u' g qs E E' → (k : ℕ) × MatchState Q codes codes' (state_after u ps t (state printed (Running u f ps) E D)) (steps codes' k (state printed (Running u' g qs) E' D))
+  one_transition printed u f ps u' g qs E E' D (Continues n next) is m =
       let kept = subst (Kept Callable) is (keeps u f m.here.fits) in (
         0,
         record {
           prints = refl;
+          depth = refl;
           control = above m (m.own + n) m.own' (omega (arith, m.sum)) m.sum' (record { pair = pair_on_left Q (codes u) (codes' u') m.own m.own' f next g n is m.here.pair; fits = kept });
         },
       )
-  one_transition printed u f ps u' g qs E E' D D' (Prints v next) is m =
+  one_transition printed u f ps u' g qs E E' D (Prints v next) is m =
       let kept = subst (Kept Callable) is (keeps u f m.here.fits) in
       let c = catches_up (codes u) (codes' u') f g (Printed v) (Prints v next) is refl m.here.pair.follows in
       let w = shows_print v (codes' u' c.h) c.shows in
       let caught = pair_on_right Q (codes u) (codes' u') m.own m.own' f g c.h c.k c.n c.silent m.here.pair in
-      matches_after (state_after u ps (Prints v next) (state printed (Running u f ps) E D)) printed u' c.k g c.h c.n qs E' D' (Prints v w.0) c.silent w.1 (
+      matches_after (state_after u ps (Prints v next) (state printed (Running u f ps) E D)) printed u' c.k g c.h c.n qs E' D (Prints v w.0) c.silent w.1 (
       record {
         prints = refl;
+        depth = refl;
         control = above m m.own (m.own' + c.n) m.sum (omega (arith, m.sum')) (record { pair = pair_after_prints Q (codes u) (codes' u') m.own (m.own' + c.n) f next c.h w.0 v is w.1 caught; fits = kept });
       }
       )
-  one_transition printed u f ps u' g qs E E' D D' (Calls called entry into next) is m =
+  one_transition printed u f ps u' g qs E E' D (Calls called entry into next) is m =
       let kept = subst (Kept Callable) is (keeps u f m.here.fits) in
       let c = catches_up (codes u) (codes' u') f g (Called called entry) (Calls called entry into next) is refl m.here.pair.follows in
       let s = shows_call called entry (codes' u' c.h) c.shows in
       let caught = pair_on_right Q (codes u) (codes' u') m.own m.own' f g c.h c.k c.n c.silent m.here.pair in
-      matches_after (state_after u ps (Calls called entry into next) (state printed (Running u f ps) E D)) printed u' c.k g c.h c.n qs E' D' (Calls called entry s.0 s.1) c.silent s.2 (
+      matches_after (state_after u ps (Calls called entry into next) (state printed (Running u f ps) E D)) printed u' c.k g c.h c.n qs E' D (Calls called entry s.0 s.1) c.silent s.2 (
       record {
         prints = refl;
+        depth = ap (λ n. max D (suc (suc n))) (same_height ps qs m.others m.others' m.below);
         control = record {
           own = 0;
           own' = 0;
@@ -196,7 +209,7 @@ module _ (Q : Type 0) (codes codes' : ℕ → Code) (Callable : ℕ → CallEntr
         };
       }
       )
-  one_transition printed u f ps u' g qs E E' D D' (Returns answer) is m =
+  one_transition printed u f ps u' g qs E E' D (Returns answer) is m =
       let kept = subst (Kept Callable) is (keeps u f m.here.fits) in
       let c = catches_up (codes u) (codes' u') f g (Returned answer) (Returns answer) is refl m.here.pair.follows in
       let w = shows_return answer (codes' u' c.h) c.shows in
@@ -205,26 +218,29 @@ module _ (Q : Type 0) (codes codes' : ℕ → Code) (Callable : ℕ → CallEntr
       let below = more_counted ps qs m.others m.others' m.own (m.own' + c.n) less m.below in
       let sum' : m.others' + (m.own' + c.n) ≡ E' + c.n = omega (arith, m.sum') in
       let below' = subst (λ e'. MatchCallers Q codes codes' ps qs E e') sum' (subst (λ e. MatchCallers Q codes codes' ps qs e (m.others' + (m.own' + c.n))) (sym m.sum) below) in
-      matches_after (state_after u ps (Returns answer) (state printed (Running u f ps) E D)) printed u' c.k g c.h c.n qs E' D' (Returns answer) c.silent w (
-      record { prints = refl; control = returns_alike answer kept ps qs E (E' + c.n) below' }
+      matches_after (state_after u ps (Returns answer) (state printed (Running u f ps) E D)) printed u' c.k g c.h c.n qs E' D (Returns answer) c.silent w (
+      record { prints = refl; depth = refl; control = returns_alike answer kept ps qs E (E' + c.n) below' }
       )
-  one_transition printed u f ps u' g qs E E' D D' (Traps kind n) is m =
+  one_transition printed u f ps u' g qs E E' D (Traps kind n) is m =
       let c = catches_up (codes u) (codes' u') f g (Trapped kind) (Traps kind n) is refl m.here.pair.follows in
       let w = shows_trap kind (codes' u' c.h) c.shows in
-      matches_after (state_after u ps (Traps kind n) (state printed (Running u f ps) E D)) printed u' c.k g c.h c.n qs E' D' (Traps kind w.0) c.silent w.1 (
-      record { prints = refl; control = refl }
+      matches_after (state_after u ps (Traps kind n) (state printed (Running u f ps) E D)) printed u' c.k g c.h c.n qs E' D (Traps kind w.0) c.silent w.1 (
+      record { prints = refl; depth = refl; control = refl }
       )
 
-  one_control : (printed : List ℤ) (cs ct : Control) (E E' D D' : ℕ) → MatchControl Q codes codes' cs ct E E' → (k : ℕ) × MatchState Q codes codes' (step codes (state printed cs E D)) (steps codes' k (state printed ct E' D'))
-  one_control printed (Running u f ps) (Running u' g qs) E E' D D' m = one_transition printed u f ps u' g qs E E' D D' (codes u f) refl m
-  one_control printed (Ended v) (Ended w) E E' D D' m = (0, record { prints = refl; control = m })
-  one_control printed (Stopped k) (Stopped l) E E' D D' m = (0, record { prints = refl; control = m })
-  one_control printed _ _ E E' D D' m = absurd m
+  one_control : (printed : List ℤ) (cs ct : Control) (E E' D : ℕ) → MatchControl Q codes codes' cs ct E E' → (k : ℕ) × MatchState Q codes codes' (step codes (state printed cs E D)) (steps codes' k (state printed ct E' D))
+  one_control printed (Running u f ps) (Running u' g qs) E E' D m = one_transition printed u f ps u' g qs E E' D (codes u f) refl m
+  one_control printed (Ended v) (Ended w) E E' D m = (0, record { prints = refl; depth = refl; control = m })
+  one_control printed (Stopped k) (Stopped l) E E' D m = (0, record { prints = refl; depth = refl; control = m })
+  one_control printed _ _ E E' D m = absurd m
 
   one_step : (s t : State) → MatchState Q codes codes' s t → (k : ℕ) × MatchState Q codes codes' (step codes s) (steps codes' k t)
   one_step s t m =
-      let r = one_control s.printed s.control t.control s.counted t.counted s.depth t.depth m.control in
-      (r.0, subst (λ p. MatchState Q codes codes' (step codes s) (steps codes' r.0 (state p t.control t.counted t.depth))) m.prints r.1)
+      let r = one_control s.printed s.control t.control s.counted t.counted s.depth m.control in (
+        r.0,
+        subst (λ d. MatchState Q codes codes' (step codes s) (steps codes' r.0 (state t.printed t.control t.counted d))) m.depth
+            (subst (λ p. MatchState Q codes codes' (step codes s) (steps codes' r.0 (state p t.control t.counted s.depth))) m.prints r.1),
+      )
 
   pub all_steps : (n : ℕ) (s t : State) → MatchState Q codes codes' s t → (k : ℕ) × MatchState Q codes codes' (steps codes n s) (steps codes' k t)
   all_steps zero s t m = (0, m)
