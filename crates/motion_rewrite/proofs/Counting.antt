@@ -26,7 +26,7 @@ use Rattle.motion_rewrite.specs.Flatten.{inserted, insertions_of, reading}
 use Rattle.motion_rewrite.specs.PlacementLaws.{count_sum}
 use Rattle.motion_rewrite.specs.Placements.{count, evaluations_at, places_of}
 use Rattle.motion_rewrite.proofs.Insertions.{among_inserted, head_or_none, once_inserted}
-use Rattle.motion_rewrite.proofs.Matching.{used_once}
+use Rattle.motion_rewrite.specs.UseLaws.{used_once}
 use Rattle.motion_rewrite.proofs.Evaluations.{kept_weight}
 use Rattle.motion_rewrite.proofs.Rewriting.{one_more}
 use Rattle.motion_rewrite.proofs.RowNumbers.{AllKnown}

@@ -24,7 +24,7 @@ use Rattle.motion_rewrite.specs.Expressions.{uses}
 use Rattle.motion_rewrite.specs.PlacementLaws.{count_sum}
 use Rattle.motion_rewrite.specs.Placements.{IsNoDearer, count, evaluations_at, places_of}
 use Rattle.motion_rewrite.specs.Flatten.{set_from, inserted, insertions_of, reading}
-use Rattle.motion_rewrite.proofs.Matching.{uses_assign, used_once}
+use Rattle.motion_rewrite.specs.UseLaws.{uses_assign, used_once}
 use Rattle.motion_rewrite.proofs.Insertions.{lists_none, lists_some}
 use Rattle.motion_rewrite.proofs.Rewriting.{one_more}
 use Rattle.motion_rewrite.proofs.RowNumbers.{AllKnown, row_short}

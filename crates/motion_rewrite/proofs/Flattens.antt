@@ -1,4 +1,4 @@
--- What follows of the rewritten graph from the laws of rewritings: `flatten` ensures it.
+-- What follows of the rewritten graph from the laws of rewritings: `flatten` and `flatten_dividing` ensure it.
 use Rattle.std.proofs.Common.{◌≡◌, ℕ, List, length, sym, ap, ◌∙◌, subst}
 use Rattle.mir_base.specs.declared.instructions.Expr.{Expr}
 use Rattle.mir_base.specs.Shapes.{AllDiffer}
@@ -19,7 +19,7 @@ use Rattle.flow_graph.specs.Paths.{IsFullPath}
 use Rattle.motion_rewrite.specs.declared.placement.Placement.{Placement}
 use Rattle.motion_rewrite.specs.Flatten.{IsFlattened}
 use Rattle.motion_rewrite.specs.Over.{HasOver}
-use Rattle.motion_rewrite.specs.Placements.{IsNoDearer}
+use Rattle.motion_rewrite.specs.Placements.{InsertionsTrapAlike, IsNoDearer}
 use Rattle.motion_rewrite.proofs.Counting.{counted, others}
 use Rattle.motion_rewrite.proofs.Fitting.{placement_fits}
 use Rattle.motion_rewrite.proofs.TemporaryValues.{TemporariesHold, placement_preserves}
@@ -57,17 +57,17 @@ module _ {graph : GraphShape} {table : List Expr} {p : Placement} (r : IsRewrita
     pub flattened_calls : (called count : ℕ) → NodesCall result.nodes called count → NodesCall graph.nodes called count
     flattened_calls called count calls = rewritten_calls way graph.nodes called count (subst (λ l. NodesCall l called count) nodes_are calls)
 
-    -- ---- what it does
+    -- ---- what it does, where the insertions trap as the graph does
 
     -- the result does the same
-    pub flattened_same : UnitSame (machine_of graph) (machine_of result)
-    flattened_same = subst (UnitSame (machine_of graph)) machines
-        (rewritten_same way flat.names graph (TemporariesHold r) fits r.is_graph (placement_preserves r))
+    pub flattened_same : InsertionsTrapAlike graph table p → UnitSame (machine_of graph) (machine_of result)
+    flattened_same alike = subst (UnitSame (machine_of graph)) machines
+        (rewritten_same way flat.names graph (TemporariesHold r) fits r.is_graph (placement_preserves r alike))
 
     -- and evaluates no more where the placement does not
-    pub flattened_cheaper : AllDiffer table → IsNoDearer graph table p → UnitCheaper (machine_of graph) (machine_of result)
-    flattened_cheaper differ no_dearer = subst (UnitCheaper (machine_of graph)) machines
-        (rewritten_cheaper way flat.names graph (TemporariesHold r) fits r.is_graph (placement_preserves r)
+    pub flattened_cheaper : InsertionsTrapAlike graph table p → AllDiffer table → IsNoDearer graph table p → UnitCheaper (machine_of graph) (machine_of result)
+    flattened_cheaper alike differ no_dearer = subst (UnitCheaper (machine_of graph)) machines
+        (rewritten_cheaper way flat.names graph (TemporariesHold r) fits r.is_graph (placement_preserves r alike)
         (counts_no_more r differ no_dearer))
 
     -- ---- paths
@@ -85,11 +85,11 @@ module _ {graph : GraphShape} {table : List Expr} {p : Placement} (r : IsRewrita
         })
 
     -- and a run along the one goes on along the other
-    pub flattened_runs : RunsFollow graph result
-    flattened_runs = record {
+    pub flattened_runs : InsertionsTrapAlike graph table p → RunsFollow graph result
+    flattened_runs alike = record {
       follow = λ path other entry answers full is is_entry are runs.
           let lies : IsOver graph.nodes nodes' path other = subst (λ l. IsOver graph.nodes l path other) nodes_are is in
           subst (λ m. RunsAlong m entry answers other) machines
           (subst (RunsAlong (graph_machine graph.received nodes') entry answers) (sym (rewritten_alone way flat.names graph fits r.is_graph path other lies))
-          (rewritten_runs way flat.names graph (TemporariesHold r) fits r.is_graph (placement_preserves r) path entry answers runs));
+          (rewritten_runs way flat.names graph (TemporariesHold r) fits r.is_graph (placement_preserves r alike) path entry answers runs));
     }

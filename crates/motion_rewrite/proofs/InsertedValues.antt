@@ -1,13 +1,12 @@
 -- The values of the variables after the assignments that are put before a node: each temporary that is assigned has the
--- value of its expression, and every other variable keeps its own.
-use Rattle.std.proofs.Common.{◌≡◌, ℕ, ◌≤◌, true, not, ◌&&◌, eqb, List, [], ◌∷◌, slice_get, Some, inl, inr, refl, sym, ap, ◌∙◌, arith}
-use Rattle.std.proofs.lemmas.Bool.{cases_Bool, or_cases, eqb-true, true≢false, false≢true}
+-- value of its expression, and every other variable keeps its own. And which expression it is that traps there.
+use Rattle.std.proofs.Common.{◌≡◌, ℕ, ◌≤◌, true, false, not, ◌&&◌, eqb, List, [], ◌∷◌, slice_get, Some, inl, inr, refl, sym, ap, ◌∙◌, subst, arith}
+use Rattle.std.proofs.lemmas.Bool.{and_parts, cases_Bool, or_cases, eqb-true, not-true, true≢false, false≢true}
 use Rattle.std.proofs.lemmas.Option.{same_Some}
 use Rattle.mir_base.specs.declared.instructions.Expr.{Expr}
-use Rattle.mir_base.specs.EqualValues.{EqualOn, equal_below, value, value_equal, with_other, with_same}
-use Rattle.mir_base.specs.Expressions.{is_movable}
-use Rattle.mir_base.specs.ExpressionLaws.{never_traps_where_movable}
-use Rattle.mir_base.specs.ExpressionVars.{expr_vars, rhs_of}
+use Rattle.mir_base.specs.EqualValues.{EqualOn, equal_below, traps_equal, value, value_equal, with_other, with_same}
+use Rattle.mir_base.specs.Expressions.{rhs_traps}
+use Rattle.mir_base.specs.ExpressionVars.{expr_vars, rhs_of, rhs_of_vars}
 use Rattle.mir_base.specs.Frames.{Values, with_value}
 use Rattle.mir_base.specs.Shapes.{AllBelow}
 use Rattle.flow_graph.specs.InsertionRuns.{values_after, none_traps}
@@ -46,11 +45,38 @@ module _ (temp : ℕ → ℕ) (table : List Expr) where
             ∙ ap (value v) same
       ]
 
-  -- none of them traps, since the expressions are movable
-  pub insertions_never_trap : ((i : ℕ) (e : Expr) → slice_get table i ≡ Some e → is_movable (rhs_of e) ≡ true) → (numbers : List ℕ) → AllKnown table numbers → (v : Values) → none_traps (insertions_of temp table numbers) v ≡ true
-  insertions_never_trap movable [] known v = refl
-  insertions_never_trap movable (i ∷ numbers) known v =
-      let e = known.0.0 in
-      ap (λ l. none_traps l v) (one_more temp table i e numbers known.0.1)
-      ∙ ap (λ b. not b && none_traps (insertions_of temp table numbers) (with_value (temp i) (value v e) v)) (never_traps_where_movable v (rhs_of e) (movable i e known.0.1))
-      ∙ insertions_never_trap movable numbers known.1 (with_value (temp i) (value v e) v)
+  -- what is assigned to a temporary changes no trap
+  same_before : (m : ℕ) → ((j : ℕ) → m ≤ temp j) → ((i : ℕ) (e : Expr) → slice_get table i ≡ Some e → AllBelow m (expr_vars e)) → (k : ℕ) (d : Expr) (v : Values) (e : Expr) → AllBelow m (expr_vars e) → rhs_traps (with_value (temp k) (value v d) v) (rhs_of e) ≡ rhs_traps v (rhs_of e)
+  same_before m fresh over k d v e below =
+      traps_equal (with_value (temp k) (value v d) v) v (rhs_of e)
+      (subst (λ l. EqualOn l (with_value (temp k) (value v d) v) v) (sym (rhs_of_vars e)) (equal_below m (expr_vars e) (with_value (temp k) (value v d) v) v below (λ x lt. with_other (temp k) x (value v d) v (λ same. omega (arith, fresh k, lt, same)))))
+
+  -- where none of them traps, no expression among them does: the variables that it reads keep their values up to it
+  pub none_of_them : (m : ℕ) → ((j : ℕ) → m ≤ temp j) → ((i : ℕ) (e : Expr) → slice_get table i ≡ Some e → AllBelow m (expr_vars e)) → (numbers : List ℕ) → AllKnown table numbers → (v : Values) → none_traps (insertions_of temp table numbers) v ≡ true
+      → (i : ℕ) (e : Expr) → slice_get table i ≡ Some e → is_in i numbers ≡ true → rhs_traps v (rhs_of e) ≡ false
+  none_of_them m fresh over [] known v untrapped i e at_i among = absurd (false≢true among)
+  none_of_them m fresh over (k ∷ numbers) known v untrapped i e at_i among =
+      let d = known.0.0 in
+      let w = with_value (temp k) (value v d) v in
+      let parts = and_parts (not (rhs_traps v (rhs_of d))) (none_traps (insertions_of temp table numbers) w) (sym (ap (λ l. none_traps l v) (one_more temp table k d numbers known.0.1)) ∙ untrapped) in
+      elim (or_cases (eqb k i) (is_in i numbers) among) [
+        | inl this ↦
+            let same : d ≡ e = same_Some d e (sym known.0.1 ∙ ap (slice_get table) (eqb-true k i this) ∙ at_i) in
+            ap (λ x. rhs_traps v (rhs_of x)) (sym same) ∙ not-true (rhs_traps v (rhs_of d)) parts.0
+        | inr later ↦ sym (same_before m fresh over k d v e (over i e at_i)) ∙ none_of_them m fresh over numbers known.1 w parts.1 i e at_i later
+      ]
+
+  -- where one of them traps, it is an expression that traps before all of them
+  pub one_of_them : (m : ℕ) → ((j : ℕ) → m ≤ temp j) → ((i : ℕ) (e : Expr) → slice_get table i ≡ Some e → AllBelow m (expr_vars e)) → (numbers : List ℕ) → AllKnown table numbers → (v : Values) → none_traps (insertions_of temp table numbers) v ≡ false
+      → (i : ℕ) × (e : Expr) × (slice_get table i ≡ Some e) × (is_in i numbers ≡ true) × (rhs_traps v (rhs_of e) ≡ true)
+  one_of_them m fresh over [] known v trapped = absurd (true≢false trapped)
+  one_of_them m fresh over (k ∷ numbers) known v trapped =
+      let d = known.0.0 in
+      let w = with_value (temp k) (value v d) v in
+      let both : (not (rhs_traps v (rhs_of d)) && none_traps (insertions_of temp table numbers) w) ≡ false = sym (ap (λ l. none_traps l v) (one_more temp table k d numbers known.0.1)) ∙ trapped in
+      elim (cases_Bool (rhs_traps v (rhs_of d))) [
+        | inl now ↦ (k, d, known.0.1, among_head k numbers, now)
+        | inr untrapped ↦
+            let rest = one_of_them m fresh over numbers known.1 w (ap (λ b. not b && none_traps (insertions_of temp table numbers) w) (sym untrapped) ∙ both) in
+            (rest.0, rest.1, rest.2, among_tail rest.0 k numbers rest.3, sym (same_before m fresh over k d v rest.1 (over rest.0 rest.1 rest.2)) ∙ rest.4)
+      ]

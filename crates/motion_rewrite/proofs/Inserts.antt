@@ -1,21 +1,23 @@
--- Expressions that are put into a list of different ones where they are new, and the table of those that nodes
--- evaluate.
-use Rattle.std.proofs.Common.{◌≡◌, inl, inr, ℕ, suc, Bool, true, false, not, ◌||◌, cond, if◌then◌else◌, List, [], ◌∷◌, ◌++◌, filter, slice_get, append-nil, Option, None, Some, refl, sym, ap, ◌∙◌, subst, true≢false, ◌+◌, append_assoc}
+-- Expressions that are put into a list of different ones where they are new, and the tables of those that nodes have.
+use Rattle.std.proofs.Common.{◌≡◌, inl, inr, ℕ, suc, Bool, true, false, not, ◌||◌, cond, if◌then◌else◌, List, [], ◌∷◌, ◌++◌, filter, slice_get, append-nil, Option, None, Some, refl, sym, ap, ◌∙◌, subst, true≢false, append_assoc}
 use Rattle.std.specs.List.{list_any}
 use Rattle.std.proofs.lemmas.List.Elements.{filter-append}
 use Rattle.mir_base.specs.declared.instructions.Expr.{Expr}
-use Rattle.mir_base.specs.Shapes.{AllBelow}
+use Rattle.mir_base.specs.Shapes.{AllBelow, rhs_vars}
 use Rattle.mir_base.specs.ExpressionLaws.{expr_of_vars}
 use Rattle.mir_base.specs.ExpressionVars.{expr_vars, rhs_of}
 use Rattle.mir_base.specs.SameExpressions.{expr_is, expr_itself, same_expr}
 use Rattle.key_table.specs.Keys.{IsWithKey, IsWithSome}
 use Rattle.key_table.specs.KeyLaws.{is_inserted, put_only}
 use Rattle.path_laws.specs.Gathered.{TakesKeys}
-use Rattle.mir_base.specs.Expressions.{is_movable}
+use Rattle.mir_base.specs.Expressions.{divides, is_movable}
+use Rattle.mir_base.specs.declared.instructions.Rhs.{Rhs}
+use Rattle.mir_base.specs.declared.instructions.Rhs.TheVariants.{Plain, Unary, Binary}
+use Rattle.mir_base.specs.declared.instructions.Expr.TheVariants.{Bin}
 use Rattle.flow_graph.specs.declared.nodes.Node.{Node}
 use Rattle.flow_graph.specs.declared.nodes.Node.TheVariants.{Start, Skip, Assign, Print, Call, Test, Return}
 use Rattle.flow_graph.specs.Graphs.{HaveVarsBelow, node_vars}
-use Rattle.motion_rewrite.specs.Tables.{AreMovable, firsts, evaluated, expr_at, listed, movable_exprs}
+use Rattle.motion_rewrite.specs.Tables.{dividing_at, dividing_in, expr_at, firsts, listed, read_off}
 
 -- ---- put in
 
@@ -76,22 +78,72 @@ abbrev pub put_in : List Expr → Option Expr → List Expr
 put_in keys None = keys
 put_in keys (Some e) = with_expr keys e
 
--- what nodes evaluate, one list after the other
-evaluated_append : (xs ys : List Node) → evaluated (xs ++ ys) ≡ evaluated xs ++ evaluated ys
-evaluated_append [] ys = refl
-evaluated_append (x ∷ xs) ys = ap (λ l. listed (expr_at x) ++ l) (evaluated_append xs ys) ∙ sym (append_assoc (listed (expr_at x)) (evaluated xs) (evaluated ys))
+-- nodes are read off by `read`, and of what is read there this is so
+module _ (vars : ℕ) (read : Node → Option Expr) (Good : Expr → Type 0) (each_good : (node : Node) (e : Expr) → AllBelow vars (node_vars node) → read node ≡ Some e → Good e) where
+  -- what nodes have, one list after the other
+  read_append : (xs ys : List Node) → read_off read (xs ++ ys) ≡ read_off read xs ++ read_off read ys
+  read_append [] ys = refl
+  read_append (x ∷ xs) ys = ap (λ l. listed (read x) ++ l) (read_append xs ys) ∙ sym (append_assoc (listed (read x)) (read_off read xs) (read_off read ys))
 
--- the movable expressions of one node more
-movable_more : (nodes : List Node) (node : Node) (found : Option Expr) → found ≡ expr_at node → movable_exprs (nodes ++ node ∷ []) ≡ put_in (movable_exprs nodes) found
-movable_more nodes node found is =
-    ap firsts (evaluated_append nodes (node ∷ []) ∙ ap (λ l. evaluated nodes ++ l) (append-nil (listed (expr_at node)) ∙ ap listed (sym is)))
-    ∙ put found
-  where
-    put : (o : Option Expr) → firsts (evaluated nodes ++ listed o) ≡ put_in (movable_exprs nodes) o
-    put None = ap firsts (append-nil (evaluated nodes))
-    put (Some e) = firsts_more (evaluated nodes) e
+  -- the first occurrences of one node more
+  read_more : (nodes : List Node) (node : Node) (found : Option Expr) → found ≡ read node → firsts (read_off read (nodes ++ node ∷ [])) ≡ put_in (firsts (read_off read nodes)) found
+  read_more nodes node found is =
+      ap firsts (read_append nodes (node ∷ []) ∙ ap (λ l. read_off read nodes ++ l) (append-nil (listed (read node)) ∙ ap listed (sym is)))
+      ∙ put found
+    where
+      put : (o : Option Expr) → firsts (read_off read nodes ++ listed o) ≡ put_in (firsts (read_off read nodes)) o
+      put None = ap firsts (append-nil (read_off read nodes))
+      put (Some e) = firsts_more (read_off read nodes) e
 
--- ---- movable expressions
+  -- of each key it is so
+  abbrev AreGood : List Expr → Type 0
+  AreGood keys = (i : ℕ) (e : Expr) → slice_get keys i ≡ Some e → Good e
+
+  -- and it stays so
+  put_good : (keys : List Expr) (e : Expr) (new : List Expr) → IsWithKey keys e new → AreGood keys → Good e → AreGood new
+  put_good keys e new put are one i d at = elim (put_only keys e new put i d at) as (λ _. Good d) [
+    | inl old ↦ are i d old
+    | inr same ↦ rw same one
+  ]
+
+  -- ---- the table of the first nodes
+
+  -- the keys are those of these nodes
+  pub record IsTableOf (nodes : List Node) (keys : List Expr) : Type 0 where
+    pub are : keys ≡ firsts (read_off read nodes)
+    pub good : (i : ℕ) (e : Expr) → slice_get keys i ≡ Some e → Good e
+
+  -- of no nodes
+  table_none : IsTableOf [] []
+  table_none = record { are = refl; good = λ i e at. cc }
+
+  -- of one node more
+  table_more : (nodes : List Node) (node : Node) (found : Option Expr) (keys new : List Expr)
+      → AllBelow vars (node_vars node) → found ≡ read node → IsWithSome keys found new → IsTableOf nodes keys → IsTableOf (nodes ++ node ∷ []) new
+  table_more nodes node found keys new below f put before = by found f put
+    where
+      more : (o : Option Expr) → o ≡ read node → new ≡ put_in keys o → new ≡ firsts (read_off read (nodes ++ node ∷ []))
+      more o h same = same ∙ ap (λ k. put_in k o) before.are ∙ sym (read_more nodes node o h)
+
+      by : (o : Option Expr) → o ≡ read node → IsWithSome keys o new → IsTableOf (nodes ++ node ∷ []) new
+      by None h same = record { are = more None h same; good = subst AreGood (sym same) before.good }
+      by (Some e) h with_key = record {
+        are = more (Some e) h (is_inserted same_expr expr_is expr_itself keys e new with_key);
+        good = put_good keys e new with_key before.good (each_good node e below (sym h));
+      }
+
+  -- of the nodes that follow
+  table_on : (done nodes : List Node) (keys new : List Expr) → HaveVarsBelow vars nodes → TakesKeys read nodes keys new → IsTableOf done keys → IsTableOf (done ++ nodes) new
+  table_on done [] keys new below same before = subst (λ l. IsTableOf l new) (sym (append-nil done)) (subst (IsTableOf done) (sym same) before)
+  table_on done (node ∷ nodes) keys new below taken before =
+      subst (λ l. IsTableOf l new) (append_assoc done (node ∷ []) nodes)
+      (table_on (done ++ node ∷ []) nodes taken.0 new (λ n m at. below (suc n) m at) taken.2 (table_more done node (read node) keys taken.0 (below 0 node refl) refl taken.1 before))
+
+  -- so of all nodes
+  pub table_taken : (nodes : List Node) (new : List Expr) → HaveVarsBelow vars nodes → TakesKeys read nodes [] new → IsTableOf nodes new
+  table_taken nodes new below taken = table_on [] nodes [] new below taken table_none
+
+-- ---- movable expressions, and dividing ones
 
 -- an expression that a node evaluates is movable, and its variables are those of the node
 pub node_movable : (vars : ℕ) (node : Node) (e : Expr) → AllBelow vars (node_vars node) → expr_at node ≡ Some e → (is_movable (rhs_of e) ≡ true) × AllBelow vars (expr_vars e)
@@ -103,49 +155,22 @@ node_movable vars (Call into unit operands next) e below h = cc
 node_movable vars (Test test taken other) e below h = cc
 node_movable vars (Return a) e below h = cc
 
--- movable ones stay movable
-put_movable : (vars : ℕ) (keys : List Expr) (e : Expr) (new : List Expr) → IsWithKey keys e new → AreMovable vars keys → (is_movable (rhs_of e) ≡ true) × AllBelow vars (expr_vars e) → AreMovable vars new
-put_movable vars keys e new put are one = record { movable = λ i d at. (each i d at).0; below = λ i d at. (each i d at).1 }
+-- a right side that is taken since it divides is this expression
+dividing_is : (vars : ℕ) (rhs : Rhs) (e : Expr) → AllBelow vars (rhs_vars rhs) → dividing_in (Some rhs) ≡ Some e → (divides (rhs_of e) ≡ true) × AllBelow vars (expr_vars e)
+dividing_is vars (Plain a) e below h = cc
+dividing_is vars (Unary op a) e below h = cc
+dividing_is vars (Binary op a b) e below h = by (divides (Binary op a b)) refl h
   where
-    each : (i : ℕ) (d : Expr) → slice_get new i ≡ Some d → (is_movable (rhs_of d) ≡ true) × AllBelow vars (expr_vars d)
-    each i d at = elim (put_only keys e new put i d at) as (λ _. (is_movable (rhs_of d) ≡ true) × AllBelow vars (expr_vars d)) [
-      | inl old ↦ (are.movable i d old, are.below i d old)
-      | inr same ↦ rw same one
-    ]
+    by : (d : Bool) → divides (Binary op a b) ≡ d → (if d then Some (Bin op a b) else None) ≡ Some e → (divides (rhs_of e) ≡ true) × AllBelow vars (expr_vars e)
+    by true is h' = let same : Bin op a b ≡ e = cc in rw (← same) (is, below)
+    by false is h' = cc
 
--- ---- the table of the first nodes
-
--- the keys are the movable expressions of these nodes
-pub record IsTableOf (vars : ℕ) (nodes : List Node) (keys : List Expr) : Type 0 where
-  pub are : keys ≡ movable_exprs nodes
-  pub movable : AreMovable vars keys
-
--- of no nodes
-table_none : (vars : ℕ) → IsTableOf vars [] []
-table_none vars = record { are = refl; movable = record { movable = λ i e at. cc; below = λ i e at. cc } }
-
--- of one node more
-table_more : (vars : ℕ) (nodes : List Node) (node : Node) (found : Option Expr) (keys new : List Expr)
-    → AllBelow vars (node_vars node) → found ≡ expr_at node → IsWithSome keys found new → IsTableOf vars nodes keys → IsTableOf vars (nodes ++ node ∷ []) new
-table_more vars nodes node found keys new below f put before = by found f put
-  where
-    more : (o : Option Expr) → o ≡ expr_at node → new ≡ put_in keys o → new ≡ movable_exprs (nodes ++ node ∷ [])
-    more o h same = same ∙ ap (λ k. put_in k o) before.are ∙ sym (movable_more nodes node o h)
-
-    by : (o : Option Expr) → o ≡ expr_at node → IsWithSome keys o new → IsTableOf vars (nodes ++ node ∷ []) new
-    by None h same = record { are = more None h same; movable = subst (AreMovable vars) (sym same) before.movable }
-    by (Some e) h with_key = record {
-      are = more (Some e) h (is_inserted same_expr expr_is expr_itself keys e new with_key);
-      movable = put_movable vars keys e new with_key before.movable (node_movable vars node e below (sym h));
-    }
-
--- of the nodes that follow
-table_on : (vars : ℕ) (done nodes : List Node) (keys new : List Expr) → HaveVarsBelow vars nodes → TakesKeys expr_at nodes keys new → IsTableOf vars done keys → IsTableOf vars (done ++ nodes) new
-table_on vars done [] keys new below same before = subst (λ l. IsTableOf vars l new) (sym (append-nil done)) (subst (IsTableOf vars done) (sym same) before)
-table_on vars done (node ∷ nodes) keys new below taken before =
-    subst (λ l. IsTableOf vars l new) (append_assoc done (node ∷ []) nodes)
-    (table_on vars (done ++ node ∷ []) nodes taken.0 new (λ n m at. below (suc n) m at) taken.2 (table_more vars done node (expr_at node) keys taken.0 (below 0 node refl) refl taken.1 before))
-
--- so of all nodes
-pub table_taken : (vars : ℕ) (nodes : List Node) (new : List Expr) → HaveVarsBelow vars nodes → TakesKeys expr_at nodes [] new → IsTableOf vars nodes new
-table_taken vars nodes new below taken = table_on vars [] nodes [] new below taken (table_none vars)
+-- an expression that a node evaluates and that divides does, and its variables are those of the node
+pub node_divides : (vars : ℕ) (node : Node) (e : Expr) → AllBelow vars (node_vars node) → dividing_at node ≡ Some e → (divides (rhs_of e) ≡ true) × AllBelow vars (expr_vars e)
+node_divides vars (Start next) e below h = cc
+node_divides vars (Skip next) e below h = cc
+node_divides vars (Assign x rhs next) e below h = dividing_is vars rhs e below.1 h
+node_divides vars (Print a next) e below h = cc
+node_divides vars (Call into unit operands next) e below h = cc
+node_divides vars (Test test taken other) e below h = cc
+node_divides vars (Return a) e below h = cc

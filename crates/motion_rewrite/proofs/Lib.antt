@@ -2,17 +2,13 @@ pub mod Inserts
 pub mod RowBits
 pub mod SetBits
 pub mod Counted
-pub mod Taken
-pub mod FreeNames
 pub mod RowNumbers
 pub mod Insertions
 pub mod TemporaryNumbers
 pub mod Rewritable
 pub mod Rewriting
 pub mod Fitting
-pub mod Matching
 pub mod Sums
-pub mod NodeVars
 pub mod InsertedValues
 pub mod TemporaryValues
 pub mod Evaluations

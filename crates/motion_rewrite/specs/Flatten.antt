@@ -10,7 +10,8 @@ use Rattle.flow_graph.specs.declared.nodes.Node.{Node}
 use Rattle.flow_graph.specs.Graphs.{GraphShape}
 use Rattle.flow_graph.specs.Insertions.{Insertion, Change, Kept, Replaced, Rewriting, rewritten_nodes}
 use Rattle.motion_rewrite.specs.declared.placement.Placement.{Placement}
-use Rattle.motion_rewrite.specs.Temporaries.{temporary, temporaries_before, AreTemporaryNames}
+use Rattle.fresh_names.specs.FreshNames.{AreTemporaryNames}
+use Rattle.motion_rewrite.specs.Temporaries.{temporary, temporaries_before}
 
 -- ---- the insertions of a node
 

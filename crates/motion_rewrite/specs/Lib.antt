@@ -1,5 +1,7 @@
 pub mod Expressions
 pub mod ExpressionLaws
+pub mod UseLaws
+pub mod KillLaws
 pub mod Tables
 pub mod Placements
 pub mod PlacementLaws

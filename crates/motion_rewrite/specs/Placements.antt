@@ -1,16 +1,21 @@
 -- Placements of one expression: where it is available and anticipatable, which nodes are safe, which placements are
--- admissible, how often a placement evaluates on a path, and when it is optimal; and the same of each expression of a
--- table. Cited by contracts.
-use Rattle.std.specs.Prelude.{◌≡◌, ◌≢◌, ◌⊎◌, ◌<◌, ◌≤◌, ◌+◌, ◌&&◌, ℕ, Bool, true, false, not, count_by, List, [], ◌∷◌, length, slice_get, Some}
+-- admissible, how often a placement evaluates on a path, and when it is optimal; the same of each expression of a table;
+-- and when expressions that may trap trap alike. Cited by contracts.
+use Rattle.std.specs.Prelude.{◌≡◌, ◌≢◌, ◌⊎◌, ◌<◌, ◌≤◌, ◌+◌, ◌&&◌, ℕ, Bool, true, false, not, count_by, List, [], ◌∷◌, length, slice_get, Some, ℤ}
 use Rattle.mir_base.specs.declared.instructions.Expr.{Expr}
+use Rattle.mir_base.specs.Expressions.{rhs_traps}
+use Rattle.mir_base.specs.ExpressionVars.{rhs_of}
+use Rattle.mir_base.specs.Frames.{Values}
 use Rattle.flow_graph.specs.declared.nodes.Node.TheVariants.{Skip}
 use Rattle.flow_graph.specs.Graphs.{GraphShape, succs_at}
+use Rattle.flow_graph.specs.InsertionRuns.{TrapsAfter}
+use Rattle.flow_graph.specs.Machines.{graph_code}
 use Rattle.flow_graph.specs.Paths.{HasEdge, IsFullPath, Trace}
 use Rattle.flow_graph.specs.Sums.{one_if}
 use Rattle.path_laws.specs.Paths.{BornAfter, HaveShape, has_bit}
 use Rattle.motion_rewrite.specs.declared.placement.Placement.{Placement}
 use Rattle.motion_rewrite.specs.Expressions.{uses, kills}
-use Rattle.motion_rewrite.specs.Tables.{AreMovable, ForEachExpr}
+use Rattle.motion_rewrite.specs.Tables.{AreOver, ForEachExpr}
 
 -- of the nodes before a node, the nearest first, one is good, and neither it nor any after it is bad
 abbrev pub ReachesAlong : (ℕ → Type 0) → (ℕ → Bool) → List ℕ → Type 0
@@ -108,13 +113,24 @@ AreOptimal graph table Down p = ForEachExpr table (λ i e. IsOptimal graph e (Do
 abbrev pub CanFlattenBy : GraphShape → List Expr → Placement → Type 0
 CanFlattenBy graph table p = ForEachExpr table (λ i e. CanFlatten graph e (places_of p i))
 
--- the expressions are movable and over the graph's variables, and the placement has their rows, by which the graph can
--- be rewritten
+-- the expressions are over the graph's variables, and the placement has their rows, by which the graph can be rewritten
 pub record IsFlattenable (graph : GraphShape) (table : List Expr) (p : Placement) : Type 0 where
-  pub movable : AreMovable (length graph.vars) table
+  pub over : AreOver (length graph.vars) table
   pub insert : HaveShape graph (length table) p.insert
   pub replace : HaveShape graph (length table) p.replace
   pub placed : CanFlattenBy graph table p
+
+-- ---- expressions that may trap
+
+-- where the evaluation of e traps, a run of the graph that goes on from node n with the same values traps alike, after
+-- steps that show nothing
+abbrev pub TrapsFrom : GraphShape → Expr → ℕ → Type 0
+TrapsFrom graph e n = (arguments : List ℤ) (values : Values) → rhs_traps values (rhs_of e) ≡ true → (steps : ℕ) × TrapsAfter (graph_code graph.received graph.nodes) steps (record { place = n; arguments = arguments; values = values })
+
+-- so it is of each expression at each node before which the placement inserts it: no insertion traps where the graph
+-- would not
+abbrev pub InsertionsTrapAlike : GraphShape → List Expr → Placement → Type 0
+InsertionsTrapAlike graph table p = ForEachExpr table (λ i e. (n : ℕ) → n < length graph.nodes → has_bit p.insert i n ≡ true → TrapsFrom graph e n)
 
 -- the placement evaluates no expression of the table more often than the nodes as they are
 pub record IsNoDearer (graph : GraphShape) (table : List Expr) (p : Placement) : Type 0 where

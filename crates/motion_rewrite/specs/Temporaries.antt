@@ -1,9 +1,6 @@
--- The temporaries of a placement: which expressions have one, its number and its name. Cited by contracts.
-use Rattle.std.specs.Prelude.{◌≡◌, ℕ, zero, suc, ◌+◌, ◌<◌, ◌≤◌, Bool, false, if◌then◌else◌, ◌||◌, List, [], ◌∷◌, ◌++◌, length, slice_get, slice_index_or, Some, take, ◌↔◌, Contains, codes}
-use Rattle.mir_base.specs.Names.{numbered_name}
+-- The temporaries of a placement: which expressions have one, and its number. Cited by contracts.
+use Rattle.std.specs.Prelude.{◌≡◌, ℕ, zero, suc, ◌+◌, ◌<◌, Bool, false, if◌then◌else◌, ◌||◌, List, [], ◌∷◌, slice_get, slice_index_or, Some}
 use Rattle.path_laws.specs.Paths.{has_bit}
-
--- ---- numbers
 
 -- some row has the bit
 abbrev pub has_insertion : List (List Bool) → ℕ → Bool
@@ -27,26 +24,3 @@ AreTemporaries vars exprs rows numbers = (i : ℕ) → i < exprs → slice_get n
 -- the row has the bits of the expressions that have an insertion
 abbrev pub IsInsertionRow : List (List Bool) → List Bool → Type 0
 IsInsertionRow rows row = (i : ℕ) → slice_index_or row i false ≡ has_insertion rows i
-
--- ---- names
-
--- two lists have the same names
-abbrev pub HaveSameNames : List (List ℕ) → List (List ℕ) → Type 0
-HaveSameNames names taken = (name : List ℕ) → Contains taken name ↔ Contains names name
-
--- `h` and the number
-abbrev pub temporary_name : ℕ → List ℕ
-temporary_name = numbered_name (codes "h")
-
--- the name has the least number from 1 on that makes a name which is not among these
-pub record IsNextName (names : List (List ℕ)) (name : List ℕ) : Type 0 where
-  pub number : ℕ
-  pub positive : 1 ≤ number
-  pub spelled : name ≡ temporary_name number
-  pub fresh : Contains names name → ⊥
-  pub least : (smaller : ℕ) → 1 ≤ smaller → smaller < number → Contains names (temporary_name smaller)
-
--- the names of so many temporaries of a graph whose variables have the names `vars`
-pub record AreTemporaryNames (vars : List (List ℕ)) (count : ℕ) (names : List (List ℕ)) : Type 0 where
-  pub long : length names ≡ count
-  pub each : (k : ℕ) (name : List ℕ) → slice_get names k ≡ Some name → IsNextName (vars ++ take k names) name

@@ -8,14 +8,14 @@ ghost use Rattle.flow_graph.specs.Passes.{GraphCalls, GraphCheaper, GraphDivides
 ghost use Rattle.path_laws.specs.Paths.{HaveShape};
 ghost use Rattle.motion_rewrite.specs.Flatten.{IsFlattened};
 ghost use Rattle.motion_rewrite.specs.Over.{HasOverEach};
-ghost use Rattle.motion_rewrite.specs.Placements.{CanFlattenBy, IsFlattenable, IsNoDearer};
-ghost use Rattle.motion_rewrite.specs.Tables.{AreMovable};
+ghost use Rattle.motion_rewrite.specs.Placements.{CanFlattenBy, InsertionsTrapAlike, IsFlattenable, IsNoDearer};
+ghost use Rattle.motion_rewrite.specs.Tables.{AreMovable, AreOver};
 
 use crate::editing::{insertions_in, put_evaluations, read_temporaries};
-use crate::naming::temporary_names;
 use crate::temporaries::number_temporaries;
 use crate::{ExprTable, Placement};
 use flow_graph::{Editor, Graph};
+use fresh_names::temporary_names;
 use mir_base::Memory;
 use std::alloc::Global;
 
@@ -70,7 +70,52 @@ pub fn flatten(
     Ok(flat)
 }
 
-/// The graph rewritten by a placement, of which `flatten` says what follows.
+/// The graph rewritten by a placement, as by `flatten`, where the expressions may trap: an insertion that traps stands
+/// where the graph traps alike.
+///
+/// The expressions are over the graph's variables; the placement has one row for each node and one bit for each
+/// expression, and for each no insertion stands before Start, and each replaced node uses the expression, which an
+/// insertion makes available there on every path to it. Where the evaluation of an insertion traps, a run of the graph
+/// that goes on from its node with the same values traps alike, after steps that show nothing. It fails only with
+/// `Memory`.
+pub fn flatten_dividing(
+    alloc: Global,
+    graph: &Graph,
+    table: &ExprTable,
+    placement: &Placement,
+) -> Result<Graph, Memory>
+    requires over { AreOver (length graph.now.vars) table.now }
+    requires insert { HaveShape graph.now (length table.now) placement.now.insert }
+    requires replace { HaveShape graph.now (length table.now) placement.now.replace }
+    requires placed { CanFlattenBy graph.now table.now placement.now }
+    requires traps { InsertionsTrapAlike graph.now table.now placement.now }
+    ensures flattened { IfOk result (IsFlattened graph.now table.now placement.now) }
+    ensures same { IfOk result (GraphSame graph.now) }
+
+    // where the placement evaluates no expression more often than the graph, the result evaluates no more operators
+    ensures cheaper { IfOk result (λ flat. IsNoDearer graph.now table.now placement.now →
+        GraphCheaper graph.now flat) }
+    ensures keeps { IfOk result (λ flat. IsNoDearer graph.now table.now placement.now →
+        GraphKeeps graph.now flat) }
+
+    // one path of the result lies over each full path, with the counts of the placement
+    ensures paths { IfOk result (HasOverEach graph.now table.now placement.now) }
+
+    // where a run of the graph goes along a full path to its return, that of the result goes along the corresponding
+    // path of it
+    ensures runs { IfOk result (RunsFollow graph.now) }
+
+    // a split graph stays split
+    ensures split { IfOk result (λ flat. IsSplit graph.now.nodes → IsSplit flat.nodes) }
+
+    // the result makes no calls but those of the graph
+    ensures calls { IfOk result (GraphCalls graph.now) }
+{
+    let flat = rewritten(alloc, graph, table, placement)?;
+    Ok(flat)
+}
+
+/// The graph rewritten by a placement, of which `flatten` and `flatten_dividing` say what follows.
 fn rewritten(
     alloc: Global,
     graph: &Graph,

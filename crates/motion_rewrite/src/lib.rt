@@ -12,13 +12,12 @@
 
 mod editing;
 mod flattening;
-mod naming;
 mod placement;
 mod rows;
 mod table;
 mod temporaries;
 
-pub use flattening::flatten;
+pub use flattening::{flatten, flatten_dividing};
 pub use placement::Placement;
 pub use rows::{kill_rows, use_rows};
-pub use table::{ExprTable, exprs};
+pub use table::{ExprTable, dividing_exprs, exprs};

@@ -1,13 +1,13 @@
 // Tables of distinct expressions.
-ghost use Rattle.std.specs.Prelude.{◌≡◌, length, IfOk};
+ghost use Rattle.std.specs.Prelude.{◌≡◌, length, IfOk, Some};
 ghost use Rattle.mir_base.specs.ExpressionVars.{written_expr};
 ghost use Rattle.mir_base.specs.Shapes.{AllDiffer};
 ghost use Rattle.flow_graph.specs.Graphs.{node_rhs};
-ghost use Rattle.motion_rewrite.specs.Tables.{AreMovable, expr_at, movable_exprs};
+ghost use Rattle.motion_rewrite.specs.Tables.{AreDividing, AreMovable, AreOver, dividing_at, dividing_exprs, dividing_in, expr_at, movable_exprs};
 
 use flow_graph::{Graph, Node};
 use key_table::KeyTable;
-use mir_base::{Expr, Memory, Rhs, expr_of};
+use mir_base::{Expr, Memory, Rhs, divides, expr_of};
 use path_laws::{KeyOf, node_keys};
 use std::alloc::Global;
 
@@ -26,6 +26,19 @@ pub fn exprs(alloc: Global, graph: &Graph) -> Result<ExprTable, Memory>
     Ok(exprs)
 }
 
+/// The expressions that the nodes of a graph evaluate and that divide, so that they may trap, in order of the first node
+/// that evaluates each. It fails only with `Memory`.
+pub fn dividing_exprs(alloc: Global, graph: &Graph) -> Result<ExprTable, Memory>
+    ensures exprs { IfOk result (λ table. table ≡ dividing_exprs graph.now.nodes) }
+    ensures dividing { IfOk result AreDividing }
+    ensures over { IfOk result (AreOver (length graph.now.vars)) }
+    ensures differ { IfOk result AllDiffer }
+{
+    let nodes = graph.nodes();
+    let exprs = node_keys(alloc, nodes, &Dividing)?;
+    Ok(exprs)
+}
+
 /// Reads off a node the movable expression that it evaluates.
 struct Evaluated;
 
@@ -34,6 +47,49 @@ impl KeyOf<Expr> for Evaluated {
 
     fn key_of(&self, node: &Node) -> Option<Expr> {
         expr_at(node)
+    }
+}
+
+/// Reads off a node the expression that it evaluates, where it divides.
+struct Dividing;
+
+impl KeyOf<Expr> for Dividing {
+    ghost key_of = { λ of node. dividing_at node };
+
+    fn key_of(&self, node: &Node) -> Option<Expr> {
+        dividing_at(node)
+    }
+}
+
+/// The expression that a node evaluates, where it divides.
+fn dividing_at(node: &Node) -> Option<Expr>
+    ensures { result ≡ dividing_at node.now }
+{
+    match node {
+        Node::Assign(_, rhs, _) => dividing_of(rhs),
+        _ => None,
+    }
+}
+
+/// The right side as an expression, where it divides.
+fn dividing_of(rhs: &Rhs) -> Option<Expr>
+    ensures { result ≡ dividing_in (Some rhs.now) }
+{
+    if divides(rhs) {
+        expr_written(rhs)
+    } else {
+        None
+    }
+}
+
+/// The right side as an expression, where it is one.
+fn expr_written(rhs: &Rhs) -> Option<Expr>
+    ensures { result ≡ written_expr (Some rhs.now) }
+{
+    match rhs {
+        Rhs::Plain(_) => None,
+        Rhs::Unary(op, a) => Some(Expr::Un(*op, *a)),
+        Rhs::Binary(op, a, b) => Some(Expr::Bin(*op, *a, *b)),
     }
 }
 
@@ -55,8 +111,7 @@ impl KeyOf<Expr> for Written {
 
     fn key_of(&self, node: &Node) -> Option<Expr> {
         match node {
-            Node::Assign(_, Rhs::Unary(op, a), _) => Some(Expr::Un(*op, *a)),
-            Node::Assign(_, Rhs::Binary(op, a, b), _) => Some(Expr::Bin(*op, *a, *b)),
+            Node::Assign(_, rhs, _) => expr_written(rhs),
             _ => None,
         }
     }

@@ -7,10 +7,11 @@ use Rattle.flow_graph.specs.Graphs.{GraphShape, AllWithin}
 use Rattle.flow_graph.specs.Insertions.{CanRewrite, ChangeBelow, InsertionsBelow}
 use Rattle.path_laws.specs.Paths.{AreRows}
 use Rattle.motion_rewrite.specs.Flatten.{by_placement, inserted, insertions_of, reading}
-use Rattle.motion_rewrite.specs.Temporaries.{AreTemporaryNames, temporaries_before, temporary}
+use Rattle.fresh_names.specs.FreshNames.{AreTemporaryNames}
+use Rattle.motion_rewrite.specs.Temporaries.{temporaries_before, temporary}
 use Rattle.motion_rewrite.proofs.Fitting.{placement_fits}
 use Rattle.motion_rewrite.proofs.Insertions.{head_or_none}
-use Rattle.motion_rewrite.proofs.Matching.{uses_assign}
+use Rattle.motion_rewrite.specs.UseLaws.{uses_assign}
 use Rattle.motion_rewrite.proofs.Rewritable.{IsRewritable, first_bit, replaced_use, rewritable, rewriting_by, start_free}
 use Rattle.motion_rewrite.proofs.Rewriting.{insertions_alike, reading_alike, flattened_alike}
 use Rattle.motion_rewrite.proofs.RowNumbers.{inserted_within}
@@ -18,7 +19,7 @@ use Rattle.motion_rewrite.proofs.flattening.rewritten.Goals as goal
 use Rattle.motion_rewrite.proofs.flattening.rewritten.Goals.{In_ok-room}
 
 rewritable_here : (c : In_ok-room) → IsRewritable c.args.graph.now c.args.table.now c.args.placement.now
-rewritable_here c = rewritable _ _ _ _ c.nodes-nodes.ensures.value c.nodes-nodes.ensures.graph c.requires.movable c.requires.insert c.requires.replace c.requires.placed
+rewritable_here c = rewritable _ _ _ _ c.nodes-nodes.ensures.value c.nodes-nodes.ensures.graph c.requires.over c.requires.insert c.requires.replace c.requires.placed
 
 -- the list of the temporaries gives their numbers
 numbered : (c : In_ok-room) → (i : ℕ) → i < length c.args.table.now → get_or c.as_slice-temps.result.now i 0 ≡ temporary (length c.args.graph.now.vars) c.args.placement.now.insert i

@@ -1,7 +1,7 @@
 use Rattle.std.proofs.Common.{rules, ◌≡◌, ◌∙◌, ap, sym, true≢false, length, arith}
-use Rattle.motion_rewrite.proofs.FreeNames.{one_more, passed_by}
-use Rattle.motion_rewrite.proofs.naming.temporary_names.Goals as goal
-use Rattle.motion_rewrite.proofs.naming.temporary_names.Goals.{then-not-has+in_ok-push, else-not-has}
+use Rattle.fresh_names.proofs.FreeNames.{one_more, passed_by}
+use Rattle.fresh_names.proofs.temporary_names.Goals as goal
+use Rattle.fresh_names.proofs.temporary_names.Goals.{then-not-has+in_ok-push, else-not-has}
 
 pub loop-number-preserved : goal.loop-number-preserved
 loop-number-preserved c =

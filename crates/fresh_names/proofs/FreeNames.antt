@@ -6,7 +6,7 @@ use Rattle.std.proofs.lemmas.List.Elements.{Contains-append_left, Contains-appen
 use Rattle.std.proofs.lemmas.Option.{slice_get_within, slice_get-get_or}
 use Rattle.mir_base.specs.DecimalLaws.{numbered_differ}
 use Rattle.flow_graph.specs.ListLaws.{get_push}
-use Rattle.motion_rewrite.specs.Temporaries.{AreTemporaryNames, IsNextName, temporary_name}
+use Rattle.fresh_names.specs.FreshNames.{AreTemporaryNames, IsNextName, temporary_name}
 
 -- ---- spelling
 

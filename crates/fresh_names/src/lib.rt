@@ -1,6 +1,8 @@
-// The names of the temporaries.
+//! Names for new variables of a graph: in go the names that are taken, and out come `h1`, `h2`, .. that are not.
+#![tactic(auto)]
+
 ghost use Rattle.std.specs.Prelude.{◌≡◌, ◌↔◌, Contains, IsTrue, IfOk};
-ghost use Rattle.motion_rewrite.specs.Temporaries.{AreTemporaryNames, HaveSameNames};
+ghost use Rattle.fresh_names.specs.FreshNames.{AreTemporaryNames, HaveSameNames};
 
 use indexmap::IndexSet;
 use mir_base::{Memory, Name};
@@ -44,11 +46,7 @@ impl<'a> TakenNames<'a> {
 /// The names of so many temporaries of a graph whose variables have these names: for each the least number from 1 on
 /// that makes a name which no variable and no earlier temporary has. Since the numbers ascend, one walk over them finds
 /// all. It fails only with `Memory`.
-pub(crate) fn temporary_names(
-    alloc: Global,
-    vars: &[Name],
-    count: usize,
-) -> Result<Vec<Name>, Memory>
+pub fn temporary_names(alloc: Global, vars: &[Name], count: usize) -> Result<Vec<Name>, Memory>
     ensures { IfOk result (λ names. AreTemporaryNames vars.now count names.items) }
 {
     let taken = TakenNames::of(alloc, vars)?;

@@ -1,4 +1,5 @@
--- Which node uses an expression: one that assigns it; and a node uses one expression at most.
+-- Which node uses an expression: one that assigns it; and a node uses one expression at most. For proofs only, here and
+-- above.
 use Rattle.std.proofs.Common.{◌≡◌, ℕ, true, slice_get, Option, Some, None, sym, ap, ◌∙◌}
 use Rattle.std.proofs.lemmas.Bool.{false≢true}
 use Rattle.mir_base.specs.declared.instructions.Expr.{Expr}

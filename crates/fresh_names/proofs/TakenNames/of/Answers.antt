@@ -1,7 +1,7 @@
 use Rattle.std.proofs.Common.{◌≡◌, ◌∙◌, ◌≤◌, length, ap, sym}
 use Rattle.std.proofs.lemmas.List.{take_all}
-use Rattle.motion_rewrite.proofs.Taken.{borrowed_bytes, has_text, has_contains, text_more}
-use Rattle.motion_rewrite.proofs.naming.TakenNames.of.Goals as goal
+use Rattle.fresh_names.proofs.Taken.{borrowed_bytes, has_text, has_contains, text_more}
+use Rattle.fresh_names.proofs.TakenNames.of.Goals as goal
 
 pub loop-name-preserved : goal.loop-name-preserved
 loop-name-preserved c = λ x. text_more c.args.names.now c.loop-name.name-index c.name-item.result x c.loop-name.taken.keys c.insert.new.self.keys c.bytes.result c.loop-name-test.true c.name-item.is c.bytes.ensures.value c.in_ok-insert.ensures.keys (c.loop-name.invariant x)

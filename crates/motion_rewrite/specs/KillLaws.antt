@@ -1,4 +1,4 @@
--- What does not kill an expression assigns none of its variables.
+-- What does not kill an expression assigns none of its variables. For proofs only, here and above.
 use Rattle.std.proofs.Common.{◌≡◌, false, Some}
 use Rattle.std.specs.List.{list_any}
 use Rattle.std.proofs.lemmas.Bool.{or_parts}

@@ -1,0 +1,2 @@
+pub mod FreshNames
+pub mod FreshNameLaws
