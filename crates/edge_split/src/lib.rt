@@ -12,4 +12,4 @@
 mod entries;
 mod splitting;
 
-pub use splitting::split;
+pub use splitting::{split, split_splits};

@@ -31,6 +31,15 @@ pub fn split(alloc: Global, graph: &Graph) -> Result<Graph, Memory>
     Ok(made)
 }
 
+/// Has no effect; carries the theorem that the split graph of a graph, whoever made it, is split.
+pub fn split_splits(graph: &Graph, made: &Graph)
+    requires { IsEdgeSplit graph.now made.now }
+    ensures { IsSplit made.now.nodes }
+{
+    // The proof needs what holds of every graph.
+    let _nodes = graph.nodes();
+}
+
 /// The nodes of the split graph: the old ones, and after them the new Skips. `entries` are how many edges enter each
 /// node, counted up to two.
 fn all_nodes(alloc: Global, old: &[Node], entries: Vec<usize>) -> Result<Vec<Node>, Memory>

@@ -22,8 +22,9 @@ pub(crate) enum ChainPlace {
     End(usize),
 }
 
-/// The end of chain of each node.
-pub(crate) fn ends(alloc: Global, nodes: &[Node]) -> Result<Vec<usize>, Memory>
+/// The end of chain of each node: where Skips lead to from it, or, where they run in a circle, its least-numbered Skip.
+/// It fails only with `Memory`.
+pub fn ends(alloc: Global, nodes: &[Node]) -> Result<Vec<usize>, Memory>
     requires { AllWithin nodes.now }
     ensures { IfOk result (λ ends. AreEnds nodes.now ends.items) }
 {

@@ -10,4 +10,5 @@ mod classes;
 mod cleaning;
 mod reducing;
 
+pub use chains::ends;
 pub use cleaning::clean;

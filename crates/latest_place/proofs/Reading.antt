@@ -12,7 +12,7 @@ use Rattle.latest_place.specs.Lazy.{ComesToUse, IsDelayed, IsIsolated, IsLatest,
 use Rattle.latest_place.specs.Rows.{IsDelayedBit, IsLatestBit, IsNeededBit}
 use Rattle.latest_place.specs.Stable.{not_both, split_bit}
 use Rattle.latest_place.specs.Walks.{Walks}
-use Rattle.latest_place.proofs.Admissible.{IsNeeded}
+use Rattle.latest_place.specs.Admissible.{IsNeeded}
 use Rattle.path_laws.specs.Says.{both_say, not_says, off_says}
 
 -- the bits of one expression, by node, each read from those before it

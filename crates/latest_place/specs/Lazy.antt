@@ -4,6 +4,7 @@ use Rattle.std.specs.Prelude.{◌≡◌, ◌⊎◌, ◌↔◌, ◌<◌, ℕ, tru
 use Rattle.mir_base.specs.declared.instructions.Expr.{Expr}
 use Rattle.flow_graph.specs.Graphs.{GraphShape}
 use Rattle.flow_graph.specs.Paths.{HasEdge, IsPath, Trace}
+use Rattle.path_laws.specs.Paths.{HaveShape}
 use Rattle.motion_rewrite.specs.declared.placement.Placement.{Placement}
 use Rattle.motion_rewrite.specs.Expressions.{uses}
 use Rattle.motion_rewrite.specs.Placements.{Places, ReachesAlong, places_of}
@@ -46,3 +47,10 @@ pub record IsLazy (graph : GraphShape) (e : Expr) (Down : ℕ → Type 0) (p : P
 -- the placement is the lazy one of each expression of the table
 abbrev pub AreLazy : GraphShape → List Expr → (Expr → ℕ → Type 0) → Placement → Type 0
 AreLazy graph table Down p = ForEachExpr table (λ i e. IsLazy graph e (Down e) (places_of p i))
+
+-- the placement has a row for each node and a bit for each expression, and is the lazy one of each expression by the
+-- rule
+pub record IsLazyPlacement (Down : GraphShape → Expr → ℕ → Type 0) (graph : GraphShape) (table : List Expr) (placement : Placement) : Type 0 where
+  pub insert_rows : HaveShape graph (length table) placement.insert
+  pub replace_rows : HaveShape graph (length table) placement.replace
+  pub lazy : AreLazy graph table (Down graph) placement

@@ -18,7 +18,7 @@ rows_are_one nodes bits a b p q same =
     ext_get_or false (row_of a n) (row_of b n) (p.each n within ∙ sym (q.each n within)) (λ i lt'. same n i within (omega (arith, lt', p.each n within))))
 
 -- bits that are set under one statement are equal
-one_bit : (P : Type 0) (x y : Bool) → (x ≡ true) ↔ P → (y ≡ true) ↔ P → x ≡ y
+pub one_bit : (P : Type 0) (x y : Bool) → (x ≡ true) ↔ P → (y ≡ true) ↔ P → x ≡ y
 one_bit P true true p q = refl
 one_bit P false false p q = refl
 one_bit P true false p q = absurd (true≢false (sym (q.1 (p.0 refl))))

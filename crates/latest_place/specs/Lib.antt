@@ -1,6 +1,10 @@
 pub mod Lazy
 pub mod Rows
 pub mod LazyLaws
+pub mod DelayLaws
 pub mod Stable
 pub mod Walks
 pub mod Inequalities
+pub mod Admissible
+pub mod Counts
+pub mod Optimal

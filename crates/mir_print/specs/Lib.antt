@@ -1,4 +1,5 @@
 pub mod Texts
 pub mod Labels
 pub mod Scopes
+pub mod Sides
 pub mod Kept

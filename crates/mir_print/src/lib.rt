@@ -15,9 +15,11 @@ mod operands;
 mod printing;
 mod reading_back;
 mod scope;
+mod sides;
 
 pub use printing::print;
 pub use reading_back::text_is_read_back;
+pub use sides::put_side;
 
 /// There is not enough memory: the allocator refused.
 pub type Memory = std::alloc::AllocError;

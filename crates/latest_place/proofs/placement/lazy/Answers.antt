@@ -3,7 +3,7 @@ use Rattle.flow_graph.specs.Graphs.{IsGraph}
 use Rattle.path_laws.specs.Paths.{has_bit}
 use Rattle.path_laws.specs.RowLaws.{are_alike, like_rows}
 use Rattle.motion_rewrite.specs.PlacementLaws.{admissible_flattens}
-use Rattle.latest_place.proofs.Optimal.{lazy_optimal}
+use Rattle.latest_place.specs.Optimal.{lazy_optimal}
 use Rattle.latest_place.proofs.Reading.{rows_are_lazy}
 use Rattle.latest_place.proofs.placement.lazy.Goals as goal
 

@@ -1,4 +1,4 @@
--- The lazy placement is admissible.
+-- The lazy placement is admissible. For proofs only, here and above.
 use Rattle.std.proofs.Common.{◌≡◌, ◌<◌, ◌⊎◌, ℕ, Bool, true, false, inl, inr, List, [], ◌∷◌, length}
 use Rattle.mir_base.specs.declared.instructions.Expr.{Expr}
 use Rattle.flow_graph.specs.Graphs.{GraphShape}
@@ -6,8 +6,8 @@ use Rattle.flow_graph.specs.Paths.{HasEdge, IsPath, Trace, from_start, goes_on}
 use Rattle.motion_rewrite.specs.Expressions.{kills, uses}
 use Rattle.motion_rewrite.specs.PlacementLaws.{killing_not_down}
 use Rattle.motion_rewrite.specs.Placements.{DownLaws, IsAdmissible, IsAvailableAfter, IsSafe, Places, ReachesAlong}
-use Rattle.down_safe.specs.Busy.{IsEarliest}
 use Rattle.latest_place.specs.Lazy.{ComesToUse, IsDelayed, IsLatest, IsLazy}
+use Rattle.latest_place.specs.DelayLaws.{delayed_down}
 use Rattle.latest_place.specs.Stable.{Stable, stable_of_dec, dec_is, dec_or, dec_both, stable_cases, split_bit}
 use Rattle.latest_place.specs.Walks.{Walks, trace_below}
 
@@ -36,12 +36,6 @@ module _ (graph : GraphShape) (walks : Walks graph) (e : Expr) (Down : ℕ → T
     -- Start is not down
     pub start_not_down : ¬ (Down 0)
     start_not_down = killing_not_down graph e Down laws 0 walks.start_below (walks.start_kills e) (walks.start_unused e)
-
-    -- what an earliest node leads to without a use is down
-    pub delayed_down : (n : ℕ) (before : List ℕ) → Trace graph.nodes n before → IsEarliest graph e Down n ⊎ ReachesAlong (IsEarliest graph e Down) (uses graph e) before → Down n
-    delayed_down n [] t o = elim o [ inl early ↦ early.0 | inr s ↦ absurd s ]
-    delayed_down n (m ∷ before) (goes_on m0 n0 before0 t edge) o =
-        elim o [ inl early ↦ early.0 | inr s ↦ laws.onward m n (delayed_down m before t s.1) s.0 edge ]
 
     -- a use that is not latest, or a node from which one is reached through nodes that are not latest
     abbrev pub Ahead : ℕ → Type 0
@@ -96,7 +90,7 @@ module _ (graph : GraphShape) (walks : Walks graph) (e : Expr) (Down : ℕ → T
           safe_at : (n : ℕ) → n < length graph.nodes → p.inserts n ≡ true → IsSafe graph e Down n
           safe_at n below i =
               let reach = walks.reached n below in
-              inr (delayed_down n reach.0 reach.1 (((is.inserts_at n below).0 i).0.0 reach.0 reach.1))
+              inr (delayed_down graph e Down laws n reach.0 reach.1 (((is.inserts_at n below).0 i).0.0 reach.0 reach.1))
 
           available_at : (n : ℕ) (before : List ℕ) → p.replaces n ≡ true → Trace graph.nodes n before → (p.inserts n ≡ true) ⊎ IsAvailableAfter graph e (λ m. p.inserts m ≡ true) before
           available_at n before r t =

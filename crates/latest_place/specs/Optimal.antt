@@ -1,5 +1,5 @@
 -- On each full path the lazy placement evaluates least: by induction along the path, with the inequalities of its
--- edges.
+-- edges. For proofs only, here and above.
 use Rattle.std.proofs.Common.{◌<◌, ◌≡◌, ◌≤◌, ◌+◌, ℕ, Bool, true, false, inl, inr, List, [], length, slice_get, Option, Some, None, arith, refl}
 use Rattle.mir_base.specs.declared.instructions.Expr.{Expr}
 use Rattle.flow_graph.specs.declared.nodes.Node.{Node}
@@ -15,11 +15,11 @@ use Rattle.latest_place.specs.Lazy.{IsDelayed, IsLatest, IsLazy}
 use Rattle.latest_place.specs.Inequalities.{IsPending, evaluates_end, lazy_edge, lazy_evaluates, other_edge}
 use Rattle.latest_place.specs.Stable.{Is, with_bit_le}
 use Rattle.latest_place.specs.Walks.{Walks, trace_below, walks}
-use Rattle.latest_place.proofs.Admissible.{lazy_admissible, start_not_down}
-use Rattle.latest_place.proofs.Counts.{count_before, evaluations_on}
+use Rattle.latest_place.specs.Admissible.{lazy_admissible, start_not_down}
+use Rattle.latest_place.specs.Counts.{count_before, evaluations_on}
 
 -- a Return has no successor
-return_ends : (o : Option Node) → is_return o ≡ true → succs_of o ≡ []
+pub return_ends : (o : Option Node) → is_return o ≡ true → succs_of o ≡ []
 return_ends None is = cc
 return_ends (Some (Start next)) is = cc
 return_ends (Some (Skip next)) is = cc
@@ -51,7 +51,7 @@ module _ (graph : GraphShape) (walks : Walks graph) (e : Expr) (Down : ℕ → T
   -- ---- at the end of a path
 
   -- what is pending at the last node is evaluated there
-  pending_end : (q : Places) → IsAdmissible graph e Down q → (last : ℕ) → last < length graph.nodes → succs_at graph.nodes last ≡ [] → (o : Bool) → Is o (IsPending graph e Down q last)
+  pub pending_end : (q : Places) → IsAdmissible graph e Down q → (last : ℕ) → last < length graph.nodes → succs_at graph.nodes last ≡ [] → (o : Bool) → Is o (IsPending graph e Down q last)
       → one_if o ≤ evaluations_at graph e q last
   pending_end q ok last below none true io = evaluates_end graph walks e Down laws q ok last below io none
   pending_end q ok last below none false io = omega arith
@@ -63,7 +63,7 @@ module _ (graph : GraphShape) (walks : Walks graph) (e : Expr) (Down : ℕ → T
   latest_delayed n false d il id = omega arith
 
   -- so the lazy placement evaluates at the last node only what its delay ends there
-  lazy_end : (p : Places) → IsLazy graph e Down p → (last : ℕ) → last < length graph.nodes → (d : Bool) → Is d (IsDelayed graph e Down last) → evaluations_at graph e p last ≤ one_if d
+  pub lazy_end : (p : Places) → IsLazy graph e Down p → (last : ℕ) → last < length graph.nodes → (d : Bool) → Is d (IsDelayed graph e Down last) → evaluations_at graph e p last ≤ one_if d
   lazy_end p is last below d id = with_bit_le (IsLatest graph e Down last) _ _ (λ l il.
       let cost = lazy_evaluates graph walks e Down laws p is last below l il in
       let within = latest_delayed last l d il id in

@@ -1,4 +1,4 @@
--- What a placement counts on a path, by the nodes before the last one.
+-- What a placement counts on a path, by the nodes before the last one. For proofs only, here and above.
 use Rattle.std.proofs.Common.{◌≡◌, ◌+◌, ℕ, List, [], ◌∷◌, ◌++◌, reverse, arith}
 use Rattle.mir_base.specs.declared.instructions.Expr.{Expr}
 use Rattle.flow_graph.specs.Graphs.{GraphShape}
