@@ -1,0 +1,4 @@
+pub mod Held
+pub mod Wanted
+pub mod Counts
+pub mod HeldLaws
