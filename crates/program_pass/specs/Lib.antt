@@ -1,0 +1,16 @@
+pub mod Chains
+pub mod ChainLaws
+pub mod Puts
+pub mod PutLaws
+pub mod Marks
+pub mod MemberLaws
+pub mod EntryLaws
+pub mod StoodLaws
+pub mod GraphPrograms
+pub mod GraphProgramLaws
+pub mod StepLaws
+pub mod PassPrograms
+pub mod RefitLaws
+pub mod PassProgramLaws
+pub mod UnitMakes
+pub mod PassOneLaws

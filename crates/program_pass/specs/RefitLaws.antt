@@ -1,0 +1,113 @@
+-- Law: units that take the places of those of a program, with their names, with as many receives and with no other calls,
+-- fit together as a program. For proofs only.
+use Rattle.std.proofs.Common.{◌≡◌, ℕ, zero, suc, ◌<◌, List, [], ◌∷◌, length, slice_get, Some, option_map, refl, sym, ap, ◌∙◌, subst, arith}
+use Rattle.std.proofs.lemmas.Option.{slice_get_within}
+use Rattle.mir_base.specs.declared.instructions.Inst.{Inst}
+use Rattle.mir_base.specs.declared.instructions.Inst.TheVariants.{Receive, Assign, Goto, If, Call, Print, Return}
+use Rattle.mir_base.specs.Shapes.{AllDiffer, BodyFits, InstFits, IsProgram, UnitShape, body_at, body_or_empty, names_of, receives_in}
+use Rattle.flow_graph.specs.Calls.{BodyCalls, CallsAmong, inst_call}
+use Rattle.flow_graph.specs.ListLaws.{some_at}
+use Rattle.flow_graph.specs.Lowered.{CanLower, target_of}
+
+-- the second unit may take the place of the first
+pub record Refits (source target : UnitShape) : Type 0 where
+  pub name : target.name ≡ source.name
+  pub receives : receives_in target.body ≡ receives_in source.body
+  pub calls : CallsAmong (BodyCalls target.body) (BodyCalls source.body)
+  pub lowers : CanLower target.body
+
+-- a call of a body that fits
+pub called_fits : (units : List UnitShape) (body : List Inst) (called count : ℕ) → BodyFits units body → BodyCalls body called count → (called < length units) × (count ≡ receives_in (body_at units called))
+called_fits units body called count fits c = go c.inst (fits.insts c.place c.inst c.here) c.calls
+  where
+    go : (inst : Inst) → InstFits units body c.place inst → inst_call inst ≡ Some (called, count) → (called < length units) × (count ≡ receives_in (body_at units called))
+    go (Receive x) f is = cc
+    go (Assign x rhs) f is = cc
+    go (Goto to) f is = cc
+    go (If test to) f is = cc
+    go (Call into unit operands) f is =
+        let both : ◌≡◌ {A = ℕ × ℕ} (unit, length operands) (called, count) = cc in
+        let one : unit ≡ called = ap (λ (p : ℕ × ℕ). p.0) both in
+        let other : length operands ≡ count = ap (λ (p : ℕ × ℕ). p.1) both in
+        (subst (λ u. u < length units) one f.0, sym other ∙ f.1 ∙ ap (λ u. receives_in (body_at units u)) one)
+    go (Print a) f is = cc
+    go (Return a) f is = cc
+
+-- the names of the units, by their numbers
+names_at : (units : List UnitShape) (n : ℕ) → slice_get (names_of units) n ≡ option_map (λ (u : UnitShape). u.name) (slice_get units n)
+names_at [] n = refl
+names_at (unit ∷ units) zero = refl
+names_at (unit ∷ units) (suc n) = names_at units n
+
+-- each unit has one name
+names_long : (units : List UnitShape) → length (names_of units) ≡ length units
+names_long [] = refl
+names_long (unit ∷ units) = ap suc (names_long units)
+
+module _ (sources targets : List UnitShape) (long : length targets ≡ length sources) (each : (n : ℕ) (source target : UnitShape) → slice_get sources n ≡ Some source → slice_get targets n ≡ Some target → Refits source target) where
+  -- the units of number n
+  record RefitAt (n : ℕ) : Type 0 where
+    source : UnitShape
+    target : UnitShape
+    source_at : slice_get sources n ≡ Some source
+    target_at : slice_get targets n ≡ Some target
+    refits : Refits source target
+
+  refit_at : (n : ℕ) → n < length sources → RefitAt n
+  refit_at n lt =
+      let s = some_at sources n lt in
+      let t = some_at targets n (omega (arith, lt, long)) in
+      record { source = s.0; target = t.0; source_at = s.1; target_at = t.1; refits = each n s.0 t.0 s.1 t.1 }
+
+  -- units of a number receive as many arguments, and have one name
+  same_receives : (n : ℕ) → n < length sources → receives_in (body_at sources n) ≡ receives_in (body_at targets n)
+  same_receives n lt =
+      let m = refit_at n lt in
+      ap (λ o. receives_in (body_or_empty o)) m.source_at ∙ sym m.refits.receives ∙ sym (ap (λ o. receives_in (body_or_empty o)) m.target_at)
+
+  same_name : (n : ℕ) → n < length sources → slice_get (names_of targets) n ≡ slice_get (names_of sources) n
+  same_name n lt =
+      let m = refit_at n lt in
+      names_at targets n ∙ ap (option_map (λ (u : UnitShape). u.name)) m.target_at ∙ ap Some m.refits.name ∙ sym (names_at sources n ∙ ap (option_map (λ (u : UnitShape). u.name)) m.source_at)
+
+  -- a name is that of a source
+  within : (n : ℕ) → n < length (names_of targets) → n < length sources
+  within n lt = omega (arith, lt, names_long targets, long)
+
+  -- their names differ
+  names_differ : IsProgram sources → AllDiffer (names_of targets)
+  names_differ program i j lt lt' same =
+      let a = within i lt in
+      let b = within j lt' in
+      program.names i j (omega (arith, a, names_long sources)) (omega (arith, b, names_long sources)) (sym (same_name i a) ∙ same ∙ same_name j b)
+
+  inst_fits : (n : ℕ) (m : RefitAt n) (place : ℕ) (inst : Inst) → slice_get m.target.body place ≡ Some inst → BodyFits sources m.source.body → InstFits targets m.target.body place inst
+  inst_fits n m place (Receive x) here fits = m.refits.lowers.first place x here
+  inst_fits n m place (Assign x rhs) here fits = tt
+  inst_fits n m place (Goto to) here fits = m.refits.lowers.targets place to (ap target_of here)
+  inst_fits n m place (If test to) here fits = m.refits.lowers.targets place to (ap target_of here)
+  inst_fits n m place (Call into called operands) here fits =
+      let source = called_fits sources m.source.body called (length operands) fits (m.refits.calls called (length operands) (record { place = place; inst = Call into called operands; here = here; calls = refl })) in
+      (omega (arith, source.0, long), source.1 ∙ same_receives called source.0)
+  inst_fits n m place (Print a) here fits = tt
+  inst_fits n m place (Return a) here fits = tt
+
+  -- their bodies fit
+  bodies_fit : IsProgram sources → (n : ℕ) (unit : UnitShape) → slice_get targets n ≡ Some unit → BodyFits targets unit.body
+  bodies_fit program n unit at =
+      let lt : n < length sources = omega (arith, slice_get_within targets n unit at, long) in
+      let m = refit_at n lt in
+      let one : Some unit ≡ Some m.target = sym at ∙ m.target_at in
+      let same : m.target ≡ unit = cc in
+      subst (λ (u : UnitShape). BodyFits targets u.body) same (record {
+        insts = λ place inst here. inst_fits n m place inst here (program.bodies n m.source m.source_at);
+        received = m.refits.lowers.received;
+      })
+
+  -- so they are a program
+  pub refit_program : IsProgram sources → IsProgram targets
+  refit_program program = record {
+    some_unit = omega (arith, program.some_unit, long);
+    names = names_differ program;
+    bodies = bodies_fit program;
+  }

@@ -1,0 +1,70 @@
+-- Laws: what is made of each unit of a program whose units go through a pass. For proofs only.
+use Rattle.std.proofs.Common.{◌≡◌, ℕ, ◌+◌, inl, inr, List, [], ◌∷◌, ◌++◌, length, slice_get, Option, Some, None, refl, sym, ap, ◌∙◌, subst}
+use Rattle.std.proofs.lemmas.List.{length_push}
+use Rattle.mir_base.specs.declared.instructions.Inst.{Inst}
+use Rattle.mir_base.specs.declared.instructions.Inst.TheVariants.{Receive, Assign, Goto, If, Call, Print, Return}
+use Rattle.mir_base.specs.Shapes.{BodyFits, IsTarget, ProgramShape, UnitShape, body_or_empty, receives_in}
+use Rattle.flow_graph.specs.Calls.{NodesCall}
+use Rattle.flow_graph.specs.Graphs.{GraphShape}
+use Rattle.flow_graph.specs.ListLaws.{get_push}
+use Rattle.flow_graph.specs.Lowered.{CanLower, target_of}
+use Rattle.program_pass.specs.RefitLaws.{called_fits}
+use Rattle.program_pass.specs.PassPrograms.{AllPassed, CleanedLaid, EachUnit, LoweredClean, IsPassedProgram, IsPassedUnit, PassKeeps, PassRelation, PassedAt, UnitPassed}
+
+-- what fits as a body can be lowered
+pub fits_lower : (units : List UnitShape) (body : List Inst) → BodyFits units body → CanLower body
+fits_lower units body fits = record {
+  first = λ place x at. fits.insts place (Receive x) at;
+  received = fits.received;
+  targets = λ place target is. jumps place (slice_get body place) target refl is;
+}
+  where
+    jumps : (place : ℕ) (inst : Option Inst) (target : ℕ) → slice_get body place ≡ inst → target_of inst ≡ Some target → IsTarget body target
+    jumps place None target at is = cc
+    jumps place (Some (Receive x)) target at is = cc
+    jumps place (Some (Assign x rhs)) target at is = cc
+    jumps place (Some (Goto to)) target at is = let same : to ≡ target = cc in subst (IsTarget body) same (fits.insts place (Goto to) at)
+    jumps place (Some (If test to)) target at is = let same : to ≡ target = cc in subst (IsTarget body) same (fits.insts place (If test to) at)
+    jumps place (Some (Call into unit operands)) target at is = cc
+    jumps place (Some (Print a)) target at is = cc
+    jumps place (Some (Return a)) target at is = cc
+
+module _ (Exact Between : PassRelation) where
+  -- the unit is the one of its number
+  pub passed_at : (units : List UnitShape) (number : ℕ) (unit : UnitShape) (lowered cleaned passed : GraphShape) (target : UnitShape) → slice_get units number ≡ Some unit → LoweredClean unit lowered cleaned → Exact number cleaned passed → PassKeeps (Between number) cleaned passed → CleanedLaid passed target → PassedAt Exact Between units number target
+  passed_at units number unit lowered cleaned passed target at front is keeps back source at' =
+      let both : Some unit ≡ Some source = sym at ∙ at' in
+      let same : unit ≡ source = cc in
+      subst (λ u. UnitPassed Exact Between u number target) same (record { lowered = lowered; cleaned = cleaned; passed = passed; front = front; is_passed = is; keeps = keeps; back = back })
+
+  -- one more unit
+  pub each_more : (sources targets targets' : List UnitShape) (number : ℕ) (target : UnitShape) → length targets ≡ number → EachUnit (UnitPassed Exact Between) sources targets → PassedAt Exact Between sources number target → targets' ≡ targets ++ target ∷ [] → EachUnit (UnitPassed Exact Between) sources targets'
+  each_more sources targets targets' number target long each made is u s t at at' = elim (get_push targets target t u (sym (ap (λ l. slice_get l u) is) ∙ at')) [
+    | inl old ↦ each u s t at old
+    | inr last ↦
+        let number_is : u ≡ number = last.0 ∙ long in
+        let of : UnitPassed Exact Between s number target = made s (ap (slice_get sources) (sym number_is) ∙ at) in
+        subst (λ n. UnitPassed Exact Between s n t) (sym number_is) (subst (UnitPassed Exact Between s number) last.1 of)
+  ]
+
+  -- the exact unit
+  exact : (s : UnitShape) (u : ℕ) (t : UnitShape) → UnitPassed Exact Between s u t → IsPassedUnit Exact s u t
+  exact s u t m = record {
+    lowered = m.lowered;
+    cleaned = m.cleaned;
+    passed = m.passed;
+    swept = m.back.swept;
+    is_lowered = m.front.is_lowered;
+    is_cleaned = m.front.is_cleaned;
+    is_passed = m.is_passed;
+    is_swept = m.back.is_swept;
+    is_laid = m.back.is_laid;
+  }
+
+  -- and the exact program
+  pub all_passed : (source target : ProgramShape) → AllPassed Exact Between source.units target.units → IsPassedProgram Exact source target
+  all_passed source target all = record { long = all.long; units = λ u s t at at'. exact s u t (all.units u s t at at') }
+
+-- and their number
+pub long_more : (targets targets' : List UnitShape) (number : ℕ) (target : UnitShape) → length targets ≡ number → targets' ≡ targets ++ target ∷ [] → length targets' ≡ number + 1
+long_more targets targets' number target long is = ap (λ l. length l) is ∙ length_push targets target ∙ ap (λ n. n + 1) long

@@ -1,0 +1,48 @@
+// Units as graphs, and graphs as units.
+ghost use Rattle.std.specs.Prelude.{IfOk};
+ghost use Rattle.mir_base.specs.Shapes.{IsProgram};
+ghost use Rattle.flow_graph.specs.Lowered.{CanLower};
+ghost use Rattle.program_pass.specs.PassPrograms.{CleanedLaid, LoweredClean};
+
+use flow_graph::{Graph, layout, lower};
+use jump_clean::clean;
+use mir_base::{Memory, Program, Unit as MirUnit};
+use std::alloc::Global;
+
+/// The graph of a unit, and the same with clean jumps.
+#[derive(Drop)]
+pub struct Front {
+    /// The graph.
+    pub lowered: Graph,
+    /// The same with clean jumps.
+    pub cleaned: Graph,
+}
+
+/// The graph of a unit, and the same with clean jumps. It fails only with `Memory`.
+pub fn lowered_clean(alloc: Global, unit: &MirUnit) -> Result<Front, Memory>
+    requires { CanLower unit.now.body }
+    ensures { IfOk result (λ front. LoweredClean unit.now front.lowered front.cleaned) }
+{
+    let lowered = lower(alloc, unit)?;
+    let cleaned = clean(alloc, &lowered)?;
+    let _lowered = lowered.nodes();
+    let _cleaned = cleaned.nodes();
+    Ok(Front { lowered, cleaned })
+}
+
+/// The graph with clean jumps, laid out. It fails only with `Memory`.
+pub fn laid_out(alloc: Global, graph: &Graph) -> Result<MirUnit, Memory>
+    ensures { IfOk result (CleanedLaid graph.now) }
+{
+    let swept = clean(alloc, graph)?;
+    let unit = layout(alloc, &swept)?;
+    let _nodes = graph.nodes();
+    Ok(unit)
+}
+
+/// Has no effect; carries the theorem that the units of a program fit together, which is its invariant.
+pub fn fits_together(program: &Program)
+    ensures { IsProgram program.now.units }
+{
+    let _ = &program.units;
+}

@@ -1,0 +1,6 @@
+use Rattle.program_pass.specs.MemberLaws.{AreFoundBelow}
+use Rattle.tail_loop.specs.Tails.{HasTailCall}
+use Rattle.tail_loop.proofs.calls.tail_calls.Given as goal
+
+abbrev pub invariant-loop-n : goal.invariant-loop-n
+invariant-loop-n l = AreFoundBelow (HasTailCall l.nodes l.unit) l.n l.calls.items

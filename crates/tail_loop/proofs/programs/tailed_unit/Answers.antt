@@ -1,0 +1,13 @@
+use Rattle.tail_loop.specs.Tails.{Looped, Tailed}
+use Rattle.program_pass.specs.UnitMakes.{fits_lower, passed_at}
+use Rattle.tail_loop.proofs.Makes.{self_calls_fit}
+use Rattle.tail_loop.proofs.programs.tailed_unit.Goals as goal
+
+pub lowered_clean-requires : goal.lowered_clean-requires
+lowered_clean-requires c = fits_lower c.args.program.now.units c.unit.result.now.body c.unit.ensures.fits
+
+pub tail-requires : goal.tail-requires
+tail-requires c = self_calls_fit c.args.program.now.units c.args.number c.unit.result.now c.in_ok-front.front.lowered c.in_ok-front.front.cleaned c.unit.ensures.unit c.unit.ensures.fits c.in_ok-front.ensures
+
+pub returns : goal.returns
+returns c = passed_at Tailed Looped c.args.program.now.units c.args.number c.unit.result.now c.in_ok-front.front.lowered c.in_ok-front.front.cleaned c.in_ok-tailed.tailed c.in_ok-target.target c.unit.ensures.unit c.in_ok-front.ensures c.in_ok-tailed.ensures.tailed c.in_ok-tailed.ensures.keeps c.in_ok-target.ensures

@@ -1,0 +1,4 @@
+pub mod Found
+pub mod Pushed
+pub mod MadeOfLeaves
+pub mod Tabled

@@ -1,0 +1,19 @@
+use Rattle.program_pass.specs.UnitMakes.{fits_lower, passed_at}
+use Rattle.unit_join.specs.JoinProgramLaws.{leaf_calls_fit, no_leaf_calls}
+use Rattle.unit_join.specs.Joins.{LeavesJoined, JoinedBetween}
+use Rattle.unit_join.proofs.programs.joined_unit.Goals as goal
+
+pub lowered_clean-requires : goal.lowered_clean-requires
+lowered_clean-requires c = fits_lower c.args.program.now.units c.unit.result.now.body c.unit.ensures.fits
+
+pub join-requires-clause-fit : goal.join-requires-clause-fit
+join-requires-clause-fit c = leaf_calls_fit c.args.program.now.units c.args.leaves.now.units c.unit.result.now c.in_ok-front.front.lowered c.in_ok-front.front.cleaned c.requires.leaves c.unit.ensures.fits c.in_ok-front.ensures
+
+pub join-requires-clause-no_calls : goal.join-requires-clause-no_calls
+join-requires-clause-no_calls c = no_leaf_calls c.args.program.now.units c.args.leaves.now.units c.requires.leaves
+
+pub returns : goal.returns
+returns c =
+    let leaves = c.args.leaves.now.units in
+    passed_at (LeavesJoined leaves) (JoinedBetween leaves) c.args.program.now.units c.args.number c.unit.result.now c.in_ok-front.front.lowered c.in_ok-front.front.cleaned c.in_ok-joined.joined c.in_ok-target.target c.unit.ensures.unit c.in_ok-front.ensures
+    c.in_ok-joined.ensures.joined c.in_ok-joined.ensures.keeps c.in_ok-target.ensures

@@ -1,0 +1,172 @@
+// The nodes of a graph with the leaves that it calls.
+ghost use Rattle.std.specs.Prelude.{◌≡◌, ◌++◌, ◌+◌, ◌<◌, IfOk, OnOk, drop, length, map, slice_get};
+ghost use Rattle.program_pass.specs.Marks.{AreMarksOf};
+ghost use Rattle.program_pass.specs.Puts.{insertions};
+ghost use Rattle.unit_join.specs.CopyTables.{HasCopyNumbers};
+ghost use Rattle.unit_join.specs.Joins.{AreLeafCalls, IsLeafCall, LeavesAreJoined, entered, entry_assignments, joined_by, leaf_node, leaf_place, nodes_with_leaf, zeroed};
+
+use crate::Leaves;
+use crate::calls::leaf_at;
+use crate::copy_table::CopyTable;
+use crate::copying::{leaf_node, leaf_place, plus};
+use flow_graph::{Graph, Node};
+use mir_base::{Memory, Operand};
+use program_pass::{Put, copied_nodes, marks_of, plain_put, stand, start_succ};
+use std::alloc::Global;
+
+/// The nodes, of which the calls of leaves have given way to the leaves.
+pub(crate) fn joined(
+    alloc: Global,
+    graph: &Graph,
+    leaves: &Leaves,
+    table: &CopyTable,
+    calls: &[usize],
+) -> Result<Vec<Node>, Memory>
+    requires calls { AreLeafCalls leaves.now.units graph.now.nodes calls.now }
+    requires copies { HasCopyNumbers leaves.now.units (length graph.now.vars) table.now }
+    ensures { IfOk result (λ joined. LeavesAreJoined leaves.now.units table.now.units.items
+        graph.now calls.now graph.now.nodes joined.items) }
+{
+    let mut nodes = copied_nodes(alloc, graph.nodes())?;
+    for call in calls {
+        join_at(alloc, &mut nodes, graph, leaves, table, *call)?;
+    }
+    Ok(nodes)
+}
+
+/// Lets the leaf stand in the place of its call.
+fn join_at(
+    alloc: Global,
+    nodes: &mut Vec<Node>,
+    graph: &Graph,
+    leaves: &Leaves,
+    table: &CopyTable,
+    call: usize,
+) -> Result<(), Memory>
+    requires node { call < length graph.now.nodes }
+    requires room { call < length nodes.old.items }
+    requires copies { HasCopyNumbers leaves.now.units (length graph.now.vars) table.now }
+    ensures { OnOk result ((c : IsLeafCall leaves.now.units graph.now.nodes call) → nodes.new.items
+        ≡ joined_by leaves.now.units table.now.units.items graph.now nodes.old.items call c) }
+{
+    match graph.node(call) {
+        Node::Call(into, unit, operands, next) => match leaf_at(leaves, *unit) {
+            Some(leaf) => {
+                let base = table.first_copy(*unit);
+                put_leaf(
+                    alloc,
+                    nodes,
+                    call,
+                    leaf,
+                    base,
+                    *into,
+                    operands.items(),
+                    *next,
+                )?;
+                Ok(())
+            }
+            None => Ok(()),
+        },
+        _ => Ok(()),
+    }
+}
+
+/// Lets this leaf stand in the place of node `call`.
+fn put_leaf(
+    alloc: Global,
+    nodes: &mut Vec<Node>,
+    call: usize,
+    leaf: &Graph,
+    base: usize,
+    into: Option<usize>,
+    operands: &[Operand],
+    next: usize,
+) -> Result<(), Memory>
+    requires { call < length nodes.old.items }
+    ensures { OnOk result (nodes.new.items ≡
+        nodes_with_leaf nodes.old.items call (λ x. base + x) leaf.now into operands.now next) }
+{
+    let puts = entry_assignments(alloc, leaf, base, operands)?;
+    let first = plus(nodes.len(), puts.len().saturating_sub(1))?;
+    let entry = leaf_place(first, start_succ(leaf))?;
+    stand(nodes, call, puts.as_slice(), entry)?;
+    push_leaf(nodes, leaf, base, first, into, next)
+}
+
+/// The nodes of the leaf without its Start, as new nodes.
+fn push_leaf(
+    nodes: &mut Vec<Node>,
+    leaf: &Graph,
+    base: usize,
+    first: usize,
+    into: Option<usize>,
+    next: usize,
+) -> Result<(), Memory>
+    ensures { OnOk result (nodes.new.items ≡ nodes.old.items
+        ++ map (leaf_node (λ x. base + x) (leaf_place first) into next) (drop 1 leaf.now.nodes)) }
+{
+    for m in 1..leaf.len() {
+        nodes.push(leaf_node(leaf.node(m), base, first, into, next)?)?;
+    }
+    Ok(())
+}
+
+/// The assignments of a call of the leaf: the copies of its received variables get the arguments, and those of all others
+/// become 0.
+fn entry_assignments(
+    alloc: Global,
+    leaf: &Graph,
+    base: usize,
+    operands: &[Operand],
+) -> Result<Vec<Put>, Memory>
+    ensures { IfOk result (λ puts. insertions puts.items ≡
+        entry_assignments (λ x. base + x) leaf.now operands.now) }
+{
+    let received = leaf.received();
+    let vars = leaf.vars().len();
+    let mut puts = entered(alloc, received, base, operands)?;
+    let marks = marks_of(alloc, received, vars)?;
+    push_zeroed(&mut puts, marks.as_slice(), received, base, vars)?;
+    Ok(puts)
+}
+
+/// The copies of the received variables get the arguments.
+fn entered(
+    alloc: Global,
+    received: &[usize],
+    base: usize,
+    operands: &[Operand],
+) -> Result<Vec<Put>, Memory>
+    ensures { IfOk result (λ puts. insertions puts.items ≡
+        entered (λ x. base + x) received.now operands.now) }
+{
+    let mut puts = Vec::new(alloc);
+    let mut i = 0;
+    while i < received.len() && i < operands.len() {
+        puts.push(plain_put(plus(base, received[i])?, operands[i]))?;
+        i += 1;
+    }
+    Ok(puts)
+}
+
+/// Of so many variables the copies of those that are not received become 0. The marks tell which are received.
+fn push_zeroed(
+    puts: &mut Vec<Put>,
+    marks: &[bool],
+    received: &[usize],
+    base: usize,
+    vars: usize,
+) -> Result<(), Memory>
+    requires { AreMarksOf received.now vars marks.now }
+    ensures { OnOk result (insertions puts.new.items ≡
+        insertions puts.old.items ++ zeroed (λ x. base + x) received.now 0 vars) }
+{
+    let _ = received;
+    for x in 0..vars {
+        let marked = marks[x];
+        if !marked {
+            puts.push(plain_put(plus(base, x)?, Operand::Const(0)))?;
+        }
+    }
+    Ok(())
+}
