@@ -7,6 +7,7 @@ use Rattle.flow_graph.specs.Graphs.{GraphShape}
 use Rattle.motion_rewrite.specs.declared.placement.Placement.{Placement}
 use Rattle.motion_rewrite.specs.Over.{HasOverEach}
 use Rattle.motion_rewrite.specs.Placements.{AreOptimal, IsAnticipatable}
+use Rattle.div_move.specs.MustCome.{MustComeTo}
 use Rattle.mir_opt.specs.declared.trails.MoveUnit.{MoveUnit}
 use Rattle.mir_opt.specs.declared.trails.UnitTrail.{UnitTrail}
 
@@ -26,3 +27,7 @@ MovesBest unit = IsBest IsAnticipatable unit.split unit.table unit.placement uni
 -- and in one whose code is moved alone
 abbrev pub MotionIsBest : MoveUnit → Type 0
 MotionIsBest unit = IsBest IsAnticipatable unit.split unit.table unit.placement unit.moved
+
+-- and in one whose divisions are moved, which may stand where a run must come to them
+abbrev pub DivisionsAreBest : MoveUnit → Type 0
+DivisionsAreBest unit = IsBest MustComeTo unit.split unit.table unit.placement unit.moved

@@ -1,12 +1,11 @@
 -- When a trail is linked: each part is the exact result of its pass on the part before. Cited by contracts.
-use Rattle.std.specs.Prelude.{◌≡◌, ℕ, List, length}
+use Rattle.std.specs.Prelude.{◌≡◌, ℕ, List}
 use Rattle.std.specs.List.{AllZip}
 use Rattle.mir_base.specs.declared.instructions.Expr.{Expr}
 use Rattle.mir_base.specs.Shapes.{ProgramShape, UnitShape}
 use Rattle.flow_graph.specs.declared.nodes.Node.{Node}
 use Rattle.flow_graph.specs.Graphs.{GraphShape}
 use Rattle.flow_graph.specs.Lowered.{IsLowered}
-use Rattle.path_laws.specs.Paths.{HaveShape}
 use Rattle.jump_clean.specs.Cleaned.{IsClean}
 use Rattle.edge_split.specs.Split.{IsEdgeSplit}
 use Rattle.cond_const.specs.Folded.{IsFolded}
@@ -16,8 +15,9 @@ use Rattle.sink_dead.specs.RoundGraphs.{AreRounds, last_round}
 use Rattle.motion_rewrite.specs.declared.placement.Placement.{Placement}
 use Rattle.motion_rewrite.specs.Flatten.{IsFlattened}
 use Rattle.motion_rewrite.specs.Placements.{IsAnticipatable}
-use Rattle.motion_rewrite.specs.Tables.{movable_exprs}
-use Rattle.latest_place.specs.Lazy.{AreLazy}
+use Rattle.motion_rewrite.specs.Tables.{dividing_exprs, movable_exprs}
+use Rattle.latest_place.specs.Lazy.{IsLazyPlacement}
+use Rattle.div_move.specs.MustCome.{MustComeTo}
 use Rattle.mir_opt.specs.declared.trails.UnitTrail.{UnitTrail}
 use Rattle.mir_opt.specs.declared.trails.Trail.{Trail}
 use Rattle.mir_opt.specs.declared.trails.MoveUnit.{MoveUnit}
@@ -27,13 +27,6 @@ use Rattle.mir_opt.specs.declared.stages.MoveStage.TheVariants as moves
 use Rattle.mir_opt.specs.Stages.{AreLaid, graph_at, move_graph_at}
 
 -- ---- code motion
-
--- the placement has a row for each node and a bit for each expression, and is the lazy one of each expression by the
--- rule
-pub record IsLazyPlacement (Down : GraphShape → Expr → ℕ → Type 0) (graph : GraphShape) (table : List Expr) (placement : Placement) : Type 0 where
-  pub insert_rows : HaveShape graph (length table) placement.insert
-  pub replace_rows : HaveShape graph (length table) placement.replace
-  pub lazy : AreLazy graph table (Down graph) placement
 
 -- the steps of code motion: the split graph, the expressions of it that are moved, their lazy placement by the rule,
 -- and the graph rewritten by it
@@ -46,6 +39,10 @@ pub record IsMotion (exprs : List Node → List Expr) (Down : GraphShape → Exp
 -- the motion of the movable expressions, which may stand where they are anticipatable
 abbrev pub IsSafeMotion : GraphShape → GraphShape → List Expr → Placement → GraphShape → Type 0
 IsSafeMotion graph split table placement moved = IsMotion movable_exprs IsAnticipatable graph split table placement moved
+
+-- the motion of the expressions that divide, which may stand where a run must come to them
+abbrev pub IsDivisionMotion : GraphShape → GraphShape → List Expr → Placement → GraphShape → Type 0
+IsDivisionMotion graph split table placement moved = IsMotion dividing_exprs MustComeTo graph split table placement moved
 
 -- ---- one unit
 
@@ -79,6 +76,12 @@ pub record LinksMove (source : UnitShape) (unit : MoveUnit) : Type 0 where
   pub motion : IsSafeMotion unit.cleaned unit.split unit.table unit.placement unit.moved
   pub sweeps : IsClean unit.moved unit.swept
 
+-- and those of the motion of divisions
+pub record LinksDivision (source : UnitShape) (unit : MoveUnit) : Type 0 where
+  pub start : IsStart source unit.lowered unit.cleaned
+  pub motion : IsDivisionMotion unit.cleaned unit.split unit.table unit.placement unit.moved
+  pub sweeps : IsClean unit.moved unit.swept
+
 -- ---- all units
 
 -- each unit of the source has its steps, and the unit of the target of its number is the layout of their last graph;
@@ -95,6 +98,10 @@ IsLinked trail = AllLinked graph_at Result LinksUnit trail.source.units trail.un
 abbrev pub IsMoveLinked : MoveTrail → Type 0
 IsMoveLinked trail = AllLinked move_graph_at moves.Result LinksMove trail.source.units trail.units trail.target.units
 
+-- the trail of `divisions`
+abbrev pub IsDivisionLinked : MoveTrail → Type 0
+IsDivisionLinked trail = AllLinked move_graph_at moves.Result LinksDivision trail.source.units trail.units trail.target.units
+
 -- no other trail of the program is linked
 abbrev pub IsOnlyTrail : ProgramShape → Trail → Type 0
 IsOnlyTrail program trail = (other : Trail) → other.source ≡ program → IsLinked other → trail ≡ other
@@ -102,6 +109,10 @@ IsOnlyTrail program trail = (other : Trail) → other.source ≡ program → IsL
 -- no other move trail of the program is linked
 abbrev pub IsOnlyMoveTrail : ProgramShape → MoveTrail → Type 0
 IsOnlyMoveTrail program trail = (other : MoveTrail) → other.source ≡ program → IsMoveLinked other → trail ≡ other
+
+-- no other division trail of the program is linked
+abbrev pub IsOnlyDivisionTrail : ProgramShape → MoveTrail → Type 0
+IsOnlyDivisionTrail program trail = (other : MoveTrail) → other.source ≡ program → IsDivisionLinked other → trail ≡ other
 
 -- a unit of the source has no two values of linked steps, where those of one lead to nodes
 abbrev pub HasOneLink : {T : Type 0} → (T → Type 0) → (UnitShape → T → Type 0) → Type 0

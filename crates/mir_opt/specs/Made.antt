@@ -15,6 +15,8 @@ use Rattle.motion_rewrite.specs.Flatten.{IsFlattened}
 use Rattle.motion_rewrite.specs.Tables.{movable_exprs}
 use Rattle.sink_dead.specs.RoundGraphs.{last_round}
 use Rattle.sink_dead.specs.RoundsKept.{LastKeeps, RoundsKeep}
+use Rattle.latest_place.specs.Lazy.{IsLazyPlacement}
+use Rattle.div_move.specs.MustCome.{MustComeTo}
 use Rattle.mir_opt.specs.declared.back.Back.{Back}
 use Rattle.mir_opt.specs.declared.front.Front.{Front}
 use Rattle.mir_opt.specs.declared.front.Lowered.{Lowered}
@@ -25,7 +27,7 @@ use Rattle.mir_opt.specs.declared.trails.UnitTrail.{UnitTrail}
 use Rattle.mir_opt.specs.declared.walking.Walked.{Walked}
 use Rattle.mir_opt.specs.Best.{IsBest, MovesBest}
 use Rattle.mir_opt.specs.Divisions.{DivisionsStay}
-use Rattle.mir_opt.specs.Links.{IsBack, IsBeforeMotion, IsLazyPlacement, IsMotion, IsStart}
+use Rattle.mir_opt.specs.Links.{IsBack, IsBeforeMotion, IsDivisionMotion, IsMotion, IsStart}
 use Rattle.mir_opt.specs.Stages.{AreLaid, KeepsProgram}
 
 -- after all passes the code motion of a unit is the best, and divisions stay
@@ -93,6 +95,13 @@ pub record MotionMade (Down : GraphShape → Expr → ℕ → Type 0) (graph : G
   pub split_keeps : GraphKeeps graph made.split
   pub moved_keeps : GraphKeeps made.split made.moved
   pub divides : GraphDivides graph made.moved
+
+-- the motion of divisions on a graph: each graph keeps the one before
+pub record DivisionsMade (graph : GraphShape) (made : Moved) : Type 0 where
+  pub motion : IsDivisionMotion graph made.split made.table made.placement made.moved
+  pub best : IsBest MustComeTo made.split made.table made.placement made.moved
+  pub split_keeps : GraphKeeps graph made.split
+  pub moved_keeps : GraphKeeps made.split made.moved
 
 -- the unit is the layout of the graph, keeps it, and can be lowered again
 pub record IsLaidOut (graph : GraphShape) (unit : UnitShape) : Type 0 where

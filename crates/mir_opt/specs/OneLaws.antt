@@ -1,5 +1,5 @@
--- A program has one linked trail, and one linked move trail: the graphs of a trail that is a value lead to nodes. For
--- proofs only, and by `UnitSteps`.
+-- A program has one linked trail, one linked move trail and one linked division trail: the graphs of a trail that is a
+-- value lead to nodes. For proofs only, and by `UnitSteps`.
 use Rattle.std.proofs.Common.{◌≡◌, ℕ, List, [], ◌∷◌, refl, sym, ap, ◌∙◌, subst}
 use Rattle.std.specs.List.{AllZip}
 use Rattle.mir_base.specs.declared.instructions.Expr.{Expr}
@@ -24,11 +24,13 @@ use Rattle.motion_rewrite.specs.declared.placement.Placement.{Placement}
 use Rattle.motion_rewrite.specs.Flatten.{IsFlattened}
 use Rattle.motion_rewrite.specs.FlattenLaws.{flattened_is_one}
 use Rattle.motion_rewrite.specs.Placements.{IsAnticipatable}
-use Rattle.motion_rewrite.specs.Tables.{movable_exprs}
+use Rattle.motion_rewrite.specs.Tables.{dividing_exprs, movable_exprs}
+use Rattle.latest_place.specs.Lazy.{IsLazyPlacement}
 use Rattle.latest_place.specs.LazyLaws.{lazy_is_one}
+use Rattle.div_move.specs.MustCome.{MustComeTo}
 use Rattle.mir_opt.specs.declared.trails.MoveUnit.{MoveUnit}
 use Rattle.mir_opt.specs.declared.trails.UnitTrail.{UnitTrail}
-use Rattle.mir_opt.specs.Links.{AllLinked, HasOneLink, IsLazyPlacement, IsMotion, IsStart, LinksMove, LinksUnit}
+use Rattle.mir_opt.specs.Links.{AllLinked, HasOneLink, IsMotion, IsStart, LinksDivision, LinksMove, LinksUnit}
 use Rattle.mir_opt.specs.Stages.{AreLaid, CleansWithin, MotionCleansWithin}
 
 -- ---- single passes
@@ -149,19 +151,30 @@ module _ (source : UnitShape) (a b : UnitTrail) (within : CleansWithin a) (p : L
   pub unit_is_one : a ≡ b
   unit_is_one = same_trails a b start.lowers start.cleans folded numbered copied motion.splits motion.tables motion.placements motion.moves recopied sunk swept
 
--- and one move trail
-module _ (source : UnitShape) (a b : MoveUnit) (within : MotionCleansWithin a) (p : LinksMove source a) (q : LinksMove source b) where
+-- the steps of code motion alone have one value, whatever expressions are moved by whatever rule
+module _ (exprs : List Node → List Expr) (Down : GraphShape → Expr → ℕ → Type 0) (source : UnitShape) (a b : MoveUnit) (within : MotionCleansWithin a)
+    (a_start : IsStart source a.lowered a.cleaned) (b_start : IsStart source b.lowered b.cleaned)
+    (a_motion : IsMotion exprs Down a.cleaned a.split a.table a.placement a.moved) (b_motion : IsMotion exprs Down b.cleaned b.split b.table b.placement b.moved)
+    (a_sweeps : IsClean a.moved a.swept) (b_sweeps : IsClean b.moved b.swept) where
   move_start : SameStart a.lowered b.lowered a.cleaned b.cleaned
-  move_start = start_is_one source a.lowered b.lowered a.cleaned b.cleaned within.0 p.start q.start
+  move_start = start_is_one source a.lowered b.lowered a.cleaned b.cleaned within.0 a_start b_start
 
   move_motion : SameMotion a.split b.split a.table b.table a.placement b.placement a.moved b.moved
-  move_motion = motion_is_one movable_exprs IsAnticipatable a.cleaned b.cleaned a.split b.split a.table b.table a.placement b.placement a.moved b.moved move_start.cleans p.motion q.motion
+  move_motion = motion_is_one exprs Down a.cleaned b.cleaned a.split b.split a.table b.table a.placement b.placement a.moved b.moved move_start.cleans a_motion b_motion
 
   move_swept : a.swept ≡ b.swept
-  move_swept = clean_same a.moved b.moved a.swept b.swept within.1 move_motion.moves p.sweeps q.sweeps
+  move_swept = clean_same a.moved b.moved a.swept b.swept within.1 move_motion.moves a_sweeps b_sweeps
 
-  pub move_is_one : a ≡ b
-  move_is_one = same_moves a b move_start.lowers move_start.cleans move_motion.splits move_motion.tables move_motion.placements move_motion.moves move_swept
+  moves_are_one : a ≡ b
+  moves_are_one = same_moves a b move_start.lowers move_start.cleans move_motion.splits move_motion.tables move_motion.placements move_motion.moves move_swept
+
+-- so a unit has one move trail
+pub move_is_one : (source : UnitShape) (a b : MoveUnit) → MotionCleansWithin a → LinksMove source a → LinksMove source b → a ≡ b
+move_is_one source a b within p q = moves_are_one movable_exprs IsAnticipatable source a b within p.start q.start p.motion q.motion p.sweeps q.sweeps
+
+-- and one division trail
+pub division_is_one : (source : UnitShape) (a b : MoveUnit) → MotionCleansWithin a → LinksDivision source a → LinksDivision source b → a ≡ b
+division_is_one source a b within p q = moves_are_one dividing_exprs MustComeTo source a b within p.start q.start p.motion q.motion p.sweeps q.sweeps
 
 -- ---- all units
 

@@ -14,7 +14,12 @@ use flow_graph::Graph;
 use mir_base::{Memory, Unit as MirUnit};
 use std::alloc::Global;
 
-impl UnitSteps for UnitTrail {
+/// The steps of `optimise`.
+pub(crate) struct Optimising;
+
+impl UnitSteps for Optimising {
+    type Unit = UnitTrail;
+
     type Stage = Stage;
 
     ghost graph_at = { graph_at };
@@ -45,8 +50,8 @@ impl UnitSteps for UnitTrail {
         })
     }
 
-    fn graph_of(&self, stage: &Stage) -> &Graph {
-        self.graph(*stage)
+    fn graph_of<'a>(unit: &'a UnitTrail, stage: &Stage) -> &'a Graph {
+        unit.graph(*stage)
     }
 
     ghost one = { unit_is_one };

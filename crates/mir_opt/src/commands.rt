@@ -1,10 +1,12 @@
 // The calls of this crate: each is the walk over the units of a program, with the steps of its command.
 ghost use Rattle.std.specs.Prelude.{◌≡◌, All, IfOk};
-ghost use Rattle.mir_opt.specs.Best.{MotionIsBest, MovesBest};
+ghost use Rattle.mir_opt.specs.Best.{DivisionsAreBest, MotionIsBest, MovesBest};
 ghost use Rattle.mir_opt.specs.Divisions.{DivisionsStay};
-ghost use Rattle.mir_opt.specs.Links.{IsLinked, IsMoveLinked, IsOnlyMoveTrail, IsOnlyTrail};
+ghost use Rattle.mir_opt.specs.Links.{IsDivisionLinked, IsLinked, IsMoveLinked, IsOnlyDivisionTrail, IsOnlyMoveTrail, IsOnlyTrail};
 ghost use Rattle.mir_opt.specs.Stages.{AllKeep, AreLaid, KeepsProgram, graph_at, move_graph_at};
 
+use crate::chain::Optimising;
+use crate::motions::{Dividing, Moving};
 use crate::walking::{program_at, walk};
 use crate::{MoveStage, MoveTrail, Stage, Trail};
 use mir_base::{Memory, Program};
@@ -31,7 +33,7 @@ pub fn optimise(alloc: Global, program: &Program) -> Result<Trail, Memory>
     // operator, unless its divisor is known and not 0.
     ensures divisions { IfOk result (λ trail. All DivisionsStay trail.units) }
 {
-    let walked = walk(alloc, program, &Stage::Result)?;
+    let walked = walk::<Optimising>(alloc, program, &Stage::Result)?;
     Ok(Trail {
         source: walked.source,
         units: walked.units,
@@ -56,7 +58,32 @@ pub fn motion(alloc: Global, program: &Program) -> Result<MoveTrail, Memory>
     // In each unit no admissible placement evaluates an expression less often on any full path.
     ensures best { IfOk result (λ trail. All MotionIsBest trail.units) }
 {
-    let walked = walk(alloc, program, &MoveStage::Result)?;
+    let walked = walk::<Moving>(alloc, program, &MoveStage::Result)?;
+    Ok(MoveTrail {
+        source: walked.source,
+        units: walked.units,
+        target: walked.target,
+    })
+}
+
+/// What moving the divisions alone makes of the program: for each unit its graph, this graph with clean jumps, the steps
+/// of moving its divisions, and the unit that is the layout of the last graph. Source and target are the same program,
+/// which traps alike. There are no limits: it fails only with `Memory`.
+pub fn divisions(alloc: Global, program: &Program) -> Result<MoveTrail, Memory>
+    // The division trail of this program: each part is the exact result of its pass, and there is no other such trail.
+    ensures source { IfOk result (λ trail. trail.source ≡ program.now) }
+    ensures linked { IfOk result IsDivisionLinked }
+    ensures only { IfOk result (IsOnlyDivisionTrail program.now) }
+
+    // The target is the same program, as a whole and unit by unit, evaluates no more operators, and calls no units but
+    // those that the program calls. So it would be at each stage.
+    ensures keeps { IfOk result (λ trail. KeepsProgram program.now trail.target) }
+    ensures stages { IfOk result (λ trail. AllKeep move_graph_at trail.source.units trail.units) }
+
+    // In each unit no placement that is admissible by the rule of divisions evaluates one less often on any full path.
+    ensures best { IfOk result (λ trail. All DivisionsAreBest trail.units) }
+{
+    let walked = walk::<Dividing>(alloc, program, &MoveStage::Result)?;
     Ok(MoveTrail {
         source: walked.source,
         units: walked.units,
@@ -72,6 +99,6 @@ pub fn stage_program(alloc: Global, trail: &Trail, stage: Stage) -> Result<Progr
     ensures laid { IfOk result (λ program. AreLaid graph_at stage trail.now.units program.units) }
     ensures keeps { IfOk result (λ program. KeepsProgram trail.now.source program) }
 {
-    let program = program_at(alloc, &trail.source, trail.units.items(), &stage)?;
+    let program = program_at::<Optimising>(alloc, &trail.source, trail.units.items(), &stage)?;
     Ok(program)
 }

@@ -8,8 +8,9 @@
 //! The theorem that this crate carries is the contract of `optimise`, and that of `motion` alike: the trail is linked
 //! and is the only linked trail of its source, source and target are the same program, unit by unit and as a whole, the
 //! target evaluates no more operators, and in each unit no admissible placement evaluates an expression less often on
-//! any full path than the one that was taken; of `optimise` also that dividing assignments that are reached stay. What
-//! is said of the target holds of the program of each stage, which `stage_program` makes.
+//! any full path than the one that was taken; of `optimise` also that dividing assignments that are reached stay.
+//! `divisions` has a theorem of the same form, for the expressions that divide and their own rule. What is said of the
+//! target holds of the program of each stage, which `stage_program` makes.
 #![tactic(auto)]
 
 mod back;
@@ -23,6 +24,6 @@ mod steps;
 mod trails;
 mod walking;
 
-pub use commands::{motion, optimise, stage_program};
+pub use commands::{divisions, motion, optimise, stage_program};
 pub use stages::{MoveStage, Stage, stages_of};
 pub use trails::{MoveTrail, MoveUnit, Trail, UnitTrail};

@@ -1,11 +1,11 @@
-// The steps of code motion alone on one unit.
-ghost use Rattle.mir_opt.specs.Best.{MotionIsBest};
-ghost use Rattle.mir_opt.specs.Links.{LinksMove};
-ghost use Rattle.mir_opt.specs.OneLaws.{move_is_one};
+// The steps of code motion alone on one unit, and those of the motion of divisions.
+ghost use Rattle.mir_opt.specs.Best.{DivisionsAreBest, MotionIsBest};
+ghost use Rattle.mir_opt.specs.Links.{LinksDivision, LinksMove};
+ghost use Rattle.mir_opt.specs.OneLaws.{division_is_one, move_is_one};
 ghost use Rattle.mir_opt.specs.Stages.{MotionCleansWithin, move_graph_at};
 
 use crate::front::lower_clean;
-use crate::moving::move_code;
+use crate::moving::{move_code, move_divisions};
 use crate::steps::UnitSteps;
 use crate::{MoveStage, MoveUnit};
 use down_safe::EveryPath;
@@ -14,7 +14,12 @@ use jump_clean::clean;
 use mir_base::{Memory, Unit as MirUnit};
 use std::alloc::Global;
 
-impl UnitSteps for MoveUnit {
+/// The steps of `motion`.
+pub(crate) struct Moving;
+
+impl UnitSteps for Moving {
+    type Unit = MoveUnit;
+
     type Stage = MoveStage;
 
     ghost graph_at = { move_graph_at };
@@ -41,9 +46,48 @@ impl UnitSteps for MoveUnit {
         })
     }
 
-    fn graph_of(&self, stage: &MoveStage) -> &Graph {
-        self.graph(*stage)
+    fn graph_of<'a>(unit: &'a MoveUnit, stage: &MoveStage) -> &'a Graph {
+        unit.graph(*stage)
     }
 
     ghost one = { move_is_one };
+}
+
+/// The steps of `divisions`.
+pub(crate) struct Dividing;
+
+impl UnitSteps for Dividing {
+    type Unit = MoveUnit;
+
+    type Stage = MoveStage;
+
+    ghost graph_at = { move_graph_at };
+
+    ghost linked = { LinksDivision };
+
+    ghost best = { DivisionsAreBest };
+
+    ghost within = { MotionCleansWithin };
+
+    fn make(alloc: Global, source: &MirUnit) -> Result<MoveUnit, Memory> {
+        let start = lower_clean(alloc, source)?;
+        let code = move_divisions(alloc, &start.cleaned)?;
+        let swept = clean(alloc, &code.moved)?;
+        let _nodes = code.moved.nodes();
+        Ok(MoveUnit {
+            lowered: start.lowered,
+            cleaned: start.cleaned,
+            split: code.split,
+            table: code.table,
+            placement: code.placement,
+            moved: code.moved,
+            swept,
+        })
+    }
+
+    fn graph_of<'a>(unit: &'a MoveUnit, stage: &MoveStage) -> &'a Graph {
+        unit.graph(*stage)
+    }
+
+    ghost one = { division_is_one };
 }

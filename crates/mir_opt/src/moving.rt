@@ -2,8 +2,9 @@
 ghost use Rattle.std.specs.Prelude.{length, IfOk};
 ghost use Rattle.flow_graph.specs.Edges.{IsSplit};
 ghost use Rattle.motion_rewrite.specs.Tables.{AreMovable};
-ghost use Rattle.mir_opt.specs.Made.{CodeMade, MotionMade};
+ghost use Rattle.mir_opt.specs.Made.{CodeMade, DivisionsMade, MotionMade};
 
+use div_move::move_dividing;
 use down_safe::DownRule;
 use edge_split::split;
 use flow_graph::{Edges, Graph};
@@ -17,7 +18,7 @@ use std::alloc::Global;
 pub(crate) struct Moved {
     /// The graph with a Skip on each edge into a join.
     pub(crate) split: Graph,
-    /// Its movable expressions.
+    /// The expressions of it that are moved.
     pub(crate) table: ExprTable,
     /// Their lazy placement.
     pub(crate) placement: Placement,
@@ -40,6 +41,21 @@ pub(crate) fn move_code<R: DownRule>(
     Ok(Moved {
         split,
         table,
+        placement: code.placement,
+        moved: code.moved,
+    })
+}
+
+/// Moves the divisions of a graph by their lazy placement, by the rule that a run must come to them. It fails only with
+/// `Memory`.
+pub(crate) fn move_divisions(alloc: Global, graph: &Graph) -> Result<Moved, Memory>
+    ensures { IfOk result (DivisionsMade graph.now) }
+{
+    let split = split(alloc, graph)?;
+    let code = move_dividing(alloc, &split)?;
+    Ok(Moved {
+        split,
+        table: code.table,
         placement: code.placement,
         moved: code.moved,
     })

@@ -10,29 +10,32 @@ use flow_graph::Graph;
 use mir_base::{Memory, Unit as MirUnit};
 use std::alloc::Global;
 
-/// The steps that a command makes of one unit, with a graph at each stage. `linked` says when steps are those of a
-/// unit, and then they are the only ones, where the graphs that are cleaned lead to nodes (`within`); `best` says when
+/// The steps that a command makes of one unit, `Unit`, with a graph at each stage. `linked` says when steps are those of
+/// a unit, and then they are the only ones, where the graphs that are cleaned lead to nodes (`within`); `best` says when
 /// their code motion is the best, and what else the command says of its steps.
-pub(crate) trait UnitSteps: Drop {
+pub(crate) trait UnitSteps {
+    /// What is made of one unit.
+    type Unit: Drop;
+
     /// Names a stage of the command.
     type Stage;
 
-    ghost graph_at: { Self → Self.Stage → GraphShape };
+    ghost graph_at: { Self.Unit → Self.Stage → GraphShape };
 
-    ghost linked: { UnitShape → Self → Type 0 };
+    ghost linked: { UnitShape → Self.Unit → Type 0 };
 
-    ghost best: { Self → Type 0 };
+    ghost best: { Self.Unit → Type 0 };
 
-    ghost within: { Self → Type 0 };
+    ghost within: { Self.Unit → Type 0 };
 
     /// Makes the steps of a unit. It fails only with `Memory`.
-    fn make(alloc: Global, source: &MirUnit) -> Result<Self, Memory>
+    fn make(alloc: Global, source: &MirUnit) -> Result<Self::Unit, Memory>
         requires { CanLower source.now.body }
         ensures { IfOk result (UnitMade graph_at linked best within source.now) };
 
     /// The graph at a stage. It does not allocate.
-    fn graph_of(&self, stage: &Self::Stage) -> &Graph
-        ensures { result.now ≡ graph_at self.now stage.now };
+    fn graph_of<'a>(unit: &'a Self::Unit, stage: &Self::Stage) -> &'a Graph
+        ensures { result.now ≡ graph_at unit.now stage.now };
 
     ghost one: { HasOneLink within linked };
 }

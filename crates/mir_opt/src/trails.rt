@@ -44,7 +44,7 @@ pub struct Trail {
     pub target: Program,
 }
 
-/// What code motion alone made of one unit, in its steps.
+/// What code motion alone, or the motion of divisions, made of one unit, in its steps.
 #[derive(Drop)]
 pub struct MoveUnit {
     /// The graph of the source's unit.
@@ -53,7 +53,7 @@ pub struct MoveUnit {
     pub cleaned: Graph,
     /// The same with a Skip on each edge into a join.
     pub split: Graph,
-    /// The movable expressions of `split`.
+    /// The expressions of `split` that are moved: the movable ones, or those that divide.
     pub table: ExprTable,
     /// The lazy placement of these in `split`.
     pub placement: Placement,
@@ -63,7 +63,7 @@ pub struct MoveUnit {
     pub swept: Graph,
 }
 
-/// What code motion alone made of a program.
+/// What code motion alone, or the motion of divisions, made of a program.
 #[derive(Drop)]
 pub struct MoveTrail {
     /// The program whose code was moved.

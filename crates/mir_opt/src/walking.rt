@@ -24,12 +24,12 @@ pub(crate) fn walk<T: UnitSteps>(
     alloc: Global,
     program: &Program,
     last: &T::Stage,
-) -> Result<Walked<T>, Memory>
+) -> Result<Walked<T::Unit>, Memory>
     ensures { IfOk result (WalkMade T.graph_at last.now T.linked T.best T.within program.now) }
 {
     let source = program.clone()?;
-    let units = all_steps(alloc, program)?;
-    let target = program_at(alloc, program, units.items(), last)?;
+    let units = all_steps::<T>(alloc, program)?;
+    let target = program_at::<T>(alloc, program, units.items(), last)?;
     Ok(Walked {
         source,
         units,
@@ -38,7 +38,7 @@ pub(crate) fn walk<T: UnitSteps>(
 }
 
 /// The steps of each unit, by its number.
-fn all_steps<T: UnitSteps>(alloc: Global, program: &Program) -> Result<Items<T>, Memory>
+fn all_steps<T: UnitSteps>(alloc: Global, program: &Program) -> Result<Items<T::Unit>, Memory>
     ensures { IfOk result (AllMade T.graph_at T.linked T.best T.within program.now.units) }
 {
     let mut units = Vec::new(alloc);
@@ -53,14 +53,14 @@ fn all_steps<T: UnitSteps>(alloc: Global, program: &Program) -> Result<Items<T>,
 pub(crate) fn program_at<T: UnitSteps>(
     alloc: Global,
     source: &Program,
-    units: &[T],
+    units: &[T::Unit],
     stage: &T::Stage,
 ) -> Result<Program, Memory>
     requires { AllKeep T.graph_at source.now.units units.now }
     ensures laid { IfOk result (λ program. AreLaid T.graph_at stage.now units.now program.units) }
     ensures keeps { IfOk result (KeepsProgram source.now) }
 {
-    let targets = layouts(alloc, units, stage)?;
+    let targets = layouts::<T>(alloc, units, stage)?;
     let program = program_of_units(source, targets);
     lift(source, &program);
     Ok(program)
@@ -69,14 +69,14 @@ pub(crate) fn program_at<T: UnitSteps>(
 /// The layouts of the graphs at a stage.
 fn layouts<T: UnitSteps>(
     alloc: Global,
-    units: &[T],
+    units: &[T::Unit],
     stage: &T::Stage,
 ) -> Result<Vec<MirUnit>, Memory>
     ensures { IfOk result (λ targets. AllLaidOut T.graph_at stage.now units.now targets.items) }
 {
     let mut targets = Vec::new(alloc);
     for unit in units {
-        targets.push(layout(alloc, unit.graph_of(stage))?)?;
+        targets.push(layout(alloc, T::graph_of(unit, stage))?)?;
     }
     Ok(targets)
 }

@@ -5,7 +5,7 @@ use Rattle.flow_graph.specs.Graphs.{AllWithin}
 use Rattle.flow_graph.specs.Keeps.{AsGraph, AsUnit, Form, KeepInTurn, Keeps}
 use Rattle.flow_graph.specs.KeepsLaws.{chain_keeps}
 use Rattle.mir_opt.specs.declared.stages.MoveStage.TheVariants.{Lower, Clean, Split, Motion, Result}
-use Rattle.mir_opt.proofs.motions.MoveUnitUnitSteps.make.Goals as goal
+use Rattle.mir_opt.proofs.motions.MovingUnitSteps.make.Goals as goal
 
 pub returns : goal.returns
 returns c =

@@ -9,7 +9,7 @@ use Rattle.sink_dead.specs.RoundGraphs.{last_round}
 use Rattle.sink_dead.specs.RoundLaws.{rounds_in_turn}
 use Rattle.mir_opt.specs.declared.stages.Stage.TheVariants.{Lower, Clean, Fold, Number, Copies, Split, Motion, CopiesAfterMotion, Round, Result}
 use Rattle.mir_opt.proofs.Rounds.{rounds_keep}
-use Rattle.mir_opt.proofs.chain.UnitTrailUnitSteps.make.Goals as goal
+use Rattle.mir_opt.proofs.chain.OptimisingUnitSteps.make.Goals as goal
 
 pub make_back-requires : goal.make_back-requires
 make_back-requires c = c.in_ok-code.ensures.is_split
