@@ -11,17 +11,19 @@ use Rattle.mir_valid.specs.Refusals.{refusal}
 use Rattle.mir_valid.specs.Stands.{StandsFor}
 use Rattle.mir_valid.specs.Texts.{IsTextOf}
 use Rattle.mir_top.specs.declared.command.Command.{Command}
-use Rattle.mir_top.specs.declared.command.Command.TheVariants.{Optimise, Stages, Move, Run, Trial}
+use Rattle.mir_top.specs.declared.command.Command.TheVariants.{Optimise, Stages, Move, Ranges, Divisions, Tails, Join, Run, Trial}
 use Rattle.mir_top.specs.declared.outcome.Outcome.{Outcome}
 use Rattle.mir_top.specs.Calls.{reply_of}
 use Rattle.mir_top.specs.Commands.{command_of, inputs_in, reads_text, Reads}
 use Rattle.mir_top.specs.Complaints.{Complaint, wrong_inputs, deep, of_text, of_program}
-use Rattle.mir_top.specs.Due.{IsShortTextOf, WorksOn, IsRefused, long, unreadable, invalid, Refuses, no_command, no_text, wrong_number, too_deep, Completes, of_optimise, of_stages, of_move, of_run, of_trial, status_of_finish}
-use Rattle.mir_top.specs.Outputs.{Runs, reported, report_text, IsSummary, trail_summary, IsOnlyOutput, Makes, optimised, shown, moved, ran, compared}
+use Rattle.mir_top.specs.Due.{IsShortTextOf, WorksOn, IsRefused, long, unreadable, invalid, Refuses, no_command, no_text, wrong_number, too_deep, Completes, of_optimise, of_stages, of_move, of_ranges, of_divisions, of_tails, of_join, of_run, of_trial, status_of_finish}
+use Rattle.mir_top.specs.Outputs.{JoinsUnits, LoopsTails, Runs, reported, report_text, IsSummary, trail_summary, IsOnlyOutput, Makes, optimised, shown, moved, ranged, divided, tailed, joined, ran, compared}
 use Rattle.mir_top.specs.Promises.{HasRead}
+use Rattle.mir_top.specs.RangeTexts.{ShowsRanges}
 use Rattle.mir_top.specs.StageTexts.{ShowsStages}
 use Rattle.mir_top.specs.Streams.{Stream, TookAll}
 use Rattle.mir_top.specs.Texts.{OneReading}
+use Rattle.mir_top.proofs.RangeLaws.{ranges_same}
 use Rattle.mir_top.proofs.ShownLaws.{stages_same}
 use Rattle.mir_top.proofs.Statuses.{is_of_run}
 
@@ -44,6 +46,10 @@ pub within_of : (command : Command) (text : List ℕ) (program : ProgramShape) �
 within_of Optimise text program reads on = on
 within_of Stages text program reads on = on
 within_of Move text program reads on = on
+within_of Ranges text program reads on = on
+within_of Divisions text program reads on = on
+within_of Tails text program reads on = on
+within_of Join text program reads on = on
 within_of (Run steps) text program reads on = on
 within_of (Trial number units) text program reads on = absurd (cc)
 
@@ -131,6 +137,10 @@ pub runs_of : (inputs : List ℤ) (program : ProgramShape) (command : Command) (
 runs_of inputs program _ _ _ steps (optimised trail source optimises) is = absurd (cc)
 runs_of inputs program _ _ _ steps (shown trail source optimises text shows) is = absurd (cc)
 runs_of inputs program _ _ _ steps (moved trail source moves) is = absurd (cc)
+runs_of inputs program _ _ _ steps (ranged trail source moves text shows) is = absurd (cc)
+runs_of inputs program _ _ _ steps (divided trail source divides) is = absurd (cc)
+runs_of inputs program _ _ _ steps (tailed target rewrites) is = absurd (cc)
+runs_of inputs program _ _ _ steps (joined target rewrites) is = absurd (cc)
 runs_of inputs program _ _ _ steps (compared number units output is_summary) is = absurd (cc)
 runs_of inputs program _ _ _ steps (ran n runs report reports) is =
     let same : n ≡ steps = cc in (
@@ -144,6 +154,10 @@ pub run_of_status : (inputs : List ℤ) (program : ProgramShape) (command : Comm
 run_of_status inputs program _ _ _ (optimised trail source optimises) is = absurd is
 run_of_status inputs program _ _ _ (shown trail source optimises text shows) is = absurd is
 run_of_status inputs program _ _ _ (moved trail source moves) is = absurd is
+run_of_status inputs program _ _ _ (ranged trail source moves text shows) is = absurd is
+run_of_status inputs program _ _ _ (divided trail source divides) is = absurd is
+run_of_status inputs program _ _ _ (tailed target rewrites) is = absurd is
+run_of_status inputs program _ _ _ (joined target rewrites) is = absurd is
 run_of_status inputs program _ _ _ (compared number units output is_summary) is = absurd is
 run_of_status inputs program _ _ _ (ran n runs report reports) is = (n, refl)
 
@@ -152,6 +166,10 @@ pub summary_of : (inputs : List ℤ) (program : ProgramShape) (command : Command
 summary_of inputs program _ _ _ number units (optimised trail source optimises) is = absurd (cc)
 summary_of inputs program _ _ _ number units (shown trail source optimises text shows) is = absurd (cc)
 summary_of inputs program _ _ _ number units (moved trail source moves) is = absurd (cc)
+summary_of inputs program _ _ _ number units (ranged trail source moves text shows) is = absurd (cc)
+summary_of inputs program _ _ _ number units (divided trail source divides) is = absurd (cc)
+summary_of inputs program _ _ _ number units (tailed target rewrites) is = absurd (cc)
+summary_of inputs program _ _ _ number units (joined target rewrites) is = absurd (cc)
 summary_of inputs program _ _ _ number units (ran n runs report reports) is = absurd (cc)
 summary_of inputs program _ _ _ number units (compared other count output summary) is = summary
 
@@ -160,8 +178,38 @@ pub status_of_trial : (inputs : List ℤ) (program : ProgramShape) (command : Co
 status_of_trial inputs program _ _ _ number units (optimised trail source optimises) is = refl
 status_of_trial inputs program _ _ _ number units (shown trail source optimises text shows) is = refl
 status_of_trial inputs program _ _ _ number units (moved trail source moves) is = refl
+status_of_trial inputs program _ _ _ number units (ranged trail source moves text shows) is = refl
+status_of_trial inputs program _ _ _ number units (divided trail source divides) is = refl
+status_of_trial inputs program _ _ _ number units (tailed target rewrites) is = refl
+status_of_trial inputs program _ _ _ number units (joined target rewrites) is = refl
 status_of_trial inputs program _ _ _ number units (ran n runs report reports) is = absurd (cc)
 status_of_trial inputs program _ _ _ number units (compared other count output summary) is = refl
+
+-- what `tails` makes
+pub tailed_of : (inputs : List ℤ) (program : ProgramShape) (command : Command) (outcome : Outcome) (output : List ℕ) → Makes inputs program command outcome output → command ≡ Tails
+    → ((reply_of outcome).status ≡ 0) × (target : ProgramShape) × LoopsTails program target × (output ≡ canonical_text target)
+tailed_of inputs program _ _ _ (optimised trail source optimises) is = absurd (cc)
+tailed_of inputs program _ _ _ (shown trail source optimises text shows) is = absurd (cc)
+tailed_of inputs program _ _ _ (moved trail source moves) is = absurd (cc)
+tailed_of inputs program _ _ _ (ranged trail source moves text shows) is = absurd (cc)
+tailed_of inputs program _ _ _ (divided trail source divides) is = absurd (cc)
+tailed_of inputs program _ _ _ (tailed target rewrites) is = (refl, target, rewrites, refl)
+tailed_of inputs program _ _ _ (joined target rewrites) is = absurd (cc)
+tailed_of inputs program _ _ _ (ran n runs report reports) is = absurd (cc)
+tailed_of inputs program _ _ _ (compared number units output is_summary) is = absurd (cc)
+
+-- what `join` makes
+pub joined_of : (inputs : List ℤ) (program : ProgramShape) (command : Command) (outcome : Outcome) (output : List ℕ) → Makes inputs program command outcome output → command ≡ Join
+    → ((reply_of outcome).status ≡ 0) × (target : ProgramShape) × JoinsUnits program target × (output ≡ canonical_text target)
+joined_of inputs program _ _ _ (optimised trail source optimises) is = absurd (cc)
+joined_of inputs program _ _ _ (shown trail source optimises text shows) is = absurd (cc)
+joined_of inputs program _ _ _ (moved trail source moves) is = absurd (cc)
+joined_of inputs program _ _ _ (ranged trail source moves text shows) is = absurd (cc)
+joined_of inputs program _ _ _ (divided trail source divides) is = absurd (cc)
+joined_of inputs program _ _ _ (tailed target rewrites) is = absurd (cc)
+joined_of inputs program _ _ _ (joined target rewrites) is = (refl, target, rewrites, refl)
+joined_of inputs program _ _ _ (ran n runs report reports) is = absurd (cc)
+joined_of inputs program _ _ _ (compared number units output is_summary) is = absurd (cc)
 
 -- the words of a trial are not those of a command that reads the text
 pub trial_reads : (words : List (List ℕ)) (number units : ℕ) → command_of words ≡ Some (Trial number units) → Reads words → ⊥
@@ -204,6 +252,10 @@ pub completes_no_refusal : OneReading → (words : List (List ℕ)) (text : List
 completes_no_refusal laws words text _ complaint (of_optimise program asked on) refuses = other_refusal laws words text Optimise program complaint asked on (λ n is. absurd (cc)) refuses
 completes_no_refusal laws words text _ complaint (of_stages program asked on) refuses = other_refusal laws words text Stages program complaint asked on (λ n is. absurd (cc)) refuses
 completes_no_refusal laws words text _ complaint (of_move program asked on) refuses = other_refusal laws words text Move program complaint asked on (λ n is. absurd (cc)) refuses
+completes_no_refusal laws words text _ complaint (of_ranges program asked on) refuses = other_refusal laws words text Ranges program complaint asked on (λ n is. absurd (cc)) refuses
+completes_no_refusal laws words text _ complaint (of_divisions program asked on) refuses = other_refusal laws words text Divisions program complaint asked on (λ n is. absurd (cc)) refuses
+completes_no_refusal laws words text _ complaint (of_tails program asked on) refuses = other_refusal laws words text Tails program complaint asked on (λ n is. absurd (cc)) refuses
+completes_no_refusal laws words text _ complaint (of_join program asked on) refuses = other_refusal laws words text Join program complaint asked on (λ n is. absurd (cc)) refuses
 completes_no_refusal laws words text _ complaint (of_trial number units asked) refuses = unread_refusal words text (Trial number units) complaint asked (λ reads. absurd (cc)) refuses
 completes_no_refusal laws words text _ complaint (of_run n program asked on runs) refuses =
     let refused = refused_run laws words text n program complaint asked on refuses in
@@ -214,6 +266,10 @@ status_of_text : (inputs : List ℤ) (program : ProgramShape) (command : Command
 status_of_text inputs program _ _ _ (optimised trail source optimises) no_run = refl
 status_of_text inputs program _ _ _ (shown trail source optimises text shows) no_run = refl
 status_of_text inputs program _ _ _ (moved trail source moves) no_run = refl
+status_of_text inputs program _ _ _ (ranged trail source moves text shows) no_run = refl
+status_of_text inputs program _ _ _ (divided trail source divides) no_run = refl
+status_of_text inputs program _ _ _ (tailed target rewrites) no_run = refl
+status_of_text inputs program _ _ _ (joined target rewrites) no_run = refl
 status_of_text inputs program _ _ _ (compared number units output is_summary) no_run = refl
 status_of_text inputs program _ _ _ (ran n runs report reports) no_run = absurd (no_run n refl)
 
@@ -226,6 +282,14 @@ completes_status laws words text _ command program outcome output (of_stages oth
     status_of_text (inputs_in words) program command outcome output makes (λ n is. let e = sym (same_command command Stages (command_of words) asked also) ∙ is in absurd (cc))
 completes_status laws words text _ command program outcome output (of_move other also within) asked on makes =
     status_of_text (inputs_in words) program command outcome output makes (λ n is. let e = sym (same_command command Move (command_of words) asked also) ∙ is in absurd (cc))
+completes_status laws words text _ command program outcome output (of_ranges other also within) asked on makes =
+    status_of_text (inputs_in words) program command outcome output makes (λ n is. let e = sym (same_command command Ranges (command_of words) asked also) ∙ is in absurd (cc))
+completes_status laws words text _ command program outcome output (of_divisions other also within) asked on makes =
+    status_of_text (inputs_in words) program command outcome output makes (λ n is. let e = sym (same_command command Divisions (command_of words) asked also) ∙ is in absurd (cc))
+completes_status laws words text _ command program outcome output (of_tails other also within) asked on makes =
+    status_of_text (inputs_in words) program command outcome output makes (λ n is. let e = sym (same_command command Tails (command_of words) asked also) ∙ is in absurd (cc))
+completes_status laws words text _ command program outcome output (of_join other also within) asked on makes =
+    status_of_text (inputs_in words) program command outcome output makes (λ n is. let e = sym (same_command command Join (command_of words) asked also) ∙ is in absurd (cc))
 completes_status laws words text _ command program outcome output (of_trial number units also) asked on makes =
     status_of_text (inputs_in words) program command outcome output makes (λ n is. let e = sym (same_command command (Trial number units) (command_of words) asked also) ∙ is in absurd (cc))
 completes_status laws words text _ command program outcome output (of_run n other also within runs) asked on makes =
@@ -238,6 +302,10 @@ due_of_text : (words : List (List ℕ)) (text : List ℕ) (command : Command) (s
 due_of_text words text command _ asked no_run (of_optimise program also on) = refl
 due_of_text words text command _ asked no_run (of_stages program also on) = refl
 due_of_text words text command _ asked no_run (of_move program also on) = refl
+due_of_text words text command _ asked no_run (of_ranges program also on) = refl
+due_of_text words text command _ asked no_run (of_divisions program also on) = refl
+due_of_text words text command _ asked no_run (of_tails program also on) = refl
+due_of_text words text command _ asked no_run (of_join program also on) = refl
 due_of_text words text command _ asked no_run (of_trial number units also) = refl
 due_of_text words text command _ asked no_run (of_run n program also on runs) = absurd (no_run n (same_command command (Run n) (command_of words) asked also))
 
@@ -246,6 +314,10 @@ due_of_run : OneReading → (words : List (List ℕ)) (text : List ℕ) (steps :
 due_of_run laws words text steps program _ asked within (of_optimise other also on) = absurd (let e = same_command (Run steps) Optimise (command_of words) asked also in cc)
 due_of_run laws words text steps program _ asked within (of_stages other also on) = absurd (let e = same_command (Run steps) Stages (command_of words) asked also in cc)
 due_of_run laws words text steps program _ asked within (of_move other also on) = absurd (let e = same_command (Run steps) Move (command_of words) asked also in cc)
+due_of_run laws words text steps program _ asked within (of_ranges other also on) = absurd (let e = same_command (Run steps) Ranges (command_of words) asked also in cc)
+due_of_run laws words text steps program _ asked within (of_divisions other also on) = absurd (let e = same_command (Run steps) Divisions (command_of words) asked also in cc)
+due_of_run laws words text steps program _ asked within (of_tails other also on) = absurd (let e = same_command (Run steps) Tails (command_of words) asked also in cc)
+due_of_run laws words text steps program _ asked within (of_join other also on) = absurd (let e = same_command (Run steps) Join (command_of words) asked also in cc)
 due_of_run laws words text steps program _ asked within (of_trial number units also) = absurd (let e = same_command (Run steps) (Trial number units) (command_of words) asked also in cc)
 due_of_run laws words text steps program _ asked within (of_run n other also on runs) =
     ap (λ (p : ProgramShape). status_of_finish (reported p (inputs_in words) steps).finish) (program_same laws text program other within.parsed on.parsed)
@@ -256,6 +328,10 @@ pub completes_same : OneReading → (words : List (List ℕ)) (text : List ℕ) 
 completes_same laws words text _ other (of_optimise program asked on) due = due_of_text words text Optimise other asked (λ n is. absurd (cc)) due
 completes_same laws words text _ other (of_stages program asked on) due = due_of_text words text Stages other asked (λ n is. absurd (cc)) due
 completes_same laws words text _ other (of_move program asked on) due = due_of_text words text Move other asked (λ n is. absurd (cc)) due
+completes_same laws words text _ other (of_ranges program asked on) due = due_of_text words text Ranges other asked (λ n is. absurd (cc)) due
+completes_same laws words text _ other (of_divisions program asked on) due = due_of_text words text Divisions other asked (λ n is. absurd (cc)) due
+completes_same laws words text _ other (of_tails program asked on) due = due_of_text words text Tails other asked (λ n is. absurd (cc)) due
+completes_same laws words text _ other (of_join program asked on) due = due_of_text words text Join other asked (λ n is. absurd (cc)) due
 completes_same laws words text _ other (of_trial number units asked) due = due_of_text words text (Trial number units) other asked (λ n is. absurd (cc)) due
 completes_same laws words text _ other (of_run n program asked on runs) due = due_of_run laws words text n program other asked on due
 
@@ -269,6 +345,12 @@ only_output inputs program _ _ _ (shown trail source optimises text shows) _ _ (
     stages_same trail text text' shows (subst (λ (t : Trail). ShowsStages t text') (sym (optimises.only other (also ∙ sym source) improves.linked)) shows')
 only_output inputs program _ _ _ (moved trail source moves) _ _ (moved other also improves) =
     ap (λ (t : MoveTrail). canonical_text t.target) (moves.only other (also ∙ sym source) improves.linked)
+only_output inputs program _ _ _ (ranged trail source moves text shows) _ _ (ranged other also improves text' shows') =
+    ranges_same trail.units text text' shows (subst (λ (t : MoveTrail). ShowsRanges t.units text') (sym (moves.only other (also ∙ sym source) improves.linked)) shows')
+only_output inputs program _ _ _ (divided trail source divides) _ _ (divided other also too) =
+    ap (λ (t : MoveTrail). canonical_text t.target) (divides.improves.only other (also ∙ sym source) too.improves.linked)
+only_output inputs program _ _ _ (tailed target rewrites) _ _ (tailed other also) = ap canonical_text (rewrites.only other also.exact)
+only_output inputs program _ _ _ (joined target rewrites) _ _ (joined other also) = ap canonical_text (rewrites.only other also.exact)
 only_output inputs program _ _ _ (compared number units output is) _ _ (compared _ _ other also) =
     is.output_is ∙ ap trail_summary (is.optimises.only also.trail (also.source ∙ sym is.source) also.optimises.linked) ∙ sym also.output_is
 only_output inputs program _ _ _ (ran steps runs report reports) _ _ (ran _ again report' reports') = ap report_text (reports ∙ sym reports')

@@ -1,6 +1,7 @@
 mod MadeLaws
 mod Statuses
 mod ShownLaws
+mod RangeLaws
 mod Judgements
 mod Subjects
 mod Endings

@@ -5,25 +5,26 @@ use Rattle.std.proofs.lemmas.Option.{IfSome_then}
 use Rattle.std.specs.Io.KnownBytes.{Consumes, IsAtEnd}
 use Rattle.mir_base.specs.Limits.{most_bytes}
 use Rattle.mir_base.specs.Shapes.{ProgramShape}
+use Rattle.mir_base.specs.Text.{canonical_text}
 use Rattle.mir_opt.specs.declared.trails.MoveTrail.{MoveTrail}
 use Rattle.mir_outside.specs.Transfer.{TakesAtMost}
 use Rattle.mir_trial.specs.Trial.{trial_program}
 use Rattle.mir_top.specs.declared.reply.Reply.{Reply}
 use Rattle.mir_top.specs.declared.command.Command.{Command}
-use Rattle.mir_top.specs.declared.command.Command.TheVariants.{Optimise, Stages, Move, Run, Trial}
+use Rattle.mir_top.specs.declared.command.Command.TheVariants.{Optimise, Stages, Move, Ranges, Divisions, Tails, Join, Run, Trial}
 use Rattle.mir_top.specs.declared.outcome.Outcome.{Outcome}
 use Rattle.mir_top.specs.Calls.{Call, reply_of, refusal_with, HasReplied, MakesOutput, WorkedOn}
 use Rattle.mir_top.specs.Commands.{command_of, inputs_in, Asks, Reads}
 use Rattle.mir_top.specs.Complaints.{Complaint, usage, read_fault, write_fault, out_of_memory}
 use Rattle.mir_top.specs.Due.{IsShortTextOf, WorksOn, IsRefused, long, unreadable, invalid, Refuses, no_command, no_text, wrong_number, too_deep, Completes}
-use Rattle.mir_top.specs.Outputs.{Makes}
-use Rattle.mir_top.specs.Promises.{Promises, HasSeen, IsOnlyMade, StatusIs, Asked, HasOptimised, HasShown, HasMoved, HasMade, HasCutShort, HasRun, HasTried, HasRefused, EndsBy, HasText}
+use Rattle.mir_top.specs.Outputs.{JoinsUnits, LoopsTails, Makes}
+use Rattle.mir_top.specs.Promises.{Promises, HasSeen, IsOnlyMade, StatusIs, Asked, HasDivided, HasOptimised, HasRanged, HasRewritten, HasShown, HasMoved, HasMade, HasCutShort, HasRun, HasTried, HasRefused, EndsBy, HasText}
 use Rattle.mir_top.specs.Streams.{Stream, Untouched, HasFailed, Took, Gave, Tried}
 use Rattle.mir_top.specs.Texts.{OneReading}
 use Rattle.mir_top.proofs.Endings.{EndingCase, ends_done, ends_cut, ends_failed, ends_out_of_memory, ends_refused, ends}
-use Rattle.mir_top.proofs.Judgements.{no_command_of, same_command, has_read, runs_of, run_of_status, summary_of, status_of_trial, trial_reads, unread_refusal, refuses_same, makes_no_refusal, completes_no_refusal, completes_status, only_output}
+use Rattle.mir_top.proofs.Judgements.{no_command_of, same_command, has_read, runs_of, run_of_status, summary_of, status_of_trial, tailed_of, joined_of, trial_reads, unread_refusal, refuses_same, makes_no_refusal, completes_no_refusal, completes_status, only_output}
 use Rattle.mir_top.proofs.Statuses.{is_success, is_refusal, is_of_run, is_silent, run_has, success_is, refusal_is, silent_is, refusal_no_success, success_no_refusal, success_no_silent, refusal_below, success_below, outcome_is_success, refuses_is_refusal}
-use Rattle.mir_top.proofs.Trails.{HasPasses, passes, motion, trail_has_output, trail_is_asked, trail_comes}
+use Rattle.mir_top.proofs.Trails.{HasMotion, HasPasses, passes, motion, trail_has_output, trail_is_asked, trail_comes}
 
 -- ---- a source whose bytes can be observed
 
@@ -163,6 +164,10 @@ module _ (laws : OneReading) (call : Call) where
       by Optimise asked on = here (Optimise, asked, refl) on
       by Stages asked on = here (Stages, asked, refl) on
       by Move asked on = here (Move, asked, refl) on
+      by Ranges asked on = here (Ranges, asked, refl) on
+      by Divisions asked on = here (Divisions, asked, refl) on
+      by Tails asked on = here (Tails, asked, refl) on
+      by Join asked on = here (Join, asked, refl) on
       by (Run n) asked on = here (Run n, asked, refl) on
       by (Trial number units) asked on = on
 
@@ -272,15 +277,61 @@ module _ (laws : OneReading) (call : Call) where
   shown_of : EndingCase call → Asked call Stages → IfSome call.reply.trail (HasShown call)
   shown_of ends asked = IfSome_then call.reply.trail (trail_has_output passes call ends Stages asked) (λ trail is. record { text = is.output; read = is.read; improves = is.improves; shows = is.is_output.1 refl; written = is.written })
 
-  move_is_asked : EndingCase call → IsSome call.reply.moved → StatusIs call 0 × Asked call Move
-  move_is_asked ends some = (let is = trail_is_asked motion call ends some in (is.0, is.1.1 ∙ ap (λ (c : Command). Some c) is.1.2))
-
-  moved_of : EndingCase call → IfSome call.reply.moved (HasMoved call)
-  moved_of ends = by ends call.reply.moved refl
+  -- and so those of a command that has a trail of motion are those of `move`, `ranges` or `divisions`
+  move_is_asked : EndingCase call → IsSome call.reply.moved → StatusIs call 0 × (Asked call Move ⊎ (Asked call Ranges ⊎ Asked call Divisions))
+  move_is_asked ends some = (let is = trail_is_asked motion call ends some in (is.0, by is.1.0 is.1.1 is.1.2))
     where
-      by : EndingCase call → (o : Option MoveTrail) → call.reply.moved ≡ o → IfSome o (HasMoved call)
-      by ends None is = tt
-      by ends (Some trail) is = subst (λ (o : Option MoveTrail). IfSome o (HasMoved call)) is (IfSome_then call.reply.moved (trail_has_output motion call ends Move (move_is_asked ends (subst IsSome (sym is) refl)).1) (λ trail is. record { read = is.read; improves = is.improves; written = subst (Gave call.out) is.is_output is.written }))
+      by : (command : Command) → Asked call command → HasMotion command → Asked call Move ⊎ (Asked call Ranges ⊎ Asked call Divisions)
+      by command asked (inl is) = inl (asked ∙ ap (λ (c : Command). Some c) is)
+      by command asked (inr (inl is)) = inr (inl (asked ∙ ap (λ (c : Command). Some c) is))
+      by command asked (inr (inr is)) = inr (inr (asked ∙ ap (λ (c : Command). Some c) is))
+
+  motion_comes : HasMade call → Asked call Move ⊎ (Asked call Ranges ⊎ Asked call Divisions) → IsSome call.reply.moved
+  motion_comes made (inl asked) = trail_comes motion call made Move asked (inl refl)
+  motion_comes made (inr (inl asked)) = trail_comes motion call made Ranges asked (inr (inl refl))
+  motion_comes made (inr (inr asked)) = trail_comes motion call made Divisions asked (inr (inr refl))
+
+  moved_of : EndingCase call → Asked call Move → IfSome call.reply.moved (HasMoved call)
+  moved_of ends asked = IfSome_then call.reply.moved (trail_has_output motion call ends Move asked) (λ trail is.
+      let made = is.is_output.of_move refl in record { read = is.read; improves = made.0; written = subst (Gave call.out) made.1 is.written })
+
+  ranged_of : EndingCase call → Asked call Ranges → IfSome call.reply.moved (HasRanged call)
+  ranged_of ends asked = IfSome_then call.reply.moved (trail_has_output motion call ends Ranges asked) (λ trail is.
+      let made = is.is_output.of_ranges refl in record { text = is.output; read = is.read; improves = made.0; shows = made.1; written = is.written })
+
+  divided_of : EndingCase call → Asked call Divisions → IfSome call.reply.moved (HasDivided call)
+  divided_of ends asked = IfSome_then call.reply.moved (trail_has_output motion call ends Divisions asked) (λ trail is.
+      let made = is.is_output.of_divisions refl in record { read = is.read; improves = made.0; written = subst (Gave call.out) made.1 is.written })
+
+  -- ---- programs whose calls are rewritten
+
+  tails_of : EndingCase call → Asked call Tails → is_success call.reply.status → HasRewritten call LoopsTails
+  tails_of ends asked success =
+      let has = (success_of ends success).0 in
+      let made = has.done.made in
+      let is = same_command made.command Tails (command_of call.words) made.worked.asked asked in
+      let of = tailed_of (inputs_in call.words) made.program made.command has.outcome has.done.output made.made is in
+      record {
+        source = made.program;
+        target = of.1;
+        read = has_read call.words call.source Tails made.program made.program made.text refl asked made.worked.read (subst (λ (c : Command). WorksOn c made.text made.program) is made.worked.subject) refl;
+        rewrites = of.2;
+        written = subst (Gave call.out) of.3 has.done.written;
+      }
+
+  joins_of : EndingCase call → Asked call Join → is_success call.reply.status → HasRewritten call JoinsUnits
+  joins_of ends asked success =
+      let has = (success_of ends success).0 in
+      let made = has.done.made in
+      let is = same_command made.command Join (command_of call.words) made.worked.asked asked in
+      let of = joined_of (inputs_in call.words) made.program made.command has.outcome has.done.output made.made is in
+      record {
+        source = made.program;
+        target = of.1;
+        read = has_read call.words call.source Join made.program made.program made.text refl asked made.worked.read (subst (λ (c : Command). WorksOn c made.text made.program) is made.worked.subject) refl;
+        rewrites = of.2;
+        written = subst (Gave call.out) of.3 has.done.written;
+      }
 
   -- ---- all of them
 
@@ -292,8 +343,12 @@ module _ (laws : OneReading) (call : Call) where
     trail = (has_asked whole, λ at. passes_come (success_of whole (subst is_success (sym at.0) tt)).0 at.1);
     optimised = optimised_of whole;
     stages = shown_of whole;
-    moved = (move_is_asked whole, λ at. trail_comes motion call (success_of whole (subst is_success (sym at.0) tt)).0 Move at.1 refl);
+    moved = (move_is_asked whole, λ at. motion_comes (success_of whole (subst is_success (sym at.0) tt)).0 at.1);
     moves = moved_of whole;
+    ranges = ranged_of whole;
+    divisions = divided_of whole;
+    tails = λ asked at. tails_of whole asked (subst is_success (sym at) tt);
+    joins = λ asked at. joins_of whole asked (subst is_success (sym at) tt);
     reports = λ steps asked among. reports whole steps asked (success_is _ among);
     of_run = of_run whole;
     tries = λ number units asked at. tries whole number units asked (subst is_success (sym at) tt);

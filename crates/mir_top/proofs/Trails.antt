@@ -1,4 +1,4 @@
--- The trail of all passes and that of code motion alone, by one set of lemmas: a trail comes exactly with status 0
+-- The trail of all passes, and those of code motion and of the motion of divisions alone, by one set of lemmas: a trail comes exactly with status 0
 -- under its commands, and with the output that each of them asks.
 use Rattle.std.proofs.Common.{◌≡◌, ◌⊎◌, inl, inr, ℕ, ℤ, List, Option, None, Some, IsSome, IfSome, IsTrue, refl, sym, ◌∙◌, ap, subst}
 use Rattle.std.proofs.lemmas.Option.{IfSome_then}
@@ -8,12 +8,13 @@ use Rattle.mir_opt.specs.declared.trails.Trail.{Trail}
 use Rattle.mir_opt.specs.declared.trails.MoveTrail.{MoveTrail}
 use Rattle.mir_top.specs.declared.reply.Reply.{Reply}
 use Rattle.mir_top.specs.declared.command.Command.{Command}
-use Rattle.mir_top.specs.declared.command.Command.TheVariants.{Optimise, Stages, Move}
+use Rattle.mir_top.specs.declared.command.Command.TheVariants.{Optimise, Stages, Move, Ranges, Divisions}
 use Rattle.mir_top.specs.declared.outcome.Outcome.{Outcome}
 use Rattle.mir_top.specs.Calls.{Call, reply_of, refusal_with, IsDone}
 use Rattle.mir_top.specs.Commands.{command_of, inputs_in, reads_text}
-use Rattle.mir_top.specs.Outputs.{Optimises, MovesCode, Makes, optimised, shown, moved, ran, compared}
+use Rattle.mir_top.specs.Outputs.{Divides, Optimises, MovesCode, Makes, optimised, shown, moved, ranged, divided, tailed, joined, ran, compared}
 use Rattle.mir_top.specs.Promises.{Asked, HasMade, HasRead, StatusIs}
+use Rattle.mir_top.specs.RangeTexts.{ShowsRanges}
 use Rattle.mir_top.specs.StageTexts.{ShowsStages}
 use Rattle.mir_top.specs.Streams.{Gave}
 use Rattle.mir_top.proofs.Endings.{EndingCase, ends_done, ends_cut, ends_failed, ends_out_of_memory, ends_refused}
@@ -55,6 +56,10 @@ passes_of : (inputs : List ℤ) (program : ProgramShape) (command : Command) (ou
 passes_of inputs program _ _ _ (optimised trail source optimises) = (refl, inl refl, source, optimises, (λ _. refl, λ is. absurd (cc)))
 passes_of inputs program _ _ _ (shown trail source optimises text shows) = (refl, inr refl, source, optimises, (λ is. absurd (cc), λ _. shows))
 passes_of inputs program _ _ _ (moved trail source moves) = tt
+passes_of inputs program _ _ _ (ranged trail source moves text shows) = tt
+passes_of inputs program _ _ _ (divided trail source divides) = tt
+passes_of inputs program _ _ _ (tailed target rewrites) = tt
+passes_of inputs program _ _ _ (joined target rewrites) = tt
 passes_of inputs program _ _ _ (ran n runs report reports) = tt
 passes_of inputs program _ _ _ (compared number units output is) = tt
 
@@ -65,6 +70,14 @@ passes_come inputs program _ _ _ (optimised trail source optimises) is = refl
 passes_come inputs program _ _ _ (shown trail source optimises text shows) is = refl
 passes_come inputs program _ _ _ (moved trail source moves) (inl is) = absurd (cc)
 passes_come inputs program _ _ _ (moved trail source moves) (inr is) = absurd (cc)
+passes_come inputs program _ _ _ (ranged trail source moves text shows) (inl is) = absurd (cc)
+passes_come inputs program _ _ _ (ranged trail source moves text shows) (inr is) = absurd (cc)
+passes_come inputs program _ _ _ (divided trail source divides) (inl is) = absurd (cc)
+passes_come inputs program _ _ _ (divided trail source divides) (inr is) = absurd (cc)
+passes_come inputs program _ _ _ (tailed target rewrites) (inl is) = absurd (cc)
+passes_come inputs program _ _ _ (tailed target rewrites) (inr is) = absurd (cc)
+passes_come inputs program _ _ _ (joined target rewrites) (inl is) = absurd (cc)
+passes_come inputs program _ _ _ (joined target rewrites) (inr is) = absurd (cc)
 passes_come inputs program _ _ _ (ran n runs report reports) (inl is) = absurd (cc)
 passes_come inputs program _ _ _ (ran n runs report reports) (inr is) = absurd (cc)
 passes_come inputs program _ _ _ (compared number units output is_summary) (inl is) = absurd (cc)
@@ -74,42 +87,69 @@ passes_come inputs program _ _ _ (compared number units output is_summary) (inr 
 pub passes : HasTrails HasPasses (λ (a : Reply). a.trail) (λ (t : Trail). t.source) Optimises IsPassesOutput
 passes = record { reads = passes_read; empty = λ status. refl; of = passes_of; comes = passes_come }
 
--- ---- the trail of code motion alone
+-- ---- the trails of code motion alone and of the motion of divisions alone
 
--- the one command that has one
+-- the commands that have one
 abbrev pub HasMotion : Command → Type 0
-HasMotion command = command ≡ Move
+HasMotion command = (command ≡ Move) ⊎ ((command ≡ Ranges) ⊎ (command ≡ Divisions))
 
--- what it asks of it
-abbrev pub IsMotionOutput : MoveTrail → Command → List ℕ → Type 0
-IsMotionOutput trail command output = output ≡ canonical_text trail.target
+-- what they say and ask of it: the text of the target, or where its temporaries are held
+pub record IsMotionOutput (trail : MoveTrail) (command : Command) (output : List ℕ) : Type 0 where
+  pub of_move : command ≡ Move → MovesCode trail × (output ≡ canonical_text trail.target)
+  pub of_ranges : command ≡ Ranges → MovesCode trail × ShowsRanges trail.units output
+  pub of_divisions : command ≡ Divisions → Divides trail × (output ≡ canonical_text trail.target)
 
--- of the outcomes that of `move` alone has a trail of code motion, and it is of its making
+-- nothing is said of it whatever the command
+abbrev pub IsAny : MoveTrail → Type 0
+IsAny trail = Unit {0}
+
+-- all read the text
+motion_reads : (command : Command) → HasMotion command → IsTrue (reads_text command)
+motion_reads command (inl is) = subst (λ (c : Command). IsTrue (reads_text c)) (sym is) refl
+motion_reads command (inr (inl is)) = subst (λ (c : Command). IsTrue (reads_text c)) (sym is) refl
+motion_reads command (inr (inr is)) = subst (λ (c : Command). IsTrue (reads_text c)) (sym is) refl
+
+-- of the outcomes those of the three alone have such a trail
 motion_of : (inputs : List ℤ) (program : ProgramShape) (command : Command) (outcome : Outcome) (output : List ℕ) → Makes inputs program command outcome output
-    → IfSome (reply_of outcome).moved (IsTrailOf HasMotion (λ (t : MoveTrail). t.source) MovesCode IsMotionOutput program command outcome output)
+    → IfSome (reply_of outcome).moved (IsTrailOf HasMotion (λ (t : MoveTrail). t.source) IsAny IsMotionOutput program command outcome output)
 motion_of inputs program _ _ _ (optimised trail source optimises) = tt
 motion_of inputs program _ _ _ (shown trail source optimises text shows) = tt
-motion_of inputs program _ _ _ (moved trail source moves) = (refl, refl, source, moves, refl)
+motion_of inputs program _ _ _ (moved trail source moves) = (refl, inl refl, source, tt, record { of_move = λ _. (moves, refl); of_ranges = λ is. absurd (cc); of_divisions = λ is. absurd (cc) })
+motion_of inputs program _ _ _ (ranged trail source moves text shows) = (refl, inr (inl refl), source, tt, record { of_move = λ is. absurd (cc); of_ranges = λ _. (moves, shows); of_divisions = λ is. absurd (cc) })
+motion_of inputs program _ _ _ (divided trail source divides) = (refl, inr (inr refl), source, tt, record { of_move = λ is. absurd (cc); of_ranges = λ is. absurd (cc); of_divisions = λ _. (divides, refl) })
+motion_of inputs program _ _ _ (tailed target rewrites) = tt
+motion_of inputs program _ _ _ (joined target rewrites) = tt
 motion_of inputs program _ _ _ (ran n runs report reports) = tt
 motion_of inputs program _ _ _ (compared number units output is) = tt
 
--- under `move` the outcome is that one, as the others are of other commands
+-- under the three the outcome is one of these, as the others are of other commands
 motion_comes : (inputs : List ℤ) (program : ProgramShape) (command : Command) (outcome : Outcome) (output : List ℕ) → Makes inputs program command outcome output
-    → command ≡ Move → IsSome (reply_of outcome).moved
-motion_comes inputs program _ _ _ (optimised trail source optimises) is = absurd (cc)
-motion_comes inputs program _ _ _ (shown trail source optimises text shows) is = absurd (cc)
+    → HasMotion command → IsSome (reply_of outcome).moved
+motion_comes inputs program _ _ _ (optimised trail source optimises) (inl is) = absurd (cc)
+motion_comes inputs program _ _ _ (optimised trail source optimises) (inr (inl is)) = absurd (cc)
+motion_comes inputs program _ _ _ (optimised trail source optimises) (inr (inr is)) = absurd (cc)
+motion_comes inputs program _ _ _ (shown trail source optimises text shows) (inl is) = absurd (cc)
+motion_comes inputs program _ _ _ (shown trail source optimises text shows) (inr (inl is)) = absurd (cc)
+motion_comes inputs program _ _ _ (shown trail source optimises text shows) (inr (inr is)) = absurd (cc)
 motion_comes inputs program _ _ _ (moved trail source moves) is = refl
-motion_comes inputs program _ _ _ (ran n runs report reports) is = absurd (cc)
-motion_comes inputs program _ _ _ (compared number units output is_summary) is = absurd (cc)
+motion_comes inputs program _ _ _ (ranged trail source moves text shows) is = refl
+motion_comes inputs program _ _ _ (divided trail source divides) is = refl
+motion_comes inputs program _ _ _ (tailed target rewrites) (inl is) = absurd (cc)
+motion_comes inputs program _ _ _ (tailed target rewrites) (inr (inl is)) = absurd (cc)
+motion_comes inputs program _ _ _ (tailed target rewrites) (inr (inr is)) = absurd (cc)
+motion_comes inputs program _ _ _ (joined target rewrites) (inl is) = absurd (cc)
+motion_comes inputs program _ _ _ (joined target rewrites) (inr (inl is)) = absurd (cc)
+motion_comes inputs program _ _ _ (joined target rewrites) (inr (inr is)) = absurd (cc)
+motion_comes inputs program _ _ _ (ran n runs report reports) (inl is) = absurd (cc)
+motion_comes inputs program _ _ _ (ran n runs report reports) (inr (inl is)) = absurd (cc)
+motion_comes inputs program _ _ _ (ran n runs report reports) (inr (inr is)) = absurd (cc)
+motion_comes inputs program _ _ _ (compared number units output is_summary) (inl is) = absurd (cc)
+motion_comes inputs program _ _ _ (compared number units output is_summary) (inr (inl is)) = absurd (cc)
+motion_comes inputs program _ _ _ (compared number units output is_summary) (inr (inr is)) = absurd (cc)
 
--- so the field `moved` has the trail of `move`
-pub motion : HasTrails HasMotion (λ (a : Reply). a.moved) (λ (t : MoveTrail). t.source) MovesCode IsMotionOutput
-motion = record {
-  reads = λ command is. subst (λ (c : Command). IsTrue (reads_text c)) (sym is) refl;
-  empty = λ status. refl;
-  of = motion_of;
-  comes = motion_comes;
-}
+-- so the field `moved` has the trail of all three
+pub motion : HasTrails HasMotion (λ (a : Reply). a.moved) (λ (t : MoveTrail). t.source) IsAny IsMotionOutput
+motion = record { reads = motion_reads; empty = λ status. refl; of = motion_of; comes = motion_comes }
 
 -- ---- both
 

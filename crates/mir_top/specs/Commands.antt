@@ -7,7 +7,7 @@ use Rattle.mir_base.specs.Limits.{most_steps, most_units}
 use Rattle.mir_base.specs.Words.{is_text}
 use Rattle.mir_lex.specs.Numbers.{signed_number, unsigned_number}
 use Rattle.mir_top.specs.declared.command.Command.{Command}
-use Rattle.mir_top.specs.declared.command.Command.TheVariants.{Optimise, Stages, Move, Run, Trial}
+use Rattle.mir_top.specs.declared.command.Command.TheVariants.{Optimise, Stages, Move, Ranges, Divisions, Tails, Join, Run, Trial}
 
 -- the bytes of each word of the command line
 abbrev pub word_bytes : List (String Global) → List (List ℕ)
@@ -58,6 +58,10 @@ command_of (word ∷ arguments) =
     if is_text (codes "optimise") word then alone_of Optimise arguments else
     if is_text (codes "stages") word then alone_of Stages arguments else
     if is_text (codes "move") word then alone_of Move arguments else
+    if is_text (codes "ranges") word then alone_of Ranges arguments else
+    if is_text (codes "divisions") word then alone_of Divisions arguments else
+    if is_text (codes "tails") word then alone_of Tails arguments else
+    if is_text (codes "join") word then alone_of Join arguments else
     if is_text (codes "run") word then run_of arguments else
     if is_text (codes "trial") word then trial_of arguments else None
 
@@ -70,6 +74,10 @@ abbrev pub reads_text : Command → Bool
 reads_text Optimise = true
 reads_text Stages = true
 reads_text Move = true
+reads_text Ranges = true
+reads_text Divisions = true
+reads_text Tails = true
+reads_text Join = true
 reads_text (Run steps) = true
 reads_text (Trial number units) = false
 

@@ -13,7 +13,7 @@ use Rattle.mir_trial.specs.Trial.{trial_program}
 use Rattle.mir_valid.specs.declared.faults.ValidFault.{ValidFault}
 use Rattle.mir_valid.specs.Texts.{IsTextOf}
 use Rattle.mir_top.specs.declared.command.Command.{Command}
-use Rattle.mir_top.specs.declared.command.Command.TheVariants.{Optimise, Stages, Move, Run, Trial}
+use Rattle.mir_top.specs.declared.command.Command.TheVariants.{Optimise, Stages, Move, Ranges, Divisions, Tails, Join, Run, Trial}
 use Rattle.mir_top.specs.Commands.{command_of, inputs_in, Reads}
 use Rattle.mir_top.specs.Complaints.{Complaint, usage, wrong_inputs, too_long, deep, of_text, of_program}
 use Rattle.mir_top.specs.Outputs.{Runs, reported}
@@ -29,6 +29,10 @@ abbrev pub WorksOn : Command → List ℕ → ProgramShape → Type 0
 WorksOn Optimise text program = IsShortTextOf text program
 WorksOn Stages text program = IsShortTextOf text program
 WorksOn Move text program = IsShortTextOf text program
+WorksOn Ranges text program = IsShortTextOf text program
+WorksOn Divisions text program = IsShortTextOf text program
+WorksOn Tails text program = IsShortTextOf text program
+WorksOn Join text program = IsShortTextOf text program
 WorksOn (Run steps) text program = IsShortTextOf text program
 WorksOn (Trial number units) text program = program ≡ trial_program number units
 
@@ -44,6 +48,10 @@ abbrev pub Needs : Command → ProgramShape → Type 0
 Needs Optimise program = Unit {0}
 Needs Stages program = Unit {0}
 Needs Move program = Unit {0}
+Needs Ranges program = Unit {0}
+Needs Divisions program = Unit {0}
+Needs Tails program = Unit {0}
+Needs Join program = Unit {0}
 Needs (Run steps) program = Unit {0}
 Needs (Trial number units) program = CanBeTried program
 
@@ -82,6 +90,14 @@ pub data Completes (words : List (List ℕ)) (text : List ℕ) : ℕ → Type 0 
       → WorksOn Stages text program → Completes words text 0
   of_move : (program : ProgramShape) → command_of words ≡ Some Move
       → WorksOn Move text program → Completes words text 0
+  of_ranges : (program : ProgramShape) → command_of words ≡ Some Ranges
+      → WorksOn Ranges text program → Completes words text 0
+  of_divisions : (program : ProgramShape) → command_of words ≡ Some Divisions
+      → WorksOn Divisions text program → Completes words text 0
+  of_tails : (program : ProgramShape) → command_of words ≡ Some Tails
+      → WorksOn Tails text program → Completes words text 0
+  of_join : (program : ProgramShape) → command_of words ≡ Some Join
+      → WorksOn Join text program → Completes words text 0
   of_run : (steps : ℕ) (program : ProgramShape) → command_of words ≡ Some (Run steps)
       → WorksOn (Run steps) text program → Runs program (inputs_in words) steps
       → Completes words text (status_of_finish (reported program (inputs_in words) steps).finish)

@@ -3,6 +3,7 @@ pub mod Commands
 pub mod Texts
 pub mod Complaints
 pub mod StageTexts
+pub mod RangeTexts
 pub mod Outputs
 pub mod Due
 pub mod Calls

@@ -15,15 +15,20 @@ use Rattle.mir_interp.specs.declared.report.RunFault.TheVariants.{WrongInputs, D
 use Rattle.mir_interp.specs.Reports.{report_of}
 use Rattle.mir_opt.specs.declared.trails.Trail.{Trail}
 use Rattle.mir_opt.specs.declared.trails.MoveTrail.{MoveTrail}
-use Rattle.mir_opt.specs.Links.{IsLinked, IsMoveLinked, IsOnlyMoveTrail, IsOnlyTrail}
-use Rattle.mir_opt.specs.Best.{MotionIsBest, MovesBest}
+use Rattle.div_move.specs.MustCome.{MustComeTo}
+use Rattle.mir_opt.specs.Links.{IsDivisionLinked, IsLinked, IsMoveLinked, IsOnlyDivisionTrail, IsOnlyMoveTrail, IsOnlyTrail}
+use Rattle.mir_opt.specs.Best.{DivisionsAreBest, MotionIsBest, MovesBest}
 use Rattle.mir_sim.specs.Pairs.{AllUnitsSame}
+use Rattle.program_pass.specs.PassPrograms.{IsOnly, IsPassedProgram, KeepsRuns}
+use Rattle.tail_loop.specs.Tails.{Tailed as IsTailed}
+use Rattle.unit_join.specs.JoinPrograms.{IsJoinedProgram}
+use Rattle.mir_top.specs.RangeTexts.{UnitHoldsLeast, ShowsRanges}
 use Rattle.mir_top.specs.StageTexts.{ShowsStages}
 use Rattle.mir_top.specs.declared.command.Command.{Command}
-use Rattle.mir_top.specs.declared.command.Command.TheVariants.{Optimise, Stages, Move, Run, Trial}
+use Rattle.mir_top.specs.declared.command.Command.TheVariants.{Optimise, Stages, Move, Ranges, Divisions, Tails, Join, Run, Trial}
 use Rattle.mir_top.specs.declared.making.Made.{Made}
 use Rattle.mir_top.specs.declared.outcome.Outcome.{Outcome}
-use Rattle.mir_top.specs.declared.outcome.Outcome.TheVariants.{Optimised, Shown, Moved, Ran, Compared}
+use Rattle.mir_top.specs.declared.outcome.Outcome.TheVariants.{Optimised, Shown, Moved, Ranged, Divided, Tailed, Joined, Ran, Compared}
 
 -- ---- trails
 
@@ -50,6 +55,28 @@ abbrev pub MovesCode : MoveTrail → Type 0
 MovesCode trail =
     Improves (IsMoveLinked trail) (IsOnlyMoveTrail trail.source trail) (All MotionIsBest trail.units)
     trail.source trail.target
+
+-- and so has that of the motion of divisions alone, whose placements hold their temporaries least
+pub record Divides (trail : MoveTrail) : Type 0 where
+  pub improves : Improves (IsDivisionLinked trail) (IsOnlyDivisionTrail trail.source trail) (All DivisionsAreBest trail.units) trail.source trail.target
+  pub least : All (UnitHoldsLeast MustComeTo) trail.units
+
+-- ---- programs whose calls are rewritten
+
+-- the target is this exact program, and no other is; it is the same, evaluates no more operators and never has more
+-- frames
+pub record Rewrites (Exact : ProgramShape → ProgramShape → Type 0) (source target : ProgramShape) : Type 0 where
+  pub exact : Exact source target
+  pub only : IsOnly (Exact source) target
+  pub keeps : KeepsRuns source target
+
+-- with self tail calls as loops
+abbrev pub LoopsTails : ProgramShape → ProgramShape → Type 0
+LoopsTails = Rewrites (IsPassedProgram IsTailed)
+
+-- with its leaves joined into their callers
+abbrev pub JoinsUnits : ProgramShape → ProgramShape → Type 0
+JoinsUnits = Rewrites IsJoinedProgram
 
 -- ---- reports
 
@@ -130,6 +157,15 @@ pub data Makes (inputs : List ℤ) (program : ProgramShape)
       → Makes inputs program Stages (Shown trail) text
   moved : (trail : MoveTrail) → trail.source ≡ program → MovesCode trail
       → Makes inputs program Move (Moved trail) (canonical_text trail.target)
+  ranged : (trail : MoveTrail) → trail.source ≡ program → MovesCode trail
+      → (text : List ℕ) → ShowsRanges trail.units text
+      → Makes inputs program Ranges (Ranged trail) text
+  divided : (trail : MoveTrail) → trail.source ≡ program → Divides trail
+      → Makes inputs program Divisions (Divided trail) (canonical_text trail.target)
+  tailed : (target : ProgramShape) → LoopsTails program target
+      → Makes inputs program Tails Tailed (canonical_text target)
+  joined : (target : ProgramShape) → JoinsUnits program target
+      → Makes inputs program Join Joined (canonical_text target)
   ran : (steps : ℕ) → Runs program inputs steps
       → (report : Report) → report ≡ reported program inputs steps
       → Makes inputs program (Run steps) (Ran report.finish) (report_text report)

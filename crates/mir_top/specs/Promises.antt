@@ -9,13 +9,14 @@ use Rattle.mir_opt.specs.declared.trails.MoveTrail.{MoveTrail}
 use Rattle.mir_outside.specs.Transfer.{TakesAtMost}
 use Rattle.mir_trial.specs.Trial.{trial_program}
 use Rattle.mir_top.specs.declared.command.Command.{Command}
-use Rattle.mir_top.specs.declared.command.Command.TheVariants.{Optimise, Stages, Move, Run, Trial}
+use Rattle.mir_top.specs.declared.command.Command.TheVariants.{Optimise, Stages, Move, Ranges, Divisions, Tails, Join, Run, Trial}
 use Rattle.mir_top.specs.declared.outcome.Outcome.{Outcome}
 use Rattle.mir_top.specs.Calls.{Call, reply_of, MakesOutput, IsDone, IsCutShort}
 use Rattle.mir_top.specs.Commands.{command_of, inputs_in, Asks, Reads}
 use Rattle.mir_top.specs.Complaints.{Complaint, read_fault, write_fault, out_of_memory}
 use Rattle.mir_top.specs.Due.{IsShortTextOf, Refuses, Completes, status_of_finish}
-use Rattle.mir_top.specs.Outputs.{Optimises, MovesCode, Runs, reported, report_text, trail_summary, IsOnlyOutput}
+use Rattle.mir_top.specs.Outputs.{Divides, JoinsUnits, LoopsTails, Optimises, MovesCode, Runs, reported, report_text, trail_summary, IsOnlyOutput}
+use Rattle.mir_top.specs.RangeTexts.{ShowsRanges}
 use Rattle.mir_top.specs.StageTexts.{ShowsStages}
 use Rattle.mir_top.specs.Streams.{Stream, Untouched, HasFailed, Took, TookAll, Gave, Tried}
 
@@ -79,6 +80,26 @@ pub record HasShown (call : Call) (trail : Trail) : Type 0 where
 abbrev pub HasMoved : Call → MoveTrail → Type 0
 HasMoved call trail = HasImproved call (MovesCode trail) trail.source trail.target
 
+-- this with where the temporaries are held in place of the text of the target
+pub record HasRanged (call : Call) (trail : MoveTrail) : Type 0 where
+  pub text : List ℕ
+  pub read : HasRead call.source trail.source
+  pub improves : MovesCode trail
+  pub shows : ShowsRanges trail.units text
+  pub written : Gave call.out text
+
+-- and with source and target of the trail of the motion of divisions alone
+abbrev pub HasDivided : Call → MoveTrail → Type 0
+HasDivided call trail = HasImproved call (Divides trail) trail.source trail.target
+
+-- the program that was read was rewritten like this, and the text of the target was written, whole and nothing else
+pub record HasRewritten (call : Call) (Rewritten : ProgramShape → ProgramShape → Type 0) : Type 0 where
+  pub source : ProgramShape
+  pub target : ProgramShape
+  pub read : HasRead call.source source
+  pub rewrites : Rewritten source target
+  pub written : Gave call.out (canonical_text target)
+
 -- the report of the run of the program that was read was written, and the status is that of its end
 pub record HasRun (call : Call) (steps : ℕ) : Type 0 where
   pub program : ProgramShape
@@ -136,13 +157,20 @@ pub record Promises (call : Call) : Type 0 where
   pub unread : ¬ Reads call.words → Untouched call.source
   -- With the statuses 0, 3 and 4 the one output that the words ask was made, and written, whole and nothing else.
   pub made : StatusIn call (0 ∷ 3 ∷ 4 ∷ []) → HasMade call
-  -- A trail comes exactly with status 0 under `optimise` and `stages`, a move trail so under `move`.
+  -- A trail comes exactly with status 0 under `optimise` and `stages`, a move trail so under `move`, `ranges` and
+  -- `divisions`.
   pub trail : IsSome call.reply.trail
       ↔ (StatusIs call 0 × (Asked call Optimise ⊎ Asked call Stages))
   pub optimised : Asked call Optimise → IfSome call.reply.trail (HasOptimised call)
   pub stages : Asked call Stages → IfSome call.reply.trail (HasShown call)
-  pub moved : IsSome call.reply.moved ↔ (StatusIs call 0 × Asked call Move)
-  pub moves : IfSome call.reply.moved (HasMoved call)
+  pub moved : IsSome call.reply.moved
+      ↔ (StatusIs call 0 × (Asked call Move ⊎ (Asked call Ranges ⊎ Asked call Divisions)))
+  pub moves : Asked call Move → IfSome call.reply.moved (HasMoved call)
+  pub ranges : Asked call Ranges → IfSome call.reply.moved (HasRanged call)
+  pub divisions : Asked call Divisions → IfSome call.reply.moved (HasDivided call)
+  -- Under `tails` and `join` status 0 says that the program was rewritten, and its text was written.
+  pub tails : Asked call Tails → StatusIs call 0 → HasRewritten call LoopsTails
+  pub joins : Asked call Join → StatusIs call 0 → HasRewritten call JoinsUnits
   -- Under `run` the statuses 0, 3 and 4 say how the run stands; 3 and 4 come under `run` alone.
   pub reports : (steps : ℕ) → Asked call (Run steps) → StatusIn call (0 ∷ 3 ∷ 4 ∷ [])
       → HasRun call steps

@@ -18,6 +18,14 @@ pub enum Command {
     Stages,
     /// `move`: the same of the target of code motion alone.
     Move,
+    /// `ranges`: of each temporary of code motion alone, how often it is set and read, and on how many edges it is held.
+    Ranges,
+    /// `divisions`: the canonical text of the target of the motion of divisions alone.
+    Divisions,
+    /// `tails`: the canonical text of the program with self tail calls as loops.
+    Tails,
+    /// `join`: the canonical text of the program with its leaves joined into their callers.
+    Join,
     /// `run STEPS [N ..]`: the report of the run of the program, with the inputs N, after so many steps or at its end.
     Run(u64),
     /// `trial NUMBER UNITS`: what the runs show of the program that NUMBER draws, with so many units, and of the target
@@ -39,6 +47,14 @@ impl Command {
                     alone(Command::Stages, arguments)
                 } else if is_text(b"move", word.as_bytes()) {
                     alone(Command::Move, arguments)
+                } else if is_text(b"ranges", word.as_bytes()) {
+                    alone(Command::Ranges, arguments)
+                } else if is_text(b"divisions", word.as_bytes()) {
+                    alone(Command::Divisions, arguments)
+                } else if is_text(b"tails", word.as_bytes()) {
+                    alone(Command::Tails, arguments)
+                } else if is_text(b"join", word.as_bytes()) {
+                    alone(Command::Join, arguments)
                 } else if is_text(b"run", word.as_bytes()) {
                     run(arguments)
                 } else if is_text(b"trial", word.as_bytes()) {

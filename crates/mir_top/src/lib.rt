@@ -25,6 +25,7 @@ mod making;
 #[cfg(test)]
 mod motion_examples;
 mod outcome;
+mod ranges;
 #[cfg(test)]
 mod refusals;
 mod reply;

@@ -1,22 +1,27 @@
 // From a program to the output.
 ghost use Rattle.std.specs.Prelude.{◌≡◌, IfOk, IfErr};
+ghost use Rattle.mir_base.specs.Shapes.{ProgramShape};
 ghost use Rattle.mir_base.specs.Text.{canonical_text};
 ghost use Rattle.mir_top.specs.Commands.{inputs_in, word_bytes};
 ghost use Rattle.mir_opt.specs.Stages.{AllKeep, KeepsProgram, graph_at};
 ghost use Rattle.mir_top.specs.Due.{Needs};
+ghost use Rattle.mir_top.specs.RangeTexts.{ShowsRanges};
 ghost use Rattle.mir_top.specs.StageTexts.{ShowsStages};
-ghost use Rattle.mir_top.specs.Outputs.{CannotMake, IsMadeBy, MovesCode, Optimises};
+ghost use Rattle.mir_top.specs.Outputs.{CannotMake, Divides, IsMadeBy, JoinsUnits, LoopsTails, MovesCode, Optimises};
 
 use crate::command::inputs;
+use crate::ranges::{hold_least, text_of_ranges};
 use crate::report_text::text_of_report;
 use crate::stages::text_of_stages;
 use crate::trial::trial;
 use crate::{Command, Outcome};
 use mir_base::{Memory, Program};
 use mir_interp::{RunFault, run};
-use mir_opt::{MoveTrail, Trail, motion, optimise};
+use mir_opt::{MoveTrail, Trail, divisions, motion, optimise};
 use mir_print::print;
 use std::alloc::Global;
+use tail_loop::tail_program;
+use unit_join::join_program;
 
 /// What was made of a program, with the bytes that are to be written.
 #[derive(Drop)]
@@ -57,6 +62,34 @@ pub(crate) fn make(
         Command::Move => match moved(alloc, program) {
             Ok((trail, output)) => Ok(Made {
                 outcome: Outcome::Moved(trail),
+                output,
+            }),
+            Err(refusal) => Err(RunFault::Memory(refusal)),
+        },
+        Command::Ranges => match ranged(alloc, program) {
+            Ok((trail, output)) => Ok(Made {
+                outcome: Outcome::Ranged(trail),
+                output,
+            }),
+            Err(refusal) => Err(RunFault::Memory(refusal)),
+        },
+        Command::Divisions => match divided(alloc, program) {
+            Ok((trail, output)) => Ok(Made {
+                outcome: Outcome::Divided(trail),
+                output,
+            }),
+            Err(refusal) => Err(RunFault::Memory(refusal)),
+        },
+        Command::Tails => match tailed(alloc, program) {
+            Ok(output) => Ok(Made {
+                outcome: Outcome::Tailed,
+                output,
+            }),
+            Err(refusal) => Err(RunFault::Memory(refusal)),
+        },
+        Command::Join => match joined(alloc, program) {
+            Ok(output) => Ok(Made {
+                outcome: Outcome::Joined,
                 output,
             }),
             Err(refusal) => Err(RunFault::Memory(refusal)),
@@ -117,6 +150,49 @@ fn moved(alloc: Global, program: &Program) -> Result<(MoveTrail, Vec<u8>), Memor
     let trail = motion(alloc, program)?;
     let output = print(alloc, &trail.target)?;
     Ok((trail, output))
+}
+
+/// What code motion alone makes of the program, and the text of where its temporaries are held.
+fn ranged(alloc: Global, program: &Program) -> Result<(MoveTrail, Vec<u8>), Memory>
+    ensures source { IfOk result (λ made. made.0.source ≡ program.now) }
+    ensures moves { IfOk result (λ made. MovesCode made.0) }
+    ensures output { IfOk result (λ made. ShowsRanges made.0.units made.1.items) }
+{
+    let trail = motion(alloc, program)?;
+    let output = text_of_ranges(alloc, &trail)?;
+    Ok((trail, output))
+}
+
+/// What the motion of divisions alone makes of the program, and the text of its target.
+fn divided(alloc: Global, program: &Program) -> Result<(MoveTrail, Vec<u8>), Memory>
+    ensures source { IfOk result (λ made. made.0.source ≡ program.now) }
+    ensures divides { IfOk result (λ made. Divides made.0) }
+    ensures output { IfOk result (λ made. made.1.items ≡ canonical_text made.0.target) }
+{
+    let trail = divisions(alloc, program)?;
+    hold_least(&trail);
+    let output = print(alloc, &trail.target)?;
+    Ok((trail, output))
+}
+
+/// The text of the program with self tail calls as loops.
+fn tailed(alloc: Global, program: &Program) -> Result<Vec<u8>, Memory>
+    ensures { IfOk result (λ output. (target : ProgramShape)
+        × LoopsTails program.now target × (output.items ≡ canonical_text target)) }
+{
+    let target = tail_program(alloc, program)?;
+    let output = print(alloc, &target)?;
+    Ok(output)
+}
+
+/// The text of the program with its leaves joined into their callers.
+fn joined(alloc: Global, program: &Program) -> Result<Vec<u8>, Memory>
+    ensures { IfOk result (λ output. (target : ProgramShape)
+        × JoinsUnits program.now target × (output.items ≡ canonical_text target)) }
+{
+    let target = join_program(alloc, program)?;
+    let output = print(alloc, &target)?;
+    Ok(output)
 }
 
 /// The report of the run of so many steps with these inputs.

@@ -141,6 +141,180 @@ return x
 end
 $ move
 @ same
+# where the temporary of a diamond is held
+main: begin
+receive a(val)
+receive b(val)
+if a goto L1
+print a
+goto L2
+L1: x <- a + b
+print x
+L2: y <- a + b
+print y
+return y
+end
+$ ranges
+@ 0
+unit main
+h1 <- a + b inserted 2 replaced 2 held 4
+# and that of a loop whose test stands last
+main: begin
+receive a(val)
+receive b(val)
+L1: x <- a + b
+i <- i + 1
+if i < x goto L1
+return i
+end
+$ ranges
+@ 0
+unit main
+h1 <- a + b inserted 1 replaced 1 held 5
+# where nothing is inserted, no line stands behind the unit
+main: begin
+receive a(val)
+receive b(val)
+receive n(val)
+L1: if i >= n goto L2
+x <- a + b
+print x
+i <- i + 1
+goto L1
+L2: return i
+end
+$ ranges
+@ 0
+unit main
+# a division that both uses must come to
+main: begin
+receive a(val)
+receive b(val)
+x <- a / b
+print x
+y <- a / b
+return y
+end
+$ divisions
+@ 0
+main: begin
+receive a(val)
+receive b(val)
+h1 <- a / b
+x <- h1
+print x
+y <- h1
+return y
+end
+$ | run 10 7 2
+@ 0
+3
+result 3
+evals 1
+$ divisions
+@ 0
+main: begin
+receive a(val)
+receive b(val)
+h1 <- a / b
+x <- h1
+print x
+y <- h1
+return y
+end
+$ | run 10 7 0
+@ 3
+trapped zero divisor
+evals 1
+# a division after a print stays
+main: begin
+receive a(val)
+receive b(val)
+L1: print i
+x <- a / b
+i <- i + x
+if i < 9 goto L1
+return i
+end
+$ divisions
+@ same
+# a self tail call becomes a loop
+main: begin
+receive n(val)
+receive s(val)
+if n = 0 goto L1
+s <- s + n
+n <- n - 1
+x <- main,(n,int;s,int)
+return x
+L1: return s
+end
+$ tails
+@ 0
+main: begin
+receive n(val)
+receive s(val)
+L1: if n = 0 goto L2
+s <- s + n
+n <- n - 1
+h1 <- n
+h2 <- s
+n <- h1
+s <- h2
+x <- 0
+goto L1
+L2: return s
+end
+$ | run 1000000 20000 0
+@ 0
+result 200010000
+evals 40000
+$ run 1000000 20000 0
+@ 5
+deep: more than 10000 frames
+# a call whose result is dropped is no tail call
+main: begin
+receive n(val)
+if n = 1 goto L1
+m <- n - 1
+call main,(m,int)
+L1: return 0
+end
+$ tails
+@ same
+# a leaf is joined into its caller
+main: begin
+receive n(val)
+y <- square,(n,int)
+print y
+return y
+end
+square: begin
+receive x(val)
+y <- x * x
+return y
+end
+$ join
+@ 0
+main: begin
+receive n(val)
+h1 <- n
+h2 <- 0
+h2 <- h1 * h1
+y <- h2
+print y
+return y
+end
+square: begin
+receive x(val)
+y <- x * x
+return y
+end
+$ | run 100 5
+@ 0
+25
+result 25
+evals 1
 ";
 
 /// A text of a thousand diamonds, each of which evaluates the same expression.

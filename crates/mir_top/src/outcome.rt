@@ -16,6 +16,14 @@ pub enum Outcome {
     Shown(Trail),
     /// What code motion alone made of it.
     Moved(MoveTrail),
+    /// What code motion alone made of it, shown by where its temporaries are held.
+    Ranged(MoveTrail),
+    /// What the motion of divisions alone made of it.
+    Divided(MoveTrail),
+    /// It with self tail calls as loops.
+    Tailed,
+    /// It with its leaves joined into their callers.
+    Joined,
     /// The report of its run, which stands like this.
     Ran(Finish),
     /// How its trial compares it with its target.
@@ -42,6 +50,26 @@ impl Outcome {
                 status: 0,
                 trail: None,
                 moved: Some(trail),
+            },
+            Outcome::Ranged(trail) => Reply {
+                status: 0,
+                trail: None,
+                moved: Some(trail),
+            },
+            Outcome::Divided(trail) => Reply {
+                status: 0,
+                trail: None,
+                moved: Some(trail),
+            },
+            Outcome::Tailed => Reply {
+                status: 0,
+                trail: None,
+                moved: None,
+            },
+            Outcome::Joined => Reply {
+                status: 0,
+                trail: None,
+                moved: None,
             },
             Outcome::Ran(finish) => Reply {
                 status: status_of_finish(finish),

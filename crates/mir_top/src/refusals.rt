@@ -180,6 +180,12 @@ Stages
 stages 1
 Move
 move 1
+Ranges
+ranges 1
+divisions 1
+Tails
+tails 1
+join 1
 run
 run x
 run 1000001

@@ -1,5 +1,5 @@
 // Worked examples, byte for byte, and calls whose memory runs out.
-use crate::devices::{NO_FAULT, call, repeated};
+use crate::devices::{NO_FAULT, Seen, call, repeated};
 use crate::examples::EXAMPLES;
 use crate::hostile::{TRIAL, TRIAL_OUTPUT};
 use crate::motion_examples::{MOTION_EXAMPLES, diamonds, moved_diamonds};
@@ -90,7 +90,8 @@ fn stages_of_programs(rt: HostRuntime) -> Result<(), Fail> {
 /// Words of no command: status 1, whatever the text.
 #[test]
 fn other_words(rt: HostRuntime) -> Result<(), Fail> {
-    let usage = b"usage: mir optimise | stages | move | run STEPS [N ..] | trial NUMBER UNITS\n";
+    let usage =
+        b"usage: mir optimise | stages | move | ranges | divisions | tails | join | run STEPS [N ..] | trial NUMBER UNITS\n";
     for words in OTHER_WORDS.split('\n') {
         assert!(rt; leaves(rt.alloc(), words, b"", 1, usage)?, "with {words}");
     }
@@ -131,19 +132,40 @@ fn a_thousand_diamonds(rt: HostRuntime) -> Result<(), Fail> {
     Ok(())
 }
 
+/// A trial of three units: the target evaluates no more than the source. That of the most units is on the page of the
+/// language, whose commands are run with the program.
+#[test]
+fn trials(rt: HostRuntime) -> Result<(), Fail> {
+    let seen = call(rt.alloc(), "trial 7 3", b"", NO_FAULT)?;
+    assert!(rt; evaluates_no_more(&seen));
+    Ok(())
+}
+
+/// Whether a trial left status 0, and a summary whose fourth number is at most the third.
+fn evaluates_no_more(seen: &Seen) -> bool {
+    let out = seen.out.written();
+    let Ok(text) = str::from_utf8(out) else {
+        return false;
+    };
+    let before = number_after(text, "\nsource evals ");
+    let after = number_after(text, "\nresult evals ");
+    match (before, after) {
+        (Some(before), Some(after)) => seen.left(0, out, b"") && after <= before,
+        _ => false,
+    }
+}
+
+/// The number that stands behind this piece of a text.
+fn number_after(text: &str, piece: &str) -> Option<u64> {
+    let (_, rest) = text.split_once(piece)?;
+    let (number, _) = rest.split_once('\n')?;
+    number.parse::<u64>().ok()
+}
+
 /// For runs in which the allocations are refused in turn: a refusal before the call ends the test.
 #[test]
 fn memory_that_is_refused(rt: HostRuntime) {
-    let text = b"main: begin\nreceive a(val)\nif a goto L\nx <- 1\nL: goto M\nM: print x\nend\n";
-    let cleaned =
-        b"main: begin\nreceive a(val)\nif a goto L1\nx <- 1\nL1: print x\nreturn 0\nend\n";
-    let outputs: [(&str, &[u8]); 4] = [
-        ("optimise", cleaned),
-        ("move", cleaned),
-        ("run 9 0", b"1\nresult 0\nevals 0\n"),
-        (TRIAL, TRIAL_OUTPUT),
-    ];
-    for (words, output) in outputs {
+    for (words, text, output) in REFUSED_MEMORY {
         assert!(rt; leaves_or_refuses(rt.alloc(), words, text, output));
     }
     for (text, parts) in STAGE_EXAMPLES {
@@ -152,6 +174,113 @@ fn memory_that_is_refused(rt: HostRuntime) {
         }
     }
 }
+
+/// The words, a text and the output of calls whose memory is refused.
+const REFUSED_MEMORY: [(&str, &[u8], &[u8]); 8] = [
+    ("optimise", SKIPS, CLEANED),
+    ("move", SKIPS, CLEANED),
+    ("run 9 0", SKIPS, b"1\nresult 0\nevals 0\n"),
+    (TRIAL, SKIPS, TRIAL_OUTPUT),
+    ("ranges", EXPRESSIONS, HELD),
+    ("divisions", EXPRESSIONS, DIVIDED),
+    ("tails", CALLS, TAILS),
+    ("join", CALLS, JOINED),
+];
+
+/// A test that leads to a goto.
+const SKIPS: &[u8] =
+    b"main: begin\nreceive a(val)\nif a goto L\nx <- 1\nL: goto M\nM: print x\nend\n";
+
+/// The same with neither.
+const CLEANED: &[u8] =
+    b"main: begin\nreceive a(val)\nif a goto L1\nx <- 1\nL1: print x\nreturn 0\nend\n";
+
+/// A division and a sum, each of which is evaluated twice.
+const EXPRESSIONS: &[u8] = b"\
+main: begin
+receive a(val)
+receive b(val)
+x <- a / b
+y <- a / b
+z <- x + y
+y <- x + y
+return z
+end
+";
+
+/// Where the temporary of the sum is held.
+const HELD: &[u8] = b"unit main\nh1 <- x + y inserted 1 replaced 2 held 1\n";
+
+/// The same with one division.
+const DIVIDED: &[u8] = b"\
+main: begin
+receive a(val)
+receive b(val)
+h1 <- a / b
+x <- h1
+y <- h1
+z <- x + y
+y <- x + y
+return z
+end
+";
+
+/// A self tail call, and a call of a leaf.
+const CALLS: &[u8] = b"\
+main: begin
+receive n(val)
+if n = 0 goto L1
+m <- f,(n,int)
+x <- main,(m,int)
+return x
+L1: return n
+end
+f: begin
+receive n(val)
+x <- n - 1
+return x
+end
+";
+
+/// The same with a loop in place of the one.
+const TAILS: &[u8] = b"\
+main: begin
+receive n(val)
+L1: if n = 0 goto L2
+m <- f,(n,int)
+h1 <- m
+n <- h1
+m <- 0
+x <- 0
+goto L1
+L2: return n
+end
+f: begin
+receive n(val)
+x <- n - 1
+return x
+end
+";
+
+/// And with the leaf in place of the other.
+const JOINED: &[u8] = b"\
+main: begin
+receive n(val)
+if n = 0 goto L1
+h1 <- n
+h2 <- 0
+h2 <- h1 - 1
+m <- h2
+x <- main,(m,int)
+return x
+L1: return n
+end
+f: begin
+receive n(val)
+x <- n - 1
+return x
+end
+";
 
 /// Whether a call leaves this output or tells that memory ran out, where it comes to the call.
 fn leaves_or_refuses(alloc: Global, words: &str, text: &[u8], output: &[u8]) -> bool {

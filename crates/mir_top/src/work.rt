@@ -93,6 +93,10 @@ fn trial_numbers(command: Command) -> Option<(u64, usize)>
         Command::Optimise => None,
         Command::Stages => None,
         Command::Move => None,
+        Command::Ranges => None,
+        Command::Divisions => None,
+        Command::Tails => None,
+        Command::Join => None,
         Command::Run(_) => None,
         Command::Trial(number, units) => Some((number, units)),
     }

@@ -1,14 +1,14 @@
 // Examples of passes.
 
 /// An example is a line with a remark, a program, and what becomes of the graph of its first unit, once or more: after
-/// `$` the passes in turn, of which the first is `lower`, and then the graph that they make, node by node. Where the
-/// line of the passes ends with `: changes`, its nodes follow that the lowered graph does not have, and how many it
-/// has; with `: blocks` its blocks; with `: known` what is known of its variables before each node; with `: terms` the
-/// terms that they have there; with `: copies` where each of its copies holds; with `: delays` where each of its
-/// patterns that can still move is blocked, delayed and inserted; with `: live` before and after which nodes each of
-/// its variables is live; with `: motion` what code motion finds out of its first expression, and with `: motion of the
-/// second` of its second; and with a statement about paths the nodes at which a bit holds by it that is born and
-/// stopped at these nodes.
+/// `$` the passes in turn, of which the first is `lower` (`divide` moves divisions), and then the graph that they make,
+/// node by node. Where the line of the passes ends with `: changes`, its nodes follow that the lowered graph does not
+/// have, and how many it has; with `: blocks` its blocks; with `: known` what is known of its variables before each
+/// node; with `: terms` the terms that they have there; with `: copies` where each of its copies holds; with `: delays`
+/// where each of its patterns that can still move is blocked, delayed and inserted; with `: live` before and after
+/// which nodes each of its variables is live; with `: motion` what code motion finds out of its first expression, and
+/// with `: motion of the second` of its second; and with a statement about paths the nodes at which a bit holds by it
+/// that is born and stopped at these nodes.
 pub(crate) const EXAMPLES: &str = "\
 # each kind of node
 main: begin
@@ -184,4 +184,125 @@ $ lower fold clean
 2: if a to 4 else 3
 3: print 1 to 4
 4: return 1
+# a division that both uses must come to is evaluated once, though a print stands between them
+main: begin
+receive a(val)
+receive b(val)
+x <- a / b
+print x
+y <- a / b
+return y
+end
+$ lower clean split divide
+0: start to 5
+1: x <- h1 to 2
+2: print x to 3
+3: y <- h1 to 4
+4: return y
+5: h1 <- a / b to 1
+# no division moves up before a print, which is seen even where it traps
+main: begin
+receive a(val)
+receive b(val)
+L: print i
+x <- a / b
+i <- i + x
+if i < 9 goto L
+return i
+end
+$ lower clean split divide
+0: start to 6
+1: print i to 2
+2: x <- a / b to 3
+3: i <- i + x to 4
+4: if i < 9 to 7 else 5
+5: return i
+6: skip to 1
+7: skip to 1
+# a division leaves a loop that shows nothing, since it comes first there in any case
+main: begin
+receive a(val)
+receive b(val)
+L: x <- a / b
+i <- i + x
+if i < 9 goto L
+return i
+end
+$ lower clean split divide
+0: start to 7
+1: x <- h1 to 2
+2: i <- i + x to 3
+3: if i < 9 to 6 else 4
+4: return i
+5: skip to 1
+6: skip to 1
+7: h1 <- a / b to 5
+# a loop that need not end holds a division back: it is evaluated on the way out
+main: begin
+receive a(val)
+receive b(val)
+L: if a goto L
+x <- a / b
+y <- a / b
+return y
+end
+$ lower clean split divide
+0: start to 5
+1: if a to 6 else 7
+2: x <- h1 to 3
+3: y <- h1 to 4
+4: return y
+5: skip to 1
+6: skip to 1
+7: h1 <- a / b to 2
+# no division moves up before another one, which may trap first
+main: begin
+receive a(val)
+receive b(val)
+if a goto M
+c <- 1
+goto L
+M: c <- a mod b
+L: x <- 7 / b
+y <- a mod b
+return y
+end
+$ lower clean split divide
+0: start to 1
+1: if a to 3 else 2
+2: c <- 1 to 7
+3: c <- a mod b to 8
+4: x <- 7 / b to 5
+5: y <- a mod b to 6
+6: return y
+7: skip to 4
+8: skip to 4
+# before a join a division is evaluated where it was not, since nothing but silent steps stand between
+main: begin
+receive a(val)
+receive b(val)
+if a goto M
+c <- 1
+goto L
+M: c <- a mod b
+L: if c goto N
+e <- 8
+N: y <- a mod b
+return y
+end
+$ lower clean split divide
+0: start to 1
+1: if a to 12 else 2
+2: c <- 1 to 13
+3: c <- h1 to 9
+4: if c to 10 else 5
+5: e <- 8 to 11
+6: y <- h1 to 7
+7: return y
+8: skip to 4
+9: skip to 4
+10: skip to 6
+11: skip to 6
+12: h1 <- a mod b to 3
+13: h1 <- a mod b to 8
 ";

@@ -6,6 +6,7 @@ use crate::tests::examples::EXAMPLES;
 use crate::tests::known::known_text;
 use crate::tests::paths::held_text;
 use crate::tests::placing::motion_text;
+use crate::tests::ranges::ranges_text;
 use crate::tests::row_examples::ROW_EXAMPLES;
 use crate::tests::shown::{graph_text, put_changes};
 use crate::tests::support::graph_of;
@@ -13,6 +14,7 @@ use crate::tests::terms::terms_text;
 use crate::tests::value_examples::VALUE_EXAMPLES;
 use cond_const::fold;
 use copy_flow::copies;
+use div_move::move_dividing;
 use edge_split::split;
 use flow_graph::{Blocks, Edges, Graph, is_split};
 use jump_clean::clean;
@@ -81,6 +83,7 @@ fn after(alloc: Global, pass: &str, graph: &Graph) -> Result<Graph, Fail> {
         "copies" => Ok(copies(alloc, graph)?),
         "split" => Ok(split(alloc, graph)?),
         "round" => round_of(alloc, graph),
+        "divide" => divided_of(alloc, graph),
         _ => Err("no such pass".into()),
     }
 }
@@ -96,10 +99,21 @@ fn round_of(alloc: Global, graph: &Graph) -> Result<Graph, Fail> {
     Ok(round(alloc, graph)?.graph)
 }
 
+/// What moving the divisions makes of a graph, which has to be split.
+fn divided_of(alloc: Global, graph: &Graph) -> Result<Graph, Fail> {
+    let edges = Edges::of(alloc, graph)?;
+    let split = is_split(graph, &edges);
+    mem::drop(edges);
+    if !split {
+        return Err("not split".into());
+    }
+    Ok(move_dividing(alloc, graph)?.moved)
+}
+
 /// What is shown of the graph that was made of a text: its nodes, or those that the passes changed; its blocks; what is
 /// known before its nodes; where its copies hold; where its patterns are delayed and inserted; where its variables are
-/// live; which terms they have; what code motion finds out of its first expression, or of its second; or where a bit
-/// holds.
+/// live; which terms they have; on how many edges its temporaries are held; what code motion finds out of its first
+/// expression, or of its second; or where a bit holds.
 fn shown_of(alloc: Global, text: &str, shown: &str, graph: &Graph) -> Result<String, Fail> {
     match shown {
         "graph" => Ok(graph_text(alloc, graph)?),
@@ -110,6 +124,7 @@ fn shown_of(alloc: Global, text: &str, shown: &str, graph: &Graph) -> Result<Str
         "delays" => Ok(delays_text(alloc, graph)?),
         "live" => Ok(live_text(alloc, graph)?),
         "terms" => Ok(terms_text(alloc, graph)?),
+        "ranges" => ranges_text(alloc, graph),
         "motion" => motion_text(alloc, graph, 0),
         "motion of the second" => motion_text(alloc, graph, 1),
         _ => held_text(alloc, shown, graph),

@@ -24,7 +24,7 @@ pub(crate) fn motion_text(alloc: Global, graph: &Graph, number: usize) -> Result
 }
 
 /// The edges of a graph that has to be split.
-fn split_edges(alloc: Global, graph: &Graph) -> Result<Edges, Fail>
+pub(crate) fn split_edges(alloc: Global, graph: &Graph) -> Result<Edges, Fail>
     ensures edges { IfOk result (λ edges. edges ≡ edges_of graph.now.nodes) }
     ensures split { OnOk result (IsSplit graph.now.nodes) }
 {

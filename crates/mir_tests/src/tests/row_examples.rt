@@ -167,6 +167,9 @@ busy inserted 1
 busy replaced 3 5
 lazy inserted 3 8
 lazy replaced 3 5
+$ lower clean split: ranges
+a + b inserted 2 replaced 2 held 4
+on 3-4 4-9 8-5 9-5
 # a loop before the diamond: the busy placement inserts before the loop, at 9, and the lazy one at the use at 4 and at 12
 main: begin
 receive a(val)
@@ -237,6 +240,43 @@ busy inserted 1
 busy replaced 2
 lazy inserted 1
 lazy replaced 2
+# what a repeated loop evaluates is held around it, on the edge into it and on the four of its circle
+main: begin
+receive a(val)
+receive b(val)
+L1: x <- a + b
+i <- i + 1
+if i < x goto L1
+return i
+end
+$ lower clean split: ranges
+a + b inserted 1 replaced 1 held 5
+on 1-2 2-3 3-6 5-1 6-1
+# a while loop evaluates nothing before its test, so nothing is held
+main: begin
+receive a(val)
+receive b(val)
+receive n(val)
+L1: if i >= n goto L2
+x <- a + b
+print x
+i <- i + 1
+goto L1
+L2: return i
+end
+$ lower clean split: ranges
+# uses from which no Return is reached: of them nothing is said
+main: begin
+receive a(val)
+print a
+x <- a + 1
+L: y <- a + 1
+print y
+goto L
+end
+$ lower clean split: ranges
+a + 1 inserted 1 replaced 2 held 0
+on
 # what is used only once stays as it is
 main: begin
 receive a(val)

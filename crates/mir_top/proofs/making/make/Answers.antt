@@ -1,9 +1,9 @@
 use Rattle.std.proofs.Common.{refl}
 use Rattle.mir_base.specs.Text.{canonical_text}
-use Rattle.mir_top.specs.declared.command.Command.TheVariants.{Optimise, Stages, Move, Trial}
-use Rattle.mir_top.specs.declared.outcome.Outcome.TheVariants.{Optimised, Shown, Moved, Compared}
+use Rattle.mir_top.specs.declared.command.Command.TheVariants.{Optimise, Stages, Move, Ranges, Divisions, Tails, Join, Trial}
+use Rattle.mir_top.specs.declared.outcome.Outcome.TheVariants.{Optimised, Shown, Moved, Ranged, Divided, Tailed, Joined, Compared}
 use Rattle.mir_top.specs.Commands.{inputs_in, word_bytes}
-use Rattle.mir_top.specs.Outputs.{optimised, shown, moved, compared, no_memory}
+use Rattle.mir_top.specs.Outputs.{optimised, shown, moved, ranged, divided, tailed, joined, compared, no_memory}
 use Rattle.mir_top.proofs.MadeLaws.{makes_with}
 use Rattle.mir_top.proofs.making.make.Goals as goal
 
@@ -34,6 +34,41 @@ returns-in-Ok-moved-clause-made c =
 
 pub returns-in-Err-moved-clause-stopped : goal.returns-in-Err-moved-clause-stopped
 returns-in-Err-moved-clause-stopped c = no_memory c.args.command c.in-Err-moved.refusal
+
+pub returns-in-Ok-ranged-clause-made : goal.returns-in-Ok-ranged-clause-made
+returns-in-Ok-ranged-clause-made c =
+    let trail = c.in-Ok-ranged.trail in
+    let is = c.in-Ok-ranged.ensures in
+    let output = c.in-Ok-ranged.output.items in
+    makes_with (inputs_in (word_bytes c.args.words.now)) c.args.program.now c.args.command Ranges (Ranged trail) output output c.in-Ranges.is refl (ranged trail is.source is.moves output is.output)
+
+pub returns-in-Err-ranged-clause-stopped : goal.returns-in-Err-ranged-clause-stopped
+returns-in-Err-ranged-clause-stopped c = no_memory c.args.command c.in-Err-ranged.refusal
+
+pub returns-in-Ok-divided-clause-made : goal.returns-in-Ok-divided-clause-made
+returns-in-Ok-divided-clause-made c =
+    let trail = c.in-Ok-divided.trail in
+    let is = c.in-Ok-divided.ensures in
+    makes_with (inputs_in (word_bytes c.args.words.now)) c.args.program.now c.args.command Divisions (Divided trail) c.in-Ok-divided.output.items (canonical_text trail.target) c.in-Divisions.is is.output (divided trail is.source is.divides)
+
+pub returns-in-Err-divided-clause-stopped : goal.returns-in-Err-divided-clause-stopped
+returns-in-Err-divided-clause-stopped c = no_memory c.args.command c.in-Err-divided.refusal
+
+pub returns-in-Ok-tailed-clause-made : goal.returns-in-Ok-tailed-clause-made
+returns-in-Ok-tailed-clause-made c =
+    let is = c.in-Ok-tailed.ensures in
+    makes_with (inputs_in (word_bytes c.args.words.now)) c.args.program.now c.args.command Tails Tailed c.in-Ok-tailed.output.items (canonical_text is.0) c.in-Tails.is is.2 (tailed is.0 is.1)
+
+pub returns-in-Err-tailed-clause-stopped : goal.returns-in-Err-tailed-clause-stopped
+returns-in-Err-tailed-clause-stopped c = no_memory c.args.command c.in-Err-tailed.refusal
+
+pub returns-in-Ok-joined-clause-made : goal.returns-in-Ok-joined-clause-made
+returns-in-Ok-joined-clause-made c =
+    let is = c.in-Ok-joined.ensures in
+    makes_with (inputs_in (word_bytes c.args.words.now)) c.args.program.now c.args.command Join Joined c.in-Ok-joined.output.items (canonical_text is.0) c.in-Join.is is.2 (joined is.0 is.1)
+
+pub returns-in-Err-joined-clause-stopped : goal.returns-in-Err-joined-clause-stopped
+returns-in-Err-joined-clause-stopped c = no_memory c.args.command c.in-Err-joined.refusal
 
 pub returns-in-Err-inputs-clause-stopped : goal.returns-in-Err-inputs-clause-stopped
 returns-in-Err-inputs-clause-stopped c = no_memory c.args.command c.in-Err-inputs.refusal

@@ -1,0 +1,100 @@
+// What becomes of programs and of their runs: the examples of `program_examples.rt`.
+use crate::tests::program_examples::PROGRAM_EXAMPLES;
+use crate::tests::shown::program_text;
+use crate::tests::support::program_of;
+use mir_base::{Memory, Program};
+use mir_interp::{Report, RunFault, run};
+use std::alloc::Global;
+use std::mem;
+use std::test::Fail;
+use tail_loop::tail_program;
+use unit_join::join_program;
+
+/// Each example.
+#[test]
+fn examples_of_programs(rt: HostRuntime) -> Result<(), Fail> {
+    for example in PROGRAM_EXAMPLES.split("# ").skip(1) {
+        let other = other_than(rt.alloc(), example)?;
+        assert!(rt; other.is_empty(), "{example}makes otherwise:\n{other}");
+    }
+    Ok(())
+}
+
+/// The first passes that make something else than an example says, with what they make; no text where all is as it
+/// says.
+fn other_than(alloc: Global, example: &str) -> Result<String, Fail> {
+    let (_, example) = example.split_once('\n').ok_or("no remark")?;
+    let (text, shown) = example.split_once("$ ").ok_or("nothing shown")?;
+    for part in shown.split("$ ") {
+        let (passes, wanted) = part.split_once('\n').ok_or("no lines")?;
+        let wanted = if wanted == "same\n" { text } else { wanted };
+        let made = made_of(alloc, text, passes)?;
+        if made.as_str() != wanted {
+            return Ok(format!(in alloc; "{passes}\n{made}")?);
+        }
+    }
+    Ok(String::new(alloc))
+}
+
+/// What the passes make of the program of a text, in turn, or of its run.
+fn made_of(alloc: Global, text: &str, passes: &str) -> Result<String, Fail> {
+    let (passes, numbers) = match passes.split_once("run ") {
+        Some(both) => both,
+        None => (passes, ""),
+    };
+    let mut program = program_of(alloc, text)?;
+    for pass in passes.split_whitespace() {
+        program = next_of(alloc, pass, program)?;
+    }
+    let made = shown_of(alloc, numbers, &program);
+    mem::drop(program);
+    Ok(made?)
+}
+
+/// What the pass of this name makes of a program, which is dropped.
+fn next_of(alloc: Global, pass: &str, program: Program) -> Result<Program, Fail> {
+    let next = after(alloc, pass, &program);
+    mem::drop(program);
+    next
+}
+
+/// What the pass of this name makes of a program.
+fn after(alloc: Global, pass: &str, program: &Program) -> Result<Program, Fail> {
+    match pass {
+        "tails" => Ok(tail_program(alloc, program)?),
+        "join" => Ok(join_program(alloc, program)?),
+        _ => Err("no such pass".into()),
+    }
+}
+
+/// The text of a program, or where there are numbers its run with so many steps and these inputs.
+fn shown_of(alloc: Global, numbers: &str, program: &Program) -> Result<String, Memory> {
+    if numbers.is_empty() {
+        return program_text(alloc, program);
+    }
+    let mut steps = 0;
+    let mut inputs = Vec::new(alloc);
+    for (place, number) in numbers.split_whitespace().enumerate() {
+        if place == 0 {
+            steps = number.parse::<u64>().unwrap_or(0);
+        } else {
+            inputs.push(number.parse::<i64>().unwrap_or(0))?;
+        }
+    }
+    run_text(alloc, run(alloc, program, inputs.as_slice(), steps))
+}
+
+/// How a run stands, how many evaluations it counted, and what it printed; or why there is no report.
+fn run_text(alloc: Global, answer: Result<Report, RunFault>) -> Result<String, Memory> {
+    match answer {
+        Ok(report) => {
+            let finish = report.finish;
+            let evals = report.evals;
+            let lines = report.lines.items();
+            let text = format!(in alloc; "{finish:?} {evals} {lines:?}\n");
+            mem::drop(report);
+            text
+        }
+        Err(fault) => format!(in alloc; "{fault}\n"),
+    }
+}

@@ -1,0 +1,14 @@
+use Rattle.std.specs.Prelude.{All}
+use Rattle.mir_base.specs.Shapes.{ProgramShape}
+use Rattle.mir_opt.specs.Best.{DivisionsAreBest}
+use Rattle.mir_opt.specs.Links.{IsDivisionLinked, IsOnlyDivisionTrail}
+use Rattle.mir_top.proofs.MadeLaws.{improves_from}
+use Rattle.mir_top.proofs.making.divided.Goals as goal
+
+pub returns-clause-divides : goal.returns-clause-divides
+returns-clause-divides c =
+    let trail = c.in_ok-trail.trail in
+    let is = c.in_ok-trail.ensures in record {
+      improves = improves_from (IsDivisionLinked trail) (λ (p : ProgramShape). IsOnlyDivisionTrail p trail) (All DivisionsAreBest trail.units) c.args.program.now trail.source trail.target is.source is.linked is.only is.keeps is.best;
+      least = c.hold_least.ensures;
+    }

@@ -1,0 +1,12 @@
+use Rattle.std.specs.Prelude.{All}
+use Rattle.mir_base.specs.Shapes.{ProgramShape}
+use Rattle.mir_opt.specs.Best.{MotionIsBest}
+use Rattle.mir_opt.specs.Links.{IsMoveLinked, IsOnlyMoveTrail}
+use Rattle.mir_top.proofs.MadeLaws.{improves_from}
+use Rattle.mir_top.proofs.making.ranged.Goals as goal
+
+pub returns-clause-moves : goal.returns-clause-moves
+returns-clause-moves c =
+    let trail = c.in_ok-trail.trail in
+    let is = c.in_ok-trail.ensures in
+    improves_from (IsMoveLinked trail) (λ (p : ProgramShape). IsOnlyMoveTrail p trail) (All MotionIsBest trail.units) c.args.program.now trail.source trail.target is.source is.linked is.only is.keeps is.best
