@@ -2,7 +2,7 @@
 
 from typing import Iterator, NamedTuple
 
-from mir_text import Goto, If, Receive, Return, Unit, instruction_text
+from mir_text import Goto, If, Receive, Return, Unit, instruction_text, variables_in
 
 
 class Edge(NamedTuple):
@@ -83,6 +83,32 @@ def block_edges(unit: Unit, parts: list[Block]) -> Iterator[Edge]:
             yield Edge(at, number[edge.target], edge.label)
 
 
+def read_before_set(unit: Unit, block: Block) -> tuple[set[str], set[str]]:
+    """The variables that a block reads before it sets them, and those that it sets."""
+    read: set[str] = set()
+    written: set[str] = set()
+    for place in range(block.first, min(block.end, len(unit.instructions))):
+        reads, sets = variables_in(unit.instructions[place])
+        read |= reads - written
+        written |= sets
+    return read, written
+
+
+def live_edges(unit: Unit, parts: list[Block], names: frozenset) -> list[frozenset]:
+    """For each edge between blocks which of these variables live on it: some path from its target reads them unset."""
+    edges = list(block_edges(unit, parts))
+    accesses = [read_before_set(unit, block) for block in parts]
+    live = [read & names for read, _ in accesses]
+    changed = True
+    while changed:
+        changed = False
+        for edge in reversed(edges):
+            more = live[edge.target] - accesses[edge.source][1] - live[edge.source]
+            live[edge.source] |= more
+            changed |= bool(more)
+    return [frozenset(live[edge.target]) for edge in edges]
+
+
 def quoted(text: str) -> str:
     """A text as a string of Graphviz's language."""
     return '"' + text.replace('\\', '\\\\').replace('"', '\\"') + '"'
@@ -96,14 +122,20 @@ def label_of(unit: Unit, block: Block) -> str:
     return quoted('\n'.join(lines) + '\n').replace('\n', '\\l')
 
 
-def picture(unit: Unit, parts: list[Block], marked: frozenset = frozenset()) -> str:
-    """The control-flow graph of a unit in Graphviz's language; marked blocks have the class `changed`."""
+def picture(unit: Unit, parts: list[Block], marked: frozenset = frozenset(), names: frozenset = frozenset()) -> str:
+    """The control-flow graph of a unit in Graphviz's language.
+
+    Marked blocks have the class `changed`, and edges on which some of the named variables live the class `held`, with
+    the names.
+    """
     lines = [f'digraph {quoted(unit.name)} {{', '  node [shape=box, fontname="monospace", margin="0.12,0.06"];',
              '  edge [fontname="monospace"];']
     for at, block in enumerate(parts):
         kind = ', class="changed", style=filled, fillcolor="#ffe9a8"' if at in marked else ''
         lines.append(f'  b{at} [label={label_of(unit, block)}{kind}];')
-    for edge in block_edges(unit, parts):
-        label = f' [label={quoted(edge.label)}]' if edge.label else ''
+    for edge, held in zip(block_edges(unit, parts), live_edges(unit, parts, names)):
+        words = [edge.label] * bool(edge.label) + sorted(held)
+        kind = ', class="held", penwidth=2.5' if held else ''
+        label = f' [label={quoted(" ".join(words))}{kind}]' if words else ''
         lines.append(f'  b{edge.source} -> b{edge.target}{label};')
     return '\n'.join(lines + ['}', ''])

@@ -412,6 +412,33 @@ def instruction_text(instruction: Instruction) -> str:
     return f'return {spelled(instruction.value)}'
 
 
+def operands_of(value: Value) -> tuple[Operand, ...]:
+    """The operands of a right side or a test."""
+    return (value.left, value.right) if isinstance(value, Binary) else (value.value,)
+
+
+def variables_in(instruction: Instruction) -> tuple[set[str], set[str]]:
+    """The variables that an instruction reads, and those that it sets."""
+    read: tuple[Operand, ...] = ()
+    written: set[str] = set()
+    if isinstance(instruction, Receive):
+        written = {instruction.name}
+    elif isinstance(instruction, Assign):
+        read, written = operands_of(instruction.value), {instruction.name}
+    elif isinstance(instruction, Call):
+        read, written = instruction.arguments, {instruction.name} if instruction.name else set()
+    elif isinstance(instruction, If):
+        read = operands_of(instruction.test)
+    elif isinstance(instruction, (Print, Return)):
+        read = (instruction.value,)
+    return {operand for operand in read if isinstance(operand, str)}, written
+
+
+def variables_of(unit: Unit) -> frozenset:
+    """The names of a unit's variables."""
+    return frozenset().union(*(read | written for read, written in map(variables_in, unit.instructions)))
+
+
 def read_input(path: Optional[str] = None) -> str:
     """The bytes of a file, or of the standard input, each as one character."""
     try:
