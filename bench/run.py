@@ -8,17 +8,23 @@ function that gives its cases, and a line in WORKLOADS. It runs on Linux alone, 
 """
 
 import argparse
+import collections
 import ctypes
 import itertools
 import os
 import re
-import string
 import subprocess
 import sys
 import tempfile
 import time
 from pathlib import Path
-from typing import Callable, Iterable, Iterator, NamedTuple, Optional
+from typing import Callable, NamedTuple, Optional
+
+from interpret import Machine
+from texts import (LOOP, dense, diamonds, doubling, edges_into_one_join, gotos_in_a_chain, joins_used_at_end,
+                   joins_used_in_arms, joins_with_copies, loops_in_a_row, loops_laid_out, many_names, many_units,
+                   nested_loops, self_tail_calls, small_leaves, straight, sums_in_a_line, tests_over_one, twins,
+                   with_divisions)
 
 TOP = Path(__file__).resolve().parent.parent
 MIR, PROGRAM = str(TOP / 'mir'), TOP / 'crates' / 'mir_main' / 'out' / 'mir_main'
@@ -42,7 +48,7 @@ LEAST_SECONDS, LEAST_BYTES = 0.001, 200_000
 class Case(NamedTuple):
     """One call of mir, with the size by which it is compared, and the status and the output that are right. A pattern is an
     output with `N` for each number that is not judged. With no output the answer is a program, and it is right where it
-    runs as the text does, and evaluates no more."""
+    runs as the text does, and evaluates no more; that of `ranges` is right where it counts what `move` writes."""
 
     size: int
     words: list[str]
@@ -61,6 +67,9 @@ class Workload(NamedTuple):
     cases: Callable[[], list[Case]]
     # Cases whose instructions are counted under `--callgrind`, where that is of use.
     counted: Optional[Callable[[], list[Case]]] = None
+    # Cases of `move` of the same sizes, beside whose instructions these are shown, and how many times as many are aimed at.
+    beside: Optional[Callable[[], list[Case]]] = None
+    most: float = 0
 
 
 class Measure(NamedTuple):
@@ -72,226 +81,6 @@ class Measure(NamedTuple):
 
 class Failure(Exception):
     """A call did not do what its case says, so its time tells nothing."""
-
-
-# ---- texts
-
-
-def padding(length: int) -> str:
-    """A comment line, or empty lines, of exactly so many bytes."""
-    if length < 3:
-        return '\n' * length
-    return '||' + '.' * (length - 3) + '\n'
-
-
-def filled(head: str, groups: Iterable[str], tail: str, length: int) -> str:
-    """A unit of exactly `length` bytes: the head, as many of the groups as fit, a comment, and the tail."""
-    room = length - len(head) - len(tail)
-    parts = [head]
-    for group in groups:
-        if len(group) > room:
-            break
-        parts.append(group)
-        room -= len(group)
-    return ''.join(parts) + padding(room) + tail
-
-
-def loops(callee: str) -> Iterator[str]:
-    """Any number of loops: each has most kinds of instructions, a comment, two labels, two jumps and two calls."""
-    for number in itertools.count():
-        yield (
-            f't{number}: if a >= b goto o{number} || leaves loop {number}\n'
-            f'a <- a + {number}\n'
-            f'x{number} <- a * b\n'
-            f'y <- x{number} - -{number}\n'
-            f'call {callee},(x{number},int;y,int)\n'
-            f'y <- {callee},(a,int;-1,int)\n'
-            f'print y\n'
-            f'goto t{number}\n'
-            f'o{number}:\n'
-            f'z <- ! z\n\n'
-        )
-
-
-def many_units(length: int) -> str:
-    """A program of exactly `length` bytes, a multiple of 4,096: each 4,096 bytes are a unit."""
-    count = length // 4096
-    units = []
-    for number in range(count):
-        callee = f'u{max(1, (number + 1) % count)}'
-        receives = 'receive a(val)\nreceive b(val)\n' if number > 0 else ''
-        head = f'u{number}: begin || unit number {number}\n{receives}'
-        units.append(filled(head, loops(callee), 'return y\nend\n', 4096))
-    return ''.join(units)
-
-
-def new_names() -> Iterator[str]:
-    """Different names of three bytes. No reserved word begins with a capital letter."""
-    letters = string.ascii_letters + string.digits
-    for name in itertools.product(string.ascii_uppercase, letters, letters):
-        yield ''.join(name)
-
-
-def lines_of_new_names() -> Iterator[str]:
-    """Pairs of an assignment and a jump to it, whose labels and variables are new."""
-    names = new_names()
-    while True:
-        here, x, a, b, there, c, d = itertools.islice(names, 7)
-        yield f'{here}:{x}<-{a}+{b}\n{there}:if {c}<{d} goto {here}\n'
-
-
-def many_names(length: int) -> str:
-    """A program of exactly `length` bytes, a multiple of 16: 16 units, each full of names that are new in it."""
-    return ''.join(
-        filled(f'u{number}: begin\n', lines_of_new_names(), 'end\n', length // 16)
-        for number in range(16)
-    )
-
-
-def loops_laid_out(unit: str, instructions: int) -> str:
-    """A unit of so many instructions, an even number, that is its own layout: loops of a sum and a test."""
-    lines = [f'{unit}: begin\n']
-    for number in range(1, instructions // 2):
-        lines.append(f'L{number}: x <- x + 1\nif x < 5 goto L{number}\n')
-    lines.append('print x\nreturn x\nend\n')
-    return ''.join(lines)
-
-
-def gotos_in_a_chain(unit: str, instructions: int) -> str:
-    """A unit of so many instructions: a chain of gotos, each of which goes to the one that stands before it, and a print."""
-    lines = [f'{unit}: begin\ngoto c0\n']
-    count = instructions - 2
-    for number in reversed(range(count)):
-        target = f'c{number + 1}' if number + 1 < count else 'out'
-        lines.append(f'c{number}: goto {target}\n')
-    lines.append('out: print 1\nend\n')
-    return ''.join(lines)
-
-
-def sums_in_a_line(unit: str, count: int) -> tuple[str, str]:
-    """A unit of so many instructions: assignments to as many variables, each of which is one more than the one before, and
-    a print of the last one; and what is left of it, the print of a constant."""
-    names = [f'v{number}' for number in range(count - 1)]
-    text = f'{names[0]} <- 1\n' + ''.join(f'{x} <- {y} + 1\n' for y, x in zip(names, names[1:]))
-    return f'{unit}: begin\n{text}print {names[-1]}\nend\n', f'{unit}: begin\nprint {count - 1}\nreturn 0\nend\n'
-
-
-def diamonds(unit: str, count: int) -> tuple[str, str]:
-    """A unit of so many diamonds, one after the other, each of which evaluates a + b; and the unit with moved code, which
-    evaluates it once, on the paths of which there are 2 to the power of the count."""
-    head = f'{unit}: begin\nreceive a(val)\nreceive b(val)\n'
-    text, moved = [head], [head]
-    for number in range(1, count + 1):
-        text.append(f'if a goto L{number}\nprint a\nL{number}: x <- a + b\nprint x\n')
-        evaluation = f'L1: h1 <- a + b\nx <- h1' if number == 1 else f'L{number}: x <- h1'
-        moved.append(f'if a goto L{number}\nprint a\n{evaluation}\nprint x\n')
-    tail = 'return x\nend\n'
-    return ''.join(text) + tail, ''.join(moved) + tail
-
-
-def nested_loops(unit: str, instructions: int, depth: int) -> tuple[str, str]:
-    """A unit of so many instructions: repeat-until loops within each other, full of different sums that do not change in
-    them; and the unit with moved code, which evaluates all of these before the outermost loop."""
-    head = f'{unit}: begin\nreceive a(val)\n'
-    sums = instructions - 2 * depth - 2
-    heads = {1 + inner * (sums // depth): f'L{inner + 1}: ' for inner in range(depth)}
-    text, moved, before = [], [], []
-    for number in range(1, sums + 1):
-        label = heads.get(number, '')
-        text.append(f'{label}x <- a + {number}\n')
-        moved.append(f'{label}x <- h{number}\n')
-        before.append(f'h{number} <- a + {number}\n')
-    tail = ''.join(f'i <- i + 1\nif i < 5 goto L{number}\n' for number in range(depth, 0, -1)) + 'return x\nend\n'
-    return head + ''.join(text) + tail, head + ''.join(before) + ''.join(moved) + tail
-
-
-
-def joins_used_at_end(unit: str, count: int) -> str:
-    """A unit of so many joins, one after the other, with a variable each that is assigned on one of the ways to it, and
-    after the last one a sum of each of these variables. It is its own layout, and no sum moves."""
-    lines = [f'{unit}: begin\nreceive a(val)\n']
-    lines.extend(f'if a goto L{number}\nv{number} <- a\nL{number}: ' for number in range(1, count + 1))
-    lines.extend(f'x <- v{number} + 1\n' for number in range(1, count + 1))
-    return ''.join(lines) + 'return x\nend\n'
-
-
-def joins_used_in_arms(unit: str, count: int) -> str:
-    """A unit of so many joins, one after the other: the two arms before each evaluate the same sum, another one at each
-    join. It is its own layout, and no sum moves."""
-    lines, others = [f'{unit}: begin\nreceive a(val)\n'], []
-    for number in range(1, count + 1):
-        lines.append(f'if a goto L{count + number}\nx <- a + {number}\nL{number}: ')
-        others.append(f'L{count + number}: x <- a + {number}\ngoto L{number}\n')
-    return ''.join(lines) + 'return x\n' + ''.join(others) + 'end\n'
-
-
-def tests_over_one(unit: str, count: int) -> str:
-    """A unit of so many tests, each of which jumps over one sum. It is its own layout, and no sum moves."""
-    lines = [f'{unit}: begin\nreceive a(val)\n']
-    for number in range(1, count + 1):
-        lines.append(f'if a goto L{number}\nx <- a + {number}\nL{number}: ')
-    return ''.join(lines) + 'return x\nend\n'
-
-
-def loops_in_a_row(unit: str, loops: int, sums: int) -> tuple[str, str]:
-    """A unit of so many repeat-until loops, one after the other, each full of so many different sums that do not change
-    in it; and the unit with moved code, which evaluates them before their loop."""
-    text, moved = ([f'{unit}: begin\nreceive a(val)\n'] for _ in range(2))
-    for loop in range(loops):
-        numbers = range(loop * sums + 1, (loop + 1) * sums + 1)
-        test = f'i <- i + 1\nif i < 5 goto L{loop + 1}\n'
-        text.append(f'L{loop + 1}: ' + ''.join(f'x <- a + {number}\n' for number in numbers) + test)
-        moved.extend(f'h{number} <- a + {number}\n' for number in numbers)
-        moved.append(f'L{loop + 1}: ' + ''.join(f'x <- h{number}\n' for number in numbers) + test)
-    return ''.join(text) + 'return x\nend\n', ''.join(moved) + 'return x\nend\n'
-
-
-def doubling(unit: str, lines: int) -> str:
-    """A unit of so many lines in which two variables with one value are squared in turn, so that their term doubles with
-    each line."""
-    head = f'{unit}: begin\nreceive x(val)\ny <- x\n'
-    return head + 'x <- x * x\ny <- y * y\n' * (lines // 2) + 'return y\nend\n'
-
-
-def twins(unit: str, instructions: int) -> str:
-    """A unit of so many instructions without a jump, over 40 names: two received variables, and 19 pairs of variables
-    that have one value, of which one pair after the other is multiplied."""
-    lines = [f'x{number} <- p + {number}\ny{number} <- x{number}\n' for number in range(19)]
-    pairs = (instructions - 2 - 38 - 1) // 2
-    lines += [f'x{number % 19} <- x{number % 19} * q\ny{number % 19} <- y{number % 19} * q\n' for number in range(pairs)]
-    return f'{unit}: begin\nreceive p(val)\nreceive q(val)\n' + ''.join(lines) + f'return y{(pairs - 1) % 19}\nend\n'
-
-
-def joins_with_copies(unit: str, count: int) -> str:
-    """A unit of so many joins, one after the other: both arms before each copy the received variable to a variable of
-    the join, which the next test reads."""
-    lines, others = [f'{unit}: begin\nreceive a(val)\n'], []
-    for number in range(1, count + 1):
-        test = f'v{number - 1}' if number > 1 else 'a'
-        lines.append(f'if {test} goto L{count + number}\nv{number} <- a\nL{number}: ')
-        others.append(f'L{count + number}: v{number} <- a\ngoto L{number}\n')
-    return ''.join(lines) + f'return v{count}\n' + ''.join(others) + 'end\n'
-
-
-def edges_into_one_join(unit: str, count: int) -> tuple[str, str]:
-    """A unit of so many tests that all jump to one sum, which the last path to it has evaluated; and the unit with moved
-    code, which evaluates it on each of the edges."""
-    head = f'{unit}: begin\nreceive a(val)\nreceive b(val)\n'
-    text = ''.join(f'if a < {number} goto L1\n' for number in range(count)) + 'x <- a + b\nL1: y <- a + b\nreturn y\n'
-    tests = ''.join(f'if a < {number} goto L{number + 2}\n' for number in range(count))
-    edges = ''.join(f'L{number + 2}: h1 <- a + b\ngoto L1\n' for number in range(count))
-    moved = f'{tests}h1 <- a + b\nx <- h1\nL1: y <- h1\nreturn y\n{edges}'
-    return f'{head}{text}end\n', f'{head}{moved}end\n'
-
-
-LOOP = """\
-main: begin
-again: sum <- sum + i
-i <- i + 1
-last <- i
-if i > 0 goto again
-end
-"""
 
 
 # ---- workloads
@@ -419,9 +208,12 @@ def by_runs(sizes: tuple[int, ...], texts: Callable[[int], str]) -> Callable[[],
 
 
 def judged(cases: list[Case]) -> list[Case]:
-    """The cases of a command on code motion: what `move` writes is known, and what `optimise` writes is judged by its
-    runs."""
-    return [case if case.words == ['move'] else case._replace(output=None) for case in cases]
+    """The cases of a command on code motion: what `move` writes is known, and what others write is judged. The texts of
+    `divisions` divide where those of the others add."""
+    if cases[0].words == ['move']:
+        return cases
+    cases = [case._replace(output=None) for case in cases]
+    return [case._replace(text=with_divisions(case.text)) for case in cases] if cases[0].words == ['divisions'] else cases
 
 
 # How many joins, tests, loops and sums: a quarter, a half and all that a unit has room for, or nearly so.
@@ -446,10 +238,14 @@ VALUES = [
             JOINS,
             lambda joins: joins_with_copies('main', joins),
         ),
+        ('dense', 'loops up to six deep over 92 names', 'insts', INSTRUCTIONS, lambda insts: dense('main', insts)),
+        ('straight', 'no jump, over 40 names', 'insts', INSTRUCTIONS, lambda insts: straight('main', insts)),
     )
 ]
 
-# What code motion is measured on: under `move`, which does nothing else, and as one of the passes of `optimise`.
+# What code motion is measured on: under `move`, which does nothing else, as one of the passes of `optimise`, and under
+# the commands that place by it, for which it is said how many times the instructions of `move` are aimed at.
+MOTION_COMMANDS = {'move': 0, 'optimise': 0, 'ranges': 1.5, 'divisions': 2}
 MOTION = [
     Workload(
         f'{name}-{word}',
@@ -457,6 +253,8 @@ MOTION = [
         unit,
         lambda cases=cases, word=word: judged(cases(word)),
         lambda cases=cases, word=word: judged(cases(word)),
+        (lambda cases=cases: cases('move')) if most else None,
+        most,
     )
     for name, about, unit, cases in (
         ('diamonds', 'code is moved in a chain of diamonds', 'insts', diamonds_by),
@@ -499,7 +297,40 @@ MOTION = [
             sized_by(SUMS, lambda count: edges_into_one_join('main', count)),
         ),
     )
-    for word in ('move', 'optimise')
+    for word, most in MOTION_COMMANDS.items()
+]
+
+
+def tails_by(word: str) -> list[Case]:
+    """A unit of a quarter, a half and all of the instructions that it may have, with as many self tail calls of 16
+    arguments in 4,096 as 200, under this command."""
+    cases = []
+    for instructions in INSTRUCTIONS:
+        text, looped = self_tail_calls(instructions, instructions * 200 // 4096)
+        cases.append(Case(instructions, [word], text, ENDED, looped if word == 'tails' else None))
+    return cases
+
+
+def joined_by(word: str, sizes: tuple[tuple[int, int], ...]) -> list[Case]:
+    """Programs of so many leaves and so many calls of them, under this command."""
+    cases = []
+    for leaves, calls in sizes:
+        text, joined = small_leaves(leaves, calls)
+        cases.append(Case(calls, [word], text, ENDED, joined if word == 'join' else None))
+    return cases
+
+
+# How many leaves there are, and how many calls of them: with the same leaves, and with leaves for the calls.
+CALLS, LEAVES = ((64, 1_000), (64, 2_000), (64, 4_000)), ((63, 1_008), (126, 2_016), (252, 4_032))
+
+# What changes calls: what `tails` and `join` write is known.
+UNITS = [
+    Workload('tails', 'self tail calls of 16 arguments become jumps', 'insts', lambda: tails_by('tails'),
+             lambda: tails_by('tails'), lambda: tails_by('move'), 4),
+    *(Workload(name, about, 'calls', lambda sizes=sizes: joined_by('join', sizes),
+               lambda sizes=sizes: joined_by('join', sizes), lambda sizes=sizes: joined_by('move', sizes))
+      for name, about, sizes in (('join-calls', 'calls of 64 leaves are joined', CALLS),
+                                 ('join-leaves', 'leaves are joined, each of them 16 times', LEAVES))),
 ]
 
 WORKLOADS = [
@@ -550,11 +381,15 @@ WORKLOADS = [
     ),
     *VALUES,
     *MOTION,
+    *UNITS,
 ]
 
 
 # ---- measuring
 
+
+# A line of `ranges`: the temporary, its expression, and how often it is inserted, replaced and held.
+RANGE = r'(h\d+) <- (.*) inserted (\d+) replaced (\d+) held (\d+)'
 
 # Steps in which all workloads end that are judged by their runs, and the inputs of those runs, by the number of receives.
 STEPS, INPUTS = '1000000', (3, 5, -2)
@@ -562,9 +397,13 @@ STEPS, INPUTS = '1000000', (3, 5, -2)
 
 def run_of(command: list[str], text: str) -> tuple[list[str], int]:
     """What the run of a program writes, and how many operators it evaluates."""
-    receives = text.split('end\n', 1)[0].count('receive ')
-    words = ['run', STEPS, *(str(number) for number in INPUTS[:receives])]
-    answer = subprocess.run(command + words, input=text, stdout=subprocess.PIPE, text=True, check=False)
+    inputs = list(itertools.islice(itertools.cycle(INPUTS), text.split('end\n', 1)[0].count('receive ')))
+    words = ['run', STEPS, *map(str, inputs)]
+    answer = subprocess.run(command + words, input=text, capture_output=True, text=True, check=False)
+    if answer.stderr.endswith(': too many instructions\n'):
+        report = Machine(text).run(inputs, int(STEPS))
+        assert report.end == 'ended', 'a workload ends, and so does what is made of it'
+        return [str(ENDED), *map(str, report.printed), f'result {report.result}'], report.evaluations
     *lines, evals = answer.stdout.splitlines()
     return [str(answer.returncode), *lines], int(evals.split()[1])
 
@@ -575,6 +414,27 @@ def runs_alike(command: list[str], text: str, output: str) -> bool:
     return source == target and after <= before
 
 
+def counts_ranges(command: list[str], text: str, output: str) -> bool:
+    """Whether the output counts the insertions and the replaced uses that `move` makes of the text, unit by unit."""
+    answer = subprocess.run([*program_of(command), 'move'], input=text, capture_output=True, text=True, check=False)
+    wanted, told = [], []
+    for line in answer.stdout.splitlines():
+        words = line.split(': ', 1)[-1].split(' <- ')
+        if line.endswith(': begin'):
+            wanted.append((line[:-len(': begin')], collections.Counter(), collections.Counter()))
+        elif words[0][:1] == 'h' and len(words) == 2:
+            wanted[-1][1][words[0], words[1]] += 1
+        elif words[-1][:1] == 'h' and len(words) == 2:
+            wanted[-1][2][words[1]] += 1
+    for line in output.splitlines():
+        if line.startswith('unit '):
+            told.append((line[len('unit '):], collections.Counter(), collections.Counter()))
+            continue
+        name, expression, inserted, replaced, _ = re.fullmatch(RANGE, line).groups()
+        told[-1][1][name, expression], told[-1][2][name] = int(inserted), int(replaced)
+    return told == wanted
+
+
 def program_of(command: list[str]) -> list[str]:
     """The command without the tool that watches it."""
     return command[-1:]
@@ -582,6 +442,8 @@ def program_of(command: list[str]) -> list[str]:
 
 def is_right(command: list[str], case: Case, output: str) -> bool:
     """Whether the output is that of the case, or fits its pattern, or is a program that runs as the text does."""
+    if case.output is None and case.words == ['ranges']:
+        return counts_ranges(command, case.text, output)
     if case.output is None:
         return runs_alike(command, case.text, output)
     if case.is_pattern:
@@ -675,13 +537,16 @@ def show(workload: Workload, measures: list[tuple[int, Measure]], start: Measure
         )
 
 
-def show_instructions(workload: Workload, counts: list[tuple[int, int]]) -> None:
-    """Prints the instructions of each case, and those for each byte, step or join: the difference of the last case and the
-    first over the difference of their sizes."""
+def show_instructions(workload: Workload, counts: list[tuple[int, int]], beside: list[int]) -> None:
+    """Prints the instructions of each case, beside those of `move` where there are any, and those for each byte, step or
+    join: the difference of the last case and the first over the difference of their sizes."""
     first_size, first = counts[0]
     last_size, last = counts[-1]
-    for size, count in counts:
-        print(f'{size:>12,}{count:>21,} instructions{ratio(count, first, 1):>9}')
+    for (size, count), other in itertools.zip_longest(counts, beside):
+        moving = f', move {other:>15,}, {count / other:.2f} times as many' if other else ''
+        print(f'{size:>12,}{count:>21,} instructions{ratio(count, first, 1):>9}{moving}')
+    if workload.most:
+        print(f'aimed at: at most {workload.most} times as many as move')
     each = (last - first) / (last_size - first_size)
     print(f'{each:,.1f} instructions for each of the {workload.unit}, from {first_size:,} to {last_size:,}')
 
@@ -721,7 +586,8 @@ def main() -> int:
             show(workload, measures, start)
             if asked.callgrind and workload.counted:
                 counts = [(case.size, instructions(program, case, folder)) for case in workload.counted()]
-                show_instructions(workload, counts)
+                moving = workload.beside() if workload.beside else []
+                show_instructions(workload, counts, [instructions(program, case, folder) for case in moving])
     return 0
 
 

@@ -1,0 +1,294 @@
+#!/usr/bin/env python3
+"""Brings C programs in, and compares what they do as native programs, as MIR, and as what `mir` makes of it.
+
+    bench/real.py [--mir PATH] [--csmith N] [--seed N] [--jobs N] [--table N] [FILE ..]
+
+The programs are those that `csmith` draws (`--csmith 500`: the numbers from `--seed` on), and each C file that is named
+or lies in a folder that is named, from its `main` on. clang makes a native program of each without optimisation;
+`tools/from_c` brings it in. Then `run` of its text, and of what each command of `mir` makes of it, has to print the same
+numbers and end in the same way; runs of more than 1,000,000 steps are compared as native programs (`tools/compile`).
+The counts are of same, refused by reason, and different ones, each of which is shown; the status is 1 where there is one.
+
+Beside it the operators of whole runs are counted by `run`: of the text, of what `optimise` makes of it, and of what LLVM
+leaves of the same IR, which is brought in like the source, so that the unit is the same. `--table` shows the programs in
+which LLVM leaves least beside `optimise`. It wants csmith, clang and opt.
+"""
+
+import argparse
+import collections
+import importlib.machinery
+import importlib.util
+import re
+import subprocess
+import sys
+import tempfile
+from concurrent.futures import ThreadPoolExecutor
+from dataclasses import dataclass, field
+from pathlib import Path
+from typing import Iterable, NamedTuple, Optional
+
+TOP = Path(__file__).resolve().parent.parent
+sys.dont_write_bytecode = True
+sys.path.insert(0, str(TOP / 'tools'))
+sys.setrecursionlimit(20_000)
+
+import mir_text  # noqa: E402
+
+COMMANDS = ('optimise', 'move', 'divisions', 'tails', 'join')
+STEPS, SECONDS = 1_000_000, 10
+CSMITH = ('--no-pointers --no-arrays --no-structs --no-unions --no-bitfields --no-volatiles --no-volatile-pointers '
+          '--no-packed-struct --no-argc --concise --max-funcs 4 --max-block-depth 3 --max-expr-complexity 6').split()
+
+# Passes of LLVM that do what those of `optimise` do, and all that it has but for vectors.
+ALIKE = 'mem2reg,simplifycfg,sccp,gvn,sink,adce,simplifycfg'
+ALL = 'default<O2>'
+NO_VECTORS = ['-vectorize-loops=false', '-vectorize-slp=false']
+
+# What stands for the runtime of csmith: its checked arithmetic, and a print of each value in the place of a checksum.
+HEADER = '''#include <float.h>
+#include <limits.h>
+#include <math.h>
+#include <stdint.h>
+void mir_print(long long);
+#define STATIC static WRAPPER
+#define UNDEFINED(value) (value)
+#define LOG_INDEX
+#define LOG_EXEC
+#define FUNC_NAME(name) (safe_##name)
+#include <csmith/safe_math.h>
+#define platform_main_begin()
+#define crc32_gentab()
+#define transparent_crc(value, name, flag) mir_print((long long)(value))
+#define platform_main_end(value, flag)
+'''
+INLINE = '__attribute__((always_inline)) inline'
+
+
+class Report(NamedTuple):
+    """What a run printed, how it ended (a result, `trap`, `running`, `deep`), and how many operators it evaluated."""
+
+    printed: list[str]
+    end: str
+    evals: int = 0
+
+
+@dataclass
+class Outcome:
+    """What became of a program: `same`, `different` or why it is not compared; and the operators of its runs."""
+
+    name: str
+    state: str
+    shown: list[str] = field(default_factory=list)
+    evals: dict[str, int] = field(default_factory=dict)
+    is_long: bool = False
+
+
+class Source(NamedTuple):
+    """A C file, and flags of clang for it."""
+
+    name: str
+    path: Path
+    flags: list[str]
+
+
+def tool(name: str):
+    """The tool with that name, as a module."""
+    loader = importlib.machinery.SourceFileLoader(name, str(TOP / 'tools' / name))
+    made = importlib.util.module_from_spec(importlib.util.spec_from_loader(name, loader))
+    loader.exec_module(made)
+    return made
+
+
+def ran(words: list, text: bytes = b'', seconds: int = 120, folder: Optional[Path] = None) -> subprocess.CompletedProcess:
+    """A finished call; one that takes too long has no status."""
+    try:
+        return subprocess.run([str(word) for word in words], input=text, capture_output=True, timeout=seconds, cwd=folder)
+    except subprocess.TimeoutExpired:
+        return subprocess.CompletedProcess(words, None, b'', b'')
+
+
+class Bench:
+    """The tools, the program that is tried, and what programs it takes."""
+
+    def __init__(self, mir: str, folder: Path):
+        self.mir, self.folder = mir, folder
+        self.from_c, self.from_llvm = tool('from_c'), tool('from_llvm')
+        self.language = self.from_llvm.language(mir)
+        usage = ran([mir]).stderr.decode()
+        self.commands = [command for command in COMMANDS if re.search(rf'[ |]{command}\b', usage)]
+
+    def native(self, source: Source, program: Path) -> Optional[Report]:
+        """The report of the native program, where clang makes one."""
+        words = ['clang', '-O0', '-fwrapv', '-w', *source.flags, source.path, TOP / 'tools' / 'native.c', '-o', program]
+        if ran(words).returncode != 0:
+            return None
+        said = ran([program], seconds=SECONDS)
+        printed = said.stdout.decode('latin-1').splitlines()
+        if said.returncode is None:
+            return Report(printed, 'running')
+        return Report(printed, 'trap' if said.returncode < 0 else str(said.returncode))
+
+    def run(self, text: str) -> Report:
+        """The report of a run; its result is counted as the status of a process is."""
+        said = ran([self.mir, 'run', STEPS], text.encode())
+        lines = said.stdout.decode().splitlines()
+        if said.returncode not in (0, 3, 4):
+            return Report([], 'deep' if said.returncode == 5 else said.stderr.decode().strip())
+        printed, end, evals = lines[:-2], lines[-2], int(lines[-1].split()[1])
+        if end.startswith('result '):
+            end = str(int(end.split()[1]) & 255)
+        elif end.startswith('trapped'):
+            end = 'trap'
+        return Report(printed, end, evals)
+
+    def compiled(self, text: str, stem: Path) -> Report:
+        """The report of a text that is compiled."""
+        source, program = stem.with_suffix('.mir'), stem.with_suffix('.program')
+        source.write_text(text)
+        said = ran([TOP / 'tools' / 'compile', source, '-o', program])
+        if said.returncode:
+            return Report([], said.stderr.decode().strip())
+        said = ran([program], seconds=SECONDS)
+        lines = said.stdout.decode().splitlines()
+        if said.returncode is None:
+            return Report(lines, 'running')
+        if said.returncode == 0:
+            return Report(lines[:-1], str(int(lines[-1].split()[1]) & 255))
+        return Report(lines[:-1] if said.returncode == 3 else lines, 'trap' if said.returncode == 3 else 'deep')
+
+    def ways(self, text: str) -> Iterable[tuple[str, str]]:
+        """The text, and what each command makes of it."""
+        yield 'source', text
+        for command in self.commands:
+            said = ran([self.mir, command], text.encode())
+            yield command, said.stdout.decode() if said.returncode == 0 else said.stderr.decode()
+
+    def judge(self, source: Source) -> Outcome:
+        """What becomes of a program."""
+        stem = self.folder / source.name
+        wanted = self.native(source, stem.with_suffix('.native'))
+        if wanted is None or wanted.end == 'running':
+            return Outcome(source.name, 'no native program' if wanted is None else 'the native program does not end')
+        try:
+            ir = self.from_c.llvm(str(source.path), source.flags)
+            text = self.from_llvm.program_text(ir, 'main', self.language)
+        except mir_text.Fault as fault:
+            return Outcome(source.name, f'refused: {reason(str(fault))}', [str(fault)])
+        outcome = self.compared(Outcome(source.name, 'same'), wanted, text, stem)
+        if outcome.state == 'same' and not outcome.is_long:
+            self.count_llvm(outcome, wanted, ir)
+        return outcome
+
+    def compared(self, outcome: Outcome, wanted: Report, text: str, stem: Path) -> Outcome:
+        """The outcome, with what is not the same, and the operators of each run."""
+        for way, made in self.ways(text):
+            report = self.run(made)
+            if report.end == 'deep' and way == 'source':
+                return Outcome(outcome.name, 'more than 10000 frames')
+            if report.end == 'running':
+                outcome.is_long = True
+                report = self.compiled(made, stem)
+            elif not outcome.is_long:
+                outcome.evals[way] = report.evals
+            more = way != 'source' and wanted.end != 'trap' and report.evals > outcome.evals.get('source', report.evals)
+            if (report.printed, report.end) != (wanted.printed, wanted.end) or more:
+                outcome.state = 'different'
+                outcome.shown.append(f'{way}: wanted {wanted}, found {report}')
+        return outcome
+
+    def count_llvm(self, outcome: Outcome, wanted: Report, ir: str) -> None:
+        """Adds the operators of what LLVM leaves, where it comes through and does the same."""
+        for kind, words in (('alike', [f'-passes={ALIKE}']), ('all', [f'-passes={ALL}', *NO_VECTORS])):
+            said = ran(['opt', '-S', *words, '-o', '-', '-'], ir.encode('latin-1'))
+            try:
+                made = self.from_llvm.program_text(said.stdout.decode('latin-1'), 'main', self.language)
+            except mir_text.Fault as fault:
+                outcome.shown.append(f'{kind}: {fault}')
+                continue
+            report = self.run(made)
+            if (report.printed, report.end) == (wanted.printed, wanted.end):
+                outcome.evals[kind] = report.evals
+            else:
+                outcome.state = 'different'
+                outcome.shown.append(f'{kind} of LLVM: wanted {wanted}, found {report}')
+
+
+def reason(fault: str) -> str:
+    """Why a program is refused, without its place and what is said in brackets."""
+    plain = re.sub(r'^line \d+( \(line \d+ of the source\))?, (in @\S+: )?', '', fault)
+    return re.sub(r' \([^)]*\)$', '', plain)
+
+
+def drawn(number: int, folder: Path, has_globals: bool) -> Source:
+    """A program that csmith draws. Where there are no globals all of it is put into `main`; of the checked arithmetic
+    that is done in every second program, so that both are tried."""
+    path = folder / f'csmith_{number}.c'
+    text = ran(['csmith', *CSMITH, '--seed', number], folder=folder).stdout.decode()
+    path.write_text(re.sub(r'^(static [^=;{]*\bfunc_\d+\()', r'FUNCTION \1', text, flags=re.MULTILINE))
+    flags = ['-I', str(folder), f'-DFUNCTION={"" if has_globals else INLINE}',
+             f'-DWRAPPER={INLINE if number % 2 == 0 else ""}']
+    return Source(path.stem, path, flags)
+
+
+def named(files: list[Path]) -> Iterable[Source]:
+    """The C files that are named, and those of the folders that are named."""
+    for path in files:
+        for each in sorted(path.rglob('*.c')) if path.is_dir() else [path]:
+            yield Source(each.stem, each, ['-I', str(each.parent)])
+
+
+def print_counts(outcomes: list[Outcome]) -> None:
+    """Prints how many programs came to which end, and the operators of all that were counted in each way."""
+    counts = collections.Counter(each.state for each in outcomes)
+    print(f'{len(outcomes)} programs, {sum(each.is_long for each in outcomes)} compared as native programs')
+    for state, count in sorted(counts.items(), key=lambda each: (-each[1], each[0])):
+        print(f'{count:6} {state}')
+    whole = [each for each in outcomes if each.state == 'same' and {'source', 'alike', 'all'} <= set(each.evals)]
+    print(f'operators of the runs of {len(whole)} programs:')
+    for way in whole[0].evals if whole else ():
+        print(f'{sum(each.evals[way] for each in whole):12} {way}')
+    for kind in ('alike', 'all') if whole else ():
+        less = sum(each.evals[kind] < each.evals['optimise'] for each in whole)
+        more = sum(each.evals[kind] > each.evals['optimise'] for each in whole)
+        print(f'{kind}: less than optimise in {less}, more in {more}, as much in {len(whole) - less - more}')
+
+
+def print_table(outcomes: list[Outcome], rows: int) -> None:
+    """Prints the programs in which LLVM leaves least beside `optimise`."""
+    whole = [each for each in outcomes if {'optimise', 'all', 'alike'} <= set(each.evals)]
+    for each in sorted(whole, key=lambda each: each.evals['all'] - each.evals['optimise'])[:rows]:
+        print(each.name, each.evals)
+
+
+def main() -> int:
+    """Judges all programs, and prints the counts."""
+    words = argparse.ArgumentParser(description='Brings C programs in and compares what they do.')
+    words.add_argument('--mir', default=str(TOP / 'mir'), help='the program that is tried')
+    words.add_argument('--csmith', type=int, default=0, help='how many programs csmith draws')
+    words.add_argument('--seed', type=int, default=1, help='the number of the first of them')
+    words.add_argument('--jobs', type=int, default=2, help='how many programs are judged at a time')
+    words.add_argument('--table', type=int, default=0, help='how many programs are shown in which LLVM leaves less')
+    words.add_argument('--keep', type=Path, help='a folder for the programs, which stay there')
+    words.add_argument('files', nargs='*', type=Path, metavar='FILE', help='C files and folders of them')
+    given = words.parse_args()
+    with tempfile.TemporaryDirectory() as made:
+        folder = given.keep or Path(made)
+        folder.mkdir(exist_ok=True)
+        (folder / 'csmith.h').write_text(HEADER)
+        bench = Bench(given.mir, folder)
+        numbers = range(given.seed, given.seed + given.csmith)
+        with ThreadPoolExecutor(given.jobs) as pool:
+            tasks = [pool.submit(lambda number=number: bench.judge(drawn(number, folder, bench.language.globals > 0)))
+                     for number in numbers]
+            tasks += [pool.submit(bench.judge, source) for source in named(given.files)]
+            outcomes = [task.result() for task in tasks]
+    for each in outcomes:
+        if each.state == 'different':
+            print(f'{each.name}: different', *each.shown, sep='\n  ')
+    print_counts(outcomes)
+    print_table(outcomes, given.table)
+    return 1 if any(each.state == 'different' for each in outcomes) else 0
+
+
+if __name__ == '__main__':
+    sys.exit(main())
