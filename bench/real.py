@@ -19,10 +19,11 @@ import collections
 import importlib.machinery
 import importlib.util
 import re
+import signal
 import subprocess
 import sys
 import tempfile
-from concurrent.futures import ThreadPoolExecutor
+from concurrent.futures import ThreadPoolExecutor, as_completed
 from dataclasses import dataclass, field
 from pathlib import Path
 from typing import Iterable, NamedTuple, Optional
@@ -35,7 +36,7 @@ sys.setrecursionlimit(20_000)
 import mir_text  # noqa: E402
 
 COMMANDS = ('optimise', 'move', 'divisions', 'tails', 'join')
-STEPS, SECONDS = 1_000_000, 10
+STEPS, SECONDS = 1_000_000, 60
 CSMITH = ('--no-pointers --no-arrays --no-structs --no-unions --no-bitfields --no-volatiles --no-volatile-pointers '
           '--no-packed-struct --no-argc --concise --max-funcs 4 --max-block-depth 3 --max-expr-complexity 6').split()
 
@@ -124,7 +125,7 @@ class Bench:
             return None
         said = ran([program], seconds=SECONDS)
         printed = said.stdout.decode('latin-1').splitlines()
-        if said.returncode is None:
+        if said.returncode in (None, -signal.SIGXCPU):
             return Report(printed, 'running')
         return Report(printed, 'trap' if said.returncode < 0 else str(said.returncode))
 
@@ -268,7 +269,7 @@ def main() -> int:
     words.add_argument('--seed', type=int, default=1, help='the number of the first of them')
     words.add_argument('--jobs', type=int, default=2, help='how many programs are judged at a time')
     words.add_argument('--table', type=int, default=0, help='how many programs are shown in which LLVM leaves less')
-    words.add_argument('--keep', type=Path, help='a folder for the programs, which stay there')
+    words.add_argument('--keep', type=Path, help='a folder for the programs, which stay there, and what became of each')
     words.add_argument('files', nargs='*', type=Path, metavar='FILE', help='C files and folders of them')
     given = words.parse_args()
     with tempfile.TemporaryDirectory() as made:
@@ -281,8 +282,12 @@ def main() -> int:
             tasks = [pool.submit(lambda number=number: bench.judge(drawn(number, folder, bench.language.globals > 0)))
                      for number in numbers]
             tasks += [pool.submit(bench.judge, source) for source in named(given.files)]
-            outcomes = [task.result() for task in tasks]
-    for each in outcomes:
+            outcomes = []
+            for task in as_completed(tasks):
+                outcomes.append(task.result())
+                with open(folder / 'outcomes', 'a', encoding='utf-8') as log:
+                    print(outcomes[-1], file=log)
+    for each in sorted(outcomes, key=lambda each: each.name):
         if each.state == 'different':
             print(f'{each.name}: different', *each.shown, sep='\n  ')
     print_counts(outcomes)

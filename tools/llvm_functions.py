@@ -33,7 +33,7 @@ class Maker:
         self.body = Body(language, set(names.shared.values()))
         self.values = Values(function, self.body)
         self.blocks = reached(function)
-        self.following: dict[str, Block] = {block.label: block for block in self.blocks}
+        self.block_of: dict[str, Block] = {block.label: block for block in self.blocks}
         self.labels = {block.label: self.body.marks.fresh(block.label) for block in self.blocks}
         self.own = {name: self.body.names.fresh(name) for name in names.own}
         self.needs: set[str] = set()
@@ -58,6 +58,7 @@ class Maker:
             following = after.label if after else None
             for one in block.instructions:
                 self.instruction(block, one, following)
+        self.body.clean()
         return self.body
 
     def head(self) -> None:
@@ -188,7 +189,7 @@ class Maker:
             past = self.body.marks.fresh('divide')
             if right != -1:
                 self.body.emit(If(Binary('!=', right, -1), past))
-            self.body.trap(DIVIDED, Binary('=', left, least))
+            self.body.trap(DIVIDED, Binary('=', left, least), past)
             self.body.mark(past)
         value = Binary('/' if one.kind == 'sdiv' else 'mod', left, right)
         self.body.narrow(self.result(one), value, bits, bits in LEGAL or self.values.fits(one, bits))
@@ -316,7 +317,7 @@ class Maker:
     def copies(self, source: Block, target: str) -> list[tuple[str, Operand]]:
         """What the phis of a block are assigned on the way from another."""
         found = []
-        for one in self.following[target].instructions:
+        for one in self.block_of[target].instructions:
             if one.kind == 'phi':
                 bits = self.bits(one)
                 value = one.operands[one.blocks.index(source.label)]
@@ -324,8 +325,13 @@ class Maker:
         return [(to, value) for to, value in found if to != value]
 
     def go(self, source: Block, target: str, following: Optional[str]) -> None:
-        """Goes to a block, by a jump unless it comes next."""
-        self.body.copy(self.copies(source, target))
+        """Goes to a block, by a jump unless it comes next; to one that returns what a phi has by a return."""
+        copies, last = self.copies(source, target), self.block_of[target].instructions[-1]
+        if copies and last.kind == 'ret' and all(one.kind == 'phi' for one in self.block_of[target].instructions[:-1]):
+            value = self.operand(last, 0, self.bits(last)) if last.operands else 0
+            self.body.emit(Return(dict(copies).get(value, value)))
+            return
+        self.body.copy(copies)
         if target != following:
             self.body.emit(Goto(self.labels[target]))
 
@@ -381,8 +387,7 @@ class Maker:
         before = block.instructions[-2:-1]
         if not before or before[0].kind != 'call':
             self.body.trap(ILLEGAL)
-        if not self.body.lines or not isinstance(self.body.lines[-1].instruction, Return):
-            self.body.emit(Return(0))
+        self.body.emit(Return(0))
 
     def part(self, one: Instruction) -> None:
         """A part of what an operator makes that also says whether it has too many bits."""

@@ -12,8 +12,9 @@ from typing import Iterator, NamedTuple, Optional, Union
 TOKEN = re.compile(r'(?P<blank>[ \t\r]+|;[^\n]*)|(?P<string>c?"[^"]*")'
                    r'|(?P<local>%(?:[-\w$.]+|"[^"]*"))|(?P<global>@(?:[-\w$.]+|"[^"]*"))'
                    r'|(?P<number>-?\d+(?![\w.]))|(?P<other>[!#$][-\w$.\\]*)|(?P<word>[-+\w$.]+)'
-                   r'|(?P<mark>[=,()\[\]{}<>*:|^])')
+                   r'|(?P<mark>[=,()\[\]{}<>*:|^])|(?P<stray>.)', re.DOTALL)
 LABEL = re.compile(r'\s*(?:([-\w$.]+)|"([^"]*)"):')
+NOTES = re.compile(r'(, ![\w.]+ !\d+)+\s*$')
 MARK = re.compile(r'!dbg (!\d+)')
 SOURCE = re.compile(r'^(!\d+) = (?:distinct )?!DI(?:Location|Subprogram)\(.*?\bline: (\d+)')
 INTEGER = re.compile(r'i(\d+)$')
@@ -150,15 +151,12 @@ class Cursor:
     """The tokens of one entry of a module, from the left."""
 
     def __init__(self, line: int, text: str):
-        self.line, self.at, self.tokens = line, 0, []
-        place = 0
-        while place < len(text):
-            match = TOKEN.match(text, place)
-            if match is None:
-                raise Refusal(line, f'no LLVM IR: `{text[place:].strip()[:20]}`')
-            if match.lastgroup != 'blank':
-                self.tokens.append(Token(match.lastgroup, match.group()))
-            place = match.end()
+        self.line, self.at = line, 0
+        found = [(match.lastgroup, match.group()) for match in TOKEN.finditer(text)]
+        self.tokens = [Token(kind, each) for kind, each in found if kind != 'blank']
+        stray = [each for kind, each in found if kind == 'stray']
+        if stray:
+            raise Refusal(line, f'no LLVM IR: `{text[text.index(stray[0]):].strip()[:20]}`')
 
     def peek(self, ahead: int = 0) -> str:
         """The text of the next token, or one further on; empty at the end."""
@@ -304,7 +302,7 @@ def module(text: str) -> Module:
         if inside is not None and entry.strip() == '}':
             inside = None
         elif inside is not None:
-            add_entry(inside, line, entry)
+            add_entry(inside, line, NOTES.sub('', entry))
         elif re.match(r'(define|declare)\b', entry):
             function = header(Cursor(line, entry))
             made.functions.setdefault(function.name, function)

@@ -153,17 +153,15 @@ class Body:
             high = self.made(name, 'shl', self.assign(self.names.fresh(name), value), places)
         self.assign(name, Binary('shra', high, places))
 
-    def trap(self, number: int, test: Right = Plain(1)) -> None:
-        """Traps where a test holds: with its number, or where the language has no such traps by a division."""
+    def trap(self, number: int, test: Right = Plain(1), past: str = '') -> None:
+        """Traps where a test holds: with its number, or where the language has no such traps by a division. Where the test
+        is not that of 1, `past` is a label that is put behind it."""
         if self.language.has_traps:
             self.emit(TrapIf(test, number))
             return
-        past = self.marks.fresh('on')
-        if test != Plain(1):
+        if past:
             self.emit(If(negated(test), past))
         self.made('trap', '/', 1, 0)
-        if test != Plain(1):
-            self.mark(past)
 
     def copy(self, pairs: list[tuple[str, Operand]]) -> None:
         """Assigns operands to variables, all at once."""
@@ -179,9 +177,24 @@ class Body:
                 spare = self.assign(self.names.fresh('spare'), Plain(held))
                 waiting = [(to, spare if source == held else source) for to, source in waiting]
 
+    def clean(self) -> None:
+        """Drops lines that no run comes to: those behind a jump or a return, up to a label that is named."""
+        count = -1
+        while count != len(self.lines):
+            count, named, kept, is_reached = len(self.lines), self.named(), [], True
+            for line in self.lines:
+                is_reached = is_reached or not named.isdisjoint(line.labels)
+                kept += [line] if is_reached else []
+                is_reached = is_reached and not isinstance(line.instruction, (Goto, Return))
+            self.lines = kept
+
+    def named(self) -> set[str]:
+        """The labels that jumps name."""
+        return {line.instruction.label for line in self.lines if isinstance(line.instruction, (Goto, If))}
+
     def text(self, name: str) -> str:
         """The unit, with the labels that are named."""
-        named = {line.instruction.label for line in self.lines if isinstance(line.instruction, (Goto, If))}
+        named = self.named()
         lines = [line_text(Line([each for each in line.labels if each in named], line.instruction))
                  for line in self.lines]
         end = ''.join(f'{label}: ' for label in self.waiting if label in named) + 'end'

@@ -4,6 +4,13 @@
 #include <stdio.h>
 #include <stdlib.h>
 #include <string.h>
+#include <sys/resource.h>
+
+/* A program that takes more than two seconds of the processor is ended by the signal SIGXCPU. */
+__attribute__((constructor)) static void limit(void) {
+    struct rlimit seconds = {2, 3};
+    setrlimit(RLIMIT_CPU, &seconds);
+}
 
 void mir_print(long long number) {
     fprintf(stdout, "%lld\n", number);
