@@ -5,13 +5,14 @@
 
 The programs are those that `csmith` draws (`--csmith 500`: the numbers from `--seed` on), and each C file that is named
 or lies in a folder that is named, from its `main` on. clang makes a native program of each without optimisation;
-`tools/from_c` brings it in. Then `run` of its text, and of what each command of `mir` makes of it, has to print the same
-numbers and end in the same way; runs of more than 1,000,000 steps are compared as native programs (`tools/compile`).
-The counts are of same, refused by reason, and different ones, each of which is shown; the status is 1 where there is one.
+`tools/from_c` brings it in. Then `run` of its text, and of what each command of `mir` makes of it, has to print the
+same numbers and end in the same way; runs of more than 1,000,000 steps are compared as native programs
+(`tools/compile`). The counts are of same, refused by reason, and different ones, each of which is shown; the status is
+1 where there is one.
 
-Beside it the operators of whole runs are counted by `run`: of the text, of what `optimise` makes of it, and of what LLVM
-leaves of the same IR, which is brought in like the source, so that the unit is the same. `--table` shows the programs in
-which LLVM leaves least beside `optimise`. It wants csmith, clang and opt.
+Beside it the operators of whole runs are counted by `run`: of the text, of what `optimise` makes of it, and of what
+LLVM leaves of the same IR, which is brought in like the source, so that the unit is the same. `--table` shows the
+programs in which LLVM leaves least beside `optimise`. It wants csmith, clang and opt.
 """
 
 import argparse
@@ -100,12 +101,16 @@ def tool(name: str):
     return made
 
 
-def ran(words: list, text: bytes = b'', seconds: int = 120, folder: Optional[Path] = None) -> subprocess.CompletedProcess:
+Call = subprocess.CompletedProcess
+
+
+def ran(words: list, text: bytes = b'', seconds: int = 600, folder: Optional[Path] = None) -> Call:
     """A finished call; one that takes too long has no status."""
+    plain = [str(word) for word in words]
     try:
-        return subprocess.run([str(word) for word in words], input=text, capture_output=True, timeout=seconds, cwd=folder)
+        return subprocess.run(plain, input=text, capture_output=True, timeout=seconds, cwd=folder)
     except subprocess.TimeoutExpired:
-        return subprocess.CompletedProcess(words, None, b'', b'')
+        return Call(words, None, b'', b'')
 
 
 class Bench:
@@ -116,11 +121,14 @@ class Bench:
         self.from_c, self.from_llvm = tool('from_c'), tool('from_llvm')
         self.language = self.from_llvm.language(mir)
         usage = ran([mir]).stderr.decode()
+        self.support = folder / 'native.o'
+        if ran(['clang', '-O1', '-c', TOP / 'tools' / 'native.c', '-o', self.support]).returncode:
+            sys.exit('real: there is no clang that makes an object file of tools/native.c')
         self.commands = [command for command in COMMANDS if re.search(rf'[ |]{command}\b', usage)]
 
     def native(self, source: Source, program: Path) -> Optional[Report]:
         """The report of the native program, where clang makes one."""
-        words = ['clang', '-O0', '-fwrapv', '-w', *source.flags, source.path, TOP / 'tools' / 'native.c', '-o', program]
+        words = ['clang', '-O0', '-fwrapv', '-w', *source.flags, source.path, self.support, '-lm', '-o', program]
         if ran(words).returncode != 0:
             return None
         said = ran([program], seconds=SECONDS)
@@ -167,14 +175,14 @@ class Bench:
     def judge(self, source: Source) -> Outcome:
         """What becomes of a program."""
         stem = self.folder / source.name
-        wanted = self.native(source, stem.with_suffix('.native'))
-        if wanted is None or wanted.end == 'running':
-            return Outcome(source.name, 'no native program' if wanted is None else 'the native program does not end')
         try:
             ir = self.from_c.llvm(str(source.path), source.flags)
             text = self.from_llvm.program_text(ir, 'main', self.language)
         except mir_text.Fault as fault:
             return Outcome(source.name, f'refused: {reason(str(fault))}', [str(fault)])
+        wanted = self.native(source, stem.with_suffix('.native'))
+        if wanted is None or wanted.end == 'running':
+            return Outcome(source.name, 'no native program' if wanted is None else 'the native program does not end')
         outcome = self.compared(Outcome(source.name, 'same'), wanted, text, stem)
         if outcome.state == 'same' and not outcome.is_long:
             self.count_llvm(outcome, wanted, ir)
@@ -182,8 +190,9 @@ class Bench:
 
     def compared(self, outcome: Outcome, wanted: Report, text: str, stem: Path) -> Outcome:
         """The outcome, with what is not the same, and the operators of each run."""
+        reports: dict[str, Report] = {}
         for way, made in self.ways(text):
-            report = self.run(made)
+            report = reports[made] if made in reports else reports.setdefault(made, self.run(made))
             if report.end == 'deep' and way == 'source':
                 return Outcome(outcome.name, 'more than 10000 frames')
             if report.end == 'running':

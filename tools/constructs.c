@@ -47,7 +47,8 @@ static number constants(number a, number b) {
     uint32_t u = a;
     int32_t i = b;
     uint64_t w = a;
-    return u / 10 + u % 10 + (u << 7) + (u >> 9) + i / -7 + i % 16 + (i << 3) + (i >> 5) + w / 1000003 + w % 7 + (w >> 60);
+    number of_u = u / 10 + u % 10 + (u << 7) + (u >> 9), of_i = i / -7 + i % 16 + (i << 3) + (i >> 5);
+    return of_u + of_i + w / 1000003 + w % 7 + (w >> 60);
 }
 
 static number conversions(number a, number b) {
@@ -63,7 +64,9 @@ static number bits_of_bools(number a, number b) {
     return x + 2 * y + 4 * z + 8 * v + 16 * w + 32 * (x == y) + 64 * (x < y) + 128 * (x > y);
 }
 
-static number logic(number a, number b) { return (a && b) + 2 * (a || b) + 4 * (a > b && b > 3) + 8 * !(a < b || a == 7); }
+static number logic(number a, number b) {
+    return (a && b) + 2 * (a || b) + 4 * (a > b && b > 3) + 8 * !(a < b || a == 7);
+}
 
 static number choices(number a, number b) {
     number least = a < b ? a : b;

@@ -4,8 +4,8 @@ from typing import Callable, NamedTuple, Optional
 
 import llvm_calls
 from llvm_text import BINARY, Block, Function, Global, Instruction, Local, Module, Refusal, width
-from llvm_units import (DIVIDED, ILLEGAL, LEAST, REASONS, SAME_OPERATOR, SIGNED, UNSIGNED, Body, Language, Values, bounds,
-                        narrowed, negated, reason_of)
+from llvm_units import (DIVIDED, ILLEGAL, LEAST, REASONS, SAME_OPERATOR, SIGNED, UNSIGNED, Body, Language, Values,
+                        bounds, narrowed, negated, reason_of)
 from mir_text import RECEIVES, Assign, Binary, Call, Goto, If, Operand, Plain, Receive, Return, Unary
 from mir_text import Value as Right
 
@@ -67,7 +67,8 @@ class Maker:
         for name, of in self.function.parameters:
             if (width(of) or 65) > 64:
                 if not self.is_entry or name in self.uses:
-                    raise Refusal(line, f'in @{self.function.name}: a parameter is no integer of at most 64 bits ({of})')
+                    raise Refusal(line, f'in @{self.function.name}: a parameter is no integer of at most 64 bits '
+                                        f'({of})')
                 continue
             kept.append((name, width(of)))
         if len(kept) > RECEIVES:
@@ -198,7 +199,8 @@ class Maker:
         """A division without signs; of 64 bits, where one may stand for a large number, by a unit of its own."""
         is_natural = all(self.values.span(each, bits)[0] >= 0 for each in one.operands)
         if bits < 64 or is_natural:
-            value = Binary('/' if one.kind == 'udiv' else 'mod', self.unsigned(one, 0, bits), self.unsigned(one, 1, bits))
+            operands = self.unsigned(one, 0, bits), self.unsigned(one, 1, bits)
+            value = Binary('/' if one.kind == 'udiv' else 'mod', *operands)
             self.body.narrow(self.result(one), value, bits, self.values.fits(one, bits))
             return
         self.needs.add(one.kind)

@@ -6,12 +6,12 @@ A phi is a variable that each way to its block assigns. What is undefined is 0.
 """
 
 import re
-from typing import Callable, NamedTuple, Optional
+from typing import NamedTuple, Optional
 
 import llvm_text
-from llvm_text import Address, Block, Function, Global, Instruction, Local, Refusal, Value, width
-from mir_text import (NAME_BYTES, RECEIVES, RELATIONS, RESERVED, Assign, Binary, Call, Goto, If, Operand, Plain, Print,
-                      Receive, Return, Unary, instruction_text, value_text)
+from llvm_text import Address, Function, Global, Instruction, Local, Refusal, Value, width
+from mir_text import (NAME_BYTES, RESERVED, Assign, Binary, Goto, If, Operand, Plain, Return, Unary, instruction_text,
+                      value_text)
 from mir_text import Value as Right
 
 LEAST = -2 ** 63
@@ -154,8 +154,8 @@ class Body:
         self.assign(name, Binary('shra', high, places))
 
     def trap(self, number: int, test: Right = Plain(1), past: str = '') -> None:
-        """Traps where a test holds: with its number, or where the language has no such traps by a division. Where the test
-        is not that of 1, `past` is a label that is put behind it."""
+        """Traps where a test holds: with its number, or where the language has no such traps by a division. `past` is a
+        label behind it, which a test that may fail needs."""
         if self.language.has_traps:
             self.emit(TrapIf(test, number))
             return

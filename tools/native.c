@@ -6,9 +6,9 @@
 #include <string.h>
 #include <sys/resource.h>
 
-/* A program that takes more than two seconds of the processor is ended by the signal SIGXCPU. */
+/* A program that takes more than a second of the processor is ended by the signal SIGXCPU. */
 __attribute__((constructor)) static void limit(void) {
-    struct rlimit seconds = {2, 3};
+    struct rlimit seconds = {1, 2};
     setrlimit(RLIMIT_CPU, &seconds);
 }
 
