@@ -37,9 +37,12 @@ sys.setrecursionlimit(20_000)
 import mir_text  # noqa: E402
 
 COMMANDS = ('optimise', 'move', 'divisions', 'tails', 'join')
-STEPS, SECONDS = 1_000_000, 60
+STEPS, SECONDS, DRAWN = 1_000_000, 60, 10
 CSMITH = ('--no-pointers --no-arrays --no-structs --no-unions --no-bitfields --no-volatiles --no-volatile-pointers '
-          '--no-packed-struct --no-argc --concise --max-funcs 4 --max-block-depth 3 --max-expr-complexity 6').split()
+          '--no-packed-struct --no-argc --concise --max-funcs 3 --max-block-depth 3 --max-expr-complexity 6').split()
+
+# The numbers of traps that stand for signals.
+SIGNALS = (132, 134, 136)
 
 # Passes of LLVM that do what those of `optimise` do, and all that it has but for vectors.
 ALIKE = 'mem2reg,simplifycfg,sccp,gvn,sink,adce,simplifycfg'
@@ -86,11 +89,24 @@ class Outcome:
 
 
 class Source(NamedTuple):
-    """A C file, and flags of clang for it."""
+    """A C file, flags of clang for it, and its programs: the function that each begins with. Where this is not `main`,
+    the native program takes its name as a word."""
 
-    name: str
     path: Path
     flags: list[str]
+    entries: dict[str, str]
+
+
+def ended(line: str) -> str:
+    """How a run ended, as a native program does: with the status that its result has, or by a signal. A trap with a
+    number is an exit with this status, unless it stands for a signal."""
+    words = line.split()
+    if words[0] == 'result':
+        return str(int(words[1]) & 255)
+    if words[0] != 'trapped':
+        return words[0]
+    is_exit = words[1].isdigit() and int(words[1]) not in SIGNALS
+    return words[1] if is_exit else 'trap'
 
 
 def tool(name: str):
@@ -126,12 +142,14 @@ class Bench:
             sys.exit('real: there is no clang that makes an object file of tools/native.c')
         self.commands = [command for command in COMMANDS if re.search(rf'[ |]{command}\b', usage)]
 
-    def native(self, source: Source, program: Path) -> Optional[Report]:
-        """The report of the native program, where clang makes one."""
+    def is_native(self, source: Source, program: Path) -> bool:
+        """Makes the native program, and says whether clang does."""
         words = ['clang', '-O0', '-fwrapv', '-w', *source.flags, source.path, self.support, '-lm', '-o', program]
-        if ran(words).returncode != 0:
-            return None
-        said = ran([program], seconds=SECONDS)
+        return ran(words).returncode == 0
+
+    def native(self, program: Path, entry: str) -> Report:
+        """The report of a native program."""
+        said = ran([program, *([] if entry == 'main' else [entry])], seconds=SECONDS)
         printed = said.stdout.decode('latin-1').splitlines()
         if said.returncode in (None, -signal.SIGXCPU):
             return Report(printed, 'running')
@@ -143,12 +161,7 @@ class Bench:
         lines = said.stdout.decode().splitlines()
         if said.returncode not in (0, 3, 4):
             return Report([], 'deep' if said.returncode == 5 else said.stderr.decode().strip())
-        printed, end, evals = lines[:-2], lines[-2], int(lines[-1].split()[1])
-        if end.startswith('result '):
-            end = str(int(end.split()[1]) & 255)
-        elif end.startswith('trapped'):
-            end = 'trap'
-        return Report(printed, end, evals)
+        return Report(lines[:-2], ended(lines[-2]), int(lines[-1].split()[1]))
 
     def compiled(self, text: str, stem: Path) -> Report:
         """The report of a text that is compiled."""
@@ -159,11 +172,9 @@ class Bench:
             return Report([], said.stderr.decode().strip())
         said = ran([program], seconds=SECONDS)
         lines = said.stdout.decode().splitlines()
-        if said.returncode is None:
-            return Report(lines, 'running')
-        if said.returncode == 0:
-            return Report(lines[:-1], str(int(lines[-1].split()[1]) & 255))
-        return Report(lines[:-1] if said.returncode == 3 else lines, 'trap' if said.returncode == 3 else 'deep')
+        if said.returncode not in (0, 3):
+            return Report(lines, 'running' if said.returncode is None else 'deep')
+        return Report(lines[:-1], ended(lines[-1]))
 
     def ways(self, text: str) -> Iterable[tuple[str, str]]:
         """The text, and what each command makes of it."""
@@ -172,20 +183,34 @@ class Bench:
             said = ran([self.mir, command], text.encode())
             yield command, said.stdout.decode() if said.returncode == 0 else said.stderr.decode()
 
-    def judge(self, source: Source) -> Outcome:
-        """What becomes of a program."""
-        stem = self.folder / source.name
+    def judge(self, source: Source) -> list[Outcome]:
+        """What becomes of the programs of a file."""
+        program = self.folder / f'{source.path.stem}.native'
         try:
             ir = self.from_c.llvm(str(source.path), source.flags)
-            text = self.from_llvm.program_text(ir, 'main', self.language)
+            read = self.from_llvm.module_of(ir)
         except mir_text.Fault as fault:
-            return Outcome(source.name, f'refused: {reason(str(fault))}', [str(fault)])
-        wanted = self.native(source, stem.with_suffix('.native'))
-        if wanted is None or wanted.end == 'running':
-            return Outcome(source.name, 'no native program' if wanted is None else 'the native program does not end')
-        outcome = self.compared(Outcome(source.name, 'same'), wanted, text, stem)
+            return [Outcome(name, f'refused: {reason(str(fault))}', [str(fault)]) for name in source.entries]
+        texts, outcomes = {}, []
+        for name, entry in source.entries.items():
+            try:
+                texts[name] = self.from_llvm.program_text(read, entry, self.language)
+            except mir_text.Fault as fault:
+                outcomes.append(Outcome(name, f'refused: {reason(str(fault))}', [str(fault)]))
+        if texts and not self.is_native(source, program):
+            return outcomes + [Outcome(name, 'no native program') for name in texts]
+        left = self.left_by_llvm(ir, source.entries.values()) if texts else {}
+        return outcomes + [self.judged(name, source.entries[name], text, program, left) for name, text in texts.items()]
+
+    def judged(self, name: str, entry: str, text: str, program: Path, left: dict) -> Outcome:
+        """What becomes of a program that comes in."""
+        wanted = self.native(program, entry)
+        if wanted.end == 'running':
+            return Outcome(name, 'the native program does not end')
+        outcome = self.compared(Outcome(name, 'same'), wanted, text, self.folder / name)
         if outcome.state == 'same' and not outcome.is_long:
-            self.count_llvm(outcome, wanted, ir)
+            for kind, read in left.items():
+                self.count_llvm(outcome, wanted, kind, read, entry)
         return outcome
 
     def compared(self, outcome: Outcome, wanted: Report, text: str, stem: Path) -> Outcome:
@@ -195,6 +220,9 @@ class Bench:
             report = reports[made] if made in reports else reports.setdefault(made, self.run(made))
             if report.end == 'deep' and way == 'source':
                 return Outcome(outcome.name, 'more than 10000 frames')
+            if way != 'source' and report.end.endswith('too many instructions'):
+                outcome.shown.append(f'{way} writes a unit that is too long to be read')
+                continue
             if report.end == 'running':
                 outcome.is_long = True
                 report = self.compiled(made, stem)
@@ -206,21 +234,33 @@ class Bench:
                 outcome.shown.append(f'{way}: wanted {wanted}, found {report}')
         return outcome
 
-    def count_llvm(self, outcome: Outcome, wanted: Report, ir: str) -> None:
-        """Adds the operators of what LLVM leaves, where it comes through and does the same."""
+    def left_by_llvm(self, ir: str, entries: Iterable[str]) -> dict:
+        """The modules that LLVM's passes leave. Entries are marked as functions that nothing calls, as `main` is."""
+        marked = ir
+        for entry in entries:
+            marked = re.sub(rf'(define [^\n]*@{entry}\([^\n)]*\)) ', r'\1 norecurse ', marked)
+        left = {}
         for kind, words in (('alike', [f'-passes={ALIKE}']), ('all', [f'-passes={ALL}', *NO_VECTORS])):
-            said = ran(['opt', '-S', *words, '-o', '-', '-'], ir.encode('latin-1'))
+            said = ran(['opt', '-S', *words, '-o', '-', '-'], marked.encode('latin-1'))
             try:
-                made = self.from_llvm.program_text(said.stdout.decode('latin-1'), 'main', self.language)
-            except mir_text.Fault as fault:
-                outcome.shown.append(f'{kind}: {fault}')
+                left[kind] = self.from_llvm.module_of(said.stdout.decode('latin-1'))
+            except mir_text.Fault:
                 continue
-            report = self.run(made)
-            if (report.printed, report.end) == (wanted.printed, wanted.end):
-                outcome.evals[kind] = report.evals
-            else:
-                outcome.state = 'different'
-                outcome.shown.append(f'{kind} of LLVM: wanted {wanted}, found {report}')
+        return left
+
+    def count_llvm(self, outcome: Outcome, wanted: Report, kind: str, read, entry: str) -> None:
+        """Adds the operators of what LLVM leaves, where it comes through and does the same."""
+        try:
+            made = self.from_llvm.program_text(read, entry, self.language)
+        except mir_text.Fault as fault:
+            outcome.shown.append(f'{kind}: {fault}')
+            return
+        report = self.run(made)
+        if (report.printed, report.end) == (wanted.printed, wanted.end):
+            outcome.evals[kind] = report.evals
+        else:
+            outcome.state = 'different'
+            outcome.shown.append(f'{kind} of LLVM: wanted {wanted}, found {report}')
 
 
 def reason(fault: str) -> str:
@@ -229,22 +269,29 @@ def reason(fault: str) -> str:
     return re.sub(r' \([^)]*\)$', '', plain)
 
 
-def drawn(number: int, folder: Path, has_globals: bool) -> Source:
-    """A program that csmith draws. Where there are no globals all of it is put into `main`; of the checked arithmetic
-    that is done in every second program, so that both are tried."""
-    path = folder / f'csmith_{number}.c'
-    text = ran(['csmith', *CSMITH, '--seed', number], folder=folder).stdout.decode()
-    path.write_text(re.sub(r'^(static [^=;{]*\bfunc_\d+\()', r'FUNCTION \1', text, flags=re.MULTILINE))
+def drawn(numbers: list[int], folder: Path, has_globals: bool) -> Source:
+    """Programs that csmith draws, in one file, so that clang is called once. Where there are no globals all of a program
+    is put into its entry; of the checked arithmetic that is done in every second file, so that both are tried."""
+    parts, entries = ['#include "csmith.h"'], {}
+    for number in numbers:
+        text = ran(['csmith', *CSMITH, '--seed', number], folder=folder).stdout.decode().replace('#include "csmith.h"', '')
+        text = re.sub(r'\b(func_\d+|g_\d+|main|__undefined)\b', rf'p{number}_\1', text)
+        parts.append(re.sub(r'^(static [^=;{]*func_\d+\()', r'FUNCTION \1', text, flags=re.MULTILINE))
+        entries[f'csmith_{number}'] = f'p{number}_main'
+    tests = ''.join(f'    if (strcmp(words[1], "{entry}") == 0) return {entry}();\n' for entry in entries.values())
+    parts.append(f'#include <string.h>\nint main(int count, char **words) {{\n{tests}    return 99;\n}}\n')
+    path = folder / f'csmith_{numbers[0]}.c'
+    path.write_text('\n'.join(parts))
     flags = ['-I', str(folder), f'-DFUNCTION={"" if has_globals else INLINE}',
-             f'-DWRAPPER={INLINE if number % 2 == 0 else ""}']
-    return Source(path.stem, path, flags)
+             f'-DWRAPPER={INLINE if numbers[0] // DRAWN % 2 == 0 else ""}']
+    return Source(path, flags, entries)
 
 
 def named(files: list[Path]) -> Iterable[Source]:
     """The C files that are named, and those of the folders that are named."""
     for path in files:
         for each in sorted(path.rglob('*.c')) if path.is_dir() else [path]:
-            yield Source(each.stem, each, ['-I', str(each.parent)])
+            yield Source(each, ['-I', str(each.parent)], {each.stem: 'main'})
 
 
 def print_counts(outcomes: list[Outcome]) -> None:
@@ -253,10 +300,13 @@ def print_counts(outcomes: list[Outcome]) -> None:
     print(f'{len(outcomes)} programs, {sum(each.is_long for each in outcomes)} compared as native programs')
     for state, count in sorted(counts.items(), key=lambda each: (-each[1], each[0])):
         print(f'{count:6} {state}')
-    whole = [each for each in outcomes if each.state == 'same' and {'source', 'alike', 'all'} <= set(each.evals)]
+    notes = collections.Counter(re.sub(': .*', '', note) for each in outcomes if each.state == 'same' for note in each.shown)
+    for note, count in notes.items():
+        print(f'{count:6} of them: {note}')
+    whole = [each for each in outcomes if each.state == 'same' and set(each.evals) >= {'source', 'alike', 'all'}]
     print(f'operators of the runs of {len(whole)} programs:')
     for way in whole[0].evals if whole else ():
-        print(f'{sum(each.evals[way] for each in whole):12} {way}')
+        print(f'{sum(each.evals.get(way, each.evals["source"]) for each in whole):12} {way}')
     for kind in ('alike', 'all') if whole else ():
         less = sum(each.evals[kind] < each.evals['optimise'] for each in whole)
         more = sum(each.evals[kind] > each.evals['optimise'] for each in whole)
@@ -265,7 +315,7 @@ def print_counts(outcomes: list[Outcome]) -> None:
 
 def print_table(outcomes: list[Outcome], rows: int) -> None:
     """Prints the programs in which LLVM leaves least beside `optimise`."""
-    whole = [each for each in outcomes if {'optimise', 'all', 'alike'} <= set(each.evals)]
+    whole = [each for each in outcomes if set(each.evals) >= {'optimise', 'all', 'alike'}]
     for each in sorted(whole, key=lambda each: each.evals['all'] - each.evals['optimise'])[:rows]:
         print(each.name, each.evals)
 
@@ -286,16 +336,16 @@ def main() -> int:
         folder.mkdir(exist_ok=True)
         (folder / 'csmith.h').write_text(HEADER)
         bench = Bench(given.mir, folder)
-        numbers = range(given.seed, given.seed + given.csmith)
+        numbers = list(range(given.seed, given.seed + given.csmith))
         with ThreadPoolExecutor(given.jobs) as pool:
-            tasks = [pool.submit(lambda number=number: bench.judge(drawn(number, folder, bench.language.globals > 0)))
-                     for number in numbers]
+            tasks = [pool.submit(lambda some=some: bench.judge(drawn(some, folder, bench.language.globals > 0)))
+                     for some in (numbers[at:at + DRAWN] for at in range(0, len(numbers), DRAWN))]
             tasks += [pool.submit(bench.judge, source) for source in named(given.files)]
             outcomes = []
             for task in as_completed(tasks):
-                outcomes.append(task.result())
+                outcomes += task.result()
                 with open(folder / 'outcomes', 'a', encoding='utf-8') as log:
-                    print(outcomes[-1], file=log)
+                    print(*task.result(), sep='\n', file=log)
     for each in sorted(outcomes, key=lambda each: each.name):
         if each.state == 'different':
             print(f'{each.name}: different', *each.shown, sep='\n  ')
