@@ -270,11 +270,13 @@ def reason(fault: str) -> str:
 
 
 def drawn(numbers: list[int], folder: Path, has_globals: bool) -> Source:
-    """Programs that csmith draws, in one file, so that clang is called once. Where there are no globals all of a program
-    is put into its entry; of the checked arithmetic that is done in every second file, so that both are tried."""
+    """Programs that csmith draws, in one file, so that clang is called once. Where there are no globals all of a
+    program is put into its entry; of the checked arithmetic that is done in every second file, so that both are tried.
+    """
     parts, entries = ['#include "csmith.h"'], {}
     for number in numbers:
-        text = ran(['csmith', *CSMITH, '--seed', number], folder=folder).stdout.decode().replace('#include "csmith.h"', '')
+        text = ran(['csmith', *CSMITH, '--seed', number], folder=folder).stdout.decode()
+        text = text.replace('#include "csmith.h"', '')
         text = re.sub(r'\b(func_\d+|g_\d+|main|__undefined)\b', rf'p{number}_\1', text)
         parts.append(re.sub(r'^(static [^=;{]*func_\d+\()', r'FUNCTION \1', text, flags=re.MULTILINE))
         entries[f'csmith_{number}'] = f'p{number}_main'
@@ -300,10 +302,11 @@ def print_counts(outcomes: list[Outcome]) -> None:
     print(f'{len(outcomes)} programs, {sum(each.is_long for each in outcomes)} compared as native programs')
     for state, count in sorted(counts.items(), key=lambda each: (-each[1], each[0])):
         print(f'{count:6} {state}')
-    notes = collections.Counter(re.sub(': .*', '', note) for each in outcomes if each.state == 'same' for note in each.shown)
+    same = [each for each in outcomes if each.state == 'same']
+    notes = collections.Counter(re.sub(': .*', '', note) for each in same for note in each.shown)
     for note, count in notes.items():
         print(f'{count:6} of them: {note}')
-    whole = [each for each in outcomes if each.state == 'same' and set(each.evals) >= {'source', 'alike', 'all'}]
+    whole = [each for each in same if set(each.evals) >= {'source', 'alike', 'all'}]
     print(f'operators of the runs of {len(whole)} programs:')
     for way in whole[0].evals if whole else ():
         print(f'{sum(each.evals.get(way, each.evals["source"]) for each in whole):12} {way}')
