@@ -287,8 +287,9 @@ def straight(unit: str, instructions: int) -> str:
 
 
 def with_divisions(text: str) -> str:
-    """The text with a division in place of each sum of the received variable a, which divides: it traps where a is 0."""
-    return re.sub(r'<- a \+ (\w+)$', r'<- \1 / a', text, flags=re.MULTILINE)
+    """The text with a division in place of each sum of another variable than the one that is assigned: of the second
+    operand by the first, so that it traps where this is 0."""
+    return re.sub(r'\b(\w+) <- (?!\1 )(\w+) \+ (\w+)$', r'\1 <- \3 / \2', text, flags=re.MULTILINE)
 
 
 def self_tail_calls(instructions: int, calls: int) -> tuple[str, str]:
