@@ -109,6 +109,12 @@ def ended(line: str) -> str:
     return words[1] if is_exit else 'trap'
 
 
+def inputs(text: str) -> list[str]:
+    """The inputs of a program: where its `main` takes the number of its words, the one that the native program has."""
+    receives = re.match(r'(?:global .*\n)*.*begin\n((?:receive .*\n)*)', text)
+    return ['1'] * receives[1].count('\n') if receives else []
+
+
 def tool(name: str):
     """The tool with that name, as a module."""
     loader = importlib.machinery.SourceFileLoader(name, str(TOP / 'tools' / name))
@@ -157,7 +163,7 @@ class Bench:
 
     def run(self, text: str) -> Report:
         """The report of a run; its result is counted as the status of a process is."""
-        said = ran([self.mir, 'run', STEPS], text.encode())
+        said = ran([self.mir, 'run', STEPS, *inputs(text)], text.encode())
         lines = said.stdout.decode().splitlines()
         if said.returncode not in (0, 3, 4):
             return Report([], 'deep' if said.returncode == 5 else said.stderr.decode().strip())
@@ -170,7 +176,7 @@ class Bench:
         said = ran([TOP / 'tools' / 'compile', source, '-o', program])
         if said.returncode:
             return Report([], said.stderr.decode().strip())
-        said = ran([program], seconds=SECONDS)
+        said = ran([program, *inputs(text)], seconds=SECONDS)
         lines = said.stdout.decode().splitlines()
         if said.returncode not in (0, 3):
             return Report(lines, 'running' if said.returncode is None else 'deep')
@@ -266,6 +272,7 @@ class Bench:
 def reason(fault: str) -> str:
     """Why a program is refused, without its place and what is said in brackets."""
     plain = re.sub(r'^line \d+( \(line \d+ of the source\))?, (in @\S+: )?', '', fault)
+    plain = re.sub(r'^\S+:\d+:\d+: .*', 'clang finds a fault in it', plain)
     return re.sub(r' \([^)]*\)$', '', plain)
 
 
