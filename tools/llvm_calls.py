@@ -3,7 +3,7 @@ has as calls and is an operator."""
 
 from llvm_text import Address, Global, Instruction, width
 from llvm_units import ABORTED, ILLEGAL, LEAST, bounds, narrowed
-from mir_text import Assign, Binary, Call, If, Operand, Plain, Print, Return, Unary
+from mir_text import Binary, Call, If, Operand, Plain, Print, Return, Unary
 
 SIGNED_FORMATS = (b'%d\n\0', b'%i\n\0', b'%ld\n\0', b'%li\n\0', b'%lld\n\0', b'%lli\n\0')
 UNSIGNED_FORMATS = (b'%u\n\0', b'%lu\n\0', b'%llu\n\0')

@@ -6,7 +6,7 @@ import llvm_calls
 from llvm_text import BINARY, Block, Function, Global, Instruction, Local, Module, Refusal, width
 from llvm_units import (DIVIDED, ILLEGAL, LEAST, REASONS, SAME_OPERATOR, SIGNED, UNSIGNED, Body, Language, Values,
                         bounds, narrowed, negated, reason_of)
-from mir_text import RECEIVES, Assign, Binary, Call, Goto, If, Operand, Plain, Receive, Return, Unary
+from mir_text import RECEIVES, Binary, Call, Goto, If, Operand, Plain, Receive, Return, Unary
 from mir_text import Value as Right
 
 # The widths of which the processor has divisions; one of another width is made by that of the next greater one.

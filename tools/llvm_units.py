@@ -6,7 +6,7 @@ A phi is a variable that each way to its block assigns. What is undefined is 0.
 """
 
 import re
-from typing import NamedTuple, Optional
+from typing import NamedTuple
 
 import llvm_text
 from llvm_text import Address, Function, Global, Instruction, Local, Refusal, Value, width
