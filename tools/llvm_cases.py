@@ -168,6 +168,18 @@ define i32 @f(i32 %n) {
   ret i32 %again
 }
 ''', [([1], [15]), ([-20], [-6])]),
+    'a global variable with a name that the unit of a division has': ('''
+@a = internal global i64 0
+define i64 @f(i64 %n, i64 %m) {
+  store i64 %n, ptr @a
+  %1 = load i64, ptr @a
+  %q = udiv i64 %1, %m
+  %r = urem i64 %1, %m
+  %high = mul i64 %q, 1000
+  %both = add i64 %high, %r
+  ret i64 %both
+}
+''', [([100, 7], [14002]), ([-1, 2], [-999]), ([5, -1], [5]), ([-1, -1], [1000]), ([3, 0], ['trap'])]),
     'divisions that trap': ('''
 define i32 @f(i32 %a, i32 %b) {
   %q = sdiv i32 %a, %b
