@@ -17,9 +17,9 @@ numbered [] n m e = let same : n ≡ m = cc in (omega arith, tt)
 numbered (x ∷ xs) n m e = numbered_case x xs n m (nat_lt x n) (nat_eq x n) refl refl e (λ k. numbered xs k m)
 
 -- of one instruction
-pub tidy_below : (vars : List (List ℕ)) (body : List Inst) (place : ℕ) (inst : Inst) → IsTidy vars body → slice_get body place ≡ Some inst → AllBelow (length vars) (inst_vars inst)
-tidy_below vars body place inst tidy e = all_below_item inst_vars (length vars) body place inst (numbered (flat_map inst_vars body) 0 (length vars) tidy.numbered).1 e
+pub tidy_below : (shared : ℕ) (vars : List (List ℕ)) (body : List Inst) (place : ℕ) (inst : Inst) → IsTidy shared vars body → slice_get body place ≡ Some inst → AllBelow (length vars) (inst_vars inst)
+tidy_below shared vars body place inst tidy e = all_below_item inst_vars (length vars) body place inst (numbered (flat_map inst_vars body) shared (length vars) tidy.numbered).1 e
 
 -- of all of them
-pub tidy_all_below : (vars : List (List ℕ)) (body : List Inst) → IsTidy vars body → All (λ inst. AllBelow (length vars) (inst_vars inst)) body
-tidy_all_below vars body tidy place d within = tidy_below vars body place (slice_index_or body place d) tidy (slice_get-get_or body place d within)
+pub tidy_all_below : (shared : ℕ) (vars : List (List ℕ)) (body : List Inst) → IsTidy shared vars body → All (λ inst. AllBelow (length vars) (inst_vars inst)) body
+tidy_all_below shared vars body tidy place d within = tidy_below shared vars body place (slice_index_or body place d) tidy (slice_get-get_or body place d within)

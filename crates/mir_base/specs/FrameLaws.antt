@@ -2,15 +2,16 @@
 -- For proofs only.
 use Rattle.std.proofs.Common.{ℕ, zero, suc, true, false, if◌then◌else◌, nat_eq, List, [], ◌∷◌, map, ℤ, pos, Option, Some, None, slice_index_or, arith, FitsSigned, w64}
 use Rattle.std.proofs.lemmas.List.Elements.{All-nil, All-cons}
+use Rattle.std.proofs.lemmas.List.FromFn.{length-map-range_with_len}
 use Rattle.mir_base.specs.declared.instructions.Operand.{Operand}
 use Rattle.mir_base.specs.declared.instructions.Operand.TheVariants.{Var, Const}
 use Rattle.mir_base.specs.declared.instructions.Rhs.{Rhs}
 use Rattle.mir_base.specs.declared.instructions.Rhs.TheVariants.{Plain, Unary, Binary}
-use Rattle.mir_base.specs.Frames.{Values, with_value, CallEntry, Answer, Frame, first_frame, resumed}
+use Rattle.mir_base.specs.Frames.{Values, all_zero, with_value, with_first, shared_vars, shared_values, CallEntry, Answer, Frame, first_frame, with_result, resumed}
 use Rattle.mir_base.specs.Units.{operand_value, at, assigned}
 use Rattle.mir_base.specs.Expressions.{rhs_value}
 use Rattle.mir_base.specs.Runs.{AreNumbers}
-use Rattle.mir_base.specs.UnitRuns.{IsCallAnswer}
+use Rattle.mir_base.specs.UnitRuns.{AreGlobals, IsCallAnswer}
 use Rattle.mir_base.specs.NumberLaws.{zero_fits, wrapped_fits, value_fits, un_value_fits}
 
 -- the value of every variable is a signed 64-bit number
@@ -40,11 +41,24 @@ rhs_fits values (Plain a) fits = operand_fits values a fits
 rhs_fits values (Unary op a) fits = un_value_fits op _
 rhs_fits values (Binary op a b) fits = value_fits op _ _ (operand_fits values a fits) (operand_fits values b fits)
 
+-- of an item, or of what is taken where there is none
+item_fits : (zs : List ℤ) (i : ℕ) (d : ℤ) → AreNumbers zs → FitsSigned w64 d → FitsSigned w64 (slice_index_or zs i d)
+item_fits [] i d fits is = is
+item_fits (z ∷ zs) zero d fits is = fits 0 z (omega arith)
+item_fits (z ∷ zs) (suc i) d fits is = item_fits zs i d (λ k e within. fits (suc k) e (omega arith)) is
+
 -- of an argument, which is 0 where there is none
 pub argument_fits : (arguments : List ℤ) (i : ℕ) → AreNumbers arguments → FitsSigned w64 (slice_index_or arguments i (pos 0))
-argument_fits [] i fits = zero_fits
-argument_fits (z ∷ zs) zero fits = fits 0 z (omega arith)
-argument_fits (z ∷ zs) (suc i) fits = argument_fits zs i (λ k d within. fits (suc k) d (omega arith))
+argument_fits arguments i fits = item_fits arguments i (pos 0) fits zero_fits
+
+-- of a list of variables
+pub vars_fit : (values : Values) (xs : List ℕ) → ValuesFit values → AreNumbers (map values xs)
+vars_fit values [] fits = All-nil (FitsSigned w64)
+vars_fit values (x ∷ xs) fits = All-cons (FitsSigned w64) _ _ (fits.fit x) (vars_fit values xs fits)
+
+-- of the globals, of which there are so many
+pub shared_values_fit : (shared : ℕ) (values : Values) → ValuesFit values → AreGlobals shared (shared_values shared values)
+shared_values_fit shared values fits = record { long = length-map-range_with_len values 0 shared; numbers = vars_fit values (shared_vars shared) fits }
 
 -- ---- frames
 
@@ -52,9 +66,13 @@ argument_fits (z ∷ zs) (suc i) fits = argument_fits zs i (λ k d within. fits 
 pub with_value_fits : (x : ℕ) (v : ℤ) (values : Values) → FitsSigned w64 v → ValuesFit values → ValuesFit (with_value x v values)
 with_value_fits x v values fits all = record { fit = λ y. elim (nat_eq y x) as (λ b. FitsSigned w64 (if b then v else values y)) [ true ↦ fits | false ↦ all.fit y ] }
 
+-- first values in range leave all variables in range
+pub with_first_fits : (firsts : List ℤ) (values : Values) → AreNumbers firsts → ValuesFit values → ValuesFit (with_first firsts values)
+with_first_fits firsts values numbers all = record { fit = λ x. item_fits firsts x (values x) numbers (all.fit x) }
+
 -- the first frame
-pub first_fits : (entry : CallEntry) → AreNumbers entry.arguments → FrameFits (first_frame entry)
-first_fits entry numbers = record { values = record { fit = λ x. zero_fits }; arguments = numbers }
+pub first_fits : (entry : CallEntry) → AreNumbers entry.arguments → AreNumbers entry.globals → FrameFits (first_frame entry)
+first_fits entry numbers globals = record { values = with_first_fits entry.globals all_zero globals (record { fit = λ x. zero_fits }); arguments = numbers }
 
 -- a frame at another place
 pub at_fits : (place : ℕ) (frame : Frame) → FrameFits frame → FrameFits (at place frame)
@@ -65,6 +83,15 @@ pub assigned_fits : (x : ℕ) (v : ℤ) (place : ℕ) (frame : Frame) → FitsSi
 assigned_fits x v place frame number fits = record { values = with_value_fits x v frame.values number fits.values; arguments = fits.arguments }
 
 -- a frame that has got an answer
-pub resumed_fits : (into : Option ℕ) (answer : Answer) (frame : Frame) → IsCallAnswer answer → FrameFits frame → FrameFits (resumed into answer frame)
-resumed_fits None answer frame number fits = fits
-resumed_fits (Some x) answer frame number fits = record { values = with_value_fits x answer.value frame.values number fits.values; arguments = fits.arguments }
+pub resumed_fits : (shared : ℕ) (into : Option ℕ) (answer : Answer) (frame : Frame) → IsCallAnswer shared answer → FrameFits frame → FrameFits (resumed into answer frame)
+resumed_fits shared into answer frame is fits = record {
+  values = by into;
+  arguments = fits.arguments;
+}
+  where
+    globals : ValuesFit (with_first answer.globals frame.values)
+    globals = with_first_fits answer.globals frame.values is.globals.numbers fits.values
+
+    by : (into : Option ℕ) → ValuesFit (with_result into answer.value (with_first answer.globals frame.values))
+    by None = globals
+    by (Some x) = with_value_fits x answer.value _ is.number globals

@@ -24,6 +24,7 @@ pub mod ResponseLaws
 pub mod LockstepLaws
 pub mod UnitLaws
 pub mod EqualValues
+pub mod SharedLaws
 pub mod RunLaws
 pub mod BelowLaws
 pub mod DecimalLaws

@@ -9,13 +9,17 @@ most_bytes = 1048576
 abbrev pub most_name_bytes : ℕ
 most_name_bytes = 64
 
+-- the most globals of a program
+abbrev pub most_globals : ℕ
+most_globals = 64
+
 -- the most units of a program
 abbrev pub most_units : ℕ
 most_units = 256
 
 -- the most instructions of a unit
 abbrev pub most_insts : ℕ
-most_insts = 4096
+most_insts = 16384
 
 -- the most receives of a unit
 abbrev pub most_receives : ℕ

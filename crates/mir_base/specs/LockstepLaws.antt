@@ -3,7 +3,7 @@
 use Rattle.std.proofs.Common.{◌≡◌, ℕ, ◌≤◌, refl, subst, le_refl}
 use Rattle.mir_base.specs.Frames.{Frame, Transition, Continues, Prints, Calls, Returns, Traps}
 use Rattle.mir_base.specs.UnitRuns.{Machine, UnitSame, UnitCheaper}
-use Rattle.mir_base.specs.Simulations.{Simulates}
+use Rattle.mir_base.specs.Simulations.{HandsOver, Simulates}
 use Rattle.mir_base.specs.SimulationLaws.{simulated_same, simulated_cheaper}
 use Rattle.mir_base.specs.Locksteps.{Alike, Lockstep}
 use Rattle.mir_base.specs.ResponseLaws.{alike_responds}
@@ -17,6 +17,8 @@ record Stepping (S : Frame → Frame → Type 0) (z x y : ℕ) (f g : Frame) : T
 lockstep_simulates : (first second : Machine) (S : Frame → Frame → Type 0) → Lockstep first second S → Simulates first second (Unit {0}) (Stepping S)
 lockstep_simulates first second S l = record {
   receives = l.receives;
+  shared = l.shared;
+  hands = l.hands;
   starts = λ entry is. (0, record { related = l.starts entry is; counted = le_refl 0 });
   responds = λ z x y f g r. alike_responds (Unit {0}) (Stepping S) S second.code (λ x' y' f' g' le s. (0, record { related = s; counted = le })) z x y g (first.code f) (second.code g) r.counted refl (l.steps f g r.related);
 }
@@ -40,13 +42,15 @@ alike_itself (Returns answer) = refl
 alike_itself (Traps kind n) = refl
 
 -- a machine compared with itself, all frames being equal
-with_itself : (a : Machine) → Lockstep a a (λ f g. f ≡ g)
-with_itself a = record {
+with_itself : (a : Machine) → ((f : Frame) → HandsOver a.shared (a.code f)) → Lockstep a a (λ f g. f ≡ g)
+with_itself a hands = record {
   receives = refl;
+  shared = refl;
+  hands = hands;
   starts = λ entry is. refl;
   steps = λ f g same. subst (λ h. Alike (λ f' g'. f' ≡ g') (a.code f) (a.code h)) same (alike_itself (a.code f));
 }
 
 -- all runs of a machine that return count the same
-pub cheaper_refl : (a : Machine) → UnitCheaper a a
-cheaper_refl a = lockstep_cheaper a a (λ f g. f ≡ g) (with_itself a)
+pub cheaper_refl : (a : Machine) → ((f : Frame) → HandsOver a.shared (a.code f)) → UnitCheaper a a
+cheaper_refl a hands = lockstep_cheaper a a (λ f g. f ≡ g) (with_itself a hands)

@@ -1,9 +1,9 @@
 -- Runs of a program as a stack of frames, when two programs are the same, and when one evaluates no more operators than
 -- the other. Cited by contracts.
-use Rattle.std.specs.Prelude.{◌≡◌, ℕ, zero, suc, ◌+◌, ◌≤◌, max, List, [], ◌∷◌, ◌++◌, length, ℤ, Option, All, FitsSigned}
+use Rattle.std.specs.Prelude.{◌≡◌, ℕ, zero, suc, ◌+◌, ◌≤◌, max, List, [], ◌∷◌, ◌++◌, length, replicate, ℤ, pos, Option, All, FitsSigned}
 use Rattle.mir_base.specs.declared.operators.Trap.{Trap}
 use Rattle.mir_base.specs.Shapes.{ProgramShape, body_at, receives_in}
-use Rattle.mir_base.specs.Frames.{Answer, Frame, first_frame, resumed, Transition, Continues, Prints, Calls, Returns, Traps, Code}
+use Rattle.mir_base.specs.Frames.{CallEntry, Answer, Frame, first_frame, resumed, Transition, Continues, Prints, Calls, Returns, Traps, Code}
 use Rattle.mir_base.specs.Units.{body_code}
 use mir.Syntax.{w64}
 
@@ -37,9 +37,14 @@ pub record State : Type 0 where
   pub counted : ℕ
   pub depth : ℕ
 
--- a frame of the first unit, whose arguments are the inputs, and nothing printed or counted
-abbrev pub first_state : List ℤ → State
-first_state inputs = record { printed = []; control = Running 0 (first_frame (record { arguments = inputs })) []; counted = 0; depth = 1 }
+-- what a run begins with: the inputs as arguments, and each of so many globals 0
+abbrev pub first_entry : ℕ → List ℤ → CallEntry
+first_entry shared inputs = record { arguments = inputs; globals = replicate shared (pos 0) }
+
+-- a frame of the first unit, with so many globals, and nothing printed or counted
+abbrev pub first_state : ℕ → List ℤ → State
+first_state shared inputs =
+    record { printed = []; control = Running 0 (first_frame (first_entry shared inputs)) []; counted = 0; depth = 1 }
 
 -- ---- steps
 
@@ -50,15 +55,18 @@ returned answer (caller ∷ callers) = Running caller.unit (resumed caller.into 
 
 -- the state after a transition of the running frame
 abbrev pub state_after : ℕ → List Caller → Transition → State → State
-state_after unit callers (Continues counted next) state = record state { control = Running unit next callers; counted = state.counted + counted }
-state_after unit callers (Prints v next) state = record state { control = Running unit next callers; printed = state.printed ++ v ∷ [] }
+state_after unit callers (Continues counted next) state =
+    record state { control = Running unit next callers; counted = state.counted + counted }
+state_after unit callers (Prints v next) state =
+    record state { control = Running unit next callers; printed = state.printed ++ v ∷ [] }
 state_after unit callers (Calls called entry into next) state =
     record state {
       control = Running called (first_frame entry) (record { unit = unit; into = into; frame = next } ∷ callers);
       depth = max state.depth (suc (suc (length callers)));
     }
 state_after unit callers (Returns answer) state = record state { control = returned answer callers }
-state_after unit callers (Traps kind counted) state = record state { control = Stopped kind; counted = state.counted + counted }
+state_after unit callers (Traps kind counted) state =
+    record state { control = Stopped kind; counted = state.counted + counted }
 
 -- one step, where unit number u does `codes u`; a run that is over stays as it is
 abbrev pub step_at : (ℕ → Code) → Control → State → State
@@ -79,7 +87,7 @@ steps codes (suc n) state = steps codes n (step codes state)
 
 -- what each unit does, by number
 abbrev pub codes_of : ProgramShape → ℕ → Code
-codes_of program number = body_code (body_at program.units number)
+codes_of program number = body_code (length program.globals) (body_at program.units number)
 
 -- as many inputs as the first unit has receives
 abbrev pub inputs_of : ProgramShape → ℕ
@@ -87,7 +95,7 @@ inputs_of program = receives_in (body_at program.units 0)
 
 -- the state after n steps, or at the end if that comes first
 abbrev pub run : ProgramShape → List ℤ → ℕ → State
-run program inputs n = steps (codes_of program) n (first_state inputs)
+run program inputs n = steps (codes_of program) n (first_state (length program.globals) inputs)
 
 -- ---- sameness
 
@@ -104,7 +112,8 @@ pub record IsMatched (first second : State) : Type 0 where
 
 -- for all inputs and every number of steps of the first, some number of steps of the second matches
 pub record Follows (first second : ProgramShape) : Type 0 where
-  pub follows : (inputs : List ℤ) → length inputs ≡ inputs_of first → AreNumbers inputs → (n : ℕ) → (m : ℕ) × IsMatched (run first inputs n) (run second inputs m)
+  pub follows : (inputs : List ℤ) → length inputs ≡ inputs_of first → AreNumbers inputs → (n : ℕ) → (m : ℕ)
+      × IsMatched (run first inputs n) (run second inputs m)
 
 -- the two take equally many inputs, and on all of them print the same, end the same, raise the same trap or run on
 -- alike
@@ -115,4 +124,6 @@ pub record Same (first second : ProgramShape) : Type 0 where
 
 -- on all inputs on which both end, the second has counted at most as many evaluations as the first
 pub record Cheaper (first second : ProgramShape) : Type 0 where
-  pub cheaper : (inputs : List ℤ) → length inputs ≡ inputs_of first → AreNumbers inputs → (n m : ℕ) (v w : ℤ) → (run first inputs n).control ≡ Ended v → (run second inputs m).control ≡ Ended w → (run second inputs m).counted ≤ (run first inputs n).counted
+  pub cheaper : (inputs : List ℤ) → length inputs ≡ inputs_of first → AreNumbers inputs → (n m : ℕ) (v w : ℤ)
+      → (run first inputs n).control ≡ Ended v → (run second inputs m).control ≡ Ended w
+      → (run second inputs m).counted ≤ (run first inputs n).counted

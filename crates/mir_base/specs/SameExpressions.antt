@@ -125,7 +125,8 @@ operand_itself (Const c) = (Decides-int_eq c c).1 refl
 pub expr_is : (e e' : Expr) → same_expr e e' ≡ true → e ≡ e'
 expr_is (Un op a) (Un op' a') is =
     let parts = and_parts (nat_eq (un_op_number op) (un_op_number op')) (same_operand a a') is in
-    ap (λ o. Un o a) (same_un_op op op' (eqb-true (un_op_number op) (un_op_number op') parts.0)) ∙ ap (Un op') (operand_is a a' parts.1)
+    ap (λ o. Un o a) (same_un_op op op' (eqb-true (un_op_number op) (un_op_number op') parts.0)) ∙ ap (Un op')
+    (operand_is a a' parts.1)
 expr_is (Un op a) (Bin op' a' b') is = absurd (false≢true is)
 expr_is (Bin op a b) (Un op' a') is = absurd (false≢true is)
 expr_is (Bin op a b) (Bin op' a' b') is =
@@ -137,15 +138,19 @@ expr_is (Bin op a b) (Bin op' a' b') is =
 
 -- each expression passes it with itself
 pub expr_itself : (e : Expr) → same_expr e e ≡ true
-expr_itself (Un op a) = and_from (nat_eq (un_op_number op) (un_op_number op)) (same_operand a a) (eq-eqb (un_op_number op) (un_op_number op) refl) (operand_itself a)
+expr_itself (Un op a) =
+    and_from (nat_eq (un_op_number op) (un_op_number op)) (same_operand a a)
+    (eq-eqb (un_op_number op) (un_op_number op) refl) (operand_itself a)
 expr_itself (Bin op a b) =
     and_from (nat_eq (op_number op) (op_number op) && same_operand a a) (same_operand b b)
-    (and_from (nat_eq (op_number op) (op_number op)) (same_operand a a) (eq-eqb (op_number op) (op_number op) refl) (operand_itself a))
+    (and_from (nat_eq (op_number op) (op_number op)) (same_operand a a) (eq-eqb (op_number op) (op_number op) refl)
+    (operand_itself a))
     (operand_itself b)
 
 -- different ones fail it
 pub expr_differs : (e e' : Expr) → (e ≡ e' → ⊥) → same_expr e e' ≡ false
-expr_differs e e' ne = elim (cases_Bool (same_expr e e')) [ inl is ↦ absurd (ne (expr_is e e' is)) | inr differ ↦ differ ]
+expr_differs e e' ne =
+    elim (cases_Bool (same_expr e e')) [ inl is ↦ absurd (ne (expr_is e e' is)) | inr differ ↦ differ ]
 
 -- ---- right sides
 
@@ -164,5 +169,7 @@ rhs_is e (Binary op a b) is = ap rhs_of (sym (expr_is e (Bin op a b) is))
 pub is_written : (e : Expr) (rhs : Option Rhs) → (is_expr e rhs ≡ true) ↔ (written_expr rhs ≡ Some e)
 is_written e None = (λ h. cc, λ h. cc)
 is_written e (Some (Plain a)) = (λ h. cc, λ h. cc)
-is_written e (Some (Unary op a)) = (λ h. ap Some (sym (expr_is e (Un op a) h)), λ h. ap (same_expr e) (same_Some (Un op a) e h) ∙ expr_itself e)
-is_written e (Some (Binary op a b)) = (λ h. ap Some (sym (expr_is e (Bin op a b) h)), λ h. ap (same_expr e) (same_Some (Bin op a b) e h) ∙ expr_itself e)
+is_written e (Some (Unary op a)) =
+    (λ h. ap Some (sym (expr_is e (Un op a) h)), λ h. ap (same_expr e) (same_Some (Un op a) e h) ∙ expr_itself e)
+is_written e (Some (Binary op a b)) =
+    (λ h. ap Some (sym (expr_is e (Bin op a b) h)), λ h. ap (same_expr e) (same_Some (Bin op a b) e h) ∙ expr_itself e)

@@ -1,5 +1,5 @@
 -- Units and programs as contracts see them, and what is true of each. Cited by contracts.
-use Rattle.std.specs.Prelude.{◌≡◌, ℕ, suc, ◌<◌, ◌≤◌, if◌then◌else◌, nat_lt, nat_eq, List, [], ◌∷◌, ◌++◌, length, flat_map, slice_get, Option, Some, None}
+use Rattle.std.specs.Prelude.{◌≡◌, ℕ, suc, ◌<◌, ◌≤◌, if◌then◌else◌, nat_lt, nat_eq, List, [], ◌∷◌, ◌++◌, length, take, flat_map, slice_get, Option, Some, None}
 use Rattle.mir_base.specs.declared.instructions.Operand.{Operand}
 use Rattle.mir_base.specs.declared.instructions.Operand.TheVariants.{Var, Const}
 use Rattle.mir_base.specs.declared.instructions.Rhs.{Rhs}
@@ -7,16 +7,19 @@ use Rattle.mir_base.specs.declared.instructions.Rhs.TheVariants.{Plain, Unary, B
 use Rattle.mir_base.specs.declared.instructions.Test.{Test}
 use Rattle.mir_base.specs.declared.instructions.Test.TheVariants.{Rel, Holds, Fails}
 use Rattle.mir_base.specs.declared.instructions.Inst.{Inst}
-use Rattle.mir_base.specs.declared.instructions.Inst.TheVariants.{Receive, Assign, Goto, If, Call, Print, Return}
+use Rattle.mir_base.specs.declared.instructions.Inst.TheVariants.{Receive, Assign, Goto, If, TrapIf, Call, Print, Return}
 
--- a unit: its name, the names of its variables by number, and its instructions by place
+-- a unit: its name, how many of its variables are globals, the names of its variables by number, the globals first, and
+-- its instructions by place
 pub record UnitShape : Type 0 where
   pub name : List ℕ
+  pub shared : ℕ
   pub vars : List (List ℕ)
   pub body : List Inst
 
--- a program: its units by number, of which a run begins with the first
+-- a program: the names of its globals, and its units by number, of which a run begins with the first
 pub record ProgramShape : Type 0 where
+  pub globals : List (List ℕ)
   pub units : List UnitShape
 
 -- ---- tidy units
@@ -49,6 +52,7 @@ inst_vars (Receive x) = x ∷ []
 inst_vars (Assign x rhs) = x ∷ rhs_vars rhs
 inst_vars (Goto place) = []
 inst_vars (If test place) = test_vars test
+inst_vars (TrapIf test number) = test_vars test
 inst_vars (Call into unit operands) = into_vars into ++ flat_map operand_vars operands
 inst_vars (Print a) = operand_vars a
 inst_vars (Return a) = operand_vars a
@@ -61,15 +65,17 @@ AllBelow m (x ∷ xs) = (x < m) × AllBelow m xs
 -- each variable that is new after the first n is number n; how many there are in the end
 abbrev pub numbered_from : ℕ → List ℕ → Option ℕ
 numbered_from n [] = Some n
-numbered_from n (x ∷ xs) = if nat_lt x n then numbered_from n xs else (if nat_eq x n then numbered_from (suc n) xs else None)
+numbered_from n (x ∷ xs) =
+    if nat_lt x n then numbered_from n xs else (if nat_eq x n then numbered_from (suc n) xs else None)
 
 -- no item stands at two places
 abbrev pub AllDiffer : {A : Type 0} → List A → Type 0
 AllDiffer xs = (i j : ℕ) → i < length xs → j < length xs → slice_get xs i ≡ slice_get xs j → i ≡ j
 
--- the variables are those that occur in the body, numbered in the order in which they first occur, with distinct names
-pub record IsTidy (vars : List (List ℕ)) (body : List Inst) : Type 0 where
-  pub numbered : numbered_from 0 (flat_map inst_vars body) ≡ Some (length vars)
+-- the variables are the globals, which come first, and the others that occur in the body, numbered in the order in
+-- which they first occur; all have distinct names
+pub record IsTidy (shared : ℕ) (vars : List (List ℕ)) (body : List Inst) : Type 0 where
+  pub numbered : numbered_from shared (flat_map inst_vars body) ≡ Some (length vars)
   pub differ : AllDiffer vars
 
 -- ---- programs
@@ -104,7 +110,9 @@ InstFits units body place (Receive x) = place < receives_in body
 InstFits units body place (Assign x rhs) = Unit {0}
 InstFits units body place (Goto target) = IsTarget body target
 InstFits units body place (If test target) = IsTarget body target
-InstFits units body place (Call into called operands) = (called < length units) × (length operands ≡ receives_in (body_at units called))
+InstFits units body place (TrapIf test number) = Unit {0}
+InstFits units body place (Call into called operands) = (called < length units)
+    × (length operands ≡ receives_in (body_at units called))
 InstFits units body place (Print a) = Unit {0}
 InstFits units body place (Return a) = Unit {0}
 
@@ -113,8 +121,16 @@ pub record BodyFits (units : List UnitShape) (body : List Inst) : Type 0 where
   pub insts : (place : ℕ) (inst : Inst) → slice_get body place ≡ Some inst → InstFits units body place inst
   pub received : (i j x : ℕ) → slice_get body i ≡ Some (Receive x) → slice_get body j ≡ Some (Receive x) → i ≡ j
 
--- there is a unit, the names of the units are distinct, and each body fits
-pub record IsProgram (units : List UnitShape) : Type 0 where
+-- the first variables of a unit are these globals, and no receive sets one of them
+pub record SharesGlobals (globals : List (List ℕ)) (unit : UnitShape) : Type 0 where
+  pub count : unit.shared ≡ length globals
+  pub begin : take (length globals) unit.vars ≡ globals
+  pub own : (place x : ℕ) → slice_get unit.body place ≡ Some (Receive x) → length globals ≤ x
+
+-- there is a unit, the names of the units are distinct, each body fits, and each unit has the globals. Their names are
+-- distinct, since those of a unit's variables are
+pub record IsProgram (globals : List (List ℕ)) (units : List UnitShape) : Type 0 where
   pub some_unit : 0 < length units
   pub names : AllDiffer (names_of units)
   pub bodies : (u : ℕ) (unit : UnitShape) → slice_get units u ≡ Some unit → BodyFits units unit.body
+  pub shares : (u : ℕ) (unit : UnitShape) → slice_get units u ≡ Some unit → SharesGlobals globals unit

@@ -1,7 +1,7 @@
 -- The rule by which a rewriting is shown to keep what a unit or a graph does: one relation between the frames of the
 -- two sides, which holds at the start, and which the second side keeps up at each transition of the first. For
 -- proofs only, of the crates above too.
-use Rattle.std.specs.Prelude.{◌≡◌, ℕ, zero, suc, ◌+◌, ◌≤◌, ◌<◌, ◌⊎◌, ℤ, Option}
+use Rattle.std.specs.Prelude.{◌≡◌, ℕ, zero, suc, ◌+◌, ◌≤◌, ◌<◌, ◌⊎◌, length, ℤ, Option}
 use Rattle.mir_base.specs.declared.operators.Trap.{Trap}
 use Rattle.mir_base.specs.Frames.{CallEntry, Answer, Frame, first_frame, resumed, Transition, Continues, Prints, Calls, Returns, Traps, Code}
 use Rattle.mir_base.specs.UnitRuns.{Machine, IsEntry, IsCallAnswer}
@@ -39,7 +39,7 @@ pub record AfterPrinting (R : Relation) (second : Code) (x y : ℕ) (g : Frame) 
   pub related : R measure x (y + cost) next second_next
 
 -- Where the first side calls, the second makes the same call after some silent steps, and the two are related again
--- with each answer, at a measure that may depend on it
+-- with each answer that hands back as many globals as were handed over, at a measure that may depend on it
 pub record AfterCalling (R : Relation) (second : Code) (x y : ℕ) (g : Frame) (unit : ℕ) (entry : CallEntry) (into : Option ℕ) (next : Frame) : Type 0 where
   pub steps : ℕ
   pub cost : ℕ
@@ -48,7 +48,7 @@ pub record AfterCalling (R : Relation) (second : Code) (x y : ℕ) (g : Frame) (
   pub second_into : Option ℕ
   pub second_next : Frame
   pub is : second there ≡ Calls unit entry second_into second_next
-  pub related : (answer : Answer) → IsCallAnswer answer → (measure : ℕ) × R measure x (y + cost) (resumed into answer next) (resumed second_into answer second_next)
+  pub related : (answer : Answer) → IsCallAnswer (length entry.globals) answer → (measure : ℕ) × R measure x (y + cost) (resumed into answer next) (resumed second_into answer second_next)
 
 -- Where the first side returns, the second returns the same after some silent steps, and under P it has evaluated no
 -- more operators
@@ -78,10 +78,21 @@ Responds P R second z x y g (Calls unit entry into next) = AfterCalling R second
 Responds P R second z x y g (Returns answer) = AfterReturning P second x y g answer
 Responds P R second z x y g (Traps kind n) = AfterTrapping second g kind
 
--- The rule: R holds at the start, with nothing counted, and the second machine responds to each transition of the
--- first. It shows that the two do the same (`simulated_same`), for any P, and that the second evaluates no more
--- operators where P holds (`simulated_cheaper`). A rewriting that is always cheaper takes `Unit {0}` for P
+-- a call hands over the values of so many globals
+abbrev pub HandsOver : ℕ → Transition → Type 0
+HandsOver shared (Continues n next) = Unit {0}
+HandsOver shared (Prints value next) = Unit {0}
+HandsOver shared (Calls unit entry into next) = length entry.globals ≡ shared
+HandsOver shared (Returns answer) = Unit {0}
+HandsOver shared (Traps kind n) = Unit {0}
+
+-- The rule: R holds at the start, with nothing counted, the calls of the first hand over its globals, and the second
+-- machine responds to each transition of the first. It shows that the two do the same (`simulated_same`), for any P,
+-- and that the second evaluates no more operators where P holds (`simulated_cheaper`). A rewriting that is always
+-- cheaper takes `Unit {0}` for P
 pub record Simulates (first second : Machine) (P : Type 0) (R : Relation) : Type 0 where
   pub receives : first.receives ≡ second.receives
+  pub shared : first.shared ≡ second.shared
+  pub hands : (f : Frame) → HandsOver first.shared (first.code f)
   pub starts : (entry : CallEntry) → IsEntry first entry → (measure : ℕ) × R measure 0 0 (first_frame entry) (first_frame entry)
   pub responds : (z x y : ℕ) (f g : Frame) → R z x y f g → Responds P R second.code z x y g (first.code f)

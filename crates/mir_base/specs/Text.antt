@@ -1,5 +1,5 @@
--- The canonical text of a program: for each unit `NAME: begin`, a line for each instruction, and `end`. Cited by
--- contracts.
+-- The canonical text of a program: for each global `global NAME`, and for each unit `NAME: begin`, a line for each
+-- instruction, and `end`. Cited by contracts.
 use Rattle.std.specs.Prelude.{ℕ, zero, suc, ◌+◌, Bool, false, if◌then◌else◌, List, [], ◌∷◌, ◌++◌, map, codes, decimal, length, nat_eq, slice_index_or, Option, Some, None}
 use Rattle.std.specs.List.{flat_map, list_any, join_with_byte}
 use Rattle.std.specs.Fmt.{signed_decimal}
@@ -11,7 +11,7 @@ use Rattle.mir_base.specs.declared.instructions.Rhs.TheVariants.{Plain, Unary, B
 use Rattle.mir_base.specs.declared.instructions.Test.{Test}
 use Rattle.mir_base.specs.declared.instructions.Test.TheVariants.{Rel, Holds, Fails}
 use Rattle.mir_base.specs.declared.instructions.Inst.{Inst}
-use Rattle.mir_base.specs.declared.instructions.Inst.TheVariants.{Receive, Assign, Goto, If, Call, Print, Return}
+use Rattle.mir_base.specs.declared.instructions.Inst.TheVariants.{Receive, Assign, Goto, If, TrapIf, Call, Print, Return}
 use Rattle.mir_base.specs.Shapes.{UnitShape, ProgramShape}
 
 -- ---- labels
@@ -22,6 +22,7 @@ jumps_to place (Receive x) = false
 jumps_to place (Assign x rhs) = false
 jumps_to place (Goto target) = nat_eq target place
 jumps_to place (If test target) = nat_eq target place
+jumps_to place (TrapIf test number) = false
 jumps_to place (Call into unit operands) = false
 jumps_to place (Print a) = false
 jumps_to place (Return a) = false
@@ -91,6 +92,7 @@ inst_text naming (Receive x) = codes "receive " ++ var_text naming x ++ codes "(
 inst_text naming (Assign x rhs) = var_text naming x ++ codes " <- " ++ rhs_text naming rhs
 inst_text naming (Goto place) = codes "goto " ++ label naming.body place
 inst_text naming (If test place) = codes "if " ++ test_text naming test ++ codes " goto " ++ label naming.body place
+inst_text naming (TrapIf test number) = codes "if " ++ test_text naming test ++ codes " trap " ++ decimal number
 inst_text naming (Call into unit operands) = call_text naming into unit operands
 inst_text naming (Print a) = codes "print " ++ operand_text naming a
 inst_text naming (Return a) = codes "return " ++ operand_text naming a
@@ -108,6 +110,11 @@ unit_text units unit =
     let naming : Naming = record { units = units; vars = unit.vars; body = unit.body } in
     unit.name ++ codes ": begin\n" ++ lines_text naming 0 unit.body ++ label_before unit.body (length unit.body) ++ codes "end\n"
 
--- the units, one after the other
+-- `global g`
+abbrev pub global_text : List ℕ → List ℕ
+global_text name = codes "global " ++ name ++ codes "\n"
+
+-- a line for each global, and the units, one after the other
 abbrev pub canonical_text : ProgramShape → List ℕ
-canonical_text program = flat_map (unit_text (map (λ unit. unit.name) program.units)) program.units
+canonical_text program =
+    flat_map global_text program.globals ++ flat_map (unit_text (map (λ unit. unit.name) program.units)) program.units

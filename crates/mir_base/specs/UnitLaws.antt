@@ -1,7 +1,7 @@
 -- Sameness of units is an equivalence, and units that are the same and cheaper can be chained. For proofs only.
-use Rattle.std.proofs.Common.{◌≡◌, ℕ, zero, suc, List, [], ◌∷◌, ◌++◌, refl, sym, ap, ◌∙◌, subst, arith, append-nil, append_assoc}
+use Rattle.std.proofs.Common.{◌≡◌, ℕ, zero, suc, ℤ, List, [], ◌∷◌, ◌++◌, refl, sym, ap, ◌∙◌, subst, arith, append-nil, append_assoc}
 use Rattle.mir_base.specs.Frames.{CallEntry, Answer, Frame, first_frame, resumed, Transition, Continues, Prints, Calls, Returns, Traps, Code}
-use Rattle.mir_base.specs.UnitRuns.{Event, Printed, Called, Shown, after_transition, frame_run, EndsInReturn, Machine, unit_run, IsEntry, AreAnswers, UnitFollows, UnitSame, UnitCheaper}
+use Rattle.mir_base.specs.UnitRuns.{Event, Printed, Called, Shown, after_transition, frame_run, EndsInReturn, Machine, unit_run, AreGlobals, IsEntry, AreAnswers, UnitFollows, UnitSame, UnitCheaper}
 use Rattle.mir_base.specs.SilentLaws.{prefix_trans}
 
 -- ---- UnitSame
@@ -12,19 +12,23 @@ follows_refl a = record { follows = λ entry answers is are n. (n, ([], sym (app
 
 -- each machine does the same as itself
 pub same_refl : (a : Machine) → UnitSame a a
-same_refl a = record { receives = refl; forth = follows_refl a; back = follows_refl a }
+same_refl a = record { receives = refl; shared = refl; forth = follows_refl a; back = follows_refl a }
 
--- who receives as many arguments is entered with the same ones
-entered : (a b : Machine) → a.receives ≡ b.receives → (entry : CallEntry) → IsEntry a entry → IsEntry b entry
-entered a b same entry is = record { long = is.long ∙ same; numbers = is.numbers }
+-- the same values may be those of as many globals
+globals_of_as_many : (n m : ℕ) → n ≡ m → (globals : List ℤ) → AreGlobals n globals → AreGlobals m globals
+globals_of_as_many n m same globals are = record { long = are.long ∙ same; numbers = are.numbers }
+
+-- who receives as many arguments, and has as many globals, is entered with the same ones
+pub entered : (a b : Machine) → a.receives ≡ b.receives → a.shared ≡ b.shared → (entry : CallEntry) → IsEntry a entry → IsEntry b entry
+entered a b receives shared entry is = record { long = is.long ∙ receives; numbers = is.numbers; globals = globals_of_as_many a.shared b.shared shared entry.globals is.globals }
 
 -- two comparisons, one after the other
-follows_trans : (a b c : Machine) → a.receives ≡ b.receives → UnitFollows a b → UnitFollows b c → UnitFollows a c
-follows_trans a b c same s t =
+follows_trans : (a b c : Machine) → a.receives ≡ b.receives → a.shared ≡ b.shared → UnitFollows a b → UnitFollows b c → UnitFollows a c
+follows_trans a b c receives shared s t =
     record {
       follows = λ entry answers is are n.
           let p = s.follows entry answers is are n in
-          let q = t.follows entry answers (entered a b same entry is) are p.0 in
+          let q = t.follows entry answers (entered a b receives shared entry is) (subst (λ n. AreAnswers n answers) shared are) p.0 in
           (q.0, prefix_trans (unit_run a entry answers n).events (unit_run b entry answers p.0).events (unit_run c entry answers q.0).events p.1 q.1);
     }
 
@@ -32,8 +36,9 @@ follows_trans a b c same s t =
 pub same_trans : (a b c : Machine) → UnitSame a b → UnitSame b c → UnitSame a c
 same_trans a b c s t = record {
   receives = s.receives ∙ t.receives;
-  forth = follows_trans a b c s.receives s.forth t.forth;
-  back = follows_trans c b a (sym t.receives) t.back s.back;
+  shared = s.shared ∙ t.shared;
+  forth = follows_trans a b c s.receives s.shared s.forth t.forth;
+  back = follows_trans c b a (sym t.receives) (sym t.shared) t.back s.back;
 }
 
 -- ---- after a return nothing is shown
@@ -77,11 +82,11 @@ front_none (x ∷ xs) ys e = cc
 
 -- of two machines that do the same, the second returns where the first does: what it shows more, the first would show
 -- after its return
-ends_too : (a b : Machine) → UnitSame a b → (entry : CallEntry) (answers : List Answer) → IsEntry a entry → AreAnswers answers → (n : ℕ) → EndsInReturn (unit_run a entry answers n).events → (m : ℕ) × EndsInReturn (unit_run b entry answers m).events
+ends_too : (a b : Machine) → UnitSame a b → (entry : CallEntry) (answers : List Answer) → IsEntry a entry → AreAnswers a.shared answers → (n : ℕ) → EndsInReturn (unit_run a entry answers n).events → (m : ℕ) × EndsInReturn (unit_run b entry answers m).events
 ends_too a b same entry answers is are n ends =
     let shown : List Event = (unit_run a entry answers n).events in
     let p = same.forth.follows entry answers is are n in
-    let q = same.back.follows entry answers (entered a b same.receives entry is) are p.0 in
+    let q = same.back.follows entry answers (entered a b same.receives same.shared entry is) (subst (λ k. AreAnswers k answers) same.shared are) p.0 in
     let e : (unit_run a entry answers q.0).events ≡ shown ++ (p.1.0 ++ q.1.0) = q.1.1 ∙ ap (λ l. l ++ q.1.0) p.1.1 ∙ append_assoc shown p.1.0 q.1.0 in
     let none : p.1.0 ++ q.1.0 ≡ [] = return_last a.code q.0 (first_frame entry) answers shown (p.1.0 ++ q.1.0) e ends in
     let no_more : p.1.0 ≡ [] = front_none p.1.0 q.1.0 none in
@@ -95,5 +100,5 @@ cheaper_trans a b c same s t =
     record {
       cheaper = λ entry answers is are n m ends ends'.
           let p = ends_too a b same entry answers is are n ends in
-          omega (arith, s.cheaper entry answers is are n p.0 ends p.1, t.cheaper entry answers (entered a b same.receives entry is) are p.0 m p.1 ends');
+          omega (arith, s.cheaper entry answers is are n p.0 ends p.1, t.cheaper entry answers (entered a b same.receives same.shared entry is) (subst (λ k. AreAnswers k answers) same.shared are) p.0 m p.1 ends');
     }

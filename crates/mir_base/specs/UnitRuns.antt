@@ -41,7 +41,8 @@ abbrev pub after_transition : (Frame → List Answer → Shown) → Transition �
 after_transition go (Continues counted next) answers = counting counted (go next answers)
 after_transition go (Prints value next) answers = showing (Printed value) (go next answers)
 after_transition go (Calls unit entry into next) [] = showing (Called unit entry) nothing
-after_transition go (Calls unit entry into next) (answer ∷ answers) = showing (Called unit entry) (go (resumed into answer next) answers)
+after_transition go (Calls unit entry into next) (answer ∷ answers) =
+    showing (Called unit entry) (go (resumed into answer next) answers)
 after_transition go (Returns answer) answers = showing (Returned answer) nothing
 after_transition go (Traps kind counted) answers = counting counted (showing (Trapped kind) nothing)
 
@@ -61,53 +62,68 @@ EndsInReturn (Returned answer ∷ event ∷ events) = EndsInReturn (event ∷ ev
 
 -- ---- machines
 
--- a unit or a graph, as far as its runs go: how many arguments it takes, and what it does at each frame
+-- a unit or a graph, as far as its runs go: how many arguments it takes, how many of its variables are globals, and
+-- what it does at each frame
 pub record Machine : Type 0 where
   pub receives : ℕ
+  pub shared : ℕ
   pub code : Code
 
--- the machine of a body
-abbrev pub body_machine : List Inst → Machine
-body_machine body = record { receives = receives_in body; code = body_code body }
+-- the machine of a body, where the first so many variables are shared
+abbrev pub body_machine : ℕ → List Inst → Machine
+body_machine shared body = record { receives = receives_in body; shared = shared; code = body_code shared body }
 
 -- the machine of a unit's body
 abbrev pub unit_machine : UnitShape → Machine
-unit_machine unit = body_machine unit.body
+unit_machine unit = body_machine unit.shared unit.body
 
--- the unit of this number
+-- the unit of this number, with the globals of the program
 abbrev pub machine_at : ProgramShape → ℕ → Machine
-machine_at program number = body_machine (body_at program.units number)
+machine_at program number = body_machine (length program.globals) (body_at program.units number)
 
 -- n steps from the machine's first frame
 abbrev pub unit_run : Machine → CallEntry → List Answer → ℕ → Shown
 unit_run machine entry answers n = frame_run machine.code n (first_frame entry) answers
 
--- a call of this machine may hand this over: signed 64-bit numbers, as many as it receives
+-- the values of so many globals: signed 64-bit numbers
+pub record AreGlobals (shared : ℕ) (globals : List ℤ) : Type 0 where
+  pub long : length globals ≡ shared
+  pub numbers : AreNumbers globals
+
+-- a call of this machine may hand this over: signed 64-bit numbers, as many as it receives, and the globals
 pub record IsEntry (machine : Machine) (entry : CallEntry) : Type 0 where
   pub long : length entry.arguments ≡ machine.receives
   pub numbers : AreNumbers entry.arguments
+  pub globals : AreGlobals machine.shared entry.globals
 
--- a call may be answered so: by a signed 64-bit number
-abbrev pub IsCallAnswer : Answer → Type 0
-IsCallAnswer answer = FitsSigned w64 answer.value
+-- a call may be answered so: by a signed 64-bit number, and by so many globals
+pub record IsCallAnswer (shared : ℕ) (answer : Answer) : Type 0 where
+  pub number : FitsSigned w64 answer.value
+  pub globals : AreGlobals shared answer.globals
 
 -- each of these may answer a call
-abbrev pub AreAnswers : List Answer → Type 0
-AreAnswers answers = All IsCallAnswer answers
+abbrev pub AreAnswers : ℕ → List Answer → Type 0
+AreAnswers shared answers = All (IsCallAnswer shared) answers
 
 -- ---- sameness
 
--- for all arguments and answers, the events of the first after any number of steps are a prefix of the events of the
--- second after some number of steps
+-- for all arguments, first values of the globals and answers, the events of the first after any number of steps are a
+-- prefix of the events of the second after some number of steps
 pub record UnitFollows (first second : Machine) : Type 0 where
-  pub follows : (entry : CallEntry) (answers : List Answer) → IsEntry first entry → AreAnswers answers → (n : ℕ) → (m : ℕ) × IsPrefix (unit_run first entry answers n).events (unit_run second entry answers m).events
+  pub follows : (entry : CallEntry) (answers : List Answer) → IsEntry first entry → AreAnswers first.shared answers
+      → (n : ℕ) → (m : ℕ) × IsPrefix (unit_run first entry answers n).events (unit_run second entry answers m).events
 
--- the two take equally many arguments, and on all of them, with all answers to their calls, show the same events
+-- the two take equally many arguments and have equally many globals, and on all of them, with all answers to their
+-- calls, show the same events
 pub record UnitSame (first second : Machine) : Type 0 where
   pub receives : first.receives ≡ second.receives
+  pub shared : first.shared ≡ second.shared
   pub forth : UnitFollows first second
   pub back : UnitFollows second first
 
 -- where both return, the second has counted at most as many evaluations as the first
 pub record UnitCheaper (first second : Machine) : Type 0 where
-  pub cheaper : (entry : CallEntry) (answers : List Answer) → IsEntry first entry → AreAnswers answers → (n m : ℕ) → EndsInReturn (unit_run first entry answers n).events → EndsInReturn (unit_run second entry answers m).events → (unit_run second entry answers m).counted ≤ (unit_run first entry answers n).counted
+  pub cheaper : (entry : CallEntry) (answers : List Answer) → IsEntry first entry → AreAnswers first.shared answers
+      → (n m : ℕ) → EndsInReturn (unit_run first entry answers n).events
+      → EndsInReturn (unit_run second entry answers m).events
+      → (unit_run second entry answers m).counted ≤ (unit_run first entry answers n).counted

@@ -8,18 +8,18 @@ use Rattle.mir_base.specs.declared.instructions.Rhs.{Rhs}
 use Rattle.mir_base.specs.declared.instructions.Rhs.TheVariants.{Plain, Unary, Binary}
 use Rattle.mir_base.specs.declared.instructions.Test.{Test}
 use Rattle.mir_base.specs.declared.instructions.Test.TheVariants.{Rel, Holds, Fails}
-use Rattle.mir_base.specs.declared.operators.Trap.TheVariants.{ZeroDivisor}
+use Rattle.mir_base.specs.declared.operators.Trap.TheVariants.{ZeroDivisor, Raised}
 use Rattle.mir_base.specs.declared.instructions.Inst.{Inst}
-use Rattle.mir_base.specs.declared.instructions.Inst.TheVariants.{Receive, Assign, Goto, If, Call, Print, Return}
+use Rattle.mir_base.specs.declared.instructions.Inst.TheVariants.{Receive, Assign, Goto, If, TrapIf, Call, Print, Return}
 use Rattle.mir_base.specs.Numbers.{wrapped, relation_holds, traps, value_of_op, value_of_un_op}
-use Rattle.mir_base.specs.Frames.{Values, with_value, Frame, Transition, Continues, Prints, Calls, Returns, Traps, Code}
+use Rattle.mir_base.specs.Frames.{Values, with_value, shared_values, Frame, Transition, Continues, Prints, Calls, Returns, Traps, Code}
 
 -- the value of an operand; a constant is read as a signed 64-bit number, which it is in every program
 abbrev pub operand_value : Values → Operand → ℤ
 operand_value values (Var x) = values x
 operand_value values (Const c) = wrapped c
 
--- the test of a conditional jump
+-- the test of a conditional jump or of a trap instruction
 abbrev pub test_holds : Values → Test → Bool
 test_holds values (Rel op a b) = relation_holds op (operand_value values a) (operand_value values b)
 test_holds values (Holds a) = not (int_eq (operand_value values a) (pos 0))
@@ -36,22 +36,40 @@ assigned x v place frame = record frame { place = place; values = with_value x v
 -- an assignment, which goes on at `place`
 abbrev pub assign_transition : ℕ → Rhs → ℕ → Frame → Transition
 assign_transition x (Plain a) place frame = Continues 0 (assigned x (operand_value frame.values a) place frame)
-assign_transition x (Unary op a) place frame = Continues 1 (assigned x (value_of_un_op op (operand_value frame.values a)) place frame)
+assign_transition x (Unary op a) place frame =
+    Continues 1 (assigned x (value_of_un_op op (operand_value frame.values a)) place frame)
 assign_transition x (Binary op a b) place frame =
     if traps op (operand_value frame.values b) then Traps ZeroDivisor 1
-    else Continues 1 (assigned x (value_of_op op (operand_value frame.values a) (operand_value frame.values b)) place frame)
+    else Continues 1
+    (assigned x (value_of_op op (operand_value frame.values a) (operand_value frame.values b)) place frame)
 
--- one instruction, or the end where there is none. Receives stand first, so receive number i is at place i
-abbrev pub inst_transition : Option Inst → Frame → Transition
-inst_transition None frame = Returns (record { value = pos 0 })
-inst_transition (Some (Receive x)) frame = Continues 0 (assigned x (slice_index_or frame.arguments frame.place (pos 0)) (frame.place + 1) frame)
-inst_transition (Some (Assign x rhs)) frame = assign_transition x rhs (frame.place + 1) frame
-inst_transition (Some (Goto place)) frame = Continues 0 (at place frame)
-inst_transition (Some (If test place)) frame = Continues 0 (at (if test_holds frame.values test then place else frame.place + 1) frame)
-inst_transition (Some (Call into unit operands)) frame = Calls unit (record { arguments = map (operand_value frame.values) operands }) into (at (frame.place + 1) frame)
-inst_transition (Some (Print a)) frame = Prints (operand_value frame.values a) (at (frame.place + 1) frame)
-inst_transition (Some (Return a)) frame = Returns (record { value = operand_value frame.values a })
+-- a trap instruction, which goes on at `place` where its test does not hold
+abbrev pub guard_transition : Test → ℕ → ℕ → Frame → Transition
+guard_transition test number place frame =
+    if test_holds frame.values test then Traps (Raised number) 0 else Continues 0 (at place frame)
 
--- what a body does at a frame
-abbrev pub body_code : List Inst → Code
-body_code body frame = inst_transition (slice_get body frame.place) frame
+-- what is handed back with this value, where the first so many variables are shared
+abbrev pub answered : ℕ → ℤ → Frame → Transition
+answered shared v frame = Returns (record { value = v; globals = shared_values shared frame.values })
+
+-- one instruction, or the end where there is none, of a unit whose first so many variables are shared. Receives stand
+-- first, so receive number i is at place i
+abbrev pub inst_transition : ℕ → Option Inst → Frame → Transition
+inst_transition shared None frame = answered shared (pos 0) frame
+inst_transition shared (Some (Receive x)) frame =
+    Continues 0 (assigned x (slice_index_or frame.arguments frame.place (pos 0)) (frame.place + 1) frame)
+inst_transition shared (Some (Assign x rhs)) frame = assign_transition x rhs (frame.place + 1) frame
+inst_transition shared (Some (Goto place)) frame = Continues 0 (at place frame)
+inst_transition shared (Some (If test place)) frame =
+    Continues 0 (at (if test_holds frame.values test then place else frame.place + 1) frame)
+inst_transition shared (Some (TrapIf test number)) frame = guard_transition test number (frame.place + 1) frame
+inst_transition shared (Some (Call into unit operands)) frame =
+    Calls unit (record
+    { arguments = map (operand_value frame.values) operands; globals = shared_values shared frame.values }) into
+    (at (frame.place + 1) frame)
+inst_transition shared (Some (Print a)) frame = Prints (operand_value frame.values a) (at (frame.place + 1) frame)
+inst_transition shared (Some (Return a)) frame = answered shared (operand_value frame.values a) frame
+
+-- what a body does at a frame, where the first so many variables are shared
+abbrev pub body_code : ℕ → List Inst → Code
+body_code shared body frame = inst_transition shared (slice_get body frame.place) frame

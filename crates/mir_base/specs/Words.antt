@@ -34,13 +34,15 @@ word_text Sequence = codes "sequence"
 -- the reserved words
 abbrev pub words : List Word
 words =
-    Begin ∷ End ∷ Receive ∷ Goto ∷ If ∷ Call ∷ Return ∷ Print ∷ Mod ∷ Min ∷ Max ∷ Shl ∷ Shr ∷ Shra ∷ And ∷ Or ∷ Xor ∷ Trap ∷ Global ∷ Sequence
+    Begin ∷ End ∷ Receive ∷ Goto ∷ If ∷ Call ∷ Return ∷ Print ∷ Mod ∷ Min ∷ Max ∷ Shl ∷ Shr ∷ Shra ∷ And ∷ Or ∷ Xor ∷
+    Trap ∷ Global ∷ Sequence
     ∷ []
 
 -- the word of the first entry whose spelling the bytes are
 abbrev pub first_word : {Entry : Type 0} → (Entry → List ℕ) → (Entry → Word) → List ℕ → List Entry → Option Word
 first_word text word bytes [] = None
-first_word text word bytes (entry ∷ entries) = if is_text (text entry) bytes then Some (word entry) else first_word text word bytes entries
+first_word text word bytes (entry ∷ entries) =
+    if is_text (text entry) bytes then Some (word entry) else first_word text word bytes entries
 
 -- the reserved word that these bytes are
 unfoldable pub reserved_word : List ℕ → Option Word

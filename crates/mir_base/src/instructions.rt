@@ -42,7 +42,7 @@ pub enum Expr {
     Bin(Op, Operand, Operand),
 }
 
-/// What a conditional jump asks.
+/// What a conditional jump or a trap instruction asks.
 #[derive(Clone, Copy, Debug, PartialEq, Eq, Hash)]
 pub enum Test {
     /// Whether the relation holds between the two.
@@ -107,6 +107,8 @@ pub enum Inst {
     Goto(usize),
     /// The run goes on at this place where the test holds, and at the next place otherwise.
     If(Test, usize),
+    /// The run traps with this number where the test holds, and goes on at the next place otherwise.
+    TrapIf(Test, u8),
     /// The unit of this number is called with these arguments. Its result goes to the variable, where there is one.
     Call(Option<usize>, usize, Args),
     /// The number is printed.
@@ -124,6 +126,7 @@ impl Clone for Inst {
             Inst::Assign(x, rhs) => Inst::Assign(*x, *rhs),
             Inst::Goto(place) => Inst::Goto(*place),
             Inst::If(test, place) => Inst::If(*test, *place),
+            Inst::TrapIf(test, number) => Inst::TrapIf(*test, *number),
             Inst::Call(into, unit, args) => Inst::Call(*into, *unit, args.clone()?),
             Inst::Print(a) => Inst::Print(*a),
             Inst::Return(a) => Inst::Return(*a),

@@ -24,7 +24,8 @@ pub use evaluation::{divides, eval, eval1, expr_of, relates};
 pub use instructions::{Args, Expr, Inst, Operand, Rhs, Test};
 pub use items::Items;
 pub use limits::{
-    MOST_BYTES, MOST_FRAMES, MOST_INSTS, MOST_NAME_BYTES, MOST_RECEIVES, MOST_STEPS, MOST_UNITS,
+    MOST_BYTES, MOST_FRAMES, MOST_GLOBALS, MOST_INSTS, MOST_NAME_BYTES, MOST_RECEIVES, MOST_STEPS,
+    MOST_UNITS,
 };
 pub use names::{Name, is_letter, is_name_byte};
 pub use operators::{Op, RelOp, Trap, UnOp, op_of_relation, op_text, rel_op_text, un_op_text};

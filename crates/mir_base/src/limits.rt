@@ -6,11 +6,14 @@ pub const MOST_BYTES: usize = 1_048_576;
 /// The most bytes of a name.
 pub const MOST_NAME_BYTES: usize = 64;
 
+/// The most globals of a program.
+pub const MOST_GLOBALS: usize = 64;
+
 /// The most units of a program.
 pub const MOST_UNITS: usize = 256;
 
 /// The most instructions of a unit.
-pub const MOST_INSTS: usize = 4096;
+pub const MOST_INSTS: usize = 16_384;
 
 /// The most receives of a unit.
 pub const MOST_RECEIVES: usize = 16;

@@ -76,6 +76,8 @@ pub enum RelOp {
 pub enum Trap {
     /// The divisor of a division was 0.
     ZeroDivisor,
+    /// A trap instruction raised this number.
+    Raised(u8),
 }
 
 /// The bytes that an operator on two numbers is spelled with. It does not allocate.

@@ -56,10 +56,14 @@ fn word_among(table: &[(&[u8], Word)], bytes: &[u8]) -> Option<Word>
     None
 }
 
-/// Whether the bytes are this text. It does not allocate.
+/// Whether the bytes are this text. Most differ in their first byte, and are not looked at further. It does not
+/// allocate.
 pub fn is_text(text: &[u8], bytes: &[u8]) -> bool
     ensures { result ≡ is_text text.now bytes.now }
 {
+    if text.len() > 0 && bytes.len() > 0 && text[0] != bytes[0] {
+        return false;
+    }
     text == bytes
 }
 

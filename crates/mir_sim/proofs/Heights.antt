@@ -1,7 +1,7 @@
 -- How many frames a run has where each unit calls units of higher numbers alone.
 use Rattle.std.proofs.Common.{◌≡◌, ◌<◌, ◌≤◌, ℕ, zero, suc, Bool, true, false, cond, List, [], ◌∷◌, length, Option, None, Some, slice_get, refl, sym, ◌∙◌, ap, subst, arith}
 use Rattle.mir_base.specs.declared.instructions.Inst.{Inst}
-use Rattle.mir_base.specs.declared.instructions.Inst.TheVariants.{Receive, Assign, Goto, If, Call, Print, Return}
+use Rattle.mir_base.specs.declared.instructions.Inst.TheVariants.{Receive, Assign, Goto, If, TrapIf, Call, Print, Return}
 use Rattle.mir_base.specs.declared.instructions.Operand.{Operand}
 use Rattle.mir_base.specs.declared.instructions.Rhs.{Rhs}
 use Rattle.mir_base.specs.declared.instructions.Rhs.TheVariants.{Plain, Unary, Binary}
@@ -9,7 +9,7 @@ use Rattle.mir_base.specs.Frames.{Answer, Frame, Transition, Continues, Prints, 
 use Rattle.mir_base.specs.Numbers.{traps}
 use Rattle.mir_base.specs.Runs.{Caller, Control, Running, Ended, Stopped, State, first_state, returned, state_after, step_at, step, steps, codes_of}
 use Rattle.mir_base.specs.Shapes.{UnitShape, ProgramShape, IsProgram, body_at, body_or_empty}
-use Rattle.mir_base.specs.Units.{operand_value, assign_transition, inst_transition}
+use Rattle.mir_base.specs.Units.{operand_value, test_holds, assign_transition, inst_transition}
 use Rattle.mir_sim.specs.Calls.{HasFewFrames, CallsHigher, CallsNoMore}
 
 -- ---- the units of the frames fall from the running one to the first caller
@@ -61,15 +61,16 @@ abbrev CallIsHigher : ℕ → ℕ → Option Inst → Type 0
 CallIsHigher units unit inst = (into : Option ℕ) (called : ℕ) (operands : List Operand) → inst ≡ Some (Call into called operands) → (unit < called) × (called < units)
 
 -- of all instructions only a call has to be looked at
-higher_inst : (units unit : ℕ) (inst : Option Inst) (frame : Frame) → CallIsHigher units unit inst → Higher units unit (inst_transition inst frame)
-higher_inst units unit None frame calls = tt
-higher_inst units unit (Some (Receive x)) frame calls = tt
-higher_inst units unit (Some (Assign x rhs)) frame calls = higher_assign units unit x rhs _ frame
-higher_inst units unit (Some (Goto place)) frame calls = tt
-higher_inst units unit (Some (If test place)) frame calls = tt
-higher_inst units unit (Some (Call into called operands)) frame calls = calls into called operands refl
-higher_inst units unit (Some (Print a)) frame calls = tt
-higher_inst units unit (Some (Return a)) frame calls = tt
+higher_inst : (units unit shared : ℕ) (inst : Option Inst) (frame : Frame) → CallIsHigher units unit inst → Higher units unit (inst_transition shared inst frame)
+higher_inst units unit shared None frame calls = tt
+higher_inst units unit shared (Some (Receive x)) frame calls = tt
+higher_inst units unit shared (Some (Assign x rhs)) frame calls = higher_assign units unit x rhs _ frame
+higher_inst units unit shared (Some (Goto place)) frame calls = tt
+higher_inst units unit shared (Some (If test place)) frame calls = tt
+higher_inst units unit shared (Some (TrapIf test number)) frame calls = higher_if units unit (test_holds frame.values test) _ _ tt tt
+higher_inst units unit shared (Some (Call into called operands)) frame calls = calls into called operands refl
+higher_inst units unit shared (Some (Print a)) frame calls = tt
+higher_inst units unit shared (Some (Return a)) frame calls = tt
 
 -- a return leaves the callers, whose units fall as before
 low_return : (units : ℕ) (answer : Answer) (unit : ℕ) (callers : List Caller) → unit < units → Fall unit callers → Falls units (returned answer callers)
@@ -89,7 +90,7 @@ low_after units unit frame callers (Traps kind counted) state within fall low hi
 -- ---- programs
 
 -- the calls of a program are of units that it has
-call_fits : (program : ProgramShape) → IsProgram program.units → (unit : ℕ) (place : ℕ) (into : Option ℕ) (called : ℕ) (operands : List Operand) → slice_get (body_at program.units unit) place ≡ Some (Call into called operands) → called < length program.units
+call_fits : (program : ProgramShape) → IsProgram program.globals program.units → (unit : ℕ) (place : ℕ) (into : Option ℕ) (called : ℕ) (operands : List Operand) → slice_get (body_at program.units unit) place ≡ Some (Call into called operands) → called < length program.units
 call_fits program is unit place into called operands at = go (slice_get program.units unit) refl
   where
     go : (found : Option UnitShape) → slice_get program.units unit ≡ found → called < length program.units
@@ -101,14 +102,14 @@ call_fits program is unit place into called operands at = go (slice_get program.
         ((is.bodies unit found some).insts place (Call into called operands) (ap (λ (o : Option UnitShape). slice_get (body_or_empty o) place) (sym some) ∙ at)).0
 
 -- so one step keeps the frames low
-low_step : (program : ProgramShape) → IsProgram program.units → CallsHigher program → (state : State) → Low (length program.units) state → Low (length program.units) (step (codes_of program) state)
+low_step : (program : ProgramShape) → IsProgram program.globals program.units → CallsHigher program → (state : State) → Low (length program.units) state → Low (length program.units) (step (codes_of program) state)
 low_step program is higher state low = go state.control refl
   where
     go : (control : Control) → state.control ≡ control → Low (length program.units) (step_at (codes_of program) control state)
     go (Running unit frame callers) at =
         let falls : Falls (length program.units) (Running unit frame callers) = subst (Falls (length program.units)) at low.falls in
         low_after (length program.units) unit frame callers (codes_of program unit frame) state falls.0 falls.1 low.low
-        (higher_inst (length program.units) unit (slice_get (body_at program.units unit) frame.place) frame
+        (higher_inst (length program.units) unit (length program.globals) (slice_get (body_at program.units unit) frame.place) frame
         (λ into called operands call. (
           higher unit called (record { place = frame.place; into = into; operands = operands; at = call }),
           call_fits program is unit frame.place into called operands call,
@@ -117,15 +118,15 @@ low_step program is higher state low = go state.control refl
     go (Stopped kind) at = low
 
 -- and so do all steps
-low_steps : (program : ProgramShape) → IsProgram program.units → CallsHigher program → (n : ℕ) (state : State) → Low (length program.units) state → Low (length program.units) (steps (codes_of program) n state)
+low_steps : (program : ProgramShape) → IsProgram program.globals program.units → CallsHigher program → (n : ℕ) (state : State) → Low (length program.units) state → Low (length program.units) (steps (codes_of program) n state)
 low_steps program is higher zero state low = low
 low_steps program is higher (suc n) state low = low_steps program is higher n (step (codes_of program) state) (low_step program is higher state low)
 
 -- a run never has more frames than the program has units
-pub few_frames : (program : ProgramShape) → IsProgram program.units → CallsHigher program → HasFewFrames program
+pub few_frames : (program : ProgramShape) → IsProgram program.globals program.units → CallsHigher program → HasFewFrames program
 few_frames program is higher inputs n =
     let some = is.some_unit in
-    (low_steps program is higher n (first_state inputs) (record { falls = (some, tt); low = omega (arith, some) })).low
+    (low_steps program is higher n (first_state (length program.globals) inputs) (record { falls = (some, tt); low = omega (arith, some) })).low
 
 -- what calls no more calls higher units alone, where the other does
 pub higher_too : (first second : ProgramShape) → CallsNoMore first second → CallsHigher first → CallsHigher second

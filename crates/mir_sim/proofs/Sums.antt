@@ -13,6 +13,7 @@ use Rattle.mir_base.specs.Units.{assigned, inst_transition}
 use Rattle.mir_base.specs.UnitRuns.{Machine, body_machine, machine_at, UnitSame, UnitCheaper}
 use Rattle.mir_base.specs.Locksteps.{Alike, Lockstep}
 use Rattle.mir_base.specs.LockstepLaws.{lockstep_same, lockstep_cheaper}
+use Rattle.mir_base.specs.SharedLaws.{body_hands}
 use Rattle.mir_sim.specs.Pairs.{AllUnitsSame, AllUnitsCheaper}
 
 -- the body that adds
@@ -31,17 +32,19 @@ sum_is =
     ap (λ z. wrapped (z +ℤ wrapped (pos 2))) one ∙ ap (λ z. wrapped (pos 1 +ℤ z)) two
 
 -- both bodies do alike at each place
-alike_at : (place : ℕ) (f : Frame) → Alike (λ g h. g ≡ h) (inst_transition (slice_get sum_body place) f) (inst_transition (slice_get three_body place) f)
-alike_at zero f = (omega arith, ap (λ z. assigned 0 z (f.place + 1) f) sum_is)
-alike_at (suc zero) f = refl
-alike_at (suc (suc place)) f = refl
+alike_at : (shared place : ℕ) (f : Frame) → Alike (λ g h. g ≡ h) (inst_transition shared (slice_get sum_body place) f) (inst_transition shared (slice_get three_body place) f)
+alike_at shared zero f = (omega arith, ap (λ z. assigned 0 z (f.place + 1) f) sum_is)
+alike_at shared (suc zero) f = refl
+alike_at shared (suc (suc place)) f = refl
 
 -- so they go step by step together, from equal frames to equal frames
-lockstep : Lockstep (body_machine sum_body) (body_machine three_body) (λ f g. f ≡ g)
-lockstep = record {
+lockstep : (shared : ℕ) → Lockstep (body_machine shared sum_body) (body_machine shared three_body) (λ f g. f ≡ g)
+lockstep shared = record {
   receives = refl;
+  shared = refl;
+  hands = body_hands shared sum_body;
   starts = λ entry is. refl;
-  steps = λ f g same. subst (λ h. Alike (λ f' g'. f' ≡ g') ((body_machine sum_body).code f) ((body_machine three_body).code h)) same (alike_at f.place f);
+  steps = λ f g same. subst (λ h. Alike (λ f' g'. f' ≡ g') ((body_machine shared sum_body).code f) ((body_machine shared three_body).code h)) same (alike_at shared f.place f);
 }
 
 -- a program of one body has one unit, which has this body
@@ -50,20 +53,20 @@ only_body [] body is = cc
 only_body (unit ∷ []) body is = (refl, cc)
 only_body (unit ∷ next ∷ units) body is = cc
 
-module _ (first second : ProgramShape) (sum : map (λ unit. unit.body) first.units ≡ sum_body ∷ []) (worked_out : map (λ unit. unit.body) second.units ≡ three_body ∷ []) where
+module _ (first second : ProgramShape) (sum : map (λ unit. unit.body) first.units ≡ sum_body ∷ []) (worked_out : map (λ unit. unit.body) second.units ≡ three_body ∷ []) (alike : length first.globals ≡ length second.globals) where
   -- what is so of the two bodies is so of the units of each number, of which there is one
-  of_units : (P : Machine → Machine → Type 0) → P (body_machine sum_body) (body_machine three_body) → (u : ℕ) → u < length first.units → P (machine_at first u) (machine_at second u)
+  of_units : (P : Machine → Machine → Type 0) → P (body_machine (length first.globals) sum_body) (body_machine (length first.globals) three_body) → (u : ℕ) → u < length first.units → P (machine_at first u) (machine_at second u)
   of_units P holds zero within =
       let a = (only_body first.units sum_body sum).1 in
       let b = (only_body second.units three_body worked_out).1 in
-      subst (λ body. P (body_machine body) (machine_at second 0)) (sym a) (subst (λ body. P (body_machine sum_body) (body_machine body)) (sym b) holds)
+      subst (λ body. P (body_machine (length first.globals) body) (machine_at second 0)) (sym a) (subst (λ n. P (body_machine (length first.globals) sum_body) (body_machine n (body_at second.units 0))) alike (subst (λ body. P (body_machine (length first.globals) sum_body) (body_machine (length first.globals) body)) (sym b) holds))
   of_units P holds (suc u) within = absurd (omega (arith, (only_body first.units sum_body sum).0))
 
   pub sums_same : AllUnitsSame first second
   sums_same = record {
     units = (only_body first.units sum_body sum).0 ∙ sym (only_body second.units three_body worked_out).0;
-    same = of_units UnitSame (lockstep_same (body_machine sum_body) (body_machine three_body) (λ f g. f ≡ g) lockstep);
+    same = of_units UnitSame (lockstep_same (body_machine (length first.globals) sum_body) (body_machine (length first.globals) three_body) (λ f g. f ≡ g) (lockstep (length first.globals)));
   }
 
   pub sums_cheaper : AllUnitsCheaper first second
-  sums_cheaper = record { cheaper = of_units UnitCheaper (lockstep_cheaper (body_machine sum_body) (body_machine three_body) (λ f g. f ≡ g) lockstep) }
+  sums_cheaper = record { cheaper = of_units UnitCheaper (lockstep_cheaper (body_machine (length first.globals) sum_body) (body_machine (length first.globals) three_body) (λ f g. f ≡ g) (lockstep (length first.globals))) }

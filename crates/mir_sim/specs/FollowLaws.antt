@@ -52,158 +52,160 @@ later d (suc k) g h n s (suc m) answers =
     let r = later d k s.0 h s.2 s.4 m answers in
     (r.0, subst (λ t. IsPrefix (after_transition (frame_run d m) t answers).events (frame_run d r.0 h answers).events) (sym s.3) r.1)
 
--- each event of f comes in g too
-pub record FrameFollows (c d : Code) (f g : Frame) : Type 0 where
-  pub by : (answers : List Answer) → AreAnswers answers → (n : ℕ) → (m : ℕ) × IsPrefix (frame_run c n f answers).events (frame_run d m g answers).events
+-- the calls of both are answered with so many globals
+module _ (shared : ℕ) where
+  -- each event of f comes in g too
+  pub record FrameFollows (c d : Code) (f g : Frame) : Type 0 where
+    pub by : (answers : List Answer) → AreAnswers shared answers → (n : ℕ) → (m : ℕ) × IsPrefix (frame_run c n f answers).events (frame_run d m g answers).events
 
--- a silent step of the first frame shows nothing
-follows_on_left : (c d : Code) (f f' g : Frame) (n : ℕ) → c f ≡ Continues n f' → FrameFollows c d f g → FrameFollows c d f' g
-follows_on_left c d f f' g n is r =
-    record { by = λ answers are m. let p = r.by answers are (suc m) in (p.0, subst (λ t. IsPrefix (after_transition (frame_run c m) t answers).events (frame_run d p.0 g answers).events) is p.1) }
+  -- a silent step of the first frame shows nothing
+  follows_on_left : (c d : Code) (f f' g : Frame) (n : ℕ) → c f ≡ Continues n f' → FrameFollows c d f g → FrameFollows c d f' g
+  follows_on_left c d f f' g n is r =
+      record { by = λ answers are m. let p = r.by answers are (suc m) in (p.0, subst (λ t. IsPrefix (after_transition (frame_run c m) t answers).events (frame_run d p.0 g answers).events) is p.1) }
 
--- nor do silent steps of the second
-follows_on_right : (c d : Code) (f g h : Frame) (k n : ℕ) → Silently d k g h n → FrameFollows c d f g → FrameFollows c d f h
-follows_on_right c d f g h k n s r =
-    record {
-      by = λ answers are m.
-          let p = r.by answers are m in
-          let q = later d k g h n s p.0 answers in
-          (q.0, prefix_trans (frame_run c m f answers).events (frame_run d p.0 g answers).events (frame_run d q.0 h answers).events p.1 q.1);
+  -- nor do silent steps of the second
+  follows_on_right : (c d : Code) (f g h : Frame) (k n : ℕ) → Silently d k g h n → FrameFollows c d f g → FrameFollows c d f h
+  follows_on_right c d f g h k n s r =
+      record {
+        by = λ answers are m.
+            let p = r.by answers are m in
+            let q = later d k g h n s p.0 answers in
+            (q.0, prefix_trans (frame_run c m f answers).events (frame_run d p.0 g answers).events (frame_run d q.0 h answers).events p.1 q.1);
+      }
+
+  -- a transition's first event
+  shown_first : (go : Frame → List Answer → Shown) (e : Event) (t : Transition) → Shows e t → (tail : List Event) × ((after_transition go t []).events ≡ e ∷ tail)
+  shown_first go e (Continues n next) s = absurd s
+  shown_first go e (Prints v next) s = ((go next []).events, ap (λ x. x ∷ (go next []).events) (sym s))
+  shown_first go e (Calls unit entry into next) s = ([], ap (λ x. x ∷ []) (sym s))
+  shown_first go e (Returns v) s = ([], ap (λ x. x ∷ []) (sym s))
+  shown_first go e (Traps kind n) s = ([], ap (λ x. x ∷ []) (sym s))
+
+  -- what the first frame shows next, the second shows after some silent steps
+  pub catches_up : (c d : Code) (f g : Frame) (e : Event) (t : Transition) → c f ≡ t → Shows e t → FrameFollows c d f g → Caught d g e
+  catches_up c d f g e t is s r =
+      let first = shown_first (frame_run c 0) e t s in
+      let p = r.by [] (All-nil (IsCallAnswer shared)) 1 in
+      let run : (frame_run c 1 f []).events ≡ e ∷ first.0 = ap (λ v. (after_transition (frame_run c 0) v []).events) is ∙ first.1 in
+      catch d p.0 g [] e (first.0 ++ p.1.0) (p.1.1 ∙ ap (λ l. l ++ p.1.0) run)
+
+  -- the same tail, once the second frame shows the same event
+  peel : (e : Event) (xs ys rest : List Event) → (e ∷ ys) ≡ (e ∷ xs) ++ rest → ys ≡ xs ++ rest
+  peel e xs ys rest eq = cc
+
+  -- a run whose first event is known goes on, without it, from the next frame
+  peel_run : (d : Code) (g g' : Frame) (e : Event) (t : Transition) (xs : List Event) (answers rest : List Answer) → d g ≡ t → ((go : Frame → List Answer → Shown) → (after_transition go t answers).events ≡ e ∷ (go g' rest).events) → (m : ℕ) → IsPrefix (e ∷ xs) (frame_run d m g answers).events → (j : ℕ) × IsPrefix xs (frame_run d j g' rest).events
+  peel_run d g g' e t xs answers rest is goes zero p = let q : [] ≡ e ∷ (xs ++ p.0) = p.1 in cc
+  peel_run d g g' e t xs answers rest is goes (suc m) p =
+      let q : (e ∷ (frame_run d m g' rest).events) ≡ (e ∷ xs) ++ p.0 = sym (ap (λ v. (after_transition (frame_run d m) v answers).events) is ∙ goes (frame_run d m)) ∙ p.1 in
+      (m, (p.0, peel e xs (frame_run d m g' rest).events p.0 q))
+
+  -- frames that follow still do so after a step of both: each prints the same value
+  follows_after_prints : (c d : Code) (f f' g g' : Frame) (v : ℤ) → c f ≡ Prints v f' → d g ≡ Prints v g' → FrameFollows c d f g → FrameFollows c d f' g'
+  follows_after_prints c d f f' g g' v is is' r =
+      record {
+        by = λ answers are n.
+            let p = r.by answers are (suc n) in
+            let q = subst (λ t. IsPrefix (after_transition (frame_run c n) t answers).events (frame_run d p.0 g answers).events) is p.1 in
+            peel_run d g g' (Printed v) (Prints v g') (frame_run c n f' answers).events answers answers is' (λ go. refl) p.0 q;
+      }
+
+  -- each makes the same call and gets the same answer
+  follows_after_call : (c d : Code) (f f' g g' : Frame) (unit : ℕ) (entry : CallEntry) (i i' : Option ℕ) → c f ≡ Calls unit entry i f' → d g ≡ Calls unit entry i' g' → FrameFollows c d f g → (a : Answer) → IsCallAnswer shared a → FrameFollows c d (resumed i a f') (resumed i' a g')
+  follows_after_call c d f f' g g' unit entry i i' is is' r a fits =
+      record {
+        by = λ answers are n.
+            let p = r.by (a ∷ answers) (All-cons (IsCallAnswer shared) a answers fits are) (suc n) in
+            let q = subst (λ t. IsPrefix (after_transition (frame_run c n) t (a ∷ answers)).events (frame_run d p.0 g (a ∷ answers)).events) is p.1 in
+            peel_run d g (resumed i' a g') (Called unit entry) (Calls unit entry i' g') (frame_run c n (resumed i a f') answers).events (a ∷ answers) answers is' (λ go. refl) p.0 q;
+      }
+
+  -- The second frame, which counted y so far, will not have counted more than the first, which counted x, if both
+  -- return. Q is what this rests on: nothing is said where Q does not hold.
+  pub record FrameCheaper (Q : Type 0) (c d : Code) (x y : ℕ) (f g : Frame) : Type 0 where
+    pub by : Q → (answers : List Answer) → AreAnswers shared answers → (n m : ℕ) → EndsInReturn (frame_run c n f answers).events → EndsInReturn (frame_run d m g answers).events → y + (frame_run d m g answers).counted ≤ x + (frame_run c n f answers).counted
+
+  -- the cost so far grows by what a silent step evaluates: of the first frame
+  cheaper_on_left : (Q : Type 0) (c d : Code) (x y : ℕ) (f f' g : Frame) (n : ℕ) → c f ≡ Continues n f' → FrameCheaper Q c d x y f g → FrameCheaper Q c d (x + n) y f' g
+  cheaper_on_left Q c d x y f f' g n is r =
+      record {
+        by = λ q answers are k m ends ends'.
+            let same : frame_run c (suc k) f answers ≡ counting n (frame_run c k f' answers) = ap (λ t. after_transition (frame_run c k) t answers) is in
+            let more = r.by q answers are (suc k) m (subst EndsInReturn (sym (ap (λ s. s.events) same)) ends) ends' in
+            let count : (frame_run c (suc k) f answers).counted ≡ n + (frame_run c k f' answers).counted = ap (λ s. s.counted) same in
+            omega (arith, more, count);
+      }
+
+  -- of the second
+  cheaper_on_right : (Q : Type 0) (c d : Code) (x y : ℕ) (f g h : Frame) (k n : ℕ) → Silently d k g h n → FrameCheaper Q c d x y f g → FrameCheaper Q c d x (y + n) f h
+  cheaper_on_right Q c d x y f g h k n s r =
+      record {
+        by = λ q answers are i m ends ends'.
+            let more = r.by q answers are i (k + m) ends (subst EndsInReturn (sym (past_events d k g h n s m answers)) ends') in
+            let count = past_counted d k g h n s m answers in
+            omega (arith, more, count);
+      }
+
+  -- a print costs nothing on either side
+  cheaper_after_prints : (Q : Type 0) (c d : Code) (x y : ℕ) (f f' g g' : Frame) (v : ℤ) → c f ≡ Prints v f' → d g ≡ Prints v g' → FrameCheaper Q c d x y f g → FrameCheaper Q c d x y f' g'
+  cheaper_after_prints Q c d x y f f' g g' v is is' r =
+      record {
+        by = λ q answers are k m ends ends'.
+            let same : frame_run c (suc k) f answers ≡ showing (Printed v) (frame_run c k f' answers) = ap (λ t. after_transition (frame_run c k) t answers) is in
+            let same' : frame_run d (suc m) g answers ≡ showing (Printed v) (frame_run d m g' answers) = ap (λ t. after_transition (frame_run d m) t answers) is' in
+            let more = r.by q answers are (suc k) (suc m) (subst EndsInReturn (sym (ap (λ s. s.events) same)) ends) (subst EndsInReturn (sym (ap (λ s. s.events) same')) ends') in
+            let count : (frame_run c (suc k) f answers).counted ≡ (frame_run c k f' answers).counted = ap (λ s. s.counted) same in
+            let count' : (frame_run d (suc m) g answers).counted ≡ (frame_run d m g' answers).counted = ap (λ s. s.counted) same' in
+            omega (arith, more, count, count');
+      }
+
+  -- nor does a call in the frames of its callers
+  cheaper_after_call : (Q : Type 0) (c d : Code) (x y : ℕ) (f f' g g' : Frame) (unit : ℕ) (entry : CallEntry) (i i' : Option ℕ) → c f ≡ Calls unit entry i f' → d g ≡ Calls unit entry i' g' → FrameCheaper Q c d x y f g → (a : Answer) → IsCallAnswer shared a → FrameCheaper Q c d x y (resumed i a f') (resumed i' a g')
+  cheaper_after_call Q c d x y f f' g g' unit entry i i' is is' r a fits =
+      record {
+        by = λ q answers are k m ends ends'.
+            let same : frame_run c (suc k) f (a ∷ answers) ≡ showing (Called unit entry) (frame_run c k (resumed i a f') answers) = ap (λ t. after_transition (frame_run c k) t (a ∷ answers)) is in
+            let same' : frame_run d (suc m) g (a ∷ answers) ≡ showing (Called unit entry) (frame_run d m (resumed i' a g') answers) = ap (λ t. after_transition (frame_run d m) t (a ∷ answers)) is' in
+            let more = r.by q (a ∷ answers) (All-cons (IsCallAnswer shared) a answers fits are) (suc k) (suc m) (subst EndsInReturn (sym (ap (λ s. s.events) same)) ends) (subst EndsInReturn (sym (ap (λ s. s.events) same')) ends') in
+            let count : (frame_run c (suc k) f (a ∷ answers)).counted ≡ (frame_run c k (resumed i a f') answers).counted = ap (λ s. s.counted) same in
+            let count' : (frame_run d (suc m) g (a ∷ answers)).counted ≡ (frame_run d m (resumed i' a g') answers).counted = ap (λ s. s.counted) same' in
+            omega (arith, more, count, count');
+      }
+
+  -- both return: then the costs so far are all that counts
+  cheaper_at_return : (Q : Type 0) (c d : Code) (x y : ℕ) (f g : Frame) (v : Answer) → c f ≡ Returns v → d g ≡ Returns v → FrameCheaper Q c d x y f g → Q → y ≤ x
+  cheaper_at_return Q c d x y f g v is is' r q =
+      let same : frame_run c 1 f [] ≡ showing (Returned v) nothing = ap (λ t. after_transition (frame_run c 0) t []) is in
+      let same' : frame_run d 1 g [] ≡ showing (Returned v) nothing = ap (λ t. after_transition (frame_run d 0) t []) is' in
+      let more = r.by q [] (All-nil (IsCallAnswer shared)) 1 1 (subst EndsInReturn (sym (ap (λ s. s.events) same)) tt) (subst EndsInReturn (sym (ap (λ s. s.events) same')) tt) in
+      let count : (frame_run c 1 f []).counted ≡ 0 = ap (λ s. s.counted) same in
+      let count' : (frame_run d 1 g []).counted ≡ 0 = ap (λ s. s.counted) same' in
+      omega (arith, more, count, count')
+
+  -- ---- both together
+
+  -- the second frame follows the first and evaluates no more operators
+  pub record Pair (Q : Type 0) (c d : Code) (x y : ℕ) (f g : Frame) : Type 0 where
+    pub follows : FrameFollows c d f g
+    pub cheaper : FrameCheaper Q c d x y f g
+
+  module _ (Q : Type 0) (c d : Code) (x y : ℕ) where
+    -- a silent step of the first
+    pub pair_on_left : (f f' g : Frame) (n : ℕ) → c f ≡ Continues n f' → Pair Q c d x y f g → Pair Q c d (x + n) y f' g
+    pair_on_left f f' g n is p = record { follows = follows_on_left c d f f' g n is p.follows; cheaper = cheaper_on_left Q c d x y f f' g n is p.cheaper }
+
+    -- silent steps of the second
+    pub pair_on_right : (f g h : Frame) (k n : ℕ) → Silently d k g h n → Pair Q c d x y f g → Pair Q c d x (y + n) f h
+    pair_on_right f g h k n s p = record { follows = follows_on_right c d f g h k n s p.follows; cheaper = cheaper_on_right Q c d x y f g h k n s p.cheaper }
+
+    pub pair_after_prints : (f f' g g' : Frame) (v : ℤ) → c f ≡ Prints v f' → d g ≡ Prints v g' → Pair Q c d x y f g → Pair Q c d x y f' g'
+    pair_after_prints f f' g g' v is is' p = record { follows = follows_after_prints c d f f' g g' v is is' p.follows; cheaper = cheaper_after_prints Q c d x y f f' g g' v is is' p.cheaper }
+
+    pub pair_after_call : (f f' g g' : Frame) (unit : ℕ) (entry : CallEntry) (i i' : Option ℕ) → c f ≡ Calls unit entry i f' → d g ≡ Calls unit entry i' g' → Pair Q c d x y f g → (a : Answer) → IsCallAnswer shared a → Pair Q c d x y (resumed i a f') (resumed i' a g')
+    pair_after_call f f' g g' unit entry i i' is is' p a fits = record {
+      follows = follows_after_call c d f f' g g' unit entry i i' is is' p.follows a fits;
+      cheaper = cheaper_after_call Q c d x y f f' g g' unit entry i i' is is' p.cheaper a fits;
     }
 
--- a transition's first event
-shown_first : (go : Frame → List Answer → Shown) (e : Event) (t : Transition) → Shows e t → (tail : List Event) × ((after_transition go t []).events ≡ e ∷ tail)
-shown_first go e (Continues n next) s = absurd s
-shown_first go e (Prints v next) s = ((go next []).events, ap (λ x. x ∷ (go next []).events) (sym s))
-shown_first go e (Calls unit entry into next) s = ([], ap (λ x. x ∷ []) (sym s))
-shown_first go e (Returns v) s = ([], ap (λ x. x ∷ []) (sym s))
-shown_first go e (Traps kind n) s = ([], ap (λ x. x ∷ []) (sym s))
-
--- what the first frame shows next, the second shows after some silent steps
-pub catches_up : (c d : Code) (f g : Frame) (e : Event) (t : Transition) → c f ≡ t → Shows e t → FrameFollows c d f g → Caught d g e
-catches_up c d f g e t is s r =
-    let first = shown_first (frame_run c 0) e t s in
-    let p = r.by [] (All-nil IsCallAnswer) 1 in
-    let run : (frame_run c 1 f []).events ≡ e ∷ first.0 = ap (λ v. (after_transition (frame_run c 0) v []).events) is ∙ first.1 in
-    catch d p.0 g [] e (first.0 ++ p.1.0) (p.1.1 ∙ ap (λ l. l ++ p.1.0) run)
-
--- the same tail, once the second frame shows the same event
-peel : (e : Event) (xs ys rest : List Event) → (e ∷ ys) ≡ (e ∷ xs) ++ rest → ys ≡ xs ++ rest
-peel e xs ys rest eq = cc
-
--- a run whose first event is known goes on, without it, from the next frame
-peel_run : (d : Code) (g g' : Frame) (e : Event) (t : Transition) (xs : List Event) (answers rest : List Answer) → d g ≡ t → ((go : Frame → List Answer → Shown) → (after_transition go t answers).events ≡ e ∷ (go g' rest).events) → (m : ℕ) → IsPrefix (e ∷ xs) (frame_run d m g answers).events → (j : ℕ) × IsPrefix xs (frame_run d j g' rest).events
-peel_run d g g' e t xs answers rest is goes zero p = let q : [] ≡ e ∷ (xs ++ p.0) = p.1 in cc
-peel_run d g g' e t xs answers rest is goes (suc m) p =
-    let q : (e ∷ (frame_run d m g' rest).events) ≡ (e ∷ xs) ++ p.0 = sym (ap (λ v. (after_transition (frame_run d m) v answers).events) is ∙ goes (frame_run d m)) ∙ p.1 in
-    (m, (p.0, peel e xs (frame_run d m g' rest).events p.0 q))
-
--- frames that follow still do so after a step of both: each prints the same value
-follows_after_prints : (c d : Code) (f f' g g' : Frame) (v : ℤ) → c f ≡ Prints v f' → d g ≡ Prints v g' → FrameFollows c d f g → FrameFollows c d f' g'
-follows_after_prints c d f f' g g' v is is' r =
-    record {
-      by = λ answers are n.
-          let p = r.by answers are (suc n) in
-          let q = subst (λ t. IsPrefix (after_transition (frame_run c n) t answers).events (frame_run d p.0 g answers).events) is p.1 in
-          peel_run d g g' (Printed v) (Prints v g') (frame_run c n f' answers).events answers answers is' (λ go. refl) p.0 q;
-    }
-
--- each makes the same call and gets the same answer
-follows_after_call : (c d : Code) (f f' g g' : Frame) (unit : ℕ) (entry : CallEntry) (i i' : Option ℕ) → c f ≡ Calls unit entry i f' → d g ≡ Calls unit entry i' g' → FrameFollows c d f g → (a : Answer) → IsCallAnswer a → FrameFollows c d (resumed i a f') (resumed i' a g')
-follows_after_call c d f f' g g' unit entry i i' is is' r a fits =
-    record {
-      by = λ answers are n.
-          let p = r.by (a ∷ answers) (All-cons IsCallAnswer a answers fits are) (suc n) in
-          let q = subst (λ t. IsPrefix (after_transition (frame_run c n) t (a ∷ answers)).events (frame_run d p.0 g (a ∷ answers)).events) is p.1 in
-          peel_run d g (resumed i' a g') (Called unit entry) (Calls unit entry i' g') (frame_run c n (resumed i a f') answers).events (a ∷ answers) answers is' (λ go. refl) p.0 q;
-    }
-
--- The second frame, which counted y so far, will not have counted more than the first, which counted x, if both return.
--- Q is what this rests on: nothing is said where Q does not hold.
-pub record FrameCheaper (Q : Type 0) (c d : Code) (x y : ℕ) (f g : Frame) : Type 0 where
-  pub by : Q → (answers : List Answer) → AreAnswers answers → (n m : ℕ) → EndsInReturn (frame_run c n f answers).events → EndsInReturn (frame_run d m g answers).events → y + (frame_run d m g answers).counted ≤ x + (frame_run c n f answers).counted
-
--- the cost so far grows by what a silent step evaluates: of the first frame
-cheaper_on_left : (Q : Type 0) (c d : Code) (x y : ℕ) (f f' g : Frame) (n : ℕ) → c f ≡ Continues n f' → FrameCheaper Q c d x y f g → FrameCheaper Q c d (x + n) y f' g
-cheaper_on_left Q c d x y f f' g n is r =
-    record {
-      by = λ q answers are k m ends ends'.
-          let same : frame_run c (suc k) f answers ≡ counting n (frame_run c k f' answers) = ap (λ t. after_transition (frame_run c k) t answers) is in
-          let more = r.by q answers are (suc k) m (subst EndsInReturn (sym (ap (λ s. s.events) same)) ends) ends' in
-          let count : (frame_run c (suc k) f answers).counted ≡ n + (frame_run c k f' answers).counted = ap (λ s. s.counted) same in
-          omega (arith, more, count);
-    }
-
--- of the second
-cheaper_on_right : (Q : Type 0) (c d : Code) (x y : ℕ) (f g h : Frame) (k n : ℕ) → Silently d k g h n → FrameCheaper Q c d x y f g → FrameCheaper Q c d x (y + n) f h
-cheaper_on_right Q c d x y f g h k n s r =
-    record {
-      by = λ q answers are i m ends ends'.
-          let more = r.by q answers are i (k + m) ends (subst EndsInReturn (sym (past_events d k g h n s m answers)) ends') in
-          let count = past_counted d k g h n s m answers in
-          omega (arith, more, count);
-    }
-
--- a print costs nothing on either side
-cheaper_after_prints : (Q : Type 0) (c d : Code) (x y : ℕ) (f f' g g' : Frame) (v : ℤ) → c f ≡ Prints v f' → d g ≡ Prints v g' → FrameCheaper Q c d x y f g → FrameCheaper Q c d x y f' g'
-cheaper_after_prints Q c d x y f f' g g' v is is' r =
-    record {
-      by = λ q answers are k m ends ends'.
-          let same : frame_run c (suc k) f answers ≡ showing (Printed v) (frame_run c k f' answers) = ap (λ t. after_transition (frame_run c k) t answers) is in
-          let same' : frame_run d (suc m) g answers ≡ showing (Printed v) (frame_run d m g' answers) = ap (λ t. after_transition (frame_run d m) t answers) is' in
-          let more = r.by q answers are (suc k) (suc m) (subst EndsInReturn (sym (ap (λ s. s.events) same)) ends) (subst EndsInReturn (sym (ap (λ s. s.events) same')) ends') in
-          let count : (frame_run c (suc k) f answers).counted ≡ (frame_run c k f' answers).counted = ap (λ s. s.counted) same in
-          let count' : (frame_run d (suc m) g answers).counted ≡ (frame_run d m g' answers).counted = ap (λ s. s.counted) same' in
-          omega (arith, more, count, count');
-    }
-
--- nor does a call in the frames of its callers
-cheaper_after_call : (Q : Type 0) (c d : Code) (x y : ℕ) (f f' g g' : Frame) (unit : ℕ) (entry : CallEntry) (i i' : Option ℕ) → c f ≡ Calls unit entry i f' → d g ≡ Calls unit entry i' g' → FrameCheaper Q c d x y f g → (a : Answer) → IsCallAnswer a → FrameCheaper Q c d x y (resumed i a f') (resumed i' a g')
-cheaper_after_call Q c d x y f f' g g' unit entry i i' is is' r a fits =
-    record {
-      by = λ q answers are k m ends ends'.
-          let same : frame_run c (suc k) f (a ∷ answers) ≡ showing (Called unit entry) (frame_run c k (resumed i a f') answers) = ap (λ t. after_transition (frame_run c k) t (a ∷ answers)) is in
-          let same' : frame_run d (suc m) g (a ∷ answers) ≡ showing (Called unit entry) (frame_run d m (resumed i' a g') answers) = ap (λ t. after_transition (frame_run d m) t (a ∷ answers)) is' in
-          let more = r.by q (a ∷ answers) (All-cons IsCallAnswer a answers fits are) (suc k) (suc m) (subst EndsInReturn (sym (ap (λ s. s.events) same)) ends) (subst EndsInReturn (sym (ap (λ s. s.events) same')) ends') in
-          let count : (frame_run c (suc k) f (a ∷ answers)).counted ≡ (frame_run c k (resumed i a f') answers).counted = ap (λ s. s.counted) same in
-          let count' : (frame_run d (suc m) g (a ∷ answers)).counted ≡ (frame_run d m (resumed i' a g') answers).counted = ap (λ s. s.counted) same' in
-          omega (arith, more, count, count');
-    }
-
--- both return: then the costs so far are all that counts
-cheaper_at_return : (Q : Type 0) (c d : Code) (x y : ℕ) (f g : Frame) (v : Answer) → c f ≡ Returns v → d g ≡ Returns v → FrameCheaper Q c d x y f g → Q → y ≤ x
-cheaper_at_return Q c d x y f g v is is' r q =
-    let same : frame_run c 1 f [] ≡ showing (Returned v) nothing = ap (λ t. after_transition (frame_run c 0) t []) is in
-    let same' : frame_run d 1 g [] ≡ showing (Returned v) nothing = ap (λ t. after_transition (frame_run d 0) t []) is' in
-    let more = r.by q [] (All-nil IsCallAnswer) 1 1 (subst EndsInReturn (sym (ap (λ s. s.events) same)) tt) (subst EndsInReturn (sym (ap (λ s. s.events) same')) tt) in
-    let count : (frame_run c 1 f []).counted ≡ 0 = ap (λ s. s.counted) same in
-    let count' : (frame_run d 1 g []).counted ≡ 0 = ap (λ s. s.counted) same' in
-    omega (arith, more, count, count')
-
--- ---- both together
-
--- the second frame follows the first and evaluates no more operators
-pub record Pair (Q : Type 0) (c d : Code) (x y : ℕ) (f g : Frame) : Type 0 where
-  pub follows : FrameFollows c d f g
-  pub cheaper : FrameCheaper Q c d x y f g
-
-module _ (Q : Type 0) (c d : Code) (x y : ℕ) where
-  -- a silent step of the first
-  pub pair_on_left : (f f' g : Frame) (n : ℕ) → c f ≡ Continues n f' → Pair Q c d x y f g → Pair Q c d (x + n) y f' g
-  pair_on_left f f' g n is p = record { follows = follows_on_left c d f f' g n is p.follows; cheaper = cheaper_on_left Q c d x y f f' g n is p.cheaper }
-
-  -- silent steps of the second
-  pub pair_on_right : (f g h : Frame) (k n : ℕ) → Silently d k g h n → Pair Q c d x y f g → Pair Q c d x (y + n) f h
-  pair_on_right f g h k n s p = record { follows = follows_on_right c d f g h k n s p.follows; cheaper = cheaper_on_right Q c d x y f g h k n s p.cheaper }
-
-  pub pair_after_prints : (f f' g g' : Frame) (v : ℤ) → c f ≡ Prints v f' → d g ≡ Prints v g' → Pair Q c d x y f g → Pair Q c d x y f' g'
-  pair_after_prints f f' g g' v is is' p = record { follows = follows_after_prints c d f f' g g' v is is' p.follows; cheaper = cheaper_after_prints Q c d x y f f' g g' v is is' p.cheaper }
-
-  pub pair_after_call : (f f' g g' : Frame) (unit : ℕ) (entry : CallEntry) (i i' : Option ℕ) → c f ≡ Calls unit entry i f' → d g ≡ Calls unit entry i' g' → Pair Q c d x y f g → (a : Answer) → IsCallAnswer a → Pair Q c d x y (resumed i a f') (resumed i' a g')
-  pair_after_call f f' g g' unit entry i i' is is' p a fits = record {
-    follows = follows_after_call c d f f' g g' unit entry i i' is is' p.follows a fits;
-    cheaper = cheaper_after_call Q c d x y f f' g g' unit entry i i' is is' p.cheaper a fits;
-  }
-
-  pub pair_at_return : (f g : Frame) (v : Answer) → c f ≡ Returns v → d g ≡ Returns v → Pair Q c d x y f g → Q → y ≤ x
-  pair_at_return f g v is is' p q = cheaper_at_return Q c d x y f g v is is' p.cheaper q
+    pub pair_at_return : (f g : Frame) (v : Answer) → c f ≡ Returns v → d g ≡ Returns v → Pair Q c d x y f g → Q → y ≤ x
+    pair_at_return f g v is is' p q = cheaper_at_return Q c d x y f g v is is' p.cheaper q

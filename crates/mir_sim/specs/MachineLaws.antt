@@ -30,7 +30,7 @@ keep_refl a = record {
   same = record { inputs = refl; forth = follow_refl a; back = follow_refl a };
   cheaper = record {
     cheaper = λ inputs are n m v w ends ends'.
-        let last = one_over (codes_in a) n m (first_state inputs) (subst IsFinished (sym ends) tt) (subst IsFinished (sym ends') tt) in
+        let last = one_over (codes_in a) n m (first_state (a 0).shared inputs) (subst IsFinished (sym ends) tt) (subst IsFinished (sym ends') tt) in
         subst (λ x. x.counted ≤ (machines_run a inputs n).counted) last (le_refl (machines_run a inputs n).counted);
   };
   shallower = record { shallower = λ inputs are n. (n, le_refl (machines_run a inputs n).depth) };

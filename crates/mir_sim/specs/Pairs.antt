@@ -3,7 +3,8 @@ use Rattle.std.specs.Prelude.{◌≡◌, ℕ, ◌<◌, length}
 use Rattle.mir_base.specs.Shapes.{ProgramShape}
 use Rattle.mir_base.specs.UnitRuns.{machine_at, UnitFollows, UnitSame, UnitCheaper}
 
--- equally many units, and those of each number do the same and receive equally many arguments
+-- equally many units, and those of each number do the same, receive equally many arguments and have equally many
+-- globals, which are those of the program
 pub record AllUnitsSame (first second : ProgramShape) : Type 0 where
   pub units : length first.units ≡ length second.units
   pub same : (u : ℕ) → u < length first.units → UnitSame (machine_at first u) (machine_at second u)

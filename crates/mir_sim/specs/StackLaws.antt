@@ -1,12 +1,16 @@
 -- The laws of the rule for stacks: what leads from one control to another, and that programs whose stacks simulate do
 -- the same, the second with no more evaluations and no more frames. For proofs only, of the crates above too.
-use Rattle.std.proofs.Common.{◌≡◌, ◌⊎◌, inl, inr, ℕ, zero, suc, ◌+◌, ◌-◌, ◌≤◌, ◌<◌, List, [], ◌∷◌, ◌++◌, length, ℤ, refl, sym, ap, ◌∙◌, subst, arith, append-nil, append_assoc, add_comm, le_refl}
+use Rattle.std.proofs.Common.{◌≡◌, ◌⊎◌, inl, inr, ℕ, zero, suc, ◌+◌, ◌-◌, ◌≤◌, ◌<◌, List, [], ◌∷◌, ◌++◌, length, ℤ, refl, sym, ap, ◌∙◌, subst, arith, append-nil, append_assoc, add_comm, le_refl, pos, replicate, FitsSigned, w64}
+use Rattle.std.proofs.lemmas.List.{length-replicate}
+use Rattle.std.proofs.lemmas.List.Elements.{All-nil, All-cons}
 use Rattle.std.specs.Prelude.{max}
 use Rattle.mir_base.specs.Frames.{Code, Frame, first_frame, Transition, Continues, Prints, Calls, Returns, Traps}
-use Rattle.mir_base.specs.Runs.{Caller, Control, Running, Ended, Stopped, State, first_state, returned, state_after, step, step_at, steps, IsPrefix, IsMatched, IsOverAs}
+use Rattle.mir_base.specs.Runs.{AreNumbers, Caller, Control, Running, Ended, Stopped, State, first_entry, first_state, returned, state_after, step, step_at, steps, IsPrefix, IsMatched, IsOverAs}
+use Rattle.mir_base.specs.NumberLaws.{zero_fits}
 use Rattle.mir_base.specs.RunLaws.{steps_add}
 use Rattle.mir_base.specs.SilentLaws.{prefix_trans}
 use Rattle.mir_base.specs.Simulations.{Silently}
+use Rattle.mir_base.specs.UnitRuns.{AreGlobals, IsEntry}
 use Rattle.mir_sim.specs.Machines.{AreInputs, Machines, MachinesCheaper, MachinesFollow, MachinesKeep, MachinesShallower, codes_in, machines_run}
 use Rattle.mir_sim.specs.StackSimulations.{Abreast, StepsLead, MeetsAgain, Stack, StackRelation, StacksSimulate, running_of, state_with}
 
@@ -307,41 +311,60 @@ matched_by codes n j s t le prints over =
           ));
     }
 
+-- ---- the start
+
+-- globals that are 0 are signed 64-bit numbers
+pub zeros_fit : (shared : ℕ) → AreGlobals shared (replicate shared (pos 0))
+zeros_fit shared = record { long = length-replicate shared (pos 0); numbers = zeros shared }
+  where
+    zeros : (n : ℕ) → AreNumbers (replicate n (pos 0))
+    zeros zero = All-nil (FitsSigned w64)
+    zeros (suc n) = All-cons (FitsSigned w64) (pos 0) (replicate n (pos 0)) zero_fits (zeros n)
+
+-- what the first unit is entered with at the start of a run may be handed over to it
+pub first_enters : (machines : Machines) (inputs : List ℤ) → AreInputs machines inputs → IsEntry (machines 0) (first_entry (machines 0).shared inputs)
+first_enters machines inputs are = record { long = are.long; numbers = are.numbers; globals = zeros_fit (machines 0).shared }
+
 -- ---- the law
 
 module _ (first second : Machines) (R : StackRelation) (simulate : StacksSimulate first second R) where
   abbrev Alike : ℕ → State → State → Type 0
   Alike = AreAbreast R (codes_in first) (codes_in second) simulate.meets
 
+  -- what the program of these machines begins with
+  abbrev first_of : Machines → List ℤ → State
+  first_of machines inputs = first_state (machines 0).shared inputs
+
   -- the two runs are abreast at the start
-  start : (inputs : List ℤ) → AreInputs first inputs → (z : ℕ) × Alike z (first_state inputs) (first_state inputs)
+  start : (inputs : List ℤ) → AreInputs first inputs → (z : ℕ) × Alike z (first_of first inputs) (first_of second inputs)
   start inputs are =
-      let r = simulate.starts (record { arguments = inputs }) (record { long = are.long; numbers = are.numbers }) in
-      (r.0, record { prints = refl; cheaper = le_refl 0; shallower = le_refl 1; control = r.1 })
+      let r = simulate.starts (first_entry (first 0).shared inputs) (first_enters first inputs are) in
+      let both : Alike r.0 (first_of first inputs) (first_state (first 0).shared inputs) = record { prints = refl; cheaper = le_refl 0; shallower = le_refl 1; control = r.1 } in
+      (r.0, subst (λ n. Alike r.0 (first_of first inputs) (first_state n inputs)) simulate.shared both)
 
   -- the inputs of the second are inputs of the first
   theirs : (inputs : List ℤ) → AreInputs second inputs → AreInputs first inputs
   theirs inputs are = record { long = are.long ∙ sym simulate.receives; numbers = are.numbers }
 
   -- at least n steps of the first run, or of the second
-  far : (inputs : List ℤ) → AreInputs first inputs → (n : ℕ) → Reached (codes_in first) (codes_in second) Alike n (first_state inputs) (first_state inputs)
-  far inputs are n = let a = start inputs are in by_first R (codes_in first) (codes_in second) simulate.meets n a.0 (first_state inputs) (first_state inputs) a.1
+  far : (inputs : List ℤ) → AreInputs first inputs → (n : ℕ) → Reached (codes_in first) (codes_in second) Alike n (first_of first inputs) (first_of second inputs)
+  far inputs are n = let a = start inputs are in by_first R (codes_in first) (codes_in second) simulate.meets n a.0 (first_of first inputs) (first_of second inputs) a.1
 
-  far' : (inputs : List ℤ) → AreInputs first inputs → (n : ℕ) → Reached (codes_in second) (codes_in first) (λ z t s. Alike z s t) n (first_state inputs) (first_state inputs)
-  far' inputs are n = let a = start inputs are in by_second R (codes_in first) (codes_in second) simulate.meets n a.0 (first_state inputs) (first_state inputs) a.1
+  far' : (inputs : List ℤ) → AreInputs first inputs → (n : ℕ) → Reached (codes_in second) (codes_in first) (λ z t s. Alike z s t) n (first_of second inputs) (first_of first inputs)
+  far' inputs are n = let a = start inputs are in by_second R (codes_in first) (codes_in second) simulate.meets n a.0 (first_of first inputs) (first_of second inputs) a.1
 
   forth : MachinesFollow first second
   forth = record {
     follows = λ inputs are n.
         let r = far inputs are n in
-        (r.1, matched_by (codes_in first) n r.0 (first_state inputs) (machines_run second inputs r.1) r.3 r.4.prints (abreast_over R r.2 (machines_run first inputs r.0).control (machines_run second inputs r.1).control r.4.control));
+        (r.1, matched_by (codes_in first) n r.0 (first_of first inputs) (machines_run second inputs r.1) r.3 r.4.prints (abreast_over R r.2 (machines_run first inputs r.0).control (machines_run second inputs r.1).control r.4.control));
   }
 
   back : MachinesFollow second first
   back = record {
     follows = λ inputs are n.
         let r = far' inputs (theirs inputs are) n in
-        (r.1, matched_by (codes_in second) n r.0 (first_state inputs) (machines_run first inputs r.1) r.3 (sym r.4.prints) (over_abreast R r.2 (machines_run first inputs r.1).control (machines_run second inputs r.0).control r.4.control));
+        (r.1, matched_by (codes_in second) n r.0 (first_of second inputs) (machines_run first inputs r.1) r.3 (sym r.4.prints) (over_abreast R r.2 (machines_run first inputs r.1).control (machines_run second inputs r.0).control r.4.control));
   }
 
   -- both have ended: the first's last state is abreast of some state of the second, which is its last
@@ -352,11 +375,11 @@ module _ (first second : Machines) (R : StackRelation) (simulate : StacksSimulat
         let s = machines_run first inputs n in
         let over : IsFinished (machines_run first inputs n).control = subst IsFinished (sym ends) tt in
         let sum : n + (r.0 - n) ≡ r.0 = omega (arith, r.3) in
-        let same : machines_run first inputs r.0 ≡ s = sym (ap (λ k. machines_run first inputs k) sum) ∙ steps_add (codes_in first) n (r.0 - n) (first_state inputs) ∙ over_stays (codes_in first) (r.0 - n) s over in
+        let same : machines_run first inputs r.0 ≡ s = sym (ap (λ k. machines_run first inputs k) sum) ∙ steps_add (codes_in first) n (r.0 - n) (first_of first inputs) ∙ over_stays (codes_in first) (r.0 - n) s over in
         let over_j : IsFinished (machines_run first inputs r.0).control = subst (λ x. IsFinished x.control) (sym same) over in
         let alike = abreast_over R r.2 (machines_run first inputs r.0).control (machines_run second inputs r.1).control r.4.control over_j in
         let over_k : IsFinished (machines_run second inputs r.1).control = subst IsFinished (sym alike) over_j in
-        let last : machines_run second inputs r.1 ≡ machines_run second inputs m = one_over (codes_in second) r.1 m (first_state inputs) over_k (subst IsFinished (sym ends') tt) in
+        let last : machines_run second inputs r.1 ≡ machines_run second inputs m = one_over (codes_in second) r.1 m (first_of second inputs) over_k (subst IsFinished (sym ends') tt) in
         subst (λ x. (machines_run second inputs m).counted ≤ x.counted) same (subst (λ x. x.counted ≤ (machines_run first inputs r.0).counted) last r.4.cheaper);
   }
 
@@ -365,7 +388,7 @@ module _ (first second : Machines) (R : StackRelation) (simulate : StacksSimulat
     shallower = λ inputs are n.
         let r = far' inputs are n in
         let sum : n + (r.0 - n) ≡ r.0 = omega (arith, r.3) in
-        let on : machines_run second inputs r.0 ≡ steps (codes_in second) (r.0 - n) (machines_run second inputs n) = sym (ap (λ k. machines_run second inputs k) sum) ∙ steps_add (codes_in second) n (r.0 - n) (first_state inputs) in
+        let on : machines_run second inputs r.0 ≡ steps (codes_in second) (r.0 - n) (machines_run second inputs n) = sym (ap (λ k. machines_run second inputs k) sum) ∙ steps_add (codes_in second) n (r.0 - n) (first_of second inputs) in
         let deep = steps_deepen (codes_in second) (r.0 - n) (machines_run second inputs n) in
         let depths : (machines_run second inputs r.0).depth ≡ (steps (codes_in second) (r.0 - n) (machines_run second inputs n)).depth = ap (λ x. x.depth) on in
         (r.1, omega (arith, deep, depths, r.4.shallower));

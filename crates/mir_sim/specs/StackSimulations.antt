@@ -1,6 +1,7 @@
--- The rule by which a rewriting of a whole program is shown to keep what the program does, where calls come or go so that
--- the units are not compared one by one: one relation between the stacks of the two sides, which holds at the start and
--- which both sides keep up, some steps of the one for some steps of the other. For proofs only, of the crates above too.
+-- The rule by which a rewriting of a whole program is shown to keep what the program does, where calls come or go so
+-- that the units are not compared one by one: one relation between the stacks of the two sides, which holds at the
+-- start and which both sides keep up, some steps of the one for some steps of the other. For proofs only, of the crates
+-- above too.
 use Rattle.std.specs.Prelude.{◌≡◌, ◌⊎◌, ℕ, ◌+◌, ◌≤◌, ◌<◌, max, List, [], ◌++◌, ℤ}
 use Rattle.mir_base.specs.Frames.{CallEntry, Code, Frame, first_frame}
 use Rattle.mir_base.specs.Runs.{Caller, Control, Running, Ended, Stopped, State, steps}
@@ -27,8 +28,8 @@ first_stack entry = record { unit = 0; frame = first_frame entry; callers = [] }
 abbrev pub state_with : List ℤ → Control → ℕ → ℕ → State
 state_with printed control counted depth = record { printed = printed; control = control; counted = counted; depth = depth }
 
--- So many steps lead from the one control to the other, whatever was printed and counted before and however deep the run
--- was: they print these values, count so many evaluations, and their calls make at most so many frames
+-- So many steps lead from the one control to the other, whatever was printed and counted before and however deep the
+-- run was: they print these values, count so many evaluations, and their calls make at most so many frames
 abbrev pub StepsLead : (ℕ → Code) → ℕ → Control → Control → List ℤ → ℕ → ℕ → Type 0
 StepsLead codes k from to prints counted frames = (printed : List ℤ) (before depth : ℕ) → steps codes k (state_with printed from before depth) ≡ state_with (printed ++ prints) to (before + counted) (max depth frames)
 
@@ -67,9 +68,10 @@ pub record MeetsAgain (R : StackRelation) (codes codes' : ℕ → Code) (z : ℕ
   pub moves : (1 ≤ steps) ⊎ (measure < z)
   pub moves' : (1 ≤ steps') ⊎ (measure < z)
 
--- The rule: R holds at the start, and related stacks meet again. It shows that the second program is the same as the
--- first, evaluates no more operators and is never deeper (`stacks_keep`)
+-- The rule: R holds at the start, whatever the globals are then, and related stacks meet again. It shows that the
+-- second program is the same as the first, evaluates no more operators and is never deeper (`stacks_keep`)
 pub record StacksSimulate (first second : Machines) (R : StackRelation) : Type 0 where
   pub receives : (first 0).receives ≡ (second 0).receives
+  pub shared : (first 0).shared ≡ (second 0).shared
   pub starts : (entry : CallEntry) → IsEntry (first 0) entry → (measure : ℕ) × R measure (first_stack entry) (first_stack entry)
   pub meets : (z : ℕ) (from from' : Stack) → R z from from' → MeetsAgain R (codes_in first) (codes_in second) z from from'

@@ -4,6 +4,7 @@
 //! recursion to any depth, and where the units evaluate no more operators, the programs evaluate no more operators.
 #![tactic(auto)]
 
+ghost use Rattle.std.specs.Prelude.{◌≡◌, length};
 ghost use Rattle.mir_base.specs.Runs.{Cheaper, Follows, Same};
 ghost use Rattle.mir_sim.specs.Calls.{CallsHigher, CallsNoMore, HasFewFrames};
 ghost use Rattle.mir_sim.specs.Machines.{Shallower};
@@ -15,10 +16,10 @@ use mir_base::Program;
 mod tests;
 
 /// Has no effect; carries the theorem that where two programs have equally many units, and the units of each number
-/// receive equally many arguments and do the same, for all arguments and all answers to their calls, the programs are
-/// the same. Where each unit of the second besides evaluates no more operators than the first's, the second program
-/// evaluates no more operators on any inputs on which both end. The second never has more frames than the first has had
-/// at some time. It does not allocate.
+/// receive equally many arguments, have equally many globals and do the same, for all arguments, values of the globals
+/// and answers to their calls, the programs are the same. Where each unit of the second besides evaluates no more
+/// operators than the first's, the second program evaluates no more operators on any inputs on which both end. The
+/// second never has more frames than the first has had at some time. It does not allocate.
 pub fn lift(first: &Program, second: &Program)
     requires units { AllUnitsSame first.now second.now }
     ensures same { Same first.now second.now }
@@ -33,9 +34,10 @@ pub fn lift(first: &Program, second: &Program)
     count(first, second);
 }
 
-/// Has no effect; carries the theorem that where each unit of a second program does whatever the first's of its number
-/// does, so does the program.
+/// Has no effect; carries the theorem that where two programs have equally many globals, and each unit of the second
+/// does whatever the first's of its number does, so does the program.
 fn follow(first: &Program, second: &Program)
+    requires shared { length first.now.globals ≡ length second.now.globals }
     requires units { AllUnitsFollow first.now second.now }
     ensures { Follows first.now second.now }
 {

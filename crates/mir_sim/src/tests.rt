@@ -1,5 +1,5 @@
 // The law on two programs that differ: one adds two constants, the other has their sum.
-ghost use Rattle.std.specs.Prelude.{◌≡◌, pos, List, [], ◌∷◌, map, IfOk, IsTrue};
+ghost use Rattle.std.specs.Prelude.{◌≡◌, pos, List, [], ◌∷◌, length, map, IfOk, IsTrue};
 ghost use Rattle.mir_base.specs.declared.instructions.Inst.TheVariants.{Assign, Return};
 ghost use Rattle.mir_base.specs.declared.instructions.Operand.TheVariants.{Const, Var};
 ghost use Rattle.mir_base.specs.declared.instructions.Rhs.TheVariants.{Binary, Plain};
@@ -15,8 +15,9 @@ use std::test::Fail;
 /// The program that assigns this right side, which has no variables, and returns it.
 fn program(alloc: Global, rhs: Rhs) -> Result<Program, Fail>
     requires { rhs_vars rhs ≡ [] }
-    ensures { let body = Assign 0 rhs ∷ Return (Var 0) ∷ [] in
+    ensures body { let body = Assign 0 rhs ∷ Return (Var 0) ∷ [] in
         IfOk result (λ program. map (λ unit. unit.body) program.units ≡ body ∷ []) }
+    ensures no_globals { IfOk result (λ program. program.globals ≡ []) }
 {
     let body = Items::new(alloc)
         .with(Inst::Assign(0, rhs))?
@@ -26,6 +27,7 @@ fn program(alloc: Global, rhs: Rhs) -> Result<Program, Fail>
         None => return Err("no name")?,
     };
     let unit = Unit {
+        shared: 0,
         vars: Items::new(alloc).with(name.clone()?)?,
         name,
         body,
@@ -39,6 +41,7 @@ fn a_sum_is_worked_out(first: &Program, second: &Program)
         map (λ unit. unit.body) first.now.units ≡ (Assign 0 rhs ∷ Return (Var 0) ∷ []) ∷ [] }
     requires worked_out { let rhs = Plain (Const (pos 3)) in
         map (λ unit. unit.body) second.now.units ≡ (Assign 0 rhs ∷ Return (Var 0) ∷ []) ∷ [] }
+    requires shared { length first.now.globals ≡ length second.now.globals }
     ensures same { Same first.now second.now }
     ensures cheaper { Cheaper first.now second.now }
 {

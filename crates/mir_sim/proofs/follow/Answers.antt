@@ -1,7 +1,7 @@
-use Rattle.std.proofs.Common.{ap, subst}
-use Rattle.mir_base.specs.Shapes.{IsProgram}
+use Rattle.std.proofs.Common.{subst}
+use Rattle.mir_base.specs.Shapes.{IsProgram, ProgramShape}
 use Rattle.mir_sim.proofs.Lifts.{follows}
 use Rattle.mir_sim.proofs.follow.Goals as goal
 
 pub returns : goal.returns
-returns c = follows c.args.first.now c.args.second.now (subst IsProgram (ap (λ p. p.units) c.first.view_is) c.first.invariant) c.requires.units
+returns c = follows c.args.first.now c.args.second.now (subst (λ (p : ProgramShape). IsProgram p.globals p.units) c.first.view_is c.first.invariant) c.requires.shared c.requires.units

@@ -8,5 +8,5 @@ use Rattle.mir_base.proofs.programs.Unit.inst.Goals as goal
 pub returns-in-Some-clause-below : goal.returns-in-Some-clause-below
 returns-in-Some-clause-below c =
     let e : slice_get c.self.inside.body c.args.place ≡ Some c.in-Some.inst.now = grind (arith, common_steps, gets) in
-    let t = tidy_below c.self.inside.vars c.self.inside.body c.args.place c.in-Some.inst.now c.self.invariant e in
+    let t = tidy_below c.self.inside.shared c.self.inside.vars c.self.inside.body c.args.place c.in-Some.inst.now c.self.invariant e in
     subst (λ vars. AllBelow (length vars) (inst_vars c.in-Some.inst.now)) (ap (λ u. u.vars) c.self.view_is) t
