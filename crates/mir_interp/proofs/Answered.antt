@@ -36,7 +36,7 @@ finish_reported program inputs n so_far finish report right comes fits lines fin
     (right, shallow, told ∙ ap report_of (sym comes))
 
 -- the fault of the step that follows the first i
-pub fault_reported : (program : ProgramShape) (inputs : List ℤ) (i n : ℕ) (state : State) (fault : RunFault) → length inputs ≡ inputs_of program → i < n → steps (codes_of program) i (first_state inputs) ≡ state → StopsBefore (step (codes_of program) state) fault → IsRunAnswer program inputs n (Err fault)
+pub fault_reported : (program : ProgramShape) (inputs : List ℤ) (i n : ℕ) (state : State) (fault : RunFault) → length inputs ≡ inputs_of program → i < n → steps (codes_of program) i (first_state (length program.globals) inputs) ≡ state → StopsBefore (step (codes_of program) state) fault → IsRunAnswer program inputs n (Err fault)
 fault_reported program inputs i n state (WrongInputs wanted) right within before stops = absurd stops
-fault_reported program inputs i n state Deep right within before stops = (right, deep_within (codes_of program) i n most_frames (first_state inputs) state within before stops)
+fault_reported program inputs i n state Deep right within before stops = (right, deep_within (codes_of program) i n most_frames (first_state (length program.globals) inputs) state within before stops)
 fault_reported program inputs i n state (Memory refusal) right within before stops = right

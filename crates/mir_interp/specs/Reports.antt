@@ -22,7 +22,9 @@ report_of state = record { lines = state.printed; finish = finish_of state.contr
 -- what may be answered for so many steps: the number of inputs is judged first, and running out of memory is free
 abbrev pub IsRunAnswer : ProgramShape → List ℤ → ℕ → Result Report RunFault → Type 0
 IsRunAnswer program inputs steps (Ok report) =
-    (length inputs ≡ inputs_of program) × ((run program inputs steps).depth ≤ most_frames) × (report ≡ report_of (run program inputs steps))
+    (length inputs ≡ inputs_of program) × ((run program inputs steps).depth ≤ most_frames)
+    × (report ≡ report_of (run program inputs steps))
 IsRunAnswer program inputs steps (Err (WrongInputs wanted)) = (wanted ≡ inputs_of program) × (length inputs ≢ wanted)
-IsRunAnswer program inputs steps (Err Deep) = (length inputs ≡ inputs_of program) × (most_frames < (run program inputs steps).depth)
+IsRunAnswer program inputs steps (Err Deep) = (length inputs ≡ inputs_of program)
+    × (most_frames < (run program inputs steps).depth)
 IsRunAnswer program inputs steps (Err (Memory refusal)) = length inputs ≡ inputs_of program

@@ -1,6 +1,7 @@
 -- The state of a run so far by the definition, and what is true of every run so far. Cited by contracts.
 use Rattle.std.specs.Vec.{vec_capacity}
 use Rattle.std.specs.Prelude.{◌≡◌, ℕ, ◌+◌, ◌<◌, ◌≤◌, List, [], ◌∷◌, length, map, take, drop, reverse, slice_get, slice_index_or, ℤ, pos, Option, Some, None, Result, Ok}
+use Rattle.std.specs.List.{CopiedTo, SameBelow, SameFrom}
 use Rattle.mir_base.specs.Limits.{most_frames}
 use Rattle.mir_base.specs.declared.instructions.Operand.{Operand}
 use Rattle.mir_base.specs.declared.instructions.Inst.{Inst}
@@ -8,7 +9,7 @@ use Rattle.mir_base.specs.declared.instructions.Inst.TheVariants.{Call, Print}
 use Rattle.mir_base.specs.declared.instructions.Rhs.{Rhs}
 use Rattle.mir_base.specs.declared.instructions.Rhs.TheVariants.{Plain, Unary, Binary}
 use Rattle.mir_base.specs.Shapes.{ProgramShape, UnitShape, AllBelow, into_vars, body_at, receives_in}
-use Rattle.mir_base.specs.Frames.{Values, CallEntry, Frame as FrameState, Transition}
+use Rattle.mir_base.specs.Frames.{Values, shared_values, CallEntry, Answer, Frame as FrameState, Transition}
 use Rattle.mir_base.specs.declared.operators.Trap.{Trap}
 use Rattle.mir_base.specs.Numbers.{evaluation, value_of_un_op}
 use Rattle.mir_base.specs.Units.{operand_value, at, inst_transition}
@@ -55,9 +56,17 @@ running stack = frame_of stack.values.items stack.running
 abbrev pub at_next : Stack → FrameState
 at_next stack = at (stack.running.place + 1) (running stack)
 
+-- the values of the globals
+abbrev pub globals_of : Stack → List ℤ
+globals_of stack = shared_values stack.shared (running stack).values
+
+-- what the running frame hands back with this value
+abbrev pub answer_of : Stack → ℤ → Answer
+answer_of stack v = record { value = v; globals = globals_of stack }
+
 -- what a call of the running frame with these operands hands over
 abbrev pub entry_of : Stack → List Operand → CallEntry
-entry_of stack operands = record { arguments = map (operand_value (running stack).values) operands }
+entry_of stack operands = record { arguments = map (operand_value (running stack).values) operands; globals = globals_of stack }
 
 -- the running frame as it waits for its call
 abbrev pub caller_of : Stack → Option ℕ → CallerState
@@ -84,7 +93,7 @@ state_by so_far transition = state_after so_far.stack.running.unit (waiting so_f
 
 -- the state after an instruction of the running frame
 abbrev pub state_past : RunSoFar → Option Inst → State
-state_past so_far inst = state_by so_far (inst_transition inst (running so_far.stack))
+state_past so_far inst = state_by so_far (inst_transition so_far.stack.shared inst (running so_far.stack))
 
 -- the state after one step of the program
 abbrev pub state_stepped : ProgramShape → RunSoFar → State
@@ -115,9 +124,11 @@ running_vars program stack = length (vars_at program.units stack.running.unit)
 abbrev pub running_inst : ProgramShape → Stack → Option Inst
 running_inst program stack = slice_get (body_at program.units stack.running.unit) stack.running.place
 
--- the frame is of a unit of the program, and has a value for each of its receives and of its variables
+-- the frame is of a unit of the program, whose variables begin with the globals, and has a value for each of its
+-- receives and of its variables
 pub record IsFrame (program : ProgramShape) (values : List ℤ) (frame : Frame) : Type 0 where
   pub there : frame.unit < length program.units
+  pub shares : length program.globals ≤ length (vars_at program.units frame.unit)
   pub received : frame.arguments + receives_in (body_at program.units frame.unit) ≡ frame.variables
   pub long : frame.variables + length (vars_at program.units frame.unit) ≡ length values
 
@@ -130,6 +141,7 @@ AreCallers program values (caller ∷ callers) =
 
 -- the stack is of a run of the program
 pub record IsStack (program : ProgramShape) (stack : Stack) : Type 0 where
+  pub globals : stack.shared ≡ length program.globals
   pub running : IsFrame program stack.values.items stack.running
   pub callers : AreCallers program (take stack.running.arguments stack.values.items) (reverse stack.callers.items)
 
@@ -168,3 +180,9 @@ pub record SameStackRoom (old new : Stack) : Type 0 where
 pub record SameRoom (old new : RunSoFar) : Type 0 where
   pub printed : vec_capacity new.printed ≡ vec_capacity old.printed
   pub stack : SameStackRoom old.stack new.stack
+
+-- so many values from `from` on were copied to `to`
+pub record AreCopiedWithin (old new : List ℤ) (from to n : ℕ) : Type 0 where
+  pub below : SameBelow old new to
+  pub copied : CopiedTo old new from to n
+  pub rest : SameFrom old new (to + n)

@@ -39,7 +39,8 @@ fn start(alloc: Global, program: &Program, inputs: &[i64]) -> Result<RunSoFar, M
     requires some_unit { 0 < length program.now.units }
     requires inputs { length inputs.now ≡ inputs_of program.now }
     ensures state { IfOk result (λ so_far.
-        state_of so_far Finish.Running ≡ first_state inputs.now) }
+        state_of so_far Finish.Running ≡
+        first_state (length program.now.globals) inputs.now) }
     ensures so_far { IfOk result (λ so_far. IsRunSoFar program.now so_far) }
 {
     Ok(RunSoFar {

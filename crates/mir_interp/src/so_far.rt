@@ -87,6 +87,15 @@ impl RunSoFar {
                 }
                 Ok(Finish::Running)
             }
+            Inst::TrapIf(test, number) => {
+                let next = self.stack.running.place + 1;
+                if holds(self.stack.variables(), *test) {
+                    Ok(Finish::Trapped(Trap::Raised(*number)))
+                } else {
+                    self.stack.go_to(next);
+                    Ok(Finish::Running)
+                }
+            }
             Inst::Call(into, called, args) => {
                 self.depth = self.depth.max(self.stack.callers.len() + 2);
                 if self.depth > MOST_FRAMES {
@@ -146,6 +155,7 @@ fn evaluations(rhs: Rhs) -> u64
 }
 
 /// Whether a test holds, where these are the variables.
+#[inline(always)]
 fn holds(variables: &[i64], test: Test) -> bool
     requires { AllBelow (length variables.now) (test_vars test) }
     ensures { result ≡ test_holds (values_of variables.now) test }

@@ -1,10 +1,12 @@
-// The frames of a run, with their arguments and variables side by side in one growing list.
+// The frames of a run, with their arguments and variables side by side in one growing list. The first variables of each
+// frame are the globals: a call copies them from its caller, and a return copies them back.
 ghost use Rattle.std.specs.Prelude.{◌≡◌, ◌+◌, ◌<◌, ◌≤◌, ◌^◌, [], ◌∷◌, ◌++◌, length, drop, map, flat_map, replicate, slice_index_or, pos, IfOk};
-ghost use Rattle.mir_base.specs.Frames.{first_frame};
-ghost use Rattle.mir_base.specs.Runs.{Control, inputs_of, returned};
+ghost use Rattle.std.specs.Vec.{vec_capacity};
+ghost use Rattle.mir_base.specs.Frames.{first_frame, shared_values};
+ghost use Rattle.mir_base.specs.Runs.{Control, first_entry, inputs_of, returned};
 ghost use Rattle.mir_base.specs.Shapes.{AllBelow, ProgramShape, body_at, into_vars, operand_vars, receives_in};
 ghost use Rattle.mir_base.specs.Units.{assigned, at, operand_value};
-ghost use Rattle.mir_interp.specs.RunsSoFar.{IsStack, SameStackRoom, StaysStack, caller_of, control_of, entry_of, running, running_vars, values_of, waiting, with_running};
+ghost use Rattle.mir_interp.specs.RunsSoFar.{AreCopiedWithin, IsStack, SameStackRoom, StaysStack, answer_of, caller_of, control_of, entry_of, running, running_vars, values_of, vars_at, waiting, with_running};
 
 use crate::Finish;
 use mir_base::{Memory, Operand, Program};
@@ -27,9 +29,10 @@ pub(crate) struct Caller {
     pub(crate) frame: Frame,
 }
 
-/// The running frame, the frames that wait, the latest last, and the values of all of them.
+/// How many globals there are, the running frame, the frames that wait, the latest last, and the values of all of them.
 #[derive(Drop)]
 pub(crate) struct Stack {
+    pub(crate) shared: usize,
     pub(crate) running: Frame,
     pub(crate) callers: Vec<Caller>,
     pub(crate) values: Vec<i64>,
@@ -41,7 +44,7 @@ impl Stack {
         requires some_unit { 0 < length program.now.units }
         requires inputs { length inputs.now ≡ inputs_of program.now }
         ensures control { IfOk result (λ stack. control_of stack Finish.Running ≡
-            Control.Running 0 (first_frame (record { arguments = inputs.now })) []) }
+            Control.Running 0 (first_frame (first_entry stack.shared inputs.now)) []) }
         ensures fits { IfOk result (λ stack. IsStack program.now stack) }
         ensures callers { IfOk result (λ stack. stack.callers.items ≡ []) }
     {
@@ -55,6 +58,7 @@ impl Stack {
             variables,
         };
         Ok(Stack {
+            shared: program.globals.items().len(),
             running,
             callers: Vec::new(alloc),
             values,
@@ -108,7 +112,7 @@ impl Stack {
     }
 
     /// The running frame waits for its call at the next place, and a frame of the called unit begins: its arguments
-    /// are the values of the operands, and its variables are 0.
+    /// are the values of the operands, its globals are those of the running frame, and its other variables are 0.
     pub(crate) fn enter(
         &mut self,
         program: &Program,
@@ -134,7 +138,8 @@ impl Stack {
         let arguments = self.values.len();
         push_operands(&mut self.values, self.running.variables, operands)?;
         let variables = self.values.len();
-        push_zeros(&mut self.values, program.unit(called).vars.items().len())?;
+        push_globals(&mut self.values, self.running.variables, self.shared)?;
+        push_zeros(&mut self.values, own_variables(program, called))?;
         self.running.place += 1;
         self.callers.push(Caller {
             into,
@@ -149,11 +154,12 @@ impl Stack {
         Ok(())
     }
 
-    /// The running frame is done, and its answer goes to the latest caller; where there is none, it is the result.
+    /// The running frame is done, and its answer goes to the latest caller, with the globals; where there is none, it
+    /// is the result.
     pub(crate) fn leave(&mut self, answer: i64) -> Finish
         requires { (program : ProgramShape) × IsStack program self.old }
         ensures control { control_of self.new result ≡
-            returned (record { value = answer }) (waiting self.old) }
+            returned (answer_of self.old answer) (waiting self.old) }
         ensures kept { StaysStack self.old self.new }
         ensures callers { length self.new.callers.items ≤ length self.old.callers.items }
         ensures room { SameStackRoom self.old self.new }
@@ -161,6 +167,8 @@ impl Stack {
         match self.callers.pop() {
             None => Finish::Ended(answer),
             Some(caller) => {
+                let from = self.running.variables;
+                copy_globals(&mut self.values, from, caller.frame.variables, self.shared);
                 self.values.truncate(self.running.arguments);
                 self.running = caller.frame;
                 if let Some(x) = caller.into {
@@ -211,4 +219,36 @@ fn push_zeros(values: &mut Vec<i64>, count: usize) -> Result<(), Memory>
         values.push(0)?;
     }
     Ok(())
+}
+
+/// Adds the values of so many first variables, which stand from this index on.
+fn push_globals(values: &mut Vec<i64>, variables: usize, shared: usize) -> Result<(), Memory>
+    requires { variables + shared ≤ length values.old.items }
+    ensures { let before = values_of (drop variables values.old.items) in
+        IfOk result (λ _. values.new.items ≡ values.old.items ++ shared_values shared before) }
+{
+    for x in 0..shared {
+        let value = values[variables + x];
+        values.push(value)?;
+    }
+    Ok(())
+}
+
+/// How many variables of a unit are no globals.
+fn own_variables(program: &Program, unit: usize) -> usize
+    requires { unit < length program.now.units }
+    ensures { length program.now.globals + result ≡ length (vars_at program.now.units unit) }
+{
+    program.unit(unit).vars.items().len() - program.globals.items().len()
+}
+
+/// Copies so many values from this index on to another one.
+fn copy_globals(values: &mut Vec<i64>, from: usize, to: usize, shared: usize)
+    requires from { from + shared ≤ length values.old.items }
+    requires to { to + shared ≤ length values.old.items }
+    ensures copied { AreCopiedWithin values.old.items values.new.items from to shared }
+    ensures long { length values.new.items ≡ length values.old.items }
+    ensures room { vec_capacity values.new ≡ vec_capacity values.old }
+{
+    values.copy_within(from..from + shared, to);
 }

@@ -61,7 +61,8 @@ CanBeSigned previous = Unit {0}
 
 -- a number, of any size
 abbrev pub IsNumeral : Previous → List ℕ → Type 0
-IsNumeral previous bytes = IsDigits bytes ⊎ ((digits : List ℕ) × (bytes ≡ 45 ∷ digits) × IsDigits digits × CanBeSigned previous)
+IsNumeral previous bytes =
+    IsDigits bytes ⊎ ((digits : List ℕ) × (bytes ≡ 45 ∷ digits) × IsDigits digits × CanBeSigned previous)
 
 -- the number is one of 64 bits with a sign
 abbrev pub IsInRange : List ℕ → Type 0
@@ -73,7 +74,8 @@ IsSpelled previous bytes = IsWord bytes ⊎ IsNumeral previous bytes ⊎ ((mark 
 
 -- no more of what follows can belong to the token
 abbrev pub IsLongest : Previous → List ℕ → List ℕ → Type 0
-IsLongest previous bytes after = (more rest : List ℕ) → after ≡ more ++ rest → IsSpelled previous (bytes ++ more) → more ≡ []
+IsLongest previous bytes after = (more rest : List ℕ) → after ≡ more ++ rest → IsSpelled previous (bytes ++ more)
+    → more ≡ []
 
 -- ---- tokens
 
@@ -86,7 +88,8 @@ BeginsWith test (byte ∷ bytes) = IsTrue (test byte)
 abbrev pub IsToken : Previous → List ℕ → List ℕ → Kind → Type 0
 IsToken previous bytes after NameKind = IsName bytes
 IsToken previous bytes after (WordKind word) = bytes ≡ word_text word
-IsToken previous bytes after (NumberKind value) = IsNumeral previous bytes × IsInRange bytes × (value ≡ signed_digits_value 10 bytes) × ¬ BeginsWith is_name_byte after
+IsToken previous bytes after (NumberKind value) = IsNumeral previous bytes × IsInRange bytes
+    × (value ≡ signed_digits_value 10 bytes) × ¬ BeginsWith is_name_byte after
 IsToken previous bytes after (MarkKind mark) = IsMark mark bytes
 IsToken previous bytes after LineEndKind = ⊥
 
@@ -99,7 +102,8 @@ previous_of kind = AfterOther
 
 -- the tokens and one more
 abbrev pub with_token : List Token → Kind → ℕ → ℕ → ℕ → List Token
-with_token items kind start length line = items ++ record { kind = kind; start = start; length = length; line = line } ∷ []
+with_token items kind start length line =
+    items ++ record { kind = kind; start = start; length = length; line = line } ∷ []
 
 -- a line end is no token at the start of a text and behind another line end
 abbrev pub with_line_end : List Token → Previous → ℕ → ℕ → ℕ → List Token
@@ -130,17 +134,21 @@ EndsLine (byte ∷ bytes) = byte ≡ 10
 pub data Spelled : List ℕ → List ℕ → List Token → Previous → Type 0 where
   start : {text : List ℕ} → Spelled text [] [] AfterLineEnd
   token : {text prefix : List ℕ} {items : List Token} {previous : Previous} (bytes after : List ℕ) (kind : Kind)
-      → Spelled text prefix items previous → text ≡ prefix ++ bytes ++ after → IsToken previous bytes after kind → IsLongest previous bytes after
-      → Spelled text (prefix ++ bytes) (with_token items kind (length prefix) (length bytes) (line_after prefix)) (previous_of kind)
+      → Spelled text prefix items previous → text ≡ prefix ++ bytes ++ after → IsToken previous bytes after kind
+      → IsLongest previous bytes after
+      → Spelled text (prefix ++ bytes) (with_token items kind (length prefix) (length bytes) (line_after prefix))
+      (previous_of kind)
   blank : {text prefix : List ℕ} {items : List Token} {previous : Previous} (byte : ℕ) (after : List ℕ)
       → Spelled text prefix items previous → text ≡ prefix ++ byte ∷ after → IsTrue (is_blank byte)
       → Spelled text (prefix ++ byte ∷ []) items previous
   comment : {text prefix : List ℕ} {items : List Token} {previous : Previous} (body after : List ℕ)
-      → Spelled text prefix items previous → text ≡ prefix ++ comment_text body ++ after → HasNoLineFeed body → EndsLine after
+      → Spelled text prefix items previous → text ≡ prefix ++ comment_text body ++ after → HasNoLineFeed body
+      → EndsLine after
       → Spelled text (prefix ++ comment_text body) items previous
   line_feed : {text prefix : List ℕ} {items : List Token} {previous : Previous} (after : List ℕ)
       → Spelled text prefix items previous → text ≡ prefix ++ 10 ∷ after
-      → Spelled text (prefix ++ 10 ∷ []) (with_line_end items previous (line_after prefix) (length prefix) 1) AfterLineEnd
+      → Spelled text (prefix ++ 10 ∷ [])
+      (with_line_end items previous (line_after prefix) (length prefix) 1) AfterLineEnd
 
 -- these are the tokens of the text: one more line end stands behind a last line that has no line feed
 pub record IsTokens (text : List ℕ) (items : List Token) : Type 0 where
@@ -178,7 +186,8 @@ pub record IsLongName (previous : Previous) (text : List ℕ) : Type 0 where
 
 -- no token stands here, behind this prefix of the text, for this cause
 abbrev pub StopsLexing : List ℕ → Previous → List ℕ → LexFault → Type 0
-StopsLexing prefix previous after (BadByte line) = (line ≡ line_after prefix) × ((byte : ℕ) × (rest : List ℕ) × (after ≡ byte ∷ rest) × BeginsNone previous byte rest)
+StopsLexing prefix previous after (BadByte line) = (line ≡ line_after prefix)
+    × ((byte : ℕ) × (rest : List ℕ) × (after ≡ byte ∷ rest) × BeginsNone previous byte rest)
 StopsLexing prefix previous after (BadNumber line) = (line ≡ line_after prefix) × IsBadNumber previous after
 StopsLexing prefix previous after (LongName line) = (line ≡ line_after prefix) × IsLongName previous after
 StopsLexing prefix previous after (Memory refused) = ⊥

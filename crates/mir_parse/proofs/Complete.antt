@@ -8,10 +8,10 @@ use Rattle.mir_base.specs.declared.operators.UnOp.TheVariants.{Neg, Not}
 use Rattle.mir_base.specs.declared.operators.RelOp.{RelOp}
 use Rattle.mir_base.specs.declared.operators.RelOp.TheVariants.{Eq as IsEq}
 use Rattle.mir_lex.specs.declared.terminals.Symbol.{Symbol}
-use Rattle.mir_lex.specs.declared.terminals.Symbol.TheVariants.{Name as NAME, Word as WORD, Mark as MARK, LineEnd as NL}
+use Rattle.mir_lex.specs.declared.terminals.Symbol.TheVariants.{Name as NAME, Word as WORD, Number as NUMBER, Mark as MARK, LineEnd as NL}
 use Rattle.mir_lex.specs.declared.terminals.Terminal.{Terminal}
 use Rattle.mir_lex.specs.declared.words.Mark.TheVariants.{Colon, Comma, RightParen}
-use Rattle.mir_base.specs.declared.words.Word.TheVariants.{Begin as BeginWord, End as EndWord, Goto as GotoWord}
+use Rattle.mir_base.specs.declared.words.Word.TheVariants.{Begin as BeginWord, End as EndWord, Goto as GotoWord, Trap as TrapWord, Global as GlobalWord}
 use Rattle.mir_parse.specs.declared.raw.RawOperand.{RawOperand}
 use Rattle.mir_parse.specs.declared.raw.RawOperand.TheVariants.{Var, Const}
 use Rattle.mir_parse.specs.declared.raw.RawRhs.{RawRhs}
@@ -19,9 +19,12 @@ use Rattle.mir_parse.specs.declared.raw.RawRhs.TheVariants.{Plain, Unary, Binary
 use Rattle.mir_parse.specs.declared.raw.RawTest.{RawTest}
 use Rattle.mir_parse.specs.declared.raw.RawTest.TheVariants.{Rel, Holds, Fails}
 use Rattle.mir_parse.specs.declared.raw.RawForm.{RawForm}
-use Rattle.mir_parse.specs.declared.raw.RawForm.TheVariants.{Receive, Assign, Goto, If, Call, Print, Return}
+use Rattle.mir_parse.specs.declared.raw.RawForm.TheVariants.{Receive, Assign, Goto, If, TrapIf, Call, Print, Return}
 use Rattle.mir_parse.specs.declared.raw.RawInst.{RawInst}
 use Rattle.mir_parse.specs.declared.raw.RawLabel.{RawLabel}
+use Rattle.mir_parse.specs.declared.raw.RawGlobal.{RawGlobal}
+use Rattle.mir_parse.specs.declared.raw.Raw.{Raw}
+use Rattle.mir_parse.specs.RawParts.{globals_alone, raw_with_unit}
 use Rattle.mir_parse.specs.RawUnit.{RawUnitShape}
 use Rattle.mir_parse.specs.declared.so_far.Hole.{Hole}
 use Rattle.mir_parse.specs.declared.so_far.Hole.TheVariants.{Unary as OfUnary, Binary as OfBinary, Arg as OfArg, Fails as OfFails, Rel as OfRel, Print as OfPrint}
@@ -31,8 +34,8 @@ use Rattle.mir_parse.specs.declared.so_far.Next.TheVariants.{No, Go, Done, Label
 use Rattle.mir_parse.specs.declared.so_far.Spot.TheVariants.{Named as UnitNamed, Headed, Begun, Inside, Mid, AfterEnd}
 use Rattle.mir_parse.specs.declared.so_far.Reading.{Reading}
 use Rattle.mir_parse.specs.declared.so_far.ReadSoFar.{ReadSoFar}
-use Rattle.mir_parse.specs.declared.so_far.ReadSoFar.TheVariants.{Outside, In}
-use Rattle.mir_parse.specs.Grammar.{operand_symbol, relop_symbol, binop_symbol, rhs_symbols, test_symbols, more_symbols, open_args, args_symbols, IsCallStart, IsForm, symbols, IsBreak, IsLabel, IsInst, Body, IsHead, IsUnit, IsText, bare, label, inst, no_unit, more}
+use Rattle.mir_parse.specs.declared.so_far.ReadSoFar.TheVariants.{Outside, Global as InGlobal, In}
+use Rattle.mir_parse.specs.Grammar.{operand_symbol, relop_symbol, binop_symbol, rhs_symbols, test_symbols, more_symbols, open_args, args_symbols, IsCallStart, IsForm, symbols, IsBreak, IsLabel, IsInst, Body, IsHead, IsUnit, IsGlobal, IsText, bare, label, inst, no_unit, global_line, more}
 use Rattle.mir_parse.specs.Reader.{filled, wants, fresh, named, plain_name, plain_number, first_arg, if_operand, part_step, begin_unit, with_inst, with_label, reading_after, outside, inside, read_step, reads}
 
 -- the parts of one instruction, token by token
@@ -120,6 +123,15 @@ test_run (Rel op a b) l =
 test_run (Holds a) l = ap (λ (n : Next). part_run n (WORD GotoWord ∷ NAME l ∷ NL ∷ [])) (first_test a)
 test_run (Fails a) l = hole_run OfFails a (WORD GotoWord ∷ NAME l ∷ NL ∷ [])
 
+-- and so with its trap
+trap_run : (t : RawTest) (n : ℤ) → part_run (Go PIf) (test_symbols t ++ (WORD TrapWord ∷ NUMBER n ∷ NL ∷ [])) ≡ Done (TrapIf t n)
+trap_run (Rel op a b) n =
+    ap (λ (m : Next). part_run m (relop_symbol op ∷ operand_symbol b ∷ WORD TrapWord ∷ NUMBER n ∷ NL ∷ [])) (first_test a)
+    ∙ ap (λ (m : Next). part_run m (operand_symbol b ∷ WORD TrapWord ∷ NUMBER n ∷ NL ∷ [])) (rel_op a op)
+    ∙ hole_run (OfRel op a) b (WORD TrapWord ∷ NUMBER n ∷ NL ∷ [])
+trap_run (Holds a) n = ap (λ (m : Next). part_run m (WORD TrapWord ∷ NUMBER n ∷ NL ∷ [])) (first_test a)
+trap_run (Fails a) n = hole_run OfFails a (WORD TrapWord ∷ NUMBER n ∷ NL ∷ [])
+
 -- the arguments after the first ones
 more_run : (x : Option (List ℕ)) (f : List ℕ) (args done : List RawOperand) → part_run (Go (Typed x f done)) (more_symbols args ++ (MARK RightParen ∷ NL ∷ [])) ≡ Done (Call x f (done ++ args))
 more_run x f [] done = ap (λ (l : List RawOperand). Done (Call x f l)) (sym (append-nil done))
@@ -154,6 +166,9 @@ form_run ss (Goto l) h = ap (λ (l : List Symbol). part_run (Go Fresh) (l ++ NL 
 form_run ss (If t l) h =
     ap (λ (l : List Symbol). part_run (Go Fresh) (l ++ NL ∷ [])) h
     ∙ ap (λ (l : List Symbol). part_run (Go PIf) l) (append_assoc (test_symbols t) (WORD GotoWord ∷ NAME l ∷ []) (NL ∷ [])) ∙ test_run t l
+form_run ss (TrapIf t n) h =
+    ap (λ (l : List Symbol). part_run (Go Fresh) (l ++ NL ∷ [])) h
+    ∙ ap (λ (l : List Symbol). part_run (Go PIf) l) (append_assoc (test_symbols t) (WORD TrapWord ∷ NUMBER n ∷ []) (NL ∷ [])) ∙ trap_run t n
 form_run ss (Call x f args) h =
     ap (λ (l : List Symbol). part_run (Go Fresh) (l ++ NL ∷ [])) h.2
     ∙ ap (λ (l : List Symbol). part_run (Go Fresh) l) (append_assoc h.0 (NAME f ∷ MARK Comma ∷ args_symbols args) (NL ∷ []))
@@ -200,7 +215,7 @@ label_run b colon (t ∷ us) l h at =
 
 -- the unit that is read, with these labels and instructions
 abbrev grown : Reading → List RawLabel → List RawInst → Reading
-grown b labels body = record { units = b.units; unit = record { name = b.unit.name; line = b.unit.line; labels = labels; body = body } }
+grown b labels body = record { whole = b.whole; unit = record { name = b.unit.name; line = b.unit.line; labels = labels; body = body } }
 
 -- so the tokens of a body add all of its labels and instructions
 rows_run : (b : Reading) (ts : List Terminal) (labels : List RawLabel) (body : List RawInst) → Body ts labels body → (colon : Bool) × (fold read_step (In (grown b [] []) (Inside false)) ts ≡ In (grown b labels body) (Inside colon))
@@ -253,7 +268,7 @@ named_run b ss ts h break =
     one.2 ∙ colon_run b ss one.0 one.1 break
 
 -- the head of a unit opens it with no label and no instruction
-head_run : (units : List RawUnitShape) (name : List ℕ) (line : ℕ) (ts : List Terminal) → IsHead ts name line → fold read_step (Outside units) ts ≡ In (begin_unit units name line) (Inside false)
+head_run : (units : Raw) (name : List ℕ) (line : ℕ) (ts : List Terminal) → IsHead ts name line → fold read_step (Outside units) ts ≡ In (begin_unit units name line) (Inside false)
 head_run units name line [] h = absurd h.are.starts
 head_run units name line (t ∷ ts) h =
     let spelled : t.symbol ∷ symbols ts ≡ NAME name ∷ MARK Colon ∷ h.«break» ++ (WORD BeginWord ∷ NL ∷ []) = h.are.spelled in
@@ -263,14 +278,14 @@ head_run units name line (t ∷ ts) h =
     ∙ ap (λ (l : ℕ). In (begin_unit units name l) (Inside false)) h.are.starts
 
 -- `end` closes the unit, also after a label
-tail_run : (b : Reading) (colon : Bool) (ts : List Terminal) → symbols ts ≡ WORD EndWord ∷ NL ∷ [] → fold read_step (In b (Inside colon)) ts ≡ Outside (b.units ++ b.unit ∷ [])
+tail_run : (b : Reading) (colon : Bool) (ts : List Terminal) → symbols ts ≡ WORD EndWord ∷ NL ∷ [] → fold read_step (In b (Inside colon)) ts ≡ Outside (raw_with_unit b.whole b.unit)
 tail_run b colon ts h =
     let one = run_on (In b (Inside colon)) (In b AfterEnd) (WORD EndWord) (NL ∷ []) ts h (λ at. refl) in
-    let two = run_on (In b AfterEnd) (Outside (b.units ++ b.unit ∷ [])) NL [] one.0 one.1 (λ at. refl) in
-    one.2 ∙ two.2 ∙ run_end (Outside (b.units ++ b.unit ∷ [])) two.0 two.1
+    let two = run_on (In b AfterEnd) (Outside (raw_with_unit b.whole b.unit)) NL [] one.0 one.1 (λ at. refl) in
+    one.2 ∙ two.2 ∙ run_end (Outside (raw_with_unit b.whole b.unit)) two.0 two.1
 
 -- the tokens of a unit add it to the units read so far
-unit_run : (units : List RawUnitShape) (u : RawUnitShape) (ts : List Terminal) → IsUnit ts u → fold read_step (Outside units) ts ≡ Outside (units ++ u ∷ [])
+unit_run : (units : Raw) (u : RawUnitShape) (ts : List Terminal) → IsUnit ts u → fold read_step (Outside units) ts ≡ Outside (raw_with_unit units u)
 unit_run units u ts h =
     let rows = rows_run (begin_unit units u.name u.line) h.body u.labels u.body h.is_body in
     ap (λ (l : List Terminal). fold read_step (Outside units) l) (h.text ∙ append_assoc h.head h.body h.tail) ∙ fold-append read_step (Outside units) h.head (h.body ++ h.tail)
@@ -278,7 +293,22 @@ unit_run units u ts h =
     ∙ fold-append read_step (In (begin_unit units u.name u.line) (Inside false)) h.body h.tail ∙ ap (λ (st : ReadSoFar). fold read_step st h.tail) rows.1
     ∙ tail_run (grown (begin_unit units u.name u.line) u.labels u.body) rows.0 h.tail h.is_tail
 
--- a text is read as its units
-pub text_run : (ts : List Terminal) (units : List RawUnitShape) → IsText ts units → reads ts ≡ Outside units
+-- the tokens of a global line add it to those read so far
+line_run : (globals : List RawGlobal) (g : RawGlobal) (ts : List Terminal) → IsGlobal ts g → fold read_step (Outside (globals_alone globals)) ts ≡ Outside (globals_alone (globals ++ g ∷ []))
+line_run globals g [] h = absurd h.starts
+line_run globals g (t ∷ ts) h =
+    let spelled : t.symbol ∷ symbols ts ≡ WORD GlobalWord ∷ NAME g.name ∷ NL ∷ [] = h.spelled in
+    let is : t.symbol ≡ WORD GlobalWord = cc in
+    let rest : symbols ts ≡ NAME g.name ∷ NL ∷ [] = cc in
+    let one = run_on (InGlobal globals t.line None) (InGlobal globals t.line (Some g.name)) (NAME g.name) (NL ∷ []) ts rest (λ at. refl) in
+    let last : Raw = globals_alone (globals ++ record { name = g.name; line = t.line } ∷ []) in
+    let two = run_on (InGlobal globals t.line (Some g.name)) (Outside last) NL [] one.0 one.1 (λ at. refl) in
+    ap (λ (s : Symbol). fold read_step (outside (globals_alone globals) s t.line) ts) is ∙ one.2 ∙ two.2 ∙ run_end (Outside last) two.0 two.1
+    ∙ ap (λ (line : ℕ). Outside (globals_alone (globals ++ record { name = g.name; line = line } ∷ []))) h.starts
+
+-- a text is read as its raw program
+pub text_run : (ts : List Terminal) (raw : Raw) → IsText ts raw → reads ts ≡ Outside raw
 text_run _ _ no_unit = refl
-text_run _ _ (more {ts} {us} {units} u text is) = fold-append read_step (Outside []) ts us ∙ ap (λ (st : ReadSoFar). fold read_step st us) (text_run ts units text) ∙ unit_run units u us is
+text_run _ _ (global_line {ts} {us} {globals} g text is) =
+    fold-append read_step (Outside (globals_alone [])) ts us ∙ ap (λ (st : ReadSoFar). fold read_step st us) (text_run ts (globals_alone globals) text) ∙ line_run globals g us is
+text_run _ _ (more {ts} {us} {raw} u text is) = fold-append read_step (Outside (globals_alone [])) ts us ∙ ap (λ (st : ReadSoFar). fold read_step st us) (text_run ts raw text) ∙ unit_run raw u us is

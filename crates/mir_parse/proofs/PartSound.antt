@@ -11,7 +11,7 @@ use Rattle.mir_lex.specs.declared.words.Mark.{Mark}
 use Rattle.mir_lex.specs.declared.words.Mark.TheVariants.{Colon, Comma, Semicolon, LeftParen, RightParen, Plus, Minus, Star, Slash, Equal, NotEqual, Less, LessEqual, Greater, GreaterEqual, Bang, Arrow}
 use Rattle.mir_base.specs.Words.{is_text}
 use Rattle.mir_base.specs.declared.words.Word.{Word}
-use Rattle.mir_base.specs.declared.words.Word.TheVariants.{Receive as ReceiveWord, Goto as GotoWord, If as IfWord, Call as CallWord, Return as ReturnWord, Print as PrintWord, Mod as ModWord, Min as MinWord, Max as MaxWord, Shl as ShlWord, Shr as ShrWord, Shra as ShraWord, And as AndWord, Or as OrWord, Xor as XorWord}
+use Rattle.mir_base.specs.declared.words.Word.TheVariants.{Receive as ReceiveWord, Goto as GotoWord, If as IfWord, Trap as TrapWord, Call as CallWord, Return as ReturnWord, Print as PrintWord, Mod as ModWord, Min as MinWord, Max as MaxWord, Shl as ShlWord, Shr as ShrWord, Shra as ShraWord, And as AndWord, Or as OrWord, Xor as XorWord}
 use Rattle.mir_parse.specs.declared.raw.RawOperand.{RawOperand}
 use Rattle.mir_parse.specs.declared.raw.RawOperand.TheVariants.{Var, Const}
 use Rattle.mir_parse.specs.declared.raw.RawTest.{RawTest}
@@ -20,11 +20,11 @@ use Rattle.mir_parse.specs.declared.raw.RawForm.TheVariants.{Receive}
 use Rattle.mir_parse.specs.declared.so_far.Hole.{Hole}
 use Rattle.mir_parse.specs.declared.so_far.Hole.TheVariants.{Unary as OfUnary, Binary as OfBinary, Arg as OfArg, Fails as OfFails, Rel as OfRel, Print as OfPrint}
 use Rattle.mir_parse.specs.declared.so_far.Part.{Part}
-use Rattle.mir_parse.specs.declared.so_far.Part.TheVariants.{Fresh, Receive as PReceive, ReceiveName, ReceiveOpen, ReceiveVal, Named, Arrowed, PlainName, PlainNumber, Wants, Call as PCall, Callee, Opening, FirstArg, Given, Typing, Typed, Goto as PGoto, If as PIf, IfOperand, Tested, IfGoto, Return as PReturn, Full}
+use Rattle.mir_parse.specs.declared.so_far.Part.TheVariants.{Fresh, Receive as PReceive, ReceiveName, ReceiveOpen, ReceiveVal, Named, Arrowed, PlainName, PlainNumber, Wants, Call as PCall, Callee, Opening, FirstArg, Given, Typing, Typed, Goto as PGoto, If as PIf, IfOperand, Tested, IfGoto, IfTrap, Return as PReturn, Full}
 use Rattle.mir_parse.specs.declared.so_far.Next.{Next}
 use Rattle.mir_parse.specs.declared.so_far.Next.TheVariants.{No, Go, Done, Label}
 use Rattle.mir_parse.specs.Grammar.{operand_symbol, relop_symbol, binop_symbol, unop_symbol, test_symbols, more_symbols, open_args, IsCallStart, IsForm}
-use Rattle.mir_parse.specs.Reader.{relop_of_mark, op_of_mark, op_of_word, filled, wants, mark_then, name_then, fresh, receive_word, named, arrowed, binary_with, plain_name, plain_number, call_word, first_arg, typed, goto_word, if_word, rel_with, if_operand, tested, if_goto, return_word, full, part_step}
+use Rattle.mir_parse.specs.Reader.{relop_of_mark, op_of_mark, op_of_word, filled, wants, mark_then, name_then, fresh, receive_word, named, arrowed, binary_with, plain_name, plain_number, call_word, first_arg, typed, goto_word, if_word, rel_with, if_operand, tested, if_goto, if_trap, return_word, full, part_step}
 
 -- what stands before an argument, after those before it
 abbrev pub until : List RawOperand → List Symbol
@@ -73,6 +73,7 @@ Read PIf ss = ss ≡ WORD IfWord ∷ []
 Read (IfOperand a) ss = ss ≡ WORD IfWord ∷ operand_symbol a ∷ []
 Read (Tested t) ss = ss ≡ WORD IfWord ∷ test_symbols t
 Read (IfGoto t) ss = ss ≡ WORD IfWord ∷ test_symbols t ++ WORD GotoWord ∷ []
+Read (IfTrap t) ss = ss ≡ WORD IfWord ∷ test_symbols t ++ WORD TrapWord ∷ []
 Read PReturn ss = ss ≡ WORD ReturnWord ∷ []
 Read (Full f) ss = IsForm ss f
 
@@ -261,18 +262,25 @@ rel_with_keeps a (Some op) s ss is h = on ss _ s h ∙ ap (λ (t : Symbol). WORD
 -- after the first operand of a test
 if_operand_keeps : (a : RawOperand) (s : Symbol) (ss : List Symbol) → Read (IfOperand a) ss → KeepsSymbols (if_operand a s) (ss ++ s ∷ [])
 if_operand_keeps a (WORD GotoWord) ss h = on ss _ (WORD GotoWord) h
+if_operand_keeps a (WORD TrapWord) ss h = on ss _ (WORD TrapWord) h
 if_operand_keeps a (MARK m) ss h = rel_with_keeps a (relop_of_mark m) (MARK m) ss (mark_rel m) h
 if_operand_keeps a s ss h = tt
 
 -- after a whole test
 tested_keeps : (t : RawTest) (s : Symbol) (ss : List Symbol) → Read (Tested t) ss → KeepsSymbols (tested t s) (ss ++ s ∷ [])
 tested_keeps t (WORD GotoWord) ss h = on ss _ (WORD GotoWord) h
+tested_keeps t (WORD TrapWord) ss h = on ss _ (WORD TrapWord) h
 tested_keeps t s ss h = tt
 
 -- after the `goto` of a test
 if_goto_keeps : (t : RawTest) (s : Symbol) (ss : List Symbol) → Read (IfGoto t) ss → KeepsSymbols (if_goto t s) (ss ++ s ∷ [])
 if_goto_keeps t (NAME l) ss h = on ss _ (NAME l) h ∙ append_assoc (WORD IfWord ∷ test_symbols t) (WORD GotoWord ∷ []) (NAME l ∷ [])
 if_goto_keeps t s ss h = tt
+
+-- after the `trap` of a test
+if_trap_keeps : (t : RawTest) (s : Symbol) (ss : List Symbol) → Read (IfTrap t) ss → KeepsSymbols (if_trap t s) (ss ++ s ∷ [])
+if_trap_keeps t (NUMBER n) ss h = on ss _ (NUMBER n) h ∙ append_assoc (WORD IfWord ∷ test_symbols t) (WORD TrapWord ∷ []) (NUMBER n ∷ [])
+if_trap_keeps t s ss h = tt
 
 -- after `return`
 return_word_keeps : (s : Symbol) (ss : List Symbol) → Read PReturn ss → KeepsSymbols (return_word s) (ss ++ s ∷ [])
@@ -336,5 +344,6 @@ part_keeps PIf s ss h = if_word_keeps s ss h
 part_keeps (IfOperand a) s ss h = if_operand_keeps a s ss h
 part_keeps (Tested t) s ss h = tested_keeps t s ss h
 part_keeps (IfGoto t) s ss h = if_goto_keeps t s ss h
+part_keeps (IfTrap t) s ss h = if_trap_keeps t s ss h
 part_keeps PReturn s ss h = return_word_keeps s ss h
 part_keeps (Full f) s ss h = full_keeps f s ss h

@@ -1,14 +1,17 @@
 -- What the reader has read: a text, or a prefix of one.
-use Rattle.std.proofs.Common.{◌≡◌, ℕ, Bool, true, false, List, [], ◌∷◌, ◌++◌, length, refl, sym, ◌∙◌, ap, subst, append_assoc, append-nil, inl, inr}
+use Rattle.std.proofs.Common.{◌≡◌, ℕ, Bool, true, false, List, [], ◌∷◌, ◌++◌, length, Option, None, Some, refl, sym, ◌∙◌, ap, subst, append_assoc, append-nil, inl, inr}
 use Rattle.std.specs.List.{fold}
 use Rattle.mir_lex.specs.declared.terminals.Symbol.{Symbol}
 use Rattle.mir_lex.specs.declared.terminals.Symbol.TheVariants.{Name as NAME, Word as WORD, Mark as MARK, LineEnd as NL}
 use Rattle.mir_lex.specs.declared.terminals.Terminal.{Terminal}
 use Rattle.mir_lex.specs.declared.words.Mark.TheVariants.{Colon}
-use Rattle.mir_base.specs.declared.words.Word.TheVariants.{Begin as BeginWord, End as EndWord}
+use Rattle.mir_base.specs.declared.words.Word.TheVariants.{Begin as BeginWord, End as EndWord, Global as GlobalWord}
 use Rattle.mir_parse.specs.declared.raw.RawForm.{RawForm}
 use Rattle.mir_parse.specs.declared.raw.RawInst.{RawInst}
 use Rattle.mir_parse.specs.declared.raw.RawLabel.{RawLabel}
+use Rattle.mir_parse.specs.declared.raw.RawGlobal.{RawGlobal}
+use Rattle.mir_parse.specs.declared.raw.Raw.{Raw}
+use Rattle.mir_parse.specs.RawParts.{globals_alone}
 use Rattle.mir_parse.specs.RawUnit.{RawUnitShape}
 use Rattle.mir_parse.specs.declared.so_far.Part.{Part}
 use Rattle.mir_parse.specs.declared.so_far.Next.{Next}
@@ -17,9 +20,9 @@ use Rattle.mir_parse.specs.declared.so_far.Spot.{Spot}
 use Rattle.mir_parse.specs.declared.so_far.Spot.TheVariants.{Named as UnitNamed, Headed, Begun, Inside, Mid, AfterEnd}
 use Rattle.mir_parse.specs.declared.so_far.Reading.{Reading}
 use Rattle.mir_parse.specs.declared.so_far.ReadSoFar.{ReadSoFar}
-use Rattle.mir_parse.specs.declared.so_far.ReadSoFar.TheVariants.{Outside, In, Stopped}
-use Rattle.mir_parse.specs.Grammar.{symbols, StartsAt, Are, IsBreak, Body, IsHead, IsText, bare, label, inst, no_unit, more}
-use Rattle.mir_parse.specs.Reader.{fresh, part_step, begin_unit, with_inst, with_label, reading_after, outside, unit_named, headed, begun, inside, after_end, spot_step, read_step, reads}
+use Rattle.mir_parse.specs.declared.so_far.ReadSoFar.TheVariants.{Outside, Global as InGlobal, In, Stopped}
+use Rattle.mir_parse.specs.Grammar.{symbols, StartsAt, Are, IsBreak, Body, IsHead, IsText, bare, label, inst, no_unit, global_line, more}
+use Rattle.mir_parse.specs.Reader.{fresh, part_step, begin_unit, with_inst, with_label, reading_after, global_word, outside, in_global, unit_named, headed, begun, inside, after_end, spot_step, read_step, reads}
 use Rattle.mir_parse.proofs.PartSound.{Read, KeepsSymbols, fresh_keeps, part_keeps}
 
 -- no label and no instruction yet
@@ -90,13 +93,27 @@ At b AfterEnd own = AtEnd b own
 pub record InUnit (b : Reading) (spot : Spot) (ts : List Terminal) : Type 0 where
   pub before : List Terminal
   pub own : List Terminal
-  pub text : IsText before b.units
+  pub text : IsText before b.whole
   pub is : ts ≡ before ++ own
   pub at : At b spot own
 
+-- the symbols of a global line up to its name, or with it
+abbrev pub global_symbols : Option (List ℕ) → List Symbol
+global_symbols None = WORD GlobalWord ∷ []
+global_symbols (Some x) = WORD GlobalWord ∷ NAME x ∷ []
+
+-- the tokens are those of whole global lines, and those of one up to its name, or with it
+pub record InLine (globals : List RawGlobal) (line : ℕ) (name : Option (List ℕ)) (ts : List Terminal) : Type 0 where
+  pub before : List Terminal
+  pub own : List Terminal
+  pub text : IsText before (globals_alone globals)
+  pub is : ts ≡ before ++ own
+  pub are : Are own line (global_symbols name)
+
 -- what the state has read
 abbrev pub IsReadFrom : ReadSoFar → List Terminal → Type 0
-IsReadFrom (Outside units) ts = IsText ts units
+IsReadFrom (Outside raw) ts = IsText ts raw
+IsReadFrom (InGlobal globals line name) ts = InLine globals line name ts
 IsReadFrom (In b spot) ts = InUnit b spot ts
 IsReadFrom (Stopped line) ts = Unit {0}
 
@@ -131,7 +148,7 @@ own_on own head rows us vs h =
     ap (λ (l : List Terminal). l ++ vs) h ∙ append_assoc head (rows ++ us) vs ∙ ap (λ (l : List Terminal). head ++ l) (append_assoc rows us vs)
 
 -- the units before, joined with what was read of this one
-in_unit : (b : Reading) (spot : Spot) (before own : List Terminal) → IsText before b.units → At b spot own → InUnit b spot (before ++ own)
+in_unit : (b : Reading) (spot : Spot) (before own : List Terminal) → IsText before b.whole → At b spot own → InUnit b spot (before ++ own)
 in_unit b spot before own text at = record { before = before; own = own; text = text; is = refl; at = at }
 
 -- the rows up to the colon, the colon's label among them
@@ -185,14 +202,14 @@ part_label b line p name s at own h keeps = record {
 }
 
 -- each of the three ways, and none is claimed where the token is refused
-after_keeps : (b : Reading) (line : ℕ) (p : Part) (n : Next) (s : Symbol) (at : ℕ) (before own : List Terminal) → IsText before b.units → (h : InPart b line p own) → KeepsSymbols n (h.ss ++ s ∷ []) → IsReadFrom (reading_after b line at n) (before ++ (own ++ token s at ∷ []))
+after_keeps : (b : Reading) (line : ℕ) (p : Part) (n : Next) (s : Symbol) (at : ℕ) (before own : List Terminal) → IsText before b.whole → (h : InPart b line p own) → KeepsSymbols n (h.ss ++ s ∷ []) → IsReadFrom (reading_after b line at n) (before ++ (own ++ token s at ∷ []))
 after_keeps b line p No s at before own text h keeps = tt
 after_keeps b line p (Go q) s at before own text h keeps = in_unit b (Mid line q) before (own ++ token s at ∷ []) text (part_goes b line p q s at own h keeps)
 after_keeps b line p (Done form) s at before own text h keeps = in_unit (with_inst b line form) (Inside false) before (own ++ token s at ∷ []) text (part_done b line p form s at own h keeps)
 after_keeps b line p (Label name) s at before own text h keeps = in_unit (with_label b line name) (Inside true) before (own ++ token s at ∷ []) text (part_label b line p name s at own h keeps)
 
 -- the first token of an instruction
-first_keeps : (b : Reading) (n : Next) (s : Symbol) (at : ℕ) (before own : List Terminal) → IsText before b.units → InRows b own → KeepsSymbols n (s ∷ []) → IsReadFrom (reading_after b at at n) (before ++ (own ++ token s at ∷ []))
+first_keeps : (b : Reading) (n : Next) (s : Symbol) (at : ℕ) (before own : List Terminal) → IsText before b.whole → InRows b own → KeepsSymbols n (s ∷ []) → IsReadFrom (reading_after b at at n) (before ++ (own ++ token s at ∷ []))
 first_keeps b No s at before own text h keeps = tt
 first_keeps b (Go q) s at before own text h keeps = in_unit b (Mid at q) before (own ++ token s at ∷ []) text (record {
   head = h.head;
@@ -243,30 +260,51 @@ broken b at own h = record {
 }
 
 -- the state that follows a symbol says what was read: between two instructions
-inside_keeps : (b : Reading) (colon : Bool) (s : Symbol) (at : ℕ) (before own : List Terminal) → IsText before b.units → At b (Inside colon) own → IsReadFrom (inside b colon s at) (before ++ (own ++ token s at ∷ []))
+inside_keeps : (b : Reading) (colon : Bool) (s : Symbol) (at : ℕ) (before own : List Terminal) → IsText before b.whole → At b (Inside colon) own → IsReadFrom (inside b colon s at) (before ++ (own ++ token s at ∷ []))
 inside_keeps b colon (WORD EndWord) at before own text h = in_unit b AfterEnd before (own ++ token (WORD EndWord) at ∷ []) text (end_of_rows b at own (rows_of b colon own h))
 inside_keeps b true NL at before own text h = in_unit b (Inside false) before (own ++ token NL at ∷ []) text (broken b at own h)
 inside_keeps b colon s at before own text h = first_keeps b (fresh s) s at before own text (rows_of b colon own h) (fresh_keeps s)
 
--- outside units
-outside_keeps : (units : List RawUnitShape) (s : Symbol) (at : ℕ) (before : List Terminal) → IsText before units → IsReadFrom (outside units s at) (before ++ token s at ∷ [])
-outside_keeps units (NAME x) at before text = in_unit (begin_unit units x at) UnitNamed before (token (NAME x) at ∷ []) text (record { spelled = refl; starts = refl }, (refl, refl))
-outside_keeps units s at before text = tt
+-- after `global`
+global_word_keeps : (globals : List RawGlobal) (units : List RawUnitShape) (at : ℕ) (before : List Terminal) → IsText before (record { globals = globals; units = units }) → IsReadFrom (global_word globals units at) (before ++ token (WORD GlobalWord) at ∷ [])
+global_word_keeps globals [] at before text = record { before = before; own = token (WORD GlobalWord) at ∷ []; text = text; is = refl; are = record { spelled = refl; starts = refl } }
+global_word_keeps globals (unit ∷ units) at before text = tt
+
+-- outside units and global lines
+outside_keeps : (raw : Raw) (s : Symbol) (at : ℕ) (before : List Terminal) → IsText before raw → IsReadFrom (outside raw s at) (before ++ token s at ∷ [])
+outside_keeps raw (NAME x) at before text = in_unit (begin_unit raw x at) UnitNamed before (token (NAME x) at ∷ []) text (record { spelled = refl; starts = refl }, (refl, refl))
+outside_keeps raw (WORD GlobalWord) at before text = global_word_keeps raw.globals raw.units at before text
+outside_keeps raw s at before text = tt
+
+-- in a global line
+in_global_keeps : (globals : List RawGlobal) (line : ℕ) (name : Option (List ℕ)) (s : Symbol) (at : ℕ) (ts : List Terminal) → InLine globals line name ts → IsReadFrom (in_global globals line name s at) (ts ++ token s at ∷ [])
+in_global_keeps globals line None (NAME x) at ts h = record {
+  before = h.before;
+  own = h.own ++ token (NAME x) at ∷ [];
+  text = h.text;
+  is = ap (λ (l : List Terminal). l ++ token (NAME x) at ∷ []) h.is ∙ append_assoc h.before h.own (token (NAME x) at ∷ []);
+  are = are_on h.own line (WORD GlobalWord ∷ []) (NAME x) at h.are;
+}
+in_global_keeps globals line (Some x) NL at ts h =
+    subst (λ (l : List Terminal). IsText l (globals_alone (globals ++ record { name = x; line = line } ∷ [])))
+    (sym (ap (λ (l : List Terminal). l ++ token NL at ∷ []) h.is ∙ append_assoc h.before h.own (token NL at ∷ [])))
+    (global_line (record { name = x; line = line }) h.text (are_on h.own line (WORD GlobalWord ∷ NAME x ∷ []) NL at h.are))
+in_global_keeps globals line name s at ts h = tt
 
 -- after the name of a unit
-unit_named_keeps : (b : Reading) (s : Symbol) (at : ℕ) (before own : List Terminal) → IsText before b.units → At b UnitNamed own → IsReadFrom (unit_named b s at) (before ++ (own ++ token s at ∷ []))
+unit_named_keeps : (b : Reading) (s : Symbol) (at : ℕ) (before own : List Terminal) → IsText before b.whole → At b UnitNamed own → IsReadFrom (unit_named b s at) (before ++ (own ++ token s at ∷ []))
 unit_named_keeps b (MARK Colon) at before own text h = in_unit b (Headed true) before (own ++ token (MARK Colon) at ∷ []) text (record { are = are_on own b.unit.line (NAME b.unit.name ∷ []) (MARK Colon) at h.0; empty = h.1 })
 unit_named_keeps b s at before own text h = tt
 
 -- after its colon
-headed_keeps : (b : Reading) (colon : Bool) (s : Symbol) (at : ℕ) (before own : List Terminal) → IsText before b.units → At b (Headed colon) own → IsReadFrom (headed b colon s at) (before ++ (own ++ token s at ∷ []))
+headed_keeps : (b : Reading) (colon : Bool) (s : Symbol) (at : ℕ) (before own : List Terminal) → IsText before b.whole → At b (Headed colon) own → IsReadFrom (headed b colon s at) (before ++ (own ++ token s at ∷ []))
 headed_keeps b true (WORD BeginWord) at before own text h = in_unit b Begun before (own ++ token (WORD BeginWord) at ∷ []) text ([], inl refl, record { are = are_on own b.unit.line (NAME b.unit.name ∷ MARK Colon ∷ []) (WORD BeginWord) at h.are; empty = h.empty })
 headed_keeps b false (WORD BeginWord) at before own text h = in_unit b Begun before (own ++ token (WORD BeginWord) at ∷ []) text (NL ∷ [], inr refl, record { are = are_on own b.unit.line (NAME b.unit.name ∷ MARK Colon ∷ NL ∷ []) (WORD BeginWord) at h.are; empty = h.empty })
 headed_keeps b true NL at before own text h = in_unit b (Headed false) before (own ++ token NL at ∷ []) text (record { are = are_on own b.unit.line (NAME b.unit.name ∷ MARK Colon ∷ []) NL at h.are; empty = h.empty })
 headed_keeps b colon s at before own text h = tt
 
 -- after `begin`
-begun_keeps : (b : Reading) (s : Symbol) (at : ℕ) (before own : List Terminal) → IsText before b.units → At b Begun own → IsReadFrom (begun b s at) (before ++ (own ++ token s at ∷ []))
+begun_keeps : (b : Reading) (s : Symbol) (at : ℕ) (before own : List Terminal) → IsText before b.whole → At b Begun own → IsReadFrom (begun b s at) (before ++ (own ++ token s at ∷ []))
 begun_keeps b NL at before own text h = in_unit b (Inside false) before (own ++ token NL at ∷ []) text (record {
   head = own ++ token NL at ∷ [];
   rows = [];
@@ -283,7 +321,7 @@ begun_keeps b NL at before own text h = in_unit b (Inside false) before (own ++ 
 begun_keeps b s at before own text h = tt
 
 -- after `end`
-after_end_keeps : (b : Reading) (s : Symbol) (at : ℕ) (before own : List Terminal) → IsText before b.units → At b AfterEnd own → IsReadFrom (after_end b s at) (before ++ (own ++ token s at ∷ []))
+after_end_keeps : (b : Reading) (s : Symbol) (at : ℕ) (before own : List Terminal) → IsText before b.whole → At b AfterEnd own → IsReadFrom (after_end b s at) (before ++ (own ++ token s at ∷ []))
 after_end_keeps b NL at before own text h = more b.unit text (record {
   head = h.head;
   body = h.rows;
@@ -296,7 +334,7 @@ after_end_keeps b NL at before own text h = more b.unit text (record {
 after_end_keeps b s at before own text h = tt
 
 -- at each place in a unit
-spot_keeps : (b : Reading) (spot : Spot) (s : Symbol) (at : ℕ) (before own : List Terminal) → IsText before b.units → At b spot own → IsReadFrom (spot_step b spot s at) (before ++ (own ++ token s at ∷ []))
+spot_keeps : (b : Reading) (spot : Spot) (s : Symbol) (at : ℕ) (before own : List Terminal) → IsText before b.whole → At b spot own → IsReadFrom (spot_step b spot s at) (before ++ (own ++ token s at ∷ []))
 spot_keeps b UnitNamed s at before own text h = unit_named_keeps b s at before own text h
 spot_keeps b (Headed colon) s at before own text h = headed_keeps b colon s at before own text h
 spot_keeps b Begun s at before own text h = begun_keeps b s at before own text h
@@ -306,7 +344,8 @@ spot_keeps b AfterEnd s at before own text h = after_end_keeps b s at before own
 
 -- what was read stays true with each token
 token_keeps : (st : ReadSoFar) (t : Terminal) (ts : List Terminal) → IsReadFrom st ts → IsReadFrom (read_step st t) (ts ++ t ∷ [])
-token_keeps (Outside units) t ts h = outside_keeps units t.symbol t.line ts h
+token_keeps (Outside raw) t ts h = outside_keeps raw t.symbol t.line ts h
+token_keeps (InGlobal globals line name) t ts h = in_global_keeps globals line name t.symbol t.line ts h
 token_keeps (In b spot) t ts h = subst (λ (l : List Terminal). IsReadFrom (spot_step b spot t.symbol t.line) l)
     (sym (ap (λ (l : List Terminal). l ++ t ∷ []) h.is ∙ append_assoc h.before h.own (t ∷ [])))
     (spot_keeps b spot t.symbol t.line h.before h.own h.text h.at)
@@ -319,4 +358,4 @@ tokens_keep st ts (u ∷ us) h = subst (λ (l : List Terminal). IsReadFrom (fold
 
 -- what is read outside a unit is a text
 pub reads_keeps : (ts : List Terminal) → IsReadFrom (reads ts) ts
-reads_keeps ts = tokens_keep (Outside []) [] ts no_unit
+reads_keeps ts = tokens_keep (Outside (globals_alone [])) [] ts no_unit

@@ -10,7 +10,6 @@ use Rattle.mir_parse.specs.declared.faults.ParseFault.{ParseFault}
 use Rattle.mir_parse.specs.declared.faults.ParseFault.TheVariants.{Unexpected, Unfinished, Memory}
 use Rattle.mir_parse.specs.declared.faults.TextFault.{TextFault}
 use Rattle.mir_parse.specs.declared.faults.TextFault.TheVariants.{Lex, Parse}
-use Rattle.mir_parse.specs.RawUnit.{RawUnitShape}
 use Rattle.mir_parse.specs.Fault.{IsParseMemory}
 use Rattle.mir_parse.specs.Grammar.{IsText, IsUnexpected, IsUnfinished}
 use Rattle.mir_parse.specs.Spells.{Spells, IsTextRefusal, TokensRefused}
@@ -22,15 +21,11 @@ pub moved : (P : List Terminal → Type 0) (bytes text : List ℕ) (others items
 moved P bytes text others items same_text same_items h =
     subst (λ (l : List ℕ). P (terminals l items)) (sym same_text) (subst (λ (ts : List Token). P (terminals bytes ts)) (sym same_items) h)
 
--- a raw program is its units
-pub raw_same : (one other : Raw) → one.units ≡ other.units → one ≡ other
-raw_same one other h = ap (λ (units : List RawUnitShape). record { units = units }) h
-
 -- no text spells two raw programs, where it has at most one list of tokens
 pub spells_same : (bytes : List ℕ) → TokensAreUnique bytes → (one other : Raw) → Spells bytes one → Spells bytes other → one ≡ other
 spells_same bytes unique one other is also =
     let items = unique is.items also.items is.tokens also.tokens in
-    raw_same one other (text_same (terminals bytes is.items) one.units other.units is.text (moved (λ ts. IsText ts other.units) bytes bytes also.items is.items refl items also.text))
+    text_same (terminals bytes is.items) one other is.text (moved (λ ts. IsText ts other) bytes bytes also.items is.items refl items also.text)
 
 -- a refusal, by its cause
 pub by_cause : (bytes : List ℕ) (P : TextFault → Type 0)
@@ -66,7 +61,7 @@ tokens_refused_same bytes items Unfinished (Memory refusal) is also = absurd als
 tokens_refused_same bytes items (Memory refusal) other is also = absurd is
 
 -- and those that are a text are not refused
-tokens_refused_none : (bytes : List ℕ) (items : List Token) (fault : ParseFault) (units : List RawUnitShape) → TokensRefused bytes items fault → IsText (terminals bytes items) units → ⊥
+tokens_refused_none : (bytes : List ℕ) (items : List Token) (fault : ParseFault) (units : Raw) → TokensRefused bytes items fault → IsText (terminals bytes items) units → ⊥
 tokens_refused_none bytes items (Unexpected line) units is text = outside_unexpected _ units (sym (text_run (terminals bytes items) units text)) line is
 tokens_refused_none bytes items Unfinished units is text = outside_unfinished _ units (sym (text_run (terminals bytes items) units text)) is
 tokens_refused_none bytes items (Memory refusal) units is text = is
@@ -83,4 +78,4 @@ refusals_same bytes unique fault none (Parse one) (Parse other) is also =
 pub refusal_spells : (bytes : List ℕ) → TokensAreUnique bytes → HasNoTokensIfRefused bytes → (fault : TextFault) → IsTextRefusal bytes fault → (raw : Raw) → Spells bytes raw → ⊥
 refusal_spells bytes unique none (Lex fault) is raw spells = none fault is spells.items spells.tokens
 refusal_spells bytes unique none (Parse fault) is raw spells =
-    tokens_refused_none bytes spells.items fault raw.units (subst (λ (items : List Token). TokensRefused bytes items fault) (unique is.0 spells.items is.1 spells.tokens) is.2) spells.text
+    tokens_refused_none bytes spells.items fault raw (subst (λ (items : List Token). TokensRefused bytes items fault) (unique is.0 spells.items is.1 spells.tokens) is.2) spells.text

@@ -5,7 +5,6 @@ use Rattle.mir_parse.specs.declared.raw.Raw.{Raw}
 use Rattle.mir_parse.specs.declared.faults.ParseFault.{ParseFault}
 use Rattle.mir_parse.specs.declared.faults.ParseFault.TheVariants.{Unexpected}
 use Rattle.mir_parse.specs.declared.faults.TextFault.{TextFault}
-use Rattle.mir_parse.specs.RawUnit.{RawUnitShape}
 use Rattle.mir_parse.specs.Fault.{IsParseMemory}
 use Rattle.mir_parse.specs.Grammar.{IsText, IsUnexpected}
 use Rattle.mir_parse.specs.Spells.{Spells, IsTextRefusal, IsTextMemory}
@@ -14,9 +13,9 @@ use Rattle.mir_parse.specs.Spells.{Spells, IsTextRefusal, IsTextMemory}
 abbrev pub IsRefusedFor : Result Raw ParseFault → ParseFault → Type 0
 IsRefusedFor result fault = MatchResult result (λ raw. ⊥) (λ other. (other ≡ fault) ⊎ IsParseMemory other)
 
--- the units that the tokens spell are answered, or memory runs out
-abbrev pub AnswersUnits : Result Raw ParseFault → List Terminal → Type 0
-AnswersUnits result ts = (units : List RawUnitShape) → IsText ts units → MatchResult result (λ raw. raw.units ≡ units) IsParseMemory
+-- the raw program that the tokens spell is answered, or memory runs out
+abbrev pub AnswersRaw : Result Raw ParseFault → List Terminal → Type 0
+AnswersRaw result ts = (raw : Raw) → IsText ts raw → MatchResult result (λ read. read ≡ raw) IsParseMemory
 
 -- where a line is refused as unexpected, it is that of the first token that makes no prefix of a text
 abbrev pub OnlyUnexpectedIsRefused : Result Raw ParseFault → List Terminal → Type 0

@@ -13,7 +13,7 @@ use Rattle.mir_lex.specs.declared.terminals.Terminal.{Terminal}
 use Rattle.mir_lex.specs.Terminals.{terminals}
 use Rattle.mir_lex.specs.Tokens.{TokensShape}
 use Rattle.mir_lex.specs.declared.words.Mark.TheVariants.{Colon, Comma, Semicolon, LeftParen, RightParen, Plus, Minus, Star, Slash, Equal, NotEqual, Less, LessEqual, Greater, GreaterEqual, Bang, Arrow}
-use Rattle.mir_base.specs.declared.words.Word.TheVariants.{Begin as BeginWord, End as EndWord, Receive as ReceiveWord, Goto as GotoWord, If as IfWord, Call as CallWord, Return as ReturnWord, Print as PrintWord, Mod as ModWord, Min as MinWord, Max as MaxWord, Shl as ShlWord, Shr as ShrWord, Shra as ShraWord, And as AndWord, Or as OrWord, Xor as XorWord}
+use Rattle.mir_base.specs.declared.words.Word.TheVariants.{Begin as BeginWord, End as EndWord, Receive as ReceiveWord, Goto as GotoWord, If as IfWord, Trap as TrapWord, Global as GlobalWord, Call as CallWord, Return as ReturnWord, Print as PrintWord, Mod as ModWord, Min as MinWord, Max as MaxWord, Shl as ShlWord, Shr as ShrWord, Shra as ShraWord, And as AndWord, Or as OrWord, Xor as XorWord}
 use Rattle.mir_parse.specs.declared.raw.RawOperand.{RawOperand}
 use Rattle.mir_parse.specs.declared.raw.RawOperand.TheVariants.{Var, Const}
 use Rattle.mir_parse.specs.declared.raw.RawRhs.{RawRhs}
@@ -21,9 +21,12 @@ use Rattle.mir_parse.specs.declared.raw.RawRhs.TheVariants.{Plain, Unary, Binary
 use Rattle.mir_parse.specs.declared.raw.RawTest.{RawTest}
 use Rattle.mir_parse.specs.declared.raw.RawTest.TheVariants.{Rel, Holds, Fails}
 use Rattle.mir_parse.specs.declared.raw.RawForm.{RawForm}
-use Rattle.mir_parse.specs.declared.raw.RawForm.TheVariants.{Receive, Assign, Goto, If, Call, Print, Return}
+use Rattle.mir_parse.specs.declared.raw.RawForm.TheVariants.{Receive, Assign, Goto, If, TrapIf, Call, Print, Return}
 use Rattle.mir_parse.specs.declared.raw.RawInst.{RawInst}
 use Rattle.mir_parse.specs.declared.raw.RawLabel.{RawLabel}
+use Rattle.mir_parse.specs.declared.raw.RawGlobal.{RawGlobal}
+use Rattle.mir_parse.specs.declared.raw.Raw.{Raw}
+use Rattle.mir_parse.specs.RawParts.{globals_alone, raw_with_unit}
 use Rattle.mir_parse.specs.RawUnit.{RawUnitShape}
 
 -- ---- operands and operators
@@ -101,6 +104,7 @@ IsCallStart ss (Some x) = (ss ≡ NAME x ∷ MARK Arrow ∷ []) ⊎ (ss ≡ NAME
 --      | NAME arrow rhs
 --      | "goto" NAME
 --      | "if" test "goto" NAME
+--      | "if" test "trap" NUMBER
 --      | NAME arrow ["call"] NAME "," args
 --      | "call" NAME "," args
 --      | "print" operand
@@ -110,7 +114,9 @@ IsForm ss (Receive x) = ss ≡ WORD ReceiveWord ∷ NAME x ∷ MARK LeftParen �
 IsForm ss (Assign x rhs) = ss ≡ NAME x ∷ MARK Arrow ∷ rhs_symbols rhs
 IsForm ss (Goto l) = ss ≡ WORD GotoWord ∷ NAME l ∷ []
 IsForm ss (If test l) = ss ≡ WORD IfWord ∷ test_symbols test ++ WORD GotoWord ∷ NAME l ∷ []
-IsForm ss (Call x f args) = (start : List Symbol) × IsCallStart start x × (ss ≡ start ++ NAME f ∷ MARK Comma ∷ args_symbols args)
+IsForm ss (TrapIf test n) = ss ≡ WORD IfWord ∷ test_symbols test ++ WORD TrapWord ∷ NUMBER n ∷ []
+IsForm ss (Call x f args) = (start : List Symbol) × IsCallStart start x
+    × (ss ≡ start ++ NAME f ∷ MARK Comma ∷ args_symbols args)
 IsForm ss (Print a) = ss ≡ WORD PrintWord ∷ operand_symbol a ∷ []
 IsForm ss (Return None) = ss ≡ WORD ReturnWord ∷ []
 IsForm ss (Return (Some a)) = ss ≡ WORD ReturnWord ∷ operand_symbol a ∷ []
@@ -157,8 +163,10 @@ pub record IsInst (ts : List Terminal) (inst : RawInst) : Type 0 where
 -- at the place of the next instruction
 pub data Body : List Terminal → List RawLabel → List RawInst → Type 0 where
   bare : Body [] [] []
-  label : {ts us : List Terminal} {labels : List RawLabel} {body : List RawInst} (l : RawLabel) → Body ts labels body → IsLabel us l → l.place ≡ length body → Body (ts ++ us) (labels ++ l ∷ []) body
-  inst : {ts us : List Terminal} {labels : List RawLabel} {body : List RawInst} (i : RawInst) → Body ts labels body → IsInst us i → Body (ts ++ us) labels (body ++ i ∷ [])
+  label : {ts us : List Terminal} {labels : List RawLabel} {body : List RawInst} (l : RawLabel) → Body ts labels body
+      → IsLabel us l → l.place ≡ length body → Body (ts ++ us) (labels ++ l ∷ []) body
+  inst : {ts us : List Terminal} {labels : List RawLabel} {body : List RawInst} (i : RawInst) → Body ts labels body
+      → IsInst us i → Body (ts ++ us) labels (body ++ i ∷ [])
 
 -- NAME ":" [NL] "begin" NL
 pub record IsHead (ts : List Terminal) (name : List ℕ) (line : ℕ) : Type 0 where
@@ -176,16 +184,23 @@ pub record IsUnit (ts : List Terminal) (unit : RawUnitShape) : Type 0 where
   pub is_tail : symbols tail ≡ WORD EndWord ∷ NL ∷ []
   pub text : ts ≡ head ++ body ++ tail
 
--- text = { unit }, here with the last unit last
-pub data IsText : List Terminal → List RawUnitShape → Type 0 where
-  no_unit : IsText [] []
-  more : {ts us : List Terminal} {units : List RawUnitShape} (u : RawUnitShape) → IsText ts units → IsUnit us u → IsText (ts ++ us) (units ++ u ∷ [])
+-- "global" NAME NL
+abbrev pub IsGlobal : List Terminal → RawGlobal → Type 0
+IsGlobal ts global = Are ts global.line (WORD GlobalWord ∷ NAME global.name ∷ NL ∷ [])
+
+-- text = { "global" NAME NL } { unit }, here with the last global line and the last unit last
+pub data IsText : List Terminal → Raw → Type 0 where
+  no_unit : IsText [] (globals_alone [])
+  global_line : {ts us : List Terminal} {globals : List RawGlobal} (g : RawGlobal) → IsText ts (globals_alone globals)
+      → IsGlobal us g → IsText (ts ++ us) (globals_alone (globals ++ g ∷ []))
+  more : {ts us : List Terminal} {raw : Raw} (u : RawUnitShape) → IsText ts raw → IsUnit us u
+      → IsText (ts ++ us) (raw_with_unit raw u)
 
 -- ---- refusals
 
 -- the tokens are a prefix of a text of the grammar
 abbrev pub IsTextPrefix : List Terminal → Type 0
-IsTextPrefix ts = (remainder : List Terminal) × (units : List RawUnitShape) × IsText (ts ++ remainder) units
+IsTextPrefix ts = (remainder : List Terminal) × (raw : Raw) × IsText (ts ++ remainder) raw
 
 -- the first token that makes the tokens up to it no prefix of a text stands on this line
 pub record IsUnexpected (ts : List Terminal) (line : ℕ) : Type 0 where
@@ -199,10 +214,10 @@ pub record IsUnexpected (ts : List Terminal) (line : ℕ) : Type 0 where
 
 -- the tokens are a prefix of a text, and no text
 abbrev pub IsUnfinished : List Terminal → Type 0
-IsUnfinished ts = IsTextPrefix ts × ((units : List RawUnitShape) → IsText ts units → ⊥)
+IsUnfinished ts = IsTextPrefix ts × ((raw : Raw) → IsText ts raw → ⊥)
 
 -- ---- laws
 
--- the tokens spell at most one list of units
-abbrev pub UnitsAreUnique : List Terminal → Type 0
-UnitsAreUnique ts = (one other : List RawUnitShape) → IsText ts one → IsText ts other → one ≡ other
+-- the tokens spell at most one raw program
+abbrev pub TextIsUnique : List Terminal → Type 0
+TextIsUnique ts = (one other : Raw) → IsText ts one → IsText ts other → one ≡ other

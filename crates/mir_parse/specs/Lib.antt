@@ -1,4 +1,5 @@
 pub mod RawUnit
+pub mod RawParts
 pub mod Grammar
 pub mod Reader
 pub mod Fault

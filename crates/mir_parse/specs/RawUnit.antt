@@ -17,8 +17,8 @@ abbrev pub HasPlaces : List RawLabel → List RawInst → Type 0
 HasPlaces labels body = All (λ label. label.place ≤ length body) labels
 
 -- a unit of which only the name was read
-abbrev pub unit_begun : List ℕ → ℕ → RawUnitShape
-unit_begun name line = record { name = name; line = line; labels = []; body = [] }
+abbrev pub empty_unit : List ℕ → ℕ → RawUnitShape
+empty_unit name line = record { name = name; line = line; labels = []; body = [] }
 
 -- the unit with one more instruction at its end
 abbrev pub unit_with_inst : RawUnitShape → ℕ → RawForm → RawUnitShape
@@ -26,4 +26,5 @@ unit_with_inst unit line form = record unit { body = unit.body ++ record { line 
 
 -- the unit with one more label, which stands behind its instructions
 abbrev pub unit_with_label : RawUnitShape → ℕ → List ℕ → RawUnitShape
-unit_with_label unit line name = record unit { labels = unit.labels ++ record { name = name; place = length unit.body; line = line } ∷ [] }
+unit_with_label unit line name =
+    record unit { labels = unit.labels ++ record { name = name; place = length unit.body; line = line } ∷ [] }

@@ -14,28 +14,31 @@ use Rattle.mir_lex.specs.declared.words.Mark.{Mark}
 use Rattle.mir_lex.specs.declared.words.Mark.TheVariants.{Colon, Comma, Semicolon, LeftParen, RightParen, Plus, Minus, Star, Slash, Equal, NotEqual, Less, LessEqual, Greater, GreaterEqual, Bang, Arrow}
 use Rattle.mir_base.specs.Words.{is_text}
 use Rattle.mir_base.specs.declared.words.Word.{Word}
-use Rattle.mir_base.specs.declared.words.Word.TheVariants.{Begin as BeginWord, End as EndWord, Receive as ReceiveWord, Goto as GotoWord, If as IfWord, Call as CallWord, Return as ReturnWord, Print as PrintWord, Mod as ModWord, Min as MinWord, Max as MaxWord, Shl as ShlWord, Shr as ShrWord, Shra as ShraWord, And as AndWord, Or as OrWord, Xor as XorWord}
+use Rattle.mir_base.specs.declared.words.Word.TheVariants.{Begin as BeginWord, End as EndWord, Receive as ReceiveWord, Goto as GotoWord, If as IfWord, Trap as TrapWord, Global as GlobalWord, Call as CallWord, Return as ReturnWord, Print as PrintWord, Mod as ModWord, Min as MinWord, Max as MaxWord, Shl as ShlWord, Shr as ShrWord, Shra as ShraWord, And as AndWord, Or as OrWord, Xor as XorWord}
 use Rattle.mir_parse.specs.declared.raw.RawOperand.{RawOperand}
 use Rattle.mir_parse.specs.declared.raw.RawOperand.TheVariants.{Var, Const}
 use Rattle.mir_parse.specs.declared.raw.RawRhs.TheVariants.{Plain, Unary, Binary}
 use Rattle.mir_parse.specs.declared.raw.RawTest.{RawTest}
 use Rattle.mir_parse.specs.declared.raw.RawTest.TheVariants.{Rel, Holds, Fails}
 use Rattle.mir_parse.specs.declared.raw.RawForm.{RawForm}
-use Rattle.mir_parse.specs.declared.raw.RawForm.TheVariants.{Receive, Assign, Goto, If, Call, Print, Return}
-use Rattle.mir_parse.specs.RawUnit.{RawUnitShape, unit_begun, unit_with_inst, unit_with_label}
+use Rattle.mir_parse.specs.declared.raw.RawForm.TheVariants.{Receive, Assign, Goto, If, TrapIf, Call, Print, Return}
+use Rattle.mir_parse.specs.declared.raw.RawGlobal.{RawGlobal}
+use Rattle.mir_parse.specs.declared.raw.Raw.{Raw}
+use Rattle.mir_parse.specs.RawParts.{globals_alone, raw_with_unit}
+use Rattle.mir_parse.specs.RawUnit.{RawUnitShape, empty_unit, unit_with_inst, unit_with_label}
 use Rattle.mir_parse.specs.declared.so_far.Hole.{Hole}
 use Rattle.mir_parse.specs.declared.so_far.Hole.TheVariants.{Unary as OfUnary, Binary as OfBinary, Arg as OfArg, Fails as OfFails, Rel as OfRel, Print as OfPrint}
 use Rattle.mir_parse.specs.declared.so_far.Part.{Part}
-use Rattle.mir_parse.specs.declared.so_far.Part.TheVariants.{Fresh, Receive as PReceive, ReceiveName, ReceiveOpen, ReceiveVal, Named, Arrowed, PlainName, PlainNumber, Wants, Call as PCall, Callee, Opening, FirstArg, Given, Typing, Typed, Goto as PGoto, If as PIf, IfOperand, Tested, IfGoto, Return as PReturn, Full}
+use Rattle.mir_parse.specs.declared.so_far.Part.TheVariants.{Fresh, Receive as PReceive, ReceiveName, ReceiveOpen, ReceiveVal, Named, Arrowed, PlainName, PlainNumber, Wants, Call as PCall, Callee, Opening, FirstArg, Given, Typing, Typed, Goto as PGoto, If as PIf, IfOperand, Tested, IfGoto, IfTrap, Return as PReturn, Full}
 use Rattle.mir_parse.specs.declared.so_far.Next.{Next}
 use Rattle.mir_parse.specs.declared.so_far.Next.TheVariants.{No, Go, Done, Label}
 use Rattle.mir_parse.specs.declared.so_far.Spot.{Spot}
 use Rattle.mir_parse.specs.declared.so_far.Spot.TheVariants.{Named as UnitNamed, Headed, Begun, Inside, Mid, AfterEnd}
 use Rattle.mir_parse.specs.declared.so_far.Reading.{Reading}
 use Rattle.mir_parse.specs.declared.so_far.ReadSoFar.{ReadSoFar}
-use Rattle.mir_parse.specs.declared.so_far.Turn.{Turn}
-use Rattle.mir_parse.specs.declared.so_far.Turn.TheVariants.{Goes, Ends, Stops}
-use Rattle.mir_parse.specs.declared.so_far.ReadSoFar.TheVariants.{Outside, In, Stopped}
+use Rattle.mir_parse.specs.declared.so_far.Progress.{Progress}
+use Rattle.mir_parse.specs.declared.so_far.Progress.TheVariants.{Goes, Ends, Stops}
+use Rattle.mir_parse.specs.declared.so_far.ReadSoFar.TheVariants.{Outside, Global as InGlobal, In, Stopped}
 
 -- the relation that a mark names in a test
 abbrev pub relop_of_mark : Mark → Option RelOp
@@ -182,18 +185,25 @@ rel_with a (Some op) = Go (Wants (OfRel op a))
 -- after `if a`: the test is the operand, or a relation
 abbrev pub if_operand : RawOperand → Symbol → Next
 if_operand a (WORD GotoWord) = Go (IfGoto (Holds a))
+if_operand a (WORD TrapWord) = Go (IfTrap (Holds a))
 if_operand a (MARK mark) = rel_with a (relop_of_mark mark)
 if_operand a symbol = No
 
 -- after a whole test
 abbrev pub tested : RawTest → Symbol → Next
 tested test (WORD GotoWord) = Go (IfGoto test)
+tested test (WORD TrapWord) = Go (IfTrap test)
 tested test symbol = No
 
 -- after `if test goto`
 abbrev pub if_goto : RawTest → Symbol → Next
 if_goto test (NAME label) = Go (Full (If test label))
 if_goto test symbol = No
+
+-- after `if test trap`
+abbrev pub if_trap : RawTest → Symbol → Next
+if_trap test (NUMBER n) = Go (Full (TrapIf test n))
+if_trap test symbol = No
 
 -- after `return`: an operand, or the end of the line
 abbrev pub return_word : Symbol → Next
@@ -231,12 +241,13 @@ part_step PIf symbol = if_word symbol
 part_step (IfOperand a) symbol = if_operand a symbol
 part_step (Tested test) symbol = tested test symbol
 part_step (IfGoto test) symbol = if_goto test symbol
+part_step (IfTrap test) symbol = if_trap test symbol
 part_step PReturn symbol = return_word symbol
 part_step (Full f) symbol = full f symbol
 
--- the whole units, and one of which only the name was read
-abbrev pub begin_unit : List RawUnitShape → List ℕ → ℕ → Reading
-begin_unit units name line = record { units = units; unit = unit_begun name line }
+-- what was read whole, and a unit of which only the name was read
+abbrev pub begin_unit : Raw → List ℕ → ℕ → Reading
+begin_unit whole name line = record { whole = whole; unit = empty_unit name line }
 
 -- the unit that is read, with one more instruction
 abbrev pub with_inst : Reading → ℕ → RawForm → Reading
@@ -253,10 +264,22 @@ reading_after reading line at (Go part) = In reading (Mid line part)
 reading_after reading line at (Done form) = In (with_inst reading line form) (Inside false)
 reading_after reading line at (Label name) = In (with_label reading line name) (Inside true)
 
--- between two units
-abbrev pub outside : List RawUnitShape → Symbol → ℕ → ReadSoFar
-outside units (NAME x) at = In (begin_unit units x at) UnitNamed
-outside units symbol at = Stopped at
+-- the word `global`, which stands only where no unit was read yet
+abbrev pub global_word : List RawGlobal → List RawUnitShape → ℕ → ReadSoFar
+global_word globals [] at = InGlobal globals at None
+global_word globals (unit ∷ units) at = Stopped at
+
+-- between two global lines or units
+abbrev pub outside : Raw → Symbol → ℕ → ReadSoFar
+outside whole (NAME x) at = In (begin_unit whole x at) UnitNamed
+outside whole (WORD GlobalWord) at = global_word whole.globals whole.units at
+outside whole symbol at = Stopped at
+
+-- in a global line that began on `line`, after `global` or after its name
+abbrev pub in_global : List RawGlobal → ℕ → Option (List ℕ) → Symbol → ℕ → ReadSoFar
+in_global globals line None (NAME x) at = InGlobal globals line (Some x)
+in_global globals line (Some x) NL at = Outside (globals_alone (globals ++ record { name = x; line = line } ∷ []))
+in_global globals line name symbol at = Stopped at
 
 -- after the name of a unit
 abbrev pub unit_named : Reading → Symbol → ℕ → ReadSoFar
@@ -282,7 +305,7 @@ inside reading after_colon symbol at = reading_after reading at at (fresh symbol
 
 -- after `end`
 abbrev pub after_end : Reading → Symbol → ℕ → ReadSoFar
-after_end reading NL at = Outside (reading.units ++ reading.unit ∷ [])
+after_end reading NL at = Outside (raw_with_unit reading.whole reading.unit)
 after_end reading symbol at = Stopped at
 
 -- what a token makes of the unit that is read
@@ -294,34 +317,35 @@ spot_step reading (Inside after_colon) symbol at = inside reading after_colon sy
 spot_step reading (Mid line part) symbol at = reading_after reading line at (part_step part symbol)
 spot_step reading AfterEnd symbol at = after_end reading symbol at
 
--- the state after a token that turned the unit to this, with what was read and the place in it after the token
-abbrev pub unit_turned : Turn → Reading → Spot → ℕ → ReadSoFar
-unit_turned Goes reading spot at = In reading spot
-unit_turned Ends reading spot at = Outside (reading.units ++ reading.unit ∷ [])
-unit_turned Stops reading spot at = Stopped at
+-- the state after a token by which the unit progressed so, with what was read and the place in it after the token
+abbrev pub unit_progressed : Progress → Reading → Spot → ℕ → ReadSoFar
+unit_progressed Goes reading spot at = In reading spot
+unit_progressed Ends reading spot at = Outside (raw_with_unit reading.whole reading.unit)
+unit_progressed Stops reading spot at = Stopped at
 
--- the token turned the unit so that this is the state after it, unless memory runs out
-abbrev pub Turns : {E : Type 0} → ReadSoFar → Reading → Spot → ℕ → Result Turn E → Type 0
-Turns state reading spot at result = IfOk result (λ turn. unit_turned turn reading spot at ≡ state)
+-- the unit progressed by the token so that this is the state after it, unless memory runs out
+abbrev pub Progresses : {E : Type 0} → ReadSoFar → Reading → Spot → ℕ → Result Progress E → Type 0
+Progresses state reading spot at result = IfOk result (λ progress. unit_progressed progress reading spot at ≡ state)
 
 -- the same for a token that leaves what was read as it is
-abbrev pub TurnsEach : (Reading → ℕ → ReadSoFar) → Spot → Turn → Type 0
-TurnsEach step spot turn = (reading : Reading) → (at : ℕ) → unit_turned turn reading spot at ≡ step reading at
+abbrev pub ProgressesEach : (Reading → ℕ → ReadSoFar) → Spot → Progress → Type 0
+ProgressesEach step spot progress = (reading : Reading) → (at : ℕ) → unit_progressed progress reading spot at ≡ step reading at
 
 -- the second state is what a token made of the first one, in a unit
-abbrev pub state_turned : Turn → ReadSoFar → ℕ → ReadSoFar → Type 0
-state_turned turn (In reading spot) at next = next ≡ unit_turned turn reading spot at
-state_turned turn state at next = Unit {0}
+abbrev pub state_progressed : Progress → ReadSoFar → ℕ → ReadSoFar → Type 0
+state_progressed progress (In reading spot) at next = next ≡ unit_progressed progress reading spot at
+state_progressed progress state at next = Unit {0}
 
 -- what a token makes of what was read
 abbrev pub read_step : ReadSoFar → Terminal → ReadSoFar
-read_step (Outside units) token = outside units token.symbol token.line
+read_step (Outside whole) token = outside whole token.symbol token.line
+read_step (InGlobal globals line name) token = in_global globals line name token.symbol token.line
 read_step (In reading spot) token = spot_step reading spot token.symbol token.line
 read_step (Stopped line) token = Stopped line
 
 -- what was read after these tokens
 abbrev pub reads : List Terminal → ReadSoFar
-reads ts = fold read_step (Outside []) ts
+reads ts = fold read_step (Outside (globals_alone [])) ts
 
 -- the second state is what the token of this number makes of the first one
 abbrev pub HasStepped : List Terminal → ℕ → ReadSoFar → ReadSoFar → Type 0

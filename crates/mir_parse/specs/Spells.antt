@@ -12,11 +12,11 @@ use Rattle.mir_parse.specs.declared.faults.TextFault.TheVariants.{Lex, Parse}
 use Rattle.mir_parse.specs.Fault.{IsParseMemory}
 use Rattle.mir_parse.specs.Grammar.{IsText, IsUnexpected, IsUnfinished}
 
--- the bytes have tokens, and these are a text of the raw program's units
+-- the bytes have tokens, and these are a text of the raw program
 pub record Spells (bytes : List ℕ) (raw : Raw) : Type 0 where
   pub items : List Token
   pub tokens : IsTokens bytes items
-  pub text : IsText (terminals bytes items) raw.units
+  pub text : IsText (terminals bytes items) raw
 
 -- the tokens of the bytes are refused for this cause
 abbrev pub TokensRefused : List ℕ → List Token → ParseFault → Type 0

@@ -9,7 +9,7 @@ pub enum ParseFault {
     /// The line of the first token that makes the tokens up to it no prefix of any text of the grammar.
     #[error("line {0}: unexpected")]
     Unexpected(usize),
-    /// There is no such token, and the tokens end inside a unit.
+    /// There is no such token, and the tokens end inside a unit or a global line.
     #[error("text ends inside a unit")]
     Unfinished,
     /// There is not enough memory.

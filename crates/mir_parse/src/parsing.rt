@@ -1,13 +1,12 @@
 // From tokens to a raw program.
 ghost use Rattle.std.specs.Prelude.{◌≡◌, ◌<◌, length, OnOk, IfOk, IsErrOf};
-ghost use Rattle.mir_parse.specs.Grammar.{IsText, IsUnfinished, UnitsAreUnique, terminals_of};
+ghost use Rattle.mir_parse.specs.Grammar.{IsText, IsUnfinished, TextIsUnique, terminals_of};
 ghost use Rattle.mir_parse.specs.Reader.{reads, HasStepped};
-ghost use Rattle.mir_parse.specs.Answers.{IsRefusedFor, AnswersUnits, OnlyUnexpectedIsRefused, UnexpectedIsRefused};
+ghost use Rattle.mir_parse.specs.Answers.{IsRefusedFor, AnswersRaw, OnlyUnexpectedIsRefused, UnexpectedIsRefused};
 
 use crate::so_far::ReadSoFar;
-use crate::units::step;
+use crate::units::{nothing, step};
 use crate::{Memory, ParseFault, Raw};
-use mir_base::Items;
 use mir_lex::Tokens;
 use std::alloc::Global;
 use std::mem;
@@ -16,28 +15,33 @@ use std::mem;
 ///
 /// It refuses with `Unexpected(line)` where some token makes the tokens up to it no prefix of a text of the grammar,
 /// with the line of the first such token, and with `Unfinished` where there is no such token and the tokens end inside
-/// a unit. It also fails when it runs out of memory.
+/// a unit or a global line. It also fails when it runs out of memory.
 pub fn parse(alloc: Global, tokens: &Tokens) -> Result<Raw, ParseFault>
     // The raw program is spelled by the tokens, and one that is spelled is not refused, unless memory runs out.
-    ensures found { IfOk result (λ raw. IsText (terminals_of tokens.now) raw.units) }
-    ensures only { AnswersUnits result (terminals_of tokens.now) }
+    ensures found { IfOk result (λ raw. IsText (terminals_of tokens.now) raw) }
+    ensures only { AnswersRaw result (terminals_of tokens.now) }
 
     // No tokens spell two raw programs.
-    ensures unique { UnitsAreUnique (terminals_of tokens.now) }
+    ensures unique { TextIsUnique (terminals_of tokens.now) }
 
     // The line of a refusal is that of the first token that no text has there, and such a token is refused.
     ensures unexpected { OnlyUnexpectedIsRefused result (terminals_of tokens.now) }
     ensures unexpected_only { UnexpectedIsRefused result (terminals_of tokens.now) }
 
-    // The tokens end inside a unit, and such tokens are refused.
+    // The tokens end inside a unit or a global line, and such tokens are refused.
     ensures unfinished { IsErrOf result ParseFault.Unfinished
         → IsUnfinished (terminals_of tokens.now) }
     ensures unfinished_only { IsUnfinished (terminals_of tokens.now)
         → IsRefusedFor result ParseFault.Unfinished }
 {
     match read(alloc, tokens) {
-        Ok(ReadSoFar::Outside(units)) => Ok(Raw { units }),
+        Ok(ReadSoFar::Outside(raw)) => Ok(raw),
         Ok(ReadSoFar::Stopped(line)) => Err(ParseFault::Unexpected(line)),
+        Ok(ReadSoFar::Global(globals, _, name)) => {
+            mem::drop(globals);
+            mem::drop(name);
+            Err(ParseFault::Unfinished)
+        }
         Ok(ReadSoFar::In(reading, spot)) => {
             mem::drop(reading);
             mem::drop(spot);
@@ -52,7 +56,7 @@ pub fn parse(alloc: Global, tokens: &Tokens) -> Result<Raw, ParseFault>
 fn read(alloc: Global, tokens: &Tokens) -> Result<ReadSoFar, Memory>
     ensures { IfOk result (λ state. state ≡ reads (terminals_of tokens.now)) }
 {
-    let mut state = ReadSoFar::Outside(Items::new(alloc));
+    let mut state = ReadSoFar::Outside(nothing(alloc));
     for number in 0..tokens.items.items().len() {
         if let ReadSoFar::Stopped(_) = state {
             return Ok(state);

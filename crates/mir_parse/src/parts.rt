@@ -1,7 +1,7 @@
 // What a token makes of a part of an instruction: `part_step` is called once for each token, and a function for each
 // place in an instruction says which tokens may stand there and what the part then is.
 ghost use Rattle.std.specs.Prelude.{◌≡◌, IfOk};
-ghost use Rattle.mir_parse.specs.Reader.{relop_of_mark, op_of_mark, op_of_word, filled, wants, mark_then, name_then, fresh, receive_word, named, arrowed, binary_with, plain_name, plain_number, call_word, first_arg, typed, goto_word, if_word, rel_with, if_operand, tested, if_goto, return_word, full, part_step};
+ghost use Rattle.mir_parse.specs.Reader.{relop_of_mark, op_of_mark, op_of_word, filled, wants, mark_then, name_then, fresh, receive_word, named, arrowed, binary_with, plain_name, plain_number, call_word, first_arg, typed, goto_word, if_word, rel_with, if_operand, tested, if_goto, if_trap, return_word, full, part_step};
 
 use crate::so_far::{Hole, Next, Part};
 use crate::{Memory, RawForm, RawOperand, RawRhs, RawTest};
@@ -73,6 +73,7 @@ pub fn part_step(alloc: Global, part: Part, symbol: Symbol) -> Result<Next, Memo
         Part::IfOperand(left) => Ok(if_operand(left, symbol)),
         Part::Tested(test) => Ok(tested(test, symbol)),
         Part::IfGoto(test) => Ok(if_goto(test, symbol)),
+        Part::IfTrap(test) => Ok(if_trap(test, symbol)),
         Part::Return => Ok(return_word(symbol)),
         Part::Full(form) => Ok(full(form, symbol)),
     }
@@ -326,12 +327,13 @@ fn if_word(symbol: Symbol) -> Next
     }
 }
 
-// A token after `if a`: `goto`, where the test is the operand alone, or a relation.
+// A token after `if a`: `goto` or `trap`, where the test is the operand alone, or a relation.
 fn if_operand(left: RawOperand, symbol: Symbol) -> Next
     ensures { result ≡ if_operand left symbol }
 {
     match symbol {
         Symbol::Word(Word::Goto) => Next::Go(Part::IfGoto(RawTest::Holds(left))),
+        Symbol::Word(Word::Trap) => Next::Go(Part::IfTrap(RawTest::Holds(left))),
         Symbol::Mark(mark) => rel_with(left, relop_of_mark(mark)),
         _ => Next::No,
     }
@@ -347,12 +349,13 @@ fn rel_with(left: RawOperand, op: Option<RelOp>) -> Next
     }
 }
 
-// A token after a whole test: only `goto`.
+// A token after a whole test: `goto` or `trap`.
 fn tested(test: RawTest, symbol: Symbol) -> Next
     ensures { result ≡ tested test symbol }
 {
     match symbol {
         Symbol::Word(Word::Goto) => Next::Go(Part::IfGoto(test)),
+        Symbol::Word(Word::Trap) => Next::Go(Part::IfTrap(test)),
         _ => Next::No,
     }
 }
@@ -363,6 +366,16 @@ fn if_goto(test: RawTest, symbol: Symbol) -> Next
 {
     match symbol {
         Symbol::Name(label) => Next::Go(Part::Full(RawForm::If(test, label))),
+        _ => Next::No,
+    }
+}
+
+// A token after `if test trap`: the number.
+fn if_trap(test: RawTest, symbol: Symbol) -> Next
+    ensures { result ≡ if_trap test symbol }
+{
+    match symbol {
+        Symbol::Number(number) => Next::Go(Part::Full(RawForm::TrapIf(test, number))),
         _ => Next::No,
     }
 }

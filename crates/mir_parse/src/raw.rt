@@ -24,7 +24,7 @@ pub enum RawRhs {
     Binary(Op, RawOperand, RawOperand),
 }
 
-/// What a conditional jump asks.
+/// What a conditional jump or a trap instruction asks.
 #[derive(Drop)]
 pub enum RawTest {
     /// Whether the relation holds between the two.
@@ -46,6 +46,8 @@ pub enum RawForm {
     Goto(Name),
     /// `if test goto L`: the test and the label.
     If(RawTest, Name),
+    /// `if test trap 7`: the test and the number.
+    TrapIf(RawTest, i64),
     /// `x <- f,(a,int;b,int)` or `call f,(a,int;b,int)`: the variable for the result, if there is one, the name of the
     /// called unit, and the arguments in order.
     Call(Option<Name>, Name, Items<RawOperand>),
@@ -102,11 +104,11 @@ impl Model for RawUnit {
 
 impl RawUnit {
     ghost use Rattle.std.specs.Prelude.{◌≡◌, OnOk};
-    ghost use Rattle.mir_parse.specs.RawUnit.{unit_begun, unit_with_inst, unit_with_label};
+    ghost use Rattle.mir_parse.specs.RawUnit.{empty_unit, unit_with_inst, unit_with_label};
 
     // A unit of this name, which stands on this line, with no label and no instruction.
-    pub(crate) fn begun(alloc: Global, name: Name, line: usize) -> RawUnit
-        ensures { result ≡ unit_begun name line }
+    pub(crate) fn empty(alloc: Global, name: Name, line: usize) -> RawUnit
+        ensures { result ≡ empty_unit name line }
     {
         RawUnit {
             name,
@@ -134,9 +136,20 @@ impl RawUnit {
     }
 }
 
-/// A raw program: its units, in the order of the text.
+/// A global line.
+#[derive(Drop)]
+pub struct RawGlobal {
+    /// The global's name.
+    pub name: Name,
+    /// The line.
+    pub line: usize,
+}
+
+/// A raw program: its global lines and its units, in the order of the text.
 #[derive(Drop)]
 pub struct Raw {
+    /// The global lines, in the order of the text.
+    pub globals: Items<RawGlobal>,
     /// The units, in the order of the text.
     pub units: Items<RawUnit>,
 }

@@ -1,5 +1,5 @@
 // What was read so far: the parser is one step for each token, which never goes back.
-use crate::{RawForm, RawOperand, RawTest, RawUnit};
+use crate::{Raw, RawForm, RawGlobal, RawOperand, RawTest, RawUnit};
 use mir_base::{Items, Name, Op, RelOp, UnOp};
 
 /// A place of an instruction where only an operand may stand, with what was read before it.
@@ -66,6 +66,8 @@ pub enum Part {
     Tested(RawTest),
     /// `if test goto`
     IfGoto(RawTest),
+    /// `if test trap`
+    IfTrap(RawTest),
     /// `return`
     Return,
     /// All of it but the line end.
@@ -102,19 +104,21 @@ pub enum Spot {
     AfterEnd,
 }
 
-/// The units that were read whole, and what was read of the next one.
+/// The global lines and the units that were read whole, and what was read of the next unit.
 #[derive(Drop)]
 pub struct Reading {
-    pub units: Items<RawUnit>,
+    pub whole: Raw,
     pub unit: RawUnit,
 }
 
 /// What was read so far.
 #[derive(Drop)]
 pub enum ReadSoFar {
-    /// These units.
-    Outside(Items<RawUnit>),
-    /// These units, and a part of the next one.
+    /// These global lines and units.
+    Outside(Raw),
+    /// These global lines, and a part of the next one, which began on this line: `global`, or that and the name.
+    Global(Items<RawGlobal>, usize, Option<Name>),
+    /// These global lines and units, and a part of the next unit.
     In(Reading, Spot),
     /// A token of this line that cannot stand there.
     Stopped(usize),
@@ -122,7 +126,7 @@ pub enum ReadSoFar {
 
 /// What a token makes of the unit that is read.
 #[derive(Clone, Copy, Debug, PartialEq, Eq)]
-pub enum Turn {
+pub enum Progress {
     /// It goes on.
     Goes,
     /// It is whole.

@@ -1,12 +1,13 @@
 // What a token makes of the units that were read: `step` is called once for each token. `at` is the line of the token,
 // and `line` that of an instruction that began before it.
-ghost use Rattle.std.specs.Prelude.{◌≡◌, OnOk};
-ghost use Rattle.mir_parse.specs.Reader.{Turns, TurnsEach, state_turned, reading_after, outside, unit_named, headed, begun, inside, after_end, spot_step, read_step};
+ghost use Rattle.std.specs.Prelude.{◌≡◌, [], IfOk, OnOk};
+ghost use Rattle.mir_parse.specs.RawParts.{globals_alone};
+ghost use Rattle.mir_parse.specs.Reader.{Progresses, ProgressesEach, state_progressed, reading_after, global_word, outside, in_global, unit_named, headed, begun, inside, after_end, spot_step, read_step};
 
 use crate::parts::{fresh, part_step};
-use crate::so_far::{Next, ReadSoFar, Reading, Spot, Turn};
-use crate::{Memory, RawUnit};
-use mir_base::{Items, Word};
+use crate::so_far::{Next, Progress, ReadSoFar, Reading, Spot};
+use crate::{Memory, Raw, RawGlobal, RawUnit};
+use mir_base::{Items, Name, Word};
 use mir_lex::{Mark, Symbol, Terminal};
 use std::alloc::Global;
 use std::mem;
@@ -16,16 +17,34 @@ pub fn step(alloc: Global, state: &mut ReadSoFar, token: Terminal) -> Result<(),
     ensures { OnOk result (state.new ≡ read_step state.old token) }
 {
     match state {
-        ReadSoFar::Outside(units) => {
-            let units = mem::replace(units, Items::new(alloc));
-            put(state, outside(alloc, units, token.symbol, token.line));
+        ReadSoFar::Outside(whole) => {
+            let whole = mem::replace(whole, nothing(alloc));
+            put(state, outside(alloc, whole, token.symbol, token.line));
+            Ok(())
+        }
+        ReadSoFar::Global(globals, line, name) => {
+            let globals = mem::replace(globals, Items::new(alloc));
+            let line = *line;
+            let name = mem::replace(name, None);
+            let next = in_global(alloc, globals, line, name, token.symbol, token.line)?;
+            put(state, next);
             Ok(())
         }
         ReadSoFar::In(reading, spot) => {
-            let turn = spot_step(alloc, reading, spot, token.symbol, token.line)?;
-            turned(state, turn, token.line)
+            let progress = spot_step(alloc, reading, spot, token.symbol, token.line)?;
+            progressed(state, progress, token.line)
         }
         ReadSoFar::Stopped(_) => Ok(()),
+    }
+}
+
+/// The raw program with no global line and no unit.
+pub fn nothing(alloc: Global) -> Raw
+    ensures { result ≡ globals_alone [] }
+{
+    Raw {
+        globals: Items::new(alloc),
+        units: Items::new(alloc),
     }
 }
 
@@ -36,44 +55,88 @@ fn put(state: &mut ReadSoFar, next: ReadSoFar)
     mem::drop(mem::replace(state, next));
 }
 
-// The state after a token between two units, where only the name of a unit may stand.
-fn outside(alloc: Global, units: Items<RawUnit>, symbol: Symbol, at: usize) -> ReadSoFar
-    ensures { result ≡ outside units symbol at }
+// The state after a token between two global lines or units, where the name of a unit may stand, or `global` where no
+// unit was read yet.
+fn outside(alloc: Global, whole: Raw, symbol: Symbol, at: usize) -> ReadSoFar
+    ensures { result ≡ outside whole symbol at }
 {
     match symbol {
         Symbol::Name(name) => ReadSoFar::In(
             Reading {
-                units,
-                unit: RawUnit::begun(alloc, name, at),
+                whole,
+                unit: RawUnit::empty(alloc, name, at),
             },
             Spot::Named,
         ),
+        Symbol::Word(Word::Global) => global_word(whole, at),
         _ => ReadSoFar::Stopped(at),
     }
 }
 
-// The state in a unit of which a token made this.
-fn turned(state: &mut ReadSoFar, turn: Turn, at: usize) -> Result<(), Memory>
-    ensures { OnOk result (state_turned turn state.old at state.new) }
+// The state after `global`.
+fn global_word(whole: Raw, at: usize) -> ReadSoFar
+    ensures { result ≡ global_word whole.globals whole.units at }
 {
-    match turn {
-        Turn::Goes => Ok(()),
-        Turn::Ends => whole(state),
-        Turn::Stops => {
+    match whole.units.items() {
+        [] => ReadSoFar::Global(whole.globals, at, None),
+        _ => ReadSoFar::Stopped(at),
+    }
+}
+
+// The state after a token in a global line that began on `line`, after `global` or after its name.
+fn in_global(
+    alloc: Global,
+    globals: Items<RawGlobal>,
+    line: usize,
+    name: Option<Name>,
+    symbol: Symbol,
+    at: usize,
+) -> Result<ReadSoFar, Memory>
+    ensures { IfOk result (λ next. next ≡ in_global globals line name symbol at) }
+{
+    match (name, symbol) {
+        (None, Symbol::Name(name)) => Ok(ReadSoFar::Global(globals, line, Some(name))),
+        (Some(name), Symbol::LineEnd) => {
+            let globals = globals.with(RawGlobal { name, line })?;
+            Ok(ReadSoFar::Outside(Raw {
+                globals,
+                units: Items::new(alloc),
+            }))
+        }
+        _ => Ok(ReadSoFar::Stopped(at)),
+    }
+}
+
+// The state in a unit of which a token made this.
+fn progressed(state: &mut ReadSoFar, progress: Progress, at: usize) -> Result<(), Memory>
+    ensures { OnOk result (state_progressed progress state.old at state.new) }
+{
+    match progress {
+        Progress::Goes => Ok(()),
+        Progress::Ends => whole(state),
+        Progress::Stops => {
             put(state, ReadSoFar::Stopped(at));
             Ok(())
         }
     }
 }
 
-// The unit that is read becomes the last of the whole units.
+// The unit that is read becomes the last of those that were read whole.
 fn whole(state: &mut ReadSoFar) -> Result<(), Memory>
-    ensures { OnOk result (state_turned Turn.Ends state.old 0 state.new) }
+    ensures { OnOk result (state_progressed Progress.Ends state.old 0 state.new) }
 {
     match mem::replace(state, ReadSoFar::Stopped(0)) {
         ReadSoFar::In(reading, spot) => {
             mem::drop(spot);
-            put(state, ReadSoFar::Outside(reading.units.with(reading.unit)?));
+            let whole = reading.whole;
+            let units = whole.units.with(reading.unit)?;
+            put(
+                state,
+                ReadSoFar::Outside(Raw {
+                    globals: whole.globals,
+                    units,
+                }),
+            );
             Ok(())
         }
         other => {
@@ -90,8 +153,8 @@ fn spot_step(
     spot: &mut Spot,
     symbol: Symbol,
     at: usize,
-) -> Result<Turn, Memory>
-    ensures { Turns (spot_step reading.old spot.old symbol at) reading.new spot.new at result }
+) -> Result<Progress, Memory>
+    ensures { Progresses (spot_step reading.old spot.old symbol at) reading.new spot.new at result }
 {
     match mem::replace(spot, Spot::AfterEnd) {
         Spot::Named => Ok(unit_named(spot, symbol)),
@@ -107,42 +170,42 @@ fn spot_step(
 }
 
 // A token after the name of a unit: only `:`.
-fn unit_named(spot: &mut Spot, symbol: Symbol) -> Turn
-    ensures { TurnsEach (λ reading at. unit_named reading symbol at) spot.new result }
+fn unit_named(spot: &mut Spot, symbol: Symbol) -> Progress
+    ensures { ProgressesEach (λ reading at. unit_named reading symbol at) spot.new result }
 {
     match symbol {
         Symbol::Mark(Mark::Colon) => go_to(spot, Spot::Headed(true)),
-        _ => Turn::Stops,
+        _ => Progress::Stops,
     }
 }
 
 // Sets the place in the unit, which goes on there.
-fn go_to(spot: &mut Spot, next: Spot) -> Turn
-    ensures turn { result ≡ Turn.Goes }
+fn go_to(spot: &mut Spot, next: Spot) -> Progress
+    ensures progress { result ≡ Progress.Goes }
     ensures spot { spot.new ≡ next }
 {
     mem::drop(mem::replace(spot, next));
-    Turn::Goes
+    Progress::Goes
 }
 
 // A token after the name and the colon of a unit: `begin`, or one line end before it.
-fn headed(spot: &mut Spot, after_colon: bool, symbol: Symbol) -> Turn
-    ensures { TurnsEach (λ reading at. headed reading after_colon symbol at) spot.new result }
+fn headed(spot: &mut Spot, after_colon: bool, symbol: Symbol) -> Progress
+    ensures { ProgressesEach (λ reading at. headed reading after_colon symbol at) spot.new result }
 {
     match (symbol, after_colon) {
         (Symbol::Word(Word::Begin), _) => go_to(spot, Spot::Begun),
         (Symbol::LineEnd, true) => go_to(spot, Spot::Headed(false)),
-        _ => Turn::Stops,
+        _ => Progress::Stops,
     }
 }
 
 // A token after `begin`: only a line end.
-fn begun(spot: &mut Spot, symbol: Symbol) -> Turn
-    ensures { TurnsEach (λ reading at. begun reading symbol at) spot.new result }
+fn begun(spot: &mut Spot, symbol: Symbol) -> Progress
+    ensures { ProgressesEach (λ reading at. begun reading symbol at) spot.new result }
 {
     match symbol {
         Symbol::LineEnd => go_to(spot, Spot::Inside(false)),
-        _ => Turn::Stops,
+        _ => Progress::Stops,
     }
 }
 
@@ -153,15 +216,15 @@ fn inside(
     after_colon: bool,
     symbol: Symbol,
     at: usize,
-) -> Result<Turn, Memory>
-    ensures { Turns (inside reading.old after_colon symbol at) reading.new spot.new at result }
+) -> Result<Progress, Memory>
+    ensures { Progresses (inside reading.old after_colon symbol at) reading.new spot.new at result }
 {
     match symbol {
         Symbol::Word(Word::End) => Ok(go_to(spot, Spot::AfterEnd)),
         Symbol::LineEnd => Ok(if after_colon {
             go_to(spot, Spot::Inside(false))
         } else {
-            Turn::Stops
+            Progress::Stops
         }),
         symbol => after(reading, spot, at, at, fresh(symbol)),
     }
@@ -174,11 +237,11 @@ fn after(
     line: usize,
     at: usize,
     next: Next,
-) -> Result<Turn, Memory>
-    ensures { Turns (reading_after reading.old line at next) reading.new spot.new at result }
+) -> Result<Progress, Memory>
+    ensures { Progresses (reading_after reading.old line at next) reading.new spot.new at result }
 {
     match next {
-        Next::No => Ok(Turn::Stops),
+        Next::No => Ok(Progress::Stops),
         Next::Go(part) => Ok(go_to(spot, Spot::Mid(line, part))),
         Next::Done(form) => {
             reading.unit.push_inst(line, form)?;
@@ -192,11 +255,11 @@ fn after(
 }
 
 // A token after `end`: only a line end, with which the unit is whole.
-fn after_end(symbol: Symbol) -> Turn
-    ensures { TurnsEach (λ reading at. after_end reading symbol at) Spot.AfterEnd result }
+fn after_end(symbol: Symbol) -> Progress
+    ensures { ProgressesEach (λ reading at. after_end reading symbol at) Spot.AfterEnd result }
 {
     match symbol {
-        Symbol::LineEnd => Turn::Ends,
-        _ => Turn::Stops,
+        Symbol::LineEnd => Progress::Ends,
+        _ => Progress::Stops,
     }
 }

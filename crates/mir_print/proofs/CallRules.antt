@@ -32,7 +32,7 @@ names_map (unit ∷ units) = ap (λ (l : List (List ℕ)). unit.name ∷ l) (nam
 name_of_unit : (units : List UnitShape) (i : ℕ) (unit : UnitShape) → slice_get units i ≡ Some unit → slice_get (map (λ (u : UnitShape). u.name) units) i ≡ Some unit.name
 name_of_unit units i unit at = slice_get-map (λ (u : UnitShape). u.name) units i ∙ ap (option_map (λ (u : UnitShape). u.name)) at
 
-module _ (units : List UnitShape) (fits : IsProgram units) (line : ℕ) where
+module _ (units : List UnitShape) (globals : List (List ℕ)) (fits : IsProgram globals units) (line : ℕ) where
   abbrev names : List (List ℕ)
   names = map (λ (unit : UnitShape). unit.name) units
 
@@ -146,7 +146,7 @@ none_or_false : (found : Option ℕ) (test : ℕ → Bool) → ((count : ℕ) �
 none_or_false None test each = refl
 none_or_false (Some count) test each = each count refl
 
-module _ (units : List UnitShape) (fits : IsProgram units) (line : ℕ) where
+module _ (units : List UnitShape) (globals : List (List ℕ)) (fits : IsProgram globals units) (line : ℕ) where
   abbrev all_names : List (List ℕ)
   all_names = map (λ (unit : UnitShape). unit.name) units
 
@@ -160,7 +160,7 @@ module _ (units : List UnitShape) (fits : IsProgram units) (line : ℕ) where
       let unit : UnitShape = slice_index_or units called counted.unit in
       let at : slice_get units called ≡ Some unit = slice_get-get_or units called counted.unit low in
       let named : slice_index_or all_names called [] ≡ unit.name = get_or_from_slice_get all_names called unit.name [] (name_of_unit units called unit at) in
-      let same : called ≡ counted.number = same_unit units fits line called counted.number unit counted.unit at counted.at (sym named ∙ counted.name) in
+      let same : called ≡ counted.number = same_unit units globals fits line called counted.number unit counted.unit at counted.at (sym named ∙ counted.name) in
       let body : body_at units called ≡ counted.unit.body = ap (body_at units) same ∙ ap body_or_empty counted.at in
       counted.is
       ∙ count_receives (unit_naming all_names counted.unit) counted.line counted.unit.body (only_first units counted.unit.body (fits.bodies counted.number counted.unit counted.at))

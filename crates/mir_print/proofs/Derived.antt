@@ -5,23 +5,25 @@ use Rattle.std.proofs.lemmas.List.{append-nil, length_push}
 use Rattle.mir_base.specs.declared.instructions.Inst.{Inst}
 use Rattle.mir_base.specs.Names.{IsName}
 use Rattle.mir_base.specs.Shapes.{UnitShape, ProgramShape}
-use Rattle.mir_base.specs.Text.{is_target, label, label_before, Naming, inst_text as text_of_inst, lines_text, unit_text, canonical_text}
+use Rattle.mir_base.specs.Text.{is_target, label, label_before, Naming, inst_text as text_of_inst, lines_text, unit_text, global_text, canonical_text}
 use Rattle.mir_lex.specs.declared.terminals.Symbol.{Symbol}
 use Rattle.mir_lex.specs.declared.terminals.Symbol.TheVariants.{Name as NAME, Word as WORD, Mark as MARK, LineEnd as NL}
 use Rattle.mir_lex.specs.declared.terminals.Terminal.{Terminal}
 use Rattle.mir_lex.specs.declared.scan.Previous.{Previous}
 use Rattle.mir_lex.specs.declared.scan.Previous.TheVariants.{LineEnd as AfterLineEnd, Other as AfterOther}
 use Rattle.mir_lex.specs.declared.words.Mark.TheVariants.{Colon}
-use Rattle.mir_base.specs.declared.words.Word.TheVariants.{Begin as BeginWord, End as EndWord}
+use Rattle.mir_base.specs.declared.words.Word.TheVariants.{Begin as BeginWord, End as EndWord, Global as GlobalWord}
 use Rattle.mir_parse.specs.declared.raw.RawForm.{RawForm}
 use Rattle.mir_parse.specs.declared.raw.RawInst.{RawInst}
 use Rattle.mir_parse.specs.declared.raw.RawLabel.{RawLabel}
 use Rattle.mir_parse.specs.declared.raw.Raw.{Raw}
+use Rattle.mir_parse.specs.declared.raw.RawGlobal.{RawGlobal}
+use Rattle.mir_parse.specs.RawParts.{globals_alone}
 use Rattle.mir_parse.specs.RawUnit.{RawUnitShape}
 use Rattle.mir_parse.specs.Spells.{Spells}
-use Rattle.mir_parse.specs.Grammar.{symbols, Body, bare, label as with_label, inst as with_inst, IsUnit, IsText, no_unit, more}
+use Rattle.mir_parse.specs.Grammar.{symbols, Body, bare, label as with_label, inst as with_inst, IsUnit, IsText, no_unit, global_line, more}
 use Rattle.mir_print.proofs.Pieces.{Piece, Blank, Shown, pieces_text, symbols_of, AreSpaced, on_line, Read, read_start, read_as, read_line}
-use Rattle.mir_print.proofs.Raws.{raw_form, raw_insts, raw_label, raw_labels, unit_naming, raw_unit, raw_units}
+use Rattle.mir_print.proofs.Raws.{raw_form, raw_insts, raw_label, raw_labels, unit_naming, raw_unit, raw_units, raw_globals}
 use Rattle.mir_print.proofs.Lines.{first_symbol, rest_pieces, form_pieces, is_form_same, inst_text_is, FormFits, form_spaced}
 
 -- ---- a line with its label
@@ -207,43 +209,93 @@ unit_read units unit text front line before after spelled was split =
 
 -- ---- programs
 
--- what is read up to the end of the text
-pub record TextRead (text front : List ℕ) (units : List RawUnitShape) : Type 0 where
+-- what is read up to the end of the text, or of some of its global lines and units
+pub record TextRead (text front : List ℕ) (raw : Raw) : Type 0 where
   pub line : ℕ
   pub ts : List Terminal
-  pub is : IsText ts units
+  pub is : IsText ts raw
   pub read : Read text front line AfterLineEnd ts
 
+-- the same, written in another way
+text_read_as : (text front front' : List ℕ) (raw raw' : Raw) → front ≡ front' → raw ≡ raw' → TextRead text front raw → TextRead text front' raw'
+text_read_as text front front' raw raw' same_front same_raw h = subst (λ (f : List ℕ). TextRead text f raw') same_front (subst (λ (r : Raw). TextRead text front r) same_raw h)
+
 -- the texts of units, one behind the other, are read as those units
-units_read : (names : List (List ℕ)) (units : List UnitShape) (text front : List ℕ) (line : ℕ) (ts : List Terminal) (raws : List RawUnitShape) (after : List ℕ) → ((i : ℕ) (unit : UnitShape) → slice_get units i ≡ Some unit → UnitSpelled names unit)
-    → Read text front line AfterLineEnd ts → IsText ts raws → text ≡ front ++ (flat_map (unit_text names) units ++ after) → TextRead text (front ++ flat_map (unit_text names) units) (raws ++ raw_units names line units)
-units_read names [] text front line ts raws after spelled was is split =
-    text_read_as text front (front ++ []) raws (raws ++ []) (sym (append-nil front)) (sym (append-nil raws)) (record { line = line; ts = ts; is = is; read = was })
-  where
-    text_read_as : (text front front' : List ℕ) (raws raws' : List RawUnitShape) → front ≡ front' → raws ≡ raws' → TextRead text front raws → TextRead text front' raws'
-    text_read_as text front front' raws raws' same_front same_raws h = subst (λ (f : List ℕ). TextRead text f raws') same_front (subst (λ (rs : List RawUnitShape). TextRead text front rs) same_raws h)
-units_read names (unit ∷ units) text front line ts raws after spelled was is split =
+units_read : (globals : List RawGlobal) (names : List (List ℕ)) (units : List UnitShape) (text front : List ℕ) (line : ℕ) (ts : List Terminal) (raws : List RawUnitShape) (after : List ℕ)
+    → ((i : ℕ) (unit : UnitShape) → slice_get units i ≡ Some unit → UnitSpelled names unit) → Read text front line AfterLineEnd ts → IsText ts (record { globals = globals; units = raws })
+    → text ≡ front ++ (flat_map (unit_text names) units ++ after) → TextRead text (front ++ flat_map (unit_text names) units) (record { globals = globals; units = raws ++ raw_units names line units })
+units_read globals names [] text front line ts raws after spelled was is split =
+    text_read_as text front (front ++ []) (record { globals = globals; units = raws }) (record { globals = globals; units = raws ++ [] }) (sym (append-nil front))
+    (ap (λ (rs : List RawUnitShape). record { globals = globals; units = rs }) (sym (append-nil raws))) (record { line = line; ts = ts; is = is; read = was })
+units_read globals names (unit ∷ units) text front line ts raws after spelled was is split =
     let here = unit_text names unit in
     let more_text = flat_map (unit_text names) units in
     let cut : text ≡ front ++ (here ++ (more_text ++ after)) = split ∙ ap (λ (t : List ℕ). front ++ t) (append_assoc here more_text after) in
     let one = unit_read names unit text front line ts (more_text ++ after) (spelled 0 unit refl) was cut in
     let raw = raw_unit names line unit in
     let next = line + 1 + length unit.body + 1 in
-    let all = units_read names units text (front ++ here) next (ts ++ one.ts) (raws ++ raw ∷ []) after (λ i other at. spelled (suc i) other at) one.read (more raw is one.is) (cut ∙ sym (append_assoc front here (more_text ++ after))) in
-    subst (λ (f : List ℕ). TextRead text f (raws ++ raw ∷ raw_units names next units)) (append_assoc front here more_text)
-    (subst (λ (rs : List RawUnitShape). TextRead text ((front ++ here) ++ more_text) rs) (append_assoc raws (raw ∷ []) (raw_units names next units)) all)
+    let all = units_read globals names units text (front ++ here) next (ts ++ one.ts) (raws ++ raw ∷ []) after (λ i other at. spelled (suc i) other at) one.read (more raw is one.is) (cut ∙ sym (append_assoc front here (more_text ++ after))) in
+    text_read_as text ((front ++ here) ++ more_text) (front ++ (here ++ more_text)) (record { globals = globals; units = (raws ++ raw ∷ []) ++ raw_units names next units }) (record { globals = globals; units = raws ++ raw ∷ raw_units names next units })
+    (append_assoc front here more_text) (ap (λ (rs : List RawUnitShape). record { globals = globals; units = rs }) (append_assoc raws (raw ∷ []) (raw_units names next units))) all
+
+-- ---- globals
+
+-- what is read up to the end of the global lines, of which the last stands before this line
+record GlobalsRead (text front : List ℕ) (line : ℕ) (globals : List RawGlobal) : Type 0 where
+  ts : List Terminal
+  is : IsText ts (globals_alone globals)
+  read : Read text front line AfterLineEnd ts
+
+-- the same, written in another way
+globals_read_as : (text front front' : List ℕ) (line line' : ℕ) (globals globals' : List RawGlobal) → front ≡ front' → line ≡ line' → globals ≡ globals' → GlobalsRead text front line globals → GlobalsRead text front' line' globals'
+globals_read_as text front front' line line' globals globals' same_front same_line same_globals h =
+    subst (λ (f : List ℕ). GlobalsRead text f line' globals') same_front
+    (subst (λ (n : ℕ). GlobalsRead text front n globals') same_line (subst (λ (gs : List RawGlobal). GlobalsRead text front line gs) same_globals h))
+
+-- the lines of globals, one behind the other, are read as those globals
+globals_read : (names : List (List ℕ)) (text front : List ℕ) (line : ℕ) (ts : List Terminal) (raws : List RawGlobal) (after : List ℕ) → ((i : ℕ) (name : List ℕ) → slice_get names i ≡ Some name → IsName name)
+    → Read text front line AfterLineEnd ts → IsText ts (globals_alone raws) → text ≡ front ++ (flat_map global_text names ++ after)
+    → GlobalsRead text (front ++ flat_map global_text names) (line + length names) (raws ++ raw_globals line names)
+globals_read [] text front line ts raws after spelled was is split =
+    globals_read_as text front (front ++ []) line (line + 0) raws (raws ++ []) (sym (append-nil front)) (omega arith) (sym (append-nil raws)) (record { ts = ts; is = is; read = was })
+globals_read (name ∷ names) text front line ts raws after spelled was is split =
+    let pieces : List Piece = Blank ∷ Shown (NAME name) ∷ [] in
+    let shown = pieces_text (Shown (WORD GlobalWord) ∷ pieces) ++ codes "\n" in
+    let more_text = flat_map global_text names in
+    let written : shown ≡ global_text name = ap (λ (t : List ℕ). codes "global " ++ (t ++ codes "\n")) (append-nil name) in
+    let cut : text ≡ front ++ (shown ++ (more_text ++ after)) = split ∙ ap (λ (t : List ℕ). front ++ t) (append_assoc (global_text name) more_text after) ∙ ap (λ (t : List ℕ). front ++ (t ++ (more_text ++ after))) (sym written) in
+    let one = read_line text front line ts (WORD GlobalWord) pieces (more_text ++ after) was cut (tt, refl, (spelled 0 name refl, refl, tt)) in
+    let g : RawGlobal = record { name = name; line = line } in
+    let own = on_line line (WORD GlobalWord ∷ NAME name ∷ NL ∷ []) in
+    let longer : IsText (ts ++ own) (globals_alone (raws ++ g ∷ [])) = global_line g is (record { spelled = refl; starts = refl }) in
+    let rest = globals_read names text (front ++ shown) (line + 1) (ts ++ own) (raws ++ g ∷ []) after (λ i other at. spelled (suc i) other at) one longer (cut ∙ sym (append_assoc front shown (more_text ++ after))) in
+    globals_read_as text ((front ++ shown) ++ more_text) (front ++ (global_text name ++ more_text)) (line + 1 + length names) (line + suc (length names)) ((raws ++ g ∷ []) ++ raw_globals (line + 1) names) (raws ++ g ∷ raw_globals (line + 1) names)
+    (append_assoc front shown more_text ∙ ap (λ (t : List ℕ). front ++ (t ++ more_text)) written) (omega arith) (append_assoc raws (g ∷ []) (raw_globals (line + 1) names)) rest
+
+-- ---- programs
+
+-- the line of the first unit
+abbrev pub first_line : ProgramShape → ℕ
+first_line program = 1 + length program.globals
 
 -- the raw program that the canonical text spells
 abbrev pub raw_of : ProgramShape → Raw
-raw_of program = record { units = raw_units (map (λ (unit : UnitShape). unit.name) program.units) 1 program.units }
+raw_of program = record {
+  globals = raw_globals 1 program.globals;
+  units = raw_units (map (λ (unit : UnitShape). unit.name) program.units) (first_line program) program.units;
+}
 
 -- the canonical text spells the raw program
-pub text_spells : (program : ProgramShape) → ((i : ℕ) (unit : UnitShape) → slice_get program.units i ≡ Some unit → UnitSpelled (map (λ (unit : UnitShape). unit.name) program.units) unit) → Spells (canonical_text program) (raw_of program)
-text_spells program spelled =
+pub text_spells : (program : ProgramShape) → ((i : ℕ) (name : List ℕ) → slice_get program.globals i ≡ Some name → IsName name)
+    → ((i : ℕ) (unit : UnitShape) → slice_get program.units i ≡ Some unit → UnitSpelled (map (λ (unit : UnitShape). unit.name) program.units) unit) → Spells (canonical_text program) (raw_of program)
+text_spells program named spelled =
     let text = canonical_text program in
-    let all = units_read (map (λ (unit : UnitShape). unit.name) program.units) program.units text [] 1 [] [] [] spelled (read_start text) no_unit (sym (append-nil text)) in
+    let names = map (λ (unit : UnitShape). unit.name) program.units in
+    let lines = flat_map global_text program.globals in
+    let front = globals_read program.globals text [] 1 [] [] (flat_map (unit_text names) program.units) named (read_start text) no_unit refl in
+    let all = units_read (raw_globals 1 program.globals) names program.units text lines (first_line program) front.ts [] [] spelled front.read front.is (ap (λ (t : List ℕ). lines ++ t) (sym (append-nil (flat_map (unit_text names) program.units)))) in
     record {
       items = all.read.items;
       tokens = record { before = all.read.items; previous = AfterLineEnd; spelled = all.read.spelled; items_are = refl };
-      text = subst (λ (ts : List Terminal). IsText ts (raw_of program).units) (sym all.read.tokens) all.is;
+      text = subst (λ (ts : List Terminal). IsText ts (raw_of program)) (sym all.read.tokens) all.is;
     }

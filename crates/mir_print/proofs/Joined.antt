@@ -35,9 +35,10 @@ args_more text_of operands i d start before after low was is =
     ∙ append_assoc start (join_with_byte 59 (map f (take i operands))) (separator i ++ f a)
     ∙ ap (λ (t : List ℕ). start ++ t) (arg_joined f operands i a low ∙ ap (join_with_byte 59) (sym (map_more f operands i d low)))
 
--- the text after one more unit
-pub units_more : {A : Type 0} (text_of : A → List ℕ) (units : List A) (i : ℕ) (unit : A) (before after : List ℕ) → slice_get units i ≡ Some unit → before ≡ flat_map text_of (take i units) → after ≡ before ++ text_of unit
-    → after ≡ flat_map text_of (take (i + 1) units)
-units_more text_of units i unit before after at was is =
+-- the text after one more unit, behind a front
+pub units_more : {A : Type 0} (text_of : A → List ℕ) (units : List A) (i : ℕ) (unit : A) (front before after : List ℕ) → slice_get units i ≡ Some unit → before ≡ front ++ flat_map text_of (take i units) → after ≡ before ++ text_of unit
+    → after ≡ front ++ flat_map text_of (take (i + 1) units)
+units_more text_of units i unit front before after at was is =
     let more = take_more units i unit (slice_get_within units i unit at) ∙ ap (λ u. take i units ++ u ∷ []) (get_or_from_slice_get units i unit unit at) in
-    is ∙ ap (λ (t : List ℕ). t ++ text_of unit) was ∙ flat_map_more text_of [] (take i units) unit ∙ ap (flat_map text_of) (sym more)
+    is ∙ ap (λ (t : List ℕ). t ++ text_of unit) was ∙ append_assoc front (flat_map text_of (take i units)) (text_of unit)
+    ∙ ap (λ (t : List ℕ). front ++ t) (flat_map_more text_of [] (take i units) unit ∙ ap (flat_map text_of) (sym more))

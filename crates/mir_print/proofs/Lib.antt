@@ -15,5 +15,6 @@ mod Places
 mod UnitRules
 mod LabelRules
 mod CallRules
+mod GlobalRules
 mod Validity
 mod Reading

@@ -1,5 +1,5 @@
 -- The line of an instruction: its pieces, their text, and what the grammar makes of it.
-use Rattle.std.proofs.Common.{◌≡◌, ℕ, List, [], ◌∷◌, ◌++◌, map, codes, Option, None, Some, FitsSigned, w64, refl, sym, ap, ◌∙◌, inl, append_assoc}
+use Rattle.std.proofs.Common.{◌≡◌, ℕ, ℤ, List, [], ◌∷◌, ◌++◌, map, codes, Option, None, Some, FitsSigned, w64, refl, sym, ap, ◌∙◌, inl, append_assoc}
 use Rattle.std.specs.List.{join_with_byte}
 use Rattle.std.proofs.lemmas.List.{append-nil}
 use Rattle.mir_base.specs.declared.operators.Op.{Op}
@@ -15,15 +15,15 @@ use Rattle.mir_base.specs.declared.instructions.Rhs.TheVariants.{Plain, Unary, B
 use Rattle.mir_base.specs.declared.instructions.Test.{Test}
 use Rattle.mir_base.specs.declared.instructions.Test.TheVariants.{Rel, Holds, Fails}
 use Rattle.mir_base.specs.declared.instructions.Inst.{Inst}
-use Rattle.mir_base.specs.declared.instructions.Inst.TheVariants.{Receive, Assign, Goto, If, Call, Print, Return}
+use Rattle.mir_base.specs.declared.instructions.Inst.TheVariants.{Receive, Assign, Goto, If, TrapIf, Call, Print, Return}
 use Rattle.mir_base.specs.Names.{IsName, is_reserved}
 use Rattle.mir_base.specs.Text.{op_text, un_op_text, rel_op_text, Naming, var_text, called_text, operand_text, rhs_text, test_text, args_text, inst_text}
 use Rattle.mir_lex.specs.declared.terminals.Symbol.{Symbol}
-use Rattle.mir_lex.specs.declared.terminals.Symbol.TheVariants.{Name as NAME, Word as WORD, Mark as MARK}
+use Rattle.mir_lex.specs.declared.terminals.Symbol.TheVariants.{Name as NAME, Word as WORD, Number as NUMBER, Mark as MARK}
 use Rattle.mir_lex.specs.declared.scan.Previous.{Previous}
 use Rattle.mir_lex.specs.declared.scan.Previous.TheVariants.{Operand as AfterOperand, Other as AfterOther}
 use Rattle.mir_lex.specs.declared.words.Mark.TheVariants.{Comma, Semicolon, LeftParen, RightParen, Bang, Arrow}
-use Rattle.mir_base.specs.declared.words.Word.TheVariants.{Receive as ReceiveWord, Goto as GotoWord, If as IfWord, Call as CallWord, Return as ReturnWord, Print as PrintWord}
+use Rattle.mir_base.specs.declared.words.Word.TheVariants.{Receive as ReceiveWord, Goto as GotoWord, If as IfWord, Trap as TrapWord, Call as CallWord, Return as ReturnWord, Print as PrintWord}
 use Rattle.mir_lex.specs.Spelling.{BeginsWith}
 use Rattle.mir_parse.specs.declared.raw.RawOperand.{RawOperand}
 use Rattle.mir_parse.specs.declared.raw.RawOperand.TheVariants.{Var as RawVar, Const as RawConst}
@@ -32,7 +32,7 @@ use Rattle.mir_parse.specs.declared.raw.RawRhs.TheVariants.{Plain as RawPlain, U
 use Rattle.mir_parse.specs.declared.raw.RawTest.{RawTest}
 use Rattle.mir_parse.specs.declared.raw.RawTest.TheVariants.{Rel as RawRel, Holds as RawHolds, Fails as RawFails}
 use Rattle.mir_parse.specs.declared.raw.RawForm.{RawForm}
-use Rattle.mir_parse.specs.declared.raw.RawForm.TheVariants.{Receive as RawReceive, Assign as RawAssign, Goto as RawGoto, If as RawIf, Call as RawCall, Print as RawPrint, Return as RawReturn}
+use Rattle.mir_parse.specs.declared.raw.RawForm.TheVariants.{Receive as RawReceive, Assign as RawAssign, Goto as RawGoto, If as RawIf, TrapIf as RawTrapIf, Call as RawCall, Print as RawPrint, Return as RawReturn}
 use Rattle.mir_parse.specs.Grammar.{operand_symbol, relop_symbol, binop_symbol, unop_symbol, rhs_symbols, more_symbols, args_symbols, IsForm}
 use Rattle.mir_print.proofs.Ends.{is_separator}
 use Rattle.mir_print.proofs.Pieces.{Piece, Blank, Shown, symbol_text, pieces_text, symbols_of, AreSpaced}
@@ -53,6 +53,10 @@ rhs_pieces (RawBinary op a b) = operand_piece a ∷ Blank ∷ Shown (binop_symbo
 -- the end of a jump
 abbrev goto_pieces : List ℕ → List Piece
 goto_pieces l = Blank ∷ Shown (WORD GotoWord) ∷ Blank ∷ Shown (NAME l) ∷ []
+
+-- the end of a trap instruction
+abbrev trap_pieces : ℤ → List Piece
+trap_pieces z = Blank ∷ Shown (WORD TrapWord) ∷ Blank ∷ Shown (NUMBER z) ∷ []
 
 -- a test, and what follows it
 abbrev test_pieces : RawTest → List Piece → List Piece
@@ -80,6 +84,7 @@ first_symbol (RawReceive x) = WORD ReceiveWord
 first_symbol (RawAssign x rhs) = NAME x
 first_symbol (RawGoto l) = WORD GotoWord
 first_symbol (RawIf test l) = WORD IfWord
+first_symbol (RawTrapIf test z) = WORD IfWord
 first_symbol (RawCall None f args) = WORD CallWord
 first_symbol (RawCall (Some x) f args) = NAME x
 first_symbol (RawPrint a) = WORD PrintWord
@@ -91,6 +96,7 @@ rest_pieces (RawReceive x) = Blank ∷ Shown (NAME x) ∷ Shown (MARK LeftParen)
 rest_pieces (RawAssign x rhs) = Blank ∷ Shown (MARK Arrow) ∷ Blank ∷ rhs_pieces rhs
 rest_pieces (RawGoto l) = Blank ∷ Shown (NAME l) ∷ []
 rest_pieces (RawIf test l) = Blank ∷ test_pieces test (goto_pieces l)
+rest_pieces (RawTrapIf test z) = Blank ∷ test_pieces test (trap_pieces z)
 rest_pieces (RawCall None f args) = Blank ∷ called_pieces f args
 rest_pieces (RawCall (Some x) f args) = Blank ∷ Shown (MARK Arrow) ∷ Blank ∷ called_pieces f args
 rest_pieces (RawPrint a) = Blank ∷ operand_piece a ∷ []
@@ -127,6 +133,9 @@ is_form_same (RawGoto l) = refl
 is_form_same (RawIf (RawRel op a b) l) = refl
 is_form_same (RawIf (RawHolds a) l) = refl
 is_form_same (RawIf (RawFails a) l) = refl
+is_form_same (RawTrapIf (RawRel op a b) z) = refl
+is_form_same (RawTrapIf (RawHolds a) z) = refl
+is_form_same (RawTrapIf (RawFails a) z) = refl
 is_form_same (RawCall None f args) = (WORD CallWord ∷ [], refl, ap (λ (ss : List Symbol). WORD CallWord ∷ NAME f ∷ MARK Comma ∷ ss) (args_symbols_is args))
 is_form_same (RawCall (Some x) f args) = (NAME x ∷ MARK Arrow ∷ [], inl refl, ap (λ (ss : List Symbol). NAME x ∷ MARK Arrow ∷ NAME f ∷ MARK Comma ∷ ss) (args_symbols_is args))
 is_form_same (RawPrint a) = refl
@@ -190,6 +199,7 @@ module _ (naming : Naming) where
   inst_text_is (Assign x rhs) = simp (append_assoc, rhs_text_is)
   inst_text_is (Goto place) = simp (append_assoc, append-nil)
   inst_text_is (If test place) = simp (append_assoc, append-nil, test_text_is)
+  inst_text_is (TrapIf test number) = simp (append_assoc, append-nil, test_text_is)
   inst_text_is (Call None unit operands) =
       ap (λ (t : List ℕ). codes "call " ++ (called_text naming unit ++ (codes "," ++ t))) (args_text_is operands)
       ∙ ap (λ (t : List ℕ). codes "call " ++ t) (sym (append_assoc (called_text naming unit) (codes ",") (args_text naming operands)))
@@ -233,6 +243,7 @@ FormFits (RawReceive x) = IsName x
 FormFits (RawAssign x rhs) = IsName x × RhsFits rhs
 FormFits (RawGoto l) = IsName l
 FormFits (RawIf test l) = TestFits test × IsName l
+FormFits (RawTrapIf test z) = TestFits test × FitsSigned w64 z
 FormFits (RawCall into f args) = IntoFits into × IsName f × ArgsFit args
 FormFits (RawPrint a) = OperandFits a
 FormFits (RawReturn None) = Unit {0}
@@ -270,13 +281,18 @@ rhs_spaced (RawBinary op a b) after fits =
 goto_spaced : (l : List ℕ) (after : List ℕ) → IsName l → AreSpaced AfterOperand (goto_pieces l) (10 ∷ after)
 goto_spaced l after name = (tt, refl, (name, refl, tt))
 
+-- the end of a trap instruction
+trap_spaced : (z : ℤ) (after : List ℕ) → FitsSigned w64 z → AreSpaced AfterOperand (trap_pieces z) (10 ∷ after)
+trap_spaced z after fits = (tt, refl, ((fits, tt), refl, tt))
+
 -- a test with what follows it
-test_spaced : (test : RawTest) (l : List ℕ) (after : List ℕ) → TestFits test → IsName l → AreSpaced AfterOther (test_pieces test (goto_pieces l)) (10 ∷ after)
-test_spaced (RawRel op a b) l after fits name =
-    operand_spaced a (Blank ∷ Shown (relop_symbol op) ∷ Blank ∷ operand_piece b ∷ goto_pieces l) (10 ∷ after) fits.0 refl
-    (rel_op_spaced AfterOperand op (operand_piece b ∷ goto_pieces l) (10 ∷ after) (operand_spaced b (goto_pieces l) (10 ∷ after) fits.1 refl (goto_spaced l after name)))
-test_spaced (RawHolds a) l after fits name = operand_spaced a (goto_pieces l) (10 ∷ after) fits refl (goto_spaced l after name)
-test_spaced (RawFails a) l after fits name = (tt, refl, operand_spaced a (goto_pieces l) (10 ∷ after) fits refl (goto_spaced l after name))
+test_spaced : (test : RawTest) (more : List Piece) (after : List ℕ) → TestFits test → BeginsWith is_separator (pieces_text more ++ 10 ∷ after) → AreSpaced AfterOperand more (10 ∷ after)
+    → AreSpaced AfterOther (test_pieces test more) (10 ∷ after)
+test_spaced (RawRel op a b) more after fits begins spaced =
+    operand_spaced a (Blank ∷ Shown (relop_symbol op) ∷ Blank ∷ operand_piece b ∷ more) (10 ∷ after) fits.0 refl
+    (rel_op_spaced AfterOperand op (operand_piece b ∷ more) (10 ∷ after) (operand_spaced b more (10 ∷ after) fits.1 begins spaced))
+test_spaced (RawHolds a) more after fits begins spaced = operand_spaced a more (10 ∷ after) fits begins spaced
+test_spaced (RawFails a) more after fits begins spaced = (tt, refl, operand_spaced a more (10 ∷ after) fits begins spaced)
 
 -- `int` is spelled as a name
 int_name : IsName (codes "int")
@@ -308,7 +324,8 @@ pub form_spaced : (previous : Previous) (form : RawForm) (after : List ℕ) → 
 form_spaced previous (RawReceive x) after fits = (tt, refl, (fits, refl, (tt, tt, (val_name, refl, (tt, refl, tt)))))
 form_spaced previous (RawAssign x rhs) after fits = (fits.0, refl, (tt, refl, rhs_spaced rhs after fits.1))
 form_spaced previous (RawGoto l) after fits = (tt, refl, (fits, refl, tt))
-form_spaced previous (RawIf test l) after fits = (tt, refl, test_spaced test l after fits.0 fits.1)
+form_spaced previous (RawIf test l) after fits = (tt, refl, test_spaced test (goto_pieces l) after fits.0 refl (goto_spaced l after fits.1))
+form_spaced previous (RawTrapIf test z) after fits = (tt, refl, test_spaced test (trap_pieces z) after fits.0 refl (trap_spaced z after fits.1))
 form_spaced previous (RawCall None f args) after fits = (tt, refl, called_spaced f args after fits.1 fits.2)
 form_spaced previous (RawCall (Some x) f args) after fits = (fits.0, refl, (tt, refl, called_spaced f args after fits.1 fits.2))
 form_spaced previous (RawPrint a) after fits = (tt, refl, operand_spaced a [] (10 ∷ after) fits refl tt)

@@ -1,6 +1,6 @@
 -- The raw program that the canonical text of a program spells: names in place of numbers, and `L1`, `L2` in place of
 -- places.
-use Rattle.std.proofs.Common.{ℕ, suc, ◌+◌, List, [], ◌∷◌, ◌++◌, map, length, Some, if◌then◌else◌}
+use Rattle.std.proofs.Common.{ℕ, suc, ◌+◌, pos, List, [], ◌∷◌, ◌++◌, map, length, Some, if◌then◌else◌}
 use Rattle.std.specs.Option.{option_map}
 use Rattle.mir_base.specs.declared.instructions.Operand.{Operand}
 use Rattle.mir_base.specs.declared.instructions.Operand.TheVariants.{Var, Const}
@@ -9,7 +9,7 @@ use Rattle.mir_base.specs.declared.instructions.Rhs.TheVariants.{Plain, Unary, B
 use Rattle.mir_base.specs.declared.instructions.Test.{Test}
 use Rattle.mir_base.specs.declared.instructions.Test.TheVariants.{Rel, Holds, Fails}
 use Rattle.mir_base.specs.declared.instructions.Inst.{Inst}
-use Rattle.mir_base.specs.declared.instructions.Inst.TheVariants.{Receive, Assign, Goto, If, Call, Print, Return}
+use Rattle.mir_base.specs.declared.instructions.Inst.TheVariants.{Receive, Assign, Goto, If, TrapIf, Call, Print, Return}
 use Rattle.mir_base.specs.Shapes.{UnitShape}
 use Rattle.mir_base.specs.Text.{is_target, label, Naming, var_text, called_text}
 use Rattle.mir_parse.specs.declared.raw.RawOperand.{RawOperand}
@@ -19,9 +19,10 @@ use Rattle.mir_parse.specs.declared.raw.RawRhs.TheVariants.{Plain as RawPlain, U
 use Rattle.mir_parse.specs.declared.raw.RawTest.{RawTest}
 use Rattle.mir_parse.specs.declared.raw.RawTest.TheVariants.{Rel as RawRel, Holds as RawHolds, Fails as RawFails}
 use Rattle.mir_parse.specs.declared.raw.RawForm.{RawForm}
-use Rattle.mir_parse.specs.declared.raw.RawForm.TheVariants.{Receive as RawReceive, Assign as RawAssign, Goto as RawGoto, If as RawIf, Call as RawCall, Print as RawPrint, Return as RawReturn}
+use Rattle.mir_parse.specs.declared.raw.RawForm.TheVariants.{Receive as RawReceive, Assign as RawAssign, Goto as RawGoto, If as RawIf, TrapIf as RawTrapIf, Call as RawCall, Print as RawPrint, Return as RawReturn}
 use Rattle.mir_parse.specs.declared.raw.RawInst.{RawInst}
 use Rattle.mir_parse.specs.declared.raw.RawLabel.{RawLabel}
+use Rattle.mir_parse.specs.declared.raw.RawGlobal.{RawGlobal}
 use Rattle.mir_parse.specs.RawUnit.{RawUnitShape}
 
 -- an operand by names
@@ -47,6 +48,7 @@ raw_form naming (Receive x) = RawReceive (var_text naming x)
 raw_form naming (Assign x rhs) = RawAssign (var_text naming x) (raw_rhs naming rhs)
 raw_form naming (Goto place) = RawGoto (label naming.body place)
 raw_form naming (If test place) = RawIf (raw_test naming test) (label naming.body place)
+raw_form naming (TrapIf test number) = RawTrapIf (raw_test naming test) (pos number)
 raw_form naming (Call into unit operands) = RawCall (option_map (var_text naming) into) (called_text naming unit) (map (raw_operand naming) operands)
 raw_form naming (Print a) = RawPrint (raw_operand naming a)
 raw_form naming (Return a) = RawReturn (Some (raw_operand naming a))
@@ -82,3 +84,8 @@ raw_unit units line unit = record {
 abbrev pub raw_units : List (List ℕ) → ℕ → List UnitShape → List RawUnitShape
 raw_units names line [] = []
 raw_units names line (unit ∷ units) = raw_unit names line unit ∷ raw_units names (line + 1 + length unit.body + 1) units
+
+-- the global lines, of which the first stands on this line
+abbrev pub raw_globals : ℕ → List (List ℕ) → List RawGlobal
+raw_globals line [] = []
+raw_globals line (name ∷ names) = record { name = name; line = line } ∷ raw_globals (line + 1) names

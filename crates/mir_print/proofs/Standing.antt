@@ -1,5 +1,5 @@
 -- The raw program of a program stands for it.
-use Rattle.std.proofs.Common.{◌≡◌, ℕ, suc, ◌+◌, ◌<◌, ◌≤◌, Bool, true, false, cond, nat_lt, nat_eq, List, [], ◌∷◌, ◌++◌, length, map, take, get_or, slice_get, slice_index_or, Option, None, Some, refl, sym, ap, ◌∙◌, subst, inl, inr, arith, append_assoc, if◌then◌else◌, ltb-true, eqb-true, add-one}
+use Rattle.std.proofs.Common.{◌≡◌, ℕ, zero, suc, ◌+◌, ◌<◌, ◌≤◌, Bool, true, false, cond, nat_lt, nat_eq, List, [], ◌∷◌, ◌++◌, length, map, take, get_or, slice_get, slice_index_or, Option, None, Some, refl, sym, ap, ◌∙◌, subst, inl, inr, arith, append_assoc, if◌then◌else◌, ltb-true, eqb-true, add-one}
 use Rattle.std.specs.List.{Contains, flat_map}
 use Rattle.std.specs.Option.{option_map}
 use Rattle.std.proofs.lemmas.Bool.{cases_Bool}
@@ -16,18 +16,18 @@ use Rattle.mir_base.specs.declared.instructions.Rhs.TheVariants.{Plain, Unary, B
 use Rattle.mir_base.specs.declared.instructions.Test.{Test}
 use Rattle.mir_base.specs.declared.instructions.Test.TheVariants.{Rel, Holds, Fails}
 use Rattle.mir_base.specs.declared.instructions.Inst.{Inst}
-use Rattle.mir_base.specs.declared.instructions.Inst.TheVariants.{Receive, Assign, Goto, If, Call, Print, Return}
-use Rattle.mir_base.specs.Shapes.{UnitShape, AllBelow, operand_vars, rhs_vars, test_vars, into_vars, inst_vars, numbered_from, AllDiffer, IsTidy, InstFits, BodyFits}
+use Rattle.mir_base.specs.declared.instructions.Inst.TheVariants.{Receive, Assign, Goto, If, TrapIf, Call, Print, Return}
+use Rattle.mir_base.specs.Shapes.{UnitShape, AllBelow, operand_vars, rhs_vars, test_vars, into_vars, inst_vars, numbered_from, AllDiffer, IsTidy, InstFits, BodyFits, SharesGlobals}
 use Rattle.mir_base.specs.Text.{is_target, label, Naming, var_text, called_text}
 use Rattle.mir_parse.specs.declared.raw.RawInst.{RawInst}
 use Rattle.mir_parse.specs.declared.raw.RawLabel.{RawLabel}
-use Rattle.mir_valid.specs.Rules.{unit_names}
+use Rattle.mir_valid.specs.Rules.{unit_names, global_names}
 use Rattle.mir_valid.specs.Variables.{operand_names, rhs_names, test_names, into_names, form_names, body_names, FirstNames, none, again, first}
 use Rattle.mir_valid.specs.Stands.{EachStands, UnitNames as RawNaming, IsNumber, IsPlace, OperandStands, RhsStands, TestStands, IntoStands, FormStands, UnitStands}
-use Rattle.mir_print.specs.Kept.{UnitKept}
+use Rattle.mir_print.specs.WellTyped.{UnitWellTyped}
 use Rattle.mir_print.specs.Labels.{JumpsTo}
 use Rattle.mir_print.proofs.Jumps.{jumps_to_is}
-use Rattle.mir_print.proofs.Raws.{raw_operand, raw_rhs, raw_test, raw_form, raw_insts, raw_label, raw_labels, unit_naming, raw_unit, raw_units}
+use Rattle.mir_print.proofs.Raws.{raw_operand, raw_rhs, raw_test, raw_form, raw_insts, raw_label, raw_labels, unit_naming, raw_unit, raw_units, raw_globals}
 
 -- ---- variables in the order of their first occurrence
 
@@ -68,6 +68,7 @@ module _ (naming : Naming) where
   form_names_is (Assign x rhs) = ap (λ (t : List (List ℕ)). var_text naming x ∷ t) (rhs_names_is rhs)
   form_names_is (Goto place) = refl
   form_names_is (If test place) = test_names_is test
+  form_names_is (TrapIf test number) = test_names_is test
   form_names_is (Call into unit operands) =
       ap (λ (t : List (List ℕ)). t ++ flat_map operand_names (map (raw_operand naming) operands)) (into_names_is into)
       ∙ ap (λ (t : List (List ℕ)). map (var_text naming) (into_vars into) ++ t) (args_names operands)
@@ -113,6 +114,13 @@ module _ (vars : List (List ℕ)) (differ : AllDiffer vars) where
       let clash : k ≡ n = differ k n (omega arith) low same in
       omega arith
 
+  -- the first variables occur first in their order
+  front_names : (n : ℕ) → n ≤ length vars → FirstNames (take n vars) (take n vars)
+  front_names zero within = none
+  front_names (suc n) within =
+      let one : take (suc n) vars ≡ take n vars ++ name_at n ∷ [] = ap (λ (k : ℕ). take k vars) (sym (add-one n)) ∙ take_more vars n [] (omega arith) in
+      subst (λ (l : List (List ℕ)). FirstNames l l) (sym one) (first (name_at n) (front_names n (omega arith)) (not_contained n (omega arith)))
+
   push : (names : List (List ℕ)) (x : ℕ) (xs : List ℕ) → FirstNames ((names ++ name_at x ∷ []) ++ map name_at xs) vars → FirstNames (names ++ map name_at (x ∷ xs)) vars
   push names x xs h = subst (λ (l : List (List ℕ)). FirstNames l vars) (append_assoc names (name_at x ∷ []) (map name_at xs)) h
 
@@ -135,10 +143,15 @@ module _ (vars : List (List ℕ)) (differ : AllDiffer vars) where
       subst (λ (l : List (List ℕ)). FirstNames l vars) (sym (append-nil names)) (subst (FirstNames names) (take_all n vars (omega (arith, same))) seen)
   first_names (x ∷ xs) n names within e seen = first_case x xs n names (nat_lt x n) (nat_eq x n) refl refl within e seen (first_names xs)
 
--- the printed names of a tidy body first occur in the order of its variables
-variables_stand : (units : List (List ℕ)) (line : ℕ) (unit : UnitShape) → IsTidy unit.vars unit.body → FirstNames (body_names (raw_insts (unit_naming units unit) line unit.body)) unit.vars
-variables_stand units line unit tidy =
-    subst (λ (l : List (List ℕ)). FirstNames l unit.vars) (sym (body_names_is (unit_naming units unit) line unit.body)) (first_names unit.vars tidy.differ (flat_map inst_vars unit.body) 0 [] (omega arith) tidy.numbered none)
+-- the globals and the printed names of a tidy body first occur in the order of its variables
+variables_stand : (globals units : List (List ℕ)) (line : ℕ) (unit : UnitShape) → IsTidy unit.shared unit.vars unit.body → SharesGlobals globals unit
+    → FirstNames (globals ++ body_names (raw_insts (unit_naming units unit) line unit.body)) unit.vars
+variables_stand globals units line unit tidy shares =
+    let within : unit.shared ≤ length unit.vars = numbered_above (flat_map inst_vars unit.body) unit.shared (length unit.vars) tidy.numbered in
+    let front : take unit.shared unit.vars ≡ globals = ap (λ n. take n unit.vars) shares.count ∙ shares.begin in
+    subst (λ (l : List (List ℕ)). FirstNames (globals ++ l) unit.vars) (sym (body_names_is (unit_naming units unit) line unit.body))
+    (subst (λ (l : List (List ℕ)). FirstNames (l ++ map (name_at unit.vars tidy.differ) (flat_map inst_vars unit.body)) unit.vars) front
+    (first_names unit.vars tidy.differ (flat_map inst_vars unit.body) unit.shared (take unit.shared unit.vars) within tidy.numbered (front_names unit.vars tidy.differ unit.shared within)))
 
 -- ---- labels
 
@@ -215,6 +228,7 @@ module _ (naming : Naming) (labels : List RawLabel) (names : List (List ℕ)) (s
   form_stands units place (Assign x rhs) many placed fits jumps below = (var_stands x below.0, rhs_stands rhs below.1)
   form_stands units place (Goto target) many placed fits jumps below = placed target jumps.1 jumps.0
   form_stands units place (If test target) many placed fits jumps below = (test_stands test below, placed target jumps.1 jumps.0)
+  form_stands units place (TrapIf test number) many placed fits jumps below = (test_stands test below, refl)
   form_stands units place (Call into unit operands) many placed fits jumps below = (
     into_stands into (all_below_left (length naming.vars) (into_vars into) (flat_map operand_vars operands) below),
     called_stands unit (omega (arith, fits.0, many)),
@@ -234,24 +248,33 @@ pub names_of_raw : (names : List (List ℕ)) (line : ℕ) (units : List UnitShap
 names_of_raw names line [] = refl
 names_of_raw names line (unit ∷ units) = ap (λ (l : List (List ℕ)). unit.name ∷ l) (names_of_raw names (line + 1 + length unit.body + 1) units)
 
-module _ (all : List UnitShape) (raws : List (List ℕ)) (same_names : raws ≡ map (λ (unit : UnitShape). unit.name) all) where
+-- and so do those of the globals
+pub names_of_globals : (line : ℕ) (names : List (List ℕ)) → global_names (raw_globals line names) ≡ names
+names_of_globals line [] = refl
+names_of_globals line (name ∷ names) = ap (λ (l : List (List ℕ)). name ∷ l) (names_of_globals (line + 1) names)
+
+module _ (globals gs : List (List ℕ)) (same_globals : gs ≡ globals) (all : List UnitShape) (raws : List (List ℕ)) (same_names : raws ≡ map (λ (unit : UnitShape). unit.name) all) where
   abbrev names : List (List ℕ)
   names = map (λ (unit : UnitShape). unit.name) all
 
-  unit_stands : (line : ℕ) (unit : UnitShape) → BodyFits all unit.body → UnitKept unit → UnitStands raws (raw_unit names line unit) unit
-  unit_stands line unit fits kept =
+  unit_stands : (line : ℕ) (unit : UnitShape) → BodyFits all unit.body → SharesGlobals globals unit → UnitWellTyped unit → UnitStands gs raws (raw_unit names line unit) unit
+  unit_stands line unit fits shares well_typed =
       let naming = unit_naming names unit in
       let labels = raw_labels unit.body (line + 1) 0 unit.body in
       record {
         name = refl;
-        vars = variables_stand names (line + 1) unit kept.tidy;
+        shared = shares.count ∙ ap length (sym same_globals);
+        vars =
+            subst (λ (l : List (List ℕ)). FirstNames (l ++ body_names (raw_insts naming (line + 1) unit.body)) unit.vars) (sym same_globals)
+            (variables_stand globals names (line + 1) unit well_typed.tidy shares);
         body = insts_stand naming labels raws same_names (line + 1) unit.body
             (λ i inst at. form_stands naming labels raws same_names all i inst (sym (length-map all (λ (u : UnitShape). u.name))) (λ target is within. is_place unit.body (line + 1) target is within) (fits.insts i inst at) (jumps_to_is all unit.body fits i inst at)
-            (all_at (λ (j : Inst). AllBelow (length unit.vars) (inst_vars j)) unit.body i inst kept.below at));
+            (all_at (λ (j : Inst). AllBelow (length unit.vars) (inst_vars j)) unit.body i inst well_typed.below at));
       }
 
-  pub raw_units_stand : (line : ℕ) (units : List UnitShape) → ((i : ℕ) (unit : UnitShape) → slice_get units i ≡ Some unit → BodyFits all unit.body × UnitKept unit) → EachStands (UnitStands raws) (raw_units names line units) units
+  pub raw_units_stand : (line : ℕ) (units : List UnitShape) → ((i : ℕ) (unit : UnitShape) → slice_get units i ≡ Some unit → BodyFits all unit.body × SharesGlobals globals unit × UnitWellTyped unit)
+      → EachStands (UnitStands gs raws) (raw_units names line units) units
   raw_units_stand line [] known = tt
   raw_units_stand line (unit ∷ units) known =
       let here = known 0 unit refl in
-      (unit_stands line unit here.0 here.1, raw_units_stand (line + 1 + length unit.body + 1) units (λ i other at. known (suc i) other at))
+      (unit_stands line unit here.0 here.1 here.2, raw_units_stand (line + 1 + length unit.body + 1) units (λ i other at. known (suc i) other at))

@@ -18,7 +18,7 @@ use Rattle.mir_parse.specs.declared.raw.RawInst.{RawInst}
 use Rattle.mir_parse.specs.declared.raw.RawLabel.{RawLabel}
 use Rattle.mir_valid.specs.Names.{has_name}
 use Rattle.mir_valid.specs.Rules.{received_by, is_receive, line_of, too_many_insts_lines, is_seventeenth, too_many_receives_lines, has_label_before, is_late, late_receive_lines, received, receives_again, same_receive_lines, label_names, misses_label, no_label_lines}
-use Rattle.mir_print.specs.Kept.{UnitKept}
+use Rattle.mir_print.specs.WellTyped.{UnitWellTyped}
 use Rattle.mir_print.specs.Labels.{JumpsTo}
 use Rattle.mir_print.proofs.Jumps.{jumps_to_is}
 use Rattle.mir_print.proofs.Raws.{raw_form, raw_insts, raw_label, raw_labels, unit_naming, raw_unit}
@@ -68,7 +68,7 @@ received_from naming line (Receive y ∷ insts) zero x at = (0, y, refl, cc)
 received_from naming line (Receive y ∷ insts) (suc j) x at = let found = received_from naming (line + 1) insts j x at in (suc found.0, found.1, found.2, found.3)
 received_from naming line (inst ∷ insts) j x at = let found = received_from naming (line + 1) insts j x at in (suc found.0, found.1, found.2, found.3)
 
-module _ (units : List UnitShape) (names : List (List ℕ)) (line : ℕ) (unit : UnitShape) (fits : BodyFits units unit.body) (kept : UnitKept unit) where
+module _ (units : List UnitShape) (names : List (List ℕ)) (line : ℕ) (unit : UnitShape) (fits : BodyFits units unit.body) (well_typed : UnitWellTyped unit) where
   abbrev naming : Naming
   naming = unit_naming names unit
 
@@ -107,11 +107,11 @@ module _ (units : List UnitShape) (names : List (List ℕ)) (line : ℕ) (unit :
   -- no variable is received twice
 
   var_low : (i x : ℕ) → slice_get unit.body i ≡ Some (Receive x) → x < length unit.vars
-  var_low i x at = (all_at (λ (j : Inst). AllBelow (length unit.vars) (inst_vars j)) unit.body i (Receive x) kept.below at).0
+  var_low i x at = (all_at (λ (j : Inst). AllBelow (length unit.vars) (inst_vars j)) unit.body i (Receive x) well_typed.below at).0
 
   same_var : (x y : ℕ) → x < length unit.vars → y < length unit.vars → var_text naming x ≡ var_text naming y → x ≡ y
   same_var x y low_x low_y same =
-      kept.tidy.differ x y low_x low_y (slice_get-get_or unit.vars x [] low_x ∙ ap (λ (n : List ℕ). Some n) same ∙ sym (slice_get-get_or unit.vars y [] low_y))
+      well_typed.tidy.differ x y low_x low_y (slice_get-get_or unit.vars x [] low_x ∙ ap (λ (n : List ℕ). Some n) same ∙ sym (slice_get-get_or unit.vars y [] low_y))
 
   not_again : (i x : ℕ) → slice_get unit.body i ≡ Some (Receive x) → has_name (received (take i insts)) (var_text naming x) ≡ false
   not_again i x at = name_absent (received (take i insts)) (var_text naming x) (λ j there. absent j there)

@@ -1,7 +1,7 @@
 -- The tables by which labels are printed. Cited by the contracts of private functions.
 use Rattle.std.specs.Prelude.{ℕ, ◌≡◌, ◌+◌, ◌<◌, ◌≤◌, Bool, true, false, List, length, slice_index, slice_index_or, slice_set}
 use Rattle.mir_base.specs.declared.instructions.Inst.{Inst}
-use Rattle.mir_base.specs.declared.instructions.Inst.TheVariants.{Receive, Assign, Goto, If, Call, Print, Return}
+use Rattle.mir_base.specs.declared.instructions.Inst.TheVariants.{Receive, Assign, Goto, If, TrapIf, Call, Print, Return}
 use Rattle.mir_base.specs.Text.{is_target, targets_below}
 
 -- for each place, for that of `end` and for the one behind it, how many of the places below it are jumped to
@@ -15,6 +15,7 @@ JumpsBelow many (Receive x) = Unit {0}
 JumpsBelow many (Assign x rhs) = Unit {0}
 JumpsBelow many (Goto target) = target < many
 JumpsBelow many (If test target) = target < many
+JumpsBelow many (TrapIf test number) = Unit {0}
 JumpsBelow many (Call into unit operands) = Unit {0}
 JumpsBelow many (Print a) = Unit {0}
 JumpsBelow many (Return a) = Unit {0}
@@ -25,6 +26,7 @@ target_marked marks (Receive x) = marks
 target_marked marks (Assign x rhs) = marks
 target_marked marks (Goto target) = slice_set marks target true
 target_marked marks (If test target) = slice_set marks target true
+target_marked marks (TrapIf test number) = marks
 target_marked marks (Call into unit operands) = marks
 target_marked marks (Print a) = marks
 target_marked marks (Return a) = marks
@@ -35,6 +37,7 @@ JumpsTo body (Goto target) = (target ≤ length body) × (is_target body target 
 JumpsTo body (If test target) = (target ≤ length body) × (is_target body target ≡ true)
 JumpsTo body (Receive x) = Unit {0}
 JumpsTo body (Assign x rhs) = Unit {0}
+JumpsTo body (TrapIf test number) = Unit {0}
 JumpsTo body (Call into unit operands) = Unit {0}
 JumpsTo body (Print a) = Unit {0}
 JumpsTo body (Return a) = Unit {0}

@@ -2,4 +2,4 @@ pub mod Texts
 pub mod Labels
 pub mod Scopes
 pub mod Sides
-pub mod Kept
+pub mod WellTyped

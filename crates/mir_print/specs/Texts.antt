@@ -1,7 +1,7 @@
 -- Texts and the programs that are read from them. Cited by contracts.
 use Rattle.std.specs.Prelude.{ℕ, ◌≤◌, List, length}
 use Rattle.std.specs.List.{All}
-use Rattle.mir_base.specs.Limits.{most_units, most_insts, most_receives}
+use Rattle.mir_base.specs.Limits.{most_units, most_globals, most_insts, most_receives}
 use Rattle.mir_base.specs.Shapes.{ProgramShape, receives_in}
 use Rattle.mir_parse.specs.declared.raw.Raw.{Raw}
 use Rattle.mir_parse.specs.Spells.{Spells}
@@ -15,9 +15,10 @@ pub record SpellsFor (text : List ℕ) (program : ProgramShape) : Type 0 where
   pub spelled : Spells text raw
   pub stands : StandsFor raw program
 
--- the limits on a program that is read, but for those on names and constants, which every program keeps
+-- the limits on a program that is read, but for those on names and constants, which the types of a program keep
 pub record KeepsLimits (program : ProgramShape) : Type 0 where
   pub units : length program.units ≤ most_units
+  pub globals : length program.globals ≤ most_globals
   pub insts : All (λ unit. length unit.body ≤ most_insts) program.units
   pub receives : All (λ unit. receives_in unit.body ≤ most_receives) program.units
 

@@ -58,6 +58,12 @@ pub fn put_inst(text: &mut Vec<u8>, scope: &Scope, inst: &Inst) -> Result<(), Me
             text.extend_from_slice(b" goto ")?;
             put_label(text, scope, *place)
         }
+        Inst::TrapIf(test, number) => {
+            text.extend_from_slice(b"if ")?;
+            put_test(text, scope, test)?;
+            text.extend_from_slice(b" trap ")?;
+            put_number(text, usize::from(*number))
+        }
         Inst::Call(into, unit, args) => put_call(text, scope, into, *unit, args),
         Inst::Print(a) => {
             text.extend_from_slice(b"print ")?;

@@ -46,6 +46,7 @@ fn mark(marks: &mut Vec<bool>, inst: &Inst)
         Inst::Assign(_, _) => {}
         Inst::Goto(place) => marks[*place] = true,
         Inst::If(_, place) => marks[*place] = true,
+        Inst::TrapIf(_, _) => {}
         Inst::Call(_, _, _) => {}
         Inst::Print(_) => {}
         Inst::Return(_) => {}

@@ -9,13 +9,13 @@
 #![tactic(auto)]
 
 mod instructions;
-mod kept;
 mod labels;
 mod operands;
 mod printing;
 mod reading_back;
 mod scope;
 mod sides;
+mod well_typed;
 
 pub use printing::print;
 pub use reading_back::text_is_read_back;

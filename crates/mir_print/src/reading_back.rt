@@ -2,7 +2,7 @@
 ghost use Rattle.mir_base.specs.Text.{canonical_text};
 ghost use Rattle.mir_print.specs.Texts.{SpellsFor, KeepsLimits, IsReadBack};
 
-use crate::kept::keep_program;
+use crate::well_typed::hand_out_program;
 use mir_base::Program;
 use mir_parse::raw_is_unique;
 use mir_valid::program_is_unique;
@@ -18,7 +18,7 @@ pub fn text_is_read_back(program: &Program)
     // Within the limits it is the text of this program alone.
     ensures read_back { KeepsLimits program.now → IsReadBack program.now }
 {
-    keep_program(program);
+    hand_out_program(program);
     raw_is_unique();
     program_is_unique();
 }

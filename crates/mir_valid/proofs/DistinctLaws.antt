@@ -3,9 +3,10 @@ use Rattle.std.proofs.Common.{◌≡◌, ℕ, ◌<◌, ◌≤◌, Bool, true, fa
 use Rattle.std.proofs.lemmas.List.{append-nil, map-append}
 use Rattle.mir_base.specs.ItemLaws.{get_left, get_last}
 use Rattle.mir_base.specs.Shapes.{AllDiffer}
+use Rattle.mir_parse.specs.declared.raw.RawGlobal.{RawGlobal}
 use Rattle.mir_valid.specs.Names.{has_name}
-use Rattle.mir_valid.specs.Rules.{broken_after, broken}
-use Rattle.mir_valid.specs.Numbered.{with_name}
+use Rattle.mir_valid.specs.Rules.{broken_after, broken, global_names, same_global_lines}
+use Rattle.mir_valid.specs.Numbered.{with_name, global_variables}
 use Rattle.mir_valid.specs.NameLaws.{has_at}
 use Rattle.mir_valid.proofs.BrokenLaws.{unbroken}
 
@@ -45,7 +46,7 @@ differ_with vars x differ = by (has_name vars x) refl
     by false e = subst (λ (b : Bool). AllDiffer (if b then vars else vars ++ x ∷ [])) (sym e) (differ_push vars x differ e)
 
 -- names that join one after the other keep the list without equal ones
-differ_fold : (names vars : List (List ℕ)) → AllDiffer vars → AllDiffer (fold with_name vars names)
+pub differ_fold : (names vars : List (List ℕ)) → AllDiffer vars → AllDiffer (fold with_name vars names)
 differ_fold [] vars differ = differ
 differ_fold (x ∷ names) vars differ = differ_fold names (with_name vars x) (differ_with vars x differ)
 
@@ -65,3 +66,19 @@ differ_after name line earlier (x ∷ xs) differ e =
 -- where no item has the name of an earlier one, the names differ
 pub differ_unbroken : {A : Type 0} (name : A → List ℕ) (line : A → ℕ) (xs : List A) → broken line (λ before y. has_name (map name before) (name y)) xs ≡ [] → AllDiffer (map name xs)
 differ_unbroken name line xs e = differ_after name line [] xs differ_nil e
+
+-- ---- globals
+
+-- where no global line names an earlier global, each name is added
+globals_after : (earlier globals : List RawGlobal) → broken_after (λ g. g.line) (λ before g. has_name (global_names before) g.name) earlier globals ≡ [] → fold with_name (global_names earlier) (global_names globals) ≡ global_names (earlier ++ globals)
+globals_after earlier [] e = ap global_names (sym (append-nil earlier))
+globals_after earlier (g ∷ globals) e =
+    let parts = unbroken (has_name (global_names earlier) g.name) g.line (broken_after (λ g. g.line) (λ before g. has_name (global_names before) g.name) (earlier ++ g ∷ []) globals) e in
+    ap (λ b. fold with_name (if b then global_names earlier else global_names earlier ++ g.name ∷ []) (global_names globals)) parts.0
+    ∙ ap (λ names. fold with_name names (global_names globals)) (sym (map-append (λ g. g.name) earlier (g ∷ [])))
+    ∙ globals_after (earlier ++ g ∷ []) globals parts.1
+    ∙ ap global_names (append_assoc earlier (g ∷ []) globals)
+
+-- so the first variables are the globals
+pub globals_are : (globals : List RawGlobal) → same_global_lines globals ≡ [] → global_variables globals ≡ global_names globals
+globals_are globals e = globals_after [] globals e

@@ -5,7 +5,7 @@ use Rattle.std.proofs.lemmas.Bool.Decides.{nat_tests}
 use Rattle.mir_parse.specs.declared.raw.RawLabel.{RawLabel}
 use Rattle.mir_valid.specs.Rules.{has_label_before}
 use Rattle.mir_valid.specs.Refusals.{lesser, least}
-use Rattle.mir_valid.specs.Tables.{is_at_most}
+use Rattle.mir_valid.specs.NameTables.{is_at_most}
 
 -- the lesser of two is at most a place where one of them is
 min_le : (m n place : ℕ) → nat_le (min m n) place ≡ (nat_le m place || nat_le n place)

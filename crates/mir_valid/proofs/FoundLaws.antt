@@ -7,7 +7,7 @@ use Rattle.mir_base.specs.Words.{is_text}
 use Rattle.mir_valid.specs.Names.{has_name, number_in}
 use Rattle.mir_valid.specs.Rules.{unit_names, label_names, is_receive, receive_counts}
 use Rattle.mir_valid.specs.Stands.{IsNumber, IsPlace}
-use Rattle.mir_valid.specs.Tables.{number_or_zero, entries_from, table_of}
+use Rattle.mir_valid.specs.NameTables.{number_or_zero, entries_from, table_of}
 use Rattle.mir_valid.specs.Numbered.{label_places, unit_numbers}
 use Rattle.mir_valid.proofs.TableLaws.{number_in_table_of, has_entry, has_number}
 use Rattle.mir_valid.specs.NameLaws.{same_is}

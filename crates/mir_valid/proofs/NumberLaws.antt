@@ -6,7 +6,7 @@ use Rattle.mir_base.specs.Words.{is_text}
 use Rattle.mir_valid.specs.Names.{has_name, number_in}
 use Rattle.mir_valid.specs.NameLaws.{same_self, same_is}
 use Rattle.mir_valid.specs.Stands.{IsNumber}
-use Rattle.mir_valid.specs.Tables.{number_or_zero, entries_from}
+use Rattle.mir_valid.specs.NameTables.{number_or_zero, entries_from}
 use Rattle.mir_valid.proofs.TableLaws.{has_number, number_in_append}
 
 -- the number of a name, counted from k, leads to its place

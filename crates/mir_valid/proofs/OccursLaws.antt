@@ -12,11 +12,12 @@ use Rattle.mir_parse.specs.declared.raw.RawForm.{RawForm}
 use Rattle.mir_parse.specs.declared.raw.RawForm.TheVariants.{Receive as RawReceive}
 use Rattle.mir_parse.specs.declared.raw.RawInst.{RawInst}
 use Rattle.mir_base.specs.Words.{is_text}
+use Rattle.mir_parse.specs.declared.raw.RawGlobal.{RawGlobal}
 use Rattle.mir_valid.specs.Names.{has_name}
 use Rattle.mir_valid.specs.Variables.{form_names, body_names, FirstNames, none, again, first}
-use Rattle.mir_valid.specs.Rules.{broken, received_by, received, receives_again}
-use Rattle.mir_valid.specs.Tables.{number_or_zero, entries_from}
-use Rattle.mir_valid.specs.Numbered.{with_name, variables_of, Numbers, numbered_form, numbered_body}
+use Rattle.mir_valid.specs.Rules.{broken, received_by, received, receives_again, global_names}
+use Rattle.mir_valid.specs.NameTables.{number_or_zero, entries_from}
+use Rattle.mir_valid.specs.Numbered.{with_name, global_variables, variables_of, Numbers, numbered_form, numbered_body}
 use Rattle.mir_valid.proofs.BrokenLaws.{kept_at}
 use Rattle.mir_base.specs.ItemLaws.{get_take}
 use Rattle.mir_valid.specs.NameLaws.{same_self, same_is}
@@ -63,8 +64,8 @@ has_fold (name ∷ names) vars x =
     has_fold names (with_name vars name) x ∙ ap (λ b. b || has_name names x) (has_with vars name x) ∙ or_assoc (has_name vars x) (is_text x name) (has_name names x)
 
 -- each name that occurs is a variable
-pub within_variables : (body : List RawInst) → Within (variables_of body) (body_names body)
-within_variables body x has = has_fold (body_names body) [] x ∙ has
+pub within_variables : (globals : List RawGlobal) (body : List RawInst) → Within (variables_of globals body) (body_names body)
+within_variables globals body x has = has_fold (body_names body) (global_variables globals) x ∙ ap (λ b. has_name (global_variables globals) x || b) has ∙ or-true (has_name (global_variables globals) x)
 
 -- the names in one instruction of a body
 pub within_inst : (vars : List (List ℕ)) (body : List RawInst) (i : ℕ) (inst : RawInst) → Within vars (body_names body) → slice_get body i ≡ Some inst → Within vars (form_names inst.form)
@@ -93,14 +94,14 @@ first_fold (x ∷ rest) names vars before =
     subst (λ (all : List (List ℕ)). FirstNames all (fold with_name (with_name vars x) rest)) (append_assoc names (x ∷ []) rest)
     (first_fold rest (names ++ x ∷ []) (with_name vars x) (first_step names vars x before))
 
--- the names of a body, each once, are in the order of first occurrence
-pub first_variables : (body : List RawInst) → FirstNames (body_names body) (variables_of body)
-first_variables body = first_fold (body_names body) [] [] none
+-- the names of globals and a body, each once, are in the order of first occurrence
+pub first_variables : (globals : List RawGlobal) (body : List RawInst) → FirstNames (global_names globals ++ body_names body) (variables_of globals body)
+first_variables globals body = first_fold (body_names body) (global_names globals) (global_variables globals) (first_fold (global_names globals) [] [] none)
 
 -- ---- receives
 
 -- only a receive is numbered as a receive, and its variable is the number of its name
-receive_of : (numbers : Numbers) (form : RawForm) (x : ℕ) → numbered_form numbers form ≡ Receive x → (name : List ℕ) × (form ≡ RawReceive name) × (number_or_zero numbers.vars name ≡ x)
+pub receive_of : (numbers : Numbers) (form : RawForm) (x : ℕ) → numbered_form numbers form ≡ Receive x → (name : List ℕ) × (form ≡ RawReceive name) × (number_or_zero numbers.vars name ≡ x)
 receive_of numbers (RawReceive name) x e = (name, refl, cc)
 receive_of numbers form x e = absurd (cc)
 
@@ -128,28 +129,30 @@ received_apart body e i j inst later name low at_i at_j is_i is_j =
     let wrong = sym has ∙ kept in
     cc
 
+-- the variable of a receive is numbered by the place of its name
+pub named : (globals : List RawGlobal) (numbers : Numbers) (body : List RawInst) → numbers.vars ≡ entries_from 0 (variables_of globals body) → (x : ℕ) (inst : RawInst) (k : ℕ) → slice_get body k ≡ Some inst
+    → (name : List ℕ) → inst.form ≡ RawReceive name → number_or_zero numbers.vars name ≡ x → slice_get (variables_of globals body) x ≡ Some name
+named globals numbers body vars x inst k at name is number =
+    let occurs : Within (variables_of globals body) (name ∷ []) =
+    subst (λ (form : RawForm). Within (variables_of globals body) (form_names form)) is (within_inst (variables_of globals body) body k inst (within_variables globals body) at) in
+    subst (λ (n : ℕ). slice_get (variables_of globals body) n ≡ Some name) (ap (λ vs. number_or_zero vs name) (sym vars) ∙ number)
+    (numbered_is (variables_of globals body) name (within_one (variables_of globals body) name occurs))
+
 -- no variable is received twice
-pub received_once : (numbers : Numbers) (body : List RawInst) → numbers.vars ≡ entries_from 0 (variables_of body) → broken (λ inst. inst.line) receives_again body ≡ []
+pub received_once : (globals : List RawGlobal) (numbers : Numbers) (body : List RawInst) → numbers.vars ≡ entries_from 0 (variables_of globals body) → broken (λ inst. inst.line) receives_again body ≡ []
     → (i j x : ℕ) → slice_get (numbered_body numbers body) i ≡ Some (Receive x) → slice_get (numbered_body numbers body) j ≡ Some (Receive x) → i ≡ j
-received_once numbers body vars e i j x at_i at_j =
+received_once globals numbers body vars e i j x at_i at_j =
     let raw_i = map_at (λ inst. numbered_form numbers inst.form) body i (Receive x) at_i in
     let raw_j = map_at (λ inst. numbered_form numbers inst.form) body j (Receive x) at_j in
     let receive_i = receive_of numbers raw_i.0.form x raw_i.2 in
     let receive_j = receive_of numbers raw_j.0.form x raw_j.2 in
-    let named_i = named raw_i.0 i raw_i.1 receive_i.0 receive_i.1 receive_i.2 in
-    let named_j = named raw_j.0 j raw_j.1 receive_j.0 receive_j.1 receive_j.2 in
+    let named_i = named globals numbers body vars x raw_i.0 i raw_i.1 receive_i.0 receive_i.1 receive_i.2 in
+    let named_j = named globals numbers body vars x raw_j.0 j raw_j.1 receive_j.0 receive_j.1 receive_j.2 in
     let same : receive_i.0 ≡ receive_j.0 = cc (sym named_i ∙ named_j) in
     let is_j : raw_j.0.form ≡ RawReceive receive_i.0 = receive_j.1 ∙ ap RawReceive (sym same) in
     by (nat_lt i j) (nat_lt j i) refl refl (λ low. received_apart body e i j raw_i.0 raw_j.0 receive_i.0 low raw_i.1 raw_j.1 receive_i.1 is_j)
     (λ low. received_apart body e j i raw_j.0 raw_i.0 receive_i.0 low raw_j.1 raw_i.1 is_j receive_i.1)
   where
-    named : (inst : RawInst) (k : ℕ) → slice_get body k ≡ Some inst → (name : List ℕ) → inst.form ≡ RawReceive name → number_or_zero numbers.vars name ≡ x
-        → slice_get (variables_of body) x ≡ Some name
-    named inst k at name is number =
-        let occurs : Within (variables_of body) (name ∷ []) = subst (λ (form : RawForm). Within (variables_of body) (form_names form)) is (within_inst (variables_of body) body k inst (within_variables body) at) in
-        subst (λ (n : ℕ). slice_get (variables_of body) n ≡ Some name) (ap (λ vs. number_or_zero vs name) (sym vars) ∙ number)
-        (numbered_is (variables_of body) name (within_one (variables_of body) name occurs))
-
     by : (b c : Bool) → nat_lt i j ≡ b → nat_lt j i ≡ c → (i < j → ⊥) → (j < i → ⊥) → i ≡ j
     by true c is_b is_c not_i not_j = absurd (not_i (ltb-true i j is_b))
     by false true is_b is_c not_i not_j = absurd (not_j (ltb-true j i is_c))

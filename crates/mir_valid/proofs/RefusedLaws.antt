@@ -4,10 +4,11 @@ use Rattle.std.specs.List.{flat_map}
 use Rattle.std.proofs.lemmas.Bool.Decides.{nat_tests}
 use Rattle.std.specs.Option.{option_or, option_map}
 use Rattle.mir_base.specs.Limits.{most_units}
+use Rattle.mir_parse.specs.declared.raw.RawGlobal.{RawGlobal}
 use Rattle.mir_parse.specs.RawUnit.{RawUnitShape}
 use Rattle.mir_valid.specs.declared.faults.ValidFault.{ValidFault}
-use Rattle.mir_valid.specs.declared.faults.ValidFault.TheVariants.{NoUnit, TooManyUnits, SameUnit, TooManyInsts, LateReceive, SameReceive, TooManyReceives, SameLabel, NoLabel, NoSuchUnit, WrongCount}
-use Rattle.mir_valid.specs.Rules.{same_unit_lines, too_many_insts_lines, late_receive_lines, same_receive_lines, too_many_receives_lines, same_label_lines, no_label_lines, no_unit_lines, wrong_count_lines}
+use Rattle.mir_valid.specs.declared.faults.ValidFault.TheVariants.{NoUnit, TooManyUnits, SameUnit, TooManyInsts, LateReceive, SameReceive, TooManyReceives, SameLabel, NoLabel, NoSuchUnit, WrongCount, SameGlobal, TooManyGlobals, GlobalReceive, BadTrap}
+use Rattle.mir_valid.specs.Rules.{same_unit_lines, too_many_insts_lines, late_receive_lines, same_receive_lines, too_many_receives_lines, same_label_lines, no_label_lines, no_unit_lines, wrong_count_lines, same_global_lines, too_many_globals_lines, global_receive_lines, bad_trap_lines}
 use Rattle.mir_valid.specs.Refusals.{lesser, least, at_least_line, first_of, refusals, AreValid, IsValidMemory}
 use Rattle.mir_base.specs.ItemLaws.{none_or}
 
@@ -36,8 +37,8 @@ lines_none : (kind : ℕ → ValidFault) (lines : List ℕ) → at_least_line ki
 lines_none kind lines e = no_lines lines (none_map kind (least lines) e)
 
 -- where there is no refusal no kind has a line
-pub valid_of : (units : List RawUnitShape) → first_of (refusals units) ≡ None → AreValid units
-valid_of units e0 =
+pub valid_of : (globals : List RawGlobal) (units : List RawUnitShape) → first_of (refusals globals units) ≡ None → AreValid globals units
+valid_of globals units e0 =
     let e1 = none_or (if nat_eq (length units) 0 then Some NoUnit else None) _ e0 in
     let e2 = none_or (if nat_lt most_units (length units) then Some TooManyUnits else None) _ e1.1 in
     let e3 = none_or (at_least_line SameUnit (same_unit_lines units)) _ e2.1 in
@@ -49,6 +50,10 @@ valid_of units e0 =
     let e9 = none_or (at_least_line NoLabel (flat_map no_label_lines units)) _ e8.1 in
     let e10 = none_or (at_least_line NoSuchUnit (flat_map (no_unit_lines units) units)) _ e9.1 in
     let e11 = none_or (at_least_line WrongCount (flat_map (wrong_count_lines units) units)) _ e10.1 in
+    let e12 = none_or (at_least_line SameGlobal (same_global_lines globals)) _ e11.1 in
+    let e13 = none_or (at_least_line TooManyGlobals (too_many_globals_lines globals)) _ e12.1 in
+    let e14 = none_or (at_least_line GlobalReceive (flat_map (global_receive_lines globals) units)) _ e13.1 in
+    let e15 = none_or (at_least_line BadTrap (flat_map bad_trap_lines units)) _ e14.1 in
     let some : nat_eq (length units) 0 ≡ false = none_if (nat_eq (length units) 0) NoUnit e1.0 in
     let few : nat_lt 256 (length units) ≡ false = none_if (nat_lt most_units (length units)) TooManyUnits e2.0 in
     record {
@@ -63,6 +68,10 @@ valid_of units e0 =
       no_label = lines_none NoLabel _ e9.0;
       no_such_unit = lines_none NoSuchUnit _ e10.0;
       wrong_count = lines_none WrongCount _ e11.0;
+      same_global = lines_none SameGlobal _ e12.0;
+      too_many_globals = lines_none TooManyGlobals _ e13.0;
+      global_receive = lines_none GlobalReceive _ e14.0;
+      bad_trap = lines_none BadTrap _ e15.0;
     }
 
 -- ---- and the other way
@@ -77,8 +86,8 @@ no_line_at : (kind : ℕ → ValidFault) (lines : List ℕ) → lines ≡ [] →
 no_line_at kind lines e = ap (at_least_line kind) e
 
 -- where no kind has a line there is no refusal
-pub refused_of : (units : List RawUnitShape) → AreValid units → first_of (refusals units) ≡ None
-refused_of units valid =
+pub refused_of : (globals : List RawGlobal) (units : List RawUnitShape) → AreValid globals units → first_of (refusals globals units) ≡ None
+refused_of globals units valid =
     let some : nat_eq (length units) 0 ≡ false = let h = valid.some_unit in grind (arith, nat_tests) in
     let few : nat_lt 256 (length units) ≡ false = let h : length units ≤ 256 = valid.few_units in grind (arith, nat_tests) in
     both_none _ _ (ap (λ (b : Bool). if b then Some NoUnit else None) some)
@@ -91,7 +100,11 @@ refused_of units valid =
     (both_none _ _ (no_line_at SameLabel _ valid.same_label)
     (both_none _ _ (no_line_at NoLabel _ valid.no_label)
     (both_none _ _ (no_line_at NoSuchUnit _ valid.no_such_unit)
-    (both_none _ _ (no_line_at WrongCount _ valid.wrong_count) refl))))))))))
+    (both_none _ _ (no_line_at WrongCount _ valid.wrong_count)
+    (both_none _ _ (no_line_at SameGlobal _ valid.same_global)
+    (both_none _ _ (no_line_at TooManyGlobals _ valid.too_many_globals)
+    (both_none _ _ (no_line_at GlobalReceive _ valid.global_receive)
+    (both_none _ _ (no_line_at BadTrap _ valid.bad_trap) refl))))))))))))))
 
 -- ---- a refusal is not of memory
 
@@ -119,8 +132,8 @@ no_memory_at kind lines f = go (least lines)
     go (Some line) = f line
 
 -- none of the refusals that the rules give is of memory
-never_memory : (units : List RawUnitShape) → NoMemory (first_of (refusals units))
-never_memory units =
+never_memory : (globals : List RawGlobal) (units : List RawUnitShape) → NoMemory (first_of (refusals globals units))
+never_memory globals units =
     no_memory_or _ _ (no_memory_if (nat_eq (length units) 0) NoUnit (λ m. m))
     (no_memory_or _ _ (no_memory_if (nat_lt most_units (length units)) TooManyUnits (λ m. m))
     (no_memory_or _ _ (no_memory_at SameUnit (same_unit_lines units) (λ line m. m))
@@ -131,8 +144,12 @@ never_memory units =
     (no_memory_or _ _ (no_memory_at SameLabel (flat_map same_label_lines units) (λ line m. m))
     (no_memory_or _ _ (no_memory_at NoLabel (flat_map no_label_lines units) (λ line m. m))
     (no_memory_or _ _ (no_memory_at NoSuchUnit (flat_map (no_unit_lines units) units) (λ line m. m))
-    (no_memory_or _ None (no_memory_at WrongCount (flat_map (wrong_count_lines units) units) (λ line m. m)) tt))))))))))
+    (no_memory_or _ _ (no_memory_at WrongCount (flat_map (wrong_count_lines units) units) (λ line m. m))
+    (no_memory_or _ _ (no_memory_at SameGlobal (same_global_lines globals) (λ line m. m))
+    (no_memory_or _ _ (no_memory_at TooManyGlobals (too_many_globals_lines globals) (λ line m. m))
+    (no_memory_or _ _ (no_memory_at GlobalReceive (flat_map (global_receive_lines globals) units) (λ line m. m))
+    (no_memory_or _ None (no_memory_at BadTrap (flat_map bad_trap_lines units) (λ line m. m)) tt))))))))))))))
 
 -- the first refusal is not of memory
-pub refused_no_memory : (units : List RawUnitShape) (fault : ValidFault) → first_of (refusals units) ≡ Some fault → IsValidMemory fault → ⊥
-refused_no_memory units fault e = subst NoMemory e (never_memory units)
+pub refused_no_memory : (globals : List RawGlobal) (units : List RawUnitShape) (fault : ValidFault) → first_of (refusals globals units) ≡ Some fault → IsValidMemory fault → ⊥
+refused_no_memory globals units fault e = subst NoMemory e (never_memory globals units)

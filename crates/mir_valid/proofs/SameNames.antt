@@ -9,7 +9,7 @@ use Rattle.mir_parse.specs.declared.raw.RawInst.{RawInst}
 use Rattle.mir_valid.specs.Names.{NameEntry, has_name, number_in}
 use Rattle.mir_valid.specs.Rules.{broken, received_by, received, receives_again}
 use Rattle.mir_valid.specs.Refusals.{lesser}
-use Rattle.mir_valid.specs.Tables.{with_entry, has_received, with_received}
+use Rattle.mir_valid.specs.NameTables.{with_entry, has_received, with_received}
 use Rattle.mir_valid.proofs.BrokenLaws.{least_next}
 use Rattle.mir_valid.proofs.TableLaws.{seen_next}
 

@@ -1,6 +1,7 @@
 -- Valid raw units stand for the units that the tables of their names give, and for no others.
-use Rattle.std.proofs.Common.{◌≡◌, ℕ, suc, ◌<◌, Bool, true, false, if◌then◌else◌, List, [], ◌∷◌, ◌++◌, map, fold, length, get_or, slice_get, Option, None, Some, refl, ap, sym, ◌∙◌, subst}
+use Rattle.std.proofs.Common.{◌≡◌, ℕ, suc, ◌<◌, ℤ, pos, negsuc, Bool, true, false, if◌then◌else◌, List, [], ◌∷◌, ◌++◌, map, fold, length, get_or, slice_get, Option, None, Some, refl, ap, sym, ◌∙◌, subst}
 use Rattle.std.proofs.lemmas.Bool.{not-false}
+use Rattle.std.proofs.lemmas.List.{length-map}
 use Rattle.std.specs.List.{flat_map}
 use Rattle.std.proofs.lemmas.List.Sums.{fold-append}
 use Rattle.std.proofs.lemmas.Option.{slice_get-get_or}
@@ -13,7 +14,7 @@ use Rattle.mir_base.specs.declared.instructions.Rhs.TheVariants.{Plain, Unary, B
 use Rattle.mir_base.specs.declared.instructions.Test.{Test}
 use Rattle.mir_base.specs.declared.instructions.Test.TheVariants.{Rel, Holds, Fails}
 use Rattle.mir_base.specs.declared.instructions.Inst.{Inst}
-use Rattle.mir_base.specs.declared.instructions.Inst.TheVariants.{Receive, Assign, Goto, If, Call, Print, Return}
+use Rattle.mir_base.specs.declared.instructions.Inst.TheVariants.{Receive, Assign, Goto, If, TrapIf, Call, Print, Return}
 use Rattle.mir_base.specs.Shapes.{UnitShape, AllDiffer}
 use Rattle.mir_parse.specs.declared.raw.RawOperand.{RawOperand}
 use Rattle.mir_parse.specs.declared.raw.RawOperand.TheVariants.{Var as RawVar, Const as RawConst}
@@ -22,22 +23,23 @@ use Rattle.mir_parse.specs.declared.raw.RawRhs.TheVariants.{Plain as RawPlain, U
 use Rattle.mir_parse.specs.declared.raw.RawTest.{RawTest}
 use Rattle.mir_parse.specs.declared.raw.RawTest.TheVariants.{Rel as RawRel, Holds as RawHolds, Fails as RawFails}
 use Rattle.mir_parse.specs.declared.raw.RawForm.{RawForm}
-use Rattle.mir_parse.specs.declared.raw.RawForm.TheVariants.{Receive as RawReceive, Assign as RawAssign, Goto as RawGoto, If as RawIf, Call as RawCall, Print as RawPrint, Return as RawReturn}
+use Rattle.mir_parse.specs.declared.raw.RawForm.TheVariants.{Receive as RawReceive, Assign as RawAssign, Goto as RawGoto, If as RawIf, TrapIf as RawTrapIf, Call as RawCall, Print as RawPrint, Return as RawReturn}
 use Rattle.mir_parse.specs.declared.raw.RawInst.{RawInst}
 use Rattle.mir_parse.specs.declared.raw.RawLabel.{RawLabel}
+use Rattle.mir_parse.specs.declared.raw.RawGlobal.{RawGlobal}
 use Rattle.mir_parse.specs.RawUnit.{RawUnitShape}
 use Rattle.mir_base.specs.Words.{is_text}
 use Rattle.mir_valid.specs.Names.{has_name}
 use Rattle.mir_valid.specs.Variables.{operand_names, rhs_names, test_names, into_names, returned_names, form_names, body_names, FirstNames, none, again, first}
-use Rattle.mir_valid.specs.Rules.{unit_names, label_names, misses_label, misses_unit, no_label_lines, no_unit_lines, same_label_lines}
+use Rattle.mir_valid.specs.Rules.{unit_names, global_names, is_bad_number, is_bad_trap, bad_trap_lines, label_names, misses_label, misses_unit, no_label_lines, no_unit_lines, same_label_lines}
 use Rattle.mir_valid.specs.Refusals.{AreValid}
 use Rattle.mir_valid.specs.Stands.{EachStands, UnitNames, IsNumber, IsPlace, OperandStands, RhsStands, TestStands, IntoStands, ReturnStands, FormStands, UnitStands, UnitsStand}
-use Rattle.mir_valid.specs.Tables.{number_or_zero, entries_from, table_of}
-use Rattle.mir_valid.specs.Numbered.{with_name, variables_of, Numbers, numbers_of, numbered_operand, numbered_rhs, numbered_test, numbered_into, numbered_return, numbered_form, label_places, numbered_unit, unit_numbers, numbered_units}
+use Rattle.mir_valid.specs.NameTables.{number_or_zero, entries_from, table_of}
+use Rattle.mir_valid.specs.Numbered.{with_name, global_variables, variables_of, numbered_trap, Numbers, numbers_of, numbered_operand, numbered_rhs, numbered_test, numbered_into, numbered_return, numbered_form, label_places, numbered_unit, unit_numbers, numbered_units}
 use Rattle.mir_valid.proofs.ListLaws.{at_map, no_lines_at, fails_at}
 use Rattle.mir_valid.specs.NameLaws.{same_is, has_at}
 use Rattle.mir_valid.proofs.NumberLaws.{numbered_is}
-use Rattle.mir_valid.proofs.DistinctLaws.{differ_variables, differ_unbroken}
+use Rattle.mir_valid.proofs.DistinctLaws.{differ_fold, differ_variables, differ_unbroken}
 use Rattle.mir_valid.proofs.OccursLaws.{Within, within_front, within_back, within_one, within_variables, within_inst, first_variables}
 use Rattle.mir_valid.proofs.FoundLaws.{label_found, unit_found}
 use Rattle.mir_base.specs.ItemLaws.{one_place}
@@ -87,45 +89,53 @@ return_stands : (vars : List (List ℕ)) (a : Option RawOperand) → Within vars
 return_stands vars None within = refl
 return_stands vars (Some a) within = operand_stands vars a within
 
-module _ (units : List RawUnitShape) (unit : RawUnitShape) where
+-- the number of a trap, where it is one of a trap
+trap_is : (z : ℤ) → is_bad_number z ≡ false → z ≡ pos (numbered_trap z)
+trap_is (pos n) good = ap (λ b. pos (if b then 0 else n)) (sym good)
+trap_is (negsuc n) good = absurd (cc)
+
+module _ (globals : List RawGlobal) (units : List RawUnitShape) (unit : RawUnitShape) where
   abbrev vars : List (List ℕ)
-  vars = variables_of unit.body
+  vars = variables_of globals unit.body
 
   abbrev naming : UnitNames
   naming = record { units = unit_names units; vars = vars; labels = unit.labels }
 
   abbrev numbers : Numbers
-  numbers = numbers_of (unit_numbers units) unit
+  numbers = numbers_of globals (unit_numbers units) unit
 
-  form_stands : (form : RawForm) → Within vars (form_names form) → misses_label unit.labels form ≡ false → misses_unit units form ≡ false
+  form_stands : (form : RawForm) → Within vars (form_names form) → misses_label unit.labels form ≡ false → misses_unit units form ≡ false → is_bad_trap form ≡ false
       → FormStands naming form (numbered_form numbers form)
-  form_stands (RawReceive x) within label called = numbered_is vars x (within_one vars x within)
-  form_stands (RawAssign x rhs) within label called =
+  form_stands (RawReceive x) within label called good = numbered_is vars x (within_one vars x within)
+  form_stands (RawAssign x rhs) within label called good =
       (numbered_is vars x (within_one vars x (within_front vars (x ∷ []) (rhs_names rhs) within)), rhs_stands vars rhs (within_back vars (x ∷ []) (rhs_names rhs) within))
-  form_stands (RawGoto l) within label called = label_found unit.labels l (not-false (has_name (label_names unit.labels) l) label)
-  form_stands (RawIf test l) within label called = (test_stands vars test within, label_found unit.labels l (not-false (has_name (label_names unit.labels) l) label))
-  form_stands (RawCall into f operands) within label called = (
+  form_stands (RawGoto l) within label called good = label_found unit.labels l (not-false (has_name (label_names unit.labels) l) label)
+  form_stands (RawIf test l) within label called good = (test_stands vars test within, label_found unit.labels l (not-false (has_name (label_names unit.labels) l) label))
+  form_stands (RawTrapIf test z) within label called good = (test_stands vars test within, trap_is z good)
+  form_stands (RawCall into f operands) within label called good = (
     into_stands vars into (within_front vars (into_names into) (flat_map operand_names operands) within),
     unit_found units f (not-false (has_name (unit_names units) f) called),
     operands_stand vars operands (within_back vars (into_names into) (flat_map operand_names operands) within),
   )
-  form_stands (RawPrint a) within label called = operand_stands vars a within
-  form_stands (RawReturn a) within label called = return_stands vars a within
+  form_stands (RawPrint a) within label called good = operand_stands vars a within
+  form_stands (RawReturn a) within label called good = return_stands vars a within
 
-  unit_stands : no_label_lines unit ≡ [] → no_unit_lines units unit ≡ [] → UnitStands (unit_names units) unit (numbered_unit (unit_numbers units) unit)
-  unit_stands label called = record {
+  unit_stands : no_label_lines unit ≡ [] → no_unit_lines units unit ≡ [] → bad_trap_lines unit ≡ [] → UnitStands (global_names globals) (unit_names units) unit (numbered_unit globals (unit_numbers units) unit)
+  unit_stands label called good = record {
     name = refl;
-    vars = first_variables unit.body;
+    shared = sym (length-map globals (λ g. g.name));
+    vars = first_variables globals unit.body;
     body = each_map (λ (inst : RawInst). FormStands naming inst.form) (λ inst. numbered_form numbers inst.form) unit.body
-        (λ i inst at. form_stands inst.form (within_inst vars unit.body i inst (within_variables unit.body) at) (fails_at (misses_label unit.labels) unit.body i inst label at)
-        (fails_at (misses_unit units) unit.body i inst called at));
+        (λ i inst at. form_stands inst.form (within_inst vars unit.body i inst (within_variables globals unit.body) at) (fails_at (misses_label unit.labels) unit.body i inst label at)
+        (fails_at (misses_unit units) unit.body i inst called at) (fails_at is_bad_trap unit.body i inst good at));
   }
 
 -- valid units stand for the numbered ones
-pub units_stand : (units : List RawUnitShape) → AreValid units → UnitsStand units (numbered_units units)
-units_stand units valid =
-    each_map (UnitStands (unit_names units)) (numbered_unit (unit_numbers units)) units
-    (λ i unit at. unit_stands units unit (no_lines_at no_label_lines units i unit valid.no_label at) (no_lines_at (no_unit_lines units) units i unit valid.no_such_unit at))
+pub units_stand : (globals : List RawGlobal) (units : List RawUnitShape) → AreValid globals units → UnitsStand (global_names globals) units (numbered_units globals units)
+units_stand globals units valid =
+    each_map (UnitStands (global_names globals) (unit_names units)) (numbered_unit globals (unit_numbers units)) units
+    (λ i unit at. unit_stands globals units unit (no_lines_at no_label_lines units i unit valid.no_label at) (no_lines_at (no_unit_lines units) units i unit valid.no_such_unit at)
+    (no_lines_at bad_trap_lines units i unit valid.bad_trap at))
 
 -- ---- and for no others
 
@@ -203,41 +213,45 @@ place_only labels l p differ (k, label, low, at, is) =
     let has : has_name (label_names labels) l ≡ true = has_at (label_names labels) k l (label_at labels k label l low at is.0) in
     place_once labels l p (number_or_zero (table_of (label_places labels)) l) differ (k, label, low, at, is) (label_found labels l has)
 
-module _ (units : List RawUnitShape) (units_differ : AllDiffer (unit_names units)) (unit : RawUnitShape) (labels_differ : AllDiffer (label_names unit.labels)) where
+module _ (globals : List RawGlobal) (units : List RawUnitShape) (units_differ : AllDiffer (unit_names units)) (unit : RawUnitShape) (labels_differ : AllDiffer (label_names unit.labels)) where
   unit_only_number : (f : List ℕ) (n : ℕ) → IsNumber (unit_names units) f n → n ≡ number_or_zero (unit_numbers units) f
   unit_only_number f n at =
       one_place (unit_names units) units_differ n (number_or_zero (unit_numbers units) f) f at (unit_found units f (has_at (unit_names units) n f at))
 
-  differ : AllDiffer (variables_of unit.body)
-  differ = differ_variables (body_names unit.body)
+  differ : AllDiffer (variables_of globals unit.body)
+  differ = differ_fold (body_names unit.body) (global_variables globals) (differ_variables (global_names globals))
 
-  form_only : (form : RawForm) (inst : Inst) → FormStands (naming units unit) form inst → inst ≡ numbered_form (numbers units unit) form
-  form_only (RawReceive x) (Receive n) stands = ap Receive (number_only (variables_of unit.body) differ x n stands)
-  form_only (RawAssign x raw) (Assign n rhs) stands =
-      λ i. Assign (number_only (variables_of unit.body) differ x n stands.0 i) (rhs_only (variables_of unit.body) differ raw rhs stands.1 i)
-  form_only (RawGoto l) (Goto place) stands = ap Goto (place_only unit.labels l place labels_differ stands)
-  form_only (RawIf raw l) (If test place) stands =
-      λ i. If (test_only (variables_of unit.body) differ raw test stands.0 i) (place_only unit.labels l place labels_differ stands.1 i)
-  form_only (RawCall raw_into f raw) (Call into n operands) stands =
-      λ i. Call (into_only (variables_of unit.body) differ raw_into into stands.0 i) (unit_only_number f n stands.1 i) (operands_only (variables_of unit.body) differ raw operands stands.2 i)
-  form_only (RawPrint raw) (Print a) stands = ap Print (operand_only (variables_of unit.body) differ raw a stands)
-  form_only (RawReturn raw) (Return a) stands = ap Return (return_only (variables_of unit.body) differ raw a stands)
-  form_only form inst stands = absurd stands
+  form_only : (form : RawForm) (inst : Inst) → is_bad_trap form ≡ false → FormStands (naming globals units unit) form inst → inst ≡ numbered_form (numbers globals units unit) form
+  form_only (RawReceive x) (Receive n) good stands = ap Receive (number_only (variables_of globals unit.body) differ x n stands)
+  form_only (RawAssign x raw) (Assign n rhs) good stands =
+      λ i. Assign (number_only (variables_of globals unit.body) differ x n stands.0 i) (rhs_only (variables_of globals unit.body) differ raw rhs stands.1 i)
+  form_only (RawGoto l) (Goto place) good stands = ap Goto (place_only unit.labels l place labels_differ stands)
+  form_only (RawIf raw l) (If test place) good stands =
+      λ i. If (test_only (variables_of globals unit.body) differ raw test stands.0 i) (place_only unit.labels l place labels_differ stands.1 i)
+  form_only (RawTrapIf raw z) (TrapIf test n) good stands =
+      let number : n ≡ numbered_trap z = let e = sym stands.1 ∙ trap_is z good in cc in
+      λ i. TrapIf (test_only (variables_of globals unit.body) differ raw test stands.0 i) (number i)
+  form_only (RawCall raw_into f raw) (Call into n operands) good stands =
+      λ i. Call (into_only (variables_of globals unit.body) differ raw_into into stands.0 i) (unit_only_number f n stands.1 i) (operands_only (variables_of globals unit.body) differ raw operands stands.2 i)
+  form_only (RawPrint raw) (Print a) good stands = ap Print (operand_only (variables_of globals unit.body) differ raw a stands)
+  form_only (RawReturn raw) (Return a) good stands = ap Return (return_only (variables_of globals unit.body) differ raw a stands)
+  form_only form inst good stands = absurd stands
 
-  unit_only : (made : UnitShape) → UnitStands (unit_names units) unit made → made ≡ numbered_unit (unit_numbers units) unit
-  unit_only made stands =
-      let vars_are : made.vars ≡ variables_of unit.body = sym (first_only (body_names unit.body) made.vars stands.vars) in
-      let body : EachStands (λ (inst : RawInst). FormStands (naming units unit) inst.form) unit.body made.body =
+  unit_only : (made : UnitShape) → bad_trap_lines unit ≡ [] → UnitStands (global_names globals) (unit_names units) unit made → made ≡ numbered_unit globals (unit_numbers units) unit
+  unit_only made good stands =
+      let vars_are : made.vars ≡ variables_of globals unit.body = sym (sym (fold-append with_name [] (global_names globals) (body_names unit.body)) ∙ first_only (global_names globals ++ body_names unit.body) made.vars stands.vars) in
+      let shared_is : made.shared ≡ length globals = stands.shared ∙ length-map globals (λ g. g.name) in
+      let body : EachStands (λ (inst : RawInst). FormStands (naming globals units unit) inst.form) unit.body made.body =
       subst (λ (vs : List (List ℕ)). EachStands (λ (inst : RawInst). FormStands (record { units = unit_names units; vars = vs; labels = unit.labels }) inst.form) unit.body made.body) vars_are stands.body in
-      let body_is : made.body ≡ map (λ (inst : RawInst). numbered_form (numbers units unit) inst.form) unit.body =
-      each_only (λ (inst : RawInst). FormStands (naming units unit) inst.form) (λ inst. numbered_form (numbers units unit) inst.form) unit.body made.body body (λ i inst made_inst at. form_only inst.form made_inst) in
-      λ i. record { name = stands.name i; vars = vars_are i; body = body_is i }
+      let body_is : made.body ≡ map (λ (inst : RawInst). numbered_form (numbers globals units unit) inst.form) unit.body =
+      each_only (λ (inst : RawInst). FormStands (naming globals units unit) inst.form) (λ inst. numbered_form (numbers globals units unit) inst.form) unit.body made.body body (λ i inst made_inst at. form_only inst.form made_inst (fails_at is_bad_trap unit.body i inst good at)) in
+      λ i. record { name = stands.name i; shared = shared_is i; vars = vars_are i; body = body_is i }
 
 -- and for these alone
-pub units_only : (units : List RawUnitShape) (made : List UnitShape) → AreValid units → UnitsStand units made → made ≡ numbered_units units
-units_only units made valid stands =
+pub units_only : (globals : List RawGlobal) (units : List RawUnitShape) (made : List UnitShape) → AreValid globals units → UnitsStand (global_names globals) units made → made ≡ numbered_units globals units
+units_only globals units made valid stands =
     let units_differ : AllDiffer (unit_names units) = differ_unbroken (λ (unit : RawUnitShape). unit.name) (λ unit. unit.line) units valid.same_unit in
-    each_only (UnitStands (unit_names units)) (numbered_unit (unit_numbers units)) units made stands
+    each_only (UnitStands (global_names globals) (unit_names units)) (numbered_unit globals (unit_numbers units)) units made stands
     (λ i unit made_unit at.
-    unit_only units units_differ unit
-    (differ_unbroken (λ (label : RawLabel). label.name) (λ label. label.line) unit.labels (no_lines_at same_label_lines units i unit valid.same_label at)) made_unit)
+    unit_only globals units units_differ unit
+    (differ_unbroken (λ (label : RawLabel). label.name) (λ label. label.line) unit.labels (no_lines_at same_label_lines units i unit valid.same_label at)) made_unit (no_lines_at bad_trap_lines units i unit valid.bad_trap at))

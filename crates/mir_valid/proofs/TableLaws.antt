@@ -9,7 +9,7 @@ use Rattle.indexmap.specs.IndexMap.{insert_entry}
 use Rattle.mir_base.specs.Words.{is_text}
 use Rattle.mir_valid.specs.Names.{NameEntry, has_name, number_in}
 use Rattle.mir_valid.specs.NameLaws.{same_is}
-use Rattle.mir_valid.specs.Tables.{with_entry, table_of, entries_from}
+use Rattle.mir_valid.specs.NameTables.{with_entry, table_of, entries_from}
 use Rattle.mir_valid.specs.Numbered.{with_name}
 use Rattle.mir_base.specs.ItemLaws.{or_none}
 

@@ -1,7 +1,7 @@
 -- Variables that are numbered in the order of their first occurrence make a tidy unit.
 use Rattle.std.proofs.Common.{◌≡◌, ℕ, suc, ◌<◌, Bool, true, false, cond, nat_lt, nat_eq, unwrap_or, if◌then◌else◌, List, [], ◌∷◌, ◌++◌, map, fold, length, Option, None, Some, refl, ap, sym, ◌∙◌, append_assoc, length-append, arith}
 use Rattle.std.specs.List.{flat_map}
-use Rattle.std.proofs.lemmas.List.{append-nil, map-append}
+use Rattle.std.proofs.lemmas.List.{append-nil, length-map, map-append}
 use Rattle.std.proofs.lemmas.Bool.Decides.{nat_tests}
 use Rattle.std.proofs.lemmas.Option.{slice_get_within}
 use Rattle.mir_base.specs.ItemLaws.{some_of}
@@ -13,15 +13,17 @@ use Rattle.mir_parse.specs.declared.raw.RawRhs.TheVariants.{Plain, Unary, Binary
 use Rattle.mir_parse.specs.declared.raw.RawTest.{RawTest}
 use Rattle.mir_parse.specs.declared.raw.RawTest.TheVariants.{Rel, Holds, Fails}
 use Rattle.mir_parse.specs.declared.raw.RawForm.{RawForm}
-use Rattle.mir_parse.specs.declared.raw.RawForm.TheVariants.{Receive, Assign, Goto, If, Call, Print, Return}
+use Rattle.mir_parse.specs.declared.raw.RawForm.TheVariants.{Receive, Assign, Goto, If, TrapIf, Call, Print, Return}
 use Rattle.mir_parse.specs.declared.raw.RawInst.{RawInst}
+use Rattle.mir_parse.specs.declared.raw.RawGlobal.{RawGlobal}
+use Rattle.mir_valid.specs.Rules.{global_names, same_global_lines}
 use Rattle.mir_valid.specs.Names.{NameEntry, has_name, number_in}
 use Rattle.mir_valid.specs.Variables.{operand_names, rhs_names, test_names, into_names, returned_names, form_names, body_names}
-use Rattle.mir_valid.specs.Tables.{number_or_zero, entries_from}
-use Rattle.mir_valid.specs.Numbered.{with_name, variables_of, Numbers, numbered_operand, numbered_rhs, numbered_test, numbered_into, numbered_return, numbered_form, numbered_body}
+use Rattle.mir_valid.specs.NameTables.{number_or_zero, entries_from}
+use Rattle.mir_valid.specs.Numbered.{with_name, global_variables, variables_of, Numbers, numbered_operand, numbered_rhs, numbered_test, numbered_into, numbered_return, numbered_form, numbered_body}
 use Rattle.mir_valid.proofs.TableLaws.{has_number}
 use Rattle.mir_valid.proofs.NumberLaws.{number_place, number_kept, number_new}
-use Rattle.mir_valid.proofs.DistinctLaws.{differ_variables}
+use Rattle.mir_valid.proofs.DistinctLaws.{differ_fold, differ_variables, globals_are}
 
 -- ---- the variables of a numbered body are the numbers of its names
 
@@ -64,6 +66,7 @@ form numbers (Receive x) = refl
 form numbers (Assign x r) = ap (λ xs. number_or_zero numbers.vars x ∷ xs) (rhs numbers.vars r)
 form numbers (Goto l) = refl
 form numbers (If t l) = test numbers.vars t
+form numbers (TrapIf t z) = test numbers.vars t
 form numbers (Call o f others) =
     two numbers.vars (into_vars (numbered_into numbers.vars o)) (flat_map operand_vars (map (numbered_operand numbers.vars) others)) (into_names o) (flat_map operand_names others) (into numbers.vars o)
     (operands numbers.vars others)
@@ -91,7 +94,7 @@ numbered_first k m xs same =
     ap (λ b. cond b (numbered_from k xs) (cond (nat_eq m k) (numbered_from (suc k) xs) None)) e ∙ ap (λ b. cond b (numbered_from (suc k) xs) None) e'
 
 -- names that are added go last
-names_grown : (names vars : List (List ℕ)) → (rest : List (List ℕ)) × (fold with_name vars names ≡ vars ++ rest)
+pub names_grown : (names vars : List (List ℕ)) → (rest : List (List ℕ)) × (fold with_name vars names ≡ vars ++ rest)
 names_grown [] vars = ([], sym (append-nil vars))
 names_grown (x ∷ names) vars = by (has_name vars x) refl (names_grown names (with_name vars x))
   where
@@ -139,10 +142,15 @@ in_order (x ∷ names) vars all is = by (has_name vars x) refl (in_order names v
         ∙ new is'
 
 -- a numbered body is tidy
-pub tidy_numbered : (numbers : Numbers) (insts : List RawInst) → numbers.vars ≡ entries_from 0 (variables_of insts) → IsTidy (variables_of insts) (numbered_body numbers insts)
-tidy_numbered numbers insts is = record {
+pub tidy_numbered : (globals : List RawGlobal) (numbers : Numbers) (insts : List RawInst) → same_global_lines globals ≡ [] → numbers.vars ≡ entries_from 0 (variables_of globals insts)
+    → IsTidy (length globals) (variables_of globals insts) (numbered_body numbers insts)
+tidy_numbered globals numbers insts distinct is = record {
   numbered =
-      ap (numbered_from 0) (body numbers insts ∙ ap (λ vars. map (number_or_zero vars) (body_names insts)) is)
-      ∙ in_order (body_names insts) [] (variables_of insts) refl;
-  differ = differ_variables (body_names insts);
+      ap (numbered_from (length globals)) (body numbers insts ∙ ap (λ vars. map (number_or_zero vars) (body_names insts)) is)
+      ∙ ap (λ k. numbered_from k (map (number_or_zero (entries_from 0 (variables_of globals insts))) (body_names insts))) size
+      ∙ in_order (body_names insts) (global_variables globals) (variables_of globals insts) refl;
+  differ = differ_fold (body_names insts) (global_variables globals) (differ_variables (global_names globals));
 }
+  where
+    size : length globals ≡ length (global_variables globals)
+    size = sym (ap length (globals_are globals distinct) ∙ length-map globals (λ g. g.name))

@@ -4,7 +4,7 @@ use Rattle.std.proofs.lemmas.List.{take_more, length-take-le, length-map, map-ap
 use Rattle.std.proofs.lemmas.List.Sums.{fold-append}
 use Rattle.mir_parse.specs.RawUnit.{RawUnitShape}
 use Rattle.mir_valid.specs.Rules.{unit_names}
-use Rattle.mir_valid.specs.Tables.{table_of, with_entry, entries_from}
+use Rattle.mir_valid.specs.NameTables.{table_of, with_entry, entries_from}
 use Rattle.mir_valid.specs.Numbered.{unit_numbers}
 use Rattle.mir_valid.proofs.TableLaws.{entries_push}
 

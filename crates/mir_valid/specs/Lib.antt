@@ -5,5 +5,5 @@ pub mod Rules
 pub mod Refusals
 pub mod Stands
 pub mod Texts
-pub mod Tables
+pub mod NameTables
 pub mod Numbered

@@ -1,6 +1,6 @@
 -- The program that tables of names give: each name replaced by its number, each label by its place. Cited by the
 -- contracts of private functions.
-use Rattle.std.specs.Prelude.{◌≡◌, ℕ, pos, List, [], ◌∷◌, ◌++◌, map, fold, Option, None, Some, if◌then◌else◌}
+use Rattle.std.specs.Prelude.{◌≡◌, ℕ, ℤ, pos, unsigned_abs, List, [], ◌∷◌, ◌++◌, map, fold, length, Option, None, Some, if◌then◌else◌}
 use Rattle.std.specs.Option.{option_map}
 use Rattle.mir_base.specs.declared.instructions.Operand.{Operand}
 use Rattle.mir_base.specs.declared.instructions.Operand.TheVariants.{Var, Const}
@@ -9,7 +9,7 @@ use Rattle.mir_base.specs.declared.instructions.Rhs.TheVariants.{Plain, Unary, B
 use Rattle.mir_base.specs.declared.instructions.Test.{Test}
 use Rattle.mir_base.specs.declared.instructions.Test.TheVariants.{Rel, Holds, Fails}
 use Rattle.mir_base.specs.declared.instructions.Inst.{Inst}
-use Rattle.mir_base.specs.declared.instructions.Inst.TheVariants.{Receive, Assign, Goto, If, Call, Print, Return}
+use Rattle.mir_base.specs.declared.instructions.Inst.TheVariants.{Receive, Assign, Goto, If, TrapIf, Call, Print, Return}
 use Rattle.mir_base.specs.Shapes.{UnitShape}
 use Rattle.mir_parse.specs.declared.raw.RawOperand.{RawOperand}
 use Rattle.mir_parse.specs.declared.raw.RawOperand.TheVariants.{Var as RawVar, Const as RawConst}
@@ -18,14 +18,15 @@ use Rattle.mir_parse.specs.declared.raw.RawRhs.TheVariants.{Plain as RawPlain, U
 use Rattle.mir_parse.specs.declared.raw.RawTest.{RawTest}
 use Rattle.mir_parse.specs.declared.raw.RawTest.TheVariants.{Rel as RawRel, Holds as RawHolds, Fails as RawFails}
 use Rattle.mir_parse.specs.declared.raw.RawForm.{RawForm}
-use Rattle.mir_parse.specs.declared.raw.RawForm.TheVariants.{Receive as RawReceive, Assign as RawAssign, Goto as RawGoto, If as RawIf, Call as RawCall, Print as RawPrint, Return as RawReturn}
+use Rattle.mir_parse.specs.declared.raw.RawForm.TheVariants.{Receive as RawReceive, Assign as RawAssign, Goto as RawGoto, If as RawIf, TrapIf as RawTrapIf, Call as RawCall, Print as RawPrint, Return as RawReturn}
 use Rattle.mir_parse.specs.declared.raw.RawInst.{RawInst}
 use Rattle.mir_parse.specs.declared.raw.RawLabel.{RawLabel}
+use Rattle.mir_parse.specs.declared.raw.RawGlobal.{RawGlobal}
 use Rattle.mir_parse.specs.RawUnit.{RawUnitShape}
 use Rattle.mir_valid.specs.Names.{NameEntry, has_name}
-use Rattle.mir_valid.specs.Tables.{number_or_zero, entries_from, table_of}
+use Rattle.mir_valid.specs.NameTables.{number_or_zero, entries_from, table_of}
 use Rattle.mir_valid.specs.Variables.{body_names}
-use Rattle.mir_valid.specs.Rules.{unit_names}
+use Rattle.mir_valid.specs.Rules.{unit_names, global_names, is_bad_number}
 
 -- the names after one more: it is added where it is new
 abbrev pub with_name : List (List ℕ) → List ℕ → List (List ℕ)
@@ -35,9 +36,13 @@ with_name vars x = if has_name vars x then vars else vars ++ x ∷ []
 abbrev pub AddsNames : List (List ℕ) → List (List ℕ) → List (List ℕ) → Type 0
 AddsNames found names vars = vars ≡ fold with_name found names
 
--- the names of the body, each once, as one pass over the body finds them
-abbrev pub variables_of : List RawInst → List (List ℕ)
-variables_of body = fold with_name [] (body_names body)
+-- the names of the globals, each once
+abbrev pub global_variables : List RawGlobal → List (List ℕ)
+global_variables globals = fold with_name [] (global_names globals)
+
+-- and then those of the body, each once, as one pass over the body finds them
+abbrev pub variables_of : List RawGlobal → List RawInst → List (List ℕ)
+variables_of globals body = fold with_name (global_variables globals) (body_names body)
 
 -- the numbers of units and variables, and the places of labels
 pub record Numbers : Type 0 where
@@ -71,12 +76,17 @@ abbrev pub numbered_return : List NameEntry → Option RawOperand → Operand
 numbered_return vars None = Const (pos 0)
 numbered_return vars (Some a) = numbered_operand vars a
 
+-- the number of a trap; 0 for one that none has
+abbrev pub numbered_trap : ℤ → ℕ
+numbered_trap z = if is_bad_number z then 0 else unsigned_abs z
+
 -- an instruction, with its variables, its target and its callee numbered
 abbrev pub numbered_form : Numbers → RawForm → Inst
 numbered_form numbers (RawReceive x) = Receive (number_or_zero numbers.vars x)
 numbered_form numbers (RawAssign x rhs) = Assign (number_or_zero numbers.vars x) (numbered_rhs numbers.vars rhs)
 numbered_form numbers (RawGoto l) = Goto (number_or_zero numbers.labels l)
 numbered_form numbers (RawIf test l) = If (numbered_test numbers.vars test) (number_or_zero numbers.labels l)
+numbered_form numbers (RawTrapIf test z) = TrapIf (numbered_test numbers.vars test) (numbered_trap z)
 numbered_form numbers (RawCall into f operands) =
     Call (numbered_into numbers.vars into) (number_or_zero numbers.units f) (map (numbered_operand numbers.vars) operands)
 numbered_form numbers (RawPrint a) = Print (numbered_operand numbers.vars a)
@@ -95,21 +105,22 @@ abbrev pub unit_numbers : List RawUnitShape → List NameEntry
 unit_numbers units = table_of (entries_from 0 (unit_names units))
 
 -- the numbers by which a unit is read, where the units have these
-abbrev pub numbers_of : List NameEntry → RawUnitShape → Numbers
-numbers_of units unit = record {
+abbrev pub numbers_of : List RawGlobal → List NameEntry → RawUnitShape → Numbers
+numbers_of globals units unit = record {
   units = units;
-  vars = entries_from 0 (variables_of unit.body);
+  vars = entries_from 0 (variables_of globals unit.body);
   labels = table_of (label_places unit.labels);
 }
 
 -- a unit, numbered
-abbrev pub numbered_unit : List NameEntry → RawUnitShape → UnitShape
-numbered_unit units unit = record {
+abbrev pub numbered_unit : List RawGlobal → List NameEntry → RawUnitShape → UnitShape
+numbered_unit globals units unit = record {
   name = unit.name;
-  vars = variables_of unit.body;
-  body = numbered_body (numbers_of units unit) unit.body;
+  shared = length globals;
+  vars = variables_of globals unit.body;
+  body = numbered_body (numbers_of globals units unit) unit.body;
 }
 
 -- the units, numbered
-abbrev pub numbered_units : List RawUnitShape → List UnitShape
-numbered_units units = map (numbered_unit (unit_numbers units)) units
+abbrev pub numbered_units : List RawGlobal → List RawUnitShape → List UnitShape
+numbered_units globals units = map (numbered_unit globals (unit_numbers units)) units

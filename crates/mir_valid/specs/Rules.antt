@@ -1,19 +1,21 @@
 -- The rules that units, instructions and labels must keep, and the lines at which each is broken. Cited by contracts.
-use Rattle.std.specs.Prelude.{ℕ, Bool, false, ◌&&◌, ◌||◌, not, nat_eq, nat_le, List, [], ◌∷◌, ◌++◌, map, filter, count_by, length, slice_get, Option, None, Some, is_some, if◌then◌else◌}
+use Rattle.std.specs.Prelude.{ℕ, Bool, false, ◌&&◌, ◌||◌, not, nat_eq, nat_le, List, [], ◌∷◌, ◌++◌, map, filter, count_by, length, slice_get, ℤ, pos, int_lt, Option, None, Some, is_some, if◌then◌else◌}
 use Rattle.std.specs.List.{list_any, filter_map}
 use Rattle.std.specs.Option.{option_map_or}
-use Rattle.mir_base.specs.Limits.{most_insts, most_receives}
+use Rattle.mir_base.specs.Limits.{most_insts, most_receives, most_globals}
 use Rattle.mir_parse.specs.declared.raw.RawForm.{RawForm}
-use Rattle.mir_parse.specs.declared.raw.RawForm.TheVariants.{Receive, Goto, If, Call}
+use Rattle.mir_parse.specs.declared.raw.RawForm.TheVariants.{Receive, Goto, If, TrapIf, Call}
 use Rattle.mir_parse.specs.declared.raw.RawInst.{RawInst}
 use Rattle.mir_parse.specs.declared.raw.RawLabel.{RawLabel}
+use Rattle.mir_parse.specs.declared.raw.RawGlobal.{RawGlobal}
 use Rattle.mir_parse.specs.RawUnit.{RawUnitShape}
 use Rattle.mir_valid.specs.Names.{NameEntry, has_name, number_in}
 
 -- the lines of the items that break a rule. The rule sees the items before it, and the item
 abbrev pub broken_after : {A : Type 0} → (A → ℕ) → (List A → A → Bool) → List A → List A → List ℕ
 broken_after line breaks earlier [] = []
-broken_after line breaks earlier (x ∷ xs) = (if breaks earlier x then line x ∷ [] else []) ++ broken_after line breaks (earlier ++ x ∷ []) xs
+broken_after line breaks earlier (x ∷ xs) =
+    (if breaks earlier x then line x ∷ [] else []) ++ broken_after line breaks (earlier ++ x ∷ []) xs
 
 -- the lines of all the items that break a rule
 abbrev pub broken : {A : Type 0} → (A → ℕ) → (List A → A → Bool) → List A → List ℕ
@@ -62,7 +64,7 @@ lines_where test body = map (λ inst. inst.line) (filter (λ inst. test inst.for
 
 -- ---- sizes
 
--- an instruction is number 4,097 of its unit
+-- an instruction is number 16,385 of its unit
 abbrev pub too_many_insts_lines : RawUnitShape → List ℕ
 too_many_insts_lines unit = line_of (slice_get unit.body most_insts)
 
@@ -112,7 +114,8 @@ label_names labels = map (λ label. label.name) labels
 
 -- a label has the name of an earlier one of its unit
 abbrev pub same_label_lines : RawUnitShape → List ℕ
-same_label_lines unit = broken (λ label. label.line) (λ earlier label. has_name (label_names earlier) label.name) unit.labels
+same_label_lines unit =
+    broken (λ label. label.line) (λ earlier label. has_name (label_names earlier) label.name) unit.labels
 
 -- a `goto` or `if` names none of the labels
 abbrev pub misses_label : List RawLabel → RawForm → Bool
@@ -138,8 +141,56 @@ receive_counts units = map (λ unit. (unit.name, count_by is_receive unit.body))
 
 -- a call names a unit that has a count, and has another number of arguments
 abbrev pub differs_from : List NameEntry → RawForm → Bool
-differs_from counts form = option_map_or (λ call. option_map_or (λ count. not (nat_eq count call.1)) (number_in counts call.0) false) (called_by form) false
+differs_from counts form =
+    option_map_or (λ call. option_map_or (λ count. not (nat_eq count call.1)) (number_in counts call.0) false)
+    (called_by form) false
 
 -- the lines of calls with another number of arguments than the unit receives
 abbrev pub wrong_count_lines : List RawUnitShape → RawUnitShape → List ℕ
 wrong_count_lines units unit = lines_where (differs_from (receive_counts units)) unit.body
+
+-- ---- globals
+
+-- the names of the globals
+abbrev pub global_names : List RawGlobal → List (List ℕ)
+global_names globals = map (λ g. g.name) globals
+
+-- a global line names an earlier global
+abbrev pub same_global_lines : List RawGlobal → List ℕ
+same_global_lines globals = broken (λ g. g.line) (λ earlier g. has_name (global_names earlier) g.name) globals
+
+-- the line of a global, where there is one
+abbrev pub global_line_of : Option RawGlobal → List ℕ
+global_line_of None = []
+global_line_of (Some g) = g.line ∷ []
+
+-- a global line is number 65
+abbrev pub too_many_globals_lines : List RawGlobal → List ℕ
+too_many_globals_lines globals = global_line_of (slice_get globals most_globals)
+
+-- a receive names a global
+abbrev pub receives_global : List RawGlobal → RawForm → Bool
+receives_global globals form = option_map_or (has_name (global_names globals)) (received_by form) false
+
+-- the lines of receives of globals
+abbrev pub global_receive_lines : List RawGlobal → RawUnitShape → List ℕ
+global_receive_lines globals unit = lines_where (receives_global globals) unit.body
+
+-- ---- traps
+
+-- the number that the instruction traps with
+abbrev pub trapped_with : RawForm → Option ℤ
+trapped_with (TrapIf test z) = Some z
+trapped_with form = None
+
+-- the number is below 0 or above 255
+abbrev pub is_bad_number : ℤ → Bool
+is_bad_number z = int_lt z (pos 0) || int_lt (pos 255) z
+
+-- a trap instruction has such a number
+abbrev pub is_bad_trap : RawForm → Bool
+is_bad_trap form = option_map_or is_bad_number (trapped_with form) false
+
+-- the lines of trap instructions that do
+abbrev pub bad_trap_lines : RawUnitShape → List ℕ
+bad_trap_lines unit = lines_where is_bad_trap unit.body

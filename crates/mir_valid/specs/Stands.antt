@@ -1,5 +1,5 @@
 -- What program a raw program stands for: names become numbers, and labels become places. Cited by contracts.
-use Rattle.std.specs.Prelude.{◌≡◌, ℕ, pos, List, [], ◌∷◌, slice_get, Option, None, Some, Any}
+use Rattle.std.specs.Prelude.{◌≡◌, ℕ, pos, List, [], ◌∷◌, ◌++◌, length, slice_get, Option, None, Some, Any}
 use Rattle.mir_base.specs.declared.instructions.Operand.{Operand}
 use Rattle.mir_base.specs.declared.instructions.Operand.TheVariants.{Var, Const}
 use Rattle.mir_base.specs.declared.instructions.Rhs.{Rhs}
@@ -7,7 +7,7 @@ use Rattle.mir_base.specs.declared.instructions.Rhs.TheVariants.{Plain, Unary, B
 use Rattle.mir_base.specs.declared.instructions.Test.{Test}
 use Rattle.mir_base.specs.declared.instructions.Test.TheVariants.{Rel, Holds, Fails}
 use Rattle.mir_base.specs.declared.instructions.Inst.{Inst}
-use Rattle.mir_base.specs.declared.instructions.Inst.TheVariants.{Receive, Assign, Goto, If, Call, Print, Return}
+use Rattle.mir_base.specs.declared.instructions.Inst.TheVariants.{Receive, Assign, Goto, If, TrapIf, Call, Print, Return}
 use Rattle.mir_base.specs.Shapes.{UnitShape, ProgramShape}
 use Rattle.mir_parse.specs.declared.raw.RawOperand.{RawOperand}
 use Rattle.mir_parse.specs.declared.raw.RawOperand.TheVariants.{Var as RawVar, Const as RawConst}
@@ -16,12 +16,12 @@ use Rattle.mir_parse.specs.declared.raw.RawRhs.TheVariants.{Plain as RawPlain, U
 use Rattle.mir_parse.specs.declared.raw.RawTest.{RawTest}
 use Rattle.mir_parse.specs.declared.raw.RawTest.TheVariants.{Rel as RawRel, Holds as RawHolds, Fails as RawFails}
 use Rattle.mir_parse.specs.declared.raw.RawForm.{RawForm}
-use Rattle.mir_parse.specs.declared.raw.RawForm.TheVariants.{Receive as RawReceive, Assign as RawAssign, Goto as RawGoto, If as RawIf, Call as RawCall, Print as RawPrint, Return as RawReturn}
+use Rattle.mir_parse.specs.declared.raw.RawForm.TheVariants.{Receive as RawReceive, Assign as RawAssign, Goto as RawGoto, If as RawIf, TrapIf as RawTrapIf, Call as RawCall, Print as RawPrint, Return as RawReturn}
 use Rattle.mir_parse.specs.declared.raw.RawLabel.{RawLabel}
 use Rattle.mir_parse.specs.declared.raw.Raw.{Raw}
 use Rattle.mir_parse.specs.RawUnit.{RawUnitShape}
 use Rattle.mir_valid.specs.Variables.{body_names, FirstNames}
-use Rattle.mir_valid.specs.Rules.{unit_names}
+use Rattle.mir_valid.specs.Rules.{unit_names, global_names}
 
 -- the lists are equally long, and each item of the first stands for the item of the second at its place
 abbrev pub EachStands : {A B : Type 0} → (A → B → Type 0) → List A → List B → Type 0
@@ -78,28 +78,37 @@ ReturnStands vars (Some raw) a = OperandStands vars raw a
 -- an instruction stands for the same one on numbers and places
 abbrev pub FormStands : UnitNames → RawForm → Inst → Type 0
 FormStands naming (RawReceive x) (Receive number) = IsNumber naming.vars x number
-FormStands naming (RawAssign x raw_rhs) (Assign number rhs) = IsNumber naming.vars x number × RhsStands naming.vars raw_rhs rhs
+FormStands naming (RawAssign x raw_rhs) (Assign number rhs) = IsNumber naming.vars x number
+    × RhsStands naming.vars raw_rhs rhs
 FormStands naming (RawGoto l) (Goto place) = IsPlace naming.labels l place
-FormStands naming (RawIf raw_test l) (If test place) = TestStands naming.vars raw_test test × IsPlace naming.labels l place
+FormStands naming (RawIf raw_test l) (If test place) = TestStands naming.vars raw_test test
+    × IsPlace naming.labels l place
+FormStands naming (RawTrapIf raw_test z) (TrapIf test n) = TestStands naming.vars raw_test test × (z ≡ pos n)
 FormStands naming (RawCall raw_into f raw_operands) (Call into unit operands) =
-    IntoStands naming.vars raw_into into × IsNumber naming.units f unit × EachStands (OperandStands naming.vars) raw_operands operands
+    IntoStands naming.vars raw_into into × IsNumber naming.units f unit
+    × EachStands (OperandStands naming.vars) raw_operands operands
 FormStands naming (RawPrint raw) (Print a) = OperandStands naming.vars raw a
 FormStands naming (RawReturn raw) (Return a) = ReturnStands naming.vars raw a
 FormStands naming form inst = ⊥
 
--- a unit, among units of these names: its variables are numbered in the order of their first occurrence
-pub record UnitStands (units : List (List ℕ)) (raw : RawUnitShape) (unit : UnitShape) : Type 0 where
+-- a unit, among globals and units of these names: the globals are its first variables, and the others are numbered in
+-- the order of their first occurrence
+pub record UnitStands (globals units : List (List ℕ)) (raw : RawUnitShape) (unit : UnitShape) : Type 0 where
   pub name : unit.name ≡ raw.name
-  pub vars : FirstNames (body_names raw.body) unit.vars
-  pub body : EachStands (λ inst. FormStands (record { units = units; vars = unit.vars; labels = raw.labels }) inst.form) raw.body unit.body
+  pub shared : unit.shared ≡ length globals
+  pub vars : FirstNames (globals ++ body_names raw.body) unit.vars
+  pub body : EachStands
+      (λ inst. FormStands (record { units = units; vars = unit.vars; labels = raw.labels }) inst.form) raw.body
+      unit.body
 
 -- the raw units stand for these units; a unit's number is its place
-abbrev pub UnitsStand : List RawUnitShape → List UnitShape → Type 0
-UnitsStand raw units = EachStands (UnitStands (unit_names raw)) raw units
+abbrev pub UnitsStand : List (List ℕ) → List RawUnitShape → List UnitShape → Type 0
+UnitsStand globals raw units = EachStands (UnitStands globals (unit_names raw)) raw units
 
 -- a raw program stands for a program
-abbrev pub StandsFor : Raw → ProgramShape → Type 0
-StandsFor raw program = UnitsStand raw.units program.units
+pub record StandsFor (raw : Raw) (program : ProgramShape) : Type 0 where
+  pub globals : program.globals ≡ global_names raw.globals
+  pub units : UnitsStand (global_names raw.globals) raw.units program.units
 
 -- a raw program stands for no program but this one
 abbrev pub StandsForNoOther : Raw → ProgramShape → Type 0

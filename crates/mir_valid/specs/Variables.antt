@@ -7,7 +7,7 @@ use Rattle.mir_parse.specs.declared.raw.RawRhs.TheVariants.{Plain, Unary, Binary
 use Rattle.mir_parse.specs.declared.raw.RawTest.{RawTest}
 use Rattle.mir_parse.specs.declared.raw.RawTest.TheVariants.{Rel, Holds, Fails}
 use Rattle.mir_parse.specs.declared.raw.RawForm.{RawForm}
-use Rattle.mir_parse.specs.declared.raw.RawForm.TheVariants.{Receive, Assign, Goto, If, Call, Print, Return}
+use Rattle.mir_parse.specs.declared.raw.RawForm.TheVariants.{Receive, Assign, Goto, If, TrapIf, Call, Print, Return}
 use Rattle.mir_parse.specs.declared.raw.RawInst.{RawInst}
 
 -- the variables that occur, each as often as it does, in the order of the canonical text
@@ -43,6 +43,7 @@ form_names (Receive x) = x ∷ []
 form_names (Assign x rhs) = x ∷ rhs_names rhs
 form_names (Goto l) = []
 form_names (If test l) = test_names test
+form_names (TrapIf test z) = test_names test
 form_names (Call into f operands) = into_names into ++ flat_map operand_names operands
 form_names (Print a) = operand_names a
 form_names (Return a) = returned_names a
@@ -55,6 +56,8 @@ body_names body = flat_map (λ inst. form_names inst.form) body
 pub data FirstNames : List (List ℕ) → List (List ℕ) → Type 0 where
   none : FirstNames [] []
   -- the next name occurred before
-  again : {names vars : List (List ℕ)} (x : List ℕ) → FirstNames names vars → Contains vars x → FirstNames (names ++ x ∷ []) vars
+  again : {names vars : List (List ℕ)} (x : List ℕ) → FirstNames names vars → Contains vars x
+      → FirstNames (names ++ x ∷ []) vars
   -- the next name is new
-  first : {names vars : List (List ℕ)} (x : List ℕ) → FirstNames names vars → (Contains vars x → ⊥) → FirstNames (names ++ x ∷ []) (vars ++ x ∷ [])
+  first : {names vars : List (List ℕ)} (x : List ℕ) → FirstNames names vars → (Contains vars x → ⊥)
+      → FirstNames (names ++ x ∷ []) (vars ++ x ∷ [])

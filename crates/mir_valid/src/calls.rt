@@ -2,7 +2,7 @@
 ghost use Rattle.std.specs.Prelude.{◌≡◌, count_by, IfOk};
 ghost use Rattle.mir_valid.specs.Rules.{is_receive, same_unit_lines, no_unit_lines, wrong_count_lines, receive_counts};
 ghost use Rattle.mir_valid.specs.Refusals.{least, least_over};
-ghost use Rattle.mir_valid.specs.Tables.{table_of, broken_lookups};
+ghost use Rattle.mir_valid.specs.NameTables.{table_of, broken_lookups};
 ghost use Rattle.mir_valid.specs.Numbered.{unit_numbers};
 
 use crate::Memory;

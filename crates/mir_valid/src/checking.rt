@@ -27,13 +27,14 @@ pub fn check(alloc: Global, raw: &Raw) -> Result<Program, ValidFault>
     ensures refused_only { (fault : ValidFault) →
         refusal raw.now ≡ Some fault → IsErrAnd result (IsFaultOrMemory fault) }
 {
+    let globals = raw.globals.items();
     let units = raw.units.items();
-    match refusal(alloc, units) {
+    match refusal(alloc, globals, units) {
         Ok(None) => {}
         Ok(Some(fault)) => return Err(fault),
         Err(memory) => return Err(ValidFault::Memory(memory)),
     }
-    match program_of(alloc, units) {
+    match program_of(alloc, globals, units) {
         Ok(program) => Ok(program),
         Err(memory) => Err(ValidFault::Memory(memory)),
     }

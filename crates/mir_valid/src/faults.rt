@@ -15,7 +15,7 @@ pub enum ValidFault {
     /// The line of a unit that has the name of an earlier one.
     #[error("line {0}: unit named twice")]
     SameUnit(usize),
-    /// The line of an instruction that is number 4,097 of its unit.
+    /// The line of an instruction that is number 16,385 of its unit.
     #[error("line {0}: too many instructions")]
     TooManyInsts(usize),
     /// The line of a receive that follows another kind of instruction or a label of its unit.
@@ -39,6 +39,18 @@ pub enum ValidFault {
     /// The line of a call with another number of arguments than the called unit has receives.
     #[error("line {0}: wrong number of arguments")]
     WrongCount(usize),
+    /// The line of a global line that names an earlier global.
+    #[error("line {0}: global named twice")]
+    SameGlobal(usize),
+    /// The line of a global line that is number 65.
+    #[error("line {0}: too many globals")]
+    TooManyGlobals(usize),
+    /// The line of a receive that names a global.
+    #[error("line {0}: global received")]
+    GlobalReceive(usize),
+    /// The line of a trap instruction whose number is below 0 or above 255.
+    #[error("line {0}: bad trap number")]
+    BadTrap(usize),
     /// Memory ran out.
     #[error(transparent)]
     Memory(Memory),

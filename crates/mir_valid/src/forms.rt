@@ -1,7 +1,7 @@
 // What an instruction names.
 ghost use Rattle.std.specs.Prelude.{◌≡◌};
 ghost use Rattle.std.specs.Option.{option_copied, option_map};
-ghost use Rattle.mir_valid.specs.Rules.{received_by, jumped_to, called_by, is_receive};
+ghost use Rattle.mir_valid.specs.Rules.{received_by, jumped_to, trapped_with, called_by, is_receive};
 
 use mir_base::Name;
 use mir_parse::{RawForm, RawInst};
@@ -30,6 +30,16 @@ pub fn jumped_to(form: &RawForm) -> Option<&Name>
     match form {
         RawForm::Goto(label) => Some(label),
         RawForm::If(_, label) => Some(label),
+        _ => None,
+    }
+}
+
+/// The number that the instruction traps with.
+pub fn trapped_with(form: &RawForm) -> Option<i64>
+    ensures { result ≡ trapped_with form.now }
+{
+    match form {
+        RawForm::TrapIf(_, number) => Some(*number),
         _ => None,
     }
 }

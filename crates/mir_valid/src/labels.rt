@@ -1,7 +1,7 @@
 // The rules of labels.
 ghost use Rattle.std.specs.Prelude.{◌≡◌, IfOk};
 ghost use Rattle.mir_valid.specs.Rules.{same_label_lines, no_label_lines};
-ghost use Rattle.mir_valid.specs.Tables.{table_of};
+ghost use Rattle.mir_valid.specs.NameTables.{table_of};
 ghost use Rattle.mir_valid.specs.Numbered.{label_places};
 
 use crate::Memory;

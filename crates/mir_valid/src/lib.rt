@@ -13,6 +13,7 @@ mod calls;
 mod checking;
 mod faults;
 mod forms;
+mod globals;
 mod labels;
 mod laws;
 mod lines;

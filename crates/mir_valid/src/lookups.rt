@@ -3,7 +3,7 @@ ghost use Rattle.std.specs.Prelude.{◌≡◌, false, not, nat_eq, fold};
 ghost use Rattle.std.specs.Option.{option_map_or};
 ghost use Rattle.mir_valid.specs.Rules.{lines_where, differs_from};
 ghost use Rattle.mir_valid.specs.Refusals.{lesser};
-ghost use Rattle.mir_valid.specs.Tables.{breaks, misses_place, misses_number};
+ghost use Rattle.mir_valid.specs.NameTables.{breaks, misses_place, misses_number};
 
 use crate::forms::{called_by, jumped_to};
 use crate::lines::{Least, lesser_if};

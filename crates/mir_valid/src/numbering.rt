@@ -1,17 +1,19 @@
 // From names to numbers: the program that a raw program stands for. In a valid one each name is in its table, so the 0
 // of a name that is not there never shows.
-ghost use Rattle.std.specs.Prelude.{◌≡◌, map, All, IfOk, OnOk};
+ghost use Rattle.std.specs.Prelude.{◌≡◌, [], map, All, IfOk, OnOk};
 ghost use Rattle.mir_parse.specs.RawUnit.{HasPlaces};
 ghost use Rattle.mir_valid.specs.Refusals.{AreValid};
-ghost use Rattle.mir_valid.specs.Numbered.{numbered_operand, numbered_rhs, numbered_test, numbered_into, numbered_return, numbered_form, numbered_body, numbered_unit, numbered_units};
+ghost use Rattle.mir_valid.specs.Rules.{global_names, same_global_lines};
+ghost use Rattle.mir_valid.specs.Numbered.{numbered_operand, numbered_rhs, numbered_test, numbered_trap, numbered_into, numbered_return, numbered_form, numbered_body, numbered_unit, numbered_units};
 
 use crate::Memory;
 use crate::calls::unit_numbers;
+use crate::globals::is_bad_number;
 use crate::labels::label_places;
 use crate::tables::Table;
 use crate::variables::Variables;
 use mir_base::{Args, Inst, Items, Name, Operand, Program, Rhs, Test, Unit};
-use mir_parse::{RawForm, RawInst, RawOperand, RawRhs, RawTest, RawUnit};
+use mir_parse::{RawForm, RawGlobal, RawInst, RawOperand, RawRhs, RawTest, RawUnit};
 use std::alloc::Global;
 use std::marker::Model;
 
@@ -35,41 +37,83 @@ impl<'t, 'a> Model for Numbering<'t, 'a> {
     } };
 }
 
-/// The program that these valid units stand for. It fails only with `Memory`.
-pub fn program_of(alloc: Global, units: &[RawUnit]) -> Result<Program, Memory>
-    requires { AreValid units.now }
-    ensures { IfOk result (λ program. program.units ≡ numbered_units units.now) }
+/// The program that these valid globals and units stand for. It fails only with `Memory`.
+pub fn program_of(
+    alloc: Global,
+    globals: &[RawGlobal],
+    units: &[RawUnit],
+) -> Result<Program, Memory>
+    requires { AreValid globals.now units.now }
+    ensures globals { IfOk result (λ program. program.globals ≡ global_names globals.now) }
+    ensures units { IfOk result (λ program.
+        program.units ≡ numbered_units globals.now units.now) }
 {
-    let numbers = unit_numbers(alloc, units)?;
-    let made = numbered_all(alloc, &numbers, units)?;
+    let made = numbered_units(alloc, globals, units)?;
+    let names = global_names(alloc, globals)?;
     Ok(Program {
+        globals: Items::of(names),
         units: Items::of(made),
     })
+}
+
+// The names of the globals. It fails only with `Memory`.
+fn global_names(alloc: Global, globals: &[RawGlobal]) -> Result<Vec<Name>, Memory>
+    ensures { IfOk result (λ names. names.items ≡ global_names globals.now) }
+{
+    let mut names = Vec::new(alloc);
+    for global in globals {
+        names.push(global.name.clone()?)?;
+    }
+    Ok(names)
+}
+
+// The units, numbered. It fails only with `Memory`.
+fn numbered_units(
+    alloc: Global,
+    globals: &[RawGlobal],
+    units: &[RawUnit],
+) -> Result<Vec<Unit>, Memory>
+    requires { same_global_lines globals.now ≡ [] }
+    ensures made { IfOk result (λ made. made.items ≡ numbered_units globals.now units.now) }
+    ensures places { OnOk result (All (λ unit. HasPlaces unit.labels unit.body) units.now) }
+{
+    let numbers = unit_numbers(alloc, units)?;
+    let made = numbered_all(alloc, globals, &numbers, units)?;
+    Ok(made)
 }
 
 // The units, numbered. It fails only with `Memory`.
 fn numbered_all<'a>(
     alloc: Global,
+    globals: &'a [RawGlobal],
     numbers: &Table<'a>,
     units: &'a [RawUnit],
 ) -> Result<Vec<Unit>, Memory>
-    ensures made { IfOk result (λ made. made.items ≡ map (numbered_unit numbers.now) units.now) }
+    requires { same_global_lines globals.now ≡ [] }
+    ensures made { let numbered = numbered_unit globals.now numbers.now in
+        IfOk result (λ made. made.items ≡ map numbered units.now) }
     ensures places { OnOk result (All (λ unit. HasPlaces unit.labels unit.body) units.now) }
 {
     let mut made = Vec::new(alloc);
     for unit in units {
-        made.push(numbered_unit(alloc, numbers, unit)?)?;
+        made.push(numbered_unit(alloc, globals, numbers, unit)?)?;
     }
     Ok(made)
 }
 
 // A unit, numbered. It fails only with `Memory`.
-fn numbered_unit<'a>(alloc: Global, units: &Table<'a>, unit: &'a RawUnit) -> Result<Unit, Memory>
-    ensures made { IfOk result (λ made. made ≡ numbered_unit units.now unit.now) }
+fn numbered_unit<'a>(
+    alloc: Global,
+    globals: &'a [RawGlobal],
+    units: &Table<'a>,
+    unit: &'a RawUnit,
+) -> Result<Unit, Memory>
+    requires { same_global_lines globals.now ≡ [] }
+    ensures made { IfOk result (λ made. made ≡ numbered_unit globals.now units.now unit.now) }
     ensures places { HasPlaces unit.now.labels unit.now.body }
 {
     let raw_body = unit.body.items();
-    let vars = Variables::of(alloc, raw_body)?;
+    let vars = Variables::of(alloc, globals, raw_body)?;
     let labels = label_places(alloc, unit.labels.items())?;
     let tables = Numbering {
         units,
@@ -80,6 +124,7 @@ fn numbered_unit<'a>(alloc: Global, units: &Table<'a>, unit: &'a RawUnit) -> Res
     let name = unit.name.clone()?;
     Ok(Unit {
         name,
+        shared: globals.len(),
         vars: Items::of(vars.into_names()),
         body: Items::of(body),
     })
@@ -110,6 +155,10 @@ fn numbered_form(alloc: Global, tables: &Numbering, form: &RawForm) -> Result<In
         RawForm::If(test, label) => Ok(Inst::If(
             numbered_test(vars, test),
             tables.labels.number(label),
+        )),
+        RawForm::TrapIf(test, number) => Ok(Inst::TrapIf(
+            numbered_test(vars, test),
+            numbered_trap(*number),
         )),
         RawForm::Call(into, unit, operands) => {
             let into = numbered_into(vars, into);
@@ -158,6 +207,17 @@ fn numbered_test(vars: &Table, test: &RawTest) -> Test
         ),
         RawTest::Holds(a) => Test::Holds(numbered_operand(vars, a)),
         RawTest::Fails(a) => Test::Fails(numbered_operand(vars, a)),
+    }
+}
+
+// The number of a trap; 0 for one that none has.
+fn numbered_trap(number: i64) -> u8
+    ensures { result ≡ numbered_trap number }
+{
+    if is_bad_number(number) {
+        0
+    } else {
+        number.unsigned_abs() as u8
     }
 }
 

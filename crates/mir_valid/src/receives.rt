@@ -3,7 +3,7 @@ ghost use Rattle.std.specs.Prelude.{◌≡◌, ◌||◌, ◌&&◌, nat_eq, map, 
 ghost use Rattle.mir_base.specs.Limits.{most_receives};
 ghost use Rattle.mir_valid.specs.Rules.{too_many_insts_lines, late_receive_lines, same_receive_lines, too_many_receives_lines};
 ghost use Rattle.mir_valid.specs.Refusals.{least};
-ghost use Rattle.mir_valid.specs.Tables.{has_received, with_received, is_at_most};
+ghost use Rattle.mir_valid.specs.NameTables.{has_received, with_received, is_at_most};
 
 use crate::Memory;
 use crate::forms::{is_receive, received_by};
@@ -14,7 +14,7 @@ use mir_base::{MOST_INSTS, MOST_RECEIVES};
 use mir_parse::{RawForm, RawLabel, RawUnit};
 use std::alloc::Global;
 
-/// The rule that a unit has at most 4,096 instructions.
+/// The rule that a unit has at most 16,384 instructions.
 pub struct TooManyInsts;
 
 impl Rule for TooManyInsts {

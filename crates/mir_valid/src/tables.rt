@@ -1,7 +1,7 @@
 // Tables from names to numbers, with their names looked up by hash.
 ghost use Rattle.std.specs.Prelude.{◌≡◌, [], IfOk, OnOk, is_none};
 ghost use Rattle.mir_valid.specs.Names.{number_in};
-ghost use Rattle.mir_valid.specs.Tables.{number_or_zero, with_entry};
+ghost use Rattle.mir_valid.specs.NameTables.{number_or_zero, with_entry};
 
 use crate::Memory;
 use indexmap::IndexMap;

@@ -1,14 +1,15 @@
-// The variables of a body, numbered in the order in which they first occur in its canonical text.
+// The variables of a body: the globals, and then the others, numbered in the order in which they first occur in its
+// canonical text.
 ghost use Rattle.std.specs.Prelude.{◌≡◌, [], IfOk};
 ghost use Rattle.std.specs.List.{flat_map};
 ghost use Rattle.mir_valid.specs.Variables.{operand_names, rhs_names, test_names, into_names, returned_names, form_names};
-ghost use Rattle.mir_valid.specs.Tables.{entries_from};
-ghost use Rattle.mir_valid.specs.Numbered.{variables_of, with_name, AddsNames};
+ghost use Rattle.mir_valid.specs.NameTables.{entries_from};
+ghost use Rattle.mir_valid.specs.Numbered.{global_variables, variables_of, with_name, AddsNames};
 
 use crate::Memory;
 use crate::tables::Table;
 use mir_base::Name;
-use mir_parse::{RawForm, RawInst, RawOperand, RawRhs, RawTest};
+use mir_parse::{RawForm, RawGlobal, RawInst, RawOperand, RawRhs, RawTest};
 use std::alloc::Global;
 use std::marker::Model;
 
@@ -22,7 +23,7 @@ pub struct Variables<'a> {
 
 impl<'a> Model for Variables<'a> {
     ghost use Rattle.std.specs.Prelude.{◌≡◌, List, ℕ};
-    ghost use Rattle.mir_valid.specs.Tables.{entries_from};
+    ghost use Rattle.mir_valid.specs.NameTables.{entries_from};
 
     ghost Value = { List (List ℕ) };
 
@@ -32,13 +33,28 @@ impl<'a> Model for Variables<'a> {
 }
 
 impl<'a> Variables<'a> {
-    /// The variables of a body. It fails only with `Memory`.
-    pub fn of(alloc: Global, body: &'a [RawInst]) -> Result<Variables<'a>, Memory>
-        ensures { IfOk result (λ vars. vars ≡ variables_of body.now) }
+    /// The globals, and the other variables of a body. It fails only with `Memory`.
+    pub fn of(
+        alloc: Global,
+        globals: &'a [RawGlobal],
+        body: &'a [RawInst],
+    ) -> Result<Variables<'a>, Memory>
+        ensures { IfOk result (λ vars. vars ≡ variables_of globals.now body.now) }
     {
-        let mut vars = Variables::new(alloc);
+        let mut vars = Variables::of_globals(alloc, globals)?;
         for inst in body {
             vars = vars.with_form(&inst.form)?;
+        }
+        Ok(vars)
+    }
+
+    // The globals. It fails only with `Memory`.
+    fn of_globals(alloc: Global, globals: &'a [RawGlobal]) -> Result<Variables<'a>, Memory>
+        ensures { IfOk result (λ vars. vars ≡ global_variables globals.now) }
+    {
+        let mut vars = Variables::new(alloc);
+        for global in globals {
+            vars = vars.with(&global.name)?;
         }
         Ok(vars)
     }
@@ -154,6 +170,7 @@ impl<'a> Variables<'a> {
             RawForm::Assign(name, rhs) => self.with(name)?.with_rhs(rhs),
             RawForm::Goto(_) => Ok(self),
             RawForm::If(test, _) => self.with_test(test),
+            RawForm::TrapIf(test, _) => self.with_test(test),
             RawForm::Call(into, _, operands) => {
                 self.with_into(into)?.with_operands(operands.items())
             }

@@ -1,4 +1,4 @@
-use Rattle.std.proofs.Common.{◌∙◌, ap, refl, arith, rules, SFits, w64, to_z-of_z}
+use Rattle.std.proofs.Common.{◌∙◌, ap, length, refl, arith, rules, SFits, w64, to_z-of_z}
 use Rattle.std.proofs.lemmas.Result.{err_from_is_err_and}
 use Rattle.mir_base.specs.Runs.{codes_of, first_state}
 use Rattle.mir_interp.specs.declared.report.Finish.TheVariants.{Ended, Trapped}
@@ -15,19 +15,19 @@ returns-in_err-step c =
 pub returns-in-Ended : goal.returns-in-Ended
 returns-in-Ended c =
     let state = rw c.in-Ended.is at c.in_ok-step.ensures.state in
-    let comes = over_within (codes_of c.args.program.now) c.loop.counter c.args.steps (first_state c.args.inputs.now) _ _ c.loop-test.true c.loop.invariant.state state refl in
+    let comes = over_within (codes_of c.args.program.now) c.loop.counter c.args.steps (first_state (length c.args.program.now.globals) c.args.inputs.now) _ _ c.loop-test.true c.loop.invariant.state state refl in
     let fits : SFits w64 c.in-Ended.result = search rules in
     finish_reported c.args.program.now c.args.inputs.now c.args.steps c.step.new.self (Ended c.in-Ended.result) c.report.result (c.if-inputs-wanted.false ∙ c.inputs-wanted.ensures.inputs) comes c.in_ok-step.ensures.kept c.report.ensures.lines (c.report.ensures.finish ∙ ap Ended (to_z-of_z fits)) c.report.ensures.evals
 
 pub returns-in-Trapped : goal.returns-in-Trapped
 returns-in-Trapped c =
     let state = rw c.in-Trapped.is at c.in_ok-step.ensures.state in
-    let comes = over_within (codes_of c.args.program.now) c.loop.counter c.args.steps (first_state c.args.inputs.now) _ _ c.loop-test.true c.loop.invariant.state state refl in
+    let comes = over_within (codes_of c.args.program.now) c.loop.counter c.args.steps (first_state (length c.args.program.now.globals) c.args.inputs.now) _ _ c.loop-test.true c.loop.invariant.state state refl in
     finish_reported c.args.program.now c.args.inputs.now c.args.steps c.step.new.self (Trapped c.in-Trapped.kind) c.report-in-Trapped.result (c.if-inputs-wanted.false ∙ c.inputs-wanted.ensures.inputs) comes c.in_ok-step.ensures.kept c.report-in-Trapped.ensures.lines c.report-in-Trapped.ensures.finish c.report-in-Trapped.ensures.evals
 
 pub loop-preserved : goal.loop-preserved
 loop-preserved c = record {
-  state = next_state (codes_of c.args.program.now) c.loop.counter (first_state c.args.inputs.now) _ _ c.loop.invariant.state (rw c.in-Running.is at c.in_ok-step.ensures.state);
+  state = next_state (codes_of c.args.program.now) c.loop.counter (first_state (length c.args.program.now.globals) c.args.inputs.now) _ _ c.loop.invariant.state (rw c.in-Running.is at c.in_ok-step.ensures.state);
   fits = c.in_ok-step.ensures.kept;
   few = omega (arith, c.in_ok-step.ensures.few);
 }

@@ -2,7 +2,7 @@ use Rattle.std.proofs.Common.{sym, ap, subst, ◌≡◌, inl, ℕ}
 use Rattle.mir_parse.specs.Grammar.{IsUnexpected}
 use Rattle.mir_lex.specs.Terminals.{terminals}
 use Rattle.mir_parse.specs.declared.faults.ParseFault.TheVariants.{Unexpected}
-use Rattle.mir_parse.proofs.Exact.{outside_text, stopped_unexpected, inside_unfinished, outside_only, outside_unexpected, outside_unfinished, stopped_only, stopped_line, stopped_unfinished, in_only, in_unexpected, text_same}
+use Rattle.mir_parse.proofs.Exact.{outside_text, stopped_unexpected, inside_unfinished, outside_only, outside_unexpected, outside_unfinished, stopped_only, stopped_line, stopped_unfinished, in_only, in_unexpected, line_only, line_unexpected, line_unfinished, text_same}
 use Rattle.mir_parse.proofs.parsing.parse.Goals as goal
 
 pub returns-in-Ok-Outside-clause-found : goal.returns-in-Ok-Outside-clause-found
@@ -53,3 +53,15 @@ returns-in-Ok-In-clause-unique c = text_same (terminals c.args.tokens.now.text c
 
 pub returns-in-Err-clause-unique : goal.returns-in-Err-clause-unique
 returns-in-Err-clause-unique c = text_same (terminals c.args.tokens.now.text c.args.tokens.now.items)
+
+pub returns-in-Ok-Global-clause-only : goal.returns-in-Ok-Global-clause-only
+returns-in-Ok-Global-clause-only c = let e = rw c.in-Ok-Global.field-0-is at c.in-Ok-Global.ensures in λ us text. line_only _ _ _ _ e us text
+
+pub returns-in-Ok-Global-clause-unexpected_only : goal.returns-in-Ok-Global-clause-unexpected_only
+returns-in-Ok-Global-clause-unexpected_only c = let e = rw c.in-Ok-Global.field-0-is at c.in-Ok-Global.ensures in λ line is. absurd (line_unexpected _ _ _ _ e line is)
+
+pub returns-in-Ok-Global-clause-unfinished : goal.returns-in-Ok-Global-clause-unfinished
+returns-in-Ok-Global-clause-unfinished c = let e = rw c.in-Ok-Global.field-0-is at c.in-Ok-Global.ensures in λ same. line_unfinished _ _ _ _ (sym e)
+
+pub returns-in-Ok-Global-clause-unique : goal.returns-in-Ok-Global-clause-unique
+returns-in-Ok-Global-clause-unique c = text_same (terminals c.args.tokens.now.text c.args.tokens.now.items)

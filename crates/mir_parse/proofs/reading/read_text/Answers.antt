@@ -3,16 +3,15 @@ use Rattle.mir_parse.specs.declared.faults.ParseFault.TheVariants.{Unexpected, U
 use Rattle.mir_parse.specs.declared.faults.TextFault.TheVariants.{Lex, Parse}
 use Rattle.mir_parse.specs.Grammar.{IsText, IsUnexpected, IsUnfinished}
 use Rattle.mir_parse.specs.Spells.{IsTextMemory}
-use Rattle.mir_parse.proofs.Texts.{moved, raw_same, spells_same, by_cause, same_parse, same_lex}
+use Rattle.mir_parse.proofs.Texts.{moved, spells_same, by_cause, same_parse, same_lex}
 use Rattle.mir_parse.proofs.reading.read_text.Goals as goal
 
 -- the text is read
 
 pub returns-in-Ok-parse-clause-only : goal.returns-in-Ok-parse-clause-only
 returns-in-Ok-parse-clause-only c =
-    λ raw h. raw_same c.in-Ok-parse.raw raw
-    (c.in-Ok-parse.ensures.only raw.units
-    (moved (λ ts. IsText ts raw.units) c.args.text.now c.in-Ok.tokens.text h.items c.in-Ok.tokens.items c.in-Ok.ensures.found.0 (c.in-Ok.ensures.only h.items h.tokens) h.text))
+    λ raw h. c.in-Ok-parse.ensures.only raw
+    (moved (λ ts. IsText ts raw) c.args.text.now c.in-Ok.tokens.text h.items c.in-Ok.tokens.items c.in-Ok.ensures.found.0 (c.in-Ok.ensures.only h.items h.tokens) h.text)
 
 pub returns-in-Ok-parse-clause-unique : goal.returns-in-Ok-parse-clause-unique
 returns-in-Ok-parse-clause-unique c = spells_same c.args.text.now c.in-Ok.ensures.unique
@@ -29,8 +28,8 @@ returns-in-Ok-parse-clause-refused_only c =
 
 pub returns-in-Ok-clause-only : goal.returns-in-Ok-clause-only
 returns-in-Ok-clause-only c =
-    λ raw h. c.in-Err-parse.ensures.only raw.units
-    (moved (λ ts. IsText ts raw.units) c.args.text.now c.in-Ok.tokens.text h.items c.in-Ok.tokens.items c.in-Ok.ensures.found.0 (c.in-Ok.ensures.only h.items h.tokens) h.text)
+    λ raw h. c.in-Err-parse.ensures.only raw
+    (moved (λ ts. IsText ts raw) c.args.text.now c.in-Ok.tokens.text h.items c.in-Ok.tokens.items c.in-Ok.ensures.found.0 (c.in-Ok.ensures.only h.items h.tokens) h.text)
 
 pub returns-in-Ok-clause-unique : goal.returns-in-Ok-clause-unique
 returns-in-Ok-clause-unique c = spells_same c.args.text.now c.in-Ok.ensures.unique

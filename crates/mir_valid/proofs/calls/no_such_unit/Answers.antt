@@ -2,7 +2,7 @@ use Rattle.std.proofs.Common.{ap, ◌∙◌}
 use Rattle.std.specs.List.{flat_map}
 use Rattle.mir_valid.specs.Rules.{lines_where}
 use Rattle.mir_valid.specs.Refusals.{least}
-use Rattle.mir_valid.specs.Tables.{misses_number}
+use Rattle.mir_valid.specs.NameTables.{misses_number}
 use Rattle.mir_valid.proofs.NamesFound.{misses_number_units}
 use Rattle.mir_valid.proofs.calls.no_such_unit.Goals as goal
 

@@ -2,7 +2,7 @@ use Rattle.std.proofs.Common.{◌≡◌, None, ap, ◌∙◌, is_none, not, if�
 use Rattle.mir_parse.specs.RawUnit.{RawUnitShape}
 use Rattle.mir_valid.specs.Names.{number_in}
 use Rattle.mir_valid.specs.Refusals.{lesser}
-use Rattle.mir_valid.specs.Tables.{with_entry}
+use Rattle.mir_valid.specs.NameTables.{with_entry}
 use Rattle.mir_valid.proofs.SameNames.{finds_next, same_next}
 use Rattle.mir_valid.proofs.calls.same_unit.Goals as goal
 

@@ -1,5 +1,5 @@
 use Rattle.std.proofs.Common.{ap, ◌∙◌, sym}
-use Rattle.mir_valid.specs.Tables.{with_entry}
+use Rattle.mir_valid.specs.NameTables.{with_entry}
 use Rattle.mir_valid.proofs.UnitNumbers.{unit_numbers_next}
 use Rattle.mir_valid.proofs.calls.unit_numbers.Goals as goal
 

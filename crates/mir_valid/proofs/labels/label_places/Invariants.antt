@@ -1,5 +1,5 @@
 use Rattle.std.proofs.Common.{◌≡◌, take}
-use Rattle.mir_valid.specs.Tables.{table_of}
+use Rattle.mir_valid.specs.NameTables.{table_of}
 use Rattle.mir_valid.specs.Numbered.{label_places}
 use Rattle.mir_valid.proofs.labels.label_places.Given as goal
 

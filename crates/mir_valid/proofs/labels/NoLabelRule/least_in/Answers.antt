@@ -2,7 +2,7 @@ use Rattle.std.proofs.Common.{fold, ap, ◌∙◌}
 use Rattle.mir_parse.specs.RawUnit.{RawUnitShape}
 use Rattle.mir_valid.specs.Rules.{lines_where, misses_label}
 use Rattle.mir_valid.specs.Refusals.{lesser}
-use Rattle.mir_valid.specs.Tables.{misses_place}
+use Rattle.mir_valid.specs.NameTables.{misses_place}
 use Rattle.mir_valid.proofs.NamesFound.{misses_place_labels}
 use Rattle.mir_valid.proofs.labels.NoLabelRule.least_in.Goals as goal
 

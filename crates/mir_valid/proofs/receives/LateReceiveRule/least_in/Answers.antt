@@ -4,7 +4,7 @@ use Rattle.std.proofs.lemmas.List.{length-take-le}
 use Rattle.mir_parse.specs.RawUnit.{RawUnitShape}
 use Rattle.mir_parse.specs.declared.raw.RawInst.{RawInst}
 use Rattle.mir_valid.specs.Rules.{is_receive, is_other, is_late, has_label_before}
-use Rattle.mir_valid.specs.Tables.{is_at_most}
+use Rattle.mir_valid.specs.NameTables.{is_at_most}
 use Rattle.mir_valid.proofs.BrokenLaws.{least_next, any_next}
 use Rattle.mir_valid.proofs.FirstPlace.{first_place_reaches}
 use Rattle.mir_valid.proofs.receives.LateReceiveRule.least_in.Goals as goal

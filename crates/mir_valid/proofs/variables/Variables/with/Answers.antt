@@ -1,6 +1,6 @@
 use Rattle.std.proofs.Common.{◌≡◌, ap, ◌∙◌, sym, length, arith, rules}
 use Rattle.std.proofs.lemmas.Grind.{common_steps}
-use Rattle.mir_valid.specs.Tables.{with_entry, entries_from}
+use Rattle.mir_valid.specs.NameTables.{with_entry, entries_from}
 use Rattle.mir_valid.specs.Numbered.{with_name}
 use Rattle.mir_valid.proofs.TableLaws.{with_entry_from, names_with}
 use Rattle.mir_valid.proofs.variables.Variables.with.Goals as goal

@@ -1,7 +1,7 @@
 use Rattle.std.proofs.Common.{List, ℕ, subst}
 use Rattle.mir_base.specs.Names.{IsName}
 use Rattle.mir_print.proofs.Prefixes.{prefix_more, prefix_whole}
-use Rattle.mir_print.proofs.kept.keep_names.Goals as goal
+use Rattle.mir_print.proofs.well_typed.hand_out_names.Goals as goal
 
 pub loop-name-preserved : goal.loop-name-preserved
 loop-name-preserved c =

@@ -1,7 +1,8 @@
 -- Tables that give names numbers, and what they say of an instruction. Cited by the contracts of private functions.
-use Rattle.std.specs.Prelude.{ℕ, suc, Bool, false, List, [], ◌∷◌, ◌++◌, fold, is_some, is_none, unwrap_or, if◌then◌else◌, nat_le, Option}
+use Rattle.std.specs.Prelude.{ℕ, suc, Bool, false, List, [], ◌∷◌, ◌++◌, map, fold, is_some, is_none, unwrap_or, if◌then◌else◌, nat_le, Option}
 use Rattle.std.specs.Option.{option_map_or}
 use Rattle.mir_parse.specs.declared.raw.RawForm.{RawForm}
+use Rattle.mir_parse.specs.declared.raw.RawGlobal.{RawGlobal}
 use Rattle.mir_parse.specs.RawUnit.{RawUnitShape}
 use Rattle.mir_valid.specs.Names.{NameEntry, number_in}
 use Rattle.mir_valid.specs.declared.lookups.Lookup.{Lookup}
@@ -54,3 +55,7 @@ with_received seen form = option_map_or (λ x. with_entry seen (x, 0)) (received
 -- there is a first place, and it is at most this one
 abbrev pub is_at_most : Option ℕ → ℕ → Bool
 is_at_most first place = option_map_or (λ least. nat_le least place) first false
+
+-- each global's name, with its line
+abbrev pub global_lines : List RawGlobal → List NameEntry
+global_lines globals = map (λ g. (g.name, g.line)) globals

@@ -1,9 +1,0 @@
-use Rattle.mir_print.specs.Kept.{UnitKept}
-use Rattle.mir_print.proofs.Prefixes.{prefix_more, prefix_whole}
-use Rattle.mir_print.proofs.kept.keep_units.Goals as goal
-
-pub loop-unit-preserved : goal.loop-unit-preserved
-loop-unit-preserved c = prefix_more UnitKept c.args.units.now c.loop-unit.unit-index c.unit-item.result c.loop-unit-test.true c.loop-unit.invariant c.unit-item.is c.keep_unit.ensures
-
-pub returns : goal.returns
-returns c = prefix_whole UnitKept c.args.units.now c.loop-unit.unit-index c.loop-unit-test.false c.loop-unit.invariant
