@@ -44,7 +44,8 @@ abbrev pub row_of : List (List Bool) → ℕ → List Bool
 row_of rows row = slice_index_or rows row []
 
 -- the rows, where one has become what an operation makes of it and of a row of others
-abbrev pub with_row_by : (List Bool → List Bool → List Bool) → List (List Bool) → ℕ → List (List Bool) → ℕ → List (List Bool)
+abbrev pub with_row_by : (List Bool → List Bool → List Bool) → List (List Bool) → ℕ → List (List Bool) → ℕ
+    → List (List Bool)
 with_row_by op rows row others from = slice_set rows row (op (row_of rows row) (row_of others from))
 
 -- each row has so many bits
@@ -57,13 +58,16 @@ pub record AreAlike (rows other : List (List Bool)) : Type 0 where
   pub each : (n : ℕ) → n < length rows → length (row_of other n) ≡ length (row_of rows n)
 
 -- each row is made of the old one and that of the other, also past the last row
-abbrev pub EachRow : (List Bool → List Bool → List Bool) → List (List Bool) → List (List Bool) → List (List Bool) → Type 0
+abbrev pub EachRow : (List Bool → List Bool → List Bool) → List (List Bool) → List (List Bool) → List (List Bool)
+    → Type 0
 EachRow f old other new = (n : ℕ) → row_of new n ≡ f (row_of old n) (row_of other n)
 
 -- each bit is made of the old one and that of the other, also past the last row and bit
 abbrev pub EachBit : (Bool → Bool → Bool) → List (List Bool) → List (List Bool) → List (List Bool) → Type 0
-EachBit f old other new = (n b : ℕ) → row_bit (row_of new n) b ≡ f (row_bit (row_of old n) b) (row_bit (row_of other n) b)
+EachBit f old other new = (n b : ℕ)
+    → row_bit (row_of new n) b ≡ f (row_bit (row_of old n) b) (row_bit (row_of other n) b)
 
 -- from this row on each bit is the opposite of the old one
 abbrev pub EachBitFlipped : ℕ → List (List Bool) → List (List Bool) → Type 0
-EachBitFlipped from old new = (n b : ℕ) → from ≤ n → n < length old → b < length (row_of old n) → row_bit (row_of new n) b ≡ not (row_bit (row_of old n) b)
+EachBitFlipped from old new = (n b : ℕ) → from ≤ n → n < length old → b < length (row_of old n)
+    → row_bit (row_of new n) b ≡ not (row_bit (row_of old n) b)

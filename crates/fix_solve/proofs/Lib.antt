@@ -1,4 +1,4 @@
-pub mod Settle
+pub mod Solves
 pub mod Loads
 pub mod Visits
 pub mod Parts

@@ -5,7 +5,7 @@ use Rattle.std.proofs.Math.Nat.{mul-le-mul_left, mul-le-mul_right}
 use Rattle.std.proofs.lemmas.Bool.{cases_eq, cases_lt}
 use Rattle.fix_solve.specs.Order.{OrderLaws}
 use Rattle.fix_solve.specs.Net.{Net, NetLaws}
-use Rattle.fix_solve.specs.Settling.{sum_below, visits_left, load, degree}
+use Rattle.fix_solve.specs.Solving.{sum_below, visits_left, load, degree}
 
 -- ---- sums
 

@@ -4,8 +4,8 @@ use Rattle.std.proofs.lemmas.Bool.{cases_eq, or_parts}
 use Rattle.std.proofs.lemmas.List.{length-set}
 use Rattle.fix_solve.specs.Order.{OrderLaws}
 use Rattle.fix_solve.specs.Net.{Net, NetLaws, value_at, HoldsFirst}
-use Rattle.fix_solve.specs.Settling.{Working, Pushed, AllDone, load, degree, nodes_left, pushes_left}
-use Rattle.fix_solve.proofs.Settle.{push_settles, visit_begins, visit_ends, start_settles, size_above}
+use Rattle.fix_solve.specs.Solving.{Working, Pushed, AllDone, load, degree, nodes_left, pushes_left}
+use Rattle.fix_solve.proofs.Solves.{push_solves, visit_begins, visit_ends, start_solves, size_above}
 use Rattle.fix_solve.proofs.Loads.{load_push, load_take}
 use Rattle.fix_solve.proofs.Waiting.{first_waits, leaves_other, leaves_here}
 use Rattle.node_list.specs.Lists.{is_listed, list_at}
@@ -18,7 +18,7 @@ pub record LessLeft {V : Type 0} (net : Net V) (rank : V → ℕ) (values : List
 module _ {V : Type 0} (below : V → V → Type 0) (size : V → ℕ) (rank : V → ℕ) (order : OrderLaws below size rank) (net : Net V) (laws : NetLaws below size rank net) where
   -- each value has the flow's size
   pub working_sizes : (values : List V) (fl : ℕ → Bool) (done : ℕ → Type 0) → Working below net values fl done → (n : ℕ) → n < net.nodes → size (value_at net values n) ≡ net.size
-  working_sizes values fl done w n h = size_above below size rank order net laws n (value_at net values n) h (w.settling.above_first n h)
+  working_sizes values fl done w n h = size_above below size rank order net laws n (value_at net values n) h (w.solving.above_first n h)
 
   -- a push along an edge, whose target waits if it changed
   module _ (number t : ℕ) (values values' : List V) (fl fl' : ℕ → Bool) (b : Bool) (in_range : number < net.edges) (t_is : t ≡ net.target number) (pushed : Pushed below net number values values' b)
@@ -31,7 +31,7 @@ module _ {V : Type 0} (below : V → V → Type 0) (size : V → ℕ) (rank : V 
     working_push node of_node w =
         record {
           len = rw pushed.others (length-set values (net.target number) (value_at net values' (net.target number)) ∙ w.len);
-          settling = push_settles below size rank order net laws node number (value_at net values) (value_at net values') fl fl'
+          solving = push_solves below size rank order net laws node number (value_at net values) (value_at net values') fl fl'
               in_range of_node (rw of_node at pushed.joined) others_stay
               (λ n off. elim (cases_eq n t) as (λ _. (fl n ≡ false) × (value_at net values' n ≡ value_at net values n)) [
                 | inl e ↦
@@ -40,7 +40,7 @@ module _ {V : Type 0} (below : V → V → Type 0) (size : V → ℕ) (rank : V 
                     rw e (parts.0, (let same = pushed.unchanged.0 parts.1 in rw t_is same))
                 | inr d ↦ (sym (others_fl n d) ∙ off, others_stay n (λ e. d (e ∙ sym t_is)))
               ])
-              w.settling;
+              w.solving;
         }
 
     pub load_after : (weight : ℕ → ℕ) (done : ℕ → Type 0) → Working below net values fl done
@@ -56,7 +56,7 @@ module _ {V : Type 0} (below : V → V → Type 0) (size : V → ℕ) (rank : V 
     pub working_begins : Working below net values fl' (λ e. net.source e ≡ node → e < net.start node)
     working_begins = record {
       len = w.len;
-      settling = visit_begins below size rank order net laws node (value_at net values) fl fl' others_fl w.settling;
+      solving = visit_begins below size rank order net laws node (value_at net values) fl fl' others_fl w.solving;
     }
 
     pub load_begins : (weight : ℕ → ℕ) → fl node ≡ true → fl' node ≡ false
@@ -74,12 +74,12 @@ module _ {V : Type 0} (below : V → V → Type 0) (size : V → ℕ) (rank : V 
   pub working_ends : (node at : ℕ) (values : List V) (fl : ℕ → Bool) → net.stop node ≤ at → Working below net values fl (λ e. net.source e ≡ node → e < at) → Working below net values fl AllDone
   working_ends node at values fl late w = record {
     len = w.len;
-    settling = visit_ends below size rank order net laws node at (value_at net values) fl late w.settling;
+    solving = visit_ends below size rank order net laws node at (value_at net values) fl late w.solving;
   }
 
   -- the first values, and each node waits
   pub working_starts : (values : List V) (fl : ℕ → Bool) → HoldsFirst net values → ((n : ℕ) → n < net.nodes → fl n ≡ true) → Working below net values fl AllDone
   working_starts values fl first waiting = record {
     len = first.len;
-    settling = start_settles below size rank order net laws (value_at net values) fl first.each waiting;
+    solving = start_solves below size rank order net laws (value_at net values) fl first.each waiting;
   }

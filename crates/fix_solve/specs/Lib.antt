@@ -2,5 +2,5 @@ pub mod Order
 pub mod Pointwise
 pub mod Net
 pub mod Arising
-pub mod Walks
-pub mod Settling
+pub mod OrderWalks
+pub mod Solving

@@ -23,20 +23,24 @@ module _ {A : Type 0} (below : A → A → Type 0) where
   pointwise_refl itself (x ∷ xs) = (itself x, pointwise_refl itself xs)
 
   -- transitive
-  pub pointwise_trans : ((x y z : A) → below x y → below y z → below x z) → (xs ys zs : List A) → Pointwise below xs ys → Pointwise below ys zs → Pointwise below xs zs
+  pub pointwise_trans : ((x y z : A) → below x y → below y z → below x z) → (xs ys zs : List A) → Pointwise below xs ys
+      → Pointwise below ys zs → Pointwise below xs zs
   pointwise_trans through [] [] [] p q = tt
   pointwise_trans through [] [] (z ∷ zs) p q = absurd q
   pointwise_trans through [] (y ∷ ys) zs p q = absurd p
   pointwise_trans through (x ∷ xs) [] zs p q = absurd p
   pointwise_trans through (x ∷ xs) (y ∷ ys) [] p q = absurd q
-  pointwise_trans through (x ∷ xs) (y ∷ ys) (z ∷ zs) p q = (through x y z p.0 q.0, pointwise_trans through xs ys zs p.1 q.1)
+  pointwise_trans through (x ∷ xs) (y ∷ ys) (z ∷ zs) p q =
+      (through x y z p.0 q.0, pointwise_trans through xs ys zs p.1 q.1)
 
   -- antisymmetric
-  pub pointwise_antisym : ((x y : A) → below x y → below y x → x ≡ y) → (xs ys : List A) → Pointwise below xs ys → Pointwise below ys xs → xs ≡ ys
+  pub pointwise_antisym : ((x y : A) → below x y → below y x → x ≡ y) → (xs ys : List A) → Pointwise below xs ys
+      → Pointwise below ys xs → xs ≡ ys
   pointwise_antisym equal [] [] p q = refl
   pointwise_antisym equal [] (y ∷ ys) p q = absurd p
   pointwise_antisym equal (x ∷ xs) [] p q = absurd p
-  pointwise_antisym equal (x ∷ xs) (y ∷ ys) p q = ap (λ z. z ∷ xs) (equal x y p.0 q.0) ∙ ap (λ zs. y ∷ zs) (pointwise_antisym equal xs ys p.1 q.1)
+  pointwise_antisym equal (x ∷ xs) (y ∷ ys) p q =
+      ap (λ z. z ∷ xs) (equal x y p.0 q.0) ∙ ap (λ zs. y ∷ zs) (pointwise_antisym equal xs ys p.1 q.1)
 
   -- only lists of one length are in order
   pub pointwise_length : (xs ys : List A) → Pointwise below xs ys → length xs ≡ length ys
@@ -46,13 +50,15 @@ module _ {A : Type 0} (below : A → A → Type 0) where
   pointwise_length (x ∷ xs) (y ∷ ys) p = ap suc (pointwise_length xs ys p.1)
 
   -- the lists are equal, or the rank rises, where it is so of the items
-  pub pointwise_rises : (rank : A → ℕ) → ((x y : A) → below x y → (x ≡ y) ⊎ (rank x < rank y)) → (xs ys : List A) → Pointwise below xs ys → (xs ≡ ys) ⊎ (total_rank rank xs < total_rank rank ys)
+  pub pointwise_rises : (rank : A → ℕ) → ((x y : A) → below x y → (x ≡ y) ⊎ (rank x < rank y)) → (xs ys : List A)
+      → Pointwise below xs ys → (xs ≡ ys) ⊎ (total_rank rank xs < total_rank rank ys)
   pointwise_rises rank rises [] [] p = inl refl
   pointwise_rises rank rises [] (y ∷ ys) p = absurd p
   pointwise_rises rank rises (x ∷ xs) [] p = absurd p
   pointwise_rises rank rises (x ∷ xs) (y ∷ ys) p = both (rises x y p.0) (pointwise_rises rank rises xs ys p.1)
     where
-      both : (x ≡ y) ⊎ (rank x < rank y) → (xs ≡ ys) ⊎ (total_rank rank xs < total_rank rank ys) → (x ∷ xs ≡ y ∷ ys) ⊎ (rank x + total_rank rank xs < rank y + total_rank rank ys)
+      both : (x ≡ y) ⊎ (rank x < rank y) → (xs ≡ ys) ⊎ (total_rank rank xs < total_rank rank ys)
+          → (x ∷ xs ≡ y ∷ ys) ⊎ (rank x + total_rank rank xs < rank y + total_rank rank ys)
       both (inl e) (inl f) = inl (ap (λ z. z ∷ xs) e ∙ ap (λ zs. y ∷ zs) f)
       both (inl e) (inr l) = inr (omega (arith, ap rank e, l))
       both (inr k) (inl f) = inr (omega (arith, k, ap (total_rank rank) f))

@@ -1,6 +1,6 @@
 // The order in which the nodes are first visited: what leads to a node mostly stands before it.
 ghost use Rattle.std.specs.Prelude.{◌≡◌, ◌<◌, IfOk, IfSome, OnOk, length};
-ghost use Rattle.fix_solve.specs.Walks.{AreNodes, WalksOver};
+ghost use Rattle.fix_solve.specs.OrderWalks.{AreNodes, WalksOver};
 
 use crate::{Flow, Memory};
 use std::alloc::Global;

@@ -2,8 +2,8 @@
 ghost use Rattle.std.specs.Prelude.{◌≡◌, ◌≢◌, ℕ, ◌+◌, ◌<◌, ◌≤◌, ◌||◌, true, length};
 ghost use Rattle.node_list.specs.Lists.{is_listed};
 ghost use Rattle.fix_solve.specs.Net.{AreOfSize, HoldsLeast};
-ghost use Rattle.fix_solve.specs.Walks.{AreNodes};
-ghost use Rattle.fix_solve.specs.Settling.{AllDone, AllDoneBut, IsOneList, Pushed, Working, degree, nodes_left, pushes_left};
+ghost use Rattle.fix_solve.specs.OrderWalks.{AreNodes};
+ghost use Rattle.fix_solve.specs.Solving.{AllDone, AllDoneBut, IsOneList, Pushed, Working, degree, nodes_left, pushes_left};
 
 use crate::{Flow, Lattice, Steps};
 use node_list::Links;

@@ -22,7 +22,7 @@ pub struct Work<V: Lattice> {
 
 impl<V: Lattice> Model for Work<V> {
     ghost use Rattle.std.specs.Prelude.{List};
-    ghost use Rattle.fix_solve.specs.Settling.{CanWait};
+    ghost use Rattle.fix_solve.specs.Solving.{CanWait};
 
     ghost Value = { List V };
 

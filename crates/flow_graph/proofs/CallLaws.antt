@@ -9,9 +9,9 @@ use Rattle.mir_base.specs.Shapes.{UnitShape, receives_in}
 use Rattle.flow_graph.specs.declared.plan.Item.{Item}
 use Rattle.flow_graph.specs.declared.plan.Item.TheVariants.{Placed, Jump}
 use Rattle.flow_graph.specs.declared.nodes.Node.{Node}
-use Rattle.flow_graph.specs.declared.nodes.Node.TheVariants.{Start, Skip, Assign, Print, Call, Test, Return}
+use Rattle.flow_graph.specs.declared.nodes.Node.TheVariants.{Start, Skip, Assign, Print, Guard, Call, Test, Return}
 use Rattle.flow_graph.specs.Graphs.{GraphShape}
-use Rattle.flow_graph.specs.Kept.{AreKept, IsMade, marked, marked_below}
+use Rattle.flow_graph.specs.Retained.{AreRetained, IsMade, marked, marked_below}
 use Rattle.flow_graph.specs.Lowered.{IsLowered, all_nodes, nodes_from, place_node}
 use Rattle.flow_graph.specs.Numbering.{first_index, renamed, renamed_operand, renumbered, seen_in}
 use Rattle.flow_graph.specs.Layouts.{IsLaid, emitted, emitted_by, item_insts, place_in, plain_body}
@@ -19,7 +19,7 @@ use Rattle.flow_graph.specs.Calls.{BodyCalls, NodesCall, inst_call, node_call}
 use Rattle.flow_graph.specs.NodeLaws.{mapped_from}
 use Rattle.flow_graph.specs.CallLaws.{redirected_calls}
 
--- ---- nodes that are kept
+-- ---- nodes that are retained
 
 -- a marked node is one of the list
 marked_from : (marks : List Bool) (nodes : List Node) (n : ℕ) (node : Node) → slice_get (marked marks nodes) n ≡ Some node → (m : ℕ) × (slice_get nodes m ≡ Some node)
@@ -30,16 +30,16 @@ marked_from (true ∷ marks) (first ∷ nodes) zero node e = (0, e)
 marked_from (true ∷ marks) (first ∷ nodes) (suc n) node e = let there = marked_from marks nodes n node e in (suc there.0, there.1)
 marked_from (false ∷ marks) (first ∷ nodes) n node e = let there = marked_from marks nodes n node e in (suc there.0, there.1)
 
--- the nodes that are kept make no calls but those of the list
-kept_calls : (raw nodes : List Node) (called count : ℕ) → AreKept raw nodes → NodesCall nodes called count → NodesCall raw called count
-kept_calls raw nodes called count kept c =
-    let all = redirected_calls (marked_below kept.marks) (marked kept.marks raw) called count (subst (λ ns. NodesCall ns called count) kept.are c) in
-    let there = marked_from kept.marks raw all.number all.node all.here in
+-- the nodes that are retained make no calls but those of the list
+retained_calls : (raw nodes : List Node) (called count : ℕ) → AreRetained raw nodes → NodesCall nodes called count → NodesCall raw called count
+retained_calls raw nodes called count retained c =
+    let all = redirected_calls (marked_below retained.marks) (marked retained.marks raw) called count (subst (λ ns. NodesCall ns called count) retained.are c) in
+    let there = marked_from retained.marks raw all.number all.node all.here in
     record { number = there.0; node = all.node; here = there.1; calls = all.calls }
 
 -- a made graph makes no calls but those of its nodes
-pub made_calls : (name : List ℕ) (vars : List (List ℕ)) (received : List ℕ) (raw : List Node) (graph : GraphShape) → IsMade name vars received raw graph → (called count : ℕ) → NodesCall graph.nodes called count → NodesCall raw called count
-made_calls name vars received raw graph made called count = kept_calls raw graph.nodes called count made.nodes_are
+pub made_calls : (name : List ℕ) (shared : ℕ) (vars : List (List ℕ)) (received : List ℕ) (raw : List Node) (graph : GraphShape) → IsMade name shared vars received raw graph → (called count : ℕ) → NodesCall graph.nodes called count → NodesCall raw called count
+made_calls name shared vars received raw graph made called count = retained_calls raw graph.nodes called count made.nodes_are
 
 -- ---- lowering
 
@@ -55,6 +55,7 @@ place_call p (insts.Goto place) = refl
 place_call p (insts.If test place) = refl
 place_call p (insts.Call into unit operands) = refl
 place_call p (insts.Print a) = refl
+place_call p (insts.TrapIf test number) = refl
 place_call p (insts.Return a) = refl
 
 -- a call of the nodes is a call of the body
@@ -73,7 +74,7 @@ all_call body called count (suc n) node e calls = nodes_call 0 body n node calle
 -- a graph makes no calls but those of its unit
 pub lowered_calls : (unit : UnitShape) (graph : GraphShape) → IsLowered unit graph → (called count : ℕ) → NodesCall graph.nodes called count → BodyCalls unit.body called count
 lowered_calls unit graph lowered called count c =
-    let all = kept_calls (all_nodes unit.body) graph.nodes called count lowered.made.nodes_are c in
+    let all = retained_calls (all_nodes unit.body) graph.nodes called count lowered.made.nodes_are c in
     all_call unit.body called count all.number all.node all.here all.calls
 
 -- ---- layout
@@ -91,6 +92,7 @@ renamed_call to (insts.Goto place) = refl
 renamed_call to (insts.If test place) = refl
 renamed_call to (insts.Call into unit operands) = ap (λ n. Some (unit, n)) (renamed_operands_long to operands)
 renamed_call to (insts.Print a) = refl
+renamed_call to (insts.TrapIf test number) = refl
 renamed_call to (insts.Return a) = refl
 
 -- a call of two bodies joined is a call of one of them
@@ -127,6 +129,7 @@ emitted_by_calls place (Start next) called count c = let here : slice_get [] c.p
 emitted_by_calls place (Skip next) called count c = let here : slice_get [] c.place ≡ Some c.inst = c.here in cc
 emitted_by_calls place (Assign x rhs next) called count c = one_call (insts.Assign x rhs) called count c
 emitted_by_calls place (Print a next) called count c = one_call (insts.Print a) called count c
+emitted_by_calls place (Guard test number next) called count c = one_call (insts.TrapIf test number) called count c
 emitted_by_calls place (Call into unit operands next) called count c = one_call (insts.Call into unit operands) called count c
 emitted_by_calls place (Test test taken other) called count c = one_call (insts.If test (place taken)) called count c
 emitted_by_calls place (Return a) called count c = one_call (insts.Return a) called count c
@@ -160,13 +163,13 @@ plain_calls received nodes plan called count c = go (either_calls (map insts.Rec
     go (inr here) = emitted_calls nodes place plan called count here
 
 -- new numbers of variables leave the calls
-renumbered_calls : (body : List Inst) (called count : ℕ) → BodyCalls (renumbered body) called count → BodyCalls body called count
-renumbered_calls body called count c =
-    let to = first_index (seen_in body) in
+renumbered_calls : (shared : ℕ) (body : List Inst) (called count : ℕ) → BodyCalls (renumbered shared body) called count → BodyCalls body called count
+renumbered_calls shared body called count c =
+    let to = first_index (seen_in shared body) in
     let from = mapped_from (renamed to) (slice_get body c.place) c.inst (sym (slice_get-map (renamed to) body c.place) ∙ c.here) in
     record { place = c.place; inst = from.0; here = from.1; calls = sym (renamed_call to from.0) ∙ ap inst_call from.2 ∙ c.calls }
 
 -- a unit makes no calls but those of its graph
-pub laid_calls : (vars : List (List ℕ)) (received : List ℕ) (nodes : List Node) (names : List (List ℕ)) (body : List Inst) → IsLaid vars received nodes names body → (called count : ℕ) → BodyCalls body called count → NodesCall nodes called count
-laid_calls vars received nodes names body laid called count c =
-    plain_calls received nodes laid.plan called count (renumbered_calls (plain_body received nodes laid.plan) called count (subst (λ b. BodyCalls b called count) laid.body_is c))
+pub laid_calls : (shared : ℕ) (vars : List (List ℕ)) (received : List ℕ) (nodes : List Node) (names : List (List ℕ)) (body : List Inst) → IsLaid shared vars received nodes names body → (called count : ℕ) → BodyCalls body called count → NodesCall nodes called count
+laid_calls shared vars received nodes names body laid called count c =
+    plain_calls received nodes laid.plan called count (renumbered_calls shared (plain_body received nodes laid.plan) called count (subst (λ b. BodyCalls b called count) laid.body_is c))

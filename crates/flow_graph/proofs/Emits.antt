@@ -7,7 +7,7 @@ use Rattle.mir_base.specs.declared.instructions.Inst.TheVariants as insts
 use Rattle.flow_graph.specs.declared.plan.Item.{Item}
 use Rattle.flow_graph.specs.declared.plan.Item.TheVariants.{Placed, Jump}
 use Rattle.flow_graph.specs.declared.nodes.Node.{Node}
-use Rattle.flow_graph.specs.declared.nodes.Node.TheVariants.{Start, Skip, Assign, Print, Call, Test, Return}
+use Rattle.flow_graph.specs.declared.nodes.Node.TheVariants.{Start, Skip, Assign, Print, Guard, Call, Test, Return}
 use Rattle.flow_graph.specs.Graphs.{AllWithin, succs_of}
 use Rattle.flow_graph.specs.Layouts.{emitted, emitted_by, item_insts, item_size, place_in, plain_body, size}
 use Rattle.flow_graph.specs.Placing.{ArePlaces, ItemsWithin, places_after}
@@ -58,6 +58,7 @@ module _ (nodes : List Node) (within : AllWithin nodes) (place place' : ℕ → 
   node_same n (Some (Skip next)) e = refl
   node_same n (Some (Assign x rhs next)) e = refl
   node_same n (Some (Print a next)) e = refl
+  node_same n (Some (Guard test number next)) e = refl
   node_same n (Some (Call into unit operands next)) e = refl
   node_same n (Some (Test test taken other)) e = ap (λ p. insts.If test p ∷ []) (same taken (within n 0 taken (ap (λ o. slice_get (succs_of o) 0) e)))
   node_same n (Some (Return a)) e = refl

@@ -6,12 +6,16 @@ use Rattle.std.proofs.lemmas.Option.{slice_get-map, slice_get_within}
 use Rattle.mir_base.specs.declared.instructions.Inst.{Inst}
 use Rattle.mir_base.specs.declared.instructions.Inst.TheVariants as insts
 use Rattle.mir_base.specs.declared.instructions.Test.{Test as Condition}
+use Rattle.mir_base.specs.Frames.{shared_vars}
+use Rattle.flow_graph.specs.NumberingLaws.{seen_grows}
+use Rattle.flow_graph.proofs.Globals.{shared_in, shared_index}
+use Rattle.std.proofs.lemmas.Bool.{cases_lt}
 use Rattle.mir_base.specs.Shapes.{inst_vars, receives_in, IsTarget}
 use Rattle.flow_graph.specs.declared.plan.Item.{Item}
 use Rattle.flow_graph.specs.declared.plan.Item.TheVariants.{Placed, Jump}
 use Rattle.flow_graph.specs.declared.nodes.Node.{Node}
-use Rattle.flow_graph.specs.declared.nodes.Node.TheVariants.{Start, Skip, Assign, Print, Call, Test, Return}
-use Rattle.flow_graph.specs.Graphs.{IsGraph, following}
+use Rattle.flow_graph.specs.declared.nodes.Node.TheVariants.{Start, Skip, Assign, Print, Guard, Call, Test, Return}
+use Rattle.flow_graph.specs.Graphs.{IsGraph, SharesVars, following}
 use Rattle.flow_graph.specs.Lowered.{CanLower, target_of}
 use Rattle.flow_graph.specs.Plans.{IsPlan, after_node, first_open, is_placed, next_item, start_succ}
 use Rattle.flow_graph.specs.Numbering.{is_in, first_index, renamed, renumbered, seen_in}
@@ -47,6 +51,7 @@ emits_none place (Some (Start next)) = none_here
 emits_none place (Some (Skip next)) = none_here
 emits_none place (Some (Assign x rhs next)) = only_one (insts.Assign x rhs) (λ y e. absurd (cc))
 emits_none place (Some (Print a next)) = only_one (insts.Print a) (λ y e. absurd (cc))
+emits_none place (Some (Guard test number next)) = only_one (insts.TrapIf test number) (λ y e. absurd (cc))
 emits_none place (Some (Call into unit operands next)) = only_one (insts.Call into unit operands) (λ y e. absurd (cc))
 emits_none place (Some (Test test taken other)) = only_one (insts.If test (place taken)) (λ y e. absurd (cc))
 emits_none place (Some (Return a)) = only_one (insts.Return a) (λ y e. absurd (cc))
@@ -76,6 +81,7 @@ receive_from to (Some (insts.Goto place)) x e = cc
 receive_from to (Some (insts.If test place)) x e = cc
 receive_from to (Some (insts.Call into unit operands)) x e = cc
 receive_from to (Some (insts.Print a)) x e = cc
+receive_from to (Some (insts.TrapIf test number)) x e = cc
 receive_from to (Some (insts.Return a)) x e = cc
 
 -- ---- targets
@@ -89,6 +95,7 @@ renamed_target to (Some (insts.Goto place)) = refl
 renamed_target to (Some (insts.If test place)) = refl
 renamed_target to (Some (insts.Call into unit operands)) = refl
 renamed_target to (Some (insts.Print a)) = refl
+renamed_target to (Some (insts.TrapIf test number)) = refl
 renamed_target to (Some (insts.Return a)) = refl
 
 -- some instruction of the body jumps there
@@ -132,6 +139,7 @@ module _ (nodes : List Node) (first : ℕ) (place : ℕ → ℕ) where
   node_jumps n older (Some (Skip next)) target e (p, t) = cc
   node_jumps n older (Some (Assign x rhs next)) target e t = let is = one_target (insts.Assign x rhs) target t in cc
   node_jumps n older (Some (Print a next)) target e t = let is = one_target (insts.Print a) target t in cc
+  node_jumps n older (Some (Guard test number next)) target e t = let is = one_target (insts.TrapIf test number) target t in cc
   node_jumps n older (Some (Call into unit operands next)) target e t = let is = one_target (insts.Call into unit operands) target t in cc
   node_jumps n older (Some (Test test taken other)) target e t = let is = one_target (insts.If test (place taken)) target t in tests 0 n older test taken other refl e cc
   node_jumps n older (Some (Return a)) target e t = let is = one_target (insts.Return a) target t in cc
@@ -175,7 +183,7 @@ module _ (nodes : List Node) (first : ℕ) (place : ℕ → ℕ) where
 
 -- ---- the layout
 
-module _ (vars : List (List ℕ)) (received : List ℕ) (nodes : List Node) (graph : IsGraph vars received nodes) (plan : List Item) (is_plan : IsPlan nodes (start_succ (slice_get nodes 0)) plan) (done : next_item nodes (start_succ (slice_get nodes 0)) plan ≡ None) where
+module _ (shared : ℕ) (vars : List (List ℕ)) (received : List ℕ) (nodes : List Node) (graph : IsGraph vars received nodes) (shares : SharesVars shared vars received) (plan : List Item) (is_plan : IsPlan nodes (start_succ (slice_get nodes 0)) plan) (done : next_item nodes (start_succ (slice_get nodes 0)) plan ≡ None) where
   abbrev first : ℕ
   first = start_succ (slice_get nodes 0)
 
@@ -186,27 +194,27 @@ module _ (vars : List (List ℕ)) (received : List ℕ) (nodes : List Node) (gra
   plain = plain_body received nodes plan
 
   abbrev to : ℕ → ℕ
-  to = first_index (seen_in plain)
+  to = first_index (seen_in shared plain)
 
-  receives_are : receives_in (renumbered plain) ≡ length received
+  receives_are : receives_in (renumbered shared plain) ≡ length received
   receives_are = renamed_receives to plain ∙ all_received received (emitted nodes place plan) (no_receive nodes place plan)
 
-  long : length (renumbered plain) ≡ length received + length (emitted nodes place plan)
+  long : length (renumbered shared plain) ≡ length received + length (emitted nodes place plan)
   long = length-map plain (renamed to) ∙ length-append (map insts.Receive received) (emitted nodes place plan) ∙ ap (λ n. n + length (emitted nodes place plan)) (length-map received insts.Receive)
 
   record Received (at x : ℕ) : Type 0 where
     old : ℕ
     here : slice_get received at ≡ Some old
     is : to old ≡ x
-    seen : is_in old (seen_in plain) ≡ true
+    seen : is_in old (seen_in shared plain) ≡ true
 
-  received_at : (at x : ℕ) → slice_get (renumbered plain) at ≡ Some (insts.Receive x) → Received at x
+  received_at : (at x : ℕ) → slice_get (renumbered shared plain) at ≡ Some (insts.Receive x) → Received at x
   received_at at x e =
       let from = receive_from to (slice_get plain at) x (sym (slice_get-map (renamed to) plain at) ∙ e) in record {
         old = from.0;
         here = early received (emitted nodes place plan) (all_none nodes place plan) at from.0 from.1;
         is = from.2;
-        seen = (inst_in (seen_in plain) plain at (insts.Receive from.0) (all_seen [] (flat_map inst_vars plain)) from.1).0;
+        seen = (inst_in (seen_in shared plain) plain at (insts.Receive from.0) (all_seen (shared_vars shared) (flat_map inst_vars plain)) from.1).0;
       }
 
   placed_target : (n : ℕ) → is_placed n plan ≡ true → (length received ≤ place n) × (place n ≤ length received + length (emitted nodes place plan))
@@ -219,30 +227,43 @@ module _ (vars : List (List ℕ)) (received : List ℕ) (nodes : List Node) (gra
       ∙ ap (λ k. k + length front.0) (length-append (emitted nodes place there.1) (item_insts nodes place (Placed n))) in
       (omega (arith, is), omega (arith, is, whole))
 
-  target_within : (at target : ℕ) → target_of (slice_get (renumbered plain) at) ≡ Some target → IsTarget (renumbered plain) target
+  target_within : (at target : ℕ) → target_of (slice_get (renumbered shared plain) at) ≡ Some target → IsTarget (renumbered shared plain) target
   target_within at target e =
       let plain_target : target_of (slice_get plain at) ≡ Some target = sym (renamed_target to (slice_get plain at)) ∙ ap target_of (sym (slice_get-map (renamed to) plain at)) ∙ e in
       go (either_targets (map insts.Receive received) (emitted nodes place plan) target (at, plain_target))
     where
-      go : Targets (map insts.Receive received) target ⊎ Targets (emitted nodes place plan) target → IsTarget (renumbered plain) target
+      go : Targets (map insts.Receive received) target ⊎ Targets (emitted nodes place plan) target → IsTarget (renumbered shared plain) target
       go (inl there) = absurd (receives_target_none received target there)
       go (inr here) =
           let placed = jumped_placed nodes first place plan target is_plan done (emitted_jumps nodes first place plan target here) in
           let within = placed_target placed.0 placed.1 in
           (omega (arith, receives_are, within.0, placed.2), omega (arith, long, within.1, placed.2))
 
-  lowers_again : CanLower (renumbered plain)
+  -- a variable that is no global gets the number of none
+  own_after : (old x : ℕ) → is_in old (seen_in shared plain) ≡ true → to old ≡ x → shared ≤ old → shared ≤ x
+  own_after old x seen is le = elim (cases_lt x shared) [
+    | inl lt ↦
+        let grows = seen_grows (shared_vars shared) (flat_map inst_vars plain) in
+        let here : to x ≡ x = ap (λ l. first_index l x) grows.1 ∙ shared_index shared x grows.0 lt in
+        let there : is_in x (seen_in shared plain) ≡ true = ap (is_in x) grows.1 ∙ shared_in shared x grows.0 lt in
+        let same : x ≡ old = positions_differ (seen_in shared plain) x old there seen (here ∙ sym is) in
+        absurd (omega (arith, lt, same, le))
+    | inr ge ↦ ge
+  ]
+
+  lowers_again : CanLower shared (renumbered shared plain)
   lowers_again = record {
     first = λ at x e. let r = received_at at x e in omega (arith, receives_are, slice_get_within received at r.old r.here);
     received = λ i j x e e'.
         let a = received_at i x e in
         let b = received_at j x e' in
-        let same : a.old ≡ b.old = positions_differ (seen_in plain) a.old b.old a.seen b.seen (a.is ∙ sym b.is) in
+        let same : a.old ≡ b.old = positions_differ (seen_in shared plain) a.old b.old a.seen b.seen (a.is ∙ sym b.is) in
         graph.can.received_differ i j (slice_get_within received i a.old a.here) (slice_get_within received j b.old b.here) (a.here ∙ ap Some same ∙ sym b.here);
+    own = λ i x e. (let a = received_at i x e in own_after a.old x a.seen a.is (shares.own i a.old a.here));
     targets = target_within;
   }
 
 -- the body of a layout can be lowered
-pub laid_lowers : (vars : List (List ℕ)) (received : List ℕ) (nodes : List Node) (names : List (List ℕ)) (body : List Inst) → IsGraph vars received nodes → IsLaid vars received nodes names body → CanLower body
-laid_lowers vars received nodes names body graph laid =
-    subst CanLower (sym laid.body_is) (lowers_again vars received nodes graph laid.plan laid.is_plan.is_plan laid.is_plan.complete)
+pub laid_lowers : (shared : ℕ) (vars : List (List ℕ)) (received : List ℕ) (nodes : List Node) (names : List (List ℕ)) (body : List Inst) → IsGraph vars received nodes → SharesVars shared vars received → IsLaid shared vars received nodes names body → CanLower shared body
+laid_lowers shared vars received nodes names body graph shares laid =
+    subst (CanLower shared) (sym laid.body_is) (lowers_again shared vars received nodes graph shares laid.plan laid.is_plan.is_plan laid.is_plan.complete)

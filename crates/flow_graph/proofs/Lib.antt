@@ -1,4 +1,4 @@
-pub mod Walks
+pub mod ReachWalks
 pub mod Ranks
 pub mod Made
 pub mod Keeps
@@ -10,11 +10,13 @@ pub mod Plans
 pub mod Scans
 pub mod Emits
 pub mod Places
+pub mod Globals
 pub mod Renames
 pub mod SeenLists
 pub mod Laid
 pub mod CallLaws
 pub mod Fitting
+pub mod LaidDivisions
+pub mod LoweredDivisions
 pub mod Whole
-pub mod Edits
 pub mod Blocking

@@ -1,23 +1,23 @@
--- The nodes that are kept make a graph.
+-- The nodes that are retained make a graph.
 use Rattle.std.proofs.Common.{◌≡◌, ℕ, zero, suc, ◌<◌, ◌≤◌, Bool, true, false, List, [], ◌∷◌, map, length, slice_get, Option, Some, None, option_map, refl, sym, ap, ◌∙◌, subst, arith}
 use Rattle.std.proofs.lemmas.Option.{slice_get-map, slice_get_within, slice_get-get_or}
 use Rattle.mir_base.specs.Shapes.{AllBelow}
 use Rattle.flow_graph.specs.declared.nodes.Node.{Node}
 use Rattle.flow_graph.specs.declared.nodes.Node.TheVariants.{Start, Skip}
 use Rattle.flow_graph.specs.Graphs.{IsEdge, Reached, at_start, along, node_succs, succs_of, succs_at, node_vars, CanMake, IsGraph}
-use Rattle.flow_graph.specs.Kept.{redirected, marked_below, marked, AreKept}
-use Rattle.flow_graph.specs.KeptLaws.{at_rank}
+use Rattle.flow_graph.specs.Retained.{redirected, marked_below, marked, AreRetained}
+use Rattle.flow_graph.specs.RetainedLaws.{at_rank}
 use Rattle.flow_graph.specs.NodeLaws.{mapped_from, redirected_start, redirected_succs, redirected_succs_of, redirected_vars}
 use Rattle.flow_graph.specs.BoundLaws.{reached_within}
 
--- a kept one and its old number
+-- a retained one and its old number
 record Preimage {A : Type 0} (marks : List Bool) (xs : List A) (n : ℕ) (x : A) : Type 0 where
   m : ℕ
   marks_it : slice_get marks m ≡ Some true
   ranks_it : marked_below marks m ≡ n
   is : slice_get xs m ≡ Some x
 
--- each item that is kept was marked, and its new number is how many before it were
+-- each item that is retained was marked, and its new number is how many before it were
 preimage : {A : Type 0} (marks : List Bool) (xs : List A) (n : ℕ) (x : A) → slice_get (marked marks xs) n ≡ Some x → Preimage marks xs n x
 preimage [] xs n x e = cc
 preimage (true ∷ marks) [] n x e = cc
@@ -33,18 +33,18 @@ rank_positive (b ∷ marks) zero e lt = absurd (omega (arith, lt))
 rank_positive (true ∷ marks) (suc s) e lt = omega arith
 rank_positive (false ∷ marks) (suc s) e lt = cc
 
-module _ (vars : List (List ℕ)) (received : List ℕ) (raw nodes : List Node) (can : CanMake vars received raw) (kept : AreKept raw nodes) where
+module _ (vars : List (List ℕ)) (received : List ℕ) (raw nodes : List Node) (can : CanMake vars received raw) (retained : AreRetained raw nodes) where
   abbrev marks : List Bool
-  marks = kept.marks
+  marks = retained.marks
 
   abbrev to : ℕ → ℕ
   to = marked_below marks
 
-  begun : slice_get marks 0 ≡ Some true
-  begun = (kept.are_marks.exact 0 (slice_get_within raw 0 _ can.start.1)).1 at_start
+  start_marked : slice_get marks 0 ≡ Some true
+  start_marked = (retained.are_marks.exact 0 (slice_get_within raw 0 _ can.start.1)).1 at_start
 
   image_of : (m : ℕ) → slice_get marks m ≡ Some true → slice_get nodes (to m) ≡ option_map (redirected to) (slice_get raw m)
-  image_of m e = ap (λ l. slice_get l (to m)) kept.are ∙ slice_get-map (redirected to) (marked marks raw) (to m) ∙ ap (option_map (redirected to)) (at_rank marks raw m e kept.are_marks.long)
+  image_of m e = ap (λ l. slice_get l (to m)) retained.are ∙ slice_get-map (redirected to) (marked marks raw) (to m) ∙ ap (option_map (redirected to)) (at_rank marks raw m e retained.are_marks.long)
 
   record Back (n : ℕ) (node : Node) : Type 0 where
     m : ℕ
@@ -56,11 +56,11 @@ module _ (vars : List (List ℕ)) (received : List ℕ) (raw nodes : List Node) 
 
   back : (n : ℕ) (node : Node) → slice_get nodes n ≡ Some node → Back n node
   back n node e =
-      let s = mapped_from (redirected to) (slice_get (marked marks raw) n) node (sym (slice_get-map (redirected to) (marked marks raw) n) ∙ sym (ap (λ l. slice_get l n) kept.are) ∙ e) in
+      let s = mapped_from (redirected to) (slice_get (marked marks raw) n) node (sym (slice_get-map (redirected to) (marked marks raw) n) ∙ sym (ap (λ l. slice_get l n) retained.are) ∙ e) in
       let p = preimage marks raw n s.0 s.1 in
       record { m = p.m; marks_it = p.marks_it; ranks_it = p.ranks_it; old = s.0; is = p.is; same = s.2 }
 
-  -- an edge among the kept nodes is one among the old
+  -- an edge among the retained nodes is one among the old
   record EdgeBack (n slot s : ℕ) : Type 0 where
     m : ℕ
     t : ℕ
@@ -77,16 +77,16 @@ module _ (vars : List (List ℕ)) (received : List ℕ) (raw nodes : List Node) 
       record { m = b.m; t = p.0; marks_it = b.marks_it; edge = ap (λ o. slice_get (succs_of o) slot) b.is ∙ p.1; same = p.2 }
 
   reached_of : (m : ℕ) → slice_get marks m ≡ Some true → m < length raw → Reached raw m
-  reached_of m e lt = (kept.are_marks.exact m lt).0 e
+  reached_of m e lt = (retained.are_marks.exact m lt).0 e
 
   marked_of : (m : ℕ) → Reached raw m → m < length raw → slice_get marks m ≡ Some true
-  marked_of m r lt = (kept.are_marks.exact m lt).1 r
+  marked_of m r lt = (retained.are_marks.exact m lt).1 r
 
   rank_within : (m : ℕ) (node : Node) → slice_get marks m ≡ Some true → slice_get raw m ≡ Some node → to m < length nodes
   rank_within m node e is = slice_get_within nodes (to m) (redirected to node) (image_of m e ∙ ap (option_map (redirected to)) is)
 
   mark_within : (m : ℕ) → slice_get marks m ≡ Some true → m < length raw
-  mark_within m e = omega (arith, slice_get_within marks m true e, kept.are_marks.long)
+  mark_within m e = omega (arith, slice_get_within marks m true e, retained.are_marks.long)
 
   there : (m : ℕ) → m < length raw → (node : Node) × (slice_get raw m ≡ Some node)
   there m lt = (_, slice_get-get_or raw m (Skip 0) lt)
@@ -97,7 +97,7 @@ module _ (vars : List (List ℕ)) (received : List ℕ) (raw nodes : List Node) 
       let r = along b.m slot b.t (reached_of b.m b.marks_it (mark_within b.m b.marks_it)) b.edge in
       let is = marked_of b.t r old.1 in
       let node = there b.t old.1 in
-      (subst (λ k. 1 ≤ k) b.same (rank_positive marks b.t begun old.0), subst (λ k. k < length nodes) b.same (rank_within b.t node.0 is node.1))
+      (subst (λ k. 1 ≤ k) b.same (rank_positive marks b.t start_marked old.0), subst (λ k. k < length nodes) b.same (rank_within b.t node.0 is node.1))
 
   reach : (m : ℕ) → Reached raw m → Reached nodes (to m)
   reach zero at_start = at_start
@@ -110,7 +110,7 @@ module _ (vars : List (List ℕ)) (received : List ℕ) (raw nodes : List Node) 
   pub make_graph : IsGraph vars received nodes
   make_graph = record {
     can = record {
-      start = (to can.start.0, image_of 0 begun ∙ ap (option_map (redirected to)) can.start.1);
+      start = (to can.start.0, image_of 0 start_marked ∙ ap (option_map (redirected to)) can.start.1);
       only = λ n s e. let b = back n (Start s) e in let t = redirected_start to b.old s b.same in sym b.ranks_it ∙ ap to (can.only b.m t.0 (b.is ∙ ap Some t.1));
       succs = λ n slot s e. succs_inner n slot s (edge_back_at n slot s (slice_get nodes n) refl e);
       below = λ n node e. let b = back n node e in subst (AllBelow (length vars)) (sym (redirected_vars to b.old) ∙ ap node_vars b.same) (can.below b.m b.old b.is);

@@ -8,7 +8,7 @@ use Rattle.mir_base.specs.Shapes.{receives_in}
 use Rattle.flow_graph.specs.declared.plan.Item.{Item}
 use Rattle.flow_graph.specs.declared.plan.Item.TheVariants.{Placed, Jump}
 use Rattle.flow_graph.specs.declared.nodes.Node.{Node}
-use Rattle.flow_graph.specs.declared.nodes.Node.TheVariants.{Start, Skip, Assign, Print, Call, Test, Return}
+use Rattle.flow_graph.specs.declared.nodes.Node.TheVariants.{Start, Skip, Assign, Print, Guard, Call, Test, Return}
 use Rattle.flow_graph.specs.Graphs.{following}
 use Rattle.std.specs.Option.{option_or}
 use Rattle.flow_graph.specs.Plans.{IsPlan, after_node, first_open, is_placed, next_item, open_at}
@@ -40,6 +40,7 @@ receives_append (insts.Goto place ∷ xs) ys e e' = refl
 receives_append (insts.If test place ∷ xs) ys e e' = refl
 receives_append (insts.Call into unit operands ∷ xs) ys e e' = refl
 receives_append (insts.Print a ∷ xs) ys e e' = refl
+receives_append (insts.TrapIf test number ∷ xs) ys e e' = refl
 receives_append (insts.Return a ∷ xs) ys e e' = refl
 
 -- what a node emits: no receive, and equally many instructions whatever the places are
@@ -49,6 +50,7 @@ emits place (Some (Start next)) = (refl, refl)
 emits place (Some (Skip next)) = (refl, refl)
 emits place (Some (Assign x rhs next)) = (refl, refl)
 emits place (Some (Print a next)) = (refl, refl)
+emits place (Some (Guard test number next)) = (refl, refl)
 emits place (Some (Call into unit operands next)) = (refl, refl)
 emits place (Some (Test test taken other)) = (refl, refl)
 emits place (Some (Return a)) = (refl, refl)
@@ -91,6 +93,7 @@ module _ (nodes : List Node) (first : ℕ) where
   open_at_fresh plan (Some (Skip next)) t e = cc
   open_at_fresh plan (Some (Assign x rhs next)) t e = cc
   open_at_fresh plan (Some (Print a next)) t e = cc
+  open_at_fresh plan (Some (Guard test number next)) t e = cc
   open_at_fresh plan (Some (Call into unit operands next)) t e = cc
   open_at_fresh plan (Some (Return a)) t e = cc
   open_at_fresh plan (Some (Test test taken other)) t e = chosen (is_placed taken plan) refl e

@@ -1,11 +1,11 @@
--- The numbers that the marked nodes get, and the nodes that are kept.
+-- The numbers that the marked nodes get, and the nodes that are retained.
 use Rattle.std.proofs.Common.{◌≡◌, ℕ, zero, suc, ◌+◌, ◌<◌, Bool, true, false, cond, List, [], ◌∷◌, ◌++◌, length, slice_get, slice_index_or, Some, inl, inr, refl, sym, ap, ◌∙◌, arith, map, drop, append_assoc}
 use Rattle.std.proofs.lemmas.Bool.{cases_lt}
 use Rattle.std.proofs.lemmas.Option.{slice_get-get_or, get_or_from_slice_get}
 use Rattle.flow_graph.specs.declared.nodes.Node.{Node}
-use Rattle.flow_graph.specs.declared.nodes.Node.TheVariants.{Start, Skip, Assign, Print, Call, Test, Return}
+use Rattle.flow_graph.specs.declared.nodes.Node.TheVariants.{Start, Skip, Assign, Print, Guard, Call, Test, Return}
 use Rattle.flow_graph.specs.Graphs.{SuccsBelow}
-use Rattle.flow_graph.specs.Kept.{marked_below, marked, redirected, AreRanks}
+use Rattle.flow_graph.specs.Retained.{marked_below, marked, redirected, AreRanks}
 use Rattle.flow_graph.specs.ListLaws.{get_seam, get_left, drop_at}
 
 -- the rank after a marked node is one more
@@ -51,20 +51,21 @@ redirects_same marks ranks node are below = by_cases node below
     by_cases (Skip next) h = ap Skip (one next h)
     by_cases (Assign x rhs next) h = ap (Assign x rhs) (one next h)
     by_cases (Print a next) h = ap (Print a) (one next h)
+    by_cases (Guard test number next) h = ap (Guard test number) (one next h)
     by_cases (Call into unit operands next) h = ap (Call into unit operands) (one next h)
     by_cases (Test test taken other) h = ap (λ n. Test test n (slice_index_or ranks other 0)) (one taken h.0) ∙ ap (Test test (marked_below marks taken)) (one other h.1)
     by_cases (Return a) h = refl
 
--- one node is kept or dropped
-pub keep_one : (f : Node → Node) (marks : List Bool) (kept kept' rest rest' : List Node) (i : ℕ) (b : Bool) (node node' : Node) (all : List Node) → slice_get marks i ≡ Some b → rest ≡ node ∷ rest' → node' ≡ f node → kept' ≡ cond b (kept ++ node' ∷ []) kept → kept ++ map f (marked (drop i marks) rest) ≡ all → kept' ++ map f (marked (drop (i + 1) marks) rest') ≡ all
-keep_one f marks kept kept' rest rest' i true node node' all is e e' e'' h =
+-- one node is retained or dropped
+pub retain_one : (f : Node → Node) (marks : List Bool) (retained retained' rest rest' : List Node) (i : ℕ) (b : Bool) (node node' : Node) (all : List Node) → slice_get marks i ≡ Some b → rest ≡ node ∷ rest' → node' ≡ f node → retained' ≡ cond b (retained ++ node' ∷ []) retained → retained ++ map f (marked (drop i marks) rest) ≡ all → retained' ++ map f (marked (drop (i + 1) marks) rest') ≡ all
+retain_one f marks retained retained' rest rest' i true node node' all is e e' e'' h =
     let step : map f (marked (drop i marks) rest) ≡ f node ∷ map f (marked (drop (i + 1) marks) rest') = ap (λ l. map f (marked l rest)) (drop_at marks i true is) ∙ ap (λ l. map f (marked (true ∷ drop (i + 1) marks) l)) e in
-    ap (λ l. l ++ map f (marked (drop (i + 1) marks) rest')) (e'' ∙ ap (λ n. kept ++ n ∷ []) e') ∙ append_assoc kept (f node ∷ []) (map f (marked (drop (i + 1) marks) rest')) ∙ ap (λ l. kept ++ l) (sym step) ∙ h
-keep_one f marks kept kept' rest rest' i false node node' all is e e' e'' h =
+    ap (λ l. l ++ map f (marked (drop (i + 1) marks) rest')) (e'' ∙ ap (λ n. retained ++ n ∷ []) e') ∙ append_assoc retained (f node ∷ []) (map f (marked (drop (i + 1) marks) rest')) ∙ ap (λ l. retained ++ l) (sym step) ∙ h
+retain_one f marks retained retained' rest rest' i false node node' all is e e' e'' h =
     let step : map f (marked (drop i marks) rest) ≡ map f (marked (drop (i + 1) marks) rest') = ap (λ l. map f (marked l rest)) (drop_at marks i false is) ∙ ap (λ l. map f (marked (false ∷ drop (i + 1) marks) l)) e in
-    ap (λ l. l ++ map f (marked (drop (i + 1) marks) rest')) e'' ∙ ap (λ l. kept ++ l) (sym step) ∙ h
+    ap (λ l. l ++ map f (marked (drop (i + 1) marks) rest')) e'' ∙ ap (λ l. retained ++ l) (sym step) ∙ h
 
--- no node is kept of none
+-- no node is retained of none
 pub none_marked : (f : Node → Node) (marks : List Bool) (i : ℕ) → map f (marked (drop i marks) []) ≡ []
 none_marked f marks i = go (drop i marks)
   where

@@ -1,5 +1,5 @@
 -- To number the variables of a body by their first occurrence changes nothing, and makes it tidy.
-use Rattle.std.proofs.Common.{◌≡◌, ℕ, zero, suc, ◌+◌, ◌<◌, Bool, true, false, not, int_eq, cond, eqb, nat_eq, ◌||◌, List, [], ◌∷◌, ◌++◌, map, flat_map, length, take, slice_get, slice_index_or, ℤ, pos, Option, Some, None, option_map, inl, inr, refl, sym, ap, ◌∙◌, subst, arith, le_refl, append_assoc, append-nil, length-append, eqb-true}
+use Rattle.std.proofs.Common.{◌≡◌, ℕ, zero, suc, ◌+◌, ◌<◌, ◌≤◌, Bool, true, false, not, int_eq, cond, eqb, nat_eq, ◌||◌, List, [], ◌∷◌, ◌++◌, map, flat_map, length, take, slice_get, slice_index_or, ℤ, pos, Option, Some, None, option_map, inl, inr, refl, sym, ap, ◌∙◌, subst, arith, le_refl, append_assoc, append-nil, length-append, eqb-true, zero-add}
 use Rattle.std.proofs.lemmas.Bool.{eq-eqb, lt-ltb, le-ltb, cases_lt}
 use Rattle.std.proofs.lemmas.Bool.Decides.{eqb_tells}
 use Rattle.std.proofs.lemmas.Option.{slice_get-map, slice_get-get_or, slice_get_within, get_or_from_slice_get}
@@ -12,19 +12,22 @@ use Rattle.mir_base.specs.declared.instructions.Rhs.TheVariants.{Plain, Unary, B
 use Rattle.mir_base.specs.declared.operators.Op.{Op}
 use Rattle.mir_base.specs.declared.instructions.Test.{Test}
 use Rattle.mir_base.specs.declared.instructions.Test.TheVariants.{Rel, Holds, Fails}
-use Rattle.mir_base.specs.declared.operators.Trap.TheVariants.{ZeroDivisor}
+use Rattle.mir_base.specs.declared.operators.Trap.TheVariants.{ZeroDivisor, Raised}
 use Rattle.mir_base.specs.declared.instructions.Inst.{Inst}
-use Rattle.mir_base.specs.declared.instructions.Inst.TheVariants.{Receive, Assign, Goto, If, Call, Print, Return}
+use Rattle.mir_base.specs.declared.instructions.Inst.TheVariants.{Receive, Assign, Goto, If, Call, Print, TrapIf, Return}
 use Rattle.mir_base.specs.Numbers.{relation_holds, traps, value_of_op, value_of_un_op}
-use Rattle.mir_base.specs.Frames.{Answer, Frame, Values, with_value, resumed, Continues, Traps, all_zero}
+use Rattle.mir_base.specs.Frames.{Answer, Frame, Values, first_frame, shared_values, shared_vars, with_first, with_value, resumed, Continues, Traps, all_zero}
 use Rattle.mir_base.specs.Units.{operand_value, test_holds, at, assigned, assign_transition, inst_transition, body_code}
 use Rattle.mir_base.specs.UnitRuns.{UnitSame, UnitCheaper, body_machine}
+use Rattle.mir_base.specs.SharedLaws.{body_hands, shared_below, shared_equal, shared_long, with_first_other, with_first_same}
 use Rattle.mir_base.specs.BelowLaws.{all_below_append, all_below_at}
 use Rattle.mir_base.specs.Shapes.{receives_in, operand_vars, rhs_vars, test_vars, into_vars, inst_vars, numbered_from, AllDiffer, AllBelow, IsTidy}
 use Rattle.mir_base.specs.Locksteps.{Alike, Lockstep}
 use Rattle.mir_base.specs.LockstepLaws.{lockstep_same, lockstep_cheaper}
 use Rattle.flow_graph.specs.Numbering.{is_in, first_index, renamed, renamed_operand, renamed_rhs, renamed_test, renumbered, seen_after, seen_in}
 use Rattle.flow_graph.specs.ListLaws.{get_seam, get_left, listed_in}
+use Rattle.flow_graph.proofs.Globals.{shared_count, shared_differ, shared_in, shared_index, shared_misses, shared_names}
+use Rattle.std.proofs.lemmas.List.FromFn.{map-range_with_len_more}
 use Rattle.flow_graph.specs.NumberingLaws.{is_in_first, is_in_last, seen_grows}
 
 -- ---- the list of the variables seen
@@ -64,7 +67,7 @@ inst_in seen (i ∷ body) zero inst h e = let same : i ≡ inst = cc in subst (�
 inst_in seen (i ∷ body) (suc place) inst h e = inst_in seen body place inst (all_back seen (inst_vars i) (flat_map inst_vars body) h) e
 
 -- the number at the place of x is x
-position_holds : (seen : List ℕ) (x : ℕ) → is_in x seen ≡ true → slice_get seen (first_index seen x) ≡ Some x
+pub position_holds : (seen : List ℕ) (x : ℕ) → is_in x seen ≡ true → slice_get seen (first_index seen x) ≡ Some x
 position_holds [] x e = cc
 position_holds (y ∷ ys) x e = chosen (eqb y x) refl e (position_holds ys x)
   where
@@ -91,9 +94,10 @@ renamed_receives to (Goto place ∷ body) = refl
 renamed_receives to (If test place ∷ body) = refl
 renamed_receives to (Call into unit operands ∷ body) = refl
 renamed_receives to (Print a ∷ body) = refl
+renamed_receives to (TrapIf test number ∷ body) = refl
 renamed_receives to (Return a ∷ body) = refl
 
-module _ (seen : List ℕ) (body : List Inst) (all : AllIn seen (flat_map inst_vars body)) where
+module _ (shared : ℕ) (seen more : List ℕ) (begins : seen ≡ shared_vars shared ++ more) (body : List Inst) (all : AllIn seen (flat_map inst_vars body)) where
   abbrev to : ℕ → ℕ
   to = first_index seen
 
@@ -117,6 +121,29 @@ module _ (seen : List ℕ) (body : List Inst) (all : AllIn seen (flat_map inst_v
               | inr t ↦ ap (λ c. cond c b (w (to y))) t.0 ∙ same y iny ∙ sym (ap (λ c. cond c a (v y)) n.0)
             ]
       ]
+
+  -- the globals keep their numbers, and no other variable gets one of theirs
+  kept_in : (x : ℕ) → x < shared → is_in x seen ≡ true
+  kept_in x lt = ap (is_in x) begins ∙ shared_in shared x more lt
+
+  kept_index : (x : ℕ) → x < shared → to x ≡ x
+  kept_index x lt = ap (λ l. first_index l x) begins ∙ shared_index shared x more lt
+
+  kept_from : (x : ℕ) → is_in x seen ≡ true → to x < shared → x < shared
+  kept_from x in_ lt = let same : to x ≡ x = positions_differ seen (to x) x (kept_in (to x) lt) in_ (kept_index (to x) lt) in omega (arith, lt, same)
+
+  -- where the globals get the same values on both sides, all values stay the same
+  same_first : (globals : List ℤ) (v w : Values) → length globals ≡ shared → SameValues v w → SameValues (with_first globals v) (with_first globals w)
+  same_first globals v w long same x in_ = elim (cases_lt x shared) [
+    | inl lt ↦ ap (with_first globals w) (kept_index x lt) ∙ with_first_same globals w v x (omega (arith, lt, long))
+    | inr ge ↦ elim (cases_lt (to x) shared) [
+      | inl lt ↦ (let low = kept_from x in_ lt in absurd (omega (arith, low, ge)))
+      | inr ge' ↦ with_first_other globals w (to x) (omega (arith, ge', long)) ∙ same x in_ ∙ sym (with_first_other globals v x (omega (arith, ge, long)))
+    ]
+  ]
+
+  same_shared : (v w : Values) → SameValues v w → shared_values shared w ≡ shared_values shared v
+  same_shared v w same = shared_equal shared shared w v (le_refl shared) (λ x lt. ap w (sym (kept_index x lt)) ∙ same x (kept_in x lt))
 
   same_operand : (v w : Values) (a : Operand) → SameValues v w → AllIn seen (operand_vars a) → operand_value w (renamed_operand to a) ≡ operand_value v a
   same_operand v w (Var x) same h = same x h.0
@@ -153,11 +180,12 @@ module _ (seen : List ℕ) (body : List Inst) (all : AllIn seen (flat_map inst_v
       let eb = same_operand f.values w b same (all_back seen (operand_vars a) (operand_vars b) h) in
       binary f w x op _ _ _ _ p _ _ in_ ea eb (ap (traps op) eb) same
 
-  resumes : (f : Frame) (w : Values) (into : Option ℕ) (a : Answer) (p : ℕ) → AllIn seen (into_vars into) → SameValues f.values w → Renamed (resumed into a (at p f)) (resumed (option_map to into) a (at p (record f { values = w })))
-  resumes f w None a p h same = record_renamed f.values w p f.arguments same
-  resumes f w (Some x) a p h same = record_renamed (with_value x a.value f.values) (with_value (to x) a.value w) p f.arguments (set_same f.values w x a.value a.value h.0 refl same)
+  resumes : (f : Frame) (w : Values) (into : Option ℕ) (a : Answer) (p : ℕ) → AllIn seen (into_vars into) → length a.globals ≡ shared → SameValues f.values w → Renamed (resumed into a (at p f)) (resumed (option_map to into) a (at p (record f { values = w })))
+  resumes f w None a p h long same = record_renamed (with_first a.globals f.values) (with_first a.globals w) p f.arguments (same_first a.globals f.values w long same)
+  resumes f w (Some x) a p h long same =
+      record_renamed (with_value x a.value (with_first a.globals f.values)) (with_value (to x) a.value (with_first a.globals w)) p f.arguments (set_same (with_first a.globals f.values) (with_first a.globals w) x a.value a.value h.0 refl (same_first a.globals f.values w long same))
 
-  inst_alike : (f : Frame) (w : Values) (inst : Inst) → AllIn seen (inst_vars inst) → SameValues f.values w → Alike Renamed (inst_transition (Some inst) f) (inst_transition (Some (renamed to inst)) (record f { values = w }))
+  inst_alike : (f : Frame) (w : Values) (inst : Inst) → AllIn seen (inst_vars inst) → SameValues f.values w → Alike Renamed (inst_transition shared (Some inst) f) (inst_transition shared (Some (renamed to inst)) (record f { values = w }))
   inst_alike f w (Receive x) h same = (le_refl 0, sets f w x _ _ (f.place + 1) h.0 refl same)
   inst_alike f w (Assign x rhs) h same = assigns f w x rhs (f.place + 1) h.0 h.1 same
   inst_alike f w (Goto place) h same = (le_refl 0, record_renamed f.values w place f.arguments same)
@@ -168,41 +196,57 @@ module _ (seen : List ℕ) (body : List Inst) (all : AllIn seen (flat_map inst_v
       chosen false false e = record_renamed f.values w (f.place + 1) f.arguments same
       chosen true false e = cc
       chosen false true e = cc
-  inst_alike f w (Call into unit operands) h same =
-      (refl, ap (λ l. record { arguments = l }) (sym (same_operands f.values w operands same (all_back seen (into_vars into) (flat_map operand_vars operands) h))), λ a fits. resumes f w into a (f.place + 1) (all_first seen (into_vars into) (flat_map operand_vars operands) h) same)
+  inst_alike f w (Call into unit operands) h same = (
+    refl,
+    ap (λ l. record { arguments = l; globals = shared_values shared f.values }) (sym (same_operands f.values w operands same (all_back seen (into_vars into) (flat_map operand_vars operands) h)))
+        ∙ ap (λ l. record { arguments = map (operand_value w) (map (renamed_operand to) operands); globals = l }) (sym (same_shared f.values w same)),
+    λ a fits. resumes f w into a (f.place + 1) (all_first seen (into_vars into) (flat_map operand_vars operands) h) (fits.globals.long ∙ shared_long shared f.values) same,
+  )
   inst_alike f w (Print a) h same = (sym (same_operand f.values w a same h), record_renamed f.values w (f.place + 1) f.arguments same)
-  inst_alike f w (Return a) h same = ap (λ v. record { value = v }) (sym (same_operand f.values w a same h))
+  inst_alike f w (TrapIf test number) h same = chosen (test_holds f.values test) (test_holds w (renamed_test to test)) (same_test f.values w test same h)
+    where
+      chosen : (b c : Bool) → c ≡ b → Alike Renamed (cond b (Traps (Raised number) 0) (Continues 0 (at (f.place + 1) f))) (cond c (Traps (Raised number) 0) (Continues 0 (at (f.place + 1) (record f { values = w }))))
+      chosen true true e = refl
+      chosen false false e = (le_refl 0, record_renamed f.values w (f.place + 1) f.arguments same)
+      chosen true false e = cc
+      chosen false true e = cc
+  inst_alike f w (Return a) h same =
+      ap (λ v. record { value = v; globals = shared_values shared f.values }) (sym (same_operand f.values w a same h)) ∙ ap (λ l. record { value = operand_value w (renamed_operand to a); globals = l }) (sym (same_shared f.values w same))
 
-  at_alike : (f : Frame) (w : Values) (o : Option Inst) → slice_get body f.place ≡ o → SameValues f.values w → Alike Renamed (inst_transition o f) (inst_transition (option_map (renamed to) o) (record f { values = w }))
-  at_alike f w None e same = refl
+  at_alike : (f : Frame) (w : Values) (o : Option Inst) → slice_get body f.place ≡ o → SameValues f.values w → Alike Renamed (inst_transition shared o f) (inst_transition shared (option_map (renamed to) o) (record f { values = w }))
+  at_alike f w None e same = ap (λ l. record { value = pos 0; globals = l }) (sym (same_shared f.values w same))
   at_alike f w (Some inst) e same = inst_alike f w inst (inst_in seen body f.place inst all e) same
 
-  steps : (f g : Frame) → Renamed f g → Alike Renamed (body_code body f) (body_code (map (renamed to) body) g)
+  steps : (f g : Frame) → Renamed f g → Alike Renamed (body_code shared body f) (body_code shared (map (renamed to) body) g)
   steps f g s =
       let a = at_alike f s.values (slice_get body f.place) refl s.same in
-      let b = subst (λ o. Alike Renamed (body_code body f) (inst_transition o (record f { values = s.values }))) (sym (slice_get-map (renamed to) body f.place)) a in
-      subst (λ h. Alike Renamed (body_code body f) (body_code (map (renamed to) body) h)) (sym s.is) b
+      let b = subst (λ o. Alike Renamed (body_code shared body f) (inst_transition shared o (record f { values = s.values }))) (sym (slice_get-map (renamed to) body f.place)) a in
+      subst (λ h. Alike Renamed (body_code shared body f) (body_code shared (map (renamed to) body) h)) (sym s.is) b
 
-  lockstep : Lockstep (body_machine body) (body_machine (map (renamed to) body)) Renamed
+  lockstep : Lockstep (body_machine shared body) (body_machine shared (map (renamed to) body)) Renamed
   lockstep = record {
     receives = sym (renamed_receives to body);
-    starts = λ entry is. record_renamed all_zero all_zero 0 entry.arguments (λ x in_. refl);
+    shared = refl;
+    hands = body_hands shared body;
+    starts = λ entry is. record_renamed (first_frame entry).values (first_frame entry).values 0 entry.arguments (same_first entry.globals all_zero all_zero is.globals.long (λ x in_. refl));
     steps = steps;
   }
 
-  pub seen_same : UnitSame (body_machine body) (body_machine (map (renamed to) body))
+  pub seen_same : UnitSame (body_machine shared body) (body_machine shared (map (renamed to) body))
   seen_same = lockstep_same _ _ Renamed lockstep
 
-  pub seen_cheaper : UnitCheaper (body_machine body) (body_machine (map (renamed to) body))
+  pub seen_cheaper : UnitCheaper (body_machine shared body) (body_machine shared (map (renamed to) body))
   seen_cheaper = lockstep_cheaper _ _ Renamed lockstep
 
 -- a renumbered body does the same
-pub renumbered_same : (body : List Inst) → UnitSame (body_machine body) (body_machine (renumbered body))
-renumbered_same body = seen_same (seen_in body) body (all_seen [] (flat_map inst_vars body))
+pub renumbered_same : (shared : ℕ) (body : List Inst) → UnitSame (body_machine shared body) (body_machine shared (renumbered shared body))
+renumbered_same shared body =
+    let grows = seen_grows (shared_vars shared) (flat_map inst_vars body) in seen_same shared (seen_in shared body) grows.0 grows.1 body (all_seen (shared_vars shared) (flat_map inst_vars body))
 
 -- and evaluates no more operators
-pub renumbered_cheaper : (body : List Inst) → UnitCheaper (body_machine body) (body_machine (renumbered body))
-renumbered_cheaper body = seen_cheaper (seen_in body) body (all_seen [] (flat_map inst_vars body))
+pub renumbered_cheaper : (shared : ℕ) (body : List Inst) → UnitCheaper (body_machine shared body) (body_machine shared (renumbered shared body))
+renumbered_cheaper shared body =
+    let grows = seen_grows (shared_vars shared) (flat_map inst_vars body) in seen_cheaper shared (seen_in shared body) grows.0 grows.1 body (all_seen (shared_vars shared) (flat_map inst_vars body))
 
 -- ---- tidy
 
@@ -245,6 +289,7 @@ renamed_inst_vars to (If test place) = renamed_test_vars to test
 renamed_inst_vars to (Call None unit operands) = renamed_operands_vars to operands
 renamed_inst_vars to (Call (Some x) unit operands) = ap (λ l. to x ∷ l) (renamed_operands_vars to operands)
 renamed_inst_vars to (Print a) = renamed_operand_vars to a
+renamed_inst_vars to (TrapIf test number) = renamed_test_vars to test
 renamed_inst_vars to (Return a) = renamed_operand_vars to a
 
 -- the variables of a renamed body are its variables renamed
@@ -289,9 +334,11 @@ numbered_seen s (x ∷ xs) F e = chosen (is_in x s) refl e (numbered_seen s xs F
         ap (λ b. cond b (numbered_from (length s) (map (first_index F) xs)) (cond (nat_eq (first_index F x) (length s)) (numbered_from (suc (length s)) (map (first_index F) xs)) None)) (le-ltb (first_index F x) (length s) (omega (arith, here))) ∙ ap (λ b. cond b (numbered_from (suc (length s)) (map (first_index F) xs)) None) (eq-eqb (first_index F x) (length s) here) ∙ ap (λ n. numbered_from n (map (first_index F) xs)) (sym long) ∙ ih' e'
 
 -- its variables are numbered by their first occurrence
-pub renumbered_numbered : (body : List Inst) → numbered_from 0 (flat_map inst_vars (renumbered body)) ≡ Some (length (seen_in body))
-renumbered_numbered body =
-    ap (numbered_from 0) (renamed_vars (first_index (seen_in body)) body) ∙ numbered_seen [] (flat_map inst_vars body) (seen_in body) refl
+pub renumbered_numbered : (shared : ℕ) (body : List Inst) → numbered_from shared (flat_map inst_vars (renumbered shared body)) ≡ Some (length (seen_in shared body))
+renumbered_numbered shared body =
+    ap (numbered_from shared) (renamed_vars (first_index (seen_in shared body)) body)
+    ∙ ap (λ n. numbered_from n (map (first_index (seen_in shared body)) (flat_map inst_vars body))) (sym (shared_count shared))
+    ∙ numbered_seen (shared_vars shared) (flat_map inst_vars body) (seen_in shared body) refl
 
 -- an item that is not found in a list stands nowhere in it
 not_there : (s : List ℕ) (y i : ℕ) → is_in y s ≡ false → slice_get s i ≡ Some y → ⊥
@@ -352,16 +399,29 @@ names_differ vars seen h h' below i j li lj e =
     let xy : x ≡ y = h x y bx by (p ∙ same ∙ sym q) in
     h' i j (omega (arith, li, long)) (omega (arith, lj, long)) (a ∙ ap Some xy ∙ sym b)
 
--- an empty list has distinct items
-none_differ : AllDiffer {A = ℕ} []
-none_differ i j li lj e = absurd (omega (arith, li))
-
 -- so it is tidy
-pub renumbered_tidy : (vars : List (List ℕ)) (body : List Inst) → AllDiffer vars → AllBelow (length vars) (flat_map inst_vars body) → IsTidy (map (λ x. slice_index_or vars x []) (seen_in body)) (renumbered body)
-renumbered_tidy vars body differ below = record {
-  numbered = renumbered_numbered body ∙ ap Some (sym (length-map (seen_in body) (λ x. slice_index_or vars x [])));
-  differ = names_differ vars (seen_in body) differ (seen_differ [] (flat_map inst_vars body) none_differ) (seen_below (length vars) [] (flat_map inst_vars body) tt below);
+pub renumbered_tidy : (shared : ℕ) (vars : List (List ℕ)) (body : List Inst) → shared ≤ length vars → AllDiffer vars → AllBelow (length vars) (flat_map inst_vars body) → IsTidy shared (map (λ x. slice_index_or vars x []) (seen_in shared body)) (renumbered shared body)
+renumbered_tidy shared vars body least differ below = record {
+  numbered = renumbered_numbered shared body ∙ ap Some (sym (length-map (seen_in shared body) (λ x. slice_index_or vars x [])));
+  differ = names_differ vars (seen_in shared body) differ (seen_differ (shared_vars shared) (flat_map inst_vars body) (shared_differ shared)) (seen_below (length vars) (shared_vars shared) (flat_map inst_vars body) (shared_below (length vars) shared least) below);
 }
+
+-- the names of the globals are its first ones
+pub renumbered_names : (shared : ℕ) (vars : List (List ℕ)) (body : List Inst) → shared ≤ length vars → take shared (map (λ x. slice_index_or vars x []) (seen_in shared body)) ≡ take shared vars
+renumbered_names shared vars body least =
+    let grows = seen_grows (shared_vars shared) (flat_map inst_vars body) in ap (λ l. take shared (map (λ x. slice_index_or vars x []) l)) grows.1 ∙ shared_names shared vars grows.0 least
+
+-- one more of the globals is seen
+pub shared_more : (x : ℕ) (seen seen' : List ℕ) → seen ≡ shared_vars x → seen' ≡ seen_after seen (x ∷ []) → seen' ≡ shared_vars (x + 1)
+shared_more x seen seen' e e' =
+    e' ∙ ap (λ l. seen_after l (x ∷ [])) e ∙ ap (λ b. cond b (shared_vars x) (shared_vars x ++ x ∷ [])) (shared_misses x) ∙ sym (shared_push x)
+  where
+    itself : (xs : List ℕ) → map (λ y. y) xs ≡ xs
+    itself [] = refl
+    itself (y ∷ ys) = ap (λ l. y ∷ l) (itself ys)
+
+    shared_push : (n : ℕ) → shared_vars (n + 1) ≡ shared_vars n ++ n ∷ []
+    shared_push n = sym (itself (shared_vars (n + 1))) ∙ map-range_with_len_more (λ y. y) 0 n n (zero-add n) ∙ ap (λ l. l ++ n ∷ []) (itself (shared_vars n))
 
 -- seeing one list and then another is seeing them joined
 seen_append : (s xs ys : List ℕ) → seen_after (seen_after s xs) ys ≡ seen_after s (xs ++ ys)

@@ -7,11 +7,11 @@ use Rattle.flow_graph.specs.ListLaws.{take_one}
 use Rattle.flow_graph.specs.declared.plan.Item.{Item}
 use Rattle.flow_graph.specs.declared.plan.Item.TheVariants.{Placed, Jump}
 use Rattle.flow_graph.specs.declared.nodes.Node.{Node}
-use Rattle.flow_graph.specs.declared.nodes.Node.TheVariants.{Start, Skip, Assign, Print, Call, Test, Return}
+use Rattle.flow_graph.specs.declared.nodes.Node.TheVariants.{Start, Skip, Assign, Print, Guard, Call, Test, Return}
 use Rattle.flow_graph.specs.Graphs.{AllWithin, IsBelow, following, succs_of}
 use Rattle.std.specs.Option.{option_or}
 use Rattle.flow_graph.specs.Plans.{after_node, first_open, is_placed, new_stretch, next_item, open_at}
-use Rattle.flow_graph.specs.Walks.{unmarked}
+use Rattle.flow_graph.specs.ReachWalks.{unmarked}
 use Rattle.flow_graph.specs.Placing.{ArePlaced, ItemsWithin, follower_of, open_by, open_by_item, open_if, open_item, AreClosed, FirstOpenIsAt, open_end, placed_after, plan_weight, taken_of}
 use Rattle.flow_graph.specs.MarkLaws.{unmarked_set}
 use Rattle.flow_graph.proofs.Plans.{fresh}
@@ -24,6 +24,7 @@ taken_within nodes n (Some (Start next)) within e = tt
 taken_within nodes n (Some (Skip next)) within e = tt
 taken_within nodes n (Some (Assign x rhs next)) within e = tt
 taken_within nodes n (Some (Print a next)) within e = tt
+taken_within nodes n (Some (Guard test number next)) within e = tt
 taken_within nodes n (Some (Call into unit operands next)) within e = tt
 taken_within nodes n (Some (Test test taken other)) within e = within n 0 taken (ap (λ o. slice_get (succs_of o) 0) e)
 taken_within nodes n (Some (Return a)) within e = tt
@@ -35,6 +36,7 @@ following_within nodes n (Some (Start next)) within e = within n 0 next (ap (λ 
 following_within nodes n (Some (Skip next)) within e = within n 0 next (ap (λ o. slice_get (succs_of o) 0) e)
 following_within nodes n (Some (Assign x rhs next)) within e = within n 0 next (ap (λ o. slice_get (succs_of o) 0) e)
 following_within nodes n (Some (Print a next)) within e = within n 0 next (ap (λ o. slice_get (succs_of o) 0) e)
+following_within nodes n (Some (Guard test number next)) within e = within n 0 next (ap (λ o. slice_get (succs_of o) 0) e)
 following_within nodes n (Some (Call into unit operands next)) within e = within n 0 next (ap (λ o. slice_get (succs_of o) 0) e)
 following_within nodes n (Some (Test test taken other)) within e = within n 1 other (ap (λ o. slice_get (succs_of o) 1) e)
 following_within nodes n (Some (Return a)) within e = tt
@@ -51,6 +53,7 @@ open_by_at nodes placed plan (Some (Start next)) are lt = refl
 open_by_at nodes placed plan (Some (Skip next)) are lt = refl
 open_by_at nodes placed plan (Some (Assign x rhs next)) are lt = refl
 open_by_at nodes placed plan (Some (Print a next)) are lt = refl
+open_by_at nodes placed plan (Some (Guard test number next)) are lt = refl
 open_by_at nodes placed plan (Some (Call into unit operands next)) are lt = refl
 open_by_at nodes placed plan (Some (Test test taken other)) are lt = ap (λ b. cond b None (Some taken)) (are.are taken lt)
 open_by_at nodes placed plan (Some (Return a)) are lt = refl
@@ -155,6 +158,7 @@ still_closed_at plan item (Some (Start next)) e = refl
 still_closed_at plan item (Some (Skip next)) e = refl
 still_closed_at plan item (Some (Assign x rhs next)) e = refl
 still_closed_at plan item (Some (Print a next)) e = refl
+still_closed_at plan item (Some (Guard test number next)) e = refl
 still_closed_at plan item (Some (Call into unit operands next)) e = refl
 still_closed_at plan item (Some (Return a)) e = refl
 still_closed_at plan (Jump m) (Some (Test test taken other)) e = e
@@ -218,6 +222,7 @@ open_at_within nodes plan n t (Some (Start next)) within e f = cc
 open_at_within nodes plan n t (Some (Skip next)) within e f = cc
 open_at_within nodes plan n t (Some (Assign x rhs next)) within e f = cc
 open_at_within nodes plan n t (Some (Print a next)) within e f = cc
+open_at_within nodes plan n t (Some (Guard test number next)) within e f = cc
 open_at_within nodes plan n t (Some (Call into unit operands next)) within e f = cc
 open_at_within nodes plan n t (Some (Return a)) within e f = cc
 open_at_within nodes plan n t (Some (Test test taken other)) within e f = chosen (is_placed taken plan) f

@@ -1,7 +1,7 @@
 -- The test whether a graph is split.
 use Rattle.std.proofs.Common.{◌≡◌, ℕ, zero, suc, ◌+◌, ◌<◌, Bool, true, cond, ◌&&◌, IsTrue, inl, inr, drop, List, [], ◌∷◌, length, slice_get, Option, Some, None, refl, sym, ap, ◌∙◌, subst, arith}
 use Rattle.flow_graph.specs.declared.nodes.Node.{Node}
-use Rattle.flow_graph.specs.declared.nodes.Node.TheVariants.{Start, Skip, Assign, Print, Call, Test, Return}
+use Rattle.flow_graph.specs.declared.nodes.Node.TheVariants.{Start, Skip, Assign, Print, Guard, Call, Test, Return}
 use Rattle.flow_graph.specs.Edges.{preds_of, IsSplit, is_skip_to, all_skips, enters_well}
 use Rattle.mir_base.specs.Shapes.{AllBelow}
 use Rattle.flow_graph.specs.ListLaws.{drop_at}
@@ -17,6 +17,7 @@ skip_to to (Some (Start next)) e = cc
 skip_to to (Some (Skip next)) e = ap (λ n. Some (Skip n)) (eqb-true next to e)
 skip_to to (Some (Assign x rhs next)) e = cc
 skip_to to (Some (Print a next)) e = cc
+skip_to to (Some (Guard test number next)) e = cc
 skip_to to (Some (Call into unit operands next)) e = cc
 skip_to to (Some (Test test taken other)) e = cc
 skip_to to (Some (Return a)) e = cc

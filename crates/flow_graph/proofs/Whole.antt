@@ -1,9 +1,9 @@
--- A list of nodes of which every one is reached is kept as it is.
+-- A list of nodes of which every one is reached is retained as it is.
 use Rattle.std.proofs.Common.{◌≡◌, ℕ, zero, suc, ◌<◌, true, List, [], ◌∷◌, length, map, slice_get, Some, refl, ap, ◌∙◌, arith}
 use Rattle.flow_graph.specs.declared.nodes.Node.{Node}
 use Rattle.flow_graph.specs.Graphs.{AllWithin, Reached, SuccsBelow}
-use Rattle.flow_graph.specs.declared.nodes.Node.TheVariants.{Start, Skip, Assign, Print, Call, Test, Return}
-use Rattle.flow_graph.specs.Kept.{AreKept, marked, marked_below, redirected}
+use Rattle.flow_graph.specs.declared.nodes.Node.TheVariants.{Start, Skip, Assign, Print, Guard, Call, Test, Return}
+use Rattle.flow_graph.specs.Retained.{AreRetained, marked, marked_below, redirected}
 use Rattle.std.specs.Prelude.{Bool, false}
 use Rattle.flow_graph.specs.BoundLaws.{succs_below}
 
@@ -29,6 +29,7 @@ module _ (size : ℕ) (to : ℕ → ℕ) (same : (n : ℕ) → n < size → to n
   unmoved (Skip next) h = ap Skip (same next h)
   unmoved (Assign x rhs next) h = ap (Assign x rhs) (same next h)
   unmoved (Print a next) h = ap (Print a) (same next h)
+  unmoved (Guard test number next) h = ap (Guard test number) (same next h)
   unmoved (Call into unit operands next) h = ap (Call into unit operands) (same next h)
   unmoved (Test test taken other) h = ap (λ n. Test test n (to other)) (same taken h.0) ∙ ap (Test test taken) (same other h.1)
   unmoved (Return a) h = refl
@@ -37,11 +38,11 @@ module _ (size : ℕ) (to : ℕ → ℕ) (same : (n : ℕ) → n < size → to n
   all_unmoved [] below = refl
   all_unmoved (node ∷ nodes) below = ap (λ l. redirected to node ∷ l) (all_unmoved nodes (λ n. below (suc n))) ∙ ap (λ m. m ∷ nodes) (unmoved node (below 0 node refl))
 
--- where every node is reached, all nodes are kept, with their numbers
-pub whole_kept : (raw nodes : List Node) → AllWithin raw → AreKept raw nodes → ((n : ℕ) → n < length raw → Reached raw n) → nodes ≡ raw
-whole_kept raw nodes within kept reached =
-    let all : (n : ℕ) → n < length raw → slice_get kept.marks n ≡ Some true = λ n lt. (kept.are_marks.exact n lt).1 (reached n lt) in
-    let long = kept.are_marks.long in
-    kept.are
-    ∙ ap (map (redirected (marked_below kept.marks))) (all_marked kept.marks raw long all)
-    ∙ all_unmoved (length raw) (marked_below kept.marks) (λ n lt. full_rank kept.marks n (λ k h. all k (omega (arith, h, long))) (omega (arith, lt, long))) raw (λ n node here. succs_below raw n node within here)
+-- where every node is reached, all nodes are retained, with their numbers
+pub whole_retained : (raw nodes : List Node) → AllWithin raw → AreRetained raw nodes → ((n : ℕ) → n < length raw → Reached raw n) → nodes ≡ raw
+whole_retained raw nodes within retained reached =
+    let all : (n : ℕ) → n < length raw → slice_get retained.marks n ≡ Some true = λ n lt. (retained.are_marks.exact n lt).1 (reached n lt) in
+    let long = retained.are_marks.long in
+    retained.are
+    ∙ ap (map (redirected (marked_below retained.marks))) (all_marked retained.marks raw long all)
+    ∙ all_unmoved (length raw) (marked_below retained.marks) (λ n lt. full_rank retained.marks n (λ k h. all k (omega (arith, h, long))) (omega (arith, lt, long))) raw (λ n node here. succs_below raw n node within here)

@@ -1,6 +1,6 @@
 -- The blocks of a graph: longest lists of nodes that are always passed one after the other. Cited by contracts, those
 -- of path_laws too; what is kept while blocks are made only by those of src/blocks.rt.
-use Rattle.std.specs.Prelude.{◌≡◌, ◌≢◌, ℕ, ◌<◌, ◌≤◌, ◌+◌, ◌⊎◌, Bool, true, not, is_some, if◌then◌else◌, List, [], ◌∷◌, ◌++◌, length, slice_get, slice_index_or, slice_range, Option, Some, None}
+use Rattle.std.specs.Prelude.{◌≡◌, ◌≢◌, ℕ, ◌<◌, ◌≤◌, ◌⊎◌, Bool, true, not, is_some, if◌then◌else◌, List, [], ◌∷◌, ◌++◌, length, slice_get, slice_index_or, slice_range, Option, Some, None}
 use Rattle.flow_graph.specs.declared.nodes.Node.{Node}
 use Rattle.flow_graph.specs.Edges.{preds_of}
 use Rattle.flow_graph.specs.Graphs.{succs_at}

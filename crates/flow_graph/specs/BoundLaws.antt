@@ -3,7 +3,7 @@
 use Rattle.std.proofs.Common.{◌≡◌, ℕ, zero, suc, ◌<◌, List, [], ◌∷◌, length, slice_get, Some, refl, ap, ◌∙◌, arith, Bool, true, false, if◌then◌else◌}
 use Rattle.mir_base.specs.Shapes.{AllBelow}
 use Rattle.flow_graph.specs.declared.nodes.Node.{Node}
-use Rattle.flow_graph.specs.declared.nodes.Node.TheVariants.{Start, Skip, Assign, Print, Call, Test, Return}
+use Rattle.flow_graph.specs.declared.nodes.Node.TheVariants.{Start, Skip, Assign, Print, Guard, Call, Test, Return}
 use Rattle.flow_graph.specs.Graphs.{node_succs, succs_of, succs_at, AllWithin, IsEdge, SuccsBelow, Reached, at_start, along, slot_of}
 use Rattle.flow_graph.specs.Paths.{HasEdge}
 
@@ -32,6 +32,7 @@ slot_low (Start next) (suc (suc slot)) s e = cc
 slot_low (Skip next) (suc (suc slot)) s e = cc
 slot_low (Assign x rhs next) (suc (suc slot)) s e = cc
 slot_low (Print a next) (suc (suc slot)) s e = cc
+slot_low (Guard test number next) (suc (suc slot)) s e = cc
 slot_low (Call into unit operands next) (suc (suc slot)) s e = cc
 slot_low (Test test taken other) (suc (suc slot)) s e = cc
 slot_low (Return a) (suc (suc slot)) s e = cc
@@ -54,6 +55,7 @@ node_succs_below m (Start next) low = low 0 next refl
 node_succs_below m (Skip next) low = low 0 next refl
 node_succs_below m (Assign x rhs next) low = low 0 next refl
 node_succs_below m (Print a next) low = low 0 next refl
+node_succs_below m (Guard test number next) low = low 0 next refl
 node_succs_below m (Call into unit operands next) low = low 0 next refl
 node_succs_below m (Test test taken other) low = (low 0 taken refl, low 1 other refl)
 node_succs_below m (Return a) low = tt

@@ -4,7 +4,7 @@ use Rattle.std.proofs.lemmas.Option.{slice_get-map}
 use Rattle.flow_graph.specs.declared.nodes.Node.{Node}
 pub use Rattle.flow_graph.specs.NodeLaws.{mapped_from}
 use Rattle.flow_graph.specs.NodeLaws.{redirected_call}
-use Rattle.flow_graph.specs.Kept.{redirected}
+use Rattle.flow_graph.specs.Retained.{redirected}
 use Rattle.flow_graph.specs.Calls.{NodesCall, node_call}
 
 -- redirected nodes make no calls but those of the nodes

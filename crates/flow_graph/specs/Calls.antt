@@ -4,7 +4,7 @@ use Rattle.std.specs.Prelude.{◌≡◌, ℕ, List, length, slice_get, Option, S
 use Rattle.mir_base.specs.declared.instructions.Inst.{Inst}
 use Rattle.mir_base.specs.declared.instructions.Inst.TheVariants as insts
 use Rattle.flow_graph.specs.declared.nodes.Node.{Node}
-use Rattle.flow_graph.specs.declared.nodes.Node.TheVariants.{Start, Skip, Assign, Print, Call, Test, Return}
+use Rattle.flow_graph.specs.declared.nodes.Node.TheVariants.{Start, Skip, Assign, Print, Guard, Call, Test, Return}
 
 -- the unit that an instruction calls, and the number of arguments
 abbrev pub inst_call : Inst → Option (ℕ × ℕ)
@@ -14,6 +14,7 @@ inst_call (insts.Goto place) = None
 inst_call (insts.If test place) = None
 inst_call (insts.Call into unit operands) = Some (unit, length operands)
 inst_call (insts.Print a) = None
+inst_call (insts.TrapIf test number) = None
 inst_call (insts.Return a) = None
 
 -- the unit that a node calls, and the number of arguments
@@ -22,6 +23,7 @@ node_call (Start next) = None
 node_call (Skip next) = None
 node_call (Assign x rhs next) = None
 node_call (Print a next) = None
+node_call (Guard test number next) = None
 node_call (Call into unit operands next) = Some (unit, length operands)
 node_call (Test test taken other) = None
 node_call (Return a) = None

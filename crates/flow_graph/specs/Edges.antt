@@ -96,8 +96,10 @@ pub record AreIndexed (nodes : ℕ) (edges targeted : List Edge) (preds starts e
 
 -- each node with more than one entering edge is entered only from Skips, each of which enters it once
 pub record IsSplit (nodes : List Node) : Type 0 where
-  pub by_skips : (s i n : ℕ) → s < length nodes → 1 < length (preds_of nodes s) → slice_get (preds_of nodes s) i ≡ Some n → slice_get nodes n ≡ Some (Skip s)
-  pub once : (s i j n : ℕ) → s < length nodes → 1 < length (preds_of nodes s) → slice_get (preds_of nodes s) i ≡ Some n → slice_get (preds_of nodes s) j ≡ Some n → i ≡ j
+  pub by_skips : (s i n : ℕ) → s < length nodes → 1 < length (preds_of nodes s)
+      → slice_get (preds_of nodes s) i ≡ Some n → slice_get nodes n ≡ Some (Skip s)
+  pub once : (s i j n : ℕ) → s < length nodes → 1 < length (preds_of nodes s) → slice_get (preds_of nodes s) i ≡ Some n
+      → slice_get (preds_of nodes s) j ≡ Some n → i ≡ j
 
 -- the node is a Skip to this one
 abbrev pub is_skip_to : ℕ → Option Node → Bool

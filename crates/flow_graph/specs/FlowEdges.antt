@@ -3,7 +3,7 @@
 use Rattle.std.specs.Prelude.{◌≡◌, ℕ, suc, ◌<◌, ◌≤◌, Bool, true, false, List, length, map, slice_get, slice_index_or, Some}
 use Rattle.flow_graph.specs.declared.edges.Edge.{Edge}
 use Rattle.flow_graph.specs.declared.nodes.Node.{Node}
-pub use Rattle.flow_graph.specs.Tables.{number_at}
+pub use Rattle.flow_graph.specs.NumberTables.{number_at}
 use Rattle.flow_graph.specs.Edges.{by_target, edges_from, edges_of, first_entering, first_leaving, EdgesShape}
 
 -- an edge the other way round

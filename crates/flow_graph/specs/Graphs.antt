@@ -1,15 +1,17 @@
 -- Graphs as contracts see them: their edges, which nodes are reached, what a node reads and assigns, and what is true
 -- of each graph. Cited by contracts, those of the crates above too.
-use Rattle.std.specs.Prelude.{◌≡◌, ℕ, ◌<◌, ◌≤◌, Bool, true, false, nat_eq, List, [], ◌∷◌, ◌++◌, flat_map, length, slice_get, Option, Some, None, if◌then◌else◌}
+use Rattle.std.specs.Prelude.{◌≡◌, ℕ, ◌<◌, ◌≤◌, Bool, true, false, nat_eq, nat_lt, ◌||◌, List, [], ◌∷◌, ◌++◌, flat_map, length, slice_get, Option, Some, None, if◌then◌else◌}
 use Rattle.mir_base.specs.declared.instructions.Rhs.{Rhs}
+use Rattle.mir_base.specs.Frames.{shared_vars}
 use Rattle.mir_base.specs.Shapes.{operand_vars, rhs_vars, test_vars, into_vars, AllBelow, AllDiffer}
 use Rattle.flow_graph.specs.declared.nodes.Node.{Node}
-use Rattle.flow_graph.specs.declared.nodes.Node.TheVariants.{Start, Skip, Assign, Print, Call, Test, Return}
+use Rattle.flow_graph.specs.declared.nodes.Node.TheVariants.{Start, Skip, Assign, Print, Guard, Call, Test, Return}
 
--- the name of the unit, the names of its variables by number, the received variables in the order of the arguments, and
--- the nodes by number
+-- the name of the unit, how many of its variables are globals, the names of its variables by number, the globals first,
+-- the received variables in the order of the arguments, and the nodes by number
 pub record GraphShape : Type 0 where
   pub name : List ℕ
+  pub shared : ℕ
   pub vars : List (List ℕ)
   pub received : List ℕ
   pub nodes : List Node
@@ -22,6 +24,7 @@ node_succs (Start next) = next ∷ []
 node_succs (Skip next) = next ∷ []
 node_succs (Assign x rhs next) = next ∷ []
 node_succs (Print a next) = next ∷ []
+node_succs (Guard test number next) = next ∷ []
 node_succs (Call into unit operands next) = next ∷ []
 node_succs (Test test taken other) = taken ∷ other ∷ []
 node_succs (Return a) = []
@@ -37,6 +40,7 @@ following (Some (Start next)) = Some next
 following (Some (Skip next)) = Some next
 following (Some (Assign x rhs next)) = Some next
 following (Some (Print a next)) = Some next
+following (Some (Guard test number next)) = Some next
 following (Some (Call into unit operands next)) = Some next
 following (Some (Test test taken other)) = Some other
 following (Some (Return a)) = None
@@ -74,6 +78,7 @@ SuccsBelow n (Start next) = next < n
 SuccsBelow n (Skip next) = next < n
 SuccsBelow n (Assign x rhs next) = next < n
 SuccsBelow n (Print a next) = next < n
+SuccsBelow n (Guard test number next) = next < n
 SuccsBelow n (Call into unit operands next) = next < n
 SuccsBelow n (Test test taken other) = (taken < n) × (other < n)
 SuccsBelow n (Return a) = Unit {0}
@@ -86,28 +91,32 @@ node_vars (Start next) = []
 node_vars (Skip next) = []
 node_vars (Assign x rhs next) = x ∷ rhs_vars rhs
 node_vars (Print a next) = operand_vars a
+node_vars (Guard test number next) = test_vars test
 node_vars (Call into unit operands next) = into_vars into ++ flat_map operand_vars operands
 node_vars (Test test taken other) = test_vars test
 node_vars (Return a) = operand_vars a
 
--- the variables that a node of the graph reads
+-- the variables that a node of the graph reads. A call hands the globals over, and a return hands them back
 abbrev pub node_reads : GraphShape → Node → List ℕ
 node_reads graph (Start next) = []
 node_reads graph (Skip next) = []
 node_reads graph (Assign x rhs next) = rhs_vars rhs
 node_reads graph (Print a next) = operand_vars a
-node_reads graph (Call into unit operands next) = flat_map operand_vars operands
+node_reads graph (Guard test number next) = test_vars test
+node_reads graph (Call into unit operands next) = shared_vars graph.shared ++ flat_map operand_vars operands
 node_reads graph (Test test taken other) = test_vars test
-node_reads graph (Return a) = operand_vars a
+node_reads graph (Return a) = shared_vars graph.shared ++ operand_vars a
 
--- whether a node of the graph assigns the variable x. Start, which gives every variable its first value, assigns none
+-- whether a node of the graph assigns the variable x. Start, which gives every variable its first value, assigns none;
+-- a call assigns each global
 abbrev pub assigns : GraphShape → ℕ → Node → Bool
 assigns graph x (Start next) = false
 assigns graph x (Skip next) = false
 assigns graph x (Assign y rhs next) = nat_eq x y
 assigns graph x (Print a next) = false
-assigns graph x (Call None unit operands next) = false
-assigns graph x (Call (Some y) unit operands next) = nat_eq x y
+assigns graph x (Guard test number next) = false
+assigns graph x (Call None unit operands next) = nat_lt x graph.shared
+assigns graph x (Call (Some y) unit operands next) = nat_lt x graph.shared || nat_eq x y
 assigns graph x (Test test taken other) = false
 assigns graph x (Return a) = false
 
@@ -122,6 +131,7 @@ node_rhs (Start next) = None
 node_rhs (Skip next) = None
 node_rhs (Assign x rhs next) = Some rhs
 node_rhs (Print a next) = None
+node_rhs (Guard test number next) = None
 node_rhs (Call into unit operands next) = None
 node_rhs (Test test taken other) = None
 node_rhs (Return a) = None
@@ -156,3 +166,8 @@ AllReached nodes = (n : ℕ) → n < length nodes → Reached nodes n
 pub record IsGraph (vars : List (List ℕ)) (received : List ℕ) (nodes : List Node) : Type 0 where
   pub can : CanMake vars received nodes
   pub reached : AllReached nodes
+
+-- the globals are variables of the graph, and none of them is received
+pub record SharesVars (shared : ℕ) (vars : List (List ℕ)) (received : List ℕ) : Type 0 where
+  pub count : shared ≤ length vars
+  pub own : (i x : ℕ) → slice_get received i ≡ Some x → shared ≤ x

@@ -1,7 +1,7 @@
 -- Laws of what passes keep: one pass, none, passes one after the other, and a pass that writes nodes. For proofs only;
 -- the passes of the crates above cite them.
-use Rattle.std.proofs.Common.{◌≡◌, ℕ, List, [], ◌∷◌, refl, ◌∙◌}
-use Rattle.std.specs.Prelude.{All, get_or}
+use Rattle.std.proofs.Common.{◌≡◌, ℕ, List, [], ◌∷◌, refl, ap, ◌∙◌}
+use Rattle.std.specs.Prelude.{All, get_or, take}
 use Rattle.std.proofs.lemmas.List.Elements.{All-cons, All-nil}
 use Rattle.mir_base.specs.LockstepLaws.{cheaper_refl}
 use Rattle.mir_base.specs.UnitLaws.{same_refl, same_trans, cheaper_trans}
@@ -10,18 +10,20 @@ use Rattle.flow_graph.specs.declared.nodes.Node.{Node}
 use Rattle.flow_graph.specs.Calls.{NodesCall}
 use Rattle.flow_graph.specs.Graphs.{GraphShape}
 use Rattle.flow_graph.specs.Keeps.{Form, AsGraph, Keeps, KeepInTurn, form_machine}
+use Rattle.flow_graph.specs.MachineLaws.{form_hands}
 use Rattle.flow_graph.specs.Machines.{graph_machine, machine_of}
 
 -- ---- no pass, two passes
 
 -- no pass keeps all
 pub keeps_refl : (a : Form) → Keeps a a
-keeps_refl a = record { name = refl; same = same_refl (form_machine a); cheaper = cheaper_refl (form_machine a); calls = λ called count c. c }
+keeps_refl a = record { name = refl; globals = refl; same = same_refl (form_machine a); cheaper = cheaper_refl (form_machine a) (form_hands a); calls = λ called count c. c }
 
 -- of two passes
 pub keeps_trans : (a b c : Form) → Keeps a b → Keeps b c → Keeps a c
 keeps_trans a b c k l = record {
   name = l.name ∙ k.name;
+  globals = l.globals ∙ k.globals;
   same = same_trans (form_machine a) (form_machine b) (form_machine c) k.same l.same;
   cheaper = cheaper_trans (form_machine a) (form_machine b) (form_machine c) k.same k.cheaper l.cheaper;
   calls = λ called count made. k.calls called count (l.calls called count made);
@@ -29,16 +31,21 @@ keeps_trans a b c k l = record {
 
 -- ---- a pass that writes nodes, of which a graph is made
 
--- where the nodes do the same as the graph, and the graph that is made of them does the same as they, it keeps the
--- graph
-pub made_keeps : (graph made : GraphShape) (nodes : List Node) → made.name ≡ graph.name
-    → UnitSame (machine_of graph) (graph_machine graph.received nodes) → UnitCheaper (machine_of graph) (graph_machine graph.received nodes) → ((called count : ℕ) → NodesCall nodes called count → NodesCall graph.nodes called count)
-    → UnitSame (graph_machine graph.received nodes) (machine_of made) → UnitCheaper (graph_machine graph.received nodes) (machine_of made) → ((called count : ℕ) → NodesCall made.nodes called count → NodesCall nodes called count)
+-- a graph with the variables of another, as many of them globals, has its globals
+pub same_globals : (graph made : GraphShape) → made.shared ≡ graph.shared → made.vars ≡ graph.vars → take made.shared made.vars ≡ take graph.shared graph.vars
+same_globals graph made shared vars = ap (λ k. take k made.vars) shared ∙ ap (take graph.shared) vars
+
+-- where the nodes do the same as the graph, and the graph that is made of them has its globals and does the same as
+-- they, it keeps the graph
+pub made_keeps : (graph made : GraphShape) (nodes : List Node) → made.name ≡ graph.name → take made.shared made.vars ≡ take graph.shared graph.vars
+    → UnitSame (machine_of graph) (graph_machine graph.shared graph.received nodes) → UnitCheaper (machine_of graph) (graph_machine graph.shared graph.received nodes) → ((called count : ℕ) → NodesCall nodes called count → NodesCall graph.nodes called count)
+    → UnitSame (graph_machine graph.shared graph.received nodes) (machine_of made) → UnitCheaper (graph_machine graph.shared graph.received nodes) (machine_of made) → ((called count : ℕ) → NodesCall made.nodes called count → NodesCall nodes called count)
     → Keeps (AsGraph graph) (AsGraph made)
-made_keeps graph made nodes name same cheaper calls same' cheaper' calls' = record {
+made_keeps graph made nodes name globals same cheaper calls same' cheaper' calls' = record {
   name = name;
-  same = same_trans (machine_of graph) (graph_machine graph.received nodes) (machine_of made) same same';
-  cheaper = cheaper_trans (machine_of graph) (graph_machine graph.received nodes) (machine_of made) same cheaper cheaper';
+  globals = globals;
+  same = same_trans (machine_of graph) (graph_machine graph.shared graph.received nodes) (machine_of made) same same';
+  cheaper = cheaper_trans (machine_of graph) (graph_machine graph.shared graph.received nodes) (machine_of made) same cheaper cheaper';
   calls = λ called count c. calls called count (calls' called count c);
 }
 

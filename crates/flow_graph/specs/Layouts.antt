@@ -7,7 +7,7 @@ use Rattle.mir_base.specs.Shapes.{UnitShape}
 use Rattle.flow_graph.specs.declared.plan.Item.{Item}
 use Rattle.flow_graph.specs.declared.plan.Item.TheVariants.{Placed, Jump}
 use Rattle.flow_graph.specs.declared.nodes.Node.{Node}
-use Rattle.flow_graph.specs.declared.nodes.Node.TheVariants.{Start, Skip, Assign, Print, Call, Test, Return}
+use Rattle.flow_graph.specs.declared.nodes.Node.TheVariants.{Start, Skip, Assign, Print, Guard, Call, Test, Return}
 use Rattle.flow_graph.specs.Graphs.{GraphShape}
 use Rattle.flow_graph.specs.Numbering.{renumbered, seen_in}
 use Rattle.flow_graph.specs.Plans.{IsWholePlan}
@@ -21,6 +21,7 @@ emitted_by place (Some (Start next)) = []
 emitted_by place (Some (Skip next)) = []
 emitted_by place (Some (Assign x rhs next)) = insts.Assign x rhs ∷ []
 emitted_by place (Some (Print a next)) = insts.Print a ∷ []
+emitted_by place (Some (Guard test number next)) = insts.TrapIf test number ∷ []
 emitted_by place (Some (Call into unit operands next)) = insts.Call into unit operands ∷ []
 emitted_by place (Some (Test test taken other)) = insts.If test (place taken) ∷ []
 emitted_by place (Some (Return a)) = insts.Return a ∷ []
@@ -47,23 +48,27 @@ size nodes receives (item ∷ older) = size nodes receives older + item_size nod
 -- the place of a node: how many instructions there are before it
 abbrev pub place_in : List Node → ℕ → List Item → ℕ → ℕ
 place_in nodes receives [] n = 0
-place_in nodes receives (Placed m ∷ older) n = if nat_eq m n then size nodes receives older else place_in nodes receives older n
+place_in nodes receives (Placed m ∷ older) n =
+    if nat_eq m n then size nodes receives older else place_in nodes receives older n
 place_in nodes receives (Jump m ∷ older) n = place_in nodes receives older n
 
 -- the body before its variables are renumbered
 abbrev pub plain_body : List ℕ → List Node → List Item → List Inst
-plain_body received nodes plan = map insts.Receive received ++ emitted nodes (place_in nodes (length received) plan) plan
+plain_body received nodes plan =
+    map insts.Receive received ++ emitted nodes (place_in nodes (length received) plan) plan
 
 -- ---- the layout
 
 -- the variables and the body of the unit
-pub record IsLaid (vars : List (List ℕ)) (received : List ℕ) (nodes : List Node) (names : List (List ℕ)) (body : List Inst) : Type 0 where
+pub record IsLaid (shared : ℕ) (vars : List (List ℕ)) (received : List ℕ) (nodes : List Node) (names : List (List ℕ))
+    (body : List Inst) : Type 0 where
   pub plan : List Item
   pub is_plan : IsWholePlan nodes plan
-  pub names_are : names ≡ map (λ x. slice_index_or vars x []) (seen_in (plain_body received nodes plan))
-  pub body_is : body ≡ renumbered (plain_body received nodes plan)
+  pub names_are : names ≡ map (λ x. slice_index_or vars x []) (seen_in shared (plain_body received nodes plan))
+  pub body_is : body ≡ renumbered shared (plain_body received nodes plan)
 
 -- the unit of the graph
 pub record IsLayout (graph : GraphShape) (unit : UnitShape) : Type 0 where
   pub name : unit.name ≡ graph.name
-  pub laid : IsLaid graph.vars graph.received graph.nodes unit.vars unit.body
+  pub shared : unit.shared ≡ graph.shared
+  pub laid : IsLaid graph.shared graph.vars graph.received graph.nodes unit.vars unit.body

@@ -4,7 +4,7 @@ use Rattle.std.proofs.Common.{◌≡◌, ℕ, zero, suc, ◌+◌, ◌<◌, Bool,
 use Rattle.std.proofs.lemmas.Bool.{cases_eq}
 use Rattle.std.proofs.lemmas.Option.{slice_get_within}
 use Rattle.flow_graph.specs.ListLaws.{set_here, set_elsewhere}
-use Rattle.flow_graph.specs.Walks.{unmarked}
+use Rattle.flow_graph.specs.ReachWalks.{unmarked}
 
 -- ---- one mark
 

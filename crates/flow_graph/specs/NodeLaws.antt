@@ -1,13 +1,11 @@
--- Laws of one node: of a node with other numbers for its successors (`redirected`), and of a changed one (`changed`).
+-- Laws of one node with other numbers for its successors (`redirected`), and of an item that may be absent.
 -- For proofs only; the crates above cite them too.
 use Rattle.std.proofs.Common.{◌≡◌, ℕ, map, slice_get, Option, Some, None, option_map, refl, ap, ◌∙◌}
-use Rattle.mir_base.specs.Shapes.{AllBelow}
 use Rattle.flow_graph.specs.declared.nodes.Node.{Node}
-use Rattle.flow_graph.specs.declared.nodes.Node.TheVariants.{Start, Skip, Assign, Print, Call, Test, Return}
+use Rattle.flow_graph.specs.declared.nodes.Node.TheVariants.{Start, Skip, Assign, Print, Guard, Call, Test, Return}
 use Rattle.flow_graph.specs.Calls.{node_call}
 use Rattle.flow_graph.specs.Graphs.{node_succs, succs_of, node_vars}
-use Rattle.flow_graph.specs.Insertions.{Change, Kept, Replaced, Removed, changed, ChangeBelow}
-use Rattle.flow_graph.specs.Kept.{redirected}
+use Rattle.flow_graph.specs.Retained.{redirected}
 
 -- ---- an item that may be absent, and what becomes of it
 
@@ -38,6 +36,7 @@ is_redirected to (Start next) = record { succs = refl; vars = refl; call = refl;
 is_redirected to (Skip next) = record { succs = refl; vars = refl; call = refl; start = λ s e. cc; twice = λ to'. refl; itself = refl }
 is_redirected to (Assign x rhs next) = record { succs = refl; vars = refl; call = refl; start = λ s e. cc; twice = λ to'. refl; itself = refl }
 is_redirected to (Print a next) = record { succs = refl; vars = refl; call = refl; start = λ s e. cc; twice = λ to'. refl; itself = refl }
+is_redirected to (Guard test number next) = record { succs = refl; vars = refl; call = refl; start = λ s e. cc; twice = λ to'. refl; itself = refl }
 is_redirected to (Call into unit operands next) = record { succs = refl; vars = refl; call = refl; start = λ s e. cc; twice = λ to'. refl; itself = refl }
 is_redirected to (Test test taken other) = record { succs = refl; vars = refl; call = refl; start = λ s e. cc; twice = λ to'. refl; itself = refl }
 is_redirected to (Return a) = record { succs = refl; vars = refl; call = refl; start = λ s e. cc; twice = λ to'. refl; itself = refl }
@@ -77,6 +76,7 @@ redirected_same to to' (Start next) same = ap Start (same 0 next refl)
 redirected_same to to' (Skip next) same = ap Skip (same 0 next refl)
 redirected_same to to' (Assign x rhs next) same = ap (Assign x rhs) (same 0 next refl)
 redirected_same to to' (Print a next) same = ap (Print a) (same 0 next refl)
+redirected_same to to' (Guard test number next) same = ap (Guard test number) (same 0 next refl)
 redirected_same to to' (Call into unit operands next) same = ap (Call into unit operands) (same 0 next refl)
 redirected_same to to' (Test test taken other) same = ap (λ n. Test test n (to other)) (same 0 taken refl) ∙ ap (Test test (to' taken)) (same 1 other refl)
 redirected_same to to' (Return a) same = refl
@@ -84,56 +84,3 @@ redirected_same to to' (Return a) same = refl
 -- a function that changes none of its successors leaves the node as it is
 pub redirected_none : (to : ℕ → ℕ) (node : Node) → ((slot s : ℕ) → slice_get (node_succs node) slot ≡ Some s → to s ≡ s) → redirected to node ≡ node
 redirected_none to node same = redirected_same to (λ n. n) node same ∙ redirected_itself node
-
--- ---- a changed node
-
--- all that is the same of a node and the changed one
-record IsChanged (change : Change) (node : Node) : Type 0 where
-  succs : node_succs (changed change node) ≡ node_succs node
-  call : node_call (changed change node) ≡ node_call node
-  start : (s : ℕ) → changed change node ≡ Start s → (t : ℕ) × (node ≡ Start t)
-  below : (k : ℕ) → ChangeBelow k change → AllBelow k (node_vars node) → AllBelow k (node_vars (changed change node))
-  moved : (to : ℕ → ℕ) → redirected to (changed change node) ≡ changed change (redirected to node)
-  kept : changed Kept node ≡ node
-
--- by cases of the node: all that is kept when it is changed
-is_changed : (change : Change) (node : Node) → IsChanged change node
-is_changed change (Start next) = record { succs = refl; call = refl; start = λ s e. (next, refl); below = λ k fits b. b; moved = λ to. refl; kept = refl }
-is_changed change (Skip next) = record { succs = refl; call = refl; start = λ s e. cc; below = λ k fits b. b; moved = λ to. refl; kept = refl }
-is_changed Kept (Assign x rhs next) = record { succs = refl; call = refl; start = λ s e. cc; below = λ k fits b. b; moved = λ to. refl; kept = refl }
-is_changed (Replaced other) (Assign x rhs next) = record { succs = refl; call = refl; start = λ s e. cc; below = λ k fits b. (b.0, fits); moved = λ to. refl; kept = refl }
-is_changed Removed (Assign x rhs next) = record { succs = refl; call = refl; start = λ s e. cc; below = λ k fits b. tt; moved = λ to. refl; kept = refl }
-is_changed change (Print a next) = record { succs = refl; call = refl; start = λ s e. cc; below = λ k fits b. b; moved = λ to. refl; kept = refl }
-is_changed change (Call into unit operands next) = record { succs = refl; call = refl; start = λ s e. cc; below = λ k fits b. b; moved = λ to. refl; kept = refl }
-is_changed change (Test test taken other) = record { succs = refl; call = refl; start = λ s e. cc; below = λ k fits b. b; moved = λ to. refl; kept = refl }
-is_changed change (Return a) = record { succs = refl; call = refl; start = λ s e. cc; below = λ k fits b. b; moved = λ to. refl; kept = refl }
-
--- it has the node's successors
-pub changed_succs : (change : Change) (node : Node) → node_succs (changed change node) ≡ node_succs node
-changed_succs change node = let is = is_changed change node in is.succs
-
--- it makes the node's call, if any
-pub changed_call : (change : Change) (node : Node) → node_call (changed change node) ≡ node_call node
-changed_call change node = let is = is_changed change node in is.call
-
--- it is Start only where the node is
-pub changed_start : (change : Change) (node : Node) (s : ℕ) → changed change node ≡ Start s → (t : ℕ) × (node ≡ Start t)
-changed_start change node = let is = is_changed change node in is.start
-
--- its variables are in range where those of the change are
-pub changed_below : (change : Change) (k : ℕ) → ChangeBelow k change → (node : Node) → AllBelow k (node_vars node) → AllBelow k (node_vars (changed change node))
-changed_below change k fits node below = let is = is_changed change node in is.below k fits below
-
--- it may be redirected before or after the change
-pub redirected_changed : (to : ℕ → ℕ) (change : Change) (node : Node) → redirected to (changed change node) ≡ changed change (redirected to node)
-redirected_changed to change node = let is = is_changed change node in is.moved to
-
--- a kept node is the node
-pub changed_kept : (node : Node) → changed Kept node ≡ node
-changed_kept node = let is = is_changed Kept node in is.kept
-
--- ---- a changed node with other numbers for its successors
-
--- its successors have the other numbers
-pub rewritten_succs : (to : ℕ → ℕ) (change : Change) (node : Node) → node_succs (redirected to (changed change node)) ≡ map to (node_succs node)
-rewritten_succs to change node = redirected_succs to (changed change node) ∙ ap (map to) (changed_succs change node)

@@ -9,6 +9,7 @@ use Rattle.mir_base.specs.declared.instructions.Test.{Test as Condition}
 use Rattle.mir_base.specs.declared.instructions.Test.TheVariants.{Rel, Holds, Fails}
 use Rattle.mir_base.specs.declared.instructions.Inst.{Inst}
 use Rattle.mir_base.specs.declared.instructions.Inst.TheVariants as insts
+use Rattle.mir_base.specs.Frames.{shared_vars}
 use Rattle.mir_base.specs.Shapes.{inst_vars}
 
 -- whether a number stands in a list
@@ -31,9 +32,9 @@ abbrev pub seen_after : List ℕ → List ℕ → List ℕ
 seen_after seen [] = seen
 seen_after seen (x ∷ xs) = if is_in x seen then seen_after seen xs else seen_after (seen ++ x ∷ []) xs
 
--- the variables that occur in a body, in the order of their first occurrence in its text
-abbrev pub seen_in : List Inst → List ℕ
-seen_in body = seen_after [] (flat_map inst_vars body)
+-- the globals, and the other variables that occur in a body, in the order of their first occurrence in its text
+abbrev pub seen_in : ℕ → List Inst → List ℕ
+seen_in shared body = seen_after (shared_vars shared) (flat_map inst_vars body)
 
 -- ---- with other numbers
 
@@ -62,8 +63,9 @@ renamed to (insts.Goto place) = insts.Goto place
 renamed to (insts.If test place) = insts.If (renamed_test to test) place
 renamed to (insts.Call into unit operands) = insts.Call (option_map to into) unit (map (renamed_operand to) operands)
 renamed to (insts.Print a) = insts.Print (renamed_operand to a)
+renamed to (insts.TrapIf test number) = insts.TrapIf (renamed_test to test) number
 renamed to (insts.Return a) = insts.Return (renamed_operand to a)
 
--- the body with each variable numbered by its first occurrence
-abbrev pub renumbered : List Inst → List Inst
-renumbered body = map (renamed (first_index (seen_in body))) body
+-- the body with each variable numbered by its first occurrence, after the globals, which keep their numbers
+abbrev pub renumbered : ℕ → List Inst → List Inst
+renumbered shared body = map (renamed (first_index (seen_in shared body))) body

@@ -7,7 +7,7 @@ use Rattle.mir_base.specs.Shapes.{UnitShape}
 use Rattle.flow_graph.specs.declared.nodes.Node.{Node}
 use Rattle.flow_graph.specs.declared.plan.Item.{Item}
 use Rattle.flow_graph.specs.Graphs.{GraphShape}
-use Rattle.flow_graph.specs.Kept.{redirected, marked_below, marked, MarkReached, AreKept, IsMade}
+use Rattle.flow_graph.specs.Retained.{redirected, marked_below, marked, MarkReached, AreRetained, IsMade}
 use Rattle.flow_graph.specs.ListLaws.{cons_same, some_at}
 use Rattle.flow_graph.specs.Layouts.{IsLayout, plain_body}
 use Rattle.flow_graph.specs.Lowered.{IsLowered}
@@ -45,26 +45,27 @@ marks_are_one raw a b p q = same_places a b by_place
       | inr ge ↦ slice_get_past a n (omega (arith, ge, p.long)) ∙ sym (slice_get_past b n (omega (arith, ge, q.long)))
     ]
 
--- so are the nodes that are kept
-pub kept_are_one : (raw a b : List Node) → AreKept raw a → AreKept raw b → a ≡ b
-kept_are_one raw a b p q =
+-- so are the nodes that are retained
+pub retained_are_one : (raw a b : List Node) → AreRetained raw a → AreRetained raw b → a ≡ b
+retained_are_one raw a b p q =
     let marks : p.marks ≡ q.marks = marks_are_one raw p.marks q.marks p.are_marks q.are_marks in
     p.are ∙ ap (λ m. map (redirected (marked_below m)) (marked m raw)) marks ∙ sym q.are
 
 -- graphs with equal parts are equal
-pub same_graphs : (a b : GraphShape) → a.name ≡ b.name → a.vars ≡ b.vars → a.received ≡ b.received → a.nodes ≡ b.nodes → a ≡ b
-same_graphs a b name vars received nodes =
-    ap (λ x. record a { name = x }) name ∙ ap (λ x. record { name = b.name; vars = x; received = a.received; nodes = a.nodes }) vars
-    ∙ ap (λ x. record { name = b.name; vars = b.vars; received = x; nodes = a.nodes }) received ∙ ap (λ x. record b { nodes = x }) nodes
+pub same_graphs : (a b : GraphShape) → a.name ≡ b.name → a.shared ≡ b.shared → a.vars ≡ b.vars → a.received ≡ b.received → a.nodes ≡ b.nodes → a ≡ b
+same_graphs a b name shared vars received nodes =
+    ap (λ x. record a { name = x }) name ∙ ap (λ x. record { name = b.name; shared = x; vars = a.vars; received = a.received; nodes = a.nodes }) shared
+    ∙ ap (λ x. record { name = b.name; shared = b.shared; vars = x; received = a.received; nodes = a.nodes }) vars
+    ∙ ap (λ x. record { name = b.name; shared = b.shared; vars = b.vars; received = x; nodes = a.nodes }) received ∙ ap (λ x. record b { nodes = x }) nodes
 
 -- and the graph that is made
-pub made_is_one : (name : List ℕ) (vars : List (List ℕ)) (received : List ℕ) (raw : List Node) (a b : GraphShape) → IsMade name vars received raw a → IsMade name vars received raw b → a ≡ b
-made_is_one name vars received raw a b p q =
-    same_graphs a b (p.name_is ∙ sym q.name_is) (p.vars_are ∙ sym q.vars_are) (p.received_are ∙ sym q.received_are) (kept_are_one raw a.nodes b.nodes p.nodes_are q.nodes_are)
+pub made_is_one : (name : List ℕ) (shared : ℕ) (vars : List (List ℕ)) (received : List ℕ) (raw : List Node) (a b : GraphShape) → IsMade name shared vars received raw a → IsMade name shared vars received raw b → a ≡ b
+made_is_one name shared vars received raw a b p q =
+    same_graphs a b (p.name_is ∙ sym q.name_is) (p.shared_is ∙ sym q.shared_is) (p.vars_are ∙ sym q.vars_are) (p.received_are ∙ sym q.received_are) (retained_are_one raw a.nodes b.nodes p.nodes_are q.nodes_are)
 
 -- and the graph of a unit
 pub lowered_is_one : (unit : UnitShape) (a b : GraphShape) → IsLowered unit a → IsLowered unit b → a ≡ b
-lowered_is_one unit a b p q = made_is_one _ _ _ _ a b p.made q.made
+lowered_is_one unit a b p q = made_is_one _ _ _ _ _ a b p.made q.made
 
 -- ---- the layout
 
@@ -100,14 +101,15 @@ plan_is_one nodes p q is is' = elim (cases_lt (length p) (length q)) [
     first = start_succ (slice_get nodes 0)
 
 -- units with equal parts are equal
-pub same_units : (a b : UnitShape) → a.name ≡ b.name → a.vars ≡ b.vars → a.body ≡ b.body → a ≡ b
-same_units a b name vars body =
-    ap (λ x. record a { name = x }) name ∙ ap (λ x. record { name = b.name; vars = x; body = a.body }) vars ∙ ap (λ x. record b { body = x }) body
+pub same_units : (a b : UnitShape) → a.name ≡ b.name → a.shared ≡ b.shared → a.vars ≡ b.vars → a.body ≡ b.body → a ≡ b
+same_units a b name shared vars body =
+    ap (λ x. record a { name = x }) name ∙ ap (λ x. record { name = b.name; shared = x; vars = a.vars; body = a.body }) shared
+    ∙ ap (λ x. record { name = b.name; shared = b.shared; vars = x; body = a.body }) vars ∙ ap (λ x. record b { body = x }) body
 
 -- and the unit of a graph
 pub layout_is_one : (graph : GraphShape) (a b : UnitShape) → IsLayout graph a → IsLayout graph b → a ≡ b
 layout_is_one graph a b p q =
     let plan : p.laid.plan ≡ q.laid.plan = plan_is_one graph.nodes p.laid.plan q.laid.plan p.laid.is_plan q.laid.is_plan in
-    same_units a b (p.name ∙ sym q.name)
-    (p.laid.names_are ∙ ap (λ l. map (λ x. slice_index_or graph.vars x []) (seen_in (plain_body graph.received graph.nodes l))) plan ∙ sym q.laid.names_are)
-    (p.laid.body_is ∙ ap (λ l. renumbered (plain_body graph.received graph.nodes l)) plan ∙ sym q.laid.body_is)
+    same_units a b (p.name ∙ sym q.name) (p.shared ∙ sym q.shared)
+    (p.laid.names_are ∙ ap (λ l. map (λ x. slice_index_or graph.vars x []) (seen_in graph.shared (plain_body graph.received graph.nodes l))) plan ∙ sym q.laid.names_are)
+    (p.laid.body_is ∙ ap (λ l. renumbered graph.shared (plain_body graph.received graph.nodes l)) plan ∙ sym q.laid.body_is)

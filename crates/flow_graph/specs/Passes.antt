@@ -1,7 +1,7 @@
 -- What a pass from graph to graph ensures of its answer, in one word each. Cited by contracts of the passes above.
 use Rattle.mir_base.specs.UnitRuns.{UnitCheaper, UnitSame}
 use Rattle.flow_graph.specs.Calls.{CallsAmong, NodesCall}
-use Rattle.flow_graph.specs.Dividing.{DividesStay}
+use Rattle.flow_graph.specs.Dividing.{DividesStay, DividesUnchanged}
 use Rattle.flow_graph.specs.Graphs.{GraphShape}
 use Rattle.flow_graph.specs.Keeps.{AsGraph, Keeps}
 use Rattle.flow_graph.specs.Machines.{machine_of}
@@ -18,7 +18,11 @@ GraphCheaper first second = UnitCheaper (machine_of first) (machine_of second)
 abbrev pub GraphCalls : GraphShape → GraphShape → Type 0
 GraphCalls first second = CallsAmong (NodesCall second.nodes) (NodesCall first.nodes)
 
--- each dividing assignment of the first stays
+-- each dividing assignment of the first stays as it is, with its operands
+abbrev pub GraphDividesUnchanged : GraphShape → GraphShape → Type 0
+GraphDividesUnchanged first second = DividesUnchanged first.nodes second.nodes
+
+-- each dividing assignment of the first stays, with its variable and its operator
 abbrev pub GraphDivides : GraphShape → GraphShape → Type 0
 GraphDivides first second = DividesStay first.nodes second.nodes
 

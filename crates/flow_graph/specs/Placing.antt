@@ -9,7 +9,7 @@ use Rattle.flow_graph.specs.Graphs.{following}
 use Rattle.flow_graph.specs.Layouts.{place_in}
 use Rattle.flow_graph.specs.Numbering.{is_in, first_index}
 use Rattle.flow_graph.specs.Plans.{first_open, is_placed, open_at}
-use Rattle.flow_graph.specs.Walks.{unmarked}
+use Rattle.flow_graph.specs.ReachWalks.{unmarked}
 
 -- ---- plans
 

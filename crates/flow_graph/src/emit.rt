@@ -4,7 +4,7 @@ ghost use Rattle.std.specs.Option.{option_to_list};
 ghost use Rattle.flow_graph.specs.Graphs.{AllWithin, IsBelow};
 ghost use Rattle.flow_graph.specs.Layouts.{emitted_by, item_insts, item_size, plain_body};
 ghost use Rattle.flow_graph.specs.Placing.{ArePlaces, ItemsWithin, places_after, taken_of};
-ghost use Rattle.flow_graph.specs.Tables.{number_at};
+ghost use Rattle.flow_graph.specs.NumberTables.{number_at};
 
 use crate::Node;
 use crate::plan::Item;
@@ -65,6 +65,7 @@ fn node_size(node: &Node) -> usize
         Node::Skip(_) => 0,
         Node::Assign(_, _, _) => 1,
         Node::Print(_, _) => 1,
+        Node::Guard(_, _, _) => 1,
         Node::Call(_, _, _, _) => 1,
         Node::Test(_, _, _) => 1,
         Node::Return(_) => 1,
@@ -131,6 +132,7 @@ fn emit_node(places: &[usize], node: &Node) -> Result<Option<Inst>, Memory>
         Node::Skip(_) => None,
         Node::Assign(x, rhs, _) => Some(Inst::Assign(*x, *rhs)),
         Node::Print(a, _) => Some(Inst::Print(*a)),
+        Node::Guard(test, number, _) => Some(Inst::TrapIf(*test, *number)),
         Node::Call(into, unit, args, _) => Some(Inst::Call(*into, *unit, args.clone()?)),
         Node::Test(test, taken, _) => Some(Inst::If(*test, places[*taken])),
         Node::Return(a) => Some(Inst::Return(*a)),

@@ -1,6 +1,6 @@
 // Graphs, whose parts are known to fit together.
 ghost use Rattle.std.specs.Prelude.{◌≡◌, ◌<◌, length, slice_get, Some};
-ghost use Rattle.flow_graph.specs.Graphs.{IsGraph, node_succs, succs_at};
+ghost use Rattle.flow_graph.specs.Graphs.{IsGraph, SharesVars, node_succs, succs_at};
 
 use crate::Node;
 use crate::sharing::Names;
@@ -11,11 +11,13 @@ use std::marker::Model;
 
 /// The flow graph of a unit. Node 0 is the only `Start`, no edge leads to it, and every node is reached from it.
 /// Successors are below the number of nodes. The names of the variables are distinct, the received variables are
-/// distinct, and every variable that is received or stands in a node has a name. Contracts see a graph as its name, the
-/// names of its variables, its received variables and its nodes.
+/// distinct and are no globals, the globals are the first variables, and every variable that is received or stands in a
+/// node has a name. Contracts see a graph as its name, the number of globals, the names of its variables, its received
+/// variables and its nodes.
 #[derive(Drop)]
 pub struct Graph {
     pub(crate) name: Name,
+    pub(crate) shared: usize,
     pub(crate) vars: Names,
     pub(crate) received: Items<usize>,
     pub(crate) nodes: Items<Node>,
@@ -23,18 +25,21 @@ pub struct Graph {
 }
 
 impl Model for Graph {
-    ghost use Rattle.flow_graph.specs.Graphs.{GraphShape, IsGraph};
+    ghost use Rattle.flow_graph.specs.Graphs.{GraphShape, IsGraph, SharesVars};
 
     ghost Value = { GraphShape };
 
     ghost view = { λ graph. record {
       name = graph.name;
+      shared = graph.shared;
       vars = graph.vars;
       received = graph.received;
       nodes = graph.nodes;
     } };
 
-    ghost invariant = { λ graph. IsGraph graph.vars graph.received graph.nodes };
+    ghost invariant = { λ graph.
+        IsGraph graph.vars graph.received graph.nodes
+        × SharesVars graph.shared graph.vars graph.received };
 }
 
 impl Graph {
@@ -78,6 +83,14 @@ impl Graph {
         &self.name
     }
 
+    /// How many of the variables are globals: the first ones. It does not allocate.
+    pub fn shared(&self) -> usize
+        ensures value { result ≡ self.now.shared }
+        ensures shares { SharesVars result self.now.vars self.now.received }
+    {
+        self.shared
+    }
+
     /// The names of the variables, by number. It does not allocate.
     pub fn vars(&self) -> &[Name]
         ensures { result.now ≡ self.now.vars }
@@ -86,7 +99,7 @@ impl Graph {
     }
 
     /// The same names, to be shared. It does not allocate.
-    pub(crate) fn shared_names(&self) -> &Names
+    pub fn shared_names(&self) -> &Names
         ensures { result.now ≡ self.now.vars }
     {
         &self.vars

@@ -1,9 +1,9 @@
 //! Flow graphs of units.
 //!
 //! In goes a unit, and out comes its graph (`lower`); in goes a graph, and out comes its unit (`layout`). Between the
-//! two, passes write lists of nodes and make graphs of them (`Graph::with_nodes`), and read the edges (`Edges`). The
-//! definitions in `specs/` say what a graph is, what one step of it does, what its edges and paths are, and which graph
-//! and which unit the calls answer.
+//! two, passes write lists of nodes and make graphs of them (`Graph::with_nodes`), and read the edges (`Edges`); an editor
+//! stands above this crate (`graph_edit`). The definitions in `specs/` say what a graph is, what one step of it does,
+//! what its edges and paths are, and which graph and which unit the calls answer.
 //!
 //! The theorem that this crate carries is that going into a graph and back changes nothing: what `lower`, `layout` and
 //! `with_nodes` answer does the same as what they take, and evaluates no more operators.
@@ -12,10 +12,8 @@
 mod blocks;
 mod edge_lists;
 mod edges;
-mod editor;
 mod emit;
 mod graphs;
-mod keep;
 mod laying;
 mod lowering;
 mod making;
@@ -23,6 +21,7 @@ mod nodes;
 mod plan;
 mod reach;
 mod rename;
+mod retain;
 mod seen;
 mod sharing;
 mod split;
@@ -31,10 +30,10 @@ mod tidying;
 
 pub use blocks::Blocks;
 pub use edges::{Edge, Edges};
-pub use editor::Editor;
 pub use graphs::Graph;
 pub use laying::layout;
 pub use lowering::lower;
 pub use nodes::{Node, redirect};
+pub use sharing::Names;
 pub use split::is_split;
 pub use tidying::tidied;

@@ -1,7 +1,7 @@
 // The nodes of a graph.
 ghost use Rattle.std.specs.Prelude.{◌≡◌, length, slice_get};
 ghost use Rattle.flow_graph.specs.Graphs.{node_succs, SuccsBelow};
-ghost use Rattle.flow_graph.specs.Kept.{redirected_by};
+ghost use Rattle.flow_graph.specs.Retained.{redirected_by};
 
 use mir_base::{Args, Operand, Rhs, Test};
 use std::alloc::AllocError;
@@ -10,7 +10,7 @@ use std::alloc::AllocError;
 /// the nodes at which a run may go on.
 #[derive(Drop)]
 pub enum Node {
-    /// All variables become 0, and the received ones get the arguments.
+    /// All variables but the globals become 0, and the received ones get the arguments.
     Start(usize),
     /// Nothing is done.
     Skip(usize),
@@ -18,6 +18,8 @@ pub enum Node {
     Assign(usize, Rhs, usize),
     /// The number is printed.
     Print(Operand, usize),
+    /// The run traps with this number where the test holds, and goes on otherwise.
+    Guard(Test, u8, usize),
     /// The unit of this number is called with these arguments. Its result goes to the variable, where there is one.
     Call(Option<usize>, usize, Args, usize),
     /// The run goes on at the first successor, `taken`, where the test holds, and at the second, `other`, otherwise.
@@ -35,6 +37,7 @@ impl Clone for Node {
             Node::Skip(next) => Node::Skip(*next),
             Node::Assign(x, rhs, next) => Node::Assign(*x, *rhs, *next),
             Node::Print(a, next) => Node::Print(*a, *next),
+            Node::Guard(test, number, next) => Node::Guard(*test, *number, *next),
             Node::Call(into, unit, args, next) => Node::Call(*into, *unit, args.clone()?, *next),
             Node::Test(test, taken, other) => Node::Test(*test, *taken, *other),
             Node::Return(a) => Node::Return(*a),
@@ -52,6 +55,7 @@ impl Node {
             Node::Skip(next) => Some(*next),
             Node::Assign(_, _, next) => Some(*next),
             Node::Print(_, next) => Some(*next),
+            Node::Guard(_, _, next) => Some(*next),
             Node::Call(_, _, _, next) => Some(*next),
             Node::Test(_, taken, _) => Some(*taken),
             Node::Return(_) => None,
@@ -80,6 +84,7 @@ pub fn redirect(node: Node, to: &[usize]) -> Node
         Node::Skip(next) => Node::Skip(to[next]),
         Node::Assign(x, rhs, next) => Node::Assign(x, rhs, to[next]),
         Node::Print(a, next) => Node::Print(a, to[next]),
+        Node::Guard(test, number, next) => Node::Guard(test, number, to[next]),
         Node::Call(into, unit, args, next) => Node::Call(into, unit, args, to[next]),
         Node::Test(test, taken, other) => Node::Test(test, to[taken], to[other]),
         Node::Return(a) => Node::Return(a),

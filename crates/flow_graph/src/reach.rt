@@ -1,8 +1,8 @@
 // The nodes that are reached, found by a walk from node 0.
 ghost use Rattle.std.specs.Prelude.{◌≡◌, ◌<◌, ◌≤◌, true, false, replicate, length, slice_get, IfOk, OnOk, Some, None};
 ghost use Rattle.flow_graph.specs.Graphs.{AllWithin, IsBelow};
-ghost use Rattle.flow_graph.specs.Kept.{MarkReached};
-ghost use Rattle.flow_graph.specs.Walks.{Walking, marks_after, stack_after, walk_weight};
+ghost use Rattle.flow_graph.specs.Retained.{MarkReached};
+ghost use Rattle.flow_graph.specs.ReachWalks.{Walking, marks_after, stack_after, walk_weight};
 
 use crate::Node;
 use mir_base::Memory;

@@ -32,6 +32,7 @@ fn rename_inst(alloc: Global, seen: &SeenVars, inst: &Inst) -> Result<Inst, Memo
         Inst::If(test, place) => Inst::If(rename_test(seen, *test), *place),
         Inst::Call(into, unit, args) => rename_call(alloc, seen, *into, *unit, args.items())?,
         Inst::Print(a) => Inst::Print(rename_operand(seen, *a)),
+        Inst::TrapIf(test, number) => Inst::TrapIf(rename_test(seen, *test), *number),
         Inst::Return(a) => Inst::Return(rename_operand(seen, *a)),
     })
 }

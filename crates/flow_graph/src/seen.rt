@@ -1,6 +1,7 @@
 // The variables that occur in a body, in the order of their first occurrence.
-ghost use Rattle.std.specs.Prelude.{◌≡◌, ◌<◌, [], ◌∷◌, ◌++◌, flat_map, length, IfOk, OnOk};
-ghost use Rattle.mir_base.specs.Shapes.{AllBelow, inst_vars, into_vars, operand_vars, rhs_vars};
+ghost use Rattle.std.specs.Prelude.{◌≡◌, ◌<◌, ◌≤◌, [], ◌∷◌, ◌++◌, flat_map, length, IfOk, OnOk};
+ghost use Rattle.mir_base.specs.Shapes.{AllBelow, inst_vars, into_vars, operand_vars, rhs_vars, test_vars};
+ghost use Rattle.mir_base.specs.Frames.{shared_vars};
 ghost use Rattle.flow_graph.specs.Numbering.{first_index, seen_after, seen_in};
 
 use mir_base::{Inst, Memory, Operand, Rhs, Test};
@@ -138,6 +139,19 @@ impl SeenVars {
         }
     }
 
+    /// Sees the variables of a test.
+    fn see_test(&mut self, test: Test) -> Result<(), Memory>
+        requires { AllBelow self.old.vars (test_vars test) }
+        ensures vars { self.new.vars ≡ self.old.vars }
+        ensures seen { OnOk result (self.new.seen ≡ seen_after self.old.seen (test_vars test)) }
+    {
+        match test {
+            Test::Rel(_, a, b) => self.see_two(a, b),
+            Test::Holds(a) => self.see_operand(a),
+            Test::Fails(a) => self.see_operand(a),
+        }
+    }
+
     /// Sees the variables of an instruction.
     fn see_inst(&mut self, inst: &Inst) -> Result<(), Memory>
         requires { AllBelow self.old.vars (inst_vars inst.now) }
@@ -148,21 +162,44 @@ impl SeenVars {
             Inst::Receive(x) => self.see(*x),
             Inst::Assign(x, rhs) => self.see_assign(*x, *rhs),
             Inst::Goto(_) => Ok(()),
-            Inst::If(Test::Rel(_, a, b), _) => self.see_two(*a, *b),
-            Inst::If(Test::Holds(a), _) => self.see_operand(*a),
-            Inst::If(Test::Fails(a), _) => self.see_operand(*a),
+            Inst::If(test, _) => self.see_test(*test),
             Inst::Call(into, _, args) => self.see_call(*into, args.items()),
             Inst::Print(a) => self.see_operand(*a),
+            Inst::TrapIf(test, _) => self.see_test(*test),
             Inst::Return(a) => self.see_operand(*a),
         }
     }
 
-    /// The variables that occur in a body, which are numbered below `vars`.
-    pub(crate) fn of(alloc: Global, vars: usize, body: &[Inst]) -> Result<SeenVars, Memory>
-        requires { AllBelow vars (flat_map inst_vars body.now) }
-        ensures { IfOk result (λ seen. seen ≡ record { vars = vars; seen = seen_in body.now }) }
+    /// Sees the first so many variables, where none is seen yet.
+    fn see_globals(&mut self, shared: usize) -> Result<(), Memory>
+        requires shared { shared ≤ self.old.vars }
+        requires none { self.old.seen ≡ [] }
+        ensures vars { self.new.vars ≡ self.old.vars }
+        ensures seen { OnOk result (self.new.seen ≡ shared_vars shared) }
+    {
+        for x in 0..shared {
+            self.see(x)?;
+        }
+        Ok(())
+    }
+
+    /// The globals, which are the first `shared` variables, and the other variables that occur in a body. All are
+    /// numbered below `vars`.
+    pub(crate) fn of(
+        alloc: Global,
+        vars: usize,
+        shared: usize,
+        body: &[Inst],
+    ) -> Result<SeenVars, Memory>
+        requires shared { shared ≤ vars }
+        requires below { AllBelow vars (flat_map inst_vars body.now) }
+        ensures { IfOk result (λ seen. seen ≡ record {
+          vars = vars;
+          seen = seen_in shared body.now;
+        }) }
     {
         let mut seen = SeenVars::new(alloc, vars)?;
+        seen.see_globals(shared)?;
         for inst in body {
             seen.see_inst(inst)?;
         }

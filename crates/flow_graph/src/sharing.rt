@@ -8,7 +8,7 @@ use std::rc::Rc;
 
 /// Names of variables, of which a share does not allocate. Contracts see them as the list of these.
 #[derive(Drop)]
-pub(crate) struct Names {
+pub struct Names {
     shared: Rc<Items<Name>>,
 }
 
@@ -38,7 +38,7 @@ impl Names {
     }
 
     /// The names and others after them; a share where there are no others. It fails only with `Memory`.
-    pub(crate) fn with(&self, alloc: Global, extra: Vec<Name>) -> Result<Names, Memory>
+    pub fn with(&self, alloc: Global, extra: Vec<Name>) -> Result<Names, Memory>
         ensures { IfOk result (λ all. all ≡ self.now ++ extra.items) }
     {
         if extra.is_empty() {

@@ -1,6 +1,6 @@
 // Tables of numbers: a new one, a part of one, and where what belongs to an index begins and ends.
 ghost use Rattle.std.specs.Prelude.{◌≡◌, ◌+◌, ◌<◌, ◌≤◌, length, replicate, slice_range, IfOk};
-ghost use Rattle.flow_graph.specs.Tables.{number_at};
+ghost use Rattle.flow_graph.specs.NumberTables.{number_at};
 
 use mir_base::Memory;
 use std::alloc::Global;

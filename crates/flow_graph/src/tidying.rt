@@ -8,18 +8,19 @@ use crate::seen::SeenVars;
 use mir_base::{Inst, Items, Memory, Name, Unit as MirUnit};
 use std::alloc::Global;
 
-/// The unit of this name and body, with the variables that occur numbered in the order of their first occurrence. The
-/// variables have these names by their old numbers. It fails only with `Memory`.
+/// The unit of this name and body, without globals, with the variables that occur numbered in the order of their first
+/// occurrence. The variables have these names by their old numbers. It fails only with `Memory`.
 pub fn tidied(alloc: Global, name: Name, vars: &[Name], body: &[Inst]) -> Result<MirUnit, Memory>
     requires differ { AllDiffer vars.now }
     requires below { AllBelow (length vars.now) (flat_map inst_vars body.now) }
     ensures { IfOk result (λ unit. unit ≡ tidied_unit name vars.now body.now) }
 {
-    let seen = SeenVars::of(alloc, vars.len(), body)?;
+    let seen = SeenVars::of(alloc, vars.len(), 0, body)?;
     let insts = rename(alloc, &seen, body)?;
     let names = names(alloc, vars, seen.seen())?;
     Ok(MirUnit {
         name,
+        shared: 0,
         vars: Items::of(names),
         body: Items::of(insts),
     })

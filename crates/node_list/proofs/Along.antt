@@ -2,17 +2,17 @@
 use Rattle.std.proofs.Common.{◌≡◌, ◌≢◌, ℕ, zero, suc, ◌+◌, ◌<◌, ◌≤◌, cond, eqb, List, [], ◌∷◌, ◌++◌, length, refl, sym, ap, inl, inr, ◌⊎◌, arith, ◌∙◌, eq-eqb}
 use Rattle.std.proofs.lemmas.Bool.{cases_eq, ne_eqb, lt-ltb, le-ltb}
 use Rattle.node_list.specs.Lists.{times_in, inserted_before, without}
-use Rattle.node_list.specs.Rings.{Along, walk}
+use Rattle.node_list.specs.Rings.{Along, linked_from}
 
--- the walk gives the list that the links lead along
-pub walk_along : (next prev : ℕ → ℕ) (nodes most from : ℕ) (xs : List ℕ) (stop : ℕ) → Along next prev from (xs ++ stop ∷ []) → nodes ≤ stop → ((n : ℕ) → 0 < times_in n xs → n < nodes) → length xs ≤ most
-    → walk next nodes most (next from) ≡ xs
-walk_along next prev nodes zero from [] stop a end low len = refl
-walk_along next prev nodes zero from (x ∷ xs) stop a end low len = absurd (let len' : suc (length xs) ≤ 0 = len in omega arith)
-walk_along next prev nodes (suc most) from [] stop a end low len = rw (a.0, le-ltb stop nodes end) refl
-walk_along next prev nodes (suc most) from (x ∷ xs) stop a end low len =
+-- the nodes along the links are the list that they lead along
+pub linked_along : (next prev : ℕ → ℕ) (nodes most from : ℕ) (xs : List ℕ) (stop : ℕ) → Along next prev from (xs ++ stop ∷ []) → nodes ≤ stop → ((n : ℕ) → 0 < times_in n xs → n < nodes) → length xs ≤ most
+    → linked_from next nodes most (next from) ≡ xs
+linked_along next prev nodes zero from [] stop a end low len = refl
+linked_along next prev nodes zero from (x ∷ xs) stop a end low len = absurd (let len' : suc (length xs) ≤ 0 = len in omega arith)
+linked_along next prev nodes (suc most) from [] stop a end low len = rw (a.0, le-ltb stop nodes end) refl
+linked_along next prev nodes (suc most) from (x ∷ xs) stop a end low len =
     rw (a.0, lt-ltb x nodes (low x (rw (eq-eqb x x refl) (omega arith))))
-    (ap (λ ys. x ∷ ys) (walk_along next prev nodes most x xs stop a.2 end (λ n h. low n (omega arith)) (let len' : suc (length xs) ≤ suc most = len in omega arith)))
+    (ap (λ ys. x ∷ ys) (linked_along next prev nodes most x xs stop a.2 end (λ n h. low n (omega arith)) (let len' : suc (length xs) ≤ suc most = len in omega arith)))
 
 -- a node that is linked to itself would stand twice
 pub along_moves : (next prev : ℕ → ℕ) (from : ℕ) (xs : List ℕ) (stop n : ℕ) → Along next prev from (xs ++ stop ∷ []) → next n ≡ n → n ≢ stop → 0 < times_in n xs → 2 ≤ times_in n xs

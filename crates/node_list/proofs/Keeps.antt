@@ -1,13 +1,13 @@
 -- The links keep leading along lists, as a node is put in (`puts`) or taken out (`cuts`). Each changes the links of two
--- numbers; first what that leaves true of all links, then what the walk along them gives, then the two calls.
+-- numbers; first what that leaves true of all links, then which lists they lead along, then the two calls.
 use Rattle.std.proofs.Common.{◌≡◌, ◌≢◌, ℕ, suc, ◌+◌, ◌<◌, ◌≤◌, List, [], ◌∷◌, ◌++◌, length, map, refl, sym, ap, inl, inr, arith, ◌∙◌}
 use Rattle.std.proofs.lemmas.Bool.{cases_eq, cases_lt, ne_eqb}
 use Rattle.std.proofs.lemmas.List.{ext_get_or, get_or-map, length-map}
 use Rattle.std.proofs.lemmas.List.FromFn.{length-map-range_with_len, get_or-map-range_with_len}
 use Rattle.node_list.specs.Lists.{list_at, times_in, times, inserted_before, without}
-use Rattle.node_list.specs.Rings.{Along, walk, lists_along, AreRings}
+use Rattle.node_list.specs.Rings.{Along, linked_from, lists_along, AreRings}
 use Rattle.node_list.proofs.Counts.{times_in_le, times_map, times_map_without, times_in_without_other, without_append, without_none, length_le}
-use Rattle.node_list.proofs.Along.{walk_along, along_moves, along_put, along_cut}
+use Rattle.node_list.proofs.Along.{linked_along, along_moves, along_put, along_cut}
 use Rattle.node_list.specs.ListedLaws.{times_in_append}
 
 -- ---- links that change at two numbers
@@ -57,19 +57,19 @@ module _ (nodes : ℕ) (lists : List (List ℕ)) (next prev : ℕ → ℕ) (link
   list_once : (list n : ℕ) → times_in n (list_at lists list) ≤ 1
   list_once list n = let le : times_in n (list_at lists list) ≤ times lists n = times_in_le lists list n in let one : times lists n ≤ 1 = linked.once n in omega arith
 
-  -- a list is what the walk from its number gives
-  pub walked : (list : ℕ) → list < length lists → walk next nodes nodes (next (nodes + list)) ≡ list_at lists list
-  walked list h =
-      walk_along next prev nodes nodes (nodes + list) (list_at lists list) (nodes + list) (linked.rings list h) (omega arith) (list_within list)
+  -- a list is what the links from its number lead along
+  pub linked_whole : (list : ℕ) → list < length lists → linked_from next nodes nodes (next (nodes + list)) ≡ list_at lists list
+  linked_whole list h =
+      linked_along next prev nodes nodes (nodes + list) (list_at lists list) (nodes + list) (linked.rings list h) (omega arith) (list_within list)
       (length_le nodes (list_at lists list) (list_within list) (list_once list))
 
-  -- all lists are what the walks give
+  -- all lists are what the links lead along
   pub lists_are : lists_along nodes (length lists) next ≡ lists
   lists_are =
-      let f : ℕ → List ℕ = λ list. walk next nodes nodes (next (nodes + list)) in
+      let f : ℕ → List ℕ = λ list. linked_from next nodes nodes (next (nodes + list)) in
       let len : length (lists_along nodes (length lists) next) ≡ length lists = length-map-range_with_len f 0 (length lists) in
       ext_get_or [] (lists_along nodes (length lists) next) lists len
-      (λ i h. let h' : i < length lists = omega arith in get_or-map-range_with_len f 0 (length lists) i i [] h' (omega arith) ∙ walked i h')
+      (λ i h. let h' : i < length lists = omega arith in get_or-map-range_with_len f 0 (length lists) i i [] h' (omega arith) ∙ linked_whole i h')
 
   -- a node in a list is not linked to itself
   pub moves : (n : ℕ) → 0 < times lists n → next n ≢ n

@@ -9,7 +9,7 @@ use Rattle.std.proofs.lemmas.List.{get_or-map, get_or-set_same, get_or-set_other
 use Rattle.std.proofs.lemmas.List.FromFn.{length-map-range_with_len}
 use Rattle.node_list.specs.Lists.{Lists, list_at, times_in, times, is_listed, inserted_before, without}
 use Rattle.node_list.specs.ListedLaws.{times_none}
-use Rattle.node_list.specs.Rings.{linked_lists, walk, lists_along, AreRings, HoldLinks}
+use Rattle.node_list.specs.Rings.{linked_lists, linked_from, lists_along, AreRings, HoldLinks}
 use Rattle.node_list.proofs.Counts.{times_in_le, times_map, times_map_put_before, times_in_put_before_other, times_end_new, times_end_other, put_before_append, put_before_none, listed_yes, listed_no, without_first}
 use Rattle.node_list.proofs.Along.{first_link}
 use Rattle.node_list.proofs.Keeps.{lists_are, moves, puts, cuts}
@@ -43,7 +43,7 @@ all_written len xs ws e same = rw (drop_all (length ws) xs (omega arith), append
 -- slices that lead along lists hold these
 module _ (nodes count : ℕ) (next prev : List ℕ) (lists : List (List ℕ)) (next_len : length next ≡ nodes + count) (prev_len : length prev ≡ nodes + count) (len : length lists ≡ count)
     (linked : AreRings nodes lists (λ k. get_or next k 0) (λ k. get_or prev k 0)) where
-  -- the walks along the links give these lists
+  -- the links lead along these lists
   pub along_is : lists_of nodes count next ≡ lists
   along_is = rw (← len) (lists_are nodes lists (λ k. get_or next k 0) (λ k. get_or prev k 0) linked)
 
@@ -68,7 +68,7 @@ index_fits index len cap size within len_is fits small = omega arith
 
 module _ (nodes count : ℕ) (next prev : List ℕ) (held : HoldLinks nodes count next prev) where
   pub all_len : length (lists_of nodes count next) ≡ count
-  all_len = length-map-range_with_len (λ list. walk (λ k. get_or next k 0) nodes nodes (get_or next (nodes + list) 0)) 0 count
+  all_len = length-map-range_with_len (λ list. linked_from (λ k. get_or next k 0) nodes nodes (get_or next (nodes + list) 0)) 0 count
 
   pub ring_in : (shown : Lists) (list : ℕ) → linked_lists nodes count next ≡ shown → list < length shown.lists → RingIn nodes count next list
   ring_in shown list view h =

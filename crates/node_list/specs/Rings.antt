@@ -10,13 +10,13 @@ Along next prev from [] = Unit {0}
 Along next prev from (x ∷ xs) = (next from ≡ x) × (prev x ≡ from) × Along next prev x xs
 
 -- the nodes that the links lead along from a number, up to the first that is no node; at most so many
-abbrev pub walk : (ℕ → ℕ) → ℕ → ℕ → ℕ → List ℕ
-walk next nodes zero from = []
-walk next nodes (suc most) from = if nat_lt from nodes then from ∷ walk next nodes most (next from) else []
+abbrev pub linked_from : (ℕ → ℕ) → ℕ → ℕ → ℕ → List ℕ
+linked_from next nodes zero from = []
+linked_from next nodes (suc most) from = if nat_lt from nodes then from ∷ linked_from next nodes most (next from) else []
 
 -- the lists that the links lead along
 abbrev pub lists_along : ℕ → ℕ → (ℕ → ℕ) → List (List ℕ)
-lists_along nodes count next = map (λ list. walk next nodes nodes (next (nodes + list))) (range_with_len 0 count)
+lists_along nodes count next = map (λ list. linked_from next nodes nodes (next (nodes + list))) (range_with_len 0 count)
 
 -- the lists as contracts see them, of a slice of links
 abbrev pub linked_lists : ℕ → ℕ → List ℕ → Lists

@@ -8,7 +8,7 @@ use Rattle.std.specs.List.{list_any}
 use Rattle.path_laws.specs.Leads.{Leads, at_seed, one_more}
 use Rattle.path_laws.specs.Blockwise.{passed, passed_all}
 
--- what a block does as a whole: its seeds, and what comes to it where none of its nodes blocks that
+-- what a block does as a whole: its seeds, and what comes to it where none of its nodes bars that
 apart : (r s x k a : Bool) → (r || ((s || (x && not k)) && not a)) ≡ ((r || ((s || (false && not k)) && not a)) || (x && not (k || a)))
 apart true s x k a = refl
 apart false true x k true = and_not x k
@@ -23,22 +23,22 @@ apart false false true false true = refl
 apart false false true false false = refl
 apart false false false k a = refl
 
--- what comes out of a path: what it seeds itself, and what comes to it where none of its nodes blocks that
-pub passed_apart : (seed block : ℕ → Bool) (path : List ℕ) (x : Bool) → passed_all seed block x path ≡ (passed_all seed block false path || (x && not (list_any block path)))
-passed_apart seed block [] x = sym (and-true x)
-passed_apart seed block (n ∷ path) x =
-    let first = passed_apart seed block path (passed seed block n x) in
-    let empty = passed_apart seed block path (passed seed block n false) in
-    first ∙ apart (passed_all seed block false path) (seed n) x (block n) (list_any block path) ∙ ap (λ r. r || (x && not (block n || list_any block path))) (sym empty)
+-- what comes out of a path: what it seeds itself, and what comes to it where none of its nodes bars that
+pub passed_apart : (seed bar : ℕ → Bool) (path : List ℕ) (x : Bool) → passed_all seed bar x path ≡ (passed_all seed bar false path || (x && not (list_any bar path)))
+passed_apart seed bar [] x = sym (and-true x)
+passed_apart seed bar (n ∷ path) x =
+    let first = passed_apart seed bar path (passed seed bar n x) in
+    let empty = passed_apart seed bar path (passed seed bar n false) in
+    first ∙ apart (passed_all seed bar false path) (seed n) x (bar n) (list_any bar path) ∙ ap (λ r. r || (x && not (bar n || list_any bar path))) (sym empty)
 
 -- a path that goes on is passed in two steps
-pub passed_append : (seed block : ℕ → Bool) (xs ys : List ℕ) (x : Bool) → passed_all seed block x (xs ++ ys) ≡ passed_all seed block (passed_all seed block x xs) ys
-passed_append seed block [] ys x = refl
-passed_append seed block (n ∷ xs) ys x = passed_append seed block xs ys (passed seed block n x)
+pub passed_append : (seed bar : ℕ → Bool) (xs ys : List ℕ) (x : Bool) → passed_all seed bar x (xs ++ ys) ≡ passed_all seed bar (passed_all seed bar x xs) ys
+passed_append seed bar [] ys x = refl
+passed_append seed bar (n ∷ xs) ys x = passed_append seed bar xs ys (passed seed bar n x)
 
 -- and one that goes on by one node
-pub passed_next : (seed block : ℕ → Bool) (xs : List ℕ) (i n : ℕ) (x : Bool) → slice_get xs i ≡ Some n → passed_all seed block x (take (suc i) xs) ≡ passed seed block n (passed_all seed block x (take i xs))
-passed_next seed block xs i n x e = ap (passed_all seed block x) (take_next xs i n e) ∙ passed_append seed block (take i xs) (n ∷ []) x
+pub passed_next : (seed bar : ℕ → Bool) (xs : List ℕ) (i n : ℕ) (x : Bool) → slice_get xs i ≡ Some n → passed_all seed bar x (take (suc i) xs) ≡ passed seed bar n (passed_all seed bar x (take i xs))
+passed_next seed bar xs i n x e = ap (passed_all seed bar x) (take_next xs i n e) ∙ passed_append seed bar (take i xs) (n ∷ []) x
 
 -- each node but the first has the one before it as its only step back
 abbrev pub IsRun : (ℕ → ℕ → Type 0) → List ℕ → Type 0
@@ -52,25 +52,25 @@ pub record AreRuns (nodes count : ℕ) (steps : ℕ → ℕ → Type 0) (paths :
   pub sound : (c d : ℕ) → between c d → (c < count) × (d < count) × ((m : ℕ) × (k : ℕ) × (i : ℕ) × (slice_get (paths c) 0 ≡ Some m) × (slice_get (paths d) i ≡ Some k) × (suc i ≡ length (paths d)) × steps m k)
   pub complete : (c m k : ℕ) → c < count → slice_get (paths c) 0 ≡ Some m → steps m k → (d : ℕ) × (i : ℕ) × between c d × (slice_get (paths d) i ≡ Some k) × (suc i ≡ length (paths d))
 
-module _ (steps : ℕ → ℕ → Type 0) (seed block : ℕ → Bool) where
+module _ (steps : ℕ → ℕ → Type 0) (seed bar : ℕ → Bool) where
   abbrev Led : ℕ → Type 0
-  Led n = Leads steps seed block n
+  Led n = Leads steps seed bar n
 
   -- what comes out of a node has come from a seed, if what came to it has
-  run_one : (p : ℕ) (x : Bool) → (x ≡ true → block p ≡ false → Led p) → passed seed block p x ≡ true → Led p
-  run_one p x from on = elim (or_cases (seed p) (x && not (block p)) on) as (λ _. Led p) [
+  run_one : (p : ℕ) (x : Bool) → (x ≡ true → bar p ≡ false → Led p) → passed seed bar p x ≡ true → Led p
+  run_one p x from on = elim (or_cases (seed p) (x && not (bar p)) on) as (λ _. Led p) [
     | inl here ↦ at_seed p here
-    | inr came ↦ let parts = and_parts x (not (block p)) came in from parts.0 (not-true (block p) parts.1)
+    | inr came ↦ let parts = and_parts x (not (bar p)) came in from parts.0 (not-true (bar p) parts.1)
   ]
 
   -- and so it is with a run
-  run_sound : (path : List ℕ) (x : Bool) (i n : ℕ) → IsRun steps path → ((m : ℕ) → slice_get path 0 ≡ Some m → x ≡ true → block m ≡ false → Led m) → slice_get path i ≡ Some n → passed_all seed block x (take (suc i) path) ≡ true → Led n
+  run_sound : (path : List ℕ) (x : Bool) (i n : ℕ) → IsRun steps path → ((m : ℕ) → slice_get path 0 ≡ Some m → x ≡ true → bar m ≡ false → Led m) → slice_get path i ≡ Some n → passed_all seed bar x (take (suc i) path) ≡ true → Led n
   run_sound [] x i n is from e on = absurd is
   run_sound (p ∷ []) x zero n is from e on = let same : p ≡ n = cc in subst Led same (run_one p x (from p refl) on)
   run_sound (p ∷ []) x (suc i) n is from e on = cc
   run_sound (p ∷ q ∷ path) x zero n is from e on = let same : p ≡ n = cc in subst Led same (run_one p x (from p refl) on)
   run_sound (p ∷ q ∷ path) x (suc i) n is from e on =
-      run_sound (q ∷ path) (passed seed block p x) i n is.2
+      run_sound (q ∷ path) (passed seed bar p x) i n is.2
       (λ m at came free.
       let same : q ≡ m = cc in
       let here = run_one p x (from p refl) came in
@@ -86,10 +86,10 @@ module _ (steps : ℕ → ℕ → Type 0) (seed block : ℕ → Bool) where
 
   module _ (nodes count : ℕ) (paths : ℕ → List ℕ) (between : ℕ → ℕ → Type 0) (are : AreRuns nodes count steps paths between) where
     abbrev block_seed : ℕ → Bool
-    block_seed c = passed_all seed block false (paths c)
+    block_seed c = passed_all seed bar false (paths c)
 
     abbrev block_stop : ℕ → Bool
-    block_stop c = list_any block (paths c)
+    block_stop c = list_any bar (paths c)
 
     -- the last node of a block in the order of the flow
     abbrev Ahead : ℕ → ℕ → Type 0
@@ -97,22 +97,22 @@ module _ (steps : ℕ → ℕ → Type 0) (seed block : ℕ → Bool) where
 
     -- a block that leads to a seed: so does the node from which the flow leaves it
     pub last_leads : (d : ℕ) → d < count → Leads between block_seed block_stop d → (k : ℕ) → Ahead d k → Led k
-    last_leads d h (at_seed c on) k (i, at, end) = run_sound (paths d) false i k (are.runs d h) (λ m first bad free. absurd (cc)) at (ap (passed_all seed block false) (take_all (suc i) (paths d) (omega (arith, end))) ∙ on)
+    last_leads d h (at_seed c on) k (i, at, end) = run_sound (paths d) false i k (are.runs d h) (λ m first bad free. absurd (cc)) at (ap (passed_all seed bar false) (take_all (suc i) (paths d) (omega (arith, end))) ∙ on)
     last_leads d h (one_more c e step free rest) k (i, at, end) =
         let s = are.sound d e step in
-        let whole : passed_all seed block true (paths d) ≡ true = passed_apart seed block (paths d) true ∙ or_right (passed_all seed block false (paths d)) (not (list_any block (paths d))) (not_from_false (list_any block (paths d)) free) in
+        let whole : passed_all seed bar true (paths d) ≡ true = passed_apart seed bar (paths d) true ∙ or_right (passed_all seed bar false (paths d)) (not (list_any bar (paths d))) (not_from_false (list_any bar (paths d)) free) in
         run_sound (paths d) true i k (are.runs d h)
         (λ m first on m_free.
         let both : Some s.2.0 ≡ Some m = sym s.2.3 ∙ first in
         let same : s.2.0 ≡ m = cc in
         one_more m s.2.1 (subst (λ j. steps j s.2.1) same s.2.6) m_free (last_leads e s.1 rest s.2.1 (s.2.2, s.2.4, s.2.5)))
-        at (ap (passed_all seed block true) (take_all (suc i) (paths d) (omega (arith, end))) ∙ whole)
+        at (ap (passed_all seed bar true) (take_all (suc i) (paths d) (omega (arith, end))) ∙ whole)
 
     -- the bits of blocks, and what comes to each
     module _ (w x : ℕ → Bool) (w_is : (c : ℕ) → c < count → (w c ≡ true) ↔ Leads between block_seed block_stop c) (x_sound : (c : ℕ) → c < count → x c ≡ true → (d : ℕ) × between c d × (w d ≡ true)) (x_complete : (c d : ℕ) → c < count → between c d → w d ≡ true → x c ≡ true) where
       -- what comes out of a block's nodes comes out of the block
-      pub last_on : (d : ℕ) → d < count → passed_all seed block (x d) (paths d) ≡ true → w d ≡ true
-      last_on d h on = elim (or_cases (block_seed d) (x d && not (block_stop d)) (sym (passed_apart seed block (paths d) (x d)) ∙ on)) as (λ _. w d ≡ true) [
+      pub last_on : (d : ℕ) → d < count → passed_all seed bar (x d) (paths d) ≡ true → w d ≡ true
+      last_on d h on = elim (or_cases (block_seed d) (x d && not (block_stop d)) (sym (passed_apart seed bar (paths d) (x d)) ∙ on)) as (λ _. w d ≡ true) [
         | inl here ↦ (w_is d h).1 (at_seed d here)
         | inr came ↦
             let parts = and_parts (x d) (not (block_stop d)) came in
@@ -120,17 +120,17 @@ module _ (steps : ℕ → ℕ → Type 0) (seed block : ℕ → Bool) where
             (w_is d h).1 (one_more d from.0 from.1 (not-true (block_stop d) parts.1) ((w_is from.0 (are.sound d from.0 from.1).1).0 from.2))
       ]
 
-      pub after_complete : (n : ℕ) → Led n → (c i : ℕ) → c < count → slice_get (paths c) i ≡ Some n → passed_all seed block (x c) (take (suc i) (paths c)) ≡ true
-      after_complete n (at_seed m on) c i h at = passed_next seed block (paths c) i n (x c) at ∙ or_left (seed n) (passed_all seed block (x c) (take i (paths c)) && not (block n)) on
+      pub after_complete : (n : ℕ) → Led n → (c i : ℕ) → c < count → slice_get (paths c) i ≡ Some n → passed_all seed bar (x c) (take (suc i) (paths c)) ≡ true
+      after_complete n (at_seed m on) c i h at = passed_next seed bar (paths c) i n (x c) at ∙ or_left (seed n) (passed_all seed bar (x c) (take i (paths c)) && not (bar n)) on
       after_complete n (one_more m k step free rest) c zero h at =
           let out = are.complete c n k h at step in
           let d_in = (are.sound c out.0 out.2).1 in
           let on = after_complete k rest out.0 out.1 d_in out.3 in
-          let w_on = last_on out.0 d_in (ap (passed_all seed block (x out.0)) (sym (take_all (suc out.1) (paths out.0) (omega (arith, out.4)))) ∙ on) in
+          let w_on = last_on out.0 d_in (ap (passed_all seed bar (x out.0)) (sym (take_all (suc out.1) (paths out.0) (omega (arith, out.4)))) ∙ on) in
           let x_on = x_complete c out.0 h out.2 w_on in
-          passed_next seed block (paths c) zero n (x c) at ∙ or_right (seed n) (x c && not (block n)) (rw (x_on, free) refl)
+          passed_next seed bar (paths c) zero n (x c) at ∙ or_right (seed n) (x c && not (bar n)) (rw (x_on, free) refl)
       after_complete n (one_more m k step free rest) c (suc i) h at =
           let back = run_back (paths c) i n (are.runs c h) at in
           let same : k ≡ back.0 = back.3 k step in
           let on = after_complete k rest c i h (back.1 ∙ ap Some (sym same)) in
-          passed_next seed block (paths c) (suc i) n (x c) at ∙ or_right (seed n) (passed_all seed block (x c) (take (suc i) (paths c)) && not (block n)) (rw (on, free) refl)
+          passed_next seed bar (paths c) (suc i) n (x c) at ∙ or_right (seed n) (passed_all seed bar (x c) (take (suc i) (paths c)) && not (bar n)) (rw (on, free) refl)

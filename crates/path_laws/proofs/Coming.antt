@@ -10,7 +10,7 @@ use Rattle.flow_graph.specs.Blocks.{IsBlocks}
 use Rattle.flow_graph.specs.Graphs.{AllWithin}
 use Rattle.path_laws.specs.Between.{AreBetween}
 use Rattle.node_list.specs.Lists.{list_at}
-use Rattle.path_laws.specs.Blockwise.{HasAnswer, AreGrowing, AreBlockedByPaths, initial_bit, brought, flow_order, handed_on, passed_all}
+use Rattle.path_laws.specs.Blockwise.{HasAnswer, AreGrowing, AreBarredByPaths, initial_bit, brought, flow_order, handed_on, passed_all}
 use Rattle.path_laws.specs.Leads.{Leads, at_seed, one_more, steps_of}
 use Rattle.flow_graph.specs.FlowEdges.{StepAlong, edge_at}
 use Rattle.path_laws.specs.Paths.{AreRows, has_bit}
@@ -20,9 +20,9 @@ use Rattle.path_laws.proofs.RowsPassed.{ArePassed}
 use Rattle.path_laws.proofs.Runs.{are_runs, block_run}
 
 -- seeds and stops that are the same at each node
-pub leads_same : (count : ℕ) (steps : ℕ → ℕ → Type 0) (seed other stop block : ℕ → Bool) → ((m n : ℕ) → steps m n → n < count) → ((n : ℕ) → n < count → seed n ≡ other n) → ((n : ℕ) → n < count → stop n ≡ block n) → (n : ℕ) → n < count → Leads steps seed stop n → Leads steps other block n
-leads_same count steps seed other stop block within seeds stops n h (at_seed k on) = at_seed n (sym (seeds n h) ∙ on)
-leads_same count steps seed other stop block within seeds stops n h (one_more m k step free rest) = one_more n k step (sym (stops n h) ∙ free) (leads_same count steps seed other stop block within seeds stops k (within n k step) rest)
+pub leads_same : (count : ℕ) (steps : ℕ → ℕ → Type 0) (seed other stop bar : ℕ → Bool) → ((m n : ℕ) → steps m n → n < count) → ((n : ℕ) → n < count → seed n ≡ other n) → ((n : ℕ) → n < count → stop n ≡ bar n) → (n : ℕ) → n < count → Leads steps seed stop n → Leads steps other bar n
+leads_same count steps seed other stop bar within seeds stops n h (at_seed k on) = at_seed n (sym (seeds n h) ∙ on)
+leads_same count steps seed other stop bar within seeds stops n h (one_more m k step free rest) = one_more n k step (sym (stops n h) ∙ free) (leads_same count steps seed other stop bar within seeds stops k (within n k step) rest)
 
 -- ---- what comes to a block
 
@@ -115,7 +115,7 @@ module _ (against : Bool) (nodes : List Node) (lists : List (List ℕ)) (edges :
 
 -- the least rows over the edges between blocks, as a slice has them
 pub led_blocks : (against : Bool) (nodes : List Node) (lists : List (List ℕ)) (bits count : ℕ) (edges slice : List Edge) (firsts : List ℕ) (path : ℕ → List ℕ) (seed stop : ℕ → ℕ → Bool) (seeds stops work : List (List Bool))
-    → AreBetween against nodes lists (length lists) edges firsts → ArePassed (length lists) bits path seed stop seeds → AreBlockedByPaths (length lists) bits path stop stops → count ≡ length lists → slice ≡ edges
+    → AreBetween against nodes lists (length lists) edges firsts → ArePassed (length lists) bits path seed stop seeds → AreBarredByPaths (length lists) bits path stop stops → count ≡ length lists → slice ≡ edges
     → ((n b : ℕ) → n < count → b < bits → (has_bit work b n ≡ true) ↔ Leads (StepAlong slice) (has_bit seeds b) (has_bit stops b) n)
     → (c b : ℕ) → c < length lists → b < bits → (has_bit work b c ≡ true) ↔ Leads (StepAlong edges) (λ k. passed_all (seed b) (stop b) false (path k)) (λ k. list_any (stop b) (path k)) c
 led_blocks against nodes lists bits count edges slice firsts path seed stop seeds stops work between passed stopped count_is slice_is leads c b h l =

@@ -15,7 +15,7 @@ use Rattle.path_laws.specs.Leads.{SomeStep, TellSteps, steps_of}
 use Rattle.path_laws.specs.Paths.{AreRows, has_bit}
 use Rattle.path_laws.specs.RowLaws.{Written, put, written_shape}
 use Rattle.path_laws.proofs.Pushing.{pushed_before, pushed_last, pushed_shape}
-use Rattle.path_laws.proofs.RowBits.{flow_step, step_edge}
+use Rattle.path_laws.specs.LeadsLaws.{flow_step, step_edge}
 
 -- a step one way is a step back the other way
 step_reversed : (against : Bool) (nodes : List Node) (m n : ℕ) → steps_of (not against) nodes m n → steps_of against nodes n m

@@ -14,12 +14,12 @@ use Rattle.path_laws.specs.Between.{AreBetween, AreOut, AreOutTo, IsAhead, IsAhe
 use Rattle.node_list.specs.Lists.{list_at}
 use Rattle.path_laws.specs.Leads.{steps_of}
 use Rattle.flow_graph.specs.FlowEdges.{AreFlowEdges, edge_at, first_out, flow_edges}
-use Rattle.flow_graph.specs.Tables.{number_at}
+use Rattle.flow_graph.specs.NumberTables.{number_at}
 use Rattle.path_laws.specs.Nets.{IsListedFlow}
 use Rattle.path_laws.specs.Paths.{AreRows}
 use Rattle.flow_graph.specs.FlowEdgeLaws.{flow_edges_are}
 use Rattle.path_laws.proofs.Counting.{ahead_is, count_is}
-use Rattle.path_laws.proofs.RowBits.{flow_step, step_edge}
+use Rattle.path_laws.specs.LeadsLaws.{flow_step, step_edge}
 use Rattle.mir_base.specs.ItemLaws.{one_item}
 
 -- ---- the edges that leave one block
@@ -240,5 +240,5 @@ pub between_listed : (against : Bool) (nodes : List Node) (lists : List (List �
     → slice ≡ edges → table ≡ firsts → count ≡ length lists → AreRows (length lists) bits seeds → AreRows (length lists) bits stops → IsListedFlow count slice table bits seeds stops
 between_listed against nodes lists edges slice firsts table count bits seeds stops are slice_is table_is count_is seed_rows stop_rows = rw (slice_is, table_is, count_is) (record {
   long = omega (arith, are.long);
-  flow = record { are = between_flow against nodes lists edges firsts are; first_rows = seed_rows; block_rows = stop_rows };
+  flow = record { are = between_flow against nodes lists edges firsts are; first_rows = seed_rows; bar_rows = stop_rows };
 })

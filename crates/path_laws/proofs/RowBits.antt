@@ -1,22 +1,17 @@
 -- Each bit of the least rows is true exactly where it has come from a seed.
-use Rattle.std.proofs.Common.{◌≡◌, ℕ, zero, suc, ◌+◌, ◌<◌, ◌↔◌, ◌⊎◌, Bool, true, false, not, List, [], ◌∷◌, length, get_or, slice_get, refl, sym, ap, inl, inr, arith, ◌∙◌, Some, option_map}
+use Rattle.std.proofs.Common.{◌≡◌, ℕ, zero, suc, ◌<◌, ◌↔◌, ◌⊎◌, Bool, true, false, not, List, [], ◌∷◌, length, get_or, refl, sym, ap, inl, inr, arith, ◌∙◌}
 use Rattle.std.proofs.lemmas.Bool.{and_from, and_parts, not-true, or_cases}
 use Rattle.std.proofs.lemmas.List.{get_or_default}
-use Rattle.std.proofs.lemmas.Option.{slice_get_within, slice_get-get_or, slice_get-map, get_or_from_slice_get}
+use Rattle.std.proofs.lemmas.Option.{slice_get-get_or}
 use Rattle.fix_solve.specs.Arising.{arising_hold}
 use Rattle.fix_solve.specs.Net.{IsLeastSolution, value_at}
 use Rattle.fix_solve.specs.Order.{IsLeastUpper}
 use Rattle.bit_rows.specs.BitLaws.{minus_bit, or_bit}
 use Rattle.bit_rows.specs.Bits.{minus_bits, or_bits, row_of}
 use Rattle.flow_graph.specs.declared.edges.Edge.{Edge}
-use Rattle.flow_graph.specs.declared.nodes.Node.{Node}
-use Rattle.flow_graph.specs.EdgeLaws.{by_target_from, by_target_has, edge_is, edge_number}
-use Rattle.flow_graph.specs.Edges.{by_target, edges_from, first_leaving}
-use Rattle.flow_graph.specs.Graphs.{AllWithin}
-use Rattle.path_laws.specs.Leads.{Leads, at_seed, one_more, steps_of}
-use Rattle.flow_graph.specs.FlowEdges.{StepAlong, edge_at, flow_edges, reversed_edge}
+use Rattle.path_laws.specs.Leads.{Leads, at_seed, one_more}
+use Rattle.flow_graph.specs.FlowEdges.{StepAlong, edge_at}
 use Rattle.path_laws.specs.Nets.{IsBitFlow, bit_flow}
-use Rattle.flow_graph.specs.FlowEdgeLaws.{reversed_from}
 use Rattle.path_laws.specs.Order.{BelowBits}
 use Rattle.path_laws.specs.OrderLaws.{below_length, or_joins}
 use Rattle.path_laws.specs.Paths.{has_bit}
@@ -35,32 +30,6 @@ below_from_bits [] (y ∷ ys) e h = absurd (omega (arith, e))
 below_from_bits (x ∷ xs) [] e h = absurd (omega (arith, e))
 below_from_bits (x ∷ xs) (y ∷ ys) e h = (h zero, below_from_bits xs ys (let e' : suc (length xs) ≡ suc (length ys) = e in omega arith) (λ k. h (suc k)))
 
--- an edge of the flow is a step back to its source
-pub flow_step : (against : Bool) (nodes : List Node) (e : ℕ) → e < length (flow_edges against nodes) → steps_of against nodes (edge_at (flow_edges against nodes) e).target (edge_at (flow_edges against nodes) e).source
-flow_step true nodes e h =
-    let edge = edge_at (flow_edges true nodes) e in
-    let back = reversed_from (by_target (length nodes) (edges_from 0 nodes)) e edge (slice_get-get_or (flow_edges true nodes) e _ h) in
-    let k = by_target_from (length nodes) (edges_from 0 nodes) e (reversed_edge edge) back in
-    edge_is nodes k.0 (reversed_edge edge) k.1
-flow_step false nodes e h = edge_is nodes e (edge_at (edges_from 0 nodes) e) (slice_get-get_or (edges_from 0 nodes) e _ h)
-
--- and each step back is one of these edges
-pub step_edge : (against : Bool) (nodes : List Node) → AllWithin nodes → (m n : ℕ) → steps_of against nodes m n
-    → (e : ℕ) × (e < length (flow_edges against nodes)) × ((edge_at (flow_edges against nodes) e).source ≡ n) × ((edge_at (flow_edges against nodes) e).target ≡ m)
-step_edge true nodes within m n step =
-    let edge : Edge = record { source = m; target = n } in
-    let k = first_leaving m (edges_from 0 nodes) + step.0 in
-    let place = by_target_has (length nodes) (edges_from 0 nodes) k edge (edge_number nodes m step.0 n step.1) (within m step.0 n step.1) in
-    let there : slice_get (flow_edges true nodes) place.0 ≡ Some (reversed_edge edge) = slice_get-map reversed_edge (by_target (length nodes) (edges_from 0 nodes)) place.0 ∙ ap (option_map reversed_edge) place.1 in
-    let is = get_or_from_slice_get (flow_edges true nodes) place.0 (reversed_edge edge) (record { source = 0; target = 0 }) there in
-    (place.0, slice_get_within (flow_edges true nodes) place.0 (reversed_edge edge) there, ap (λ (x : Edge). x.source) is, ap (λ (x : Edge). x.target) is)
-step_edge false nodes within m n step =
-    let edge : Edge = record { source = n; target = m } in
-    let k = first_leaving n (edges_from 0 nodes) + step.0 in
-    let there = edge_number nodes n step.0 m step.1 in
-    let is = get_or_from_slice_get (edges_from 0 nodes) k edge (record { source = 0; target = 0 }) there in
-    (k, slice_get_within (edges_from 0 nodes) k edge there, ap (λ (x : Edge). x.source) is, ap (λ (x : Edge). x.target) is)
-
 -- what is left of a row was in it, and is not in the other
 minus_true : (xs ys : List Bool) (k : ℕ) → get_or (minus_bits xs ys) k false ≡ true → (get_or xs k false ≡ true) × (not (get_or ys k false) ≡ true)
 minus_true [] ys k h = absurd (cc)
@@ -76,7 +45,7 @@ joined_bit xs ys zs k joined t =
     let on = below_bit zs (or_bits xs ys) k (joined.least (or_bits xs ys) upper.left upper.right) t in
     or_cases (get_or xs k false) (get_or ys k false) (sym (or_bit xs ys k same) ∙ on)
 
-module _ (nodes : ℕ) (edges : List Edge) (out : ℕ → ℕ) (bits : ℕ) (first block : List (List Bool)) (valid : IsBitFlow nodes edges out bits first block) (v : ℕ → List Bool) (least : IsLeastSolution BelowBits (bit_flow nodes edges out bits first block) v) (b : ℕ) where
+module _ (nodes : ℕ) (edges : List Edge) (out : ℕ → ℕ) (bits : ℕ) (first bar : List (List Bool)) (valid : IsBitFlow nodes edges out bits first bar) (v : ℕ → List Bool) (least : IsLeastSolution BelowBits (bit_flow nodes edges out bits first bar) v) (b : ℕ) where
   abbrev src : ℕ → ℕ
   src e = (edge_at edges e).source
 
@@ -85,17 +54,17 @@ module _ (nodes : ℕ) (edges : List Edge) (out : ℕ → ℕ) (bits : ℕ) (fir
 
   -- the bit has come to a node from a seed
   abbrev Led : ℕ → Type 0
-  Led n = Leads (StepAlong edges) (has_bit first b) (has_bit block b) n
+  Led n = Leads (StepAlong edges) (has_bit first b) (has_bit bar b) n
 
   -- what is true at a node has come from a seed: so it is of the first rows, and it goes over the edges
   pub leads_from_true : (n : ℕ) → n < nodes → get_or (v n) b false ≡ true → Led n
   leads_from_true n h =
-      arising_hold BelowBits (bit_flow nodes edges out bits first block) (λ m x. get_or x b false ≡ true → Led m) (λ m seed. at_seed m seed)
-      (λ e from old new within before here joined now. elim (joined_bit old (minus_bits from (row_of block (tgt e))) new b joined now) as (λ _. Led (tgt e)) [
+      arising_hold BelowBits (bit_flow nodes edges out bits first bar) (λ m x. get_or x b false ≡ true → Led m) (λ m seed. at_seed m seed)
+      (λ e from old new within before here joined now. elim (joined_bit old (minus_bits from (row_of bar (tgt e))) new b joined now) as (λ _. Led (tgt e)) [
         | inl was ↦ here was
         | inr passed ↦
-            let parts = minus_true from (row_of block (tgt e)) b passed in
-            one_more (tgt e) (src e) (e, within, refl, refl) (not-true (has_bit block b (tgt e)) parts.1) (before parts.0)
+            let parts = minus_true from (row_of bar (tgt e)) b passed in
+            one_more (tgt e) (src e) (e, within, refl, refl) (not-true (has_bit bar b (tgt e)) parts.1) (before parts.0)
       ])
       n (v n) (least.arises n h)
 
@@ -105,12 +74,12 @@ module _ (nodes : ℕ) (edges : List Edge) (out : ℕ → ℕ) (bits : ℕ) (fir
   v_length : (n : ℕ) → n < nodes → length (v n) ≡ bits
   v_length n h = sym (below_length (row_of first n) (v n) (least.solves.above_first n h)) ∙ valid.first_rows.each n h
 
-  -- a bit that is true at the source of an edge is true at its target, where that one does not block it
-  goes_over : (e : ℕ) → e < length edges → has_bit block b (tgt e) ≡ false → get_or (v (src e)) b false ≡ true → get_or (v (tgt e)) b false ≡ true
+  -- a bit that is true at the source of an edge is true at its target, where that one does not bar it
+  goes_over : (e : ℕ) → e < length edges → has_bit bar b (tgt e) ≡ false → get_or (v (src e)) b false ≡ true → get_or (v (tgt e)) b false ≡ true
   goes_over e h free t =
-      below_bit (minus_bits (v (src e)) (row_of block (tgt e))) (v (tgt e)) b (least.solves.above_edges e h)
-      (minus_bit (v (src e)) (row_of block (tgt e)) b (v_length (src e) (ends_in e h).0 ∙ sym (valid.block_rows.each (tgt e) (ends_in e h).1))
-      ∙ and_from (get_or (v (src e)) b false) (not (get_or (row_of block (tgt e)) b false)) t (ap not free))
+      below_bit (minus_bits (v (src e)) (row_of bar (tgt e))) (v (tgt e)) b (least.solves.above_edges e h)
+      (minus_bit (v (src e)) (row_of bar (tgt e)) b (v_length (src e) (ends_in e h).0 ∙ sym (valid.bar_rows.each (tgt e) (ends_in e h).1))
+      ∙ and_from (get_or (v (src e)) b false) (not (get_or (row_of bar (tgt e)) b false)) t (ap not free))
 
   pub true_from_leads : (n : ℕ) → n < nodes → Led n → get_or (v n) b false ≡ true
   true_from_leads n h (at_seed k seed) = below_bit (row_of first n) (v n) b (least.solves.above_first n h) seed
@@ -120,10 +89,10 @@ module _ (nodes : ℕ) (edges : List Edge) (out : ℕ → ℕ) (bits : ℕ) (fir
       rw (← e.3) (goes_over e.0 e.1 (rw e.3 free) before)
 
 -- the same of a list of rows
-pub rows_lead : (nodes : ℕ) (edges : List Edge) (out : ℕ → ℕ) (bits : ℕ) (first block rows : List (List Bool)) → IsBitFlow nodes edges out bits first block → length rows ≡ nodes
-    → IsLeastSolution BelowBits (bit_flow nodes edges out bits first block) (value_at (bit_flow nodes edges out bits first block) rows)
-    → (n b : ℕ) → n < nodes → b < bits → (has_bit rows b n ≡ true) ↔ Leads (StepAlong edges) (has_bit first b) (has_bit block b) n
-rows_lead nodes edges out bits first block rows valid len least n b h b_in =
-    let v = value_at (bit_flow nodes edges out bits first block) rows in
+pub rows_lead : (nodes : ℕ) (edges : List Edge) (out : ℕ → ℕ) (bits : ℕ) (first bar rows : List (List Bool)) → IsBitFlow nodes edges out bits first bar → length rows ≡ nodes
+    → IsLeastSolution BelowBits (bit_flow nodes edges out bits first bar) (value_at (bit_flow nodes edges out bits first bar) rows)
+    → (n b : ℕ) → n < nodes → b < bits → (has_bit rows b n ≡ true) ↔ Leads (StepAlong edges) (has_bit first b) (has_bit bar b) n
+rows_lead nodes edges out bits first bar rows valid len least n b h b_in =
+    let v = value_at (bit_flow nodes edges out bits first bar) rows in
     rw (get_or_default rows n [] (row_of first n) (rw len h))
-    (leads_from_true nodes edges out bits first block valid v least b n h, true_from_leads nodes edges out bits first block valid v least b n h)
+    (leads_from_true nodes edges out bits first bar valid v least b n h, true_from_leads nodes edges out bits first bar valid v least b n h)

@@ -10,12 +10,12 @@ use Rattle.node_list.specs.Lists.{list_at}
 use Rattle.bit_rows.specs.BitLaws.{length_minus, length_not, length_or, minus_bit, not_bit, or_bit}
 use Rattle.bit_rows.specs.Bits.{minus_bits, not_bits, or_bits, row_of}
 use Rattle.flow_graph.specs.declared.nodes.Node.{Node}
-use Rattle.path_laws.specs.Blockwise.{AreBlockedByPaths, flow_order, passed, passed_all}
+use Rattle.path_laws.specs.Blockwise.{AreBarredByPaths, flow_order, passed, passed_all}
 use Rattle.path_laws.specs.Paths.{AreRows, has_bit}
 use Rattle.path_laws.specs.declared.problems.Problem.{Problem}
-use Rattle.path_laws.specs.Problem.{IsProblem, block_seeds, is_blocked, is_seed, orders, row_after, row_through}
+use Rattle.path_laws.specs.Problem.{IsProblem, block_seeds, is_barred, is_seed, orders, row_after, row_through}
 use Rattle.path_laws.specs.RowLaws.{Written, put, written_shape}
-use Rattle.path_laws.specs.Seeds.{blocks_of, is_end, passed_row, seeds_of}
+use Rattle.path_laws.specs.Seeds.{bars_of, is_end, passed_row, seeds_of}
 use Rattle.std.proofs.lemmas.List.Folds.{list_any-append}
 use Rattle.path_laws.proofs.Complements.{seed_bit}
 use Rattle.path_laws.proofs.Places.{flow_within}
@@ -56,7 +56,7 @@ module _ (against : Bool) (nodes : List Node) (bits : ℕ) (born stop : List (Li
       chosen false = length_minus (or_bits row (row_of stop n)) (row_of born n) (length_or row (row_of stop n) as_stop ∙ as_born) ∙ length_or row (row_of stop n) as_stop ∙ long
   length_passed false = length_or (minus_bits row (row_of stop n)) (row_of born n) (length_minus row (row_of stop n) as_stop ∙ as_born) ∙ length_minus row (row_of stop n) as_stop ∙ long
 
-  pub passed_bit : (every : Bool) (b : ℕ) → b < bits → get_or (passed_row every against nodes born stop n row) b false ≡ passed (has_bit (seeds_of every against nodes born stop) b) (has_bit (blocks_of every born stop) b) n (get_or row b false)
+  pub passed_bit : (every : Bool) (b : ℕ) → b < bits → get_or (passed_row every against nodes born stop n row) b false ≡ passed (has_bit (seeds_of every against nodes born stop) b) (has_bit (bars_of every born stop) b) n (get_or row b false)
   passed_bit true b h =
       let x = get_or row b false in
       let s = has_bit stop b n in
@@ -124,8 +124,8 @@ module _ (p : Problem) (is : IsProblem p) (n : ℕ) (n_in : n < length p.graph.n
 pub length_after : (p : Problem) → IsProblem p → (n : ℕ) → n < length p.graph.now.nodes → (row : List Bool) → length row ≡ p.bits → length (row_after p n row) ≡ p.bits
 length_after p is n h row long = length_passed p.against p.graph.now.nodes p.bits p.born.now p.stop.now is.flow.born_rows is.flow.stop_rows n h row long p.every
 
--- and each of its bits is what the node seeds, or what came and is not blocked
-pub bit_after : (p : Problem) → IsProblem p → (n : ℕ) → n < length p.graph.now.nodes → (row : List Bool) → length row ≡ p.bits → (b : ℕ) → b < p.bits → get_or (row_after p n row) b false ≡ passed (is_seed p b) (is_blocked p b) n (get_or row b false)
+-- and each of its bits is what the node seeds, or what came and is not barred
+pub bit_after : (p : Problem) → IsProblem p → (n : ℕ) → n < length p.graph.now.nodes → (row : List Bool) → length row ≡ p.bits → (b : ℕ) → b < p.bits → get_or (row_after p n row) b false ≡ passed (is_seed p b) (is_barred p b) n (get_or row b false)
 bit_after p is n h row long b l = passed_bit p.against p.graph.now.nodes p.bits p.born.now p.stop.now is.flow.born_rows is.flow.stop_rows n h row long p.every b l
 
 -- ---- along the nodes of a block
@@ -177,18 +177,18 @@ module _ (p : Problem) (is : IsProblem p) where
   length_through (n ∷ path) within row long = length_through path (λ i m at. within (suc i) m at) (row_after p n row) (length_after p is n (within 0 n refl) row long)
 
   -- and each bit of it passes the nodes
-  bit_through : (path : List ℕ) → Within path → (row : List Bool) → length row ≡ p.bits → (b : ℕ) → b < p.bits → get_or (row_through p path row) b false ≡ passed_all (is_seed p b) (is_blocked p b) (get_or row b false) path
+  bit_through : (path : List ℕ) → Within path → (row : List Bool) → length row ≡ p.bits → (b : ℕ) → b < p.bits → get_or (row_through p path row) b false ≡ passed_all (is_seed p b) (is_barred p b) (get_or row b false) path
   bit_through [] within row long b l = refl
   bit_through (n ∷ path) within row long b l =
       bit_through path (λ i m at. within (suc i) m at) (row_after p n row) (length_after p is n (within 0 n refl) row long) b l
-      ∙ ap (λ x. passed_all (is_seed p b) (is_blocked p b) x path) (bit_after p is n (within 0 n refl) row long b l)
+      ∙ ap (λ x. passed_all (is_seed p b) (is_barred p b) x path) (bit_after p is n (within 0 n refl) row long b l)
 
   -- the nodes of a block are nodes of the graph
   block_within : (c : ℕ) → c < length p.blocks.now.lists → Within (orders p c)
   block_within c h i n at = flow_within p.against p.graph.now.nodes (list_at p.blocks.now.lists c) i n (is.blocks_are.are.blocks c (list_at p.blocks.now.lists c) (slice_get-get_or p.blocks.now.lists c [] h)).chain at
 
   -- a bit comes out of a block where it comes out of its nodes
-  pub seeds_passed : ArePassed (length p.blocks.now.lists) p.bits (orders p) (is_seed p) (is_blocked p) (block_seeds p)
+  pub seeds_passed : ArePassed (length p.blocks.now.lists) p.bits (orders p) (is_seed p) (is_barred p) (block_seeds p)
   seeds_passed = record {
     shape = record {
       len = length-map p.blocks.now.lists (λ list. row_through p (flow_order p.against list) (replicate p.bits false));
@@ -197,28 +197,28 @@ module _ (p : Problem) (is : IsProblem p) where
     are = λ c b h l.
         ap (λ (r : List Bool). get_or r b false) (seed_row_is p c h)
         ∙ bit_through (orders p c) (block_within c h) (replicate p.bits false) (length-replicate p.bits false) b l
-        ∙ ap (λ x. passed_all (is_seed p b) (is_blocked p b) x (orders p c)) (get_or-replicate p.bits b false false l);
+        ∙ ap (λ x. passed_all (is_seed p b) (is_barred p b) x (orders p c)) (get_or-replicate p.bits b false false l);
   }
 
 -- ---- rows of blocks
 
 module _ (count bits : ℕ) (paths : ℕ → List ℕ) (stops : List (List Bool)) where
-  -- the last row of blocks says which bits so many nodes of its block block, and the others are whole
+  -- the last row of blocks says which bits so many nodes of its block bar, and the others are whole
   pub record AreStoppedTo (place : ℕ) (rows : List (List Bool)) : Type 0 where
     pub shape : AreRows (count + 1) bits rows
     pub whole : (c b : ℕ) → c < count → b < bits → has_bit rows b c ≡ list_any (has_bit stops b) (paths c)
     pub part : (b : ℕ) → b < bits → has_bit rows b count ≡ list_any (has_bit stops b) (take place (paths count))
 
-  -- what the nodes up to a place block, and the one there, the nodes up to the next place block
-  one_more_blocks : (b place n : ℕ) → slice_get (paths count) place ≡ Some n → (list_any (has_bit stops b) (take place (paths count)) || has_bit stops b n) ≡ list_any (has_bit stops b) (take (place + 1) (paths count))
-  one_more_blocks b place n at =
+  -- what the nodes up to a place bar, and the one there, the nodes up to the next place bar
+  one_more_bars : (b place n : ℕ) → slice_get (paths count) place ≡ Some n → (list_any (has_bit stops b) (take place (paths count)) || has_bit stops b n) ≡ list_any (has_bit stops b) (take (place + 1) (paths count))
+  one_more_bars b place n at =
       let one : place + 1 ≡ suc place = omega arith in
       ap (λ v. list_any (has_bit stops b) (take place (paths count)) || v) (sym (or-false (has_bit stops b n)))
       ∙ sym (list_any-append (has_bit stops b) (take place (paths count)) (n ∷ []))
       ∙ sym (ap (list_any (has_bit stops b)) (ap (λ k. take k (paths count)) one ∙ take_next (paths count) place n at))
 
   -- the row of the first node is put at the end
-  module _ (n : ℕ) (rows after : List (List Bool)) (are : AreBlockedByPaths count bits paths (has_bit stops) rows) (long : length (row_of stops n) ≡ bits) (is : after ≡ rows ++ row_of stops n ∷ []) where
+  module _ (n : ℕ) (rows after : List (List Bool)) (are : AreBarredByPaths count bits paths (has_bit stops) rows) (long : length (row_of stops n) ≡ bits) (is : after ≡ rows ++ row_of stops n ∷ []) where
     last : row_of after count ≡ row_of stops n
     last = pushed_last count bits rows after (row_of stops n) are.shape is
 
@@ -226,7 +226,7 @@ module _ (count bits : ℕ) (paths : ℕ → List ℕ) (stops : List (List Bool)
     stopped_first at = record {
       shape = pushed_shape count bits rows after (row_of stops n) are.shape is long;
       whole = λ c b h l. ap (λ (r : List Bool). get_or r b false) (pushed_before count bits rows after (row_of stops n) are.shape is c h) ∙ are.are c b h l;
-      part = λ b l. ap (λ (r : List Bool). get_or r b false) last ∙ one_more_blocks b 0 n at;
+      part = λ b l. ap (λ (r : List Bool). get_or r b false) last ∙ one_more_bars b 0 n at;
     }
 
   -- and those of the others are joined to it
@@ -239,11 +239,11 @@ module _ (count bits : ℕ) (paths : ℕ → List ℕ) (stops : List (List Bool)
       record {
         shape = written_shape (count + 1) bits count rows after row are.shape made (length_or (row_of rows count) (row_of stops n) alike ∙ here);
         whole = λ c b h l. ap (λ (r : List Bool). get_or r b false) (made.others c (λ e. absurd (omega (arith, e, h)))) ∙ are.whole c b h l;
-        part = λ b l. ap (λ (r : List Bool). get_or r b false) made.here ∙ or_bit (row_of rows count) (row_of stops n) b alike ∙ ap (λ v. v || has_bit stops b n) (are.part b l) ∙ one_more_blocks b place n at;
+        part = λ b l. ap (λ (r : List Bool). get_or r b false) made.here ∙ or_bit (row_of rows count) (row_of stops n) b alike ∙ ap (λ v. v || has_bit stops b n) (are.part b l) ∙ one_more_bars b place n at;
       }
 
   -- once all its nodes have come the last row is whole
-  pub stopped_all : (place : ℕ) (rows : List (List Bool)) → AreStoppedTo place rows → length (paths count) ≤ place → AreBlockedByPaths (count + 1) bits paths (has_bit stops) rows
+  pub stopped_all : (place : ℕ) (rows : List (List Bool)) → AreStoppedTo place rows → length (paths count) ≤ place → AreBarredByPaths (count + 1) bits paths (has_bit stops) rows
   stopped_all place rows are late = record {
     shape = are.shape;
     are = λ c b h l. elim (cases_eq c count) as (λ _. has_bit rows b c ≡ list_any (has_bit stops b) (paths c)) [

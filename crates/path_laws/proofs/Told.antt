@@ -6,7 +6,7 @@ use Rattle.flow_graph.specs.Graphs.{GraphShape, IsGraph}
 use Rattle.path_laws.specs.Blockwise.{HasAnswer}
 use Rattle.path_laws.specs.Paths.{AreRows, AreBornAfter, AreBornAhead, AreBornBefore, BornBefore, HaveShape, Tell, has_bit, width}
 use Rattle.path_laws.specs.RowLaws.{like_rows}
-use Rattle.path_laws.specs.Seeds.{blocks_of, seeds_of}
+use Rattle.path_laws.specs.Seeds.{bars_of, seeds_of}
 use Rattle.path_laws.specs.Statements.{AreTold, AreFlippedFor, goes_against, is_on_every}
 use Rattle.path_laws.specs.declared.calls.Statement.{Statement}
 use Rattle.path_laws.specs.declared.calls.Statement.TheVariants.{Before, After, Ahead}
@@ -16,7 +16,7 @@ use Rattle.path_laws.proofs.Ways.{after_from_none, ahead_from_leads, before_from
 module _ (graph : GraphShape) (is : IsGraph graph.vars graph.received graph.nodes) (born stop : List (List Bool)) where
   -- the rows answer a problem over these births and stops, on every path or on some, against the edges or along them
   abbrev pub Answer : Bool → Bool → List (List Bool) → Type 0
-  Answer every against rows = Tell graph (width born) rows (λ b n. HasAnswer against graph.nodes (has_bit (seeds_of every against graph.nodes born stop) b) (has_bit (blocks_of every born stop) b) n)
+  Answer every against rows = Tell graph (width born) rows (λ b n. HasAnswer against graph.nodes (has_bit (seeds_of every against graph.nodes born stop) b) (has_bit (bars_of every born stop) b) n)
 
   -- some path from a node
   pub ahead : (rows : List (List Bool)) → Answer false true rows → AreBornAhead graph born stop rows

@@ -32,7 +32,7 @@ module _ (nodes : List Node) (born stop : ℕ → Bool) where
 
 -- ---- every path from a node
 
--- the complement is seeded where a path may end with no birth, and blocked where it meets one. A stop needs no block:
+-- the complement is seeded where a path may end with no birth, and barred where it meets one. A stop needs no bar:
 -- with no birth it is a seed
 module _ (nodes : List Node) (born stop seed : ℕ → Bool)
     (seed_is : (n : ℕ) → n < length nodes → seed n ≡ ((stop n || is_return (slice_get nodes n)) && not (born n))) where
@@ -92,7 +92,7 @@ module _ (nodes : List Node) (born stop seed : ℕ → Bool)
 
 -- ---- every path to a node
 
--- the complement, after each node: seeded at Start and where the bit is stopped, with no birth there, and blocked where
+-- the complement, after each node: seeded at Start and where the bit is stopped, with no birth there, and barred where
 -- it is born
 module _ (nodes : List Node) (born stop seed : ℕ → Bool) (seed_is : (n : ℕ) → n < length nodes → seed n ≡ ((stop n || eqb n 0) && not (born n))) where
   -- after these nodes the bit is not held

@@ -11,7 +11,7 @@ use Rattle.node_list.specs.Lists.{list_at}
 use Rattle.path_laws.specs.declared.between.BlockEdges.{BlockEdges}
 use Rattle.path_laws.specs.Leads.{steps_of}
 use Rattle.flow_graph.specs.FlowEdges.{edge_at, first_out, flow_edges}
-use Rattle.flow_graph.specs.Tables.{number_at}
+use Rattle.flow_graph.specs.NumberTables.{number_at}
 
 -- node n is the one from which the flow leaves the list: along the edges its last, against them its first
 abbrev pub IsAhead : Bool → ℕ → List ℕ → Type 0

@@ -7,14 +7,14 @@ use Rattle.flow_graph.specs.Paths.{HasEdge}
 use Rattle.path_laws.specs.Leads.{Leads, steps_of}
 use Rattle.path_laws.specs.Paths.{AreRows, has_bit}
 
--- after a node: its seed, and what came to it where it does not block that
+-- after a node: its seed, and what came to it where it does not bar that
 abbrev pub passed : (ℕ → Bool) → (ℕ → Bool) → ℕ → Bool → Bool
-passed seed block n x = seed n || (x && not (block n))
+passed seed bar n x = seed n || (x && not (bar n))
 
 -- after these nodes, one after the other
 abbrev pub passed_all : (ℕ → Bool) → (ℕ → Bool) → Bool → List ℕ → Bool
-passed_all seed block x [] = x
-passed_all seed block x (n ∷ path) = passed_all seed block (passed seed block n x) path
+passed_all seed bar x [] = x
+passed_all seed bar x (n ∷ path) = passed_all seed bar (passed seed bar n x) path
 
 -- the nodes of a block in the order of the flow: along the edges as they are passed, against them the other way round
 abbrev pub flow_order : Bool → List ℕ → List ℕ
@@ -24,11 +24,11 @@ flow_order false list = list
 -- the answer at a node: against the edges whether its bit comes from a seed, and along them whether that of a
 -- predecessor does
 abbrev pub HasAnswer : Bool → List Node → (ℕ → Bool) → (ℕ → Bool) → ℕ → Type 0
-HasAnswer true nodes seed block n = Leads (steps_of true nodes) seed block n
-HasAnswer false nodes seed block n = (m : ℕ) × HasEdge nodes m n × Leads (steps_of false nodes) seed block m
+HasAnswer true nodes seed bar n = Leads (steps_of true nodes) seed bar n
+HasAnswer false nodes seed bar n = (m : ℕ) × HasEdge nodes m n × Leads (steps_of false nodes) seed bar m
 
--- the row of each block says which bits some of these nodes blocks
-pub record AreBlockedByPaths (count bits : ℕ) (paths : ℕ → List ℕ) (stop : ℕ → ℕ → Bool) (rows : List (List Bool)) : Type 0 where
+-- the row of each block says which bits some of these nodes bars
+pub record AreBarredByPaths (count bits : ℕ) (paths : ℕ → List ℕ) (stop : ℕ → ℕ → Bool) (rows : List (List Bool)) : Type 0 where
   pub shape : AreRows count bits rows
   pub are : (c b : ℕ) → c < count → b < bits → has_bit rows b c ≡ list_any (stop b) (paths c)
 
@@ -40,16 +40,16 @@ initial_bit true seed n = seed n
 initial_bit false seed n = false
 
 -- what an edge between blocks brings to the answer at the first node of a block: what comes out of the other block, and
--- against the edges only what the node does not block
+-- against the edges only what the node does not bar
 abbrev pub brought : Bool → (ℕ → Bool) → ℕ → Bool → Bool
-brought true block n x = x && not (block n)
-brought false block n x = x
+brought true bar n x = x && not (bar n)
+brought false bar n x = x
 
--- what the answer at a node brings to that at the next of its block: against the edges what that one does not block,
+-- what the answer at a node brings to that at the next of its block: against the edges what that one does not bar,
 -- and along them what comes out of the node itself
 abbrev pub handed_on : Bool → (ℕ → Bool) → (ℕ → Bool) → ℕ → ℕ → Bool → Bool
-handed_on true seed block before n x = x && not (block n)
-handed_on false seed block before n x = passed seed block before x
+handed_on true seed bar before n x = x && not (bar n)
+handed_on false seed bar before n x = passed seed bar before x
 
 -- the true bits of the rows are bits of the answers, and those that the rows begin with are true
 pub record AreGrowing (against : Bool) (nodes : List Node) (bits : ℕ) (seed stop : ℕ → ℕ → Bool) (rows : List (List Bool)) : Type 0 where

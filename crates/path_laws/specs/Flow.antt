@@ -4,7 +4,7 @@ use Rattle.fix_solve.specs.Net.{Net, NetLaws}
 use Rattle.path_laws.specs.declared.bits.BitFlow.{BitFlow}
 use Rattle.path_laws.specs.Leads.{Leads}
 use Rattle.flow_graph.specs.FlowEdges.{StepAlong}
-use Rattle.flow_graph.specs.Tables.{number_at}
+use Rattle.flow_graph.specs.NumberTables.{number_at}
 use Rattle.path_laws.specs.Nets.{IsListedFlow, bit_flow}
 use Rattle.path_laws.specs.NetsLaws.{bit_laws}
 use Rattle.path_laws.specs.Order.{BelowBits, trues}

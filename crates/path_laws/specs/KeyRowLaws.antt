@@ -1,16 +1,17 @@
 -- Laws of rows with a bit for each key of a table: rows of false bits, rows in which bits are set one after the other,
 -- and rows that are pushed one after the other. For proofs only, here and above.
-use Rattle.std.proofs.Common.{◌≡◌, ◌≢◌, ◌↔◌, inl, inr, ℕ, zero, suc, ◌+◌, ◌<◌, ◌≤◌, Bool, true, false, List, [], ◌∷◌, ◌++◌, length, get_or, map, replicate, set, slice_get, take, Option, None, Some, refl, sym, ap, ◌∙◌, subst, true≢false, arith, get_or-set_same, get_or-set_other}
+use Rattle.std.proofs.Common.{◌≡◌, ◌≢◌, ◌↔◌, inl, inr, ℕ, zero, suc, ◌+◌, ◌<◌, ◌≤◌, Bool, true, false, ◌||◌, List, [], ◌∷◌, ◌++◌, length, get_or, map, replicate, set, slice_get, take, Option, None, Some, refl, sym, ap, ◌∙◌, subst, true≢false, arith, get_or-set_same, get_or-set_other}
 use Rattle.std.proofs.Math.Seq.{set-append_seam}
 use Rattle.std.proofs.lemmas.Bool.{cases_eq}
 use Rattle.std.proofs.lemmas.List.{get_or-replicate, length-replicate, length-set, map-append, take_more}
 use Rattle.std.proofs.lemmas.Option.{slice_get_within, same_Some}
 use Rattle.mir_base.specs.Shapes.{AllBelow}
-use Rattle.bit_rows.specs.Bits.{AreEquallyLong, not_bits, row_of}
+use Rattle.bit_rows.specs.BitLaws.{length_or, or_bit}
+use Rattle.bit_rows.specs.Bits.{AreEquallyLong, not_bits, or_bits, row_of}
 use Rattle.flow_graph.specs.declared.nodes.Node.{Node}
-use Rattle.flow_graph.specs.declared.nodes.Node.TheVariants.{Start, Skip, Assign, Print, Call, Test, Return}
+use Rattle.flow_graph.specs.declared.nodes.Node.TheVariants.{Start, Skip, Assign, Print, Guard, Call, Test, Return}
 use Rattle.flow_graph.specs.Graphs.{HaveVarsBelow, node_vars}
-use Rattle.path_laws.specs.KeyRows.{AreAssignedRows, AreKeyRows, AreKeyRowsWhere, HasKey, assigned_row, key_in, of_assigned}
+use Rattle.path_laws.specs.KeyRows.{AreAssignedRows, AreKeyRows, AreKeyRowsWhere, HasKey, any_assigned, any_below, assigned_row, joined_rows, key_in}
 use Rattle.path_laws.specs.Paths.{AreRows, has_bit}
 use Rattle.path_laws.specs.Says.{same_says}
 
@@ -152,7 +153,7 @@ module _ {K : Type 0} where
 -- ---- rows that are pushed
 
 -- the row at the end
-last_row : (rows : List (List Bool)) (row : List Bool) → row_of (rows ++ row ∷ []) (length rows) ≡ row
+pub last_row : (rows : List (List Bool)) (row : List Bool) → row_of (rows ++ row ∷ []) (length rows) ≡ row
 last_row [] row = refl
 last_row (r ∷ rows) row = last_row rows row
 
@@ -163,6 +164,13 @@ last_flipped rows bits n is =
     ∙ ap (λ r. set (rows ++ replicate bits false ∷ []) (length rows) (not_bits r)) (last_row rows (replicate bits false))
     ∙ set-append_seam rows (replicate bits false) [] (not_bits (replicate bits false))
     ∙ ap (λ r. rows ++ r ∷ []) (not_falses bits)
+
+-- a row at the end, joined with another
+pub last_joined : (rows : List (List Bool)) (row other : List Bool) (n : ℕ) → n ≡ length rows → set (rows ++ row ∷ []) n (or_bits (row_of (rows ++ row ∷ []) n) other) ≡ rows ++ or_bits row other ∷ []
+last_joined rows row other n is =
+    ap (λ k. set (rows ++ row ∷ []) k (or_bits (row_of (rows ++ row ∷ []) k) other)) is
+    ∙ ap (λ r. set (rows ++ row ∷ []) (length rows) (or_bits r other)) (last_row rows row)
+    ∙ set-append_seam rows row [] (or_bits row other)
 
 -- with a row of as many bits at the end the rows are equally long
 pub longer : (bits : ℕ) (rows new : List (List Bool)) (row : List Bool) → AreEquallyLong bits rows → length row ≡ bits → new ≡ rows ++ row ∷ [] → AreEquallyLong bits new
@@ -189,40 +197,65 @@ rows_more row nodes i node rows new i_in is before put =
 
 -- ---- what nodes assign
 
+-- joined rows are as long
+pub joined_long : (by_var : List (List Bool)) (bits n : ℕ) → n ≤ length by_var → ((x : ℕ) → x < length by_var → length (row_of by_var x) ≡ bits) → length (joined_rows by_var bits n) ≡ bits
+joined_long by_var bits zero few each = length-replicate bits false
+joined_long by_var bits (suc n) few each =
+    let long = joined_long by_var bits n (omega (arith, few)) each in
+    length_or (joined_rows by_var bits n) (row_of by_var n) (long ∙ sym (each n (omega (arith, few)))) ∙ long
+
+-- and have the bits that one of them has
+joined_bit : (by_var : List (List Bool)) (bits i n : ℕ) (of_var : ℕ → Bool) → n ≤ length by_var → ((x : ℕ) → x < length by_var → length (row_of by_var x) ≡ bits) → ((x : ℕ) → x < length by_var → has_bit by_var i x ≡ of_var x)
+    → get_or (joined_rows by_var bits n) i false ≡ any_below of_var n
+joined_bit by_var bits i zero of_var few each are = false_bit bits i
+joined_bit by_var bits i (suc n) of_var few each are =
+    let low : n < length by_var = omega (arith, few) in
+    or_bit (joined_rows by_var bits n) (row_of by_var n) i (joined_long by_var bits n (omega (arith, few)) each ∙ sym (each n low))
+    ∙ ap (λ b. b || get_or (row_of by_var n) i false) (joined_bit by_var bits i n of_var (omega (arith, few)) each are)
+    ∙ ap (λ b. any_below of_var n || b) (are n low)
+
 -- the row of a node has its bits
-pub assigned_long : (at_start : Bool) (by_var : List (List Bool)) (bits : ℕ) (node : Option Node) → ((x : ℕ) → x < length by_var → length (row_of by_var x) ≡ bits) → ((n : Node) → node ≡ Some n → AllBelow (length by_var) (node_vars n)) → length (assigned_row at_start by_var bits node) ≡ bits
-assigned_long at_start by_var bits None each below = length-replicate bits false
-assigned_long at_start by_var bits (Some (Start next)) each below = length-replicate bits at_start
-assigned_long at_start by_var bits (Some (Skip next)) each below = length-replicate bits false
-assigned_long at_start by_var bits (Some (Assign x rhs next)) each below = each x (below (Assign x rhs next) refl).0
-assigned_long at_start by_var bits (Some (Print a next)) each below = length-replicate bits false
-assigned_long at_start by_var bits (Some (Call None unit arguments next)) each below = length-replicate bits false
-assigned_long at_start by_var bits (Some (Call (Some x) unit arguments next)) each below = each x (below (Call (Some x) unit arguments next) refl).0
-assigned_long at_start by_var bits (Some (Test test taken other)) each below = length-replicate bits false
-assigned_long at_start by_var bits (Some (Return a)) each below = length-replicate bits false
+pub assigned_long : (at_start : Bool) (shared : ℕ) (by_var : List (List Bool)) (bits : ℕ) (node : Option Node) → shared ≤ length by_var → ((x : ℕ) → x < length by_var → length (row_of by_var x) ≡ bits) → ((n : Node) → node ≡ Some n → AllBelow (length by_var) (node_vars n)) → length (assigned_row at_start shared by_var bits node) ≡ bits
+assigned_long at_start shared by_var bits None few each below = length-replicate bits false
+assigned_long at_start shared by_var bits (Some (Start next)) few each below = length-replicate bits at_start
+assigned_long at_start shared by_var bits (Some (Skip next)) few each below = length-replicate bits false
+assigned_long at_start shared by_var bits (Some (Assign x rhs next)) few each below = each x (below (Assign x rhs next) refl).0
+assigned_long at_start shared by_var bits (Some (Print a next)) few each below = length-replicate bits false
+assigned_long at_start shared by_var bits (Some (Guard test number next)) few each below = length-replicate bits false
+assigned_long at_start shared by_var bits (Some (Call None unit arguments next)) few each below = joined_long by_var bits shared few each
+assigned_long at_start shared by_var bits (Some (Call (Some x) unit arguments next)) few each below =
+    let long = joined_long by_var bits shared few each in
+    length_or (joined_rows by_var bits shared) (row_of by_var x) (long ∙ sym (each x (below (Call (Some x) unit arguments next) refl).0)) ∙ long
+assigned_long at_start shared by_var bits (Some (Test test taken other)) few each below = length-replicate bits false
+assigned_long at_start shared by_var bits (Some (Return a)) few each below = length-replicate bits false
 
 -- a bit of it is that of the variable
-pub assigned_bit : (at_start : Bool) (by_var : List (List Bool)) (bits i : ℕ) (of_var : ℕ → Bool) (node : Option Node) → i < bits → ((x : ℕ) → x < length by_var → has_bit by_var i x ≡ of_var x) → ((n : Node) → node ≡ Some n → AllBelow (length by_var) (node_vars n))
-    → get_or (assigned_row at_start by_var bits node) i false ≡ of_assigned at_start false of_var node
-assigned_bit at_start by_var bits i of_var None i_in are below = false_bit bits i
-assigned_bit at_start by_var bits i of_var (Some (Start next)) i_in are below = get_or-replicate bits i at_start false i_in
-assigned_bit at_start by_var bits i of_var (Some (Skip next)) i_in are below = false_bit bits i
-assigned_bit at_start by_var bits i of_var (Some (Assign x rhs next)) i_in are below = are x (below (Assign x rhs next) refl).0
-assigned_bit at_start by_var bits i of_var (Some (Print a next)) i_in are below = false_bit bits i
-assigned_bit at_start by_var bits i of_var (Some (Call None unit arguments next)) i_in are below = false_bit bits i
-assigned_bit at_start by_var bits i of_var (Some (Call (Some x) unit arguments next)) i_in are below = are x (below (Call (Some x) unit arguments next) refl).0
-assigned_bit at_start by_var bits i of_var (Some (Test test taken other)) i_in are below = false_bit bits i
-assigned_bit at_start by_var bits i of_var (Some (Return a)) i_in are below = false_bit bits i
+pub assigned_bit : (at_start : Bool) (shared : ℕ) (by_var : List (List Bool)) (bits i : ℕ) (of_var : ℕ → Bool) (node : Option Node) → i < bits → shared ≤ length by_var → ((x : ℕ) → x < length by_var → length (row_of by_var x) ≡ bits) → ((x : ℕ) → x < length by_var → has_bit by_var i x ≡ of_var x) → ((n : Node) → node ≡ Some n → AllBelow (length by_var) (node_vars n))
+    → get_or (assigned_row at_start shared by_var bits node) i false ≡ any_assigned at_start shared of_var node
+assigned_bit at_start shared by_var bits i of_var None i_in few each are below = false_bit bits i
+assigned_bit at_start shared by_var bits i of_var (Some (Start next)) i_in few each are below = get_or-replicate bits i at_start false i_in
+assigned_bit at_start shared by_var bits i of_var (Some (Skip next)) i_in few each are below = false_bit bits i
+assigned_bit at_start shared by_var bits i of_var (Some (Assign x rhs next)) i_in few each are below = are x (below (Assign x rhs next) refl).0
+assigned_bit at_start shared by_var bits i of_var (Some (Print a next)) i_in few each are below = false_bit bits i
+assigned_bit at_start shared by_var bits i of_var (Some (Guard test number next)) i_in few each are below = false_bit bits i
+assigned_bit at_start shared by_var bits i of_var (Some (Call None unit arguments next)) i_in few each are below = joined_bit by_var bits i shared of_var few each are
+assigned_bit at_start shared by_var bits i of_var (Some (Call (Some x) unit arguments next)) i_in few each are below =
+    let x_in = (below (Call (Some x) unit arguments next) refl).0 in
+    or_bit (joined_rows by_var bits shared) (row_of by_var x) i (joined_long by_var bits shared few each ∙ sym (each x x_in))
+    ∙ ap (λ b. b || get_or (row_of by_var x) i false) (joined_bit by_var bits i shared of_var few each are)
+    ∙ ap (λ b. any_below of_var shared || b) (are x x_in)
+assigned_bit at_start shared by_var bits i of_var (Some (Test test taken other)) i_in few each are below = false_bit bits i
+assigned_bit at_start shared by_var bits i of_var (Some (Return a)) i_in few each are below = false_bit bits i
 
 -- so the rows of what nodes assign have a bit for each key of which the rows by variables have one
-pub assigned_keys : {K : Type 0} (at_start : Bool) (by_var : List (List Bool)) (nodes : List Node) (keys : List K) (of_var : K → ℕ → Bool) (rows : List (List Bool)) → HaveVarsBelow (length by_var) nodes
-    → ((x i : ℕ) (k : K) → x < length by_var → slice_get keys i ≡ Some k → has_bit by_var i x ≡ of_var k x) → AreRows (length nodes) (length keys) rows → AreAssignedRows at_start by_var (length keys) nodes rows
-    → AreKeyRows (length nodes) keys (λ k n. of_assigned at_start false (of_var k) (slice_get nodes n)) rows
-assigned_keys at_start by_var nodes keys of_var rows below bits shape are = record {
+pub assigned_keys : {K : Type 0} (at_start : Bool) (shared : ℕ) (by_var : List (List Bool)) (nodes : List Node) (keys : List K) (of_var : K → ℕ → Bool) (rows : List (List Bool)) → shared ≤ length by_var → ((x : ℕ) → x < length by_var → length (row_of by_var x) ≡ length keys) → HaveVarsBelow (length by_var) nodes
+    → ((x i : ℕ) (k : K) → x < length by_var → slice_get keys i ≡ Some k → has_bit by_var i x ≡ of_var k x) → AreRows (length nodes) (length keys) rows → AreAssignedRows at_start shared by_var (length keys) nodes rows
+    → AreKeyRows (length nodes) keys (λ k n. any_assigned at_start shared (of_var k) (slice_get nodes n)) rows
+assigned_keys at_start shared by_var nodes keys of_var rows few each below bits shape are = record {
   shape = shape;
   bits = λ n i k n_in at.
       ap (λ r. get_or r i false) (are n n_in)
-      ∙ assigned_bit at_start by_var (length keys) i (of_var k) (slice_get nodes n) (slice_get_within keys i k at) (λ x x_in. bits x i k x_in at) (λ node here. below n node here);
+      ∙ assigned_bit at_start shared by_var (length keys) i (of_var k) (slice_get nodes n) (slice_get_within keys i k at) few each (λ x x_in. bits x i k x_in at) (λ node here. below n node here);
 }
 
 -- rows by a test are those by one that is equal to it

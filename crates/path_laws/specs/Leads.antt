@@ -4,10 +4,10 @@ use Rattle.flow_graph.specs.declared.nodes.Node.{Node}
 use Rattle.flow_graph.specs.Paths.{HasEdge}
 use Rattle.path_laws.specs.Paths.{AreRows, has_bit}
 
--- from node n a way along these steps comes to a seed, and none of its nodes before that one blocks
-pub data Leads (steps : ℕ → ℕ → Type 0) (seed block : ℕ → Bool) : ℕ → Type 0 where
-  at_seed : (n : ℕ) → seed n ≡ true → Leads steps seed block n
-  one_more : (m n : ℕ) → steps m n → block m ≡ false → Leads steps seed block n → Leads steps seed block m
+-- from node n a way along these steps comes to a seed, and none of its nodes before that one bars
+pub data Leads (steps : ℕ → ℕ → Type 0) (seed bar : ℕ → Bool) : ℕ → Type 0 where
+  at_seed : (n : ℕ) → seed n ≡ true → Leads steps seed bar n
+  one_more : (m n : ℕ) → steps m n → bar m ≡ false → Leads steps seed bar n → Leads steps seed bar m
 
 -- a bit that flows against the edges comes from successors, and one that flows along them from predecessors
 abbrev pub steps_of : Bool → List Node → ℕ → ℕ → Type 0

@@ -3,6 +3,7 @@ pub mod OrderLaws
 pub mod Paths
 pub mod RowLaws
 pub mod Leads
+pub mod LeadsLaws
 pub mod Nets
 pub mod NetsLaws
 pub mod Flow

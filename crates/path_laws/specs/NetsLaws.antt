@@ -12,9 +12,9 @@ use Rattle.path_laws.specs.Order.{BelowBits, trues}
 use Rattle.path_laws.specs.OrderLaws.{minus_mono, trues_le}
 
 -- the flow of bits keeps the laws of flows
-pub bit_laws : (nodes : ℕ) (edges : List Edge) (out : ℕ → ℕ) (bits : ℕ) (first block : List (List Bool)) → IsBitFlow nodes edges out bits first block
-    → NetLaws BelowBits length trues (bit_flow nodes edges out bits first block)
-bit_laws nodes edges out bits first block valid =
+pub bit_laws : (nodes : ℕ) (edges : List Edge) (out : ℕ → ℕ) (bits : ℕ) (first bar : List (List Bool)) → IsBitFlow nodes edges out bits first bar
+    → NetLaws BelowBits length trues (bit_flow nodes edges out bits first bar)
+bit_laws nodes edges out bits first bar valid =
     let at : (e : ℕ) → e < length edges → slice_get edges e ≡ Some (edge_at edges e) = λ e h. slice_get-get_or edges e _ h in
     record {
       sources = λ e h. (valid.are.ends e (edge_at edges e) (at e h)).0;
@@ -25,7 +25,7 @@ bit_laws nodes edges out bits first block valid =
       from_start = λ e h. (valid.are.stands e (edge_at edges e) (at e h)).0;
       to_stop = λ e h. (valid.are.stands e (edge_at edges e) (at e h)).1;
       first_size = valid.first_rows.each;
-      transfer_size = λ e x h s. length_minus x (row_of block (edge_at edges e).target) (s ∙ sym (valid.block_rows.each (edge_at edges e).target (valid.are.ends e (edge_at edges e) (at e h)).1)) ∙ s;
-      monotone = λ e x y h s b. minus_mono x y (row_of block (edge_at edges e).target) b;
+      transfer_size = λ e x h s. length_minus x (row_of bar (edge_at edges e).target) (s ∙ sym (valid.bar_rows.each (edge_at edges e).target (valid.are.ends e (edge_at edges e) (at e h)).1)) ∙ s;
+      monotone = λ e x y h s b. minus_mono x y (row_of bar (edge_at edges e).target) b;
       ranks = λ x s. let a : trues x ≤ length x = trues_le x in omega arith;
     }

@@ -1,4 +1,5 @@
--- The laws of rows ordered by implication. Cited by the ghost members of `Bits`.
+-- The laws of rows ordered by implication. Cited by the ghost members of `Bits`; those of single bits are for proofs of
+-- the crates above too.
 use Rattle.std.specs.Prelude.{◌≡◌, ◌≢◌, ◌<◌, ◌≤◌, Bool, true, false, not, ◌||◌, ◌&&◌, List, [], ◌∷◌, length, refl}
 use Rattle.std.proofs.lemmas.Bool.{and_parts, or_left, or_right}
 use Rattle.std.proofs.Common.{suc, sym, ◌∙◌, ◌⊎◌, inl, inr, arith}
@@ -18,21 +19,21 @@ pub below_trans : (xs ys zs : List Bool) → BelowBits xs ys → BelowBits ys zs
 below_trans = pointwise_trans BelowBit (λ x y z p q h. q (p h))
 
 -- bits that imply each other are equal
-same_bits : (x y : Bool) → BelowBit x y → BelowBit y x → x ≡ y
-same_bits true y p q = sym (p refl)
-same_bits false true p q = q refl
-same_bits false false p q = refl
+pub same_bit : (x y : Bool) → BelowBit x y → BelowBit y x → x ≡ y
+same_bit true y p q = sym (p refl)
+same_bit false true p q = q refl
+same_bit false false p q = refl
 
 -- so the order is antisymmetric
 pub below_antisym : (xs ys : List Bool) → BelowBits xs ys → BelowBits ys xs → xs ≡ ys
-below_antisym = pointwise_antisym BelowBit same_bits
+below_antisym = pointwise_antisym BelowBit same_bit
 
 -- only rows of one length are in order
 pub below_length : (xs ys : List Bool) → BelowBits xs ys → length xs ≡ length ys
 below_length = pointwise_length BelowBit
 
 -- a bit that implies another and differs from it is false, and the other is true
-bit_rises : (x y : Bool) → BelowBit x y → (x ≡ y) ⊎ (one_if x < one_if y)
+pub bit_rises : (x y : Bool) → BelowBit x y → (x ≡ y) ⊎ (one_if x < one_if y)
 bit_rises true true h = inl refl
 bit_rises true false h = let bad : false ≡ true = h refl in absurd (cc)
 bit_rises false true h = inr (omega arith)
@@ -51,7 +52,7 @@ pub bits_laws : OrderLaws BelowBits length trues
 bits_laws = record { reflexive = below_refl; transitive = below_trans; antisymmetric = below_antisym; same_size = below_length; rises = trues_rise_strictly }
 
 -- the disjunction implies whatever both of its parts imply
-or_least : (x y z : Bool) → (x ≡ true → z ≡ true) → (y ≡ true → z ≡ true) → (x || y) ≡ true → z ≡ true
+pub or_least : (x y z : Bool) → BelowBit x z → BelowBit y z → BelowBit (x || y) z
 or_least true y z p q h = p refl
 or_least false y z p q h = q h
 
@@ -114,5 +115,5 @@ pub loop_joins : (xs ys : List Bool) → length xs ≡ length ys → IsLeastUppe
 loop_joins xs ys e = record { left = below_refl xs; right = minus_below xs ys e; least = λ zs p q. p }
 
 -- what another edge brings
-pub push_joins : (old from block : List Bool) → length from ≡ length old → length block ≡ length old → IsLeastUpper BelowBits old (minus_bits from block) (or_bits old (minus_bits from block))
-push_joins old from block e d = or_joins old (minus_bits from block) (sym (length_minus from block (e ∙ sym d) ∙ e))
+pub push_joins : (old from bar : List Bool) → length from ≡ length old → length bar ≡ length old → IsLeastUpper BelowBits old (minus_bits from bar) (or_bits old (minus_bits from bar))
+push_joins old from bar e d = or_joins old (minus_bits from bar) (sym (length_minus from bar (e ∙ sym d) ∙ e))

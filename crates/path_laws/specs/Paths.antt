@@ -43,7 +43,8 @@ BornBefore nodes born stop n = (before : List ℕ) → Trace nodes n before → 
 
 -- the rows tell at which nodes each bit is so, for the bits that these rows bear and stop
 abbrev pub AreBornBefore : GraphShape → List (List Bool) → List (List Bool) → List (List Bool) → Type 0
-AreBornBefore graph born stop rows = Tell graph (width born) rows (λ b n. BornBefore graph.nodes (has_bit born b) (has_bit stop b) n)
+AreBornBefore graph born stop rows =
+    Tell graph (width born) rows (λ b n. BornBefore graph.nodes (has_bit born b) (has_bit stop b) n)
 
 -- ---- every path from a node
 
@@ -60,11 +61,13 @@ Meets born (n ∷ path) = (born n ≡ true) ⊎ Meets born path
 
 -- so it is on every path from node n that ends so
 abbrev pub BornAfter : List Node → (ℕ → Bool) → (ℕ → Bool) → ℕ → Type 0
-BornAfter nodes born stop n = (path : List ℕ) → IsPath nodes path → Begins n path → EndsWell nodes stop path → Meets born path
+BornAfter nodes born stop n = (path : List ℕ) → IsPath nodes path → Begins n path → EndsWell nodes stop path
+    → Meets born path
 
 -- the rows tell at which nodes each bit is so
 abbrev pub AreBornAfter : GraphShape → List (List Bool) → List (List Bool) → List (List Bool) → Type 0
-AreBornAfter graph born stop rows = Tell graph (width born) rows (λ b n. BornAfter graph.nodes (has_bit born b) (has_bit stop b) n)
+AreBornAfter graph born stop rows =
+    Tell graph (width born) rows (λ b n. BornAfter graph.nodes (has_bit born b) (has_bit stop b) n)
 
 -- ---- some path from a node
 
@@ -83,7 +86,8 @@ pub record BornAhead (nodes : List Node) (born stop : ℕ → Bool) (n : ℕ) : 
 
 -- the rows tell at which nodes each bit is so
 abbrev pub AreBornAhead : GraphShape → List (List Bool) → List (List Bool) → List (List Bool) → Type 0
-AreBornAhead graph born stop rows = Tell graph (width born) rows (λ b n. BornAhead graph.nodes (has_bit born b) (has_bit stop b) n)
+AreBornAhead graph born stop rows =
+    Tell graph (width born) rows (λ b n. BornAhead graph.nodes (has_bit born b) (has_bit stop b) n)
 
 -- ---- at a neighbour
 

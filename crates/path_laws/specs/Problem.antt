@@ -8,13 +8,13 @@ use Rattle.node_list.specs.Lists.{list_at}
 use Rattle.path_laws.specs.declared.between.BlockEdges.{BlockEdges}
 use Rattle.path_laws.specs.declared.problems.Problem.{Problem}
 use Rattle.path_laws.specs.Between.{AreBetween, AreBlockEdges}
-use Rattle.path_laws.specs.Blockwise.{AreGrowing, AreBlockedByPaths, HasAnswer, IsWhole, initial_bit, brought, flow_order, handed_on, passed_all}
+use Rattle.path_laws.specs.Blockwise.{AreGrowing, AreBarredByPaths, HasAnswer, IsWhole, initial_bit, brought, flow_order, handed_on, passed_all}
 use Rattle.path_laws.specs.Crossings.{push_room}
 use Rattle.path_laws.specs.Leads.{Leads}
 use Rattle.flow_graph.specs.FlowEdges.{StepAlong}
 use Rattle.path_laws.specs.Paths.{AreRows, HaveShape, Tell, has_bit, width}
 use Rattle.path_laws.specs.RowLaws.{Joined}
-use Rattle.path_laws.specs.Seeds.{IsPathProblem, blocks_of, passed_row, seeds_of}
+use Rattle.path_laws.specs.Seeds.{IsPathProblem, bars_of, passed_row, seeds_of}
 
 -- its graph keeps the laws of graphs
 abbrev pub HasGraph : Problem → Type 0
@@ -32,13 +32,13 @@ orders p b = flow_order p.against (list_at p.blocks.now.lists b)
 abbrev pub is_seed : Problem → ℕ → ℕ → Bool
 is_seed p = has_bit (seeds_of p.every p.against p.graph.now.nodes p.born.now p.stop.now)
 
--- which bits each node blocks, as rows
-abbrev pub blocks_in : Problem → List (List Bool)
-blocks_in p = blocks_of p.every p.born.now p.stop.now
+-- which bits each node bars, as rows
+abbrev pub bars_in : Problem → List (List Bool)
+bars_in p = bars_of p.every p.born.now p.stop.now
 
--- at which nodes each bit is blocked
-abbrev pub is_blocked : Problem → ℕ → ℕ → Bool
-is_blocked p = has_bit (blocks_in p)
+-- at which nodes each bit is barred
+abbrev pub is_barred : Problem → ℕ → ℕ → Bool
+is_barred p = has_bit (bars_in p)
 
 -- the row that leaves a node where this one comes to it
 abbrev pub row_after : Problem → ℕ → List Bool → List Bool
@@ -63,13 +63,13 @@ HaveBlockShape p rows = AreRows (length p.blocks.now.lists) p.bits rows
 abbrev pub HaveBornShape : Problem → List (List Bool) → Type 0
 HaveBornShape p rows = HaveShape p.graph.now (width p.born.now) rows
 
--- one row for each of so many blocks says which bits some node of the block blocks
-abbrev pub HaveBlocked : Problem → ℕ → List (List Bool) → Type 0
-HaveBlocked p count rows = AreBlockedByPaths count p.bits (orders p) (is_blocked p) rows
+-- one row for each of so many blocks says which bits some node of the block bars
+abbrev pub HaveBarred : Problem → ℕ → List (List Bool) → Type 0
+HaveBarred p count rows = AreBarredByPaths count p.bits (orders p) (is_barred p) rows
 
 -- these rows say to which blocks each bit comes over these edges from a block that seeds it
 abbrev pub AreLed : Problem → List Edge → List (List Bool) → Type 0
-AreLed p edges rows = (c b : ℕ) → c < length p.blocks.now.lists → b < p.bits → (has_bit rows b c ≡ true) ↔ Leads (StepAlong edges) (λ k. passed_all (is_seed p b) (is_blocked p b) false (orders p k)) (λ k. list_any (is_blocked p b) (orders p k)) c
+AreLed p edges rows = (c b : ℕ) → c < length p.blocks.now.lists → b < p.bits → (has_bit rows b c ≡ true) ↔ Leads (StepAlong edges) (λ k. passed_all (is_seed p b) (is_barred p b) false (orders p k)) (λ k. list_any (is_barred p b) (orders p k)) c
 
 -- rows of nodes as the answers begin
 pub record AreInitial (p : Problem) (rows : List (List Bool)) : Type 0 where
@@ -78,11 +78,11 @@ pub record AreInitial (p : Problem) (rows : List (List Bool)) : Type 0 where
 
 -- rows of nodes to which bits of the answers are joined
 abbrev pub GrowTo : Problem → List (List Bool) → Type 0
-GrowTo p rows = AreGrowing p.against p.graph.now.nodes p.bits (is_seed p) (is_blocked p) rows
+GrowTo p rows = AreGrowing p.against p.graph.now.nodes p.bits (is_seed p) (is_barred p) rows
 
 -- of the answer at this node no bit is missing
 abbrev pub HasWhole : Problem → List (List Bool) → ℕ → Type 0
-HasWhole p rows n = IsWhole p.against p.graph.now.nodes p.bits (is_seed p) (is_blocked p) rows n
+HasWhole p rows n = IsWhole p.against p.graph.now.nodes p.bits (is_seed p) (is_barred p) rows n
 
 -- nor of that at the first node of each block
 abbrev pub HaveFirsts : Problem → List (List Bool) → Type 0
@@ -94,20 +94,20 @@ HaveBlocks p block rows = (c i n : ℕ) → c < block → slice_get (orders p c)
 
 -- what comes over this edge is joined to the row of the first node of the block to which it leads
 abbrev pub TakesIn : Problem → Edge → List (List Bool) → List (List Bool) → List (List Bool) → Type 0
-TakesIn p edge work rows after = (n : ℕ) × (slice_get (orders p edge.target) 0 ≡ Some n) × (n < length p.graph.now.nodes) × Joined p.bits rows after n (λ b. brought p.against (is_blocked p b) n (has_bit work b edge.source))
+TakesIn p edge work rows after = (n : ℕ) × (slice_get (orders p edge.target) 0 ≡ Some n) × (n < length p.graph.now.nodes) × Joined p.bits rows after n (λ b. brought p.against (is_barred p b) n (has_bit work b edge.source))
 
 -- what the row of a node brings to that of the next of its block is joined to that one
 abbrev pub HandsOn : Problem → ℕ → ℕ → List (List Bool) → List (List Bool) → Type 0
-HandsOn p before n rows after = Joined p.bits rows after n (λ b. handed_on p.against (is_seed p b) (is_blocked p b) before n (has_bit rows b before))
+HandsOn p before n rows after = Joined p.bits rows after n (λ b. handed_on p.against (is_seed p b) (is_barred p b) before n (has_bit rows b before))
 
 -- the rows of all nodes are answers
 pub record HaveAnswers (p : Problem) (rows : List (List Bool)) : Type 0 where
   pub shape : HaveShape p.graph.now p.bits rows
-  pub are : Tell p.graph.now p.bits rows (λ b n. HasAnswer p.against p.graph.now.nodes (is_seed p b) (is_blocked p b) n)
+  pub are : Tell p.graph.now p.bits rows (λ b n. HasAnswer p.against p.graph.now.nodes (is_seed p b) (is_barred p b) n)
 
 -- the rows of all nodes are answers, for as many bits as the rows of births have
 abbrev pub AreSolved : Problem → List (List Bool) → Type 0
-AreSolved p rows = Tell p.graph.now (width p.born.now) rows (λ b n. HasAnswer p.against p.graph.now.nodes (is_seed p b) (is_blocked p b) n)
+AreSolved p rows = Tell p.graph.now (width p.born.now) rows (λ b n. HasAnswer p.against p.graph.now.nodes (is_seed p b) (is_barred p b) n)
 
 -- ---- edges between blocks, and pushes along them
 

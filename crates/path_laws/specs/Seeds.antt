@@ -1,4 +1,4 @@
--- Where the bits of a path problem are seeded, and where they are blocked. Cited by contracts. The two problems on
+-- Where the bits of a path problem are seeded, and where they are barred. Cited by contracts. The two problems on
 -- every path are solved by their complements: from where some path ends with no birth.
 use Rattle.std.specs.Prelude.{◌≡◌, ℕ, Bool, true, false, nat_eq, if◌then◌else◌, List, length, map, replicate, slice_get}
 use Rattle.std.specs.List.{range_with_len}
@@ -29,10 +29,10 @@ abbrev pub seeds_of : Bool → Bool → List Node → List (List Bool) → List 
 seeds_of true against nodes born stop = map (seed_row true against nodes born stop) (range_with_len 0 (length nodes))
 seeds_of false against nodes born stop = born
 
--- what blocks a bit: for every path a birth, and else a stop
-abbrev pub blocks_of : Bool → List (List Bool) → List (List Bool) → List (List Bool)
-blocks_of true born stop = born
-blocks_of false born stop = stop
+-- what bars a bit: for every path a birth, and else a stop
+abbrev pub bars_of : Bool → List (List Bool) → List (List Bool) → List (List Bool)
+bars_of true born stop = born
+bars_of false born stop = stop
 
 -- the edges are those of the graph, and the rows have one shape
 pub record IsPathFlow (nodes : List Node) (edges : EdgesShape) (bits : ℕ) (born stop : List (List Bool)) : Type 0 where
@@ -52,7 +52,7 @@ pub record IsPathProblem (nodes : List Node) (edges : EdgesShape) (blocks : Bloc
   pub flow : IsPathFlow nodes edges bits born stop
   pub blocks_are : AreBlocksOf nodes blocks
 
--- a row after a node: its seeds, and what came that it does not block
+-- a row after a node: its seeds, and what came that it does not bar
 abbrev pub passed_row : Bool → Bool → List Node → List (List Bool) → List (List Bool) → ℕ → List Bool → List Bool
 passed_row true against nodes born stop n row = if is_end against nodes n then not_bits (row_of born n) else minus_bits (or_bits row (row_of stop n)) (row_of born n)
 passed_row false against nodes born stop n row = or_bits (minus_bits row (row_of stop n)) (row_of born n)

@@ -7,7 +7,7 @@ use Rattle.bit_rows.specs.BitLaws.{length_minus}
 use Rattle.bit_rows.specs.Bits.{row_of}
 use Rattle.flow_graph.specs.declared.nodes.Node.{Node}
 use Rattle.path_laws.specs.Paths.{AreRows}
-use Rattle.path_laws.specs.Seeds.{blocks_of, ending_row, is_end, seed_row, seeds_of}
+use Rattle.path_laws.specs.Seeds.{bars_of, ending_row, is_end, seed_row, seeds_of}
 
 -- a row of stops keeps its length where all bits count
 pub length_ending : (b : Bool) (stop : List Bool) → length (if b then replicate (length stop) true else stop) ≡ length stop
@@ -33,6 +33,6 @@ module _ (against : Bool) (nodes : List Node) (bits : ℕ) (born stop : List (Li
   }
   seed_rows false = born_rows
 
-  pub block_rows : (every : Bool) → AreRows (length nodes) bits (blocks_of every born stop)
-  block_rows true = born_rows
-  block_rows false = stop_rows
+  pub bar_rows : (every : Bool) → AreRows (length nodes) bits (bars_of every born stop)
+  bar_rows true = born_rows
+  bar_rows false = stop_rows

@@ -1,5 +1,5 @@
 // The answers of a problem of paths: solved over blocks, and filled in at their nodes.
-ghost use Rattle.std.specs.Prelude.{◌≡◌, ◌+◌, ◌≤◌, IfOk, OnOk};
+ghost use Rattle.std.specs.Prelude.{◌≡◌, ◌+◌, ◌≤◌, IfOk, OnErr, OnOk};
 ghost use Rattle.bit_rows.specs.Bits.{AreEquallyLong};
 ghost use Rattle.flow_graph.specs.Blocks.{AreBlocksOf};
 ghost use Rattle.flow_graph.specs.Edges.{edges_of};
@@ -7,9 +7,9 @@ ghost use Rattle.path_laws.specs.Problem.{AreLed, AreSolved, HasBetween, HasGrap
 
 use crate::between::{BlockEdges, between};
 use crate::bits::{BitFlow, Bits, least};
-use crate::filling::filled;
+use crate::filling::{fill_all, initial_rows};
 use crate::problems::Problem;
-use crate::summaries::blocked_by_blocks;
+use crate::summaries::barred_by_blocks;
 use bit_rows::Rows;
 use fix_solve::{Steps, Work};
 use mir_base::Memory;
@@ -17,7 +17,8 @@ use std::alloc::Global;
 use std::marker::PhantomData;
 use std::sync::ledger::Ledger;
 
-/// The answers at all nodes, for as many bits as the rows of births have.
+/// The answers at all nodes, for as many bits as the rows of births have. All that may be refused is made before the
+/// counter rises.
 pub(crate) fn answers<L: Ledger>(
     alloc: Global,
     problem: &Problem<'_>,
@@ -33,6 +34,7 @@ pub(crate) fn answers<L: Ledger>(
     ensures answers { IfOk result (AreSolved problem.now) }
     ensures pushes { steps.new ≤ steps.old + born_room problem.now }
     ensures counts { steps.old ≤ steps.new }
+    ensures err { OnErr result (steps.new ≡ steps.old) }
 {
     let _nodes = problem.graph.nodes();
     let between = between(
@@ -42,8 +44,9 @@ pub(crate) fn answers<L: Ledger>(
         problem.blocks,
         problem.against,
     )?;
+    let mut rows = initial_rows(alloc, problem)?;
     let work = led(alloc, problem, &between, steps)?;
-    let rows = filled(alloc, problem, &between.edges, &work)?;
+    fill_all(problem, &between.edges, &work, &mut rows);
     Ok(rows)
 }
 
@@ -60,8 +63,9 @@ fn led<L: Ledger>(
     ensures leads { IfOk result (AreLed problem.now between.now.edges.items) }
     ensures pushes { steps.new ≤ steps.old + room_along problem.now between.now }
     ensures counts { steps.old ≤ steps.new }
+    ensures err { OnErr result (steps.new ≡ steps.old) }
 {
-    let stops = blocked_by_blocks(alloc, problem)?;
+    let stops = barred_by_blocks(alloc, problem)?;
     let flow = BitFlow {
         nodes: problem.blocks.len(),
         edges: between.edges.as_slice(),

@@ -1,57 +1,102 @@
 // Rows by variables, and the rows by nodes that are made of them.
-ghost use Rattle.std.specs.Prelude.{◌≡◌, ℕ, ◌<◌, [], ◌∷◌, ◌++◌, true, length, replicate, IfOk, OnErr, OnOk, Some};
-ghost use Rattle.mir_base.specs.Shapes.{AllBelow, operand_vars};
+ghost use Rattle.std.specs.Prelude.{◌≡◌, ℕ, ◌<◌, ◌≤◌, [], ◌∷◌, ◌++◌, true, length, replicate, IfOk, OnErr, OnOk, Some};
+ghost use Rattle.mir_base.specs.Shapes.{AllBelow, into_vars, operand_vars};
 ghost use Rattle.bit_rows.specs.Bits.{AreEquallyLong, row_of};
 ghost use Rattle.flow_graph.specs.Graphs.{HaveVarsBelow, node_vars};
-ghost use Rattle.path_laws.specs.KeyRows.{AreAssignedRows, SetsBitAt, assigned_row};
+ghost use Rattle.path_laws.specs.KeyRows.{AreAssignedRows, SetsBitAt, assigned_row, called_row, joined_rows};
 ghost use Rattle.path_laws.specs.Paths.{AreRows};
 
-use bit_rows::Rows;
+use bit_rows::{Row, Rows};
 use flow_graph::Node;
 use mir_base::{Memory, Operand};
 use std::alloc::Global;
 
-/// One row of so many bits for each node: that of the variable that it assigns. At Start each bit is `at_start`, and at
-/// a node that assigns none no bit is set. Each variable has its row. It fails only with `Memory`.
+/// One row of so many bits for each node: those of the variables that it assigns, joined. A call assigns the globals,
+/// which are the first `shared` variables. At Start each bit is `at_start`, and at a node that assigns none no bit is
+/// set. Each variable has its row. It fails only with `Memory`.
 pub fn assigned_rows(
     alloc: Global,
     nodes: &[Node],
     by_var: &Rows,
     bits: usize,
+    shared: usize,
     at_start: bool,
 ) -> Result<Rows, Memory>
+    requires shared { shared ≤ length by_var.now }
     requires shape { AreRows (length by_var.now) bits by_var.now }
     requires below { HaveVarsBelow (length by_var.now) nodes.now }
     ensures shape { IfOk result (AreRows (length nodes.now) bits) }
-    ensures rows { IfOk result (AreAssignedRows at_start by_var.now bits nodes.now) }
+    ensures rows { IfOk result (AreAssignedRows at_start shared by_var.now bits nodes.now) }
 {
+    let globals = joined_row(alloc, by_var, bits, shared)?;
     let mut rows = Rows::with_room(alloc, nodes.len(), bits)?;
     for node in nodes {
-        push_assigned(&mut rows, node, by_var, bits, at_start)?;
+        push_assigned(&mut rows, node, by_var, bits, shared, &globals, at_start)?;
     }
     Ok(rows)
 }
 
-/// Puts the row of a node at the end. It fails only with `Memory`.
+/// The rows of the first so many variables, joined. It fails only with `Memory`.
+fn joined_row(alloc: Global, by_var: &Rows, bits: usize, count: usize) -> Result<Row, Memory>
+    requires shape { AreRows (length by_var.now) bits by_var.now }
+    requires count { count ≤ length by_var.now }
+    ensures { IfOk result (λ row. row ≡ joined_rows by_var.now bits count) }
+{
+    let mut joined = Row::new(alloc, bits)?;
+    for x in 0..count {
+        let _ = joined.or_from(&by_var.row(x));
+    }
+    Ok(joined)
+}
+
+/// Puts the row of a node at the end, where `globals` is that of the globals. It fails only with `Memory`.
 fn push_assigned(
     rows: &mut Rows,
     node: &Node,
     by_var: &Rows,
     bits: usize,
+    shared: usize,
+    globals: &Row,
     at_start: bool,
 ) -> Result<(), Memory>
+    requires shared { shared ≤ length by_var.now }
+    requires globals { globals.now ≡ joined_rows by_var.now bits shared }
     requires long { AreEquallyLong bits rows.old }
     requires shape { AreRows (length by_var.now) bits by_var.now }
     requires below { AllBelow (length by_var.now) (node_vars node.now) }
     ensures { OnOk result (rows.new ≡ rows.old ++
-        assigned_row at_start by_var.now bits (Some node.now) ∷ []) }
+        assigned_row at_start shared by_var.now bits (Some node.now) ∷ []) }
 {
     match node {
         Node::Start(_) if at_start => push_true(rows, bits),
         Node::Assign(x, _, _) => rows.push(&by_var.row(*x)),
-        Node::Call(Some(x), _, _, _) => rows.push(&by_var.row(*x)),
+        Node::Call(into, _, _, _) => push_called(rows, *into, by_var, bits, shared, globals),
         _ => rows.push_false(bits),
     }
+}
+
+/// Puts the row of a call at the end, whose result goes to this variable, where there is one.
+fn push_called(
+    rows: &mut Rows,
+    into: Option<usize>,
+    by_var: &Rows,
+    bits: usize,
+    shared: usize,
+    globals: &Row,
+) -> Result<(), Memory>
+    requires long { AreEquallyLong bits rows.old }
+    requires shape { AreRows (length by_var.now) bits by_var.now }
+    requires below { AllBelow (length by_var.now) (into_vars into) }
+    requires shared { shared ≤ length by_var.now }
+    requires globals { globals.now ≡ joined_rows by_var.now bits shared }
+    ensures { OnOk result (rows.new ≡ rows.old ++ called_row by_var.now bits shared into ∷ []) }
+{
+    let last = rows.len();
+    rows.push(&globals.view())?;
+    if let Some(x) = into {
+        rows.or_into(last, by_var, x);
+    }
+    Ok(())
 }
 
 /// Puts a row of so many bits, all true, at the end. It fails only with `Memory`, and the rows are then as they were.

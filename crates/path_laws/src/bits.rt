@@ -1,5 +1,5 @@
 // Rows of bits as values of a flow over a list of edges.
-ghost use Rattle.std.specs.Prelude.{◌≡◌, ◌+◌, ◌≤◌, length, IfOk, OnOk};
+ghost use Rattle.std.specs.Prelude.{◌≡◌, ◌+◌, ◌≤◌, length, IfOk, OnErr, OnOk};
 ghost use Rattle.fix_solve.specs.Net.{most_pushes};
 ghost use Rattle.path_laws.specs.Flow.{AreLedBy, IsInOrder, flow_laws, net_of};
 ghost use Rattle.path_laws.specs.Order.{BelowBits, trues};
@@ -134,6 +134,7 @@ pub(crate) fn least<L: Ledger>(
     ensures leads { IfOk result (AreLedBy flow.now) }
     ensures pushes { steps.new ≤ steps.old + most_pushes (net_of flow.now) }
     ensures counts { steps.old ≤ steps.new }
+    ensures err { OnErr result (steps.new ≡ steps.old) }
 {
     let mut work = Work::new(alloc, flow)?;
     solve(&mut work, flow, steps);

@@ -1,5 +1,5 @@
 // The path calls.
-ghost use Rattle.std.specs.Prelude.{◌≡◌, ◌+◌, ◌≤◌, ◌<◌, IfOk, OnOk};
+ghost use Rattle.std.specs.Prelude.{◌≡◌, ◌+◌, ◌≤◌, ◌<◌, IfOk, OnErr, OnOk};
 ghost use Rattle.flow_graph.specs.Blocks.{AreBlocksOf};
 ghost use Rattle.flow_graph.specs.Edges.{edges_of};
 ghost use Rattle.path_laws.specs.Crossings.{push_room};
@@ -40,7 +40,7 @@ pub fn forward_all(
 
 /// As `forward_all`, with the blocks of `graph` at hand, and counted: `steps` never falls, and rises by at most the
 /// number of edges from the last node of a block to the first of one, times one more than the number of bits. It fails
-/// only with `Memory`.
+/// only with `Memory`, and `steps` is then as it was.
 pub fn forward_all_in<L: Ledger>(
     alloc: Global,
     graph: &Graph,
@@ -58,6 +58,7 @@ pub fn forward_all_in<L: Ledger>(
     ensures paths { IfOk result (AreBornBefore graph.now born.now stop.now) }
     ensures pushes { steps.new ≤ steps.old + push_room blocks.now edges.now born.now }
     ensures counts { steps.old ≤ steps.new }
+    ensures err { OnErr result (steps.new ≡ steps.old) }
 {
     let statement = Statement::Before;
     told_in(alloc, graph, edges, blocks, born, stop, steps, statement)
@@ -87,7 +88,7 @@ pub fn backward_all(
 
 /// As `backward_all`, with the blocks of `graph` at hand, and counted: `steps` never falls, and rises by at most the
 /// number of edges from the last node of a block to the first of one, times one more than the number of bits. It fails
-/// only with `Memory`.
+/// only with `Memory`, and `steps` is then as it was.
 pub fn backward_all_in<L: Ledger>(
     alloc: Global,
     graph: &Graph,
@@ -105,6 +106,7 @@ pub fn backward_all_in<L: Ledger>(
     ensures paths { IfOk result (AreBornAfter graph.now born.now stop.now) }
     ensures pushes { steps.new ≤ steps.old + push_room blocks.now edges.now born.now }
     ensures counts { steps.old ≤ steps.new }
+    ensures err { OnErr result (steps.new ≡ steps.old) }
 {
     let statement = Statement::After;
     told_in(alloc, graph, edges, blocks, born, stop, steps, statement)
@@ -131,7 +133,7 @@ pub fn backward_some(
 
 /// As `backward_some`, with the blocks of `graph` at hand, and counted: `steps` never falls, and rises by at most the
 /// number of edges from the last node of a block to the first of one, times one more than the number of bits. It fails
-/// only with `Memory`.
+/// only with `Memory`, and `steps` is then as it was.
 pub fn backward_some_in<L: Ledger>(
     alloc: Global,
     graph: &Graph,
@@ -149,6 +151,7 @@ pub fn backward_some_in<L: Ledger>(
     ensures paths { IfOk result (AreBornAhead graph.now born.now stop.now) }
     ensures pushes { steps.new ≤ steps.old + push_room blocks.now edges.now born.now }
     ensures counts { steps.old ≤ steps.new }
+    ensures err { OnErr result (steps.new ≡ steps.old) }
 {
     let statement = Statement::Ahead;
     told_in(alloc, graph, edges, blocks, born, stop, steps, statement)
@@ -224,6 +227,7 @@ fn told_in<L: Ledger>(
     ensures told { IfOk result (AreTold statement graph.now born.now stop.now) }
     ensures pushes { steps.new ≤ steps.old + push_room blocks.now edges.now born.now }
     ensures counts { steps.old ≤ steps.new }
+    ensures err { OnErr result (steps.new ≡ steps.old) }
 {
     let problem = Problem {
         graph,

@@ -4,7 +4,7 @@ ghost use Rattle.path_laws.specs.Paths.{HaveShape};
 ghost use Rattle.path_laws.specs.Problem.{AreAllBetween, AreInitial, AreLed, GrowTo, HandsOn, HaveAnswers, HaveBlockShape, HaveBlocks, HaveFirsts, IsProblem, TakesIn, orders};
 
 use crate::bits::Bits;
-use crate::passing::{blocked_at, join_seeds, node_at};
+use crate::passing::{barred_at, join_seeds, node_at};
 use crate::problems::Problem;
 use crate::seeds::is_end;
 use bit_rows::Rows;
@@ -13,30 +13,24 @@ use flow_graph::Edge;
 use mir_base::Memory;
 use std::alloc::Global;
 
-/// The answers at all nodes. Bits are joined to each row in place: at the first node of a block what the edges between
-/// blocks bring, and at each other node what the one before it hands on.
-pub(crate) fn filled(
-    alloc: Global,
-    problem: &Problem<'_>,
-    edges: &[Edge],
-    work: &Work<Bits>,
-) -> Result<Rows, Memory>
+/// The initial rows become the answers at all nodes. Bits are joined to each row in place: at the first node of a block
+/// what the edges between blocks bring, and at each other node what the one before it hands on.
+pub(crate) fn fill_all(problem: &Problem<'_>, edges: &[Edge], work: &Work<Bits>, rows: &mut Rows)
     requires problem { IsProblem problem.now }
     requires edges { AreAllBetween problem.now edges.now }
     requires shape { HaveBlockShape problem.now work.now }
     requires leads { AreLed problem.now edges.now work.now }
-    ensures { IfOk result (HaveAnswers problem.now) }
+    requires rows { AreInitial problem.now rows.old }
+    ensures { HaveAnswers problem.now rows.new }
 {
-    let mut rows = initial_rows(alloc, problem)?;
-    come(problem, edges, work, &mut rows);
+    come(problem, edges, work, rows);
     for block in 0..problem.blocks.len() {
-        fill(problem, block, &mut rows);
+        fill(problem, block, rows);
     }
-    Ok(rows)
 }
 
 /// The rows with which the answers begin: against the edges the seeds, and along them no bit.
-fn initial_rows(alloc: Global, problem: &Problem<'_>) -> Result<Rows, Memory>
+pub(crate) fn initial_rows(alloc: Global, problem: &Problem<'_>) -> Result<Rows, Memory>
     requires { IsProblem problem.now }
     ensures { IfOk result (AreInitial problem.now) }
 {
@@ -82,7 +76,7 @@ fn come(problem: &Problem<'_>, edges: &[Edge], work: &Work<Bits>, rows: &mut Row
     }
 }
 
-/// Joins what comes over one edge: against the edges only what the first node of its target does not block.
+/// Joins what comes over one edge: against the edges only what the first node of its target does not bar.
 fn take_in(problem: &Problem<'_>, edge: &Edge, work: &Work<Bits>, rows: &mut Rows)
     requires problem { IsProblem problem.now }
     requires source { edge.now.source < length problem.now.blocks.now.lists }
@@ -94,7 +88,7 @@ fn take_in(problem: &Problem<'_>, edge: &Edge, work: &Work<Bits>, rows: &mut Row
     let node = first_of(problem, edge.target);
     let value = work.value(edge.source).row();
     if problem.against {
-        rows.or_minus_from(node, &value, &blocked_at(problem, node));
+        rows.or_minus_from(node, &value, &barred_at(problem, node));
     } else {
         rows.or_from(node, &value);
     }
@@ -138,9 +132,9 @@ fn hand_on(problem: &Problem<'_>, before: usize, node: usize, rows: &mut Rows)
     ensures { HandsOn problem.now before node rows.old rows.new }
 {
     if problem.against {
-        rows.or_minus_within(node, before, &blocked_at(problem, node));
+        rows.or_minus_within(node, before, &barred_at(problem, node));
     } else {
-        rows.or_minus_within(node, before, &blocked_at(problem, before));
+        rows.or_minus_within(node, before, &barred_at(problem, before));
         join_seeds(problem, rows, node, before);
     }
 }

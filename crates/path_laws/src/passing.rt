@@ -2,7 +2,7 @@
 ghost use Rattle.std.specs.Prelude.{◌≡◌, ◌<◌, false, length, replicate, slice_get, IfOk, Some};
 ghost use Rattle.bit_rows.specs.Bits.{and_bits, not_bits, row_of};
 ghost use Rattle.path_laws.specs.Blockwise.{flow_order};
-ghost use Rattle.path_laws.specs.Problem.{IsProblem, blocks_in, is_seed, row_after};
+ghost use Rattle.path_laws.specs.Problem.{IsProblem, bars_in, is_seed, row_after};
 ghost use Rattle.path_laws.specs.RowLaws.{Joined, Written};
 
 use crate::problems::Problem;
@@ -88,10 +88,10 @@ fn or_opposite(rows: &mut Rows, row: usize, from: &RowView<'_>)
 }
 
 /// Which bits do not come through a node.
-pub(crate) fn blocked_at<'a>(problem: &Problem<'a>, node: usize) -> RowView<'a>
+pub(crate) fn barred_at<'a>(problem: &Problem<'a>, node: usize) -> RowView<'a>
     requires born { node < length problem.now.born.now }
     requires stop { node < length problem.now.stop.now }
-    ensures { result ≡ row_of (blocks_in problem.now) node }
+    ensures { result ≡ row_of (bars_in problem.now) node }
 {
     if problem.every {
         problem.born.row(node)

@@ -26,6 +26,7 @@ fn is_return(node: &Node) -> bool
         Node::Skip(_) => false,
         Node::Assign(_, _, _) => false,
         Node::Print(_, _) => false,
+        Node::Guard(_, _, _) => false,
         Node::Call(_, _, _, _) => false,
         Node::Test(_, _, _) => false,
         Node::Return(_) => true,

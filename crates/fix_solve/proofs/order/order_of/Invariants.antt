@@ -1,5 +1,5 @@
 use Rattle.std.proofs.Common.{◌≤◌}
-use Rattle.fix_solve.specs.Walks.{IsWalk}
+use Rattle.fix_solve.specs.OrderWalks.{IsWalk}
 use Rattle.fix_solve.proofs.order.order_of.Given as goal
 
 abbrev pub invariant-loop-step : goal.invariant-loop-step

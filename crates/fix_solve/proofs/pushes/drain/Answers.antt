@@ -1,7 +1,7 @@
 use Rattle.std.proofs.Common.{◌<◌, arith, ◌∙◌}
 use Rattle.node_list.specs.Lists.{is_listed, list_at}
 use Rattle.fix_solve.specs.Net.{value_at}
-use Rattle.fix_solve.proofs.Settle.{end_settles}
+use Rattle.fix_solve.proofs.Solves.{end_solves}
 use Rattle.fix_solve.proofs.Visits.{LessLeft, load_taken}
 use Rattle.fix_solve.proofs.Waiting.{none_waits}
 use Rattle.fix_solve.proofs.pushes.drain.Goals as goal
@@ -34,5 +34,5 @@ loop-node-preserved g c =
 pub returns-clause-least : goal.returns-clause-least
 returns-clause-least g c =
     let inv = c.loop-node.invariant in
-    end_settles g.F.Value.Lattice.below g.F.Value.Lattice.size g.F.Value.Lattice.rank g.met.F.Value.Lattice.laws (g.F.Flow.net c.args.flow.now) (g.met.F.Flow.laws c.args.flow.now c.requires.valid)
-    (value_at (g.F.Flow.net c.args.flow.now) c.loop-node.values) (is_listed c.loop-node.waiting.lists) (λ n h. none_waits c.loop-node.waiting.lists n inv.one_list c.in_default.ensures.empty.0) inv.working.settling
+    end_solves g.F.Value.Lattice.below g.F.Value.Lattice.size g.F.Value.Lattice.rank g.met.F.Value.Lattice.laws (g.F.Flow.net c.args.flow.now) (g.met.F.Flow.laws c.args.flow.now c.requires.valid)
+    (value_at (g.F.Flow.net c.args.flow.now) c.loop-node.values) (is_listed c.loop-node.waiting.lists) (λ n h. none_waits c.loop-node.waiting.lists n inv.one_list c.in_default.ensures.empty.0) inv.working.solving

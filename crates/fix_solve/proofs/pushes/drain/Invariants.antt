@@ -1,6 +1,6 @@
 use Rattle.std.proofs.Common.{◌≡◌, ◌+◌, ◌≤◌}
 use Rattle.node_list.specs.Lists.{is_listed}
-use Rattle.fix_solve.specs.Settling.{AllDone, IsOneList, Working, pushes_left, nodes_left}
+use Rattle.fix_solve.specs.Solving.{AllDone, IsOneList, Working, pushes_left, nodes_left}
 use Rattle.fix_solve.proofs.pushes.drain.Given as goal
 
 abbrev pub invariant-loop-node : goal.invariant-loop-node

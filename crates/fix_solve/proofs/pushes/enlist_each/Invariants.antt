@@ -1,5 +1,5 @@
 use Rattle.std.proofs.Common.{◌≡◌}
-use Rattle.fix_solve.specs.Settling.{IsOneList}
+use Rattle.fix_solve.specs.Solving.{IsOneList}
 use Rattle.fix_solve.proofs.pushes.enlist_each.Given as goal
 
 abbrev pub invariant-loop-node : goal.invariant-loop-node

@@ -1,6 +1,6 @@
 use Rattle.std.proofs.Common.{◌≡◌, ℕ, ◌<◌, true}
 use Rattle.node_list.specs.Lists.{is_listed}
-use Rattle.fix_solve.specs.Settling.{IsOneList}
+use Rattle.fix_solve.specs.Solving.{IsOneList}
 use Rattle.fix_solve.proofs.pushes.enlist_up.Given as goal
 
 abbrev pub invariant-loop-node : goal.invariant-loop-node

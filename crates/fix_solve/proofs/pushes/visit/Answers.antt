@@ -1,6 +1,6 @@
 use Rattle.std.proofs.Common.{◌≡◌, ◌+◌, ◌-◌, ◌<◌, ◌≤◌, arith, ◌∙◌}
 use Rattle.node_list.specs.Lists.{is_listed}
-use Rattle.fix_solve.specs.Settling.{pushes_left, nodes_left, degree}
+use Rattle.fix_solve.specs.Solving.{pushes_left, nodes_left, degree}
 use Rattle.fix_solve.proofs.Visits.{working_push, load_after}
 use Rattle.fix_solve.proofs.pushes.visit.Goals as goal
 

@@ -1,6 +1,6 @@
 use Rattle.std.proofs.Common.{◌≡◌, ◌+◌, ◌-◌, ◌<◌, ◌≤◌}
 use Rattle.node_list.specs.Lists.{is_listed}
-use Rattle.fix_solve.specs.Settling.{IsOneList, Working, pushes_left, nodes_left}
+use Rattle.fix_solve.specs.Solving.{IsOneList, Working, pushes_left, nodes_left}
 use Rattle.fix_solve.proofs.pushes.visit.Given as goal
 
 abbrev pub invariant-loop-number : goal.invariant-loop-number

@@ -1,6 +1,6 @@
 use Rattle.std.proofs.Common.{◌≤◌, ◌+◌, ◌*◌, length, ap, arith}
 use Rattle.node_list.specs.Lists.{is_listed}
-use Rattle.fix_solve.specs.Settling.{pushes_left}
+use Rattle.fix_solve.specs.Solving.{pushes_left}
 use Rattle.fix_solve.proofs.Loads.{pushes_left_le}
 use Rattle.fix_solve.proofs.Visits.{working_starts}
 use Rattle.fix_solve.proofs.work.solve.Goals as goal

@@ -9,4 +9,4 @@ overflow_add-receives c = omega (arith, receives_few c.args.insts.now)
 pub node_at-requires-clause-target : goal.node_at-requires-clause-target
 node_at-requires-clause-target c =
     let here = slice_get_read c.args.insts.now (length c.args.insts.now) c.loop-inst.inst-index c.inst-item.result refl c.loop-inst-test.true c.inst-item.is in
-    target_within c.args.insts.now c.loop-inst.inst-index c.inst-item.result _ c.requires.lower here (omega arith)
+    target_within c.requires.lower.0 c.args.insts.now c.loop-inst.inst-index c.inst-item.result _ c.requires.lower.1 here (omega arith)

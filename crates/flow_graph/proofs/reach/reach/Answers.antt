@@ -1,8 +1,8 @@
 use Rattle.std.proofs.Common.{◌≡◌, ◌∙◌, ◌++◌, ◌∷◌, [], ap, subst, refl, arith, None}
 use Rattle.std.proofs.lemmas.Grind.{common_steps}
 use Rattle.std.proofs.lemmas.Option.{slice_get_within}
-use Rattle.flow_graph.specs.Walks.{Walking}
-use Rattle.flow_graph.proofs.Walks.{walk_begins, walk_marks, popped}
+use Rattle.flow_graph.specs.ReachWalks.{Walking}
+use Rattle.flow_graph.proofs.ReachWalks.{walk_begins, walk_marks, popped}
 use Rattle.flow_graph.proofs.reach.reach.Goals as goal
 
 pub loop-node-init : goal.loop-node-init

@@ -1,5 +1,5 @@
 use Rattle.std.proofs.Common.{None}
-use Rattle.flow_graph.specs.Walks.{Walking, walk_weight}
+use Rattle.flow_graph.specs.ReachWalks.{Walking, walk_weight}
 use Rattle.flow_graph.proofs.reach.reach.Given as goal
 
 abbrev pub invariant-loop-node : goal.invariant-loop-node

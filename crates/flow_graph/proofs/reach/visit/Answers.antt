@@ -1,7 +1,7 @@
 use Rattle.std.proofs.Common.{◌≡◌, ◌∙◌, ap, sym, subst, refl, arith, length}
 use Rattle.std.proofs.lemmas.Option.{slice_get_read}
 use Rattle.flow_graph.specs.Graphs.{IsBelow}
-use Rattle.flow_graph.proofs.Walks.{visit_walks, first_within, lighter_by, long_after}
+use Rattle.flow_graph.proofs.ReachWalks.{visit_walks, first_within, lighter_by, long_after}
 use Rattle.flow_graph.proofs.reach.visit.Goals as goal
 
 pub mark-requires : goal.mark-requires

@@ -30,29 +30,26 @@ within_room g c made new between pushes =
 pub led-requires-clause-problem : goal.led-requires-clause-problem
 led-requires-clause-problem g c = is_problem g (goal.at.led-requires-clause-problem g c).After-nodes-nodes
 
-pub filled-requires-clause-problem : goal.filled-requires-clause-problem
-filled-requires-clause-problem g c = is_problem g (goal.at.filled-requires-clause-problem g c).After-nodes-nodes
+pub fill_all-requires-clause-problem : goal.fill_all-requires-clause-problem
+fill_all-requires-clause-problem g c = is_problem g (goal.at.fill_all-requires-clause-problem g c).After-nodes-nodes
 
-pub filled-requires-clause-edges : goal.filled-requires-clause-edges
-filled-requires-clause-edges g c = (c.in_ok-between.between.firsts.items, rw c.deref.ensures.value c.in_ok-between.ensures)
+pub fill_all-requires-clause-edges : goal.fill_all-requires-clause-edges
+fill_all-requires-clause-edges g c = (c.in_ok-between.between.firsts.items, rw c.deref.ensures.value c.in_ok-between.ensures)
 
-pub filled-requires-clause-leads : goal.filled-requires-clause-leads
-filled-requires-clause-leads g c = rw c.deref.ensures.value c.in_ok-work.ensures.leads
+pub fill_all-requires-clause-leads : goal.fill_all-requires-clause-leads
+fill_all-requires-clause-leads g c = rw c.deref.ensures.value c.in_ok-work.ensures.leads
 
 pub returns-clause-graph : goal.returns-clause-graph
 returns-clause-graph g c = rw c.nodes-nodes.ensures.value at c.nodes-nodes.ensures.graph
 
 pub returns-clause-shape : goal.returns-clause-shape
-returns-clause-shape g c = let p = c.args.problem.now in as_born p.graph.now.nodes p.bits p.born.now c.requires.born c.requires.bits c.in_ok-rows.rows c.in_ok-rows.ensures.shape
+returns-clause-shape g c = let p = c.args.problem.now in as_born p.graph.now.nodes p.bits p.born.now c.requires.born c.requires.bits c.fill_all.new.rows c.fill_all.ensures.shape
 
 pub returns-clause-answers : goal.returns-clause-answers
-returns-clause-answers g c = λ n b h l. let p = c.args.problem.now in c.in_ok-rows.ensures.are n b h (in_width p.graph.now.nodes p.bits p.born.now c.requires.born c.requires.bits n b h l)
+returns-clause-answers g c = λ n b h l. let p = c.args.problem.now in c.fill_all.ensures.are n b h (in_width p.graph.now.nodes p.bits p.born.now c.requires.born c.requires.bits n b h l)
 
 pub returns-clause-pushes : goal.returns-clause-pushes
 returns-clause-pushes g c = within_room g (goal.at.returns-clause-pushes g c).After-nodes-nodes c.in_ok-between.between c.led.new.steps c.in_ok-between.ensures c.in_ok-work.ensures.pushes
 
 pub returns-in_err-work-clause-pushes : goal.returns-in_err-work-clause-pushes
 returns-in_err-work-clause-pushes g c = within_room g (goal.at.returns-in_err-work-clause-pushes g c).After-nodes-nodes c.in_ok-between.between c.led.new.steps c.in_ok-between.ensures c.in_err-work.ensures.pushes
-
-pub returns-in_err-rows-clause-pushes : goal.returns-in_err-rows-clause-pushes
-returns-in_err-rows-clause-pushes g c = within_room g (goal.at.returns-in_err-rows-clause-pushes g c).After-nodes-nodes c.in_ok-between.between c.led.new.steps c.in_ok-between.ensures c.in_ok-work.ensures.pushes

@@ -1,4 +1,4 @@
-use Rattle.path_laws.specs.Problem.{block_seeds, is_blocked, is_seed, orders}
+use Rattle.path_laws.specs.Problem.{block_seeds, is_barred, is_seed, orders}
 use Rattle.path_laws.proofs.Coming.{led_blocks}
 use Rattle.path_laws.proofs.Leaving.{between_listed}
 use Rattle.path_laws.proofs.RowsPassed.{seeds_passed}
@@ -20,5 +20,5 @@ returns-clause-shape g c = rw c.len.ensures at c.in_ok-work.ensures.shape
 pub returns-clause-leads : goal.returns-clause-leads
 returns-clause-leads g c =
     let p = c.args.problem.now in
-    led_blocks p.against p.graph.now.nodes p.blocks.now.lists p.bits c.len.result c.args.between.now.edges.items c.as_slice.result.now c.args.between.now.firsts.items (orders p) (is_seed p) (is_blocked p) (block_seeds p) c.in_ok-stops.stops c.in_ok-work.work
+    led_blocks p.against p.graph.now.nodes p.blocks.now.lists p.bits c.len.result c.args.between.now.edges.items c.as_slice.result.now c.args.between.now.firsts.items (orders p) (is_seed p) (is_barred p) (block_seeds p) c.in_ok-stops.stops c.in_ok-work.work
     c.requires.between (seeds_passed p c.requires.problem) c.in_ok-stops.ensures c.len.ensures c.as_slice.ensures.value c.in_ok-work.ensures.leads

@@ -5,6 +5,6 @@ use Rattle.path_laws.proofs.assigned.assigned_rows.Given as goal
 
 abbrev pub invariant-loop-node : goal.invariant-loop-node
 invariant-loop-node l = record {
-  are : l.rows ≡ map (λ node. assigned_row l.at_start l.by_var l.bits (Some node)) (take l.node-index l.nodes);
+  are : l.rows ≡ map (λ node. assigned_row l.at_start l.shared l.by_var l.bits (Some node)) (take l.node-index l.nodes);
   long : AreEquallyLong l.bits l.rows;
 }

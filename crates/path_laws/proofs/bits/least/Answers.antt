@@ -1,7 +1,7 @@
 use Rattle.std.proofs.Common.{◌≡◌, length, [], arith}
 use Rattle.std.proofs.lemmas.List.{get_or_default}
 use Rattle.bit_rows.specs.Bits.{row_of}
-use Rattle.flow_graph.specs.Tables.{number_at}
+use Rattle.flow_graph.specs.NumberTables.{number_at}
 use Rattle.path_laws.specs.Problem.{block_seeds}
 use Rattle.path_laws.proofs.RowBits.{rows_lead}
 use Rattle.path_laws.proofs.bits.least.Goals as goal

@@ -2,7 +2,7 @@ use Rattle.std.proofs.Common.{◌≡◌, ◌<◌, ◌≤◌, ◌+◌, ◌-◌, s
 use Rattle.std.proofs.lemmas.Bool.{cases_eq}
 use Rattle.std.proofs.lemmas.Option.{slice_get_within}
 use Rattle.path_laws.specs.Paths.{has_bit}
-use Rattle.path_laws.specs.Problem.{is_blocked, is_seed, orders}
+use Rattle.path_laws.specs.Problem.{is_barred, is_seed, orders}
 use Rattle.path_laws.proofs.Coming.{handed_complete, handed_sound}
 use Rattle.path_laws.proofs.Growing.{growing_more, joined_on, joined_stays}
 use Rattle.path_laws.proofs.Places.{long_is, node_in}
@@ -39,8 +39,8 @@ loop-place-preserved c =
     let at_next : slice_get (orders c.args.problem.now c.args.block) (suc (c.loop-place.place - 1)) ≡ Some c.node_at-node.result = ap (slice_get (orders c.args.problem.now c.args.block)) (sym next) ∙ at.0 in
     record {
       late = omega arith;
-      rows = growing_more p.against nodes p.bits (is_seed p) (is_blocked p) c.loop-place.rows c.hand_on.new.rows n _ inv.rows made
-          (λ b l on. handed_sound p.against nodes lists c.requires.problem.blocks_are.are p.bits (is_seed p) (is_blocked p) b c.args.block (place - 1) n m c.requires.block at_next was.0
+      rows = growing_more p.against nodes p.bits (is_seed p) (is_barred p) c.loop-place.rows c.hand_on.new.rows n _ inv.rows made
+          (λ b l on. handed_sound p.against nodes lists c.requires.problem.blocks_are.are p.bits (is_seed p) (is_barred p) b c.args.block (place - 1) n m c.requires.block at_next was.0
           (has_bit c.loop-place.rows b m) (inv.rows.sound m b was.1 l) on);
       firsts = λ k j h first b l has. joined_stays p.bits c.loop-place.rows c.hand_on.new.rows n _ made b l j (inv.firsts k j h first b l has);
       blocks = λ k i j h there b l has. joined_stays p.bits c.loop-place.rows c.hand_on.new.rows n _ made b l j (inv.blocks k i j h there b l has);
@@ -48,7 +48,7 @@ loop-place-preserved c =
         | inl last ↦
             let both : Some j ≡ Some n = sym there ∙ ap (slice_get (orders p c.args.block)) last ∙ at.0 in
             let same : j ≡ n = cc in
-            rw same (handed_complete p.against nodes lists c.requires.problem.blocks_are.are p.bits (is_seed p) (is_blocked p) b c.args.block (place - 1) n m c.requires.block at_next was.0
+            rw same (handed_complete p.against nodes lists c.requires.problem.blocks_are.are p.bits (is_seed p) (is_barred p) b c.args.block (place - 1) n m c.requires.block at_next was.0
             (has_bit c.loop-place.rows b m) (has_bit c.hand_on.new.rows b n) (inv.here (place - 1) m (omega arith) was.0 b l)
             (λ seeded. joined_stays p.bits c.loop-place.rows c.hand_on.new.rows n _ made b l n (inv.rows.initial n b at.1 l seeded)) (joined_on p.bits c.loop-place.rows c.hand_on.new.rows n _ made b l) (rw same at has))
         | inr d ↦ joined_stays p.bits c.loop-place.rows c.hand_on.new.rows n _ made b l j (inv.here i j (let early' : i < c.loop-place.place + 1 = early in omega (arith, d)) there b l has)

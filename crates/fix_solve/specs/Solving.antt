@@ -1,0 +1,67 @@
+-- What holds while the solver runs, and how much it may still do. Cited by contracts.
+use Rattle.std.specs.Prelude.{◌≡◌, ℕ, suc, zero, ◌+◌, ◌-◌, ◌*◌, ◌<◌, Bool, false, if◌then◌else◌, List, length, slice_set, ◌↔◌}
+use Rattle.node_list.specs.Lists.{Lists}
+use Rattle.fix_solve.specs.Order.{IsLeastUpper}
+use Rattle.fix_solve.specs.OrderWalks.{AreNodes}
+use Rattle.fix_solve.specs.Net.{Net, Arises, value_at}
+
+-- the nodes that wait for a visit stand in one list
+abbrev pub IsOneList : Lists → Type 0
+IsOneList waiting = length waiting.lists ≡ 1
+
+-- each of the values' nodes can wait in it, and those of the order are such
+pub record CanWait {V : Type 0} (waiting : Lists) (values : List V) (order : List ℕ) : Type 0 where
+  pub one_list : IsOneList waiting
+  pub nodes : waiting.nodes ≡ length values
+  pub in_range : AreNodes (length values) order
+
+-- the values lie above the first ones and arise, and they lie above the transfer along each edge that is done and whose
+-- source does not wait
+pub record Solving {V : Type 0} (below : V → V → Type 0) (net : Net V) (values : ℕ → V) (waits : ℕ → Bool) (done : ℕ → Type 0) : Type 0 where
+  pub above_first : (n : ℕ) → n < net.nodes → below (net.first n) (values n)
+  pub arises : (n : ℕ) → n < net.nodes → Arises below net n (values n)
+  pub above_done : (e : ℕ) → e < net.edges → waits (net.source e) ≡ false → done e → below (net.transfer e (values (net.source e))) (values (net.target e))
+
+-- a value for each node, of which that holds
+pub record Working {V : Type 0} (below : V → V → Type 0) (net : Net V) (values : List V) (waits : ℕ → Bool) (done : ℕ → Type 0) : Type 0 where
+  pub len : length values ≡ net.nodes
+  pub solving : Solving below net (value_at net values) waits done
+
+-- no edge is left to do of the nodes that do not wait
+abbrev pub AllDone : ℕ → Type 0
+AllDone _ = Unit {0}
+
+-- the edges of this node are left to do, all of them
+abbrev pub AllDoneBut : {V : Type 0} → Net V → ℕ → ℕ → Type 0
+AllDoneBut net node e = net.source e ≡ node → e < net.start node
+
+-- what a push along an edge leaves, and whether it changed the target
+pub record Pushed {V : Type 0} (below : V → V → Type 0) (net : Net V) (number : ℕ) (before after : List V) (changes : Bool) : Type 0 where
+  pub joined : IsLeastUpper below (value_at net before (net.target number)) (net.transfer number (value_at net before (net.source number))) (value_at net after (net.target number))
+  pub others : after ≡ slice_set before (net.target number) (value_at net after (net.target number))
+  pub unchanged : (changes ≡ false) ↔ (value_at net after (net.target number) ≡ value_at net before (net.target number))
+
+-- the sum of the first values of a function
+unfoldable pub sum_below : (ℕ → ℕ) → ℕ → ℕ
+sum_below f zero = zero
+sum_below f (suc n) = sum_below f n + f n
+
+-- how often a node may still be visited: once if it waits, and once for each rank that its value can still rise
+abbrev pub visits_left : ℕ → Bool → ℕ → ℕ
+visits_left height waits rank = (if waits then 1 else 0) + (height - rank)
+
+-- the sum of these over the nodes, each with a weight
+abbrev pub load : {V : Type 0} → Net V → (V → ℕ) → (ℕ → ℕ) → (ℕ → V) → (ℕ → Bool) → ℕ
+load net rank weight values waits = sum_below (λ n. weight n * visits_left net.height (waits n) (rank (values n))) net.nodes
+
+-- how many edges leave a node
+abbrev pub degree : {V : Type 0} → Net V → ℕ → ℕ
+degree net n = net.stop n - net.start n
+
+-- the pushes that may still come
+abbrev pub pushes_left : {V : Type 0} → Net V → (V → ℕ) → List V → (ℕ → Bool) → ℕ
+pushes_left net rank values waits = load net rank (degree net) (value_at net values) waits
+
+-- the visits that may still come
+abbrev pub nodes_left : {V : Type 0} → Net V → (V → ℕ) → List V → (ℕ → Bool) → ℕ
+nodes_left net rank values waits = load net rank (λ _. 1) (value_at net values) waits

@@ -1,0 +1,260 @@
+// Edits of a graph: new assignments before nodes, and changed assignments, with no memory but at the beginning and the
+// end.
+ghost use Rattle.std.specs.Prelude.{◌≡◌, [], ◌∷◌, ◌++◌, ◌+◌, ◌<◌, ◌≤◌, ℕ, nat_lt, length, slice_get, take, IfOk, IsTrue, Some};
+ghost use Rattle.mir_base.specs.Shapes.{AllBelow, AllDiffer, rhs_vars};
+ghost use Rattle.node_list.specs.Lists.{is_listed, list_at};
+ghost use Rattle.graph_edit.specs.Edited.{edited_from, leads, AreFirsts, OldsLeadToOlds};
+ghost use Rattle.graph_edit.specs.Editing.{change_to, graph_changed, graph_extended, graph_put, is_assignment, rhs_below};
+ghost use Rattle.flow_graph.specs.Graphs.{SuccsBelow};
+ghost use Rattle.graph_edit.specs.Insertions.{changed};
+ghost use Rattle.flow_graph.specs.Retained.{redirected};
+
+use flow_graph::{Graph, Names, Node, redirect};
+use mir_base::{Items, Memory, Name, Rhs};
+use node_list::Links;
+use std::alloc::{AllocError, Global};
+use std::marker::Model;
+use std::mem;
+
+/// A graph that is being edited: `open` takes a graph, `put_before` and `change` edit it, and `close` gives the graph.
+/// Contracts see it as the graph as it stands and the number of assignments for which there is still room.
+///
+/// Each old node has a list of nodes that ends with it: the new ones before it, in order, and then the node. An edge of
+/// an old node leads to the first node of its target's list; the edge of a new node leads to the next node of its own
+/// list.
+#[derive(Drop)]
+pub struct Editor {
+    name: Name,
+    shared: usize,
+    vars: Names,
+    received: Items<usize>,
+    nodes: Vec<Node>,
+    olds: usize,
+    used: usize,
+    links: Links,
+    alloc: Global,
+}
+
+impl Model for Editor {
+    ghost use Rattle.std.specs.Prelude.{◌-◌, length};
+    ghost use Rattle.flow_graph.specs.Graphs.{SharesVars};
+    ghost use Rattle.graph_edit.specs.Edited.{edited_nodes, HoldsEdits};
+    ghost use Rattle.graph_edit.specs.Editing.{EditorShape};
+
+    ghost Value = { EditorShape };
+
+    ghost view = { λ editor. record {
+      graph = record {
+        name = editor.name;
+        shared = editor.shared;
+        vars = editor.vars;
+        received = editor.received;
+        nodes = edited_nodes editor.links.lists editor.used editor.nodes.items;
+      };
+      spare = length editor.nodes.items - editor.used;
+    } };
+
+    ghost invariant = { λ editor.
+        HoldsEdits editor.vars editor.received editor.nodes.items
+        editor.olds editor.used editor.links
+        × SharesVars editor.shared editor.vars editor.received };
+}
+
+impl Editor {
+    /// The graph with the variables `extra` after its own, and with room for `room` new assignments. The names of the
+    /// graph's variables and of `extra` together are distinct. All memory for the edits is allocated here. It fails
+    /// only with `Memory`.
+    pub fn open(
+        alloc: Global,
+        graph: &Graph,
+        extra: Vec<Name>,
+        room: usize,
+    ) -> Result<Editor, Memory>
+        requires { AllDiffer (graph.now.vars ++ extra.items) }
+        ensures graph { IfOk result (λ made. made.graph ≡ graph_extended extra.items graph.now) }
+        ensures spare { IfOk result (λ editor. editor.spare ≡ room) }
+    {
+        let Some(total) = graph.len().checked_add(room) else {
+            return Err(AllocError);
+        };
+        let name = graph.name().clone()?;
+        let vars = graph.shared_names().with(alloc, extra)?;
+        let received = Vec::from_slice(alloc, graph.received())?;
+        let nodes = with_room(alloc, graph.nodes(), room)?;
+        let links = one_each(alloc, total, graph.len())?;
+        Ok(Editor {
+            name,
+            shared: graph.shared(),
+            vars,
+            received: Items::of(received),
+            nodes,
+            olds: graph.len(),
+            used: graph.len(),
+            links,
+            alloc,
+        })
+    }
+
+    /// Puts the assignment of `rhs` to the variable `x` before `node`. It gets the next number, all edges that entered
+    /// the node enter it, and its successor is the node. There is room for it, `node` is a node of the graph and not
+    /// Start, and `x` and the variables of `rhs` are variables of the graph. It does not allocate.
+    pub fn put_before(&mut self, node: usize, x: usize, rhs: Rhs)
+        requires spare { 1 ≤ self.old.spare }
+        requires some { 1 ≤ node }
+        requires node { node < length self.old.graph.nodes }
+        requires x { x < length self.old.graph.vars }
+        requires rhs { AllBelow (length self.old.graph.vars) (rhs_vars rhs) }
+        ensures graph { self.new.graph ≡ graph_put node x rhs self.old.graph }
+        ensures spare { self.new.spare + 1 ≡ self.old.spare }
+    {
+        let new = self.used;
+        self.nodes[new] = Node::Assign(x, rhs, node);
+        self.links.insert_before(node, new);
+        self.used = new + 1;
+    }
+
+    /// Gives an assignment the right side `rhs`, or makes it a Skip where `rhs` is `None`. `node` is an assignment, and
+    /// the variables of `rhs` are variables of the graph. It does not allocate.
+    pub fn change(&mut self, node: usize, rhs: Option<Rhs>)
+        requires node { IsTrue (is_assignment (slice_get self.old.graph.nodes node)) }
+        requires rhs { rhs_below (length self.old.graph.vars) rhs }
+        ensures graph { self.new.graph ≡ graph_changed node (change_to rhs) self.old.graph }
+        ensures spare { self.new.spare ≡ self.old.spare }
+    {
+        let old = mem::replace(&mut self.nodes[node], Node::Skip(0));
+        self.nodes[node] = changed(old, rhs);
+    }
+
+    /// The graph with all edits made. It fails only with `Memory`.
+    pub fn close(self) -> Result<Graph, Memory>
+        ensures { IfOk result (λ graph. graph ≡ self.graph) }
+    {
+        let mut nodes = self.nodes;
+        nodes.truncate(self.used);
+        let firsts = first_nodes(self.alloc, &self.links, self.olds)?;
+        let nodes = led_nodes(self.alloc, nodes, firsts.as_slice(), &self.links)?;
+        Ok(Graph::of_parts(
+            self.alloc,
+            self.name,
+            self.shared,
+            self.vars,
+            self.received,
+            nodes,
+        ))
+    }
+}
+
+/// Copies of the nodes, and `room` Skips after them.
+fn with_room(alloc: Global, nodes: &[Node], room: usize) -> Result<Vec<Node>, Memory>
+    ensures all { IfOk result (λ all. take (length nodes.now) all.items ≡ nodes.now) }
+    ensures long { IfOk result (λ all. length all.items ≡ length nodes.now + room) }
+{
+    let mut all = Vec::with_capacity(alloc, nodes.len().saturating_add(room))?;
+    for node in nodes {
+        all.push(node.clone()?)?;
+    }
+    for _ in 0..room {
+        all.push(Node::Skip(0))?;
+    }
+    Ok(all)
+}
+
+/// `lists` lists, each of which has its own number alone, for nodes numbered below `total`.
+fn one_each(alloc: Global, total: usize, lists: usize) -> Result<Links, Memory>
+    requires { lists ≤ total }
+    ensures nodes { IfOk result (λ links. links.nodes ≡ total) }
+    ensures count { IfOk result (λ links. length links.lists ≡ lists) }
+    ensures each { IfOk result (λ links. (s : ℕ) → s < lists → list_at links.lists s ≡ s ∷ []) }
+    ensures listed { IfOk result (λ links. (n : ℕ) → is_listed links.lists n ≡ nat_lt n lists) }
+{
+    let mut links = Links::new(alloc, total, lists)?;
+    for list in 0..lists {
+        links.push_back(list, list);
+    }
+    Ok(links)
+}
+
+/// The assignment with another right side, or a Skip in its place; any other node as it is.
+fn changed(node: Node, rhs: Option<Rhs>) -> Node
+    ensures { result ≡ changed (change_to rhs) node }
+{
+    match node {
+        Node::Start(next) => Node::Start(next),
+        Node::Skip(next) => Node::Skip(next),
+        Node::Assign(x, _, next) => match rhs {
+            Some(rhs) => Node::Assign(x, rhs, next),
+            None => Node::Skip(next),
+        },
+        Node::Print(a, next) => Node::Print(a, next),
+        Node::Guard(test, number, next) => Node::Guard(test, number, next),
+        Node::Call(into, unit, args, next) => Node::Call(into, unit, args, next),
+        Node::Test(test, taken, other) => Node::Test(test, taken, other),
+        Node::Return(a) => Node::Return(a),
+    }
+}
+
+/// The first node of each list.
+fn first_nodes(alloc: Global, links: &Links, lists: usize) -> Result<Vec<usize>, Memory>
+    requires { length links.now.lists ≡ lists }
+    ensures long { IfOk result (λ firsts. length firsts.items ≡ lists) }
+    ensures each { IfOk result (λ firsts. AreFirsts lists links.now.lists firsts.items) }
+{
+    let mut firsts = Vec::with_capacity(alloc, lists)?;
+    for list in 0..lists {
+        firsts.push(links.first(list).unwrap_or(0))?;
+    }
+    Ok(firsts)
+}
+
+/// The nodes with their edges: the first `firsts.len()` of them are the old ones.
+fn led_nodes(
+    alloc: Global,
+    nodes: Vec<Node>,
+    firsts: &[usize],
+    links: &Links,
+) -> Result<Vec<Node>, Memory>
+    requires count { length links.now.lists ≡ length firsts.now }
+    requires firsts { AreFirsts (length firsts.now) links.now.lists firsts.now }
+    requires listed { (n : ℕ) → n < length nodes.items → IsTrue (is_listed links.now.lists n) }
+    requires below { OldsLeadToOlds (length firsts.now) nodes.items }
+    ensures { IfOk result (λ led. led.items ≡ edited_from links.now.lists 0 nodes.items) }
+{
+    let mut led = Vec::with_capacity(alloc, nodes.len())?;
+    let mut number = 0;
+    for node in nodes {
+        led.push(led_node(number, node, firsts, links))?;
+        number += 1;
+    }
+    Ok(led)
+}
+
+/// The node of this number with its edges.
+fn led_node(number: usize, node: Node, firsts: &[usize], links: &Links) -> Node
+    requires count { length links.now.lists ≡ length firsts.now }
+    requires firsts { AreFirsts (length firsts.now) links.now.lists firsts.now }
+    requires listed { IsTrue (is_listed links.now.lists number) }
+    requires below { number < length firsts.now → SuccsBelow (length firsts.now) node }
+    ensures { result ≡ redirected (leads links.now.lists number) node }
+{
+    if number < firsts.len() {
+        redirect(node, firsts)
+    } else {
+        aimed(node, links.next(number).unwrap_or(0))
+    }
+}
+
+/// The node with one number for all its successors.
+fn aimed(node: Node, to: usize) -> Node
+    ensures { result ≡ redirected (λ n. to) node }
+{
+    match node {
+        Node::Start(_) => Node::Start(to),
+        Node::Skip(_) => Node::Skip(to),
+        Node::Assign(x, rhs, _) => Node::Assign(x, rhs, to),
+        Node::Print(a, _) => Node::Print(a, to),
+        Node::Guard(test, number, _) => Node::Guard(test, number, to),
+        Node::Call(into, unit, args, _) => Node::Call(into, unit, args, to),
+        Node::Test(test, _, _) => Node::Test(test, to, to),
+        Node::Return(a) => Node::Return(a),
+    }
+}
