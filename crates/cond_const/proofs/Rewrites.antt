@@ -22,15 +22,15 @@ use Rattle.cond_const.proofs.Nodewise.{are_least, state_at, state_of}
 
 -- ---- the nodes of one block
 
-module _ (received : List ℕ) (nodes : List Node) (list : List ℕ) (s : NodeState) (old : List Node) where
+module _ (shared : ℕ) (received : List ℕ) (nodes : List Node) (list : List ℕ) (s : NodeState) (old : List Node) where
   -- the next node
-  pub folds_more : (i n : ℕ) (node : Node) (t : NodeState) (made new : List Node) → FoldsBlock received nodes list s i old made → slice_get list i ≡ Some n → slice_get nodes n ≡ Some node → t ≡ through_nodes received nodes (take i list) s → n < length made → new ≡ slice_set made n (folded_at t node) → FoldsBlock received nodes list s (i + 1) old new
+  pub folds_more : (i n : ℕ) (node : Node) (t : NodeState) (made new : List Node) → FoldsBlock shared received nodes list s i old made → slice_get list i ≡ Some n → slice_get nodes n ≡ Some node → t ≡ through_nodes shared received nodes (take i list) s → n < length made → new ≡ slice_set made n (folded_at t node) → FoldsBlock shared received nodes list s (i + 1) old new
   folds_more i n node t made new so_far at here state_is lt new_is = record {
     long = ap length new_is ∙ length-set made n (folded_at t node) ∙ so_far.long;
     folds = folds;
   }
     where
-      folds : (states : ℕ → NodeState) → AreThrough received nodes list s states → (m : ℕ) → IsFoldedAt states nodes old m ⊎ IsAmong list (i + 1) m → IsFoldedAt states nodes new m
+      folds : (states : ℕ → NodeState) → AreThrough shared received nodes list s states → (m : ℕ) → IsFoldedAt states nodes old m ⊎ IsAmong list (i + 1) m → IsFoldedAt states nodes new m
       folds states are m known = elim (cases_eq m n) as (λ _. IsFoldedAt states nodes new m) [
         | inl same ↦ λ other there.
             let is_node : node ≡ other = same_Some node other (sym here ∙ ap (slice_get nodes) (sym same) ∙ there) in
@@ -50,13 +50,13 @@ module _ (received : List ℕ) (nodes : List Node) (list : List ℕ) (s : NodeSt
 
 -- ---- the nodes of all blocks
 
-module _ (received : List ℕ) (nodes : List Node) (lists : List (List ℕ)) (values : List NodeState) where
+module _ (shared : ℕ) (received : List ℕ) (nodes : List Node) (lists : List (List ℕ)) (values : List NodeState) where
   -- the next block
-  pub blocks_more : (b : ℕ) (list : List ℕ) (s : NodeState) (made new : List Node) → FoldsBlocks received nodes lists values b made → slice_get lists b ≡ Some list → s ≡ value_of values b → FoldsBlock received nodes list s (length list) made new → FoldsBlocks received nodes lists values (b + 1) new
+  pub blocks_more : (b : ℕ) (list : List ℕ) (s : NodeState) (made new : List Node) → FoldsBlocks shared received nodes lists values b made → slice_get lists b ≡ Some list → s ≡ value_of values b → FoldsBlock shared received nodes list s (length list) made new → FoldsBlocks shared received nodes lists values (b + 1) new
   blocks_more b list s made new so_far listed state_is block = record {
     long = block.long ∙ so_far.long;
     folds = λ states are c i n other lt listed' at.
-        let through_block : AreThrough received nodes list s states = subst (λ x. AreThrough received nodes list x states) (sym state_is) (are b list listed) in
+        let through_block : AreThrough shared received nodes list s states = subst (λ x. AreThrough shared received nodes list x states) (sym state_is) (are b list listed) in
         elim (cases_eq c b) as (λ _. IsFoldedAt states nodes new n) [
           | inl same ↦
               let is_list : other ≡ list = same_Some other list (sym listed' ∙ ap (slice_get lists) same ∙ listed) in
@@ -77,23 +77,23 @@ module _ (graph : GraphShape) (blocks : BlocksShape) (values : List NodeState) (
   value b = value_at (net_in graph blocks are.entry are.targets) values b
 
   abbrev states : ℕ → NodeState
-  states n = state_of graph.received graph.nodes blocks.lists are.is_net.blocks value n
+  states n = state_of graph.shared graph.received graph.nodes blocks.lists are.is_net.blocks value n
 
-  all_through : AreThroughBlocks graph.received graph.nodes blocks.lists values states
+  all_through : AreThroughBlocks graph.shared graph.received graph.nodes blocks.lists values states
   all_through b list listed i n at =
       let s : StandsIn blocks.lists b n = record { list = list; listed = listed; place = i; is = at } in
       let b_low : b < length values = omega (arith, slice_get_within blocks.lists b list listed, are.long) in
-      state_at graph.received graph.nodes blocks.lists are.is_net.blocks value b n s
-      ∙ ap (through_nodes graph.received graph.nodes (take i list)) (get_or_default values b ((net_in graph blocks are.entry are.targets).first b) (Unreached 0) b_low)
+      state_at graph.shared graph.received graph.nodes blocks.lists are.is_net.blocks value b n s
+      ∙ ap (through_nodes graph.shared graph.received graph.nodes (take i list)) (get_or_default values b ((net_in graph blocks are.entry are.targets).first b) (Unreached 0) b_low)
 
   least_states : HasLeastStates graph states
-  least_states = are_least (length graph.vars) graph.received graph.nodes blocks.lists are.entry are.targets are.is_net within no_entry value are.least
+  least_states = are_least (length graph.vars) graph.shared graph.received graph.nodes blocks.lists are.entry are.targets are.is_net within no_entry value are.least
 
   -- what passes to a node from the first node of its block is what is known before the node
   pub passes_known : (b node : ℕ) (list : List ℕ) (s : NodeState) (reaches : Bool) (known : List Known) (told : Option (List Known)) → node < length graph.nodes → slice_get blocks.lists b ≡ Some list → s ≡ value_of values b
       → PassesTo graph list node s (state_where reaches known) → state_of_known (length known) told ≡ state_where reaches known → IsKnownBefore graph node told
   passes_known b node list s reaches known told lt listed state_is passes told_is =
-      let here : states node ≡ state_where reaches known = all_through b list listed passes.place node passes.stands ∙ ap (through_nodes graph.received graph.nodes (take passes.place list)) (sym state_is) ∙ sym passes.passes in
+      let here : states node ≡ state_where reaches known = all_through b list listed passes.place node passes.stands ∙ ap (through_nodes graph.shared graph.received graph.nodes (take passes.place list)) (sym state_is) ∙ sym passes.passes in
       let long : length known ≡ length graph.vars = sym (where_size reaches known) ∙ ap size_of (sym here) ∙ least_states.are.sizes node lt in
       record {
         states = states;
@@ -101,7 +101,7 @@ module _ (graph : GraphShape) (blocks : BlocksShape) (values : List NodeState) (
         here = here ∙ sym told_is ∙ ap (λ n. state_of_known n told) long;
       }
 
-  module _ (made : List Node) (folds : FoldsBlocks graph.received graph.nodes blocks.lists values (length blocks.lists) made) where
+  module _ (made : List Node) (folds : FoldsBlocks graph.shared graph.received graph.nodes blocks.lists values (length blocks.lists) made) where
     by_place : (n : ℕ) → slice_get made n ≡ slice_get (folded_nodes states graph.nodes) n
     by_place n = elim (cases_lt n (length graph.nodes)) as (λ _. slice_get made n ≡ slice_get (folded_nodes states graph.nodes) n) [
       | inl lt ↦

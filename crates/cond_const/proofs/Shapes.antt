@@ -12,7 +12,7 @@ use Rattle.mir_base.specs.Numbers.{wrapped, traps, value_of_op}
 use Rattle.mir_base.specs.Shapes.{AllBelow, operand_vars, rhs_vars, test_vars, into_vars}
 use Rattle.mir_base.specs.BelowLaws.{all_below_left, all_below_right, all_below_append}
 use Rattle.flow_graph.specs.declared.nodes.Node.{Node}
-use Rattle.flow_graph.specs.declared.nodes.Node.TheVariants.{Start, Skip, Assign, Print, Call, Test, Return}
+use Rattle.flow_graph.specs.declared.nodes.Node.TheVariants.{Start, Skip, Assign, Print, Guard, Call, Test, Return}
 use Rattle.flow_graph.specs.Calls.{NodesCall, node_call}
 use Rattle.flow_graph.specs.Graphs.{CanMake, IsEdge, node_succs, node_vars, succs_of, slot_of}
 use Rattle.flow_graph.specs.NodeLaws.{mapped_from}
@@ -22,7 +22,7 @@ use Rattle.cond_const.specs.declared.identities.Identity.{Identity}
 use Rattle.cond_const.specs.declared.identities.Identity.TheVariants.{Absent, Itself, Always}
 use Rattle.cond_const.specs.Identities.{identity_same, identity_left, identity_right}
 use Rattle.cond_const.specs.States.{NodeState, Unreached, Knows}
-use Rattle.cond_const.specs.Folding.{known_at, resolved_as, resolved, resolved_rhs, resolved_test, by_identity, folded_binary, folded, folded_rhs, decided_test, passes_by, passes, folded_test, folded_node, folded_at, folded_from, folded_nodes}
+use Rattle.cond_const.specs.Folding.{known_at, resolved_as, resolved, resolved_rhs, resolved_test, by_identity, folded_binary, folded, folded_rhs, decided_test, passes_by, passes, folded_test, folded_guard, folded_node, folded_at, folded_from, folded_nodes}
 use Rattle.cond_const.proofs.Folds.{folded_get, slot_itself}
 use Rattle.flow_graph.specs.BoundLaws.{slot_leads}
 
@@ -54,12 +54,19 @@ test_back ks test taken other None is (suc (suc slot)) s e = cc
 test_back ks test taken other (Some b) is zero s e = (slot_of b, slot_leads taken other b ∙ e, ap (passes_by (slot_of b)) is ∙ slot_itself b)
 test_back ks test taken other (Some b) is (suc slot) s e = cc
 
+-- a Guard keeps its only edge
+guard_succs : (test : tests.Test) (number next : ℕ) (o : Option Bool) → node_succs (folded_guard test number next o) ≡ next ∷ []
+guard_succs test number next None = refl
+guard_succs test number next (Some true) = refl
+guard_succs test number next (Some false) = refl
+
 -- each edge of what a node becomes is an edge of the node that passes its state
 pub node_back : (ks : List Known) (node : Node) (slot s : ℕ) → slice_get (node_succs (folded_node ks node)) slot ≡ Some s → PassingEdge ks node s
 node_back ks (Start next) slot s e = one_back ks (Start next) next slot s refl refl e
 node_back ks (Skip next) slot s e = one_back ks (Skip next) next slot s refl refl e
 node_back ks (Assign x rhs next) slot s e = one_back ks (Assign x rhs next) next slot s refl refl e
 node_back ks (Print a next) slot s e = one_back ks (Print a next) next slot s refl refl e
+node_back ks (Guard test number next) slot s e = one_back ks (Guard test number next) next slot s refl refl (ap (λ l. slice_get l slot) (sym (guard_succs (resolved_test ks test) number next (decided_test ks test))) ∙ e)
 node_back ks (Call into unit operands next) slot s e = one_back ks (Call into unit operands next) next slot s refl refl e
 node_back ks (Test test taken other) slot s e = test_back ks test taken other (decided_test ks test) refl slot s e
 node_back ks (Return a) slot s e = cc
@@ -84,6 +91,7 @@ node_on ks (Start next) slot s e passing = (slot, e)
 node_on ks (Skip next) slot s e passing = (slot, e)
 node_on ks (Assign x rhs next) slot s e passing = (slot, e)
 node_on ks (Print a next) slot s e passing = (slot, e)
+node_on ks (Guard test number next) slot s e passing = (slot, ap (λ l. slice_get l slot) (guard_succs (resolved_test ks test) number next (decided_test ks test)) ∙ e)
 node_on ks (Call into unit operands next) slot s e passing = (slot, e)
 node_on ks (Test test taken other) slot s e passing = test_on test (resolved_test ks test) taken other (decided_test ks test) slot s e passing
 node_on ks (Return a) slot s e passing = cc
@@ -147,11 +155,17 @@ module _ (k : ℕ) where
   decided_below test taken other None low = low
   decided_below test taken other (Some b) low = tt
 
+  guard_below : (test : tests.Test) (number next : ℕ) (o : Option Bool) → AllBelow k (test_vars test) → AllBelow k (node_vars (folded_guard test number next o))
+  guard_below test number next None low = low
+  guard_below test number next (Some true) low = low
+  guard_below test number next (Some false) low = tt
+
   node_below : (ks : List Known) (node : Node) → AllBelow k (node_vars node) → AllBelow k (node_vars (folded_node ks node))
   node_below ks (Start next) low = low
   node_below ks (Skip next) low = low
   node_below ks (Assign x rhs next) low = (low.0, rhs_below ks rhs low.1)
   node_below ks (Print a next) low = operand_below ks a low
+  node_below ks (Guard test number next) low = guard_below (resolved_test ks test) number next (decided_test ks test) (test_below ks test low)
   node_below ks (Call into unit operands next) low =
       all_below_append k (into_vars into) (flat_map operand_vars (map (resolved ks) operands)) (all_below_left k (into_vars into) (flat_map operand_vars operands) low)
       (operands_below ks operands (all_below_right k (into_vars into) (flat_map operand_vars operands) low))
@@ -169,6 +183,12 @@ test_start : (test : tests.Test) (taken other s : ℕ) (o : Option Bool) → fol
 test_start test taken other s None e = cc
 test_start test taken other s (Some b) e = cc
 
+-- nor does a Guard become Start
+guard_start : (test : tests.Test) (number next s : ℕ) (o : Option Bool) → folded_guard test number next o ≡ Start s → ⊥
+guard_start test number next s None e = cc
+guard_start test number next s (Some true) e = cc
+guard_start test number next s (Some false) e = cc
+
 -- of any node
 node_start : (state : NodeState) (node : Node) (s : ℕ) → folded_at state node ≡ Start s → (t : ℕ) × (node ≡ Start t)
 node_start (Unreached n) node s e = (s, e)
@@ -176,6 +196,7 @@ node_start (Knows ks) (Start next) s e = (next, refl)
 node_start (Knows ks) (Skip next) s e = cc
 node_start (Knows ks) (Assign x rhs next) s e = cc
 node_start (Knows ks) (Print a next) s e = cc
+node_start (Knows ks) (Guard test number next) s e = absurd (guard_start (resolved_test ks test) number next s (decided_test ks test) e)
 node_start (Knows ks) (Call into unit operands next) s e = cc
 node_start (Knows ks) (Test test taken other) s e = absurd (test_start (resolved_test ks test) taken other s (decided_test ks test) e)
 node_start (Knows ks) (Return a) s e = cc
@@ -190,6 +211,12 @@ test_call : (test : tests.Test) (taken other : ℕ) (o : Option Bool) → node_c
 test_call test taken other None = refl
 test_call test taken other (Some b) = refl
 
+-- nor does a Guard
+guard_call : (test : tests.Test) (number next : ℕ) (o : Option Bool) → node_call (folded_guard test number next o) ≡ None
+guard_call test number next None = refl
+guard_call test number next (Some true) = refl
+guard_call test number next (Some false) = refl
+
 -- each other node makes the call that it made
 at_call : (state : NodeState) (node : Node) → node_call (folded_at state node) ≡ node_call node
 at_call (Unreached n) node = refl
@@ -197,6 +224,7 @@ at_call (Knows ks) (Start next) = refl
 at_call (Knows ks) (Skip next) = refl
 at_call (Knows ks) (Assign x rhs next) = refl
 at_call (Knows ks) (Print a next) = refl
+at_call (Knows ks) (Guard test number next) = guard_call (resolved_test ks test) number next (decided_test ks test)
 at_call (Knows ks) (Call into unit operands next) = ap (λ n. Some (unit, n)) (length-map operands (resolved ks))
 at_call (Knows ks) (Test test taken other) = test_call (resolved_test ks test) taken other (decided_test ks test)
 at_call (Knows ks) (Return a) = refl

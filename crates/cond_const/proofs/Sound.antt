@@ -1,5 +1,5 @@
 -- What is known of the variables says what a folded node does.
-use Rattle.std.proofs.Common.{◌≡◌, ◌≢◌, ℕ, zero, suc, ◌≤◌, inl, inr, Bool, true, false, not, if◌then◌else◌, nat_eq, eqb-true, eq-eqb, List, [], ◌∷◌, length, ℤ, pos, Some, None, refl, sym, ap, ◌∙◌, subst, arith, w64, replicate, slice_set, slice_index_or, map}
+use Rattle.std.proofs.Common.{◌≡◌, ◌≢◌, ℕ, zero, suc, ◌≤◌, inl, inr, Bool, true, false, not, if◌then◌else◌, nat_eq, eqb-true, eq-eqb, List, [], ◌∷◌, length, ℤ, pos, Some, None, refl, sym, ap, ◌∙◌, subst, arith, w64, replicate, slice_set, slice_index_or, map, ◌<◌, ◌+◌, ◌⊎◌}
 use Rattle.std.proofs.lemmas.Int.{SFits-int_wrap, int_wrap_fits}
 use Rattle.std.proofs.lemmas.Bool.{cases_lt}
 use Rattle.std.proofs.lemmas.List.{get_or-set_same, get_or-set_other, set_past, get_or_past}
@@ -14,12 +14,14 @@ use Rattle.mir_base.specs.declared.instructions.Test as tests
 use Rattle.mir_base.specs.declared.instructions.Test.TheVariants.{Rel, Holds, Fails}
 use Rattle.mir_base.specs.Numbers.{wrapped, traps, value_of_op, value_of_un_op, relation_holds}
 use Rattle.mir_base.specs.NumberLaws.{value_fits, un_value_fits, zero_fits}
-use Rattle.mir_base.specs.Frames.{Values, all_zero, with_value}
+use Rattle.mir_base.specs.Frames.{shared_vars, with_first, Values, all_zero, with_value}
 use Rattle.mir_base.specs.Units.{operand_value, test_holds}
 use Rattle.mir_base.specs.Expressions.{rhs_traps, rhs_value, rhs_count}
 use Rattle.mir_base.specs.Runs.{AreNumbers}
-use Rattle.mir_base.specs.FrameLaws.{ValuesFit, operand_fits, argument_fits, with_value_fits}
+use Rattle.mir_base.specs.FrameLaws.{with_first_fits, ValuesFit, operand_fits, argument_fits, with_value_fits}
 use Rattle.flow_graph.specs.ListLaws.{cons_same}
+use Rattle.std.specs.List.{range_with_len}
+use Rattle.mir_base.specs.SharedLaws.{with_first_other}
 use Rattle.flow_graph.specs.Machines.{received_from}
 use Rattle.cond_const.specs.declared.known.Known.{Known}
 use Rattle.cond_const.specs.declared.known.Known.TheVariants.{Fixed, Varying}
@@ -27,19 +29,11 @@ use Rattle.cond_const.specs.declared.identities.Identity.{Identity}
 use Rattle.cond_const.specs.declared.identities.Identity.TheVariants.{Absent, Itself, Always}
 use Rattle.cond_const.specs.Identities.{identity_same, identity_left, identity_right, IsIdentity}
 use Rattle.cond_const.specs.States.{NodeState, Unreached, Knows, BelowKnown, BelowEach, BelowState}
-use Rattle.cond_const.specs.Folding.{known_at, resolved_as, resolved, resolved_rhs, resolved_test, by_identity, folded_binary, folded, folded_rhs, known_of, known_rhs, relates_itself, decided_relation, decided, decided_test, all_varying, start_known}
+use Rattle.cond_const.specs.Folding.{known_at, resolved_as, resolved, resolved_rhs, resolved_test, by_identity, folded_binary, folded, folded_rhs, known_of, known_rhs, relates_itself, decided_relation, decided, decided_test, all_varying, first_known, start_known}
+use Rattle.cond_const.specs.Holding.{Agrees, HoldsAt}
 use Rattle.cond_const.specs.IdentityLaws.{same_keeps, right_keeps, left_keeps}
 use Rattle.cond_const.specs.RelationLaws.{relation_same}
 use Rattle.cond_const.specs.PassingLaws.{below_at}
-
--- each variable of which a constant is known has it
-pub record Agrees (ks : List Known) (values : Values) : Type 0 where
-  pub is : (x : ℕ) (v : ℤ) → known_at ks x ≡ Fixed v → values x ≡ v
-
--- what is known holds; nothing does where no run comes
-abbrev pub HoldsAt : NodeState → Values → Type 0
-HoldsAt (Unreached n) values = ⊥
-HoldsAt (Knows ks) values = Agrees ks values
 
 -- what is less sure holds too
 agrees_up : (xs ys : List Known) (values : Values) → BelowEach xs ys → Agrees xs values → Agrees ys values
@@ -217,9 +211,51 @@ agrees_varying [] arguments i ks values agrees = agrees
 agrees_varying (x ∷ xs) arguments i ks values agrees =
     agrees_varying xs arguments (suc i) (slice_set ks x Varying) (with_value x (slice_index_or arguments i (pos 0)) values) (agrees_set ks values x Varying (slice_index_or arguments i (pos 0)) agrees (λ c e. cc))
 
+-- what is known of a variable that none of these numbers is stays
+varying_out : (n a y : ℕ) (ks : List Known) → (y < a) ⊎ (a + n ≤ y) → known_at (all_varying (range_with_len a n) ks) y ≡ known_at ks y
+varying_out zero a y ks out = refl
+varying_out (suc n) a y ks out = varying_out n (a + 1) y (slice_set ks a Varying) (further out) ∙ get_or-set_other ks a y Varying Varying (apart out)
+  where
+    further : (y < a) ⊎ (a + suc n ≤ y) → (y < a + 1) ⊎ (a + 1 + n ≤ y)
+    further (inl lt) = inl (omega (arith, lt))
+    further (inr ge) = inr (omega (arith, ge))
+
+    apart : (y < a) ⊎ (a + suc n ≤ y) → y ≢ a
+    apart (inl lt) = λ same. omega (arith, lt, same)
+    apart (inr ge) = λ same. omega (arith, ge, same)
+
+-- and one that is one of them becomes varying
+varying_in : (n a y : ℕ) (ks : List Known) → a ≤ y → y < a + n → known_at (all_varying (range_with_len a n) ks) y ≡ Varying
+varying_in zero a y ks le lt = absurd (omega (arith, le, lt))
+varying_in (suc n) a y ks le lt = elim (cases_lt a y) [
+  | inl more ↦ varying_in n (a + 1) y (slice_set ks a Varying) (omega (arith, more)) (omega (arith, lt))
+  | inr no_more ↦
+      let same : a ≡ y = omega (arith, le, no_more) in
+      varying_out n (a + 1) y (slice_set ks a Varying) (inl (omega (arith, same))) ∙ ap (known_at (slice_set ks a Varying)) (sym same) ∙ set_here
+]
+  where
+    set_here : known_at (slice_set ks a Varying) a ≡ Varying
+    set_here = elim (cases_lt a (length ks)) [
+      | inl within ↦ get_or-set_same ks a Varying Varying within
+      | inr past ↦ ap (λ l. known_at l a) (set_past ks a Varying past) ∙ get_or_past ks a Varying past
+    ]
+
+-- the globals may have any values
+pub agrees_shared : (shared : ℕ) (globals : List ℤ) (ks : List Known) (values : Values) → length globals ≡ shared → Agrees ks values → Agrees (all_varying (shared_vars shared) ks) (with_first globals values)
+agrees_shared shared globals ks values long agrees = record {
+  is = λ y c e. elim (cases_lt y shared) [
+    | inl lt ↦ (let never : Varying ≡ Fixed c = sym (varying_in shared 0 y ks (omega arith) (omega (arith, lt))) ∙ e in absurd (cc))
+    | inr ge ↦ with_first_other globals values y (omega (arith, ge, long)) ∙ agrees.is y c (sym (varying_out shared 0 y ks (inr (omega (arith, ge)))) ∙ e)
+  ];
+}
+
+-- that is true before Start
+pub agrees_first : (shared : ℕ) (globals : List ℤ) (n : ℕ) → length globals ≡ shared → Agrees (first_known shared n) (with_first globals all_zero)
+agrees_first shared globals n long = agrees_shared shared globals (replicate n (Fixed (pos 0))) all_zero long (agrees_zeros n)
+
 -- and after Start
-pub agrees_start : (received : List ℕ) (arguments : List ℤ) (n : ℕ) → Agrees (start_known received n) (received_from 0 received arguments all_zero)
-agrees_start received arguments n = agrees_varying received arguments 0 (replicate n (Fixed (pos 0))) all_zero (agrees_zeros n)
+pub agrees_start : (shared : ℕ) (received : List ℕ) (globals arguments : List ℤ) (n : ℕ) → length globals ≡ shared → Agrees (start_known shared received n) (received_from 0 received arguments (with_first globals all_zero))
+agrees_start shared received globals arguments n long = agrees_varying received arguments 0 (first_known shared n) (with_first globals all_zero) (agrees_first shared globals n long)
 
 -- all values 0 are signed 64-bit numbers
 zeros_fit : ValuesFit all_zero
@@ -232,5 +268,5 @@ fits_received (x ∷ xs) arguments i values numbers fits =
     fits_received xs arguments (suc i) (with_value x (slice_index_or arguments i (pos 0)) values) numbers (with_value_fits x (slice_index_or arguments i (pos 0)) values (argument_fits arguments i numbers) fits)
 
 -- for all arguments
-pub fits_start : (received : List ℕ) (arguments : List ℤ) → AreNumbers arguments → ValuesFit (received_from 0 received arguments all_zero)
-fits_start received arguments numbers = fits_received received arguments 0 all_zero numbers zeros_fit
+pub fits_start : (received : List ℕ) (globals arguments : List ℤ) → AreNumbers globals → AreNumbers arguments → ValuesFit (received_from 0 received arguments (with_first globals all_zero))
+fits_start received globals arguments are numbers = fits_received received arguments 0 (with_first globals all_zero) numbers (with_first_fits globals all_zero are zeros_fit)

@@ -29,13 +29,13 @@ chain_at nodes list k is lt =
     subst (λ m. m < length nodes) (sym (get_or_from_slice_get list k n.0 0 n.1)) low
 
 -- a step through one node more
-pub passed_on : (received : List ℕ) (nodes : List Node) (list : List ℕ) (i j : ℕ) (node : Node) (s t u : NodeState) → i < length list → j ≡ suc i → slice_get nodes (slice_index_or list i 0) ≡ Some node
-    → t ≡ through_nodes received nodes (take i list) s → u ≡ passed_along received node 0 t → u ≡ through_nodes received nodes (take j list) s
-passed_on received nodes list i j node s t u lt next here so_far step =
+pub passed_on : (shared : ℕ) (received : List ℕ) (nodes : List Node) (list : List ℕ) (i j : ℕ) (node : Node) (s t u : NodeState) → i < length list → j ≡ suc i → slice_get nodes (slice_index_or list i 0) ≡ Some node
+    → t ≡ through_nodes shared received nodes (take i list) s → u ≡ passed_along shared received node 0 t → u ≡ through_nodes shared received nodes (take j list) s
+passed_on shared received nodes list i j node s t u lt next here so_far step =
     let at : slice_get list i ≡ Some (slice_index_or list i 0) = slice_get-get_or list i 0 lt in
-    let more : through_nodes received nodes (take j list) s ≡ along_at received (slice_get nodes (slice_index_or list i 0)) 0 (through_nodes received nodes (take i list) s) =
-    ap (λ k. through_nodes received nodes (take k list) s) next ∙ ap (λ l. through_nodes received nodes l s) (take_next list i (slice_index_or list i 0) at) ∙ through_more received nodes (take i list) (slice_index_or list i 0) s in
-    step ∙ ap (passed_along received node 0) so_far ∙ sym (more ∙ ap (λ o. along_at received o 0 (through_nodes received nodes (take i list) s)) here)
+    let more : through_nodes shared received nodes (take j list) s ≡ along_at shared received (slice_get nodes (slice_index_or list i 0)) 0 (through_nodes shared received nodes (take i list) s) =
+    ap (λ k. through_nodes shared received nodes (take k list) s) next ∙ ap (λ l. through_nodes shared received nodes l s) (take_next list i (slice_index_or list i 0) at) ∙ through_more shared received nodes (take i list) (slice_index_or list i 0) s in
+    step ∙ ap (passed_along shared received node 0) so_far ∙ sym (more ∙ ap (λ o. along_at shared received o 0 (through_nodes shared received nodes (take i list) s)) here)
 
 -- a place that is not after one where the node stands is one of the list
 pub place_low : (list : List ℕ) (place i node : ℕ) → place ≤ i → slice_get list i ≡ Some node → place < length list

@@ -3,7 +3,7 @@ use Rattle.std.proofs.Common.{◌≡◌, ℕ, ◌+◌, ◌*◌, ◌<◌, ◌/◌
 use Rattle.std.proofs.lemmas.Bool.{cases_eq}
 use Rattle.std.proofs.lemmas.List.{get_or_append_left, get_or_push}
 use Rattle.flow_graph.specs.declared.nodes.Node.{Node}
-use Rattle.flow_graph.specs.Tables.{number_at}
+use Rattle.flow_graph.specs.NumberTables.{number_at}
 use Rattle.cond_const.specs.Blockwise.{AreTargetsBelow, IsTargetOf, block_at, last_of}
 
 -- of one block more

@@ -1,5 +1,5 @@
 -- The folded graph as a whole: exactly the nodes whose state is reached are kept, and divisions stay.
-use Rattle.std.proofs.Common.{◌≡◌, ◌↔◌, ℕ, ◌<◌, Bool, true, false, if◌then◌else◌, nat_eq, List, length, slice_get, slice_index_or, replicate, pos, Option, Some, None, option_map, refl, sym, ap, ◌∙◌, subst, arith, ℤ}
+use Rattle.std.proofs.Common.{◌≡◌, ◌↔◌, ℕ, ◌<◌, Bool, true, false, if◌then◌else◌, nat_eq, List, length, slice_get, slice_index_or, pos, Option, Some, None, option_map, refl, sym, ap, ◌∙◌, subst, arith, ℤ}
 use Rattle.std.proofs.lemmas.Bool.{and_parts}
 use Rattle.std.proofs.lemmas.Option.{slice_get_within, slice_get-get_or, get_or_from_slice_get, slice_get-map}
 use Rattle.mir_base.specs.declared.operators.Op.{Op}
@@ -11,15 +11,14 @@ use Rattle.mir_base.specs.Numbers.{is_dividing, wrapped, traps, value_of_op}
 use Rattle.mir_base.specs.Expressions.{may_be_zero}
 use Rattle.flow_graph.specs.declared.nodes.Node.{Node}
 use Rattle.flow_graph.specs.declared.nodes.Node.TheVariants.{Assign}
-use Rattle.flow_graph.specs.Dividing.{DividesAt}
+use Rattle.flow_graph.specs.Dividing.{DividesOf}
 use Rattle.flow_graph.specs.Graphs.{AllWithin, GraphShape, IsEdge, Reached as IsReachedNode, at_start, along as goes_along, node_succs, succs_of}
-use Rattle.flow_graph.specs.Kept.{AreKept, IsMade, marked, marked_below, redirected}
-use Rattle.flow_graph.specs.KeptLaws.{at_rank, rank_below}
+use Rattle.flow_graph.specs.Retained.{AreRetained, IsMade, marked, marked_below, redirected}
+use Rattle.flow_graph.specs.RetainedLaws.{at_rank, rank_below}
 use Rattle.cond_const.specs.declared.known.Known.{Known}
-use Rattle.cond_const.specs.declared.known.Known.TheVariants.{Fixed}
 use Rattle.cond_const.specs.Identities.{identity_right}
 use Rattle.cond_const.specs.States.{NodeState, Unreached, Knows, BelowState, is_reached, size_of}
-use Rattle.cond_const.specs.Folding.{known_after, passed_along, by_identity, folded_at, folded_binary, folded_node, folded_nodes, folded_rhs, passes, resolved}
+use Rattle.cond_const.specs.Folding.{known_after, first_known, passed_along, by_identity, folded_at, folded_binary, folded_node, folded_nodes, folded_rhs, passes, resolved}
 use Rattle.cond_const.specs.Folded.{AreStates, HasLeastStates, IsFolded, KeepsDivisions}
 use Rattle.cond_const.specs.RelationLaws.{int_eq_is}
 use Rattle.cond_const.specs.PassingLaws.{unreached_below}
@@ -38,7 +37,7 @@ above_reached ks (Knows ls) p = refl
 
 -- ---- what is reached
 
-module _ (received : List ℕ) (nodes : List Node) (size : ℕ) (states : ℕ → NodeState) (are : AreStates received nodes size states) where
+module _ (shared : ℕ) (received : List ℕ) (nodes : List Node) (size : ℕ) (states : ℕ → NodeState) (are : AreStates shared received nodes size states) where
   abbrev after : List Node
   after = folded_nodes states nodes
 
@@ -49,10 +48,10 @@ module _ (received : List ℕ) (nodes : List Node) (size : ℕ) (states : ℕ �
   passed : (n slot s : ℕ) (ks : List Known) (node : Node) → states n ≡ Knows ks → slice_get nodes n ≡ Some node → slice_get (node_succs node) slot ≡ Some s → passes node slot ks ≡ true → is_reached (states s) ≡ true
   passed n slot s ks node known here leads passing =
       let edge : IsEdge nodes n slot s = ap (λ o. slice_get (succs_of o) slot) here ∙ leads in
-      let above : BelowState (passed_along received node slot (states n)) (states s) = are.edges n slot s node here edge in
-      let above' : BelowState (passed_along received node slot (Knows ks)) (states s) = subst (λ t. BelowState (passed_along received node slot t) (states s)) known above in
-      let above'' : BelowState (Knows (known_after received node ks)) (states s) = subst (λ b. BelowState (if b then Knows (known_after received node ks) else Unreached (length ks)) (states s)) passing above' in
-      above_reached (known_after received node ks) (states s) above''
+      let above : BelowState (passed_along shared received node slot (states n)) (states s) = are.edges n slot s node here edge in
+      let above' : BelowState (passed_along shared received node slot (Knows ks)) (states s) = subst (λ t. BelowState (passed_along shared received node slot t) (states s)) known above in
+      let above'' : BelowState (Knows (known_after shared received node ks)) (states s) = subst (λ b. BelowState (if b then Knows (known_after shared received node ks) else Unreached (length ks)) (states s)) passing above' in
+      above_reached (known_after shared received node ks) (states s) above''
 
   leads_on : (n slot s : ℕ) (ks : List Known) (o : Option Node) → states n ≡ Knows ks → slice_get nodes n ≡ o → slice_get (succs_of (option_map (folded_node ks) o)) slot ≡ Some s → is_reached (states s) ≡ true
   leads_on n slot s ks None known here leads = cc
@@ -60,26 +59,26 @@ module _ (received : List ℕ) (nodes : List Node) (size : ℕ) (states : ℕ �
 
   -- a node that is kept has a state that is reached
   pub kept_reached : (n : ℕ) → IsReachedNode after n → is_reached (states n) ≡ true
-  kept_reached n at_start = above_reached (replicate size (Fixed (pos 0))) (states 0) are.start
+  kept_reached n at_start = above_reached (first_known shared size) (states 0) are.start
   kept_reached n (goes_along m slot s before edge) =
       let k = known_of_reached (states m) (kept_reached m before) in
       leads_on m slot s k.0 (slice_get nodes m) k.1 refl (ap (λ o. slice_get (succs_of o) slot) (sym (folded_here m k.0 k.1)) ∙ edge)
 
   -- ---- the states are least: where the others are not kept, they could be unreached
-  module _ (least : (others : ℕ → NodeState) → AreStates received nodes size others → (n : ℕ) → n < length nodes → BelowState (states n) (others n)) (within : AllWithin nodes) (kept : List Node) (are_kept : AreKept after kept) where
+  module _ (least : (others : ℕ → NodeState) → AreStates shared received nodes size others → (n : ℕ) → n < length nodes → BelowState (states n) (others n)) (within : AllWithin nodes) (kept : List Node) (are_retained : AreRetained after kept) where
     abbrev bits : ℕ → Bool
-    bits n = slice_index_or are_kept.marks n false
+    bits n = slice_index_or are_retained.marks n false
 
-    marks_long : length are_kept.marks ≡ length nodes
-    marks_long = are_kept.are_marks.long ∙ length_folded states nodes
+    marks_long : length are_retained.marks ≡ length nodes
+    marks_long = are_retained.are_marks.long ∙ length_folded states nodes
 
     bits_kept : (n : ℕ) → n < length nodes → bits n ≡ true → IsReachedNode after n
     bits_kept n lt on =
-        (are_kept.are_marks.exact n (subst (λ k. n < k) (sym (length_folded states nodes)) lt)).0 (slice_get-get_or are_kept.marks n false (omega (arith, lt, marks_long)) ∙ ap Some on)
+        (are_retained.are_marks.exact n (subst (λ k. n < k) (sym (length_folded states nodes)) lt)).0 (slice_get-get_or are_retained.marks n false (omega (arith, lt, marks_long)) ∙ ap Some on)
 
     kept_bits : (n : ℕ) → n < length nodes → IsReachedNode after n → bits n ≡ true
     kept_bits n lt reached =
-        get_or_from_slice_get are_kept.marks n true false ((are_kept.are_marks.exact n (subst (λ k. n < k) (sym (length_folded states nodes)) lt)).1 reached)
+        get_or_from_slice_get are_retained.marks n true false ((are_retained.are_marks.exact n (subst (λ k. n < k) (sym (length_folded states nodes)) lt)).1 reached)
 
     abbrev others : ℕ → NodeState
     others n = if bits n then states n else Unreached size
@@ -95,14 +94,14 @@ module _ (received : List ℕ) (nodes : List Node) (size : ℕ) (states : ℕ �
         cases false = refl
 
     -- an edge from a kept node to one that is not kept passes nothing
-    stopped : (n slot s : ℕ) (node : Node) (state : NodeState) → states n ≡ state → slice_get nodes n ≡ Some node → IsEdge nodes n slot s → bits n ≡ true → bits s ≡ false → BelowState (passed_along received node slot state) (Unreached size)
+    stopped : (n slot s : ℕ) (node : Node) (state : NodeState) → states n ≡ state → slice_get nodes n ≡ Some node → IsEdge nodes n slot s → bits n ≡ true → bits s ≡ false → BelowState (passed_along shared received node slot state) (Unreached size)
     stopped n slot s node (Unreached k) known here edge on off = sym (ap size_of known) ∙ are.sizes n (slice_get_within nodes n node here)
     stopped n slot s node (Knows ks) known here edge on off = cases (passes node slot ks) refl
       where
         lt : n < length nodes
         lt = slice_get_within nodes n node here
 
-        cases : (b : Bool) → passes node slot ks ≡ b → BelowState (if b then Knows (known_after received node ks) else Unreached (length ks)) (Unreached size)
+        cases : (b : Bool) → passes node slot ks ≡ b → BelowState (if b then Knows (known_after shared received node ks) else Unreached (length ks)) (Unreached size)
         cases true passing =
             let more = node_on ks node slot s (ap (λ o. slice_get (succs_of o) slot) (sym here) ∙ edge) passing in
             let there : slice_get after n ≡ Some (folded_node ks node) = folded_here n ks known ∙ ap (option_map (folded_node ks)) here in
@@ -111,16 +110,16 @@ module _ (received : List ℕ) (nodes : List Node) (size : ℕ) (states : ℕ �
             absurd (cc)
         cases false passing = sym (ap size_of known) ∙ are.sizes n lt
 
-    others_along : (n slot s : ℕ) (node : Node) → slice_get nodes n ≡ Some node → IsEdge nodes n slot s → (b b' : Bool) → bits n ≡ b → bits s ≡ b' → BelowState (passed_along received node slot (if b then states n else Unreached size)) (if b' then states s else Unreached size)
+    others_along : (n slot s : ℕ) (node : Node) → slice_get nodes n ≡ Some node → IsEdge nodes n slot s → (b b' : Bool) → bits n ≡ b → bits s ≡ b' → BelowState (passed_along shared received node slot (if b then states n else Unreached size)) (if b' then states s else Unreached size)
     others_along n slot s node here edge true true on on' = are.edges n slot s node here edge
     others_along n slot s node here edge true false on off = stopped n slot s node (states n) refl here edge on off
     others_along n slot s node here edge false true off on = unreached_below size (states s) (sym (are.sizes s (within n slot s edge)))
     others_along n slot s node here edge false false off off' = refl
 
-    others_are : 0 < length nodes → AreStates received nodes size others
+    others_are : 0 < length nodes → AreStates shared received nodes size others
     others_are lt = record {
       sizes = others_size;
-      start = subst (λ b. BelowState (Knows (replicate size (Fixed (pos 0)))) (if b then states 0 else Unreached size)) (sym (some_node lt)) are.start;
+      start = subst (λ b. BelowState (Knows (first_known shared size)) (if b then states 0 else Unreached size)) (sym (some_node lt)) are.start;
       edges = λ n slot s node here edge. others_along n slot s node here edge (bits n) (bits s) refl refl;
     }
 
@@ -133,11 +132,11 @@ module _ (received : List ℕ) (nodes : List Node) (size : ℕ) (states : ℕ �
     reached_kept n lt on = bits_kept n lt (in_bits n (bits n) refl on (least others (others_are (omega (arith, lt))) n lt))
 
 -- exactly those nodes are kept whose state is reached
-pub exactly_kept : (graph made : GraphShape) (states : ℕ → NodeState) → AllWithin graph.nodes → HasLeastStates graph states → IsMade graph.name graph.vars graph.received (folded_nodes states graph.nodes) made
+pub exactly_kept : (graph made : GraphShape) (states : ℕ → NodeState) → AllWithin graph.nodes → HasLeastStates graph states → IsMade graph.name graph.shared graph.vars graph.received (folded_nodes states graph.nodes) made
     → (n : ℕ) → n < length graph.nodes → IsReachedNode (folded_nodes states graph.nodes) n ↔ (is_reached (states n) ≡ true)
 exactly_kept graph made states within least is_made n lt = (
-  kept_reached graph.received graph.nodes (length graph.vars) states least.are n,
-  reached_kept graph.received graph.nodes (length graph.vars) states least.are least.least within made.nodes is_made.nodes_are n lt,
+  kept_reached graph.shared graph.received graph.nodes (length graph.vars) states least.are n,
+  reached_kept graph.shared graph.received graph.nodes (length graph.vars) states least.are least.least within made.nodes is_made.nodes_are n lt,
 )
 
 -- ---- divisions
@@ -201,26 +200,22 @@ module _ (graph made : GraphShape) (is : IsFolded graph made) where
       ∙ ap (option_map (redirected (marked_below marks))) (at_rank marks (folded_nodes is.states graph.nodes) n (is_marked n (slice_get_within graph.nodes n node here) on) is.made.nodes_are.are_marks.long
       ∙ folded_get is.states graph.nodes n ∙ ap (option_map (folded_at (is.states n))) here)
 
-  assigned : (n x : ℕ) (op : Op) (known : List Known) (d : DividesAt graph.nodes n x op) → is.states n ≡ Knows known → slice_get made.nodes (marked_below marks n) ≡ Some (Assign x (folded_rhs known (Binary op d.left d.right)) (marked_below marks d.next))
-  assigned n x op known d reached = stands n (Assign x (Binary op d.left d.right) d.next) d.is (ap is_reached reached) ∙ ap (λ s. Some (redirected (marked_below marks) (folded_at s (Assign x (Binary op d.left d.right) d.next)))) reached
+  assigned : (n x : ℕ) (op : Op) (left right : Operand) (known : List Known) (d : DividesOf graph.nodes n x op left right) → is.states n ≡ Knows known → slice_get made.nodes (marked_below marks n) ≡ Some (Assign x (folded_rhs known (Binary op left right)) (marked_below marks d.next))
+  assigned n x op left right known d reached = stands n (Assign x (Binary op left right) d.next) d.is (ap is_reached reached) ∙ ap (λ s. Some (redirected (marked_below marks) (folded_at s (Assign x (Binary op left right) d.next)))) reached
 
   pub keeps_divisions : KeepsDivisions graph made
   keeps_divisions = record {
     states = is.states;
     least = is.least;
     place = marked_below marks;
-    variable = λ n x op d on.
-        let k = known_of_reached (is.states n) on in
-        record { rhs = folded_rhs k.0 (Binary op d.left d.right); next = marked_below marks d.next; is = assigned n x op k.0 d k.1 };
-    operator = λ n x op known d reached low.
-        let parts = and_parts (is_dividing op) (may_be_zero d.right) d.may_trap in
-        let stays = division_stays op (resolved known d.left) (resolved known d.right) parts.0 low in
+    variable = λ n x op left right known d reached. record { next = marked_below marks d.next; is = assigned n x op left right known d reached };
+    operator = λ n x op left right known d reached low.
+        let parts = and_parts (is_dividing op) (may_be_zero right) d.may_trap in
+        let stays = division_stays op (resolved known left) (resolved known right) parts.0 low in
         record {
-          left = resolved known d.left;
-          right = resolved known d.right;
           next = marked_below marks d.next;
-          is = assigned n x op known d reached ∙ ap (λ r. Some (Assign x r (marked_below marks d.next))) stays;
+          is = assigned n x op left right known d reached ∙ ap (λ r. Some (Assign x r (marked_below marks d.next))) stays;
           may_trap = rw (parts.0, low) refl;
         };
-    in_order = λ n m x y op other d d' on lt. rank_below marks n m (is_marked n (slice_get_within graph.nodes n _ d.is) on) lt;
+    in_order = λ n m x y op other d d' on lt. rank_below marks n m (is_marked n (slice_get_within graph.nodes n _ d.of.is) on) lt;
   }

@@ -1,5 +1,5 @@
 -- What is known after a node, along which of its edges it passes, and what a node becomes. Cited by contracts.
-use Rattle.std.specs.Prelude.{ℕ, suc, Bool, false, not, if◌then◌else◌, nat_eq, nat_lt, List, [], ◌∷◌, length, map, replicate, slice_set, slice_index_or, pos, Option, Some, None}
+use Rattle.std.specs.Prelude.{ℕ, suc, Bool, true, false, not, if◌then◌else◌, nat_eq, nat_lt, List, [], ◌∷◌, length, map, replicate, slice_set, slice_index_or, pos, Option, Some, None}
 use Rattle.std.specs.Ordering.{int_eq}
 use Rattle.mir_base.specs.declared.operators.Op.{Op}
 use Rattle.mir_base.specs.declared.instructions.Operand.{Operand}
@@ -9,9 +9,10 @@ use Rattle.mir_base.specs.declared.instructions.Rhs.TheVariants.{Plain, Unary, B
 use Rattle.mir_base.specs.declared.operators.RelOp.{RelOp}
 use Rattle.mir_base.specs.declared.instructions.Test as tests
 use Rattle.mir_base.specs.declared.instructions.Test.TheVariants.{Rel, Holds, Fails}
+use Rattle.mir_base.specs.Frames.{shared_vars}
 use Rattle.mir_base.specs.Numbers.{wrapped, traps, value_of_op, value_of_un_op, relation_holds}
 use Rattle.flow_graph.specs.declared.nodes.Node.{Node}
-use Rattle.flow_graph.specs.declared.nodes.Node.TheVariants.{Start, Skip, Assign, Print, Call, Test, Return}
+use Rattle.flow_graph.specs.declared.nodes.Node.TheVariants.{Start, Skip, Assign, Print, Guard, Call, Test, Return}
 use Rattle.cond_const.specs.declared.known.Known.{Known}
 use Rattle.cond_const.specs.declared.known.Known.TheVariants.{Fixed, Varying}
 use Rattle.cond_const.specs.declared.identities.Identity.{Identity}
@@ -56,10 +57,13 @@ by_identity (Always c) variable rhs = Plain (Const c)
 
 -- what an operator on two operands becomes whose variables are all varying
 abbrev pub folded_binary : Op → Operand → Operand → Rhs
-folded_binary op (Const a) (Const b) = if traps op (wrapped b) then Binary op (Const a) (Const b) else Plain (Const (value_of_op op (wrapped a) (wrapped b)))
+folded_binary op (Const a) (Const b) =
+    if traps op (wrapped b) then Binary op (Const a) (Const b) else Plain
+    (Const (value_of_op op (wrapped a) (wrapped b)))
 folded_binary op (Var x) (Const b) = by_identity (identity_right op (wrapped b)) (Var x) (Binary op (Var x) (Const b))
 folded_binary op (Const a) (Var y) = by_identity (identity_left op (wrapped a)) (Var y) (Binary op (Const a) (Var y))
-folded_binary op (Var x) (Var y) = if nat_eq x y then by_identity (identity_same op) (Var x) (Binary op (Var x) (Var y)) else Binary op (Var x) (Var y)
+folded_binary op (Var x) (Var y) =
+    if nat_eq x y then by_identity (identity_same op) (Var x) (Binary op (Var x) (Var y)) else Binary op (Var x) (Var y)
 
 -- what a right side becomes whose variables are all varying
 abbrev pub folded : Rhs → Rhs
@@ -113,24 +117,29 @@ abbrev pub all_varying : List ℕ → List Known → List Known
 all_varying [] known = known
 all_varying (x ∷ xs) known = all_varying xs (slice_set known x Varying)
 
--- after Start: received variables are varying, and the others are 0
-abbrev pub start_known : List ℕ → ℕ → List Known
-start_known received size = all_varying received (replicate size (Fixed (pos 0)))
+-- before Start: globals are varying, and the others are 0
+abbrev pub first_known : ℕ → ℕ → List Known
+first_known shared size = all_varying (shared_vars shared) (replicate size (Fixed (pos 0)))
 
--- the variable of a call is varying
-abbrev pub after_call : Option ℕ → List Known → List Known
-after_call None known = known
-after_call (Some x) known = slice_set known x Varying
+-- after Start: globals and received variables are varying, and the others are 0
+abbrev pub start_known : ℕ → List ℕ → ℕ → List Known
+start_known shared received size = all_varying received (first_known shared size)
+
+-- after a call the globals and its variable are varying
+abbrev pub after_call : ℕ → Option ℕ → List Known → List Known
+after_call shared None known = all_varying (shared_vars shared) known
+after_call shared (Some x) known = slice_set (all_varying (shared_vars shared) known) x Varying
 
 -- what is known after a node
-abbrev pub known_after : List ℕ → Node → List Known → List Known
-known_after received (Start next) known = start_known received (length known)
-known_after received (Skip next) known = known
-known_after received (Assign x rhs next) known = slice_set known x (known_rhs known rhs)
-known_after received (Print a next) known = known
-known_after received (Call into unit operands next) known = after_call into known
-known_after received (Test test taken other) known = known
-known_after received (Return a) known = known
+abbrev pub known_after : ℕ → List ℕ → Node → List Known → List Known
+known_after shared received (Start next) known = start_known shared received (length known)
+known_after shared received (Skip next) known = known
+known_after shared received (Assign x rhs next) known = slice_set known x (known_rhs known rhs)
+known_after shared received (Print a next) known = known
+known_after shared received (Guard test number next) known = known
+known_after shared received (Call into unit operands next) known = after_call shared into known
+known_after shared received (Test test taken other) known = known
+known_after shared received (Return a) known = known
 
 -- a decided test passes its state along the edge that it takes, and one that is not decided along both
 abbrev pub passes_by : ℕ → Option Bool → Bool
@@ -143,18 +152,20 @@ passes (Start next) slot known = nat_eq slot 0
 passes (Skip next) slot known = nat_eq slot 0
 passes (Assign x rhs next) slot known = nat_eq slot 0
 passes (Print a next) slot known = nat_eq slot 0
+passes (Guard test number next) slot known = nat_eq slot 0
 passes (Call into unit operands next) slot known = nat_eq slot 0
 passes (Test test taken other) slot known = passes_by slot (decided_test known test)
 passes (Return a) slot known = false
 
 -- what passes along the edge at this slot of a node
-abbrev pub passed_along : List ℕ → Node → ℕ → NodeState → NodeState
-passed_along received node slot (Unreached size) = Unreached size
-passed_along received node slot (Knows known) = if passes node slot known then Knows (known_after received node known) else Unreached (length known)
+abbrev pub passed_along : ℕ → List ℕ → Node → ℕ → NodeState → NodeState
+passed_along shared received node slot (Unreached size) = Unreached size
+passed_along shared received node slot (Knows known) =
+    if passes node slot known then Knows (known_after shared received node known) else Unreached (length known)
 
--- before Start all variables are 0
-abbrev pub entry_state : ℕ → NodeState
-entry_state size = Knows (replicate size (Fixed (pos 0)))
+-- what is known before Start
+abbrev pub entry_state : ℕ → ℕ → NodeState
+entry_state shared size = Knows (first_known shared size)
 
 -- ---- what a node becomes
 
@@ -163,12 +174,20 @@ abbrev pub folded_test : tests.Test → ℕ → ℕ → Option Bool → Node
 folded_test test taken other None = Test test taken other
 folded_test test taken other (Some holds) = Skip (if holds then taken else other)
 
+-- a trap whose test is decided not to hold becomes a Skip
+abbrev pub folded_guard : tests.Test → ℕ → ℕ → Option Bool → Node
+folded_guard test number next None = Guard test number next
+folded_guard test number next (Some true) = Guard test number next
+folded_guard test number next (Some false) = Skip next
+
 -- what a node becomes that is reached
 abbrev pub folded_node : List Known → Node → Node
 folded_node known (Start next) = Start next
 folded_node known (Skip next) = Skip next
 folded_node known (Assign x rhs next) = Assign x (folded_rhs known rhs) next
 folded_node known (Print a next) = Print (resolved known a) next
+folded_node known (Guard test number next) =
+    folded_guard (resolved_test known test) number next (decided_test known test)
 folded_node known (Call into unit operands next) = Call into unit (map (resolved known) operands) next
 folded_node known (Test test taken other) = folded_test (resolved_test known test) taken other (decided_test known test)
 folded_node known (Return a) = Return (resolved known a)

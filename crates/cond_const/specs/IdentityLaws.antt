@@ -19,7 +19,8 @@ use Rattle.cond_const.specs.Identities.{where_equal, identity_same, identity_lef
 use Rattle.cond_const.specs.RelationLaws.{int_eq_is, int_eq_same, int_lt_same, int_le_same}
 
 -- a rule that holds at d, and only there
-at_number : (c d : ℤ) (rule other : Identity) (P : Identity → ℤ → Type 0) → P rule d → P other c → P (where_equal c d rule other) c
+at_number : (c d : ℤ) (rule other : Identity) (P : Identity → ℤ → Type 0) → P rule d → P other c
+    → P (where_equal c d rule other) c
 at_number c d rule other P here there = cases (int_eq c d) refl
   where
     cases : (b : Bool) → int_eq c d ≡ b → P (if b then rule else other) c
@@ -76,7 +77,12 @@ and_ones a fits = and_mask (of_z w64 a) 64 ∙ mod-eq_of_lt (below_two_to_64 a f
 or_ones : (a : ℤ) → FitsSigned w64 a → bit_or (of_z w64 a) (of_z w64 (negsuc 0)) ≡ 2 ^ 64 - 1
 or_ones a fits =
     let ones : of_z w64 (negsuc 0) < 2 ^ 64 = omega arith in
-    or_comm (of_z w64 a) (of_z w64 (negsuc 0)) ∙ omega (arith, le_or_l (of_z w64 (negsuc 0)) (of_z w64 a), or_lt 64 (of_z w64 (negsuc 0)) (of_z w64 a) ones (below_two_to_64 a fits))
+    or_comm (of_z w64 a) (of_z w64 (negsuc 0)) ∙ omega (
+      arith,
+      le_or_l (of_z w64 (negsuc 0)) (of_z w64 a),
+      or_lt 64 (of_z w64 (negsuc 0)) (of_z w64 a) ones
+          (below_two_to_64 a fits),
+    )
 
 -- ---- shifts by nothing, and of 0
 
@@ -122,55 +128,88 @@ same_keeps Xor a fits = (refl, sym (xor_is a a fits fits) ∙ ap (to_z w64) (xor
 same_keeps _ a fits = tt
 
 -- a shift by a multiple of 64
-no_distance : (op : Op) (a c : ℤ) → traps op c ≡ false → ((k : ℕ) → k ≡ distance c → k ≡ 0 → value_of_op op a c ≡ a) → (b : Bool) → nat_eq (distance c) 0 ≡ b → IsIdentity (if b then Itself else Absent) a op a c
+no_distance : (op : Op) (a c : ℤ) → traps op c ≡ false → ((k : ℕ) → k ≡ distance c → k ≡ 0 → value_of_op op a c ≡ a)
+    → (b : Bool) → nat_eq (distance c) 0 ≡ b → IsIdentity (if b then Itself else Absent) a op a c
 no_distance op a c no_trap is true e = (no_trap, is (distance c) refl (eqb-true (distance c) 0 e))
 no_distance op a c no_trap is false e = tt
 
 -- an identity of a variable and a constant that holds at one number, and there is none elsewhere
-right_at : (op : Op) (a c d : ℤ) (rule : Identity) → IsIdentity rule a op a d → IsIdentity (where_equal c d rule Absent) a op a c
+right_at : (op : Op) (a c d : ℤ) (rule : Identity) → IsIdentity rule a op a d
+    → IsIdentity (where_equal c d rule Absent) a op a c
 right_at op a c d rule here = at_number c d rule Absent (λ r e. IsIdentity r a op a e) here tt
 
 -- two that hold at two numbers
-right_at_two : (op : Op) (a c d e : ℤ) (rule other : Identity) → IsIdentity rule a op a d → IsIdentity other a op a e → IsIdentity (where_equal c d rule (where_equal c e other Absent)) a op a c
-right_at_two op a c d e rule other first second = at_number c d rule (where_equal c e other Absent) (λ r n. IsIdentity r a op a n) first (right_at op a c e other second)
+right_at_two : (op : Op) (a c d e : ℤ) (rule other : Identity) → IsIdentity rule a op a d → IsIdentity other a op a e
+    → IsIdentity (where_equal c d rule (where_equal c e other Absent)) a op a c
+right_at_two op a c d e rule other first second =
+    at_number c d rule (where_equal c e other Absent) (λ r n. IsIdentity r a op a n) first
+    (right_at op a c e other second)
 
 -- the table of a variable and a constant
 pub right_keeps : (op : Op) (a c : ℤ) → FitsSigned w64 a → FitsSigned w64 c → IsIdentity (identity_right op c) a op a c
-right_keeps Add a c fits fits' = right_at Add a c (pos 0) Itself (refl, wraps_to (a +ℤ pos 0) a (omega (arith, ints)) fits)
-right_keeps Sub a c fits fits' = right_at Sub a c (pos 0) Itself (refl, wraps_to (a -ℤ pos 0) a (omega (arith, ints)) fits)
+right_keeps Add a c fits fits' =
+    right_at Add a c (pos 0) Itself (refl, wraps_to (a +ℤ pos 0) a (omega (arith, ints)) fits)
+right_keeps Sub a c fits fits' =
+    right_at Sub a c (pos 0) Itself (refl, wraps_to (a -ℤ pos 0) a (omega (arith, ints)) fits)
 right_keeps Mul a c fits fits' =
-    right_at_two Mul a c (pos 0) (pos 1) (Always (pos 0)) Itself (refl, wraps_to (a *ℤ pos 0) (pos 0) (omega (arith, ints)) zero_fits) (refl, wraps_to (a *ℤ pos 1) a (omega (arith, ints)) fits)
-right_keeps Div a c fits fits' = right_at Div a c (pos 1) Itself (refl, ap wrapped (div_one a) ∙ int_wrap_fits w64 a fits)
-right_keeps Mod a c fits fits' = right_at_two Mod a c (pos 1) (negsuc 0) (Always (pos 0)) (Always (pos 0)) (refl, rem_one a) (refl, rem_minus_one a)
-right_keeps Shl a c fits fits' = no_distance Shl a c refl (λ k is none. ap (λ j. wrapped (a *ℤ pos (2 ^ j))) (sym is ∙ none) ∙ shl_none a fits) (nat_eq (distance c) 0) refl
-right_keeps Shr a c fits fits' = no_distance Shr a c refl (λ k is none. ap (λ j. wrapped (pos (unsigned a / 2 ^ j))) (sym is ∙ none) ∙ shr_none a fits) (nat_eq (distance c) 0) refl
-right_keeps Shra a c fits fits' = no_distance Shra a c refl (λ k is none. ap (λ j. int_div_euclid a (pos (2 ^ j))) (sym is ∙ none) ∙ shra_none a) (nat_eq (distance c) 0) refl
+    right_at_two Mul a c (pos 0) (pos 1) (Always (pos 0)) Itself
+    (refl, wraps_to (a *ℤ pos 0) (pos 0) (omega (arith, ints)) zero_fits)
+    (refl, wraps_to (a *ℤ pos 1) a (omega (arith, ints)) fits)
+right_keeps Div a c fits fits' =
+    right_at Div a c (pos 1) Itself (refl, ap wrapped (div_one a) ∙ int_wrap_fits w64 a fits)
+right_keeps Mod a c fits fits' =
+    right_at_two Mod a c (pos 1) (negsuc 0) (Always (pos 0)) (Always (pos 0)) (refl, rem_one a) (refl, rem_minus_one a)
+right_keeps Shl a c fits fits' =
+    no_distance Shl a c refl (λ k is none. ap (λ j. wrapped (a *ℤ pos (2 ^ j))) (sym is ∙ none) ∙ shl_none a fits)
+    (nat_eq (distance c) 0) refl
+right_keeps Shr a c fits fits' =
+    no_distance Shr a c refl
+    (λ k is none. ap (λ j. wrapped (pos (unsigned a / 2 ^ j))) (sym is ∙ none) ∙ shr_none a fits)
+    (nat_eq (distance c) 0) refl
+right_keeps Shra a c fits fits' =
+    no_distance Shra a c refl (λ k is none. ap (λ j. int_div_euclid a (pos (2 ^ j))) (sym is ∙ none) ∙ shra_none a)
+    (nat_eq (distance c) 0) refl
 right_keeps And a c fits fits' =
-    right_at_two And a c (pos 0) (negsuc 0) (Always (pos 0)) Itself (refl, sym (and_is a (pos 0) fits zero_fits) ∙ ap (to_z w64) (and_zero_r (of_z w64 a)))
+    right_at_two And a c (pos 0) (negsuc 0) (Always (pos 0)) Itself
+    (refl, sym (and_is a (pos 0) fits zero_fits) ∙ ap (to_z w64) (and_zero_r (of_z w64 a)))
     (refl, sym (and_is a (negsuc 0) fits ones_fit) ∙ back a _ fits (and_ones a fits))
 right_keeps Or a c fits fits' =
-    right_at_two Or a c (pos 0) (negsuc 0) Itself (Always (negsuc 0)) (refl, sym (or_is a (pos 0) fits zero_fits) ∙ back a _ fits (or_zero_r (of_z w64 a)))
+    right_at_two Or a c (pos 0) (negsuc 0) Itself (Always (negsuc 0))
+    (refl, sym (or_is a (pos 0) fits zero_fits) ∙ back a _ fits (or_zero_r (of_z w64 a)))
     (refl, sym (or_is a (negsuc 0) fits ones_fit) ∙ ap (to_z w64) (or_ones a fits))
-right_keeps Xor a c fits fits' = right_at Xor a c (pos 0) Itself (refl, sym (xor_is a (pos 0) fits zero_fits) ∙ back a _ fits (xor_zero_r (of_z w64 a)))
+right_keeps Xor a c fits fits' =
+    right_at Xor a c (pos 0) Itself
+    (refl, sym (xor_is a (pos 0) fits zero_fits) ∙ back a _ fits (xor_zero_r (of_z w64 a)))
 right_keeps _ a c fits fits' = tt
 
 -- an identity of an operator that does not trap, and gives the same in the other order
-flipped : (op : Op) (a c : ℤ) (rule : Identity) → traps op a ≡ false → value_of_op op c a ≡ value_of_op op a c → IsIdentity rule a op a c → IsIdentity rule a op c a
+flipped : (op : Op) (a c : ℤ) (rule : Identity) → traps op a ≡ false → value_of_op op c a ≡ value_of_op op a c
+    → IsIdentity rule a op a c → IsIdentity rule a op c a
 flipped op a c Absent no_trap same is = tt
 flipped op a c Itself no_trap same is = (no_trap, same ∙ is.1)
 flipped op a c (Always d) no_trap same is = (no_trap, same ∙ is.1)
 
 -- a shift of 0 is 0
-zero_shifted : (op : Op) (a c : ℤ) → traps op a ≡ false → value_of_op op (pos 0) a ≡ pos 0 → IsIdentity (where_equal c (pos 0) (Always (pos 0)) Absent) a op c a
-zero_shifted op a c no_trap is = at_number c (pos 0) (Always (pos 0)) Absent (λ r d. IsIdentity r a op d a) (no_trap, is) tt
+zero_shifted : (op : Op) (a c : ℤ) → traps op a ≡ false → value_of_op op (pos 0) a ≡ pos 0
+    → IsIdentity (where_equal c (pos 0) (Always (pos 0)) Absent) a op c a
+zero_shifted op a c no_trap is =
+    at_number c (pos 0) (Always (pos 0)) Absent (λ r d. IsIdentity r a op d a) (no_trap, is) tt
 
 -- the table of a constant and a variable: where the operands may change places, it is the one before
 pub left_keeps : (op : Op) (a c : ℤ) → FitsSigned w64 a → FitsSigned w64 c → IsIdentity (identity_left op c) a op c a
-left_keeps Add a c fits fits' = flipped Add a c (identity_left Add c) refl (ap wrapped (+ℤ_comm c a)) (right_keeps Add a c fits fits')
-left_keeps Mul a c fits fits' = flipped Mul a c (identity_left Mul c) refl (ap wrapped (*ℤ_comm c a)) (right_keeps Mul a c fits fits')
-left_keeps And a c fits fits' = flipped And a c (identity_left And c) refl (ap (λ n. wrapped (pos n)) (and_comm (unsigned c) (unsigned a))) (right_keeps And a c fits fits')
-left_keeps Or a c fits fits' = flipped Or a c (identity_left Or c) refl (ap (λ n. wrapped (pos n)) (or_comm (unsigned c) (unsigned a))) (right_keeps Or a c fits fits')
-left_keeps Xor a c fits fits' = flipped Xor a c (identity_left Xor c) refl (ap (λ n. wrapped (pos n)) (xor_comm (unsigned c) (unsigned a))) (right_keeps Xor a c fits fits')
+left_keeps Add a c fits fits' =
+    flipped Add a c (identity_left Add c) refl (ap wrapped (+ℤ_comm c a)) (right_keeps Add a c fits fits')
+left_keeps Mul a c fits fits' =
+    flipped Mul a c (identity_left Mul c) refl (ap wrapped (*ℤ_comm c a)) (right_keeps Mul a c fits fits')
+left_keeps And a c fits fits' =
+    flipped And a c (identity_left And c) refl (ap (λ n. wrapped (pos n)) (and_comm (unsigned c) (unsigned a)))
+    (right_keeps And a c fits fits')
+left_keeps Or a c fits fits' =
+    flipped Or a c (identity_left Or c) refl (ap (λ n. wrapped (pos n)) (or_comm (unsigned c) (unsigned a)))
+    (right_keeps Or a c fits fits')
+left_keeps Xor a c fits fits' =
+    flipped Xor a c (identity_left Xor c) refl (ap (λ n. wrapped (pos n)) (xor_comm (unsigned c) (unsigned a)))
+    (right_keeps Xor a c fits fits')
 left_keeps Shl a c fits fits' = zero_shifted Shl a c refl (shl_zero (distance a))
 left_keeps Shr a c fits fits' = zero_shifted Shr a c refl (shr_zero (distance a))
 left_keeps Shra a c fits fits' = zero_shifted Shra a c refl (shra_zero (distance a))

@@ -40,4 +40,4 @@ IsOnlyKnownBefore graph node known = (other : Option (List Known)) → IsKnownBe
 pub record PassesTo (graph : GraphShape) (list : List ℕ) (node : ℕ) (s t : NodeState) : Type 0 where
   pub place : ℕ
   pub stands : slice_get list place ≡ Some node
-  pub passes : t ≡ through_nodes graph.received graph.nodes (take place list) s
+  pub passes : t ≡ through_nodes graph.shared graph.received graph.nodes (take place list) s

@@ -5,6 +5,7 @@ pub mod Folded
 pub mod Blockwise
 pub mod Rewriting
 pub mod KnownBefore
+pub mod Holding
 pub mod IdentityLaws
 pub mod RelationLaws
 pub mod StateLaws

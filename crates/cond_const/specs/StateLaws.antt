@@ -79,7 +79,9 @@ rank_rises : (s t : NodeState) → BelowState s t → s ≢ t → state_rank s <
 rank_rises (Unreached n) (Unreached m) p d = absurd (d (ap Unreached p))
 rank_rises (Unreached n) (Knows ys) p d = omega arith
 rank_rises (Knows xs) (Unreached m) p d = absurd p
-rank_rises (Knows xs) (Knows ys) p d = elim (pointwise_rises BelowKnown is_varying known_rises xs ys p) as (λ _. suc (varyings xs) < suc (varyings ys)) [ inl e ↦ absurd (d (ap Knows e)) | inr l ↦ omega (arith, l) ]
+rank_rises (Knows xs) (Knows ys) p d =
+    elim (pointwise_rises BelowKnown is_varying known_rises xs ys p) as
+    (λ _. suc (varyings xs) < suc (varyings ys)) [ inl e ↦ absurd (d (ap Knows e)) | inr l ↦ omega (arith, l) ]
 
 -- so the states are ordered as a solver needs it
 pub state_laws : OrderLaws BelowState size_of state_rank
@@ -132,7 +134,8 @@ each_joins (x ∷ xs) (y ∷ ys) e =
     let head = known_joins x y in
     record { left = (head.left, rest.left); right = (head.right, rest.right); least = least head rest }
   where
-    least : IsLeastUpper BelowKnown x y (joined_known x y) → IsLeastUpper BelowEach xs ys (joined_each xs ys) → (w : List Known) → BelowEach (x ∷ xs) w → BelowEach (y ∷ ys) w → BelowEach (joined_each (x ∷ xs) (y ∷ ys)) w
+    least : IsLeastUpper BelowKnown x y (joined_known x y) → IsLeastUpper BelowEach xs ys (joined_each xs ys)
+        → (w : List Known) → BelowEach (x ∷ xs) w → BelowEach (y ∷ ys) w → BelowEach (joined_each (x ∷ xs) (y ∷ ys)) w
     least head rest [] p q = absurd p
     least head rest (w ∷ ws) p q = (head.least w p.0 q.0, rest.least ws p.1 q.1)
 
@@ -145,6 +148,7 @@ state_joins (Knows xs) (Knows ys) e =
     let each = each_joins xs ys e in
     record { left = each.left; right = each.right; least = least each }
   where
-    least : IsLeastUpper BelowEach xs ys (joined_each xs ys) → (w : NodeState) → BelowState (Knows xs) w → BelowState (Knows ys) w → BelowState (Knows (joined_each xs ys)) w
+    least : IsLeastUpper BelowEach xs ys (joined_each xs ys) → (w : NodeState) → BelowState (Knows xs) w
+        → BelowState (Knows ys) w → BelowState (Knows (joined_each xs ys)) w
     least each (Unreached m) p q = absurd p
     least each (Knows ws) p q = each.least ws p q

@@ -18,7 +18,8 @@ use std::sync::ledger::Ledger;
 
 /// States flow from block to block. Block b has two edges, numbered 2b and 2b + 1: those at the slots 0 and 1 of its
 /// last node. `targets` has the block to which each leads; where there is no such slot, nothing passes, and it may be
-/// any. `entry` is the block in which Start stands, and `zeros` has the constant 0 for each variable.
+/// any. `entry` is the block in which Start stands, and `zeros` has what is known before Start: the constant 0 for each
+/// variable that is no global.
 #[derive(Drop)]
 pub(crate) struct StateFlow<'a, L: Ledger> {
     pub(crate) graph: &'a Graph,
@@ -55,10 +56,12 @@ impl<'a, L: Ledger> Flow for StateFlow<'a, L> {
         (2 * node, 2 * node + 2)
     }
 
+    #[tactic(auto, using(crate::specs::PassingLaws::length_first))]
     fn height(&self) -> u64 {
         self.zeros.len() as u64 + 1
     }
 
+    #[tactic(auto, using(crate::specs::PassingLaws::length_first))]
     fn first(&self, alloc: Global, node: usize) -> Result<BlockState, Memory> {
         let known = Vec::from_slice(alloc, self.zeros)?;
         let room = Vec::from_slice(alloc, self.zeros)?;
@@ -116,12 +119,20 @@ impl<'a, L: Ledger> StateFlow<'a, L> {
 fn leave(graph: &Graph, list: &[usize], slot: usize, reached: bool, known: &mut [Known]) -> bool
     requires { IsChain graph.now.nodes list.now }
     ensures passes { state_where result known.new
-        ≡ out_of graph.now.received graph.now.nodes list.now slot (state_where reached known.old) }
+        ≡ out_of graph.now.shared graph.now.received graph.now.nodes list.now slot
+        (state_where reached known.old) }
     ensures long { length known.new ≡ length known.old }
 {
     let last = last(list);
     let reaches = pass_inner(graph, list, reached, known);
-    step(reaches, known, graph.node(last), slot, graph.received())
+    step(
+        reaches,
+        known,
+        graph.node(last),
+        slot,
+        graph.shared(),
+        graph.received(),
+    )
 }
 
 /// Leaves what passes from the first node of a block to the last, and answers whether anything does.
@@ -129,14 +140,14 @@ fn pass_inner(graph: &Graph, list: &[usize], reached: bool, known: &mut [Known])
     requires chain { IsChain graph.now.nodes list.now }
     requires some { 0 < length list.now }
     ensures passes { state_where result known.new
-        ≡ through_nodes graph.now.received graph.now.nodes (take (length list.now - 1) list.now)
-        (state_where reached known.old) }
+        ≡ through_nodes graph.now.shared graph.now.received graph.now.nodes
+        (take (length list.now - 1) list.now) (state_where reached known.old) }
     ensures long { length known.new ≡ length known.old }
 {
     let mut reaches = reached;
     for i in 1..list.len() {
         let node = graph.node(list[i - 1]);
-        reaches = step(reaches, known, node, 0, graph.received());
+        reaches = step(reaches, known, node, 0, graph.shared(), graph.received());
     }
     reaches
 }

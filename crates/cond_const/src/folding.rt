@@ -10,14 +10,16 @@ use mir_base::Memory;
 use std::alloc::Global;
 
 /// The folded graph. Each node has a state: no run comes to it, or each variable has there one constant value or is
-/// varying. After Start the received variables are varying and the others 0; an assignment gives its variable the
-/// constant that its right side becomes, if it becomes one, and a call makes its variable varying; a test that is
-/// decided passes its state along the edge that it takes alone; where edges meet, equal constants stay. The least such
-/// states are meant.
+/// varying. After Start the globals and the received variables are varying and the others 0; an assignment gives its
+/// variable the constant that its right side becomes, if it becomes one, and a call makes the globals and its variable
+/// varying; a test that is decided passes its state along the edge that it takes alone; where edges meet, equal
+/// constants stay. The least such states are meant.
 ///
 /// By them each variable operand with a constant value becomes the constant, a right side whose value is then known
-/// becomes that value, or, by an identity, its operand; a decided test becomes a Skip to the successor that it takes;
-/// and the nodes that are not reached are dropped. A division by the constant 0 stays, with its operands replaced.
+/// becomes that value, or, by an identity, its operand; a decided test becomes a Skip to the successor that it takes; a
+/// trap instruction whose test is decided not to hold becomes a Skip; and the nodes that are not reached are dropped. A
+/// trap instruction whose test is decided to hold stays, and so does a division by the constant 0, with their operands
+/// replaced.
 ///
 /// The graph does the same and evaluates no more operators. It fails only with `Memory`.
 pub fn fold(alloc: Global, graph: &Graph) -> Result<Graph, Memory>
@@ -29,7 +31,8 @@ pub fn fold(alloc: Global, graph: &Graph) -> Result<Graph, Memory>
     // it has the name of the graph, does the same, evaluates no more operators, and makes no other calls
     ensures keeps { IfOk result (GraphKeeps graph.now) }
 
-    // each division that is reached keeps its variable, and unless its divisor is known and not 0 its operator
+    // each division that is reached keeps its variable; unless its divisor is known and not 0 it also keeps its
+    // operator, and its operands but for those that are known, which become their constants
     ensures divides { IfOk result (KeepsDivisions graph.now) }
 {
     let _nodes = graph.nodes();

@@ -2,6 +2,7 @@
 ghost use Rattle.std.specs.Prelude.{◌≡◌, ◌<◌, length, IfOk};
 ghost use Rattle.std.specs.Option.{option_map};
 ghost use Rattle.flow_graph.specs.Blocks.{AreBlocksOf, IsChain};
+ghost use Rattle.cond_const.specs.Holding.{HoldsBefore, StatesHold};
 ghost use Rattle.cond_const.specs.KnownBefore.{AreStatesOf, IsKnownBefore, IsOnlyKnownBefore, PassesTo, state_of_known};
 ghost use Rattle.cond_const.specs.Rewriting.{IsAmong};
 ghost use Rattle.cond_const.specs.States.{state_where};
@@ -59,6 +60,10 @@ impl LeastStates {
         // nothing else is
         ensures only { IfOk result (λ known.
             IsOnlyKnownBefore graph.now node (option_map (λ list. list.items) known)) }
+
+        // in each run that comes to the node every `Fixed` variable has its value; with `None` no run comes there
+        ensures holds { IfOk result (λ known.
+            HoldsBefore graph.now node (option_map (λ list. list.items) known)) }
     {
         let _nodes = graph.nodes();
         let block = self.blocks.block_of(node);
@@ -69,6 +74,15 @@ impl LeastStates {
         let known = where_reached(reaches, known);
         Ok(known)
     }
+}
+
+/// Has no effect; carries the theorem that what the least states of a graph say is true of its runs: where a run comes
+/// to a node, each variable that they call `Fixed` there has that value, and no run comes to a node that they call
+/// unreached.
+pub fn states_hold(graph: &Graph)
+    ensures { StatesHold graph.now }
+{
+    let _ = graph;
 }
 
 /// The blocks of the graph.
@@ -92,7 +106,7 @@ fn pass_to(graph: &Graph, list: &[usize], node: usize, reached: bool, known: &mu
     let mut place = 0;
     while list[place] != node {
         let here = graph.node(list[place]);
-        reaches = step(reaches, known, here, 0, graph.received());
+        reaches = step(reaches, known, here, 0, graph.shared(), graph.received());
         place += 1;
     }
     reaches

@@ -61,8 +61,8 @@ fn rewrite_block(
 ) -> Result<(), Memory>
     requires chain { IsChain graph.now.nodes list.now }
     requires long { length made.old.items ≡ length graph.now.nodes }
-    ensures { OnOk result (FoldsBlock graph.now.received graph.now.nodes list.now state.now
-        (length list.now) made.old.items made.new.items) }
+    ensures { OnOk result (FoldsBlock graph.now.shared graph.now.received graph.now.nodes list.now
+        state.now (length list.now) made.old.items made.new.items) }
 {
     let mut known = copied(alloc, state.known())?;
     rewrite_list(
@@ -88,7 +88,7 @@ fn rewrite_list(
 ) -> Result<(), Memory>
     requires chain { IsChain graph.now.nodes list.now }
     requires long { length made.old.items ≡ length graph.now.nodes }
-    ensures { OnOk result (FoldsBlock graph.now.received graph.now.nodes list.now
+    ensures { OnOk result (FoldsBlock graph.now.shared graph.now.received graph.now.nodes list.now
         (state_where reached known.old) (length list.now) made.old.items made.new.items) }
 {
     let mut reaches = reached;
@@ -96,7 +96,7 @@ fn rewrite_list(
         let n = list[i];
         let node = graph.node(n);
         put(alloc, made, n, reaches, known, node)?;
-        reaches = step(reaches, known, node, 0, graph.received());
+        reaches = step(reaches, known, node, 0, graph.shared(), graph.received());
     }
     Ok(())
 }
@@ -142,6 +142,10 @@ fn folded_node(alloc: Global, known: &[Known], node: &Node) -> Result<Node, Memo
         Node::Skip(next) => Ok(Node::Skip(*next)),
         Node::Assign(x, rhs, next) => Ok(Node::Assign(*x, folded_rhs(known, *rhs), *next)),
         Node::Print(a, next) => Ok(Node::Print(resolved(known, *a), *next)),
+        Node::Guard(test, number, next) => match decided_test(known, *test) {
+            Some(false) => Ok(Node::Skip(*next)),
+            _ => Ok(Node::Guard(resolved_test(known, *test), *number, *next)),
+        },
         Node::Call(into, unit, args, next) => {
             let operands = resolved_all(alloc, known, args.items())?;
             let args = Args::of(alloc, operands.as_slice())?;

@@ -1,4 +1,5 @@
 // The least states of the blocks.
+ghost use Rattle.cond_const.specs.Folding.{first_known};
 ghost use Rattle.std.specs.Prelude.{◌≡◌, ◌*◌, ◌<◌, length, pos, replicate, IfOk};
 ghost use Rattle.flow_graph.specs.Blocks.{AreBlocksOf};
 ghost use Rattle.cond_const.specs.declared.known.Known.TheVariants.{Fixed};
@@ -7,6 +8,7 @@ ghost use Rattle.cond_const.specs.Blockwise.{AreLeastOver, AreTargets, IsTargetO
 use crate::flow::{StateFlow, last};
 use crate::known::Known;
 use crate::states::BlockState;
+use crate::transfer::forget_globals;
 use fix_solve::{Steps, Work, solve};
 use flow_graph::{Blocks, Graph};
 use mir_base::Memory;
@@ -24,7 +26,7 @@ pub(crate) fn least(
     ensures { IfOk result (AreLeastOver graph.now blocks.now) }
 {
     let targets = targets(alloc, graph, blocks)?;
-    let zeros = zeros(alloc, graph.vars().len())?;
+    let zeros = zeros(alloc, graph.shared(), graph.vars().len())?;
     let work = least_from::<Brand>(
         alloc,
         graph,
@@ -36,11 +38,13 @@ pub(crate) fn least(
     Ok(work)
 }
 
-/// The constant 0 for so many variables.
-fn zeros(alloc: Global, count: usize) -> Result<Vec<Known>, Memory>
-    ensures { IfOk result (λ zeros. zeros.items ≡ replicate count (Fixed (pos 0))) }
+/// What is known before Start of so many variables: the constant 0 of each that is no global.
+fn zeros(alloc: Global, shared: usize, count: usize) -> Result<Vec<Known>, Memory>
+    ensures { IfOk result (λ zeros. zeros.items ≡ first_known shared count) }
 {
-    Ok(vec![in alloc; Known::Fixed(0); count]?)
+    let mut zeros = vec![in alloc; Known::Fixed(0); count]?;
+    forget_globals(zeros.as_mut_slice(), shared);
+    Ok(zeros)
 }
 
 /// The least states, with the counter that this blank ledger gives.
@@ -57,7 +61,7 @@ fn least_from<L: Ledger>(
     requires some { 0 < blank.parts }
     requires blocks { AreBlocksOf graph.now.nodes blocks.now }
     requires targets { AreTargets graph.now.nodes blocks.now.lists targets.now }
-    requires zeros { zeros.now ≡ replicate (length graph.now.vars) (Fixed (pos 0)) }
+    requires zeros { zeros.now ≡ first_known graph.now.shared (length graph.now.vars) }
     ensures { IfOk result (AreLeastOver graph.now blocks.now) }
 {
     let _nodes = graph.nodes();

@@ -9,14 +9,14 @@ use Rattle.mir_base.specs.declared.instructions.Rhs.TheVariants.{Plain, Unary, B
 use Rattle.mir_base.specs.Shapes.{AllBelow}
 use Rattle.bit_rows.specs.Bits.{row_bit, row_of}
 use Rattle.flow_graph.specs.declared.nodes.Node.{Node}
-use Rattle.flow_graph.specs.declared.nodes.Node.TheVariants.{Start, Skip, Assign, Print, Call, Test, Return}
+use Rattle.flow_graph.specs.declared.nodes.Node.TheVariants.{Start, Skip, Assign, Print, Guard, Call, Test, Return}
 use Rattle.flow_graph.specs.Graphs.{CanMake, GraphShape, node_vars}
 use Rattle.flow_graph.specs.PathLaws.{reached_trace}
 use Rattle.path_laws.specs.KeyRows.{key_in}
 use Rattle.path_laws.specs.Paths.{Since}
 use Rattle.copy_flow.specs.declared.table.VarCopy.{VarCopy}
 use Rattle.copy_flow.specs.Copies.{IsCopyOf, IsReadFor, copies_at, ends_at, is_copy, is_var}
-use Rattle.copy_flow.specs.Tables.{HasCopies, copy_of}
+use Rattle.copy_flow.specs.CopyTables.{HasCopies, copy_of}
 use Rattle.copy_flow.specs.Rows.{AreHeldRows, read_in}
 
 -- ---- the node that is a copy
@@ -37,6 +37,7 @@ copy_is v w (Some (Assign x rhs next)) is =
     let parts = and_parts (nat_eq v x) (is_var w rhs) is in
     (next, ap (λ y. Some (Assign y rhs next)) (sym (eqb-true v x parts.0)) ∙ ap (λ r. Some (Assign v r next)) (var_is w rhs parts.1))
 copy_is v w (Some (Print a next)) is = absurd (true≢false (sym is))
+copy_is v w (Some (Guard test number next)) is = absurd (true≢false (sym is))
 copy_is v w (Some (Call into unit operands next)) is = absurd (true≢false (sym is))
 copy_is v w (Some (Test test taken other)) is = absurd (true≢false (sym is))
 copy_is v w (Some (Return a)) is = absurd (true≢false (sym is))

@@ -10,7 +10,7 @@ use Rattle.flow_graph.specs.ListLaws.{get_left, get_seam}
 use Rattle.copy_flow.specs.declared.held.HeldCopies.{HeldCopies}
 use Rattle.copy_flow.specs.declared.table.VarCopy.{VarCopy}
 use Rattle.copy_flow.specs.Copied.{reread_node}
-use Rattle.copy_flow.specs.Tables.{AreCopies}
+use Rattle.copy_flow.specs.CopyTables.{AreCopies}
 use Rattle.copy_flow.specs.Rows.{AreTargetRows, HaveNoneInBoth, IsFirstInBoth, in_both, read_by, read_in}
 use Rattle.copy_flow.proofs.Found.{HasBitIn, read_first, read_none}
 

@@ -14,7 +14,7 @@ use Rattle.mir_base.specs.Expressions.{may_be_zero}
 use Rattle.mir_base.specs.Shapes.{AllBelow, operand_vars, rhs_vars, test_vars, into_vars}
 use Rattle.mir_base.specs.BelowLaws.{all_below_left, all_below_right, all_below_append}
 use Rattle.flow_graph.specs.declared.nodes.Node.{Node}
-use Rattle.flow_graph.specs.declared.nodes.Node.TheVariants.{Start, Skip, Assign, Print, Call, Test, Return}
+use Rattle.flow_graph.specs.declared.nodes.Node.TheVariants.{Start, Skip, Assign, Print, Guard, Call, Test, Return}
 use Rattle.flow_graph.specs.Calls.{NodesCall, node_call}
 use Rattle.flow_graph.specs.Dividing.{DividesAt, DividesStay}
 use Rattle.flow_graph.specs.Edges.{IsSplit, edges_from, preds_among, preds_of}
@@ -38,6 +38,7 @@ reread_succs read (Start next) = refl
 reread_succs read (Skip next) = refl
 reread_succs read (Assign x rhs next) = chosen_succs (is_var x (renamed_rhs read rhs)) x (renamed_rhs read rhs) next
 reread_succs read (Print a next) = refl
+reread_succs read (Guard test number next) = refl
 reread_succs read (Call into unit operands next) = refl
 reread_succs read (Test test taken other) = refl
 reread_succs read (Return a) = refl
@@ -53,6 +54,7 @@ reread_call read (Start next) = refl
 reread_call read (Skip next) = refl
 reread_call read (Assign x rhs next) = chosen_call (is_var x (renamed_rhs read rhs)) x (renamed_rhs read rhs) next
 reread_call read (Print a next) = refl
+reread_call read (Guard test number next) = refl
 reread_call read (Call into unit operands next) = ap (λ n. Some (unit, n)) (length-map operands (renamed_operand read))
 reread_call read (Test test taken other) = refl
 reread_call read (Return a) = refl
@@ -68,6 +70,7 @@ reread_start read (Start next) s e = e
 reread_start read (Skip next) s e = cc
 reread_start read (Assign x rhs next) s e = absurd (chosen_start (is_var x (renamed_rhs read rhs)) x (renamed_rhs read rhs) next s e)
 reread_start read (Print a next) s e = cc
+reread_start read (Guard test number next) s e = cc
 reread_start read (Call into unit operands next) s e = cc
 reread_start read (Test test taken other) s e = cc
 reread_start read (Return a) s e = cc
@@ -108,6 +111,7 @@ module _ (k : ℕ) (read : ℕ → ℕ) (low : (v : ℕ) → v < k → read v < 
   reread_below (Skip next) below = below
   reread_below (Assign x rhs next) below = chosen_below (is_var x (renamed_rhs read rhs)) x (renamed_rhs read rhs) next below.0 (rhs_below rhs below.1)
   reread_below (Print a next) below = operand_below a below
+  reread_below (Guard test number next) below = test_below test below
   reread_below (Call into unit operands next) below =
       all_below_append k (into_vars into) (flat_map operand_vars (map (renamed_operand read) operands)) (all_below_left k (into_vars into) (flat_map operand_vars operands) below)
       (operands_below operands (all_below_right k (into_vars into) (flat_map operand_vars operands) below))
@@ -188,9 +192,11 @@ module _ (graph : GraphShape) (nodes : List Node) (are : AreCopied graph nodes) 
   division_stays n x op at = record {
     left = renamed_operand (are.read n) at.left;
     right = renamed_operand (are.read n) at.right;
-    next = at.next;
-    is = are.nodes_are n ∙ ap (option_map (reread_node (are.read n))) at.is;
-    may_trap = ap (λ b. is_dividing op && b) (zero_stays (are.read n) at.right) ∙ at.may_trap;
+    of = record {
+      next = at.of.next;
+      is = are.nodes_are n ∙ ap (option_map (reread_node (are.read n))) at.of.is;
+      may_trap = ap (λ b. is_dividing op && b) (zero_stays (are.read n) at.right) ∙ at.of.may_trap;
+    };
   }
 
   pub copied_divides : DividesStay graph.nodes nodes

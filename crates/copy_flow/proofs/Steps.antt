@@ -4,17 +4,19 @@ use Rattle.std.proofs.lemmas.Option.{slice_get_within}
 use Rattle.mir_base.specs.declared.instructions.Operand.{Operand}
 use Rattle.mir_base.specs.declared.instructions.Rhs.{Rhs}
 use Rattle.mir_base.specs.declared.instructions.Test as tests
-use Rattle.mir_base.specs.declared.operators.Trap.TheVariants.{ZeroDivisor}
-use Rattle.mir_base.specs.Frames.{Answer, Values, all_zero, with_value, Frame, resumed, Continues, Traps}
-use Rattle.mir_base.specs.Units.{test_holds, at, assigned}
+use Rattle.mir_base.specs.declared.operators.Trap.TheVariants.{ZeroDivisor, Raised}
+use Rattle.mir_base.specs.Frames.{Answer, Values, shared_values, with_first, all_zero, with_value, Frame, resumed, Continues, Traps}
+use Rattle.mir_base.specs.Units.{test_holds, at, assigned, guard_transition}
 use Rattle.mir_base.specs.Expressions.{rhs_traps, rhs_value, rhs_count}
 use Rattle.mir_base.specs.ExpressionLaws.{assign_is}
 use Rattle.mir_base.specs.UnitRuns.{UnitSame, UnitCheaper}
 use Rattle.mir_base.specs.Locksteps.{Alike, Lockstep}
 use Rattle.mir_base.specs.LockstepLaws.{lockstep_same, lockstep_cheaper}
 use Rattle.flow_graph.specs.declared.nodes.Node.{Node}
-use Rattle.flow_graph.specs.declared.nodes.Node.TheVariants.{Start, Skip, Assign, Print, Call, Test, Return}
+use Rattle.flow_graph.specs.declared.nodes.Node.TheVariants.{Start, Skip, Assign, Print, Guard, Call, Test, Return}
 use Rattle.flow_graph.specs.Graphs.{CanMake, GraphShape, node_succs, succs_of}
+use Rattle.mir_base.specs.SharedLaws.{shared_long}
+use Rattle.flow_graph.specs.MachineLaws.{graph_hands}
 use Rattle.flow_graph.specs.Machines.{received_from, node_transition, graph_code, graph_machine, machine_of}
 use Rattle.flow_graph.specs.Paths.{Trace, from_start, goes_on}
 use Rattle.copy_flow.specs.Copies.{IsReadFor, is_copy, is_var}
@@ -65,7 +67,7 @@ module _ (graph : GraphShape) (can : CanMake graph.vars graph.received graph.nod
         (omega arith, subst (OnPath graph (assigned x (rhs_value f.values rhs) next f)) (sym stays) (assigns_on x rhs next here))
 
     assign_alike : (x : ℕ) (rhs : Rhs) (next : ℕ) → slice_get graph.nodes f.place ≡ Some (Assign x rhs next) → (b : Bool) → is_var x (renamed_rhs read rhs) ≡ b
-        → Alike (OnPath graph) (if rhs_traps f.values rhs then Traps ZeroDivisor 1 else Continues (rhs_count rhs) (assigned x (rhs_value f.values rhs) next f)) (node_transition graph.received (Some (if b then Skip next else Assign x (renamed_rhs read rhs) next)) f)
+        → Alike (OnPath graph) (if rhs_traps f.values rhs then Traps ZeroDivisor 1 else Continues (rhs_count rhs) (assigned x (rhs_value f.values rhs) next f)) (node_transition graph.shared graph.received (Some (if b then Skip next else Assign x (renamed_rhs read rhs) next)) f)
     assign_alike x rhs next here true is =
         skipped_alike x rhs next here (rhs_traps f.values rhs) (sym (reread_rhs_traps read f.values same rhs) ∙ var_traps x (renamed_rhs read rhs) f.values is)
         (sym (reread_rhs_value read f.values same rhs) ∙ var_value x (renamed_rhs read rhs) f.values is)
@@ -75,10 +77,14 @@ module _ (graph : GraphShape) (can : CanMake graph.vars graph.received graph.nod
         (assigned_alike x rhs next here (rhs_traps f.values rhs) (rhs_traps f.values (renamed_rhs read rhs)) (rhs_value f.values (renamed_rhs read rhs)) (rhs_count (renamed_rhs read rhs))
         (reread_rhs_traps read f.values same rhs) (reread_rhs_value read f.values same rhs) few)
 
-    -- the result of a call
-    resumes_on : (into : Option ℕ) (unit : ℕ) (operands : List Operand) (next : ℕ) (a : Answer) → slice_get graph.nodes f.place ≡ Some (Call into unit operands next) → OnPath graph (resumed into a (at next f)) (resumed into a (at next f))
-    resumes_on None unit operands next a here = moves_on next (Call None unit operands next) 0 here refl (λ v w. refl)
-    resumes_on (Some x) unit operands next a here = on_path (resumed (Some x) a (at next f)) (Call (Some x) unit operands next) 0 here refl (agree_call graph f.place before f.values x unit operands next a.value here agree)
+    -- a call, which assigns the globals and then its result
+    resumes_on : (into : Option ℕ) (unit : ℕ) (operands : List Operand) (next : ℕ) (a : Answer) → length a.globals ≡ graph.shared → slice_get graph.nodes f.place ≡ Some (Call into unit operands next) → OnPath graph (resumed into a (at next f)) (resumed into a (at next f))
+    resumes_on into unit operands next a long here = on_path (resumed into a (at next f)) (Call into unit operands next) 0 here refl (agree_call graph f.place before f.values into unit operands next a long here agree)
+
+    -- a trap is raised on both sides
+    guard_alike : (number next : ℕ) → OnPath graph (at next f) (at next f) → (b : Bool) → Alike (OnPath graph) (if b then Traps (Raised number) 0 else Continues 0 (at next f)) (if b then Traps (Raised number) 0 else Continues 0 (at next f))
+    guard_alike number next on true = refl
+    guard_alike number next on false = (le_refl 0, on)
 
     -- a test takes the same way
     test_alike : (test : tests.Test) (taken other : ℕ) → slice_get graph.nodes f.place ≡ Some (Test test taken other) → (b : Bool) → OnPath graph (at (if b then taken else other) f) (at (if b then taken else other) f)
@@ -91,23 +97,26 @@ module _ (graph : GraphShape) (can : CanMake graph.vars graph.received graph.nod
         on_path (record { place = next; arguments = f.arguments; values = values }) (Start next) 0 here refl
         (subst (λ l. CopiesAgree graph (f.place ∷ l) values) (sym none) (agree_start graph f.place next values here))
 
-    at_node : (node : Node) → slice_get graph.nodes f.place ≡ Some node → Alike (OnPath graph) (node_transition graph.received (Some node) f) (node_transition graph.received (Some (reread_node read node)) f)
-    at_node (Start next) here = (le_refl 0, start_alike next here (received_from 0 graph.received f.arguments all_zero))
+    at_node : (node : Node) → slice_get graph.nodes f.place ≡ Some node → Alike (OnPath graph) (node_transition graph.shared graph.received (Some node) f) (node_transition graph.shared graph.received (Some (reread_node read node)) f)
+    at_node (Start next) here = (le_refl 0, start_alike next here (received_from 0 graph.received f.arguments (with_first (shared_values graph.shared f.values) all_zero)))
     at_node (Skip next) here = (le_refl 0, moves_on next (Skip next) 0 here refl (λ v w. refl))
     at_node (Assign x rhs next) here =
-        subst (λ t. Alike (OnPath graph) t (node_transition graph.received (Some (assigned_unless_itself x (renamed_rhs read rhs) next)) f)) (sym (assign_is x rhs next f))
+        subst (λ t. Alike (OnPath graph) t (node_transition graph.shared graph.received (Some (assigned_unless_itself x (renamed_rhs read rhs) next)) f)) (sym (assign_is x rhs next f))
         (assign_alike x rhs next here (is_var x (renamed_rhs read rhs)) refl)
     at_node (Print a next) here = (sym (reread_value read f.values same a), moves_on next (Print a next) 0 here refl (λ v w. refl))
+    at_node (Guard test number next) here =
+        subst (λ b. Alike (OnPath graph) (guard_transition test number next f) (if b then Traps (Raised number) 0 else Continues 0 (at next f))) (sym (reread_holds read f.values same test))
+        (guard_alike number next (moves_on next (Guard test number next) 0 here refl (λ v w. refl)) (test_holds f.values test))
     at_node (Call into unit operands next) here = (
       refl,
-      ap (λ vs. record { arguments = vs }) (sym (reread_values read f.values same operands)),
-      λ a fits. resumes_on into unit operands next a here,
+      ap (λ vs. record { arguments = vs; globals = shared_values graph.shared f.values }) (sym (reread_values read f.values same operands)),
+      λ a fits. resumes_on into unit operands next a (fits.globals.long ∙ shared_long graph.shared f.values) here,
     )
     at_node (Test test taken other) here = (
       le_refl 0,
       subst (λ b. OnPath graph (at (if test_holds f.values test then taken else other) f) (at (if b then taken else other) f)) (sym (reread_holds read f.values same test)) (test_alike test taken other here (test_holds f.values test)),
     )
-    at_node (Return a) here = ap (λ v. record { value = v }) (sym (reread_value read f.values same a))
+    at_node (Return a) here = ap (λ v. record { value = v; globals = shared_values graph.shared f.values }) (sym (reread_value read f.values same a))
 
   module _ (nodes : List Node) (are : AreCopied graph nodes) where
     -- what is read at a place has the value
@@ -116,29 +125,31 @@ module _ (graph : GraphShape) (can : CanMake graph.vars graph.received graph.nod
     read_same n v before values trace agree (inr none) = ap values none.0
 
     at_place : (f : Frame) (before : List ℕ) → Trace graph.nodes f.place before → CopiesAgree graph before f.values → (o : Option Node) → slice_get graph.nodes f.place ≡ o
-        → Alike (OnPath graph) (node_transition graph.received o f) (node_transition graph.received (option_map (reread_node (are.read f.place)) o) f)
+        → Alike (OnPath graph) (node_transition graph.shared graph.received o f) (node_transition graph.shared graph.received (option_map (reread_node (are.read f.place)) o) f)
     at_place f before trace agree None here = refl
     at_place f before trace agree (Some node) here =
         let lt : f.place < length graph.nodes = slice_get_within graph.nodes f.place node here in
         at_node f before trace agree (are.read f.place) (λ v. read_same f.place v before f.values trace agree (are.is_read f.place v lt)) node here
 
-    steps : (f g : Frame) → OnPath graph f g → Alike (OnPath graph) (graph_code graph.received graph.nodes f) (graph_code graph.received nodes g)
+    steps : (f g : Frame) → OnPath graph f g → Alike (OnPath graph) (graph_code graph.shared graph.received graph.nodes f) (graph_code graph.shared graph.received nodes g)
     steps f g r =
         let alike = at_place f r.before r.trace r.agree (slice_get graph.nodes f.place) refl in
-        let there = subst (λ o. Alike (OnPath graph) (graph_code graph.received graph.nodes f) (node_transition graph.received o f)) (sym (are.nodes_are f.place)) alike in
-        subst (λ h. Alike (OnPath graph) (graph_code graph.received graph.nodes f) (graph_code graph.received nodes h)) (sym r.same) there
+        let there = subst (λ o. Alike (OnPath graph) (graph_code graph.shared graph.received graph.nodes f) (node_transition graph.shared graph.received o f)) (sym (are.nodes_are f.place)) alike in
+        subst (λ h. Alike (OnPath graph) (graph_code graph.shared graph.received graph.nodes f) (graph_code graph.shared graph.received nodes h)) (sym r.same) there
 
-    in_lockstep : Lockstep (machine_of graph) (graph_machine graph.received nodes) (OnPath graph)
+    in_lockstep : Lockstep (machine_of graph) (graph_machine graph.shared graph.received nodes) (OnPath graph)
     in_lockstep = record {
       receives = refl;
+      shared = refl;
+      hands = graph_hands graph.shared graph.received graph.nodes;
       starts = λ entry is. record { same = refl; before = []; trace = from_start; agree = record { is = λ v w apart since. absurd since } };
       steps = steps;
     }
 
     -- so the two do the same
-    pub copied_same : UnitSame (machine_of graph) (graph_machine graph.received nodes)
-    copied_same = lockstep_same (machine_of graph) (graph_machine graph.received nodes) (OnPath graph) in_lockstep
+    pub copied_same : UnitSame (machine_of graph) (graph_machine graph.shared graph.received nodes)
+    copied_same = lockstep_same (machine_of graph) (graph_machine graph.shared graph.received nodes) (OnPath graph) in_lockstep
 
     -- and count the same
-    pub copied_cheaper : UnitCheaper (machine_of graph) (graph_machine graph.received nodes)
-    copied_cheaper = lockstep_cheaper (machine_of graph) (graph_machine graph.received nodes) (OnPath graph) in_lockstep
+    pub copied_cheaper : UnitCheaper (machine_of graph) (graph_machine graph.shared graph.received nodes)
+    copied_cheaper = lockstep_cheaper (machine_of graph) (graph_machine graph.shared graph.received nodes) (OnPath graph) in_lockstep

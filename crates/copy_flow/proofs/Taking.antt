@@ -10,12 +10,12 @@ use Rattle.mir_base.specs.declared.instructions.Operand.TheVariants.{Var, Const}
 use Rattle.mir_base.specs.declared.instructions.Rhs.TheVariants.{Plain, Unary, Binary}
 use Rattle.mir_base.specs.Shapes.{AllBelow, AllDiffer}
 use Rattle.flow_graph.specs.declared.nodes.Node.{Node}
-use Rattle.flow_graph.specs.declared.nodes.Node.TheVariants.{Start, Skip, Assign, Print, Call, Test, Return}
+use Rattle.flow_graph.specs.declared.nodes.Node.TheVariants.{Start, Skip, Assign, Print, Guard, Call, Test, Return}
 use Rattle.flow_graph.specs.Graphs.{HaveVarsBelow, node_vars}
 use Rattle.copy_flow.specs.declared.table.VarCopy.{VarCopy}
 use Rattle.copy_flow.specs.Copies.{is_copy}
 use Rattle.copy_flow.specs.Rows.{is_born}
-use Rattle.copy_flow.specs.Tables.{AreCopies, AreInNodeOrder, HasCopies, HasOnlyCopies, copy_of}
+use Rattle.copy_flow.specs.CopyTables.{AreCopies, AreInNodeOrder, HasCopies, HasOnlyCopies, copy_of}
 use Rattle.copy_flow.proofs.Found.{copy_is}
 use Rattle.mir_base.specs.ItemLaws.{one_place}
 
@@ -43,6 +43,7 @@ copy_node (Assign x (Plain (Const k)) next) c e = cc
 copy_node (Assign x (Unary op a) next) c e = cc
 copy_node (Assign x (Binary op a b) next) c e = cc
 copy_node (Print a next) c e = cc
+copy_node (Guard test number next) c e = cc
 copy_node (Call into unit operands next) c e = cc
 copy_node (Test test taken other) c e = cc
 copy_node (Return a) c e = cc

@@ -1,7 +1,7 @@
 -- What is read in the place of a copy has its value, so what reads the one does the same as what reads the other.
-use Rattle.std.proofs.Common.{◌≡◌, ◌≢◌, ℕ, Bool, true, false, not, if◌then◌else◌, nat_eq, ◌||◌, inl, inr, eqb-true, eq-eqb, List, [], ◌∷◌, map, slice_get, ℤ, pos, Some, refl, sym, ap, ◌∙◌, true≢false, arith}
+use Rattle.std.proofs.Common.{◌≡◌, ◌≢◌, ℕ, Bool, true, false, not, if◌then◌else◌, nat_eq, nat_lt, ◌||◌, Option, None, length, inl, inr, eqb-true, eq-eqb, List, [], ◌∷◌, map, slice_get, ℤ, pos, Some, refl, sym, ap, ◌∙◌, true≢false, arith}
 use Rattle.std.proofs.Math.Path.{fun_ext}
-use Rattle.std.proofs.lemmas.Bool.{and_parts, ne_eqb, or_parts}
+use Rattle.std.proofs.lemmas.Bool.{and_parts, ltb-false, ne_eqb, or_parts}
 use Rattle.std.specs.Ordering.{int_eq}
 use Rattle.mir_base.specs.declared.instructions.Operand.{Operand}
 use Rattle.mir_base.specs.declared.instructions.Operand.TheVariants.{Var, Const}
@@ -10,11 +10,12 @@ use Rattle.mir_base.specs.declared.instructions.Rhs.TheVariants.{Plain, Unary, B
 use Rattle.mir_base.specs.declared.instructions.Test as tests
 use Rattle.mir_base.specs.declared.instructions.Test.TheVariants.{Rel, Holds, Fails}
 use Rattle.mir_base.specs.Numbers.{traps, value_of_op, value_of_un_op, relation_holds}
-use Rattle.mir_base.specs.Frames.{Values, with_value}
+use Rattle.mir_base.specs.Frames.{Answer, Values, with_first, with_result, with_value}
+use Rattle.mir_base.specs.SharedLaws.{with_first_other}
 use Rattle.mir_base.specs.Units.{operand_value, test_holds}
 use Rattle.mir_base.specs.Expressions.{rhs_traps, rhs_value, rhs_count}
 use Rattle.flow_graph.specs.declared.nodes.Node.TheVariants.{Start, Assign, Call}
-use Rattle.flow_graph.specs.Graphs.{CanMake, GraphShape}
+use Rattle.flow_graph.specs.Graphs.{CanMake, GraphShape, assigns}
 use Rattle.flow_graph.specs.ListLaws.{cons_same}
 use Rattle.flow_graph.specs.Paths.{Trace, from_start, goes_on}
 use Rattle.path_laws.specs.Paths.{Since}
@@ -87,12 +88,23 @@ module _ (graph : GraphShape) (m : ℕ) (before : List ℕ) (values : Values) wh
       (λ v w copy. let parts = and_parts (nat_eq v x) (is_var w rhs) (sym (ap (is_copy v w) here) ∙ copy) in (eqb-true v x parts.0, var_value w rhs values parts.1))
       agree
 
-  -- the result of a call
-  pub agree_call : (x unit : ℕ) (operands : List Operand) (next : ℕ) (y : ℤ) → slice_get graph.nodes m ≡ Some (Call (Some x) unit operands next) → CopiesAgree graph before values → CopiesAgree graph (m ∷ before) (with_value x y values)
-  agree_call x unit operands next y here agree = agree_set x y
-      (λ v w. ap (assigns_either graph v w) here)
-      (λ v w copy. absurd (true≢false (sym copy ∙ ap (is_copy v w) here)))
-      agree
+  -- a call, which assigns the globals and then its result
+  call_keeps : (into : Option ℕ) (unit : ℕ) (operands : List Operand) (next : ℕ) (a : Answer) (v : ℕ) → length a.globals ≡ graph.shared → assigns graph v (Call into unit operands next) ≡ false → with_result into a.value (with_first a.globals values) v ≡ values v
+  call_keeps None unit operands next a v long off = let past = ltb-false v graph.shared off in with_first_other a.globals values v (omega (arith, past, long))
+  call_keeps (Some x) unit operands next a v long off =
+      let parts = or_parts (nat_lt v graph.shared) (nat_eq v x) off in
+      let past = ltb-false v graph.shared parts.0 in
+      other_value x v a.value (with_first a.globals values) parts.1 ∙ with_first_other a.globals values v (omega (arith, past, long))
+
+  pub agree_call : (into : Option ℕ) (unit : ℕ) (operands : List Operand) (next : ℕ) (a : Answer) → length a.globals ≡ graph.shared → slice_get graph.nodes m ≡ Some (Call into unit operands next) → CopiesAgree graph before values → CopiesAgree graph (m ∷ before) (with_result into a.value (with_first a.globals values))
+  agree_call into unit operands next a long here agree = record { is = λ v w apart since. by v w apart since }
+    where
+      by : (v w : ℕ) → w ≢ v → Since (copies_at graph.nodes v w) (ends_at graph v w) (m ∷ before) → with_result into a.value (with_first a.globals values) v ≡ with_result into a.value (with_first a.globals values) w
+      by v w apart (inl copy) = absurd (true≢false (sym copy ∙ ap (is_copy v w) here))
+      by v w apart (inr later) =
+          let ends : assigns_either graph v w (Some (Call into unit operands next)) ≡ false = sym (ap (assigns_either graph v w) here) ∙ later.0 in
+          let off = or_parts (assigns graph v (Call into unit operands next)) (assigns graph w (Call into unit operands next)) ends in
+          call_keeps into unit operands next a v long off.0 ∙ agree.is v w apart later.1 ∙ sym (call_keeps into unit operands next a w long off.1)
 
 -- no path but the empty one leads to Start
 pub start_first : (graph : GraphShape) → CanMake graph.vars graph.received graph.nodes → (n s : ℕ) (before : List ℕ) → slice_get graph.nodes n ≡ Some (Start s) → Trace graph.nodes n before → before ≡ []

@@ -2,7 +2,7 @@
 use Rattle.std.specs.Prelude.{◌≡◌, ℕ, ◌<◌, if◌then◌else◌, List, length, map, slice_get, option_map}
 use Rattle.mir_base.specs.declared.instructions.Rhs.{Rhs}
 use Rattle.flow_graph.specs.declared.nodes.Node.{Node}
-use Rattle.flow_graph.specs.declared.nodes.Node.TheVariants.{Start, Skip, Assign, Print, Call, Test, Return}
+use Rattle.flow_graph.specs.declared.nodes.Node.TheVariants.{Start, Skip, Assign, Print, Guard, Call, Test, Return}
 use Rattle.flow_graph.specs.Edges.{IsSplit}
 use Rattle.flow_graph.specs.Graphs.{GraphShape, succs_at}
 use Rattle.flow_graph.specs.Numbering.{renamed_operand, renamed_rhs, renamed_test}
@@ -20,6 +20,7 @@ reread_node read (Start next) = Start next
 reread_node read (Skip next) = Skip next
 reread_node read (Assign x rhs next) = assigned_unless_itself x (renamed_rhs read rhs) next
 reread_node read (Print a next) = Print (renamed_operand read a) next
+reread_node read (Guard test number next) = Guard (renamed_test read test) number next
 reread_node read (Call into unit operands next) = Call into unit (map (renamed_operand read) operands) next
 reread_node read (Test test taken other) = Test (renamed_test read test) taken other
 reread_node read (Return a) = Return (renamed_operand read a)
@@ -35,6 +36,7 @@ pub record AreCopied (graph : GraphShape) (nodes : List Node) : Type 0 where
 -- the graph with these nodes in the place of the old ones
 pub record IsCopied (graph copied : GraphShape) : Type 0 where
   pub name_is : copied.name ≡ graph.name
+  pub shared_is : copied.shared ≡ graph.shared
   pub vars_are : copied.vars ≡ graph.vars
   pub received_are : copied.received ≡ graph.received
   pub nodes_are : AreCopied graph copied.nodes

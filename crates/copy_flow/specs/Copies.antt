@@ -5,7 +5,7 @@ use Rattle.mir_base.specs.declared.instructions.Operand.TheVariants.{Var, Const}
 use Rattle.mir_base.specs.declared.instructions.Rhs.{Rhs}
 use Rattle.mir_base.specs.declared.instructions.Rhs.TheVariants.{Plain, Unary, Binary}
 use Rattle.flow_graph.specs.declared.nodes.Node.{Node}
-use Rattle.flow_graph.specs.declared.nodes.Node.TheVariants.{Start, Skip, Assign, Print, Call, Test, Return}
+use Rattle.flow_graph.specs.declared.nodes.Node.TheVariants.{Start, Skip, Assign, Print, Guard, Call, Test, Return}
 use Rattle.flow_graph.specs.Graphs.{GraphShape, Reached, assigns}
 use Rattle.path_laws.specs.Paths.{BornBefore}
 
@@ -23,6 +23,7 @@ is_copy v w (Some (Start next)) = false
 is_copy v w (Some (Skip next)) = false
 is_copy v w (Some (Assign x rhs next)) = nat_eq v x && is_var w rhs
 is_copy v w (Some (Print a next)) = false
+is_copy v w (Some (Guard test number next)) = false
 is_copy v w (Some (Call into unit operands next)) = false
 is_copy v w (Some (Test test taken other)) = false
 is_copy v w (Some (Return a)) = false

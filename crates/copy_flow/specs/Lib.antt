@@ -1,6 +1,6 @@
 pub mod Copies
 pub mod Copied
 pub mod CopiedLaws
-pub mod Tables
+pub mod CopyTables
 pub mod SameCopies
 pub mod Rows

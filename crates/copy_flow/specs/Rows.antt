@@ -12,7 +12,7 @@ use Rattle.copy_flow.specs.declared.rows.Side.TheVariants.{Target, Source}
 use Rattle.copy_flow.specs.declared.table.VarCopy.{VarCopy}
 use Rattle.copy_flow.specs.Copies.{IsCopyOf, copies_at, ends_at}
 use Rattle.copy_flow.specs.Copied.{reread_node}
-use Rattle.copy_flow.specs.Tables.{AreCopies}
+use Rattle.copy_flow.specs.CopyTables.{AreCopies}
 
 -- ---- by variables
 

@@ -11,9 +11,9 @@ use std::alloc::Global;
 
 /// The graph in which copies give way to what they copy. `v <- w` with w a variable other than v is a copy. Each
 /// operand v of a node becomes w exactly where on every path from Start to the node there is, before the node, a node
-/// `v <- w` after which, before the node, no node assigns v or w; there is at most one such w. All is decided on the
-/// graph as it was, in one step. Then each assignment of a variable to itself becomes a Skip with the same successor.
-/// No other node changes.
+/// `v <- w` after which, before the node, no node assigns v or w; there is at most one such w. A call assigns the
+/// globals too. All is decided on the graph as it was, in one step. Then each assignment of a variable to itself is a
+/// Skip with the same successor. No other node changes.
 ///
 /// The graph does the same and evaluates no more operators. It fails only with `Memory`.
 pub fn copies(alloc: Global, graph: &Graph) -> Result<Graph, Memory>

@@ -1,7 +1,7 @@
 // At which nodes each copy holds.
 ghost use Rattle.std.specs.Prelude.{length, IfOk};
 ghost use Rattle.mir_base.specs.Shapes.{AllDiffer};
-ghost use Rattle.copy_flow.specs.Tables.{AreCopies, AreInNodeOrder, HasCopies, HasOnlyCopies};
+ghost use Rattle.copy_flow.specs.CopyTables.{AreCopies, AreInNodeOrder, HasCopies, HasOnlyCopies};
 ghost use Rattle.path_laws.specs.KeyRows.{AreKeyRows};
 ghost use Rattle.copy_flow.specs.Rows.{AreHeldRows, AreTargetRows, IsLookup, is_born, is_ended};
 

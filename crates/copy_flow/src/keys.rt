@@ -1,6 +1,6 @@
 // Copies as keys of a table, which are read off nodes.
 ghost use Rattle.copy_flow.specs.SameCopies.{same_copies};
-ghost use Rattle.copy_flow.specs.Tables.{copy_of};
+ghost use Rattle.copy_flow.specs.CopyTables.{copy_of};
 
 use crate::table::{VarCopy, copy_of};
 use flow_graph::Node;

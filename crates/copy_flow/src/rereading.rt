@@ -49,6 +49,7 @@ impl<'a> HeldAt<'a> {
             Node::Skip(next) => Ok(Node::Skip(*next)),
             Node::Assign(x, rhs, next) => Ok(assigned_unless_itself(*x, self.rhs(*rhs), *next)),
             Node::Print(a, next) => Ok(Node::Print(self.operand(*a), *next)),
+            Node::Guard(test, number, next) => Ok(Node::Guard(self.test(*test), *number, *next)),
             Node::Call(into, unit, args, next) => {
                 let operands = self.operands(alloc, args.items())?;
                 let args = Args::of(alloc, operands.as_slice())?;

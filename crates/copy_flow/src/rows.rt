@@ -1,7 +1,7 @@
 // Which copies have a variable, and which a node is or ends.
 ghost use Rattle.std.specs.Prelude.{◌≡◌, length, IfOk};
 ghost use Rattle.path_laws.specs.KeyRows.{AreKeyRows};
-ghost use Rattle.copy_flow.specs.Tables.{AreCopies};
+ghost use Rattle.copy_flow.specs.CopyTables.{AreCopies};
 ghost use Rattle.copy_flow.specs.Rows.{AreTargetRows, is_born, is_ended, is_on_either, is_on_side, on_side};
 
 use crate::keys::AsCopy;
@@ -78,7 +78,7 @@ pub(crate) fn ended_rows(
 {
     let nodes = graph.nodes();
     let touched = touched_rows(alloc, table, targets)?;
-    let rows = assigned_rows(alloc, nodes, &touched, table.len(), false)?;
+    let rows = assigned_rows(alloc, nodes, &touched, table.len(), graph.shared(), false)?;
     Ok(rows)
 }
 

@@ -1,7 +1,7 @@
 // The distinct copies of a graph.
 ghost use Rattle.std.specs.Prelude.{◌≡◌, length, IfOk};
 ghost use Rattle.mir_base.specs.Shapes.{AllDiffer};
-ghost use Rattle.copy_flow.specs.Tables.{AreCopies, AreInNodeOrder, HasCopies, HasOnlyCopies, copy_between, copy_of};
+ghost use Rattle.copy_flow.specs.CopyTables.{AreCopies, AreInNodeOrder, HasCopies, HasOnlyCopies, copy_between, copy_of};
 
 use crate::keys::AsCopy;
 use flow_graph::{Graph, Node};

@@ -120,7 +120,7 @@ some_node (Some node) slot s e = (node, refl, e)
 
 -- ---- the split graph
 
-module _ (vars : List (List ℕ)) (received : List ℕ) (nodes : List Node) (graph : IsGraph vars received nodes) where
+module _ (shared : ℕ) (vars : List (List ℕ)) (received : List ℕ) (nodes : List Node) (graph : IsGraph vars received nodes) where
   abbrev join : ℕ → Bool
   join = is_join nodes
 
@@ -283,11 +283,11 @@ module _ (vars : List (List ℕ)) (received : List ℕ) (nodes : List Node) (gra
         (through_skips join old.0 (node_succs node), get_left_some olds (map Skip joins) m _ old.1, old.2);
   }
 
-  after_same : UnitSame (graph_machine received nodes) (graph_machine received (after nodes))
-  after_same = passes_same received nodes (after nodes) passes
+  after_same : UnitSame (graph_machine shared received nodes) (graph_machine shared received (after nodes))
+  after_same = passes_same shared received nodes (after nodes) passes
 
-  after_cheaper : UnitCheaper (graph_machine received nodes) (graph_machine received (after nodes))
-  after_cheaper = passes_cheaper received nodes (after nodes) passes
+  after_cheaper : UnitCheaper (graph_machine shared received nodes) (graph_machine shared received (after nodes))
+  after_cheaper = passes_cheaper shared received nodes (after nodes) passes
 
   after_calls : (called count : ℕ) → NodesCall (after nodes) called count → NodesCall nodes called count
   after_calls called count c = elim (after_node c.number c.node c.here) [
@@ -299,29 +299,29 @@ module _ (vars : List (List ℕ)) (received : List ℕ) (nodes : List Node) (gra
 
 module _ (graph : GraphShape) (is_graph : IsGraph graph.vars graph.received graph.nodes) where
   pub split_can_make : CanMake graph.vars graph.received (split_nodes graph.nodes)
-  split_can_make = subst (CanMake graph.vars graph.received) (sym (split_is graph.nodes)) (can_make graph.vars graph.received graph.nodes is_graph)
+  split_can_make = subst (CanMake graph.vars graph.received) (sym (split_is graph.nodes)) (can_make graph.shared graph.vars graph.received graph.nodes is_graph)
 
   pub split_reached : (n : ℕ) → n < length (split_nodes graph.nodes) → Reached (split_nodes graph.nodes) n
-  split_reached = subst (λ ns. (n : ℕ) → n < length ns → Reached ns n) (sym (split_is graph.nodes)) (all_reached graph.vars graph.received graph.nodes is_graph)
+  split_reached = subst (λ ns. (n : ℕ) → n < length ns → Reached ns n) (sym (split_is graph.nodes)) (all_reached graph.shared graph.vars graph.received graph.nodes is_graph)
 
   module _ (made : GraphShape) (is : IsEdgeSplit graph made) where
     nodes_are : made.nodes ≡ after graph.nodes
     nodes_are = is.nodes_are ∙ split_is graph.nodes
 
-    machine_is : graph_machine graph.received (after graph.nodes) ≡ machine_of made
-    machine_is = ap (graph_machine graph.received) (sym nodes_are) ∙ ap (λ received. graph_machine received made.nodes) (sym is.received_are)
+    machine_is : graph_machine graph.shared graph.received (after graph.nodes) ≡ machine_of made
+    machine_is = ap (graph_machine graph.shared graph.received) (sym nodes_are) ∙ ap (λ received. graph_machine graph.shared received made.nodes) (sym is.received_are) ∙ ap (λ shared. graph_machine shared made.received made.nodes) (sym is.shared_is)
 
     pub edge_split_splits : IsSplit made.nodes
-    edge_split_splits = subst IsSplit (sym nodes_are) (after_split graph.vars graph.received graph.nodes is_graph)
+    edge_split_splits = subst IsSplit (sym nodes_are) (after_split graph.shared graph.vars graph.received graph.nodes is_graph)
 
     pub edge_split_same : UnitSame (machine_of graph) (machine_of made)
-    edge_split_same = subst (UnitSame (machine_of graph)) machine_is (after_same graph.vars graph.received graph.nodes is_graph)
+    edge_split_same = subst (UnitSame (machine_of graph)) machine_is (after_same graph.shared graph.vars graph.received graph.nodes is_graph)
 
     pub edge_split_cheaper : UnitCheaper (machine_of graph) (machine_of made)
-    edge_split_cheaper = subst (UnitCheaper (machine_of graph)) machine_is (after_cheaper graph.vars graph.received graph.nodes is_graph)
+    edge_split_cheaper = subst (UnitCheaper (machine_of graph)) machine_is (after_cheaper graph.shared graph.vars graph.received graph.nodes is_graph)
 
     pub edge_split_calls : (called count : ℕ) → NodesCall made.nodes called count → NodesCall graph.nodes called count
-    edge_split_calls called count calls = after_calls graph.vars graph.received graph.nodes is_graph called count (subst (λ ns. NodesCall ns called count) nodes_are calls)
+    edge_split_calls called count calls = after_calls graph.shared graph.vars graph.received graph.nodes is_graph called count (subst (λ ns. NodesCall ns called count) nodes_are calls)
 
 -- ---- while the nodes are made
 

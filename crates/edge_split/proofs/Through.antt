@@ -5,7 +5,7 @@ use Rattle.std.proofs.lemmas.Bool.{cases_Bool, eqb-true, ne_eqb}
 use Rattle.std.proofs.lemmas.List.{map-append}
 use Rattle.std.proofs.lemmas.List.Elements.{filter-append}
 use Rattle.flow_graph.specs.declared.nodes.Node.{Node}
-use Rattle.flow_graph.specs.declared.nodes.Node.TheVariants.{Start, Skip, Assign, Print, Call, Test, Return}
+use Rattle.flow_graph.specs.declared.nodes.Node.TheVariants.{Start, Skip, Assign, Print, Guard, Call, Test, Return}
 use Rattle.flow_graph.specs.Calls.{node_call}
 use Rattle.flow_graph.specs.Graphs.{node_succs, node_vars}
 use Rattle.node_list.specs.Lists.{times_in}
@@ -23,7 +23,9 @@ with_parts (Skip t) (a ∷ us) = (refl, refl)
 with_parts (Assign x rhs t) [] = (refl, refl)
 with_parts (Assign x rhs t) (a ∷ us) = (refl, refl)
 with_parts (Print b t) [] = (refl, refl)
+with_parts (Guard q m t) [] = (refl, refl)
 with_parts (Print b t) (a ∷ us) = (refl, refl)
+with_parts (Guard q m t) (a ∷ us) = (refl, refl)
 with_parts (Call into unit operands t) [] = (refl, refl)
 with_parts (Call into unit operands t) (a ∷ us) = (refl, refl)
 with_parts (Test test t o) [] = (refl, refl)
@@ -52,7 +54,9 @@ was_start (Skip t) (a ∷ us) s e = cc
 was_start (Assign x rhs t) [] s e = cc
 was_start (Assign x rhs t) (a ∷ us) s e = cc
 was_start (Print b t) [] s e = cc
+was_start (Guard q m t) [] s e = cc
 was_start (Print b t) (a ∷ us) s e = cc
+was_start (Guard q m t) (a ∷ us) s e = cc
 was_start (Call into unit operands t) [] s e = cc
 was_start (Call into unit operands t) (a ∷ us) s e = cc
 was_start (Test test t o) [] s e = cc
@@ -71,6 +75,7 @@ module _ (join : ℕ → Bool) where
   with_through k (Skip t) = elim (join t) as (λ b. node_succs (with_succs (Skip t) (cond b (k ∷ []) (t ∷ []))) ≡ cond b (k ∷ []) (t ∷ [])) [ true ↦ refl | false ↦ refl ]
   with_through k (Assign x rhs t) = elim (join t) as (λ b. node_succs (with_succs (Assign x rhs t) (cond b (k ∷ []) (t ∷ []))) ≡ cond b (k ∷ []) (t ∷ [])) [ true ↦ refl | false ↦ refl ]
   with_through k (Print a t) = elim (join t) as (λ b. node_succs (with_succs (Print a t) (cond b (k ∷ []) (t ∷ []))) ≡ cond b (k ∷ []) (t ∷ [])) [ true ↦ refl | false ↦ refl ]
+  with_through k (Guard q m t) = elim (join t) as (λ b. node_succs (with_succs (Guard q m t) (cond b (k ∷ []) (t ∷ []))) ≡ cond b (k ∷ []) (t ∷ [])) [ true ↦ refl | false ↦ refl ]
   with_through k (Call into unit operands t) = elim (join t) as (λ b. node_succs (with_succs (Call into unit operands t) (cond b (k ∷ []) (t ∷ []))) ≡ cond b (k ∷ []) (t ∷ [])) [ true ↦ refl | false ↦ refl ]
   with_through k (Test test a b) = elim (join a) as (λ c. node_succs (with_succs (Test test a b) (cond c (k ∷ cond (join b) (suc k ∷ []) (b ∷ [])) (a ∷ cond (join b) (k ∷ []) (b ∷ [])))) ≡ cond c (k ∷ cond (join b) (suc k ∷ []) (b ∷ [])) (a ∷ cond (join b) (k ∷ []) (b ∷ []))) [
     | true ↦ elim (join b) as (λ d. node_succs (with_succs (Test test a b) (k ∷ cond d (suc k ∷ []) (b ∷ []))) ≡ k ∷ cond d (suc k ∷ []) (b ∷ [])) [ true ↦ refl | false ↦ refl ]

@@ -2,7 +2,7 @@
 use Rattle.std.specs.Prelude.{◌≡◌, ℕ, suc, ◌+◌, Bool, if◌then◌else◌, nat_lt, filter, List, [], ◌∷◌, ◌++◌, length, map, min, slice_index, slice_set}
 use Rattle.flow_graph.specs.declared.edges.Edge.{Edge}
 use Rattle.flow_graph.specs.declared.nodes.Node.{Node}
-use Rattle.flow_graph.specs.declared.nodes.Node.TheVariants.{Start, Skip, Assign, Print, Call, Test}
+use Rattle.flow_graph.specs.declared.nodes.Node.TheVariants.{Start, Skip, Assign, Print, Guard, Call, Test}
 use Rattle.flow_graph.specs.Edges.{edges_from, preds_among, preds_of}
 use Rattle.flow_graph.specs.Graphs.{GraphShape, node_succs}
 use Rattle.node_list.specs.Lists.{times_in}
@@ -42,7 +42,8 @@ joins_among join succs = filter join succs
 -- each successor that is a join gives way to a new Skip; the new Skips are numbered from k on
 abbrev pub through_skips : (ℕ → Bool) → ℕ → List ℕ → List ℕ
 through_skips join k [] = []
-through_skips join k (s ∷ succs) = if join s then k ∷ through_skips join (suc k) succs else s ∷ through_skips join k succs
+through_skips join k (s ∷ succs) =
+    if join s then k ∷ through_skips join (suc k) succs else s ∷ through_skips join k succs
 
 -- the node with these successors
 abbrev pub with_succs : Node → List ℕ → Node
@@ -50,6 +51,7 @@ with_succs (Start next) (a ∷ _) = Start a
 with_succs (Skip next) (a ∷ _) = Skip a
 with_succs (Assign x rhs next) (a ∷ _) = Assign x rhs a
 with_succs (Print b next) (a ∷ _) = Print b a
+with_succs (Guard t n next) (a ∷ _) = Guard t n a
 with_succs (Call into unit operands next) (a ∷ _) = Call into unit operands a
 with_succs (Test test taken other) (a ∷ b ∷ _) = Test test a b
 with_succs node _ = node
@@ -57,7 +59,9 @@ with_succs node _ = node
 -- the nodes whose edges into joins lead to new Skips, numbered from k on in the order of the edges
 abbrev pub rerouted : (ℕ → Bool) → ℕ → List Node → List Node
 rerouted join k [] = []
-rerouted join k (node ∷ nodes) = with_succs node (through_skips join k (node_succs node)) ∷ rerouted join (k + length (joins_among join (node_succs node))) nodes
+rerouted join k (node ∷ nodes) =
+    with_succs node (through_skips join k (node_succs node)) ∷ rerouted join
+    (k + length (joins_among join (node_succs node))) nodes
 
 -- and after them the new Skips, one for each edge into a join
 abbrev pub split_nodes : List Node → List Node
@@ -66,6 +70,7 @@ split_nodes nodes = rerouted (is_join nodes) (length nodes) nodes ++ map (λ edg
 -- the graph with new Skips, in which old nodes keep their numbers
 pub record IsEdgeSplit (graph result : GraphShape) : Type 0 where
   pub name_is : result.name ≡ graph.name
+  pub shared_is : result.shared ≡ graph.shared
   pub vars_are : result.vars ≡ graph.vars
   pub received_are : result.received ≡ graph.received
   pub nodes_are : result.nodes ≡ split_nodes graph.nodes

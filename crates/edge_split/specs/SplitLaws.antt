@@ -4,8 +4,8 @@ use Rattle.flow_graph.specs.ListLaws.{get_left_some}
 use Rattle.mir_base.specs.declared.instructions.Rhs.{Rhs}
 use Rattle.flow_graph.specs.declared.nodes.Node.{Node}
 use Rattle.flow_graph.specs.declared.nodes.Node.TheVariants.{Assign}
-use Rattle.flow_graph.specs.Dividing.{DividesStay}
-use Rattle.flow_graph.specs.DividingLaws.{stay_in_place}
+use Rattle.flow_graph.specs.Dividing.{DividesUnchanged}
+use Rattle.flow_graph.specs.DividingLaws.{unchanged_in_place}
 use Rattle.flow_graph.specs.Graphs.{GraphShape, node_succs}
 use Rattle.edge_split.specs.Split.{IsEdgeSplit, is_join, joins_among, rerouted, split_nodes, through_skips, with_succs}
 
@@ -23,8 +23,8 @@ module _ (join : ℕ → Bool) (x : ℕ) (rhs : Rhs) (next : ℕ) where
   rerouted_assigns (node ∷ nodes) k (suc n) is = rerouted_assigns nodes (k + length (joins_among join (node_succs node))) n is
 
 -- so each stays at its number
-pub split_stay : (graph result : GraphShape) → IsEdgeSplit graph result → DividesStay graph.nodes result.nodes
-split_stay graph result split = subst (DividesStay graph.nodes) (sym split.nodes_are)
-    (stay_in_place graph.nodes (split_nodes graph.nodes) (λ n x op left right next may_trap is.
+pub split_unchanged : (graph result : GraphShape) → IsEdgeSplit graph result → DividesUnchanged graph.nodes result.nodes
+split_unchanged graph result split = subst (DividesUnchanged graph.nodes) (sym split.nodes_are)
+    (unchanged_in_place graph.nodes (split_nodes graph.nodes) (λ n x op left right next may_trap is.
     let there = rerouted_assigns (is_join graph.nodes) x _ next graph.nodes (length graph.nodes) n is in
     (there.0, get_left_some (rerouted (is_join graph.nodes) (length graph.nodes) graph.nodes) _ n _ there.1)))

@@ -3,7 +3,7 @@ ghost use Rattle.std.specs.Prelude.{◌≡◌, ◌^◌, ◌<◌, [], ◌∷◌, 
 ghost use Rattle.mir_base.specs.Shapes.{AllBelow};
 ghost use Rattle.flow_graph.specs.Edges.{IsSplit};
 ghost use Rattle.flow_graph.specs.Graphs.{AllWithin, node_succs};
-ghost use Rattle.flow_graph.specs.Passes.{GraphDivides, GraphKeeps};
+ghost use Rattle.flow_graph.specs.Passes.{GraphDividesUnchanged, GraphKeeps};
 ghost use Rattle.edge_split.specs.NewSkips.{MakesSkips, node_through, succs_through};
 ghost use Rattle.edge_split.specs.Split.{CountEntries, IsEdgeSplit, split_nodes};
 
@@ -22,8 +22,8 @@ pub fn split(alloc: Global, graph: &Graph) -> Result<Graph, Memory>
     // it has the name of the graph, does the same, evaluates no more operators, and makes no other calls
     ensures keeps { IfOk result (GraphKeeps graph.now) }
 
-    // each dividing assignment stays
-    ensures divides { IfOk result (GraphDivides graph.now) }
+    // each dividing assignment stays as it is, with its operands
+    ensures divides { IfOk result (GraphDividesUnchanged graph.now) }
 {
     let entries = entries(alloc, graph)?;
     let nodes = all_nodes(alloc, graph.nodes(), entries)?;
@@ -88,6 +88,7 @@ impl NewSkips {
             Node::Skip(next) => Node::Skip(self.entry(*next)?),
             Node::Assign(x, rhs, next) => Node::Assign(*x, *rhs, self.entry(*next)?),
             Node::Print(a, next) => Node::Print(*a, self.entry(*next)?),
+            Node::Guard(test, number, next) => { Node::Guard(*test, *number, self.entry(*next)?) }
             Node::Call(into, unit, args, next) => {
                 Node::Call(*into, *unit, args.clone()?, self.entry(*next)?)
             }

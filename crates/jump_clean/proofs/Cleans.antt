@@ -7,10 +7,10 @@ use Rattle.mir_base.specs.Shapes.{AllBelow}
 use Rattle.mir_base.specs.UnitRuns.{UnitSame, UnitCheaper}
 use Rattle.mir_base.specs.UnitLaws.{same_trans, cheaper_trans}
 use Rattle.flow_graph.specs.declared.nodes.Node.{Node}
-use Rattle.flow_graph.specs.declared.nodes.Node.TheVariants.{Start, Skip, Assign, Print, Call, Test, Return}
+use Rattle.flow_graph.specs.declared.nodes.Node.TheVariants.{Start, Skip, Assign, Print, Guard, Call, Test, Return}
 use Rattle.flow_graph.specs.Graphs.{IsEdge, AllWithin, Reached, at_start, along, succs_of, succs_at, node_vars, CanMake, IsGraph}
 use Rattle.flow_graph.specs.Machines.{graph_machine}
-use Rattle.flow_graph.specs.Kept.{redirected, marked_below, marked, AreKept}
+use Rattle.flow_graph.specs.Retained.{redirected, marked_below, marked, AreRetained}
 use Rattle.jump_clean.specs.Chains.{Skips, SkipsTo, IsEnd}
 use Rattle.jump_clean.specs.Cleaned.{AreCleaned, HasCleanJumps}
 use Rattle.jump_clean.specs.ChainLaws.{to_itself, to_next, end_is_one, end_from, ends_at_other}
@@ -69,6 +69,7 @@ module _ (to : ℕ → ℕ) where
   was_skip (Skip t) s e = (t, refl, cc)
   was_skip (Assign x rhs t) s e = cc
   was_skip (Print a t) s e = cc
+  was_skip (Guard x g t) s e = cc
   was_skip (Call into unit operands t) s e = cc
   was_skip (Test test taken other) s e = cc
   was_skip (Return a) s e = cc
@@ -78,6 +79,7 @@ module _ (to : ℕ → ℕ) where
   was_test (Skip t) test a b e = cc
   was_test (Assign x rhs t) test a b e = cc
   was_test (Print x t) test a b e = cc
+  was_test (Guard x g t) test a b e = cc
   was_test (Call into unit operands t) test a b e = cc
   was_test (Test test' taken other) test a b e = let same : test' ≡ test = cc in (taken, other, ap (λ t. Test t taken other) same, cc, cc)
   was_test (Return x) test a b e = cc
@@ -89,7 +91,7 @@ module _ (to : ℕ → ℕ) where
 
 -- ---- the cleaned nodes
 
-module _ (vars : List (List ℕ)) (received : List ℕ) (nodes cleaned : List Node) (graph : IsGraph vars received nodes) (are : AreCleaned nodes cleaned) where
+module _ (shared : ℕ) (vars : List (List ℕ)) (received : List ℕ) (nodes cleaned : List Node) (graph : IsGraph vars received nodes) (are : AreCleaned nodes cleaned) where
   abbrev reduced : List Node
   reduced = are.reduced
 
@@ -172,15 +174,15 @@ module _ (vars : List (List ℕ)) (received : List ℕ) (nodes cleaned : List No
       no_start : (next : ℕ) → Some (Start graph.can.start.0) ≡ Some (Skip next) → ⊥
       no_start next e = cc
 
-  pub cleaned_same : UnitSame (graph_machine received nodes) (graph_machine received cleaned)
+  pub cleaned_same : UnitSame (graph_machine shared received nodes) (graph_machine shared received cleaned)
   cleaned_same =
-      same_trans (graph_machine received nodes) (graph_machine received reduced) (graph_machine received cleaned) (reductions_same received nodes are.are_reduced.order reduced are.are_reduced.reductions)
-      (subst (λ l. UnitSame (graph_machine received reduced) (graph_machine received l)) (sym are.are) (ends_same received reduced reduced_in some are.ends are.are_ends first_end))
+      same_trans (graph_machine shared received nodes) (graph_machine shared received reduced) (graph_machine shared received cleaned) (reductions_same shared received nodes are.are_reduced.order reduced are.are_reduced.reductions)
+      (subst (λ l. UnitSame (graph_machine shared received reduced) (graph_machine shared received l)) (sym are.are) (ends_same shared received reduced reduced_in some are.ends are.are_ends first_end))
 
-  pub cleaned_cheaper : UnitCheaper (graph_machine received nodes) (graph_machine received cleaned)
+  pub cleaned_cheaper : UnitCheaper (graph_machine shared received nodes) (graph_machine shared received cleaned)
   cleaned_cheaper =
-      cheaper_trans (graph_machine received nodes) (graph_machine received reduced) (graph_machine received cleaned) (reductions_same received nodes are.are_reduced.order reduced are.are_reduced.reductions) (reductions_cheaper received nodes are.are_reduced.order reduced are.are_reduced.reductions)
-      (subst (λ l. UnitCheaper (graph_machine received reduced) (graph_machine received l)) (sym are.are) (ends_cheaper received reduced reduced_in some are.ends are.are_ends first_end))
+      cheaper_trans (graph_machine shared received nodes) (graph_machine shared received reduced) (graph_machine shared received cleaned) (reductions_same shared received nodes are.are_reduced.order reduced are.are_reduced.reductions) (reductions_cheaper shared received nodes are.are_reduced.order reduced are.are_reduced.reductions)
+      (subst (λ l. UnitCheaper (graph_machine shared received reduced) (graph_machine shared received l)) (sym are.are) (ends_cheaper shared received reduced reduced_in some are.ends are.are_ends first_end))
 
   -- ---- clean jumps
 
@@ -227,20 +229,20 @@ module _ (vars : List (List ℕ)) (received : List ℕ) (nodes cleaned : List No
   rank_one (false ∷ marks) (suc a) zero e e' same = cc
   rank_one (false ∷ marks) (suc a) (suc b) e e' same = ap suc (rank_one marks a b e e' same)
 
-  module _ (kept : List Node) (are_kept : AreKept cleaned kept) where
+  module _ (kept : List Node) (are_retained : AreRetained cleaned kept) where
     abbrev by : ℕ → ℕ
-    by = marked_below are_kept.marks
+    by = marked_below are_retained.marks
 
     kept_at : (k : ℕ) (node : Node) → slice_get kept k ≡ Some node → (n : ℕ) × (old : Node) × Reached cleaned n × (by n ≡ k) × (slice_get cleaned n ≡ Some old) × (redirected by old ≡ node)
     kept_at k node e =
-        let at_k : option_map (redirected by) (slice_get (marked are_kept.marks cleaned) k) ≡ Some node = sym (ap (λ l. slice_get l k) are_kept.are ∙ slice_get-map (redirected by) (marked are_kept.marks cleaned) k) ∙ e in
-        let old = mapped_from (redirected by) (slice_get (marked are_kept.marks cleaned) k) node at_k in
-        let m = marked_at are_kept.marks cleaned k old.0 old.1 in
+        let at_k : option_map (redirected by) (slice_get (marked are_retained.marks cleaned) k) ≡ Some node = sym (ap (λ l. slice_get l k) are_retained.are ∙ slice_get-map (redirected by) (marked are_retained.marks cleaned) k) ∙ e in
+        let old = mapped_from (redirected by) (slice_get (marked are_retained.marks cleaned) k) node at_k in
+        let m = marked_at are_retained.marks cleaned k old.0 old.1 in
         let lt = slice_get_within cleaned m.0 old.0 m.3 in
-        (m.0, old.0, (are_kept.are_marks.exact m.0 lt).0 m.1, m.2, m.3, old.2)
+        (m.0, old.0, (are_retained.are_marks.exact m.0 lt).0 m.1, m.2, m.3, old.2)
 
-    is_marked : (n : ℕ) → Reached cleaned n → slice_get are_kept.marks n ≡ Some true
-    is_marked n r = (are_kept.are_marks.exact n (reached_low n r)).1 r
+    is_marked : (n : ℕ) → Reached cleaned n → slice_get are_retained.marks n ≡ Some true
+    is_marked n r = (are_retained.are_marks.exact n (reached_low n r)).1 r
       where
         reached_low : (n : ℕ) → Reached cleaned n → n < length cleaned
         reached_low zero at_start = omega (arith, some, long, cleaned_long)
@@ -259,5 +261,5 @@ module _ (vars : List (List ℕ)) (received : List ℕ) (nodes cleaned : List No
           let is : slice_get cleaned at_k.0 ≡ Some (Test test t.0 t.1) = at_k.4 ∙ ap Some t.2 in
           let taken = along at_k.0 0 t.0 at_k.2 (ap (λ o. slice_get (succs_of o) 0) is) in
           let other = along at_k.0 1 t.1 at_k.2 (ap (λ o. slice_get (succs_of o) 1) is) in
-          ends_apart at_k.0 test t.0 t.1 is (rank_one are_kept.marks t.0 t.1 (is_marked t.0 taken) (is_marked t.1 other) (t.3 ∙ same ∙ sym t.4));
+          ends_apart at_k.0 test t.0 t.1 is (rank_one are_retained.marks t.0 t.1 (is_marked t.0 taken) (is_marked t.1 other) (t.3 ∙ same ∙ sym t.4));
     }

@@ -12,14 +12,15 @@ use Rattle.mir_base.specs.Locksteps.{Alike}
 use Rattle.flow_graph.specs.declared.nodes.Node.{Node}
 use Rattle.flow_graph.specs.declared.nodes.Node.TheVariants.{Skip}
 use Rattle.flow_graph.specs.Graphs.{AllWithin}
+use Rattle.flow_graph.specs.MachineLaws.{graph_hands}
 use Rattle.flow_graph.specs.Machines.{node_transition, graph_code, graph_machine}
-use Rattle.flow_graph.specs.Kept.{redirected}
+use Rattle.flow_graph.specs.Retained.{redirected}
 use Rattle.flow_graph.specs.RedirectLaws.{Shifted, redirects_alike}
 use Rattle.jump_clean.specs.Chains.{Skips, AreEnds}
 use Rattle.jump_clean.specs.ChainLaws.{to_itself, to_next, end_is_one, end_later, ends_at_other, skip_or_other}
 use Rattle.jump_clean.specs.ReductionLaws.{skips_within}
 
-module _ (received : List ℕ) (nodes : List Node) (within : AllWithin nodes) (some : 0 < length nodes) (ends : List ℕ) (are : AreEnds nodes ends) (first : slice_index_or ends 0 0 ≡ 0) where
+module _ (shared : ℕ) (received : List ℕ) (nodes : List Node) (within : AllWithin nodes) (some : 0 < length nodes) (ends : List ℕ) (are : AreEnds nodes ends) (first : slice_index_or ends 0 0 ≡ 0) where
   abbrev to : ℕ → ℕ
   to n = slice_index_or ends n 0
 
@@ -27,10 +28,10 @@ module _ (received : List ℕ) (nodes : List Node) (within : AllWithin nodes) (s
   after = map (redirected to) nodes
 
   abbrev code : Code
-  code = graph_code received nodes
+  code = graph_code shared received nodes
 
   abbrev code' : Code
-  code' = graph_code received after
+  code' = graph_code shared received after
 
   after_at : (n : ℕ) → slice_get after n ≡ option_map (redirected to) (slice_get nodes n)
   after_at n = slice_get-map (redirected to) nodes n
@@ -61,7 +62,7 @@ module _ (received : List ℕ) (nodes : List Node) (within : AllWithin nodes) (s
       let lt = skips_within nodes within f.place next is in
       let e = are.are next lt in
       let there : slice_get after (to f.place) ≡ Some (Skip (to next)) = ap (slice_get after) (sym a.leads) ∙ after_at f.place ∙ ap (option_map (redirected to)) is in
-      let step : code' g ≡ Continues 0 (at (to next) f) = ap code' a.is ∙ ap (λ o. node_transition received o (at (to f.place) f)) there in
+      let step : code' g ≡ Continues 0 (at (to next) f) = ap code' a.is ∙ ap (λ o. node_transition shared received o (at (to f.place) f)) there in
       record {
         steps = 1;
         cost = 0;
@@ -102,28 +103,30 @@ module _ (received : List ℕ) (nodes : List Node) (within : AllWithin nodes) (s
   at_other z x y f g a other =
       let node : Option Node = slice_get nodes f.place in
       let own : to f.place ≡ f.place = end_is_one nodes f.place (to f.place) f.place (are.are f.place a.here) (record { leads = to_itself nodes f.place; ends = ends_at_other nodes f.place other }) in
-      let alike = redirects_alike received to Inside node (λ slot s e. within f.place slot s e) f (to f.place) in
+      let alike = redirects_alike shared received to Inside node (λ slot s e. within f.place slot s e) f (to f.place) in
       let there : slice_get after (to f.place) ≡ option_map (redirected to) node = ap (slice_get after) own ∙ after_at f.place in
-      let alike' = subst (λ o. Alike (Shifted to Inside) (node_transition received node f) (node_transition received o (at (to f.place) f))) (sym there) alike in
+      let alike' = subst (λ o. Alike (Shifted to Inside) (node_transition shared received node f) (node_transition shared received o (at (to f.place) f))) (sym there) alike in
       alike_responds (Unit {0}) Ahead (Shifted to Inside) code' ahead z x y g (code f) (code' (at (to f.place) f)) a.counted (ap code' a.is) alike'
 
   respond : (z x y : ℕ) (f g : Frame) → Ahead z x y f g → Responds (Unit {0}) Ahead code' z x y g (code f)
   respond z x y f g a = elim (skip_or_other (slice_get nodes f.place)) [
-    | inl skip ↦ subst (λ o. Responds (Unit {0}) Ahead code' z x y g (node_transition received o f)) (sym skip.1) (at_skip z x y f g skip.0 a skip.1)
+    | inl skip ↦ subst (λ o. Responds (Unit {0}) Ahead code' z x y g (node_transition shared received o f)) (sym skip.1) (at_skip z x y f g skip.0 a skip.1)
     | inr other ↦ at_other z x y f g a other
   ]
 
-  simulates : Simulates (graph_machine received nodes) (graph_machine received after) (Unit {0}) Ahead
+  simulates : Simulates (graph_machine shared received nodes) (graph_machine shared received after) (Unit {0}) Ahead
   simulates = record {
     receives = refl;
+    shared = refl;
+    hands = graph_hands shared received nodes;
     starts = λ entry is.
         let e = are.are 0 some in
         (e.leads.count, record { is = ap (λ n. at n (first_frame entry)) (sym first); counted = omega arith; here = some; leads = e.leads.skips });
     responds = respond;
   }
 
-  pub ends_same : UnitSame (graph_machine received nodes) (graph_machine received after)
+  pub ends_same : UnitSame (graph_machine shared received nodes) (graph_machine shared received after)
   ends_same = simulated_same _ _ (Unit {0}) Ahead simulates
 
-  pub ends_cheaper : UnitCheaper (graph_machine received nodes) (graph_machine received after)
+  pub ends_cheaper : UnitCheaper (graph_machine shared received nodes) (graph_machine shared received after)
   ends_cheaper = simulated_cheaper _ _ (Unit {0}) Ahead simulates tt

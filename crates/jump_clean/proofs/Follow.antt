@@ -6,7 +6,7 @@ use Rattle.std.proofs.lemmas.Bool.{cases_lt, cases_eq}
 use Rattle.std.proofs.lemmas.Option.{same_Some, slice_get_within, slice_get-get_or}
 use Rattle.mir_base.specs.Shapes.{AllBelow}
 use Rattle.flow_graph.specs.declared.nodes.Node.{Node}
-use Rattle.flow_graph.specs.declared.nodes.Node.TheVariants.{Start, Skip, Assign, Print, Call, Test, Return}
+use Rattle.flow_graph.specs.declared.nodes.Node.TheVariants.{Start, Skip, Assign, Print, Guard, Call, Test, Return}
 use Rattle.flow_graph.specs.Graphs.{AllWithin}
 use Rattle.jump_clean.specs.declared.chains.ChainPlace.{ChainPlace}
 use Rattle.jump_clean.specs.declared.chains.ChainPlace.TheVariants.{Nothing, InChain, End}
@@ -59,6 +59,7 @@ onward_is (Skip s) (End x) next e = cc
 onward_is (Start s) found next e = cc
 onward_is (Assign x rhs s) found next e = cc
 onward_is (Print a s) found next e = cc
+onward_is (Guard x g s) found next e = cc
 onward_is (Call into unit operands s) found next e = cc
 onward_is (Test test taken other) found next e = cc
 onward_is (Return a) found next e = cc

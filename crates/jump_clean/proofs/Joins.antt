@@ -8,7 +8,7 @@ use Rattle.std.proofs.lemmas.Option.{same_Some, slice_get_within, slice_get-get_
 use Rattle.mir_base.specs.declared.instructions.Test as tests
 use Rattle.mir_base.specs.Shapes.{AllBelow}
 use Rattle.flow_graph.specs.declared.nodes.Node.{Node}
-use Rattle.flow_graph.specs.declared.nodes.Node.TheVariants.{Start, Skip, Assign, Print, Call, Test, Return}
+use Rattle.flow_graph.specs.declared.nodes.Node.TheVariants.{Start, Skip, Assign, Print, Guard, Call, Test, Return}
 use Rattle.flow_graph.specs.Graphs.{AllWithin, succs_of}
 use Rattle.jump_clean.specs.Chains.{Skips}
 use Rattle.jump_clean.specs.Reductions.{IsReduction, AreReduced}
@@ -45,6 +45,7 @@ useless_is of (Start s) taken e = cc
 useless_is of (Skip s) taken e = cc
 useless_is of (Assign x rhs s) taken e = cc
 useless_is of (Print a s) taken e = cc
+useless_is of (Guard x g s) taken e = cc
 useless_is of (Call into unit operands s) taken e = cc
 useless_is of (Return a) taken e = cc
 useless_is of (Test test s other) taken e = by_test (eqb (class of s) (class of other)) refl e
@@ -66,6 +67,7 @@ fewer_tests (Start s ∷ nodes) zero test taken other e = cc
 fewer_tests (Skip s ∷ nodes) zero test taken other e = cc
 fewer_tests (Assign x rhs s ∷ nodes) zero test taken other e = cc
 fewer_tests (Print a s ∷ nodes) zero test taken other e = cc
+fewer_tests (Guard x g s ∷ nodes) zero test taken other e = cc
 fewer_tests (Call into unit operands s ∷ nodes) zero test taken other e = cc
 fewer_tests (Test t a b ∷ nodes) zero test taken other e = refl
 fewer_tests (Return a ∷ nodes) zero test taken other e = cc
@@ -73,6 +75,7 @@ fewer_tests (Start s ∷ nodes) (suc n) test taken other e = fewer_tests nodes n
 fewer_tests (Skip s ∷ nodes) (suc n) test taken other e = fewer_tests nodes n test taken other e
 fewer_tests (Assign x rhs s ∷ nodes) (suc n) test taken other e = fewer_tests nodes n test taken other e
 fewer_tests (Print a s ∷ nodes) (suc n) test taken other e = fewer_tests nodes n test taken other e
+fewer_tests (Guard x g s ∷ nodes) (suc n) test taken other e = fewer_tests nodes n test taken other e
 fewer_tests (Call into unit operands s ∷ nodes) (suc n) test taken other e = fewer_tests nodes n test taken other e
 fewer_tests (Test t a b ∷ nodes) (suc n) test taken other e = ap suc (fewer_tests nodes n test taken other e)
 fewer_tests (Return a ∷ nodes) (suc n) test taken other e = fewer_tests nodes n test taken other e
@@ -322,6 +325,7 @@ skip_succ_is (Start s) next e = cc
 skip_succ_is (Skip s) next e = let same : s ≡ next = cc in ap Skip same
 skip_succ_is (Assign x rhs s) next e = cc
 skip_succ_is (Print a s) next e = cc
+skip_succ_is (Guard x g s) next e = cc
 skip_succ_is (Call into unit operands s) next e = cc
 skip_succ_is (Test test taken other) next e = cc
 skip_succ_is (Return a) next e = cc

@@ -4,9 +4,9 @@ use Rattle.std.proofs.lemmas.Bool.{cases_lt}
 use Rattle.std.proofs.lemmas.List.{length-replicate, length-set}
 use Rattle.std.proofs.lemmas.Option.{get_or_from_slice_get, slice_get_within}
 use Rattle.flow_graph.specs.declared.nodes.Node.{Node}
-use Rattle.flow_graph.specs.declared.nodes.Node.TheVariants.{Start, Skip, Assign, Print, Call, Test, Return}
+use Rattle.flow_graph.specs.declared.nodes.Node.TheVariants.{Start, Skip, Assign, Print, Guard, Call, Test, Return}
 use Rattle.flow_graph.specs.MarkLaws.{marked_before, unmarked_set}
-use Rattle.flow_graph.specs.Walks.{unmarked}
+use Rattle.flow_graph.specs.ReachWalks.{unmarked}
 use Rattle.jump_clean.specs.Chains.{Skips, SkipsTo, EndsChains, IsEnd}
 use Rattle.flow_graph.specs.Numbering.{IsIn}
 
@@ -81,6 +81,7 @@ skip_or_other (Some (Start s)) = inr (λ next e. cc)
 skip_or_other (Some (Skip s)) = inl (s, refl)
 skip_or_other (Some (Assign x rhs s)) = inr (λ next e. cc)
 skip_or_other (Some (Print a s)) = inr (λ next e. cc)
+skip_or_other (Some (Guard x g s)) = inr (λ next e. cc)
 skip_or_other (Some (Call into unit operands s)) = inr (λ next e. cc)
 skip_or_other (Some (Test test taken other)) = inr (λ next e. cc)
 skip_or_other (Some (Return a)) = inr (λ next e. cc)

@@ -4,7 +4,7 @@ use Rattle.node_list.specs.Lists.{list_at}
 use Rattle.mir_base.specs.Shapes.{AllBelow}
 use Rattle.jump_clean.specs.declared.classes.Classes.{Classes}
 use Rattle.flow_graph.specs.Numbering.{IsIn}
-use Rattle.flow_graph.specs.Tables.{number_at}
+use Rattle.flow_graph.specs.NumberTables.{number_at}
 
 -- the class of a node
 abbrev pub class : List ℕ → ℕ → ℕ

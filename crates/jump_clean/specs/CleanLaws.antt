@@ -3,7 +3,7 @@ use Rattle.std.proofs.Common.{◌≡◌, ℕ, List, map, slice_index_or, sym, ap
 use Rattle.std.proofs.lemmas.List.{ext_get_or}
 use Rattle.flow_graph.specs.declared.nodes.Node.{Node}
 use Rattle.flow_graph.specs.Graphs.{GraphShape, AllWithin}
-use Rattle.flow_graph.specs.Kept.{redirected, IsMade}
+use Rattle.flow_graph.specs.Retained.{redirected, IsMade}
 use Rattle.flow_graph.specs.OneLaws.{made_is_one}
 use Rattle.jump_clean.specs.Chains.{AreEnds}
 use Rattle.jump_clean.specs.Cleaned.{AreCleaned, IsClean}
@@ -26,4 +26,4 @@ cleaned_are_one nodes a b within p q =
 pub clean_is_one : (graph a b : GraphShape) → AllWithin graph.nodes → IsClean graph a → IsClean graph b → a ≡ b
 clean_is_one graph a b within p q =
     let nodes : p.nodes ≡ q.nodes = cleaned_are_one graph.nodes p.nodes q.nodes within p.are_cleaned q.are_cleaned in
-    made_is_one graph.name graph.vars graph.received q.nodes a b (subst (λ l. IsMade graph.name graph.vars graph.received l a) nodes p.made) q.made
+    made_is_one graph.name graph.shared graph.vars graph.received q.nodes a b (subst (λ l. IsMade graph.name graph.shared graph.vars graph.received l a) nodes p.made) q.made

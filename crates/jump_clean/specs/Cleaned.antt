@@ -4,7 +4,7 @@ use Rattle.mir_base.specs.declared.instructions.Test as tests
 use Rattle.flow_graph.specs.declared.nodes.Node.{Node}
 use Rattle.flow_graph.specs.declared.nodes.Node.TheVariants.{Skip, Test}
 use Rattle.flow_graph.specs.Graphs.{GraphShape}
-use Rattle.flow_graph.specs.Kept.{redirected, IsMade}
+use Rattle.flow_graph.specs.Retained.{redirected, IsMade}
 use Rattle.jump_clean.specs.Chains.{AreEnds}
 use Rattle.jump_clean.specs.Reductions.{AreReduced}
 
@@ -20,7 +20,7 @@ pub record AreCleaned (nodes cleaned : List Node) : Type 0 where
 pub record IsClean (graph cleaned : GraphShape) : Type 0 where
   pub nodes : List Node
   pub are_cleaned : AreCleaned graph.nodes nodes
-  pub made : IsMade graph.name graph.vars graph.received nodes cleaned
+  pub made : IsMade graph.name graph.shared graph.vars graph.received nodes cleaned
 
 -- there is no other such graph
 abbrev pub IsOnlyClean : GraphShape → GraphShape → Type 0
@@ -29,4 +29,5 @@ IsOnlyClean graph cleaned = (other : GraphShape) → IsClean graph other → oth
 -- each Skip is its own successor, and no Test has two equal successors
 pub record HasCleanJumps (nodes : List Node) : Type 0 where
   pub skips : (n next : ℕ) → slice_get nodes n ≡ Some (Skip next) → next ≡ n
-  pub tests_differ : (n : ℕ) (test : tests.Test) (taken other : ℕ) → slice_get nodes n ≡ Some (Test test taken other) → taken ≢ other
+  pub tests_differ : (n : ℕ) (test : tests.Test) (taken other : ℕ) → slice_get nodes n ≡ Some (Test test taken other)
+      → taken ≢ other

@@ -10,11 +10,11 @@ use Rattle.mir_base.specs.declared.instructions.Rhs.{Rhs}
 use Rattle.mir_base.specs.declared.instructions.Rhs.TheVariants.{Binary}
 use Rattle.mir_base.specs.declared.operators.Op.{Op}
 use Rattle.flow_graph.specs.declared.nodes.Node.{Node}
-use Rattle.flow_graph.specs.declared.nodes.Node.TheVariants.{Start, Skip, Assign, Print, Call, Test, Return}
-use Rattle.flow_graph.specs.Dividing.{DividesAt, DividesStay}
-use Rattle.flow_graph.specs.DividingLaws.{kept_stay, stay_in_place, stay_trans}
+use Rattle.flow_graph.specs.declared.nodes.Node.TheVariants.{Start, Skip, Assign, Print, Guard, Call, Test, Return}
+use Rattle.flow_graph.specs.Dividing.{DividesAt, DividesUnchanged}
+use Rattle.flow_graph.specs.DividingLaws.{retained_unchanged, unchanged_in_place, unchanged_trans}
 use Rattle.flow_graph.specs.Graphs.{AllWithin, GraphShape, IsGraph, Reached, along, at_start, succs_of}
-use Rattle.flow_graph.specs.Kept.{redirected}
+use Rattle.flow_graph.specs.Retained.{redirected}
 use Rattle.jump_clean.specs.Chains.{IsEnd, SkipsTo}
 use Rattle.jump_clean.specs.ChainLaws.{end_is_one, end_later, ends_at_other, skip_or_other, to_itself, to_next}
 use Rattle.jump_clean.specs.Cleaned.{AreCleaned, IsClean}
@@ -173,20 +173,21 @@ module _ (nodes cleaned : List Node) (within : AllWithin nodes) (start : (s : �
           was_before (inl same) = same
           was_before (inr r) = let both : Some (Skip r.1) ≡ Some (Assign y other s) = sym r.4 ∙ at in cc
       by_node (Some (Print a s)) at e = cc
+      by_node (Some (Guard x g s)) at e = cc
       by_node (Some (Call into unit operands s)) at e = cc
       by_node (Some (Test test taken other)) at e = cc
       by_node (Some (Return a)) at e = cc
 
--- each dividing assignment stays at its number, and is reached, so it is kept
-pub clean_stay : (graph cleaned : GraphShape) → IsGraph graph.vars graph.received graph.nodes → IsClean graph cleaned → DividesStay graph.nodes cleaned.nodes
-clean_stay graph cleaned is clean = stay_trans graph.nodes clean.nodes cleaned.nodes
-    (stay_in_place graph.nodes clean.nodes (λ n x op left right next may_trap here. (_, assign_cleaned graph.nodes clean.nodes within is.can.start clean.are_cleaned n x (Binary op left right) next here)))
-    (kept_stay clean.nodes cleaned.nodes clean.made.nodes_are reached)
+-- each dividing assignment is unchanged at its number, and is reached, so it is kept
+pub clean_unchanged : (graph cleaned : GraphShape) → IsGraph graph.vars graph.received graph.nodes → IsClean graph cleaned → DividesUnchanged graph.nodes cleaned.nodes
+clean_unchanged graph cleaned is clean = unchanged_trans graph.nodes clean.nodes cleaned.nodes
+    (unchanged_in_place graph.nodes clean.nodes (λ n x op left right next may_trap here. (_, assign_cleaned graph.nodes clean.nodes within is.can.start clean.are_cleaned n x (Binary op left right) next here)))
+    (retained_unchanged clean.nodes cleaned.nodes clean.made.nodes_are reached)
   where
     within : AllWithin graph.nodes
     within m slot s edge = (is.can.succs m slot s edge).1
 
     reached : (n x : ℕ) (op : Op) → DividesAt clean.nodes n x op → Reached clean.nodes n
     reached n x op at =
-        let was = assign_was graph.nodes clean.nodes within is.can.start clean.are_cleaned n x (Binary op at.left at.right) at.next at.is in
+        let was = assign_was graph.nodes clean.nodes within is.can.start clean.are_cleaned n x (Binary op at.left at.right) at.of.next at.of.is in
         assign_reached graph.nodes clean.nodes within is.can.start clean.are_cleaned n x (Binary op at.left at.right) was.0 was.1 (is.reached n (slice_get_within graph.nodes n _ was.1))

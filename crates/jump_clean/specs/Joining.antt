@@ -4,7 +4,7 @@ use Rattle.std.specs.Prelude.{◌≡◌, ℕ, suc, ◌+◌, ◌<◌, if◌then�
 use Rattle.mir_base.specs.declared.instructions.Test as tests
 use Rattle.mir_base.specs.Shapes.{AllBelow}
 use Rattle.flow_graph.specs.declared.nodes.Node.{Node}
-use Rattle.flow_graph.specs.declared.nodes.Node.TheVariants.{Start, Skip, Assign, Print, Call, Test, Return}
+use Rattle.flow_graph.specs.declared.nodes.Node.TheVariants.{Start, Skip, Assign, Print, Guard, Call, Test, Return}
 use Rattle.flow_graph.specs.declared.edges.Edge.{Edge}
 use Rattle.flow_graph.specs.Edges.{EdgesShape, edges_of, preds_among}
 use Rattle.flow_graph.specs.Graphs.{AllWithin}
@@ -67,6 +67,7 @@ tests_in (Start s ∷ nodes) = tests_in nodes
 tests_in (Skip s ∷ nodes) = tests_in nodes
 tests_in (Assign x rhs s ∷ nodes) = tests_in nodes
 tests_in (Print a s ∷ nodes) = tests_in nodes
+tests_in (Guard x g s ∷ nodes) = tests_in nodes
 tests_in (Call into unit operands s ∷ nodes) = tests_in nodes
 tests_in (Test test taken other ∷ nodes) = suc (tests_in nodes)
 tests_in (Return a ∷ nodes) = tests_in nodes

@@ -24,7 +24,8 @@ pub record IsReduction (nodes : List Node) (n : ℕ) (reduced : List Node) : Typ
 -- these nodes have become Skips in this order, the latest first
 abbrev pub AreReductions : List Node → List ℕ → List Node → Type 0
 AreReductions nodes [] reduced = reduced ≡ nodes
-AreReductions nodes (n ∷ order) reduced = (middle : List Node) × AreReductions nodes order middle × IsReduction middle n reduced
+AreReductions nodes (n ∷ order) reduced = (middle : List Node) × AreReductions nodes order middle
+    × IsReduction middle n reduced
 
 -- no such node is left
 abbrev pub NoEqualSuccessors : List Node → Type 0

@@ -1,8 +1,8 @@
 // Graphs with clean jumps.
 ghost use Rattle.std.specs.Prelude.{◌≡◌, length, map, IfOk};
 ghost use Rattle.flow_graph.specs.Graphs.{AllWithin};
-ghost use Rattle.flow_graph.specs.Kept.{redirected_by};
-ghost use Rattle.flow_graph.specs.Passes.{GraphDivides, GraphKeeps};
+ghost use Rattle.flow_graph.specs.Retained.{redirected_by};
+ghost use Rattle.flow_graph.specs.Passes.{GraphDividesUnchanged, GraphKeeps};
 ghost use Rattle.jump_clean.specs.Cleaned.{AreCleaned, HasCleanJumps, IsClean, IsOnlyClean};
 
 use crate::chains::ends;
@@ -29,8 +29,8 @@ pub fn clean(alloc: Global, graph: &Graph) -> Result<Graph, Memory>
     // it has the name of the graph, does the same, evaluates no more operators, and makes no other calls
     ensures keeps { IfOk result (GraphKeeps graph.now) }
 
-    // each dividing assignment stays
-    ensures divides { IfOk result (GraphDivides graph.now) }
+    // each dividing assignment stays as it is, with its operands
+    ensures divides { IfOk result (GraphDividesUnchanged graph.now) }
 {
     let _nodes = graph.nodes();
     let nodes = cleaned(alloc, graph)?;

@@ -12,7 +12,7 @@ use Rattle.std.proofs.lemmas.Option.{same_Some, slice_get_within}
 use Rattle.flow_graph.specs.ListLaws.{get_push, set_here, set_elsewhere}
 use Rattle.value_number.specs.declared.candidates.Candidates.{Candidates}
 use Rattle.value_number.specs.Candidates.{AreInOrder, Cover, CoverAll, IsCandidate, IsOther}
-use Rattle.value_number.specs.Table.{kept_number}
+use Rattle.value_number.specs.Table.{variable_number}
 
 -- what a list holds is its first item or stands in the rest
 contains_cons : {A : Type 0} (x : A) (xs : List A) (k : A) → Contains (x ∷ xs) k → (x ≡ k) ⊎ Contains xs k
@@ -161,9 +161,9 @@ module _ (numbers : List (Option ℕ)) (table : List Candidates) (all : CoverAll
     covers = λ number candidates here. let cover = all.covers number candidates here in record { order = cover.order; each = λ v at. cover.each v (had v number at) };
   }
     where
-      had : (v number : ℕ) → kept_number (slice_set numbers x None) v ≡ Some number → kept_number numbers v ≡ Some number
-      had v number at = elim (cases_eq v x) as (λ _. kept_number numbers v ≡ Some number) [
-        | inl same ↦ (let bad : None ≡ Some number = sym (get_or-set_same numbers x None None lt) ∙ subst (λ w. kept_number (slice_set numbers x None) w ≡ Some number) same at in cc)
+      had : (v number : ℕ) → variable_number (slice_set numbers x None) v ≡ Some number → variable_number numbers v ≡ Some number
+      had v number at = elim (cases_eq v x) as (λ _. variable_number numbers v ≡ Some number) [
+        | inl same ↦ (let bad : None ≡ Some number = sym (get_or-set_same numbers x None None lt) ∙ subst (λ w. variable_number (slice_set numbers x None) w ≡ Some number) same at in cc)
         | inr apart ↦ sym (get_or-set_other numbers x v None None apart) ∙ at
       ]
 
@@ -186,10 +186,10 @@ module _ (numbers : List (Option ℕ)) (table : List Candidates) (all : CoverAll
     };
   }
     where
-      had : (v k : ℕ) → v ≢ x → kept_number (slice_set numbers x (Some number)) v ≡ Some k → kept_number numbers v ≡ Some k
+      had : (v k : ℕ) → v ≢ x → variable_number (slice_set numbers x (Some number)) v ≡ Some k → variable_number numbers v ≡ Some k
       had v k apart at = sym (get_or-set_other numbers x v (Some number) None apart) ∙ at
 
-      given : (v k : ℕ) → v ≡ x → kept_number (slice_set numbers x (Some number)) v ≡ Some k → number ≡ k
-      given v k same at = same_Some _ _ (sym (get_or-set_same numbers x (Some number) None lt) ∙ subst (λ w. kept_number (slice_set numbers x (Some number)) w ≡ Some k) same at)
+      given : (v k : ℕ) → v ≡ x → variable_number (slice_set numbers x (Some number)) v ≡ Some k → number ≡ k
+      given v k same at = same_Some _ _ (sym (get_or-set_same numbers x (Some number) None lt) ∙ subst (λ w. variable_number (slice_set numbers x (Some number)) w ≡ Some k) same at)
 
 -- ---- the first variable with a number

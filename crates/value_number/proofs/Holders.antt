@@ -12,6 +12,7 @@ use Rattle.mir_base.specs.declared.operators.Op.{Op}
 use Rattle.mir_base.specs.declared.operators.UnOp.{UnOp}
 use Rattle.mir_base.specs.Expressions.{divides}
 use Rattle.mir_base.specs.Shapes.{AllDiffer}
+use Rattle.key_table.specs.Keys.{IsWithKey}
 use Rattle.flow_graph.specs.declared.nodes.Node.TheVariants.{Assign, Call}
 use Rattle.value_number.specs.declared.finding.NewTerm.{NewTerm}
 use Rattle.value_number.specs.declared.finding.AtNode.{AtNode}
@@ -19,9 +20,9 @@ use Rattle.value_number.specs.declared.terms.TermKey.{TermKey}
 use Rattle.value_number.specs.declared.terms.TermKey.TheVariants as keys
 use Rattle.value_number.specs.Terms.{Term, Terms, Initial, Opaque, Number, UnaryOf, BinaryOf, with_term, assigned_term, rhs_term, movable_rhs_term}
 use Rattle.value_number.specs.Numbered.{IsHolder}
-use Rattle.value_number.specs.Table.{Stands, Stay, Represent, RepresentsAt, kept_number}
-use Rattle.value_number.specs.Walks.{Finds}
-use Rattle.value_number.proofs.Stands.{one_term, one_number, represent_on}
+use Rattle.value_number.specs.Table.{StandOn, Stands, Stay, Represent, RepresentsAt, variable_number}
+use Rattle.value_number.specs.TermWalks.{Finds}
+use Rattle.value_number.proofs.Stands.{all_with, one_term, one_number, represent_on}
 
 -- ---- the holder of a term
 
@@ -39,29 +40,29 @@ binary_computed op a b v root e = cc
 
 module _ (table : List TermKey) (differ : AllDiffer table) (numbers : List (Option ℕ)) (root : ℕ) (terms : Terms) (represent : Represent table numbers root terms) (t : Term) (number : ℕ) (stands : Stands table number t) where
   -- a variable with the term has its number
-  has_number : IsComputed t → (v : ℕ) → v < length numbers → terms v ≡ t → kept_number numbers v ≡ Some number
-  has_number computed v lt same = by (kept_number numbers v) refl (represent.each v lt)
+  has_number : IsComputed t → (v : ℕ) → v < length numbers → terms v ≡ t → variable_number numbers v ≡ Some number
+  has_number computed v lt same = by (variable_number numbers v) refl (represent.each v lt)
     where
-      by : (o : Option ℕ) → kept_number numbers v ≡ o → RepresentsAt table root v o (terms v) → kept_number numbers v ≡ Some number
+      by : (o : Option ℕ) → variable_number numbers v ≡ o → RepresentsAt table root v o (terms v) → variable_number numbers v ≡ Some number
       by None e r = absurd (computed v root (sym same ∙ r))
       by (Some k) e r = e ∙ ap Some (one_number table differ t k number (subst (Stands table k) same r) stands)
 
   -- and a variable with the number has the term
-  number_has : (v : ℕ) → v < length numbers → kept_number numbers v ≡ Some number → terms v ≡ t
+  number_has : (v : ℕ) → v < length numbers → variable_number numbers v ≡ Some number → terms v ≡ t
   number_has v lt e = one_term table (terms v) t number (subst (λ o. RepresentsAt table root v o (terms v)) e (represent.each v lt)) stands
 
   -- so the first with the number is the first with the term
-  pub first_holds : IsComputed t → (r : Option ℕ) → IfSome r (λ v. v < length numbers) → IfSome r (λ v. kept_number numbers v ≡ Some number) → IfSome r (λ v. (u : ℕ) → u < v → kept_number numbers u ≢ Some number)
-      → IfNone r ((u : ℕ) → u < length numbers → kept_number numbers u ≢ Some number) → IsHolder (length numbers) terms (Some t) r
+  pub first_holds : IsComputed t → (r : Option ℕ) → IfSome r (λ v. v < length numbers) → IfSome r (λ v. variable_number numbers v ≡ Some number) → IfSome r (λ v. (u : ℕ) → u < v → variable_number numbers u ≢ Some number)
+      → IfNone r ((u : ℕ) → u < length numbers → variable_number numbers u ≢ Some number) → IsHolder (length numbers) terms (Some t) r
   first_holds computed None within has first none = λ v lt same. none v lt (has_number computed v lt same)
   first_holds computed (Some v) within has first none = (within, number_has v within has, λ u lt same. first u lt (has_number computed u (let l : v < length numbers = within in omega (arith, lt)) same))
 
 -- the premises on the first variable with a number
 pub record IsFirstWith (numbers : List (Option ℕ)) (number : ℕ) (r : Option ℕ) : Type 0 where
   pub within : IfSome r (λ v. v < length numbers)
-  pub has : IfSome r (λ v. kept_number numbers v ≡ Some number)
-  pub first : IfSome r (λ v. (u : ℕ) → u < v → kept_number numbers u ≢ Some number)
-  pub none : IfNone r ((u : ℕ) → u < length numbers → kept_number numbers u ≢ Some number)
+  pub has : IfSome r (λ v. variable_number numbers v ≡ Some number)
+  pub first : IfSome r (λ v. (u : ℕ) → u < v → variable_number numbers u ≢ Some number)
+  pub none : IfNone r ((u : ℕ) → u < length numbers → variable_number numbers u ≢ Some number)
 
 -- for a unary right side
 pub unary_holds : (numbers : List (Option ℕ)) (number : ℕ) (r : Option ℕ) (op : UnOp) (a : Operand) → IsFirstWith numbers number r → (table : List TermKey) (root : ℕ) (terms : Terms) → AllDiffer table
@@ -82,7 +83,7 @@ binary_holds numbers number r op a b undivided f table root terms differ represe
 -- a number that stands for a term is that of an entry
 stands_within : (table : List TermKey) (n : ℕ) (t : Term) → Stands table n t → n < length table
 stands_within table n (Initial v root) s = slice_get_within table n _ s
-stands_within table n (Opaque k) s = slice_get_within table n _ s
+stands_within table n (Opaque k x) s = slice_get_within table n _ s
 stands_within table n (Number c) s = slice_get_within table n _ s
 stands_within table n (UnaryOf op t) s = slice_get_within table n _ s.1
 stands_within table n (BinaryOf op t u) s = slice_get_within table n _ s.2
@@ -109,10 +110,10 @@ module _ (old new : List TermKey) (stay : Stay old new) (differ : AllDiffer new)
 pub represent_changed : (table : List TermKey) (numbers : List (Option ℕ)) (root : ℕ) (terms : Terms) (x number : ℕ) (t : Term) → Represent table numbers root terms → x < length numbers → Stands table number t → Represent table (slice_set numbers x (Some number)) root (with_term x t terms)
 represent_changed table numbers root terms x number t represent lt stands = record { each = λ v v_lt. by v (subst (λ n. v < n) (length-set numbers x (Some number)) v_lt) (nat_eq v x) refl }
   where
-    by : (v : ℕ) → v < length numbers → (b : Bool) → nat_eq v x ≡ b → RepresentsAt table root v (kept_number (slice_set numbers x (Some number)) v) (if b then t else terms v)
+    by : (v : ℕ) → v < length numbers → (b : Bool) → nat_eq v x ≡ b → RepresentsAt table root v (variable_number (slice_set numbers x (Some number)) v) (if b then t else terms v)
     by v v_lt true e =
         let same : v ≡ x = eqb-true v x e in
-        subst (λ o. RepresentsAt table root v o t) (sym (ap (kept_number (slice_set numbers x (Some number))) same ∙ get_or-set_same numbers x (Some number) None lt)) stands
+        subst (λ o. RepresentsAt table root v o t) (sym (ap (variable_number (slice_set numbers x (Some number))) same ∙ get_or-set_same numbers x (Some number) None lt)) stands
     by v v_lt false e =
         let other : v ≢ x = λ same. false≢true (sym e ∙ eq-eqb v x same) in
         subst (λ o. RepresentsAt table root v o (terms v)) (sym (get_or-set_other numbers x v (Some number) None other)) (represent.each v v_lt)
@@ -126,26 +127,28 @@ abbrev to_number : ℕ → ℕ → Option NewTerm
 to_number x number = Some (record { variable = x; number = number })
 
 -- a call's result has a leaf of its own
-pub finds_call : (old new : List TermKey) (numbers : List (Option ℕ)) (root n x unit next number : ℕ) (operands : List Operand) (found : AtNode) → Stay old new → x < length numbers → slice_get new number ≡ Some (keys.Opaque n)
+pub finds_call : (old new : List TermKey) (numbers : List (Option ℕ)) (root n x unit next number : ℕ) (operands : List Operand) (found : AtNode) → Stay old new → IsWithKey old (keys.Opaque n x) new → x < length numbers → slice_get new number ≡ Some (keys.Opaque n x)
     → found.holder ≡ None → found.change ≡ to_number x number → Finds old new numbers root n (Call (Some x) unit operands next) found
-finds_call old new numbers root n x unit next number operands found stay lt here holder change = subst (Finds old new numbers root n (Call (Some x) unit operands next)) (same_found found None (to_number x number) holder change) (record {
+finds_call old new numbers root n x unit next number operands found stay put lt here holder change = subst (Finds old new numbers root n (Call (Some x) unit operands next)) (same_found found None (to_number x number) holder change) (record {
   stay = stay;
   within = lt;
   holder = λ terms represent. refl;
-  change = λ terms represent other. represent_changed new numbers root terms x number (Opaque n) (represent_on old new numbers root terms stay represent) lt here;
+  change = λ terms represent other. represent_changed new numbers root terms x number (Opaque n x) (represent_on old new numbers root terms stay represent) lt here;
   start = λ is. cc;
+  all = λ terms represent. all_with old (keys.Opaque n x) new (Opaque n x) put (λ k at. at);
 })
 
 -- an assignment whose right side has this term
-pub finds_assigned : (old new : List TermKey) (numbers : List (Option ℕ)) (root n x next number : ℕ) (rhs : Rhs) (holder : Option ℕ) (found : AtNode) → Stay old new → x < length numbers
-    → ((terms : Terms) → Represent old numbers root terms → Stands new number (assigned_term n terms rhs)) → ((terms : Terms) → Represent old numbers root terms → IsHolder (length numbers) terms (movable_rhs_term terms rhs) holder)
+pub finds_assigned : (old new : List TermKey) (numbers : List (Option ℕ)) (root n x next number : ℕ) (rhs : Rhs) (holder : Option ℕ) (found : AtNode) → Stay old new → StandOn old numbers root new → x < length numbers
+    → ((terms : Terms) → Represent old numbers root terms → Stands new number (assigned_term n x terms rhs)) → ((terms : Terms) → Represent old numbers root terms → IsHolder (length numbers) terms (movable_rhs_term terms rhs) holder)
     → found.holder ≡ holder → found.change ≡ to_number x number → Finds old new numbers root n (Assign x rhs next) found
-finds_assigned old new numbers root n x next number rhs holder found stay lt stands holds is_holder change = subst (Finds old new numbers root n (Assign x rhs next)) (same_found found holder (to_number x number) is_holder change) (record {
+finds_assigned old new numbers root n x next number rhs holder found stay all lt stands holds is_holder change = subst (Finds old new numbers root n (Assign x rhs next)) (same_found found holder (to_number x number) is_holder change) (record {
   stay = stay;
   within = lt;
   holder = holds;
-  change = λ terms represent other. represent_changed new numbers root terms x number (assigned_term n terms rhs) (represent_on old new numbers root terms stay represent) lt (stands terms represent);
+  change = λ terms represent other. represent_changed new numbers root terms x number (assigned_term n x terms rhs) (represent_on old new numbers root terms stay represent) lt (stands terms represent);
   start = λ is. cc;
+  all = all;
 })
 
 -- a right side that divides has no holder

@@ -4,7 +4,8 @@ pub mod Whole
 pub mod Stands
 pub mod Covers
 pub mod Holders
-pub mod Walks
+pub mod TermWalks
 pub mod Unvisited
 pub mod Weights
+pub mod Undoing
 pub mod Pushes

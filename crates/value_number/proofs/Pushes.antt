@@ -10,7 +10,7 @@ use Rattle.flow_graph.specs.ListLaws.{get_left_some, get_push, get_seam, take_on
 use Rattle.value_number.specs.declared.walk.Step.{Step}
 use Rattle.value_number.specs.declared.walk.Step.TheVariants.{Visit}
 use Rattle.value_number.specs.Numbered.{AreNumbered, BecomeNumbered, numbered_node}
-use Rattle.value_number.specs.Walks.{AreHolders, VisitRoots, with_root}
+use Rattle.value_number.specs.TermWalks.{AreHolders, VisitRoots, with_root}
 use Rattle.std.specs.Prelude.{Option, None}
 
 -- the list of the first n values of a function
@@ -68,7 +68,7 @@ all_become nodes holders n result whole all = record {
 }
 
 -- nodes that become what they are by their holders are numbered
-pub become_numbered : (graph : GraphShape) (holders : List (Option ℕ)) (result : List Node) → AreHolders graph holders → BecomeNumbered graph.nodes holders result → AreNumbered (length graph.vars) graph.nodes result
+pub become_numbered : (graph : GraphShape) (holders : List (Option ℕ)) (result : List Node) → AreHolders graph holders → BecomeNumbered graph.nodes holders result → AreNumbered graph.shared (length graph.vars) graph.nodes result
 become_numbered graph holders result held become = record {
   long = become.long;
   each = λ n node here. record { holder = slice_index_or holders n None; holds = held.each n node here; is = become.are n node here };

@@ -3,8 +3,8 @@ use Rattle.std.proofs.Common.{◌≡◌, ℕ, Bool, true, false, if◌then◌els
 use Rattle.flow_graph.specs.MarkLaws.{marked_before}
 use Rattle.value_number.specs.declared.walk.Step.{Step}
 use Rattle.value_number.specs.declared.walk.Step.TheVariants.{Visit, Restore}
-use Rattle.value_number.specs.Walks.{IsToVisit, IsUnvisited, LeavesUnvisited, VisitRoots, listed_after, steps_after}
-use Rattle.value_number.proofs.Walks.{no_visit, set_again, visit_left, visit_put, visit_stays}
+use Rattle.value_number.specs.TermWalks.{IsToVisit, IsUnvisited, LeavesUnvisited, VisitRoots, listed_after, steps_after}
+use Rattle.value_number.proofs.TermWalks.{no_visit, set_again, visit_left, visit_put, visit_stays}
 
 -- once a number is restored
 pub restore_leaves : (v : ℕ) (old : Option ℕ) (listed : List Bool) (steps : List Step) → LeavesUnvisited (Restore v old) listed steps listed steps
@@ -25,9 +25,9 @@ several_listed n root (s ∷ succs) listed steps unvisited =
     several_listed n root succs (slice_set listed s true) (if slice_index_or listed s false then steps else steps ++ Visit s root ∷ []) (one_listed n root s listed steps unvisited (slice_index_or listed s false) refl)
 
 -- so once a node has been visited, as the code does it
-pub visit_leaves : (n root : ℕ) (succs : List ℕ) (listed listed' : List Bool) (steps more changed steps' : List Step) → changed ≡ steps ++ more → listed' ≡ listed_after succs listed → steps' ≡ steps_after root succs listed changed → LeavesUnvisited (Visit n root) listed steps listed' steps'
-visit_leaves n root succs listed listed' steps more changed steps' changed_are listed_are steps_are = λ m other unvisited.
-    let kept : IsUnvisited m listed changed = λ at. subst (IsToVisit m) (sym changed_are) (elim (visit_left m n root steps (unvisited at)) as (λ _. IsToVisit m (steps ++ more)) [ inl left ↦ visit_stays m steps more left | inr same ↦ absurd (other same) ]) in
+pub visit_leaves : (n root : ℕ) (succs : List ℕ) (listed listed' : List Bool) (steps changed steps' : List Step) → ((m : ℕ) → IsToVisit m steps → IsToVisit m changed) → listed' ≡ listed_after succs listed → steps' ≡ steps_after root succs listed changed → LeavesUnvisited (Visit n root) listed steps listed' steps'
+visit_leaves n root succs listed listed' steps changed steps' stay listed_are steps_are = λ m other unvisited.
+    let kept : IsUnvisited m listed changed = λ at. elim (visit_left m n root steps (unvisited at)) as (λ _. IsToVisit m changed) [ inl left ↦ stay m left | inr same ↦ absurd (other same) ] in
     subst (IsUnvisited m listed') (sym steps_are) (subst (λ l. IsUnvisited m l (steps_after root succs listed changed)) (sym listed_are) (several_listed m root succs listed changed kept))
 
 -- before the first step no node has been visited

@@ -3,7 +3,7 @@ use Rattle.std.proofs.Common.{◌≡◌, ℕ, ◌<◌, List, length, slice_get, 
 use Rattle.std.proofs.lemmas.Option.{same_Some, slice_get_within}
 use Rattle.mir_base.specs.Shapes.{AllBelow}
 use Rattle.flow_graph.specs.declared.nodes.Node.{Node}
-use Rattle.flow_graph.specs.declared.nodes.Node.TheVariants.{Start, Skip, Assign, Print, Call, Test, Return}
+use Rattle.flow_graph.specs.declared.nodes.Node.TheVariants.{Start, Skip, Assign, Print, Guard, Call, Test, Return}
 use Rattle.flow_graph.specs.Calls.{NodesCall, node_call}
 use Rattle.flow_graph.specs.Graphs.{AllReached, CanMake, Reached, at_start, along, node_vars}
 use Rattle.flow_graph.specs.ListLaws.{some_at}
@@ -20,6 +20,7 @@ becomes_start (Start next) (Some v) s e = e
 becomes_start (Skip next) (Some v) s e = e
 becomes_start (Assign x rhs next) (Some v) s e = cc
 becomes_start (Print a next) (Some v) s e = e
+becomes_start (Guard test number next) (Some v) s e = e
 becomes_start (Call into unit operands next) (Some v) s e = e
 becomes_start (Test test taken other) (Some v) s e = e
 becomes_start (Return a) (Some v) s e = e
@@ -45,13 +46,14 @@ becomes_below count (Start next) (Some v) low below = below
 becomes_below count (Skip next) (Some v) low below = below
 becomes_below count (Assign x rhs next) (Some v) low below = (below.0, (low v refl, tt))
 becomes_below count (Print a next) (Some v) low below = below
+becomes_below count (Guard test number next) (Some v) low below = below
 becomes_below count (Call into unit operands next) (Some v) low below = below
 becomes_below count (Test test taken other) (Some v) low below = below
 becomes_below count (Return a) (Some v) low below = below
 
 -- ---- all nodes
 
-module _ (count : ℕ) (nodes result : List Node) (numbered : AreNumbered count nodes result) where
+module _ (shared count : ℕ) (nodes result : List Node) (numbered : AreNumbered shared count nodes result) where
   -- a node of the result was some node
   record Becomes (n : ℕ) (made : Node) : Type 0 where
     node : Node
@@ -80,19 +82,19 @@ module _ (count : ℕ) (nodes result : List Node) (numbered : AreNumbered count 
   -- every node is reached where it was
   reaches : (n : ℕ) → Reached nodes n → Reached result n
   reaches n at_start = at_start
-  reaches n (along m slot s reached edge) = along m slot s (reaches m reached) (ap (λ l. slice_get l slot) (same_succs count nodes result numbered m) ∙ edge)
+  reaches n (along m slot s reached edge) = along m slot s (reaches m reached) (ap (λ l. slice_get l slot) (same_succs shared count nodes result numbered m) ∙ edge)
 
   -- so all are, where all were
   pub numbered_reached : AllReached nodes → AllReached result
   numbered_reached all n lt = reaches n (all n (omega (arith, lt, numbered.long)))
 
 -- a graph can be made of the numbered nodes
-pub numbered_can_make : (vars : List (List ℕ)) (received : List ℕ) (nodes result : List Node) → CanMake vars received nodes → AreNumbered (length vars) nodes result → CanMake vars received result
-numbered_can_make vars received nodes result can numbered = record {
+pub numbered_can_make : (shared : ℕ) (vars : List (List ℕ)) (received : List ℕ) (nodes result : List Node) → CanMake vars received nodes → AreNumbered shared (length vars) nodes result → CanMake vars received result
+numbered_can_make shared vars received nodes result can numbered = record {
   start = let to = numbered.each 0 (Start can.start.0) can.start.1 in (can.start.0, to.is ∙ ap Some (start_becomes to.holder can.start.0));
-  only = λ n s at. let b = becomes (length vars) nodes result numbered n (Start s) at in can.only n s (b.here ∙ ap Some (becomes_start b.node b.holder s b.is));
-  succs = λ m slot s edge. let r = can.succs m slot s (sym (ap (λ l. slice_get l slot) (same_succs (length vars) nodes result numbered m)) ∙ edge) in (r.0, omega (arith, r.1, numbered.long));
-  below = λ n node at. let b = becomes (length vars) nodes result numbered n node at in
+  only = λ n s at. let b = becomes shared (length vars) nodes result numbered n (Start s) at in can.only n s (b.here ∙ ap Some (becomes_start b.node b.holder s b.is));
+  succs = λ m slot s edge. let r = can.succs m slot s (sym (ap (λ l. slice_get l slot) (same_succs shared (length vars) nodes result numbered m)) ∙ edge) in (r.0, omega (arith, r.1, numbered.long));
+  below = λ n node at. let b = becomes shared (length vars) nodes result numbered n node at in
       subst (λ k. AllBelow (length vars) (node_vars k)) b.is (becomes_below (length vars) b.node b.holder b.low (can.below n b.node b.here));
   received_below = can.received_below;
   received_differ = can.received_differ;

@@ -4,7 +4,7 @@ use Rattle.std.specs.declared.cmp.Reverse.{Reverse}
 use Rattle.std.specs.BinaryHeap.{IsHeap, heap_items, heap_len}
 use Rattle.std.specs.Ordering.{nat_cmp}
 use Rattle.value_number.specs.declared.candidates.Candidates.{Candidates}
-use Rattle.value_number.specs.Table.{kept_number}
+use Rattle.value_number.specs.Table.{variable_number}
 
 -- the variable is among the others
 pub record IsOther (candidates : Candidates) (v : ℕ) : Type 0 where
@@ -34,9 +34,10 @@ candidate_count candidates = heap_len candidates.others + one_of candidates.firs
 -- each variable whose number this is is among the candidates, and the first is the least
 pub record Cover (numbers : List (Option ℕ)) (number : ℕ) (candidates : Candidates) : Type 0 where
   pub order : AreInOrder candidates
-  pub each : (v : ℕ) → kept_number numbers v ≡ Some number → IsCandidate candidates v
+  pub each : (v : ℕ) → variable_number numbers v ≡ Some number → IsCandidate candidates v
 
 -- so it is for each number
 pub record CoverAll (numbers : List (Option ℕ)) (table : List Candidates) : Type 0 where
-  pub below : (v number : ℕ) → kept_number numbers v ≡ Some number → number < length table
-  pub covers : (number : ℕ) (candidates : Candidates) → slice_get table number ≡ Some candidates → Cover numbers number candidates
+  pub below : (v number : ℕ) → variable_number numbers v ≡ Some number → number < length table
+  pub covers : (number : ℕ) (candidates : Candidates) → slice_get table number ≡ Some candidates
+      → Cover numbers number candidates

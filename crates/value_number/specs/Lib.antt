@@ -3,8 +3,9 @@ pub mod Roots
 pub mod Numbered
 pub mod Table
 pub mod NodeTerms
+pub mod OneValue
 pub mod SameTerms
 pub mod Candidates
-pub mod Walks
+pub mod TermWalks
 pub mod RootLaws
 pub mod NumberedLaws

@@ -4,7 +4,7 @@ use Rattle.std.specs.Prelude.{◌≡◌, ◌≢◌, ℕ, ◌<◌, List, length, 
 use Rattle.mir_base.specs.declared.instructions.Operand.TheVariants.{Var}
 use Rattle.mir_base.specs.declared.instructions.Rhs.TheVariants.{Plain}
 use Rattle.flow_graph.specs.declared.nodes.Node.{Node}
-use Rattle.flow_graph.specs.declared.nodes.Node.TheVariants.{Start, Skip, Assign, Print, Call, Test, Return}
+use Rattle.flow_graph.specs.declared.nodes.Node.TheVariants.{Start, Skip, Assign, Print, Guard, Call, Test, Return}
 use Rattle.flow_graph.specs.Edges.{edges_from, IsSplit}
 use Rattle.flow_graph.specs.Graphs.{GraphShape, succs_at}
 use Rattle.value_number.specs.Terms.{Term, Terms, movable_term}
@@ -18,11 +18,12 @@ IsHolder count terms (Some t) (Some v) = (v < count) × (terms v ≡ t) × ((u :
 
 -- of the variables below `count`, this is the first that has, before node n, the term of the movable right side that
 -- the node assigns; none where none has it, or the node assigns no such right side
-pub record IsHolderAt (nodes : List Node) (count n : ℕ) (node : Node) (holder : Option ℕ) : Type 0 where
+pub record IsHolderAt (shared : ℕ) (nodes : List Node) (count n : ℕ) (node : Node) (holder : Option ℕ) : Type 0 where
   pub root : ℕ
   pub before : List ℕ
   pub path : FromRoot nodes root n before
-  pub is : IsHolder count (terms_before nodes root before) (movable_term (terms_before nodes root before) node) holder
+  pub is : IsHolder count (terms_before shared nodes root before)
+      (movable_term (terms_before shared nodes root before) node) holder
 
 -- the assignment of this variable in the place of the node's right side, where there is one
 abbrev pub numbered_node : Node → Option ℕ → Node
@@ -31,6 +32,7 @@ numbered_node (Start next) (Some v) = Start next
 numbered_node (Skip next) (Some v) = Skip next
 numbered_node (Assign x rhs next) (Some v) = Assign x (Plain (Var v)) next
 numbered_node (Print a next) (Some v) = Print a next
+numbered_node (Guard test number next) (Some v) = Guard test number next
 numbered_node (Call into unit operands next) (Some v) = Call into unit operands next
 numbered_node (Test test taken other) (Some v) = Test test taken other
 numbered_node (Return a) (Some v) = Return a
@@ -38,25 +40,29 @@ numbered_node (Return a) (Some v) = Return a
 -- what the nodes become by a table of their holders
 pub record BecomeNumbered (nodes : List Node) (holders : List (Option ℕ)) (result : List Node) : Type 0 where
   pub long : length result ≡ length nodes
-  pub are : (n : ℕ) (node : Node) → slice_get nodes n ≡ Some node → slice_get result n ≡ Some (numbered_node node (slice_index_or holders n None))
+  pub are : (n : ℕ) (node : Node) → slice_get nodes n ≡ Some node
+      → slice_get result n ≡ Some (numbered_node node (slice_index_or holders n None))
 
 -- what node n becomes: it assigns the first variable that has its term already, where there is one
-pub record IsNumberedAt (nodes : List Node) (count n : ℕ) (node : Node) (result : Option Node) : Type 0 where
+pub record IsNumberedAt (shared : ℕ) (nodes : List Node) (count n : ℕ) (node : Node)
+    (result : Option Node) : Type 0 where
   pub holder : Option ℕ
-  pub holds : IsHolderAt nodes count n node holder
+  pub holds : IsHolderAt shared nodes count n node holder
   pub is : result ≡ Some (numbered_node node holder)
 
 -- what the nodes become, each decided by the terms of the nodes as they were
-pub record AreNumbered (count : ℕ) (nodes result : List Node) : Type 0 where
+pub record AreNumbered (shared count : ℕ) (nodes result : List Node) : Type 0 where
   pub long : length result ≡ length nodes
-  pub each : (n : ℕ) (node : Node) → slice_get nodes n ≡ Some node → IsNumberedAt nodes count n node (slice_get result n)
+  pub each : (n : ℕ) (node : Node) → slice_get nodes n ≡ Some node
+      → IsNumberedAt shared nodes count n node (slice_get result n)
 
 -- the graph in which each movable right side whose term some variable has before the node is the first such variable
 pub record IsNumbered (graph result : GraphShape) : Type 0 where
   pub name_is : result.name ≡ graph.name
   pub vars_are : result.vars ≡ graph.vars
   pub received_are : result.received ≡ graph.received
-  pub nodes_are : AreNumbered (length graph.vars) graph.nodes result.nodes
+  pub shared_is : result.shared ≡ graph.shared
+  pub nodes_are : AreNumbered graph.shared (length graph.vars) graph.nodes result.nodes
 
 -- there is no other such graph
 abbrev pub IsOnlyNumbered : GraphShape → GraphShape → Type 0

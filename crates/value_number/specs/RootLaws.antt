@@ -29,7 +29,8 @@ module _ (nodes : List Node) where
 
   -- so an edge into such a node is the only one
   pub only_enters : (m n : ℕ) → is_root nodes n ≡ false → HasEdge nodes m n → preds_of nodes n ≡ m ∷ []
-  only_enters m n off edge = let at = pred_has nodes m n edge in only_item (preds_of nodes n) at.0 m (few_enter n off) at.1
+  only_enters m n off edge = let at =
+      pred_has nodes m n edge in only_item (preds_of nodes n) at.0 m (few_enter n off) at.1
 
   -- a node is a root or none
   pub root_or_not : (n : ℕ) → (is_root nodes n ≡ true) ⊎ (is_root nodes n ≡ false)
@@ -40,7 +41,8 @@ module _ (nodes : List Node) where
   head_same e = cc
 
   -- a node has one way from a root
-  pub one_way : (n root root' : ℕ) (before before' : List ℕ) → FromRoot nodes root n before → FromRoot nodes root' n before' → (root ≡ root') × (before ≡ before')
+  pub one_way : (n root root' : ℕ) (before before' : List ℕ) → FromRoot nodes root n before
+      → FromRoot nodes root' n before' → (root ≡ root') × (before ≡ before')
   one_way n root root' [] [] p q = (sym p.0 ∙ q.0, refl)
   one_way n root root' [] (m' ∷ before') p q = absurd (false≢true (sym q.0 ∙ p.1))
   one_way n root root' (m ∷ before) [] p q = absurd (false≢true (sym p.0 ∙ q.1))
@@ -60,10 +62,13 @@ module _ (nodes : List Node) where
       ]
 
   -- a node on the way has the remainder of it for its own
-  rest_of_way : (n k root : ℕ) (before : List ℕ) → FromRoot nodes root n before → IsIn k before → (rest : List ℕ) × FromRoot nodes root k rest × (length rest < length before)
+  rest_of_way : (n k root : ℕ) (before : List ℕ) → FromRoot nodes root n before → IsIn k before → (rest : List ℕ)
+      × FromRoot nodes root k rest × (length rest < length before)
   rest_of_way n k root [] p h = absurd h
-  rest_of_way n k root (m ∷ before) p (inl same) = (before, subst (λ j. FromRoot nodes root j before) same p.2, omega arith)
-  rest_of_way n k root (m ∷ before) p (inr h) = let r = rest_of_way m k root before p.2 h in (r.0, r.1, omega (arith, r.2))
+  rest_of_way n k root (m ∷ before) p (inl same) =
+      (before, subst (λ j. FromRoot nodes root j before) same p.2, omega arith)
+  rest_of_way n k root (m ∷ before) p (inr h) = let r =
+      rest_of_way m k root before p.2 h in (r.0, r.1, omega (arith, r.2))
 
   -- so no node stands on its own way
   pub not_on_its_way : (n root : ℕ) (before : List ℕ) → FromRoot nodes root n before → IsIn n before → ⊥

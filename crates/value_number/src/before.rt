@@ -1,6 +1,7 @@
 // The terms that the variables have before one node.
 ghost use Rattle.std.specs.Prelude.{◌<◌, length, IfOk};
 ghost use Rattle.value_number.specs.NodeTerms.{AreTermsBefore, IsOnlyRoot, StandOneToOne};
+ghost use Rattle.value_number.specs.OneValue.{NumbersHold, TermsHold};
 
 use crate::terms::TermKey;
 use crate::walk::begin;
@@ -26,13 +27,17 @@ impl NodeTerms {
     pub fn before(alloc: Global, graph: &Graph, n: usize) -> Result<NodeTerms, Memory>
         requires { n < length graph.now.nodes }
 
-        // each number is that of the term that the variable has on the way from the root
+        // each number is that of the term that the variable has on the way from the root, and each of the table is that
+        // of a term
         ensures terms { IfOk result (λ terms.
             AreTermsBefore graph.now n terms.root terms.table terms.numbers.items) }
 
         // there is no other root, a number stands for at most one term, and a term has at most one number
         ensures root { IfOk result (λ terms. IsOnlyRoot graph.now.nodes n terms.root) }
         ensures numbers { IfOk result (λ terms. StandOneToOne terms.table) }
+
+        // in each run that comes to the node, variables with one number have one value
+        ensures holds { IfOk result (λ terms. NumbersHold graph.now n terms.numbers.items) }
     {
         let mut walk = begin(alloc, graph)?;
         let root = walk.walk_to(graph, n)?;
@@ -43,4 +48,12 @@ impl NodeTerms {
             numbers: walk.numbers.into_numbers(),
         })
     }
+}
+
+/// Has no effect; carries the theorem that what the terms of a graph say is true of its runs: where a run comes to a
+/// node, two variables that have one term before it have one value.
+pub fn terms_hold(graph: &Graph)
+    ensures { TermsHold graph.now }
+{
+    let _ = graph;
 }

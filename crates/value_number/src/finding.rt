@@ -9,7 +9,7 @@ ghost use Rattle.value_number.specs.declared.terms.TermKey.{TermKey};
 ghost use Rattle.value_number.specs.Numbered.{IsHolder};
 ghost use Rattle.value_number.specs.Table.{Represent, Stands, Stay};
 ghost use Rattle.value_number.specs.Terms.{Terms, movable_rhs_term, rhs_term};
-ghost use Rattle.value_number.specs.Walks.{Finds};
+ghost use Rattle.value_number.specs.TermWalks.{Finds};
 
 use crate::numbers::TermNumbers;
 use crate::terms::{TermKey, rhs_number, term_number};
@@ -31,7 +31,7 @@ pub(crate) struct NewTerm {
 pub(crate) struct AtNode {
     /// The first variable that has the term of the node's movable right side, where there is one.
     pub(crate) holder: Option<usize>,
-    /// The term that the node gives a variable, where it gives one.
+    /// The term that the node gives a variable, where it gives one. Those that a call gives the globals come besides.
     pub(crate) change: Option<NewTerm>,
 }
 
@@ -56,6 +56,7 @@ pub(crate) fn find(
             Ok(found)
         }
         Node::Print(_, _) => Ok(NOTHING),
+        Node::Guard(_, _, _) => Ok(NOTHING),
         Node::Call(into, _, _, _) => {
             let found = called(table, n, *into)?;
             Ok(found)
@@ -80,7 +81,7 @@ fn called(table: &mut KeyTable<TermKey>, n: usize, into: Option<usize>) -> Resul
     match into {
         None => Ok(NOTHING),
         Some(x) => {
-            let number = term_number(table, TermKey::Opaque(n))?;
+            let number = term_number(table, TermKey::Opaque(n, x))?;
             Ok(changes(None, x, number))
         }
     }
@@ -104,7 +105,7 @@ fn assigned(
 {
     let _ = next;
     if divides(&rhs) {
-        let number = term_number(table, TermKey::Opaque(n))?;
+        let number = term_number(table, TermKey::Opaque(n, x))?;
         Ok(changes(None, x, number))
     } else {
         let known = table.len();

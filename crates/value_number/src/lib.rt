@@ -4,7 +4,8 @@
 //! The theorem that this crate carries is the contract of `number`: the answer is the exact graph, it does the same as
 //! the graph that goes in, and it evaluates no more operators.
 //!
-//! `NodeTerms::before` answers what it finds out first: the terms that the variables have before a node.
+//! `NodeTerms::before` answers what it finds out first: the terms that the variables have before a node. Variables with
+//! one term have one value in each run of the graph (`terms_hold`).
 //!
 //! In `specs/Terms.antt` and `specs/Roots.antt` stands what the term of a variable before a node is: a tree of
 //! operators, read off the nodes on the way from the last root. The code builds no tree: a term is a number in a hashed
@@ -22,6 +23,6 @@ mod numbers;
 mod terms;
 mod walk;
 
-pub use before::NodeTerms;
+pub use before::{NodeTerms, terms_hold};
 pub use numbering::number;
 pub use terms::TermKey;

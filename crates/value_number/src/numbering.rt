@@ -1,6 +1,6 @@
 // The graph in which a variable is read in the place of a right side whose value it has.
 ghost use Rattle.std.specs.Prelude.{◌≡◌, length, IfOk};
-ghost use Rattle.flow_graph.specs.Passes.{GraphDivides, GraphKeeps};
+ghost use Rattle.flow_graph.specs.Passes.{GraphDividesUnchanged, GraphKeeps};
 ghost use Rattle.value_number.specs.Numbered.{BecomeNumbered, IsNumbered, IsOnlyNumbered, KeepsEdges, numbered_node};
 
 use crate::walk::holders;
@@ -10,9 +10,10 @@ use std::alloc::Global;
 
 /// The numbered graph. Before each node each variable has a term: a tree of operators, whose leaves are constants, the
 /// values that variables have before the last root (Start, or a node that more than one edge enters), and the values
-/// that divisions and calls give. An assignment gives its variable the term of its right side, and a division or a call
-/// a leaf of its own. Each movable right side whose term some variable has before the node becomes the least-numbered
-/// such variable. All of this is decided on the graph as it was.
+/// that divisions and calls give. An assignment gives its variable the term of its right side. A division gives its
+/// variable a leaf of its own, and so does a call each global and the variable of its result. Each movable right side
+/// whose term some variable has before the node becomes the least-numbered such variable. All of this is decided on the
+/// graph as it was.
 ///
 /// Nodes, variables and successors keep their numbers; nothing but such right sides changes. The graph does the same
 /// and evaluates no more operators. It fails only with `Memory`.
@@ -25,8 +26,8 @@ pub fn number(alloc: Global, graph: &Graph) -> Result<Graph, Memory>
     // it has the name of the graph, does the same, evaluates no more operators, and makes no other calls
     ensures keeps { IfOk result (GraphKeeps graph.now) }
 
-    // each dividing assignment stays
-    ensures divides { IfOk result (GraphDivides graph.now) }
+    // each dividing assignment stays as it is, with its operands
+    ensures divides { IfOk result (GraphDividesUnchanged graph.now) }
 
     // each node has the successors that it had, and a split graph stays split
     ensures edges { IfOk result (KeepsEdges graph.now) }

@@ -1,7 +1,7 @@
 // The numbers of the variables' terms, and the first variable that has a number.
 ghost use Rattle.std.specs.Prelude.{◌≡◌, ℕ, ◌<◌, ◌≢◌, List, Option, None, Some, IfNone, IfOk, IfSome, OnOk, length, replicate, slice_set};
 ghost use Rattle.value_number.specs.Candidates.{Cover, CoverAll};
-ghost use Rattle.value_number.specs.Table.{kept_number};
+ghost use Rattle.value_number.specs.Table.{variable_number};
 
 use crate::candidates::Candidates;
 use mir_base::Memory;
@@ -78,11 +78,11 @@ impl TermNumbers {
     pub(crate) fn first_with(&mut self, number: usize) -> Option<usize>
         ensures same { self.new ≡ self.old }
         ensures within { IfSome result (λ v. v < length self.old) }
-        ensures has { IfSome result (λ v. kept_number self.old v ≡ Some number) }
+        ensures has { IfSome result (λ v. variable_number self.old v ≡ Some number) }
         ensures first { IfSome result (λ v. (u : ℕ) → u < v
-            → kept_number self.old u ≢ Some number) }
+            → variable_number self.old u ≢ Some number) }
         ensures none { IfNone result
-            ((u : ℕ) → u < length self.old → kept_number self.old u ≢ Some number) }
+            ((u : ℕ) → u < length self.old → variable_number self.old u ≢ Some number) }
     {
         if number < self.table.len() {
             least(&mut self.table[number], self.numbers.as_slice(), number)
@@ -110,10 +110,10 @@ fn add_at(table: &mut Vec<Candidates>, alloc: Global, number: usize, x: usize) -
 fn least(candidates: &mut Candidates, numbers: &[Option<usize>], number: usize) -> Option<usize>
     requires { Cover numbers.now number candidates.old }
     ensures covers { Cover numbers.now number candidates.new }
-    ensures has { IfSome result (λ v. kept_number numbers.now v ≡ Some number) }
+    ensures has { IfSome result (λ v. variable_number numbers.now v ≡ Some number) }
     ensures first { IfSome result (λ v. (u : ℕ) → u < v
-        → kept_number numbers.now u ≢ Some number) }
-    ensures none { IfNone result ((u : ℕ) → kept_number numbers.now u ≢ Some number) }
+        → variable_number numbers.now u ≢ Some number) }
+    ensures none { IfNone result ((u : ℕ) → variable_number numbers.now u ≢ Some number) }
 {
     while let Some(v) = candidates.first {
         if number_of(numbers, v) == Some(number) {
@@ -126,7 +126,7 @@ fn least(candidates: &mut Candidates, numbers: &[Option<usize>], number: usize) 
 
 /// The number of a variable, where it has one.
 fn number_of(numbers: &[Option<usize>], v: usize) -> Option<usize>
-    ensures { result ≡ kept_number numbers.now v }
+    ensures { result ≡ variable_number numbers.now v }
 {
     match numbers.get(v) {
         None => None,

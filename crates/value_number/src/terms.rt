@@ -1,7 +1,8 @@
 // Terms in a table: a term is a number, and no tree is built.
 ghost use Rattle.std.specs.Prelude.{◌≡◌, ◌<◌, length, slice_get, IfOk, OnOk, Some};
 ghost use Rattle.mir_base.specs.Shapes.{AllBelow, operand_vars, rhs_vars};
-ghost use Rattle.value_number.specs.Table.{Represent, Stands, Stay};
+ghost use Rattle.key_table.specs.Keys.{IsWithKey};
+ghost use Rattle.value_number.specs.Table.{Represent, StandOn, Stands, Stay};
 ghost use Rattle.value_number.specs.Terms.{Terms, operand_term, rhs_term};
 
 use key_table::KeyTable;
@@ -12,8 +13,8 @@ use mir_base::{Memory, Op, Operand, Rhs, UnOp};
 pub enum TermKey {
     /// The value that this variable has before this root.
     Initial(usize, usize),
-    /// The value that this node gives.
-    Opaque(usize),
+    /// The value that this node gives this variable.
+    Opaque(usize, usize),
     /// This number.
     Number(i64),
     /// An operator on the term of this number.
@@ -26,6 +27,7 @@ pub enum TermKey {
 pub(crate) fn term_number(table: &mut KeyTable<TermKey>, key: TermKey) -> Result<usize, Memory>
     ensures here { IfOk result (λ n. slice_get table.new n ≡ Some key) }
     ensures stay { OnOk result (Stay table.old table.new) }
+    ensures with_key { OnOk result (IsWithKey table.old key table.new) }
 {
     let number = table.number(key)?;
     Ok(number)
@@ -44,6 +46,7 @@ pub(crate) fn rhs_number(
         → Represent table.old numbers.now root terms
         → Stands table.new n (rhs_term terms rhs)) }
     ensures stay { OnOk result (Stay table.old table.new) }
+    ensures all { OnOk result (StandOn table.old numbers.now root table.new) }
 {
     match rhs {
         Rhs::Plain(a) => operand_number(table, numbers, root, a),
@@ -71,6 +74,7 @@ fn operand_number(
         → Represent table.old numbers.now root terms
         → Stands table.new n (operand_term terms a)) }
     ensures stay { OnOk result (Stay table.old table.new) }
+    ensures all { OnOk result (StandOn table.old numbers.now root table.new) }
 {
     match a {
         Operand::Var(x) => match numbers[x] {

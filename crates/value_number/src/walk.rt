@@ -1,16 +1,17 @@
 // The walk over the graph, which finds at each node the variable that has the term of its right side.
-ghost use Rattle.std.specs.Prelude.{◌≡◌, ℕ, ◌<◌, ◌++◌, [], ◌∷◌, None, Some, IfNone, IfOk, IfSome, OnOk, length, replicate, slice_set};
+ghost use Rattle.std.specs.Prelude.{◌≡◌, ℕ, ◌<◌, ◌≤◌, ◌++◌, [], ◌∷◌, None, Some, IfNone, IfOk, IfSome, OnOk, length, replicate, slice_set};
 ghost use Rattle.mir_base.specs.Shapes.{AllBelow};
 ghost use Rattle.flow_graph.specs.Edges.{edges_of};
+ghost use Rattle.flow_graph.specs.Graphs.{node_vars};
 ghost use Rattle.value_number.specs.declared.walk.Step.TheVariants.{Visit};
 ghost use Rattle.value_number.specs.NodeTerms.{AreTermsBefore};
 ghost use Rattle.value_number.specs.Roots.{is_root};
-ghost use Rattle.value_number.specs.Walks.{AreHolders, AreRoots, NewTermWithin, VisitRoots, GoesOver, IsNoVisit, IsUnvisited, LeavesUnvisited, changed_numbers, listed_after, steps_after, undoing, weight_left, where_any, with_root};
+ghost use Rattle.value_number.specs.TermWalks.{AreHolders, AreRoots, NewTermWithin, Passes, Renews, RenewsGlobals, RenewsOne, VisitRoots, GoesOver, IsNoVisit, IsUnvisited, LeavesUnvisited, changed_numbers, listed_after, steps_after, undoing, weight_left, where_any, with_root};
 
 use crate::finding::{NewTerm, find};
 use crate::numbers::TermNumbers;
-use crate::terms::TermKey;
-use flow_graph::{Edges, Graph};
+use crate::terms::{TermKey, term_number};
+use flow_graph::{Edges, Graph, Node};
 use key_table::KeyTable;
 use mir_base::Memory;
 use std::alloc::Global;
@@ -76,6 +77,7 @@ fn unnumbered(
         walk.numbers ≡ replicate (length graph.now.vars) None) }
     ensures holders { IfOk result (λ walk.
         walk.holders.items ≡ replicate (length graph.now.nodes) None) }
+    ensures table { IfOk result (λ walk. walk.table ≡ []) }
     ensures listed { IfOk result (λ walk. walk.listed.items ≡ listed.items) }
     ensures steps { IfOk result (λ walk. walk.steps.items ≡ steps.items) }
 {
@@ -172,8 +174,9 @@ impl Walk {
         requires walks { GoesOver graph.now self.old (self.old.steps.items ++ step ∷ []) }
         ensures walks { OnOk result (GoesOver graph.now self.new self.new.steps.items) }
         ensures lighter { OnOk result
-            (weight_left self.new.listed.items self.new.steps.items
-            < weight_left self.old.listed.items (self.old.steps.items ++ step ∷ [])) }
+            (weight_left graph.now.shared self.new.listed.items self.new.steps.items
+            < weight_left graph.now.shared self.old.listed.items
+            (self.old.steps.items ++ step ∷ [])) }
         ensures unvisited { OnOk result (LeavesUnvisited step self.old.listed.items
             self.old.steps.items self.new.listed.items self.new.steps.items) }
     {
@@ -191,16 +194,24 @@ impl Walk {
         requires walks { GoesOver graph.now self.old (self.old.steps.items ++ Visit n root ∷ []) }
         ensures walks { OnOk result (GoesOver graph.now self.new self.new.steps.items) }
         ensures lighter { OnOk result
-            (weight_left self.new.listed.items self.new.steps.items
-            < weight_left self.old.listed.items (self.old.steps.items ++ Visit n root ∷ [])) }
+            (weight_left graph.now.shared self.new.listed.items self.new.steps.items
+            < weight_left graph.now.shared self.old.listed.items
+            (self.old.steps.items ++ Visit n root ∷ [])) }
         ensures unvisited { OnOk result (LeavesUnvisited (Visit n root) self.old.listed.items
             self.old.steps.items self.new.listed.items self.new.steps.items) }
     {
         let _nodes = graph.nodes();
         let node = graph.node(n);
-        let found = find(&mut self.table, &mut self.numbers, root, n, node)?;
-        put(&mut self.holders, n, found.holder);
-        change(&mut self.numbers, &mut self.steps, found.change)?;
+        let holder = pass(
+            &mut self.table,
+            &mut self.numbers,
+            &mut self.steps,
+            graph.shared(),
+            root,
+            n,
+            node,
+        )?;
+        put(&mut self.holders, n, holder);
         list(
             &mut self.listed,
             &mut self.steps,
@@ -209,6 +220,95 @@ impl Walk {
         )?;
         Ok(())
     }
+}
+
+/// Finds the holder of node `n`, which is this one, and makes the numbers those of the terms after it. It fails only
+/// with `Memory`.
+fn pass(
+    table: &mut KeyTable<TermKey>,
+    numbers: &mut TermNumbers,
+    steps: &mut Vec<Step>,
+    shared: usize,
+    root: usize,
+    n: usize,
+    node: &Node,
+) -> Result<Option<usize>, Memory>
+    requires below { AllBelow (length numbers.old) (node_vars node.now) }
+    requires shared { shared ≤ length numbers.old }
+    ensures { IfOk result (Passes shared root n node.now table.old table.new
+        numbers.old numbers.new steps.old.items steps.new.items) }
+{
+    let found = find(table, numbers, root, n, node)?;
+    change(numbers, steps, found.change)?;
+    renew_globals(table, numbers, steps, shared, n, node)?;
+    Ok(found.holder)
+}
+
+/// Gives each global a leaf of node `n`, which is this one, where it is a call. It fails only with `Memory`.
+fn renew_globals(
+    table: &mut KeyTable<TermKey>,
+    numbers: &mut TermNumbers,
+    steps: &mut Vec<Step>,
+    shared: usize,
+    n: usize,
+    node: &Node,
+) -> Result<(), Memory>
+    requires { shared ≤ length numbers.old }
+    ensures { OnOk result (RenewsGlobals shared n node.now table.old table.new
+        numbers.old numbers.new steps.old.items steps.new.items) }
+{
+    match node {
+        Node::Start(_) => Ok(()),
+        Node::Skip(_) => Ok(()),
+        Node::Assign(_, _, _) => Ok(()),
+        Node::Print(_, _) => Ok(()),
+        Node::Guard(_, _, _) => Ok(()),
+        Node::Call(_, _, _, _) => renew(table, numbers, steps, shared, n),
+        Node::Test(_, _, _) => Ok(()),
+        Node::Return(_) => Ok(()),
+    }
+}
+
+/// Gives each of the first so many variables a leaf of node `n`. It fails only with `Memory`.
+fn renew(
+    table: &mut KeyTable<TermKey>,
+    numbers: &mut TermNumbers,
+    steps: &mut Vec<Step>,
+    count: usize,
+    n: usize,
+) -> Result<(), Memory>
+    requires { count ≤ length numbers.old }
+    ensures { OnOk result (Renews n count table.old table.new
+        numbers.old numbers.new steps.old.items steps.new.items) }
+{
+    for x in 0..count {
+        renew_one(table, numbers, steps, x, n)?;
+    }
+    Ok(())
+}
+
+/// Gives variable `x` a leaf of node `n`. It fails only with `Memory`.
+fn renew_one(
+    table: &mut KeyTable<TermKey>,
+    numbers: &mut TermNumbers,
+    steps: &mut Vec<Step>,
+    x: usize,
+    n: usize,
+) -> Result<(), Memory>
+    requires { x < length numbers.old }
+    ensures { OnOk result (RenewsOne n x table.old table.new
+        numbers.old numbers.new steps.old.items steps.new.items) }
+{
+    let number = term_number(table, TermKey::Opaque(n, x))?;
+    change(
+        numbers,
+        steps,
+        Some(NewTerm {
+            variable: x,
+            number,
+        }),
+    )?;
+    Ok(())
 }
 
 /// Puts a value into a list, at this index.

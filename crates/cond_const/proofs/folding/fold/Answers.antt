@@ -1,8 +1,8 @@
 use Rattle.std.proofs.Common.{sym, subst}
 use Rattle.flow_graph.specs.Calls.{NodesCall}
 use Rattle.flow_graph.specs.Graphs.{CanMake, IsGraph}
-use Rattle.flow_graph.specs.Kept.{IsMade}
-use Rattle.flow_graph.specs.KeepsLaws.{made_keeps}
+use Rattle.flow_graph.specs.Retained.{IsMade}
+use Rattle.flow_graph.specs.KeepsLaws.{made_keeps, same_globals}
 use Rattle.flow_graph.specs.Machines.{graph_machine, machine_of}
 use Rattle.mir_base.specs.UnitRuns.{UnitCheaper, UnitSame}
 use Rattle.cond_const.specs.Folded.{IsFolded}
@@ -29,7 +29,7 @@ exact c =
     let graph = c.args.graph.now in
     let are = c.in_ok-nodes.ensures in
     let can = (is_graph (goal.at.In_ok-folded c).In_ok-nodes).can in
-    let made = subst (λ l. IsMade graph.name graph.vars graph.received l c.in_ok-folded.folded) are.are c.in_ok-folded.ensures.made in
+    let made = subst (λ l. IsMade graph.name graph.shared graph.vars graph.received l c.in_ok-folded.folded) are.are c.in_ok-folded.ensures.made in
     record {
       states = are.states;
       least = are.least;
@@ -41,9 +41,9 @@ pub returns-clause-keeps : goal.returns-clause-keeps
 returns-clause-keeps c =
     let graph = c.args.graph.now in
     let are = c.in_ok-nodes.ensures in
-    let same = subst (λ l. UnitSame (machine_of graph) (graph_machine graph.received l)) (sym are.are) (folded_same graph.received graph.nodes _ are.states are.least.are) in
-    let cheaper = subst (λ l. UnitCheaper (machine_of graph) (graph_machine graph.received l)) (sym are.are) (folded_cheaper graph.received graph.nodes _ are.states are.least.are) in
-    made_keeps graph c.in_ok-folded.folded c.in_ok-nodes.nodes.items c.in_ok-folded.ensures.made.name_is same cheaper
+    let same = subst (λ l. UnitSame (machine_of graph) (graph_machine graph.shared graph.received l)) (sym are.are) (folded_same graph.shared graph.received graph.nodes _ are.states are.least.are) in
+    let cheaper = subst (λ l. UnitCheaper (machine_of graph) (graph_machine graph.shared graph.received l)) (sym are.are) (folded_cheaper graph.shared graph.received graph.nodes _ are.states are.least.are) in
+    made_keeps graph c.in_ok-folded.folded c.in_ok-nodes.nodes.items c.in_ok-folded.ensures.made.name_is (same_globals graph c.in_ok-folded.folded c.in_ok-folded.ensures.made.shared_is c.in_ok-folded.ensures.made.vars_are) same cheaper
     (λ called count calls. folded_calls are.states graph.nodes called count (subst (λ l. NodesCall l called count) are.are calls))
     c.in_ok-folded.ensures.same c.in_ok-folded.ensures.cheaper c.in_ok-folded.ensures.calls
 

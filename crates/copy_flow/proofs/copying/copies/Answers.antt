@@ -2,7 +2,7 @@ use Rattle.std.proofs.Common.{◌≡◌, ◌∙◌, ap, sym, subst, slice_get}
 use Rattle.flow_graph.specs.Graphs.{IsGraph, succs_at}
 use Rattle.flow_graph.specs.Edges.{IsSplit}
 use Rattle.flow_graph.specs.Dividing.{DividesStay}
-use Rattle.flow_graph.specs.KeepsLaws.{made_keeps}
+use Rattle.flow_graph.specs.KeepsLaws.{made_keeps, same_globals}
 use Rattle.copy_flow.specs.Copied.{AreCopied, IsCopied}
 use Rattle.copy_flow.specs.CopiedLaws.{copied_is_one}
 use Rattle.copy_flow.specs.Rows.{read_by}
@@ -45,6 +45,7 @@ exact c =
     let copied = are (goal.at.In_ok-copied c).In_ok-nodes in
     record {
       name_is = made.name_is;
+      shared_is = made.shared_is;
       vars_are = made.vars_are;
       received_are = made.received_are;
       nodes_are = record { read = copied.read; is_read = copied.is_read; nodes_are = λ n. ap (λ l. slice_get l n) (whole c) ∙ copied.nodes_are n };
@@ -62,7 +63,7 @@ returns-clause-keeps c =
     let nodes = c.in_ok-nodes.nodes.items in
     let known = (goal.at.returns-clause-keeps c).In_ok-nodes in
     let can = (is_graph known).can in
-    made_keeps graph c.in_ok-copied.copied nodes c.in_ok-copied.ensures.made.name_is (copied_same graph can nodes (are known)) (copied_cheaper graph can nodes (are known)) (copied_calls graph nodes (are known))
+    made_keeps graph c.in_ok-copied.copied nodes c.in_ok-copied.ensures.made.name_is (same_globals graph c.in_ok-copied.copied c.in_ok-copied.ensures.made.shared_is c.in_ok-copied.ensures.made.vars_are) (copied_same graph can nodes (are known)) (copied_cheaper graph can nodes (are known)) (copied_calls graph nodes (are known))
     c.in_ok-copied.ensures.same c.in_ok-copied.ensures.cheaper c.in_ok-copied.ensures.calls
 
 pub returns-clause-divides : goal.returns-clause-divides

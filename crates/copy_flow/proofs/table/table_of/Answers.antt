@@ -1,5 +1,5 @@
 use Rattle.std.proofs.Common.{[], length, subst}
-use Rattle.copy_flow.specs.Tables.{AreInNodeOrder, HasCopies, HasOnlyCopies}
+use Rattle.copy_flow.specs.CopyTables.{AreInNodeOrder, HasCopies, HasOnlyCopies}
 use Rattle.copy_flow.proofs.Taking.{taken_all, taken_are, taken_only, taken_order}
 use Rattle.copy_flow.proofs.table.table_of.Goals as goal
 

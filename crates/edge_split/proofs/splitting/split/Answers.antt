@@ -1,7 +1,8 @@
 use Rattle.std.proofs.Common.{◌≡◌, ℕ, ◌<◌, ◌∙◌, ap, sym, subst, length}
+use Rattle.flow_graph.specs.KeepsLaws.{same_globals}
 use Rattle.flow_graph.specs.Graphs.{CanMake, IsGraph, Reached}
 use Rattle.edge_split.specs.Split.{CountEntries, IsEdgeSplit, split_nodes}
-use Rattle.edge_split.specs.SplitLaws.{split_stay}
+use Rattle.edge_split.specs.SplitLaws.{split_unchanged}
 use Rattle.edge_split.proofs.Splits.{split_can_make, split_reached, edge_split_splits, edge_split_same, edge_split_cheaper, edge_split_calls}
 use Rattle.edge_split.proofs.splitting.split.Goals as goal
 use Rattle.edge_split.proofs.splitting.split.Goals.{In_ok-nodes, In_ok-made}
@@ -37,6 +38,7 @@ exact c =
     let reached = subst (λ ns. (n : ℕ) → n < length ns → Reached ns n) (sym (are known)) (split_reached graph (is_graph known)) in
     record {
       name_is = made.name_is;
+      shared_is = made.shared_is;
       vars_are = made.vars_are;
       received_are = made.received_are;
       nodes_are = c.in_ok-made.ensures.whole reached ∙ are known;
@@ -55,10 +57,11 @@ returns-clause-keeps c =
     let made = c.in_ok-made.made in
     record {
       name = c.in_ok-made.ensures.made.name_is;
+      globals = same_globals graph made c.in_ok-made.ensures.made.shared_is c.in_ok-made.ensures.made.vars_are;
       same = edge_split_same graph is made (exact c);
       cheaper = edge_split_cheaper graph is made (exact c);
       calls = edge_split_calls graph is made (exact c);
     }
 
 pub returns-clause-divides : goal.returns-clause-divides
-returns-clause-divides c = split_stay c.args.graph.now c.in_ok-made.made (exact c)
+returns-clause-divides c = split_unchanged c.args.graph.now c.in_ok-made.made (exact c)

@@ -1,7 +1,7 @@
 use Rattle.std.proofs.Common.{◌∙◌, ◌++◌, suc, ap, sym, subst, map, slice_get}
 use Rattle.flow_graph.specs.ListLaws.{mapped_push}
 use Rattle.flow_graph.specs.Graphs.{SuccsBelow}
-use Rattle.flow_graph.specs.Kept.{redirected_by}
+use Rattle.flow_graph.specs.Retained.{redirected_by}
 use Rattle.flow_graph.specs.BoundLaws.{succs_below}
 use Rattle.jump_clean.proofs.cleaning.redirect_all.Goals as goal
 

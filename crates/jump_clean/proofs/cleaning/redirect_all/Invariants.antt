@@ -1,7 +1,7 @@
 use Rattle.std.proofs.Common.{◌≡◌, ◌++◌, ℕ, map, length, slice_get, Some}
 use Rattle.flow_graph.specs.declared.nodes.Node.{Node}
 use Rattle.flow_graph.specs.Graphs.{SuccsBelow}
-use Rattle.flow_graph.specs.Kept.{redirected_by}
+use Rattle.flow_graph.specs.Retained.{redirected_by}
 use Rattle.jump_clean.proofs.cleaning.redirect_all.Given as goal
 
 abbrev pub invariant-loop-node : goal.invariant-loop-node

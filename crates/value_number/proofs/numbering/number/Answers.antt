@@ -1,8 +1,8 @@
 use Rattle.std.proofs.Common.{sym, subst, length}
 use Rattle.flow_graph.specs.Graphs.{IsGraph}
-use Rattle.flow_graph.specs.KeepsLaws.{made_keeps}
+use Rattle.flow_graph.specs.KeepsLaws.{made_keeps, same_globals}
 use Rattle.value_number.specs.Numbered.{AreNumbered, BecomeNumbered, IsNumbered}
-use Rattle.value_number.specs.NumberedLaws.{numbered_edges, numbered_is_one, numbered_stay}
+use Rattle.value_number.specs.NumberedLaws.{numbered_edges, numbered_is_one, numbered_unchanged}
 use Rattle.value_number.proofs.Lockstep.{numbered_same, numbered_cheaper}
 use Rattle.value_number.proofs.Pushes.{become_numbered}
 use Rattle.value_number.proofs.Whole.{numbered_calls, numbered_can_make, numbered_reached}
@@ -14,7 +14,7 @@ is_graph : (c : In_ok-nodes) → IsGraph c.args.graph.now.vars c.args.graph.now.
 is_graph c = rw (← c.nodes.ensures.value) c.nodes.ensures.graph
 
 -- the nodes are what those of the graph become
-are : (c : In_ok-nodes) → AreNumbered (length c.args.graph.now.vars) c.args.graph.now.nodes c.in_ok-nodes.nodes.items
+are : (c : In_ok-nodes) → AreNumbered c.args.graph.now.shared (length c.args.graph.now.vars) c.args.graph.now.nodes c.in_ok-nodes.nodes.items
 are c =
     let holders = c.in_ok-holders.holders.items in
     let nodes = c.in_ok-nodes.nodes.items in
@@ -25,7 +25,7 @@ pub with_nodes-requires : goal.with_nodes-requires
 with_nodes-requires c =
     let graph = c.args.graph.now in
     let known = (goal.at.with_nodes-requires c).In_ok-nodes in
-    numbered_can_make graph.vars graph.received graph.nodes c.in_ok-nodes.nodes.items (is_graph known).can (are known)
+    numbered_can_make graph.shared graph.vars graph.received graph.nodes c.in_ok-nodes.nodes.items (is_graph known).can (are known)
 
 -- the answer is the exact graph
 exact : (c : In_ok-numbered) → IsNumbered c.args.graph.now c.in_ok-numbered.numbered
@@ -33,12 +33,13 @@ exact c =
     let graph = c.args.graph.now in
     let made = c.in_ok-numbered.ensures.made in
     let known = (goal.at.In_ok-numbered c).In_ok-nodes in
-    let whole = c.in_ok-numbered.ensures.whole (numbered_reached (length graph.vars) graph.nodes c.in_ok-nodes.nodes.items (are known) (is_graph known).reached) in
+    let whole = c.in_ok-numbered.ensures.whole (numbered_reached graph.shared (length graph.vars) graph.nodes c.in_ok-nodes.nodes.items (are known) (is_graph known).reached) in
     record {
       name_is = made.name_is;
+      shared_is = made.shared_is;
       vars_are = made.vars_are;
       received_are = made.received_are;
-      nodes_are = subst (AreNumbered (length graph.vars) graph.nodes) (sym whole) (are known);
+      nodes_are = subst (AreNumbered graph.shared (length graph.vars) graph.nodes) (sym whole) (are known);
     }
 
 pub returns-clause-keeps : goal.returns-clause-keeps
@@ -47,8 +48,8 @@ returns-clause-keeps c =
     let vars = length graph.vars in
     let nodes = c.in_ok-nodes.nodes.items in
     let numbered = are (goal.at.returns-clause-keeps c).In_ok-nodes in
-    made_keeps graph c.in_ok-numbered.numbered nodes c.in_ok-numbered.ensures.made.name_is
-    (numbered_same graph.received vars graph.nodes nodes numbered) (numbered_cheaper graph.received vars graph.nodes nodes numbered) (numbered_calls vars graph.nodes nodes numbered)
+    made_keeps graph c.in_ok-numbered.numbered nodes c.in_ok-numbered.ensures.made.name_is (same_globals graph c.in_ok-numbered.numbered c.in_ok-numbered.ensures.made.shared_is c.in_ok-numbered.ensures.made.vars_are)
+    (numbered_same graph.shared graph.received graph.nodes vars nodes numbered) (numbered_cheaper graph.shared graph.received graph.nodes vars nodes numbered) (numbered_calls graph.shared vars graph.nodes nodes numbered)
     c.in_ok-numbered.ensures.same c.in_ok-numbered.ensures.cheaper c.in_ok-numbered.ensures.calls
 
 pub returns-clause-numbered : goal.returns-clause-numbered
@@ -57,7 +58,7 @@ returns-clause-numbered c = exact (goal.at.returns-clause-numbered c).In_ok-numb
 pub returns-clause-divides : goal.returns-clause-divides
 returns-clause-divides c =
     let e = exact (goal.at.returns-clause-divides c).In_ok-numbered in
-    numbered_stay (length c.args.graph.now.vars) c.args.graph.now.nodes c.in_ok-numbered.numbered.nodes e.nodes_are
+    numbered_unchanged c.args.graph.now.shared (length c.args.graph.now.vars) c.args.graph.now.nodes c.in_ok-numbered.numbered.nodes e.nodes_are
 
 pub returns-clause-only : goal.returns-clause-only
 returns-clause-only c = λ other is. numbered_is_one c.args.graph.now other c.in_ok-numbered.numbered is (exact (goal.at.returns-clause-only c).In_ok-numbered)

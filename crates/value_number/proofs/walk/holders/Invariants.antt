@@ -1,8 +1,8 @@
-use Rattle.value_number.specs.Walks.{GoesOver, weight_left}
+use Rattle.value_number.specs.TermWalks.{GoesOver, weight_left}
 use Rattle.value_number.proofs.walk.holders.Given as goal
 
 abbrev pub invariant-loop-step : goal.invariant-loop-step
 invariant-loop-step l = GoesOver l.graph l.walk l.walk.steps.items
 
 abbrev pub decreases-loop-step : goal.decreases-loop-step
-decreases-loop-step l = weight_left l.walk.listed.items l.walk.steps.items
+decreases-loop-step l = weight_left l.graph.shared l.walk.listed.items l.walk.steps.items

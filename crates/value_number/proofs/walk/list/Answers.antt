@@ -3,7 +3,7 @@ use Rattle.std.proofs.lemmas.List.{drop_all, length-set}
 use Rattle.std.proofs.lemmas.Option.{slice_get-get_or}
 use Rattle.mir_base.specs.BelowLaws.{all_below_at}
 use Rattle.flow_graph.specs.ListLaws.{drop_at}
-use Rattle.value_number.specs.Walks.{listed_after, steps_after}
+use Rattle.value_number.specs.TermWalks.{listed_after, steps_after}
 use Rattle.value_number.proofs.walk.list.Goals as goal
 
 pub list_one-requires : goal.list_one-requires

@@ -1,5 +1,5 @@
 use Rattle.std.proofs.Common.{◌≡◌, drop, length}
-use Rattle.value_number.specs.Walks.{listed_after, steps_after}
+use Rattle.value_number.specs.TermWalks.{listed_after, steps_after}
 use Rattle.value_number.proofs.walk.list.Given as goal
 
 abbrev pub invariant-loop-succ : goal.invariant-loop-succ

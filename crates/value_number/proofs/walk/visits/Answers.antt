@@ -1,7 +1,7 @@
 use Rattle.std.proofs.Common.{false, subst}
 use Rattle.std.proofs.lemmas.List.{take_all}
 use Rattle.std.proofs.lemmas.Option.{slice_get-get_or}
-use Rattle.value_number.specs.Walks.{VisitRoots}
+use Rattle.value_number.specs.TermWalks.{VisitRoots}
 use Rattle.value_number.proofs.Pushes.{roots_more}
 use Rattle.value_number.proofs.walk.visits.Goals as goal
 

@@ -5,8 +5,10 @@ use Rattle.std.proofs.lemmas.Option.{slice_get_within}
 use Rattle.flow_graph.specs.Graphs.{IsEdge}
 use Rattle.cond_const.specs.States.{Unreached, is_reached, state_where}
 use Rattle.cond_const.specs.Rewriting.{value_of}
+use Rattle.cond_const.specs.Holding.{HoldsAt}
 use Rattle.cond_const.specs.KnownBefore.{AreStatesOf, IsKnownBefore, state_of_known}
 use Rattle.cond_const.specs.FoldLaws.{known_is_one}
+use Rattle.cond_const.proofs.Folds.{states_hold}
 use Rattle.cond_const.proofs.Rewrites.{passes_known}
 use Rattle.cond_const.proofs.least_states.LeastStates.before.Goals as goal
 use Rattle.cond_const.proofs.least_states.LeastStates.before.Goals.{After-where_reached-known}
@@ -37,3 +39,9 @@ returns-clause-known c = tells (goal.at.returns-clause-known c).After-where_reac
 
 pub returns-clause-only : goal.returns-clause-only
 returns-clause-only c = λ other is. known_is_one c.args.graph.now c.args.node other _ c.requires.there is (tells (goal.at.returns-clause-only c).After-where_reached-known)
+
+pub returns-clause-holds : goal.returns-clause-holds
+returns-clause-holds c = λ frame of_run at.
+    let graph = c.args.graph.now in
+    let known = tells (goal.at.returns-clause-holds c).After-where_reached-known in
+    subst (λ s. HoldsAt s frame.values) (ap known.states at ∙ known.here) (states_hold graph.shared graph.received graph.nodes (length graph.vars) known.states known.least.are frame of_run)

@@ -1,18 +1,16 @@
 -- What the walk keeps: steps that are put on and taken off, one visit, and the end, where all nodes have been visited.
-use Rattle.std.proofs.Common.{◌≡◌, ◌≢◌, ◌⊎◌, inl, inr, ℕ, zero, suc, ◌<◌, Bool, true, false, if◌then◌else◌, List, [], ◌∷◌, ◌++◌, length, replicate, slice_get, slice_index_or, slice_set, Option, Some, None, refl, sym, ap, ◌∙◌, subst, arith, append-nil}
+use Rattle.std.proofs.Common.{◌≡◌, ◌≢◌, ◌⊎◌, inl, inr, ℕ, zero, suc, ◌<◌, Bool, true, false, if◌then◌else◌, List, [], ◌∷◌, ◌++◌, length, replicate, slice_get, slice_index_or, slice_set, Option, Some, None, refl, sym, ap, ◌∙◌, subst, arith}
 use Rattle.std.proofs.lemmas.Bool.{cases_eq, false≢true, true≢false}
-use Rattle.std.proofs.lemmas.List.{get_or-set_same, get_or-set_other, length-set, length-replicate, get_or-replicate, set-get_or, set-set}
+use Rattle.std.proofs.lemmas.List.{get_or-set_same, get_or-set_other, length-set, length-replicate, get_or-replicate, set-get_or}
 use Rattle.std.proofs.lemmas.Option.{get_or_from_slice_get, same_Some, slice_get_within}
 use Rattle.mir_base.specs.Shapes.{AllBelow}
 use Rattle.flow_graph.specs.declared.nodes.Node.{Node}
-use Rattle.flow_graph.specs.declared.nodes.Node.TheVariants.{Start, Skip, Assign, Print, Call, Test, Return}
+use Rattle.flow_graph.specs.declared.nodes.Node.TheVariants.{Start, Skip, Assign, Print, Guard, Call, Test, Return}
 use Rattle.flow_graph.specs.BoundLaws.{all_below}
 use Rattle.flow_graph.specs.Graphs.{GraphShape, IsGraph, Reached, at_start, along, is_start, succs_at}
 use Rattle.flow_graph.specs.ListLaws.{get_left_some, get_push, get_seam, set_here}
 use Rattle.flow_graph.specs.MarkLaws.{marked_before, set_keeps}
 use Rattle.flow_graph.specs.Paths.{HasEdge}
-use Rattle.value_number.specs.declared.finding.NewTerm.{NewTerm}
-use Rattle.value_number.specs.declared.finding.AtNode.{AtNode}
 use Rattle.value_number.specs.declared.terms.TermKey.{TermKey}
 use Rattle.value_number.specs.declared.walk.Step.{Step}
 use Rattle.value_number.specs.declared.walk.Step.TheVariants.{Visit, Restore}
@@ -22,8 +20,8 @@ use Rattle.value_number.specs.RootLaws.{only_enters, root_or_not}
 use Rattle.value_number.specs.NodeTerms.{AreTermsBefore}
 use Rattle.value_number.specs.Numbered.{IsHolder, IsHolderAt}
 use Rattle.value_number.specs.Table.{Represent, RepresentsAt, Stay}
-use Rattle.value_number.specs.Walks.{AreRoots, VisitRoots, changed_numbers, undoing, NewTermWithin, Finds, restored, IsReady, AreReady, IsToVisit, holder_at, IsVisited, KeepsTerms, listed_after, steps_after, weight_left, AreHolders}
-use Rattle.value_number.proofs.Stands.{represent_on}
+use Rattle.value_number.specs.TermWalks.{AreRoots, VisitRoots, Passes, restored, IsReady, AreReady, IsToVisit, holder_at, IsVisited, IsUnderWay, listed_after, steps_after, weight_left, AreHolders}
+use Rattle.value_number.proofs.Stands.{none_stand, represent_on}
 use Rattle.value_number.proofs.Weights.{visit_light}
 
 -- ---- steps that are put on and taken off
@@ -40,60 +38,44 @@ restored_restore [] w o numbers = refl
 restored_restore (Visit m q ∷ steps) w o numbers = restored_restore steps w o numbers
 restored_restore (Restore v old ∷ steps) w o numbers = ap (λ l. slice_set l v old) (restored_restore steps w o numbers)
 
-module _ (nodes : List Node) (table : List TermKey) where
+module _ (shared : ℕ) (nodes : List Node) (table : List TermKey) where
   -- a visit that is taken off
-  ready_visit : (steps : List Step) (n root : ℕ) (numbers : List (Option ℕ)) → AreReady nodes table numbers (steps ++ Visit n root ∷ []) → AreReady nodes table numbers steps × IsReady nodes table numbers n root
+  ready_visit : (steps : List Step) (n root : ℕ) (numbers : List (Option ℕ)) → AreReady shared nodes table numbers (steps ++ Visit n root ∷ []) → AreReady shared nodes table numbers steps × IsReady shared nodes table numbers n root
   ready_visit [] n root numbers h = (tt, h.0)
   ready_visit (Visit m q ∷ steps) n root numbers h =
       let rest = ready_visit steps n root numbers h.1 in
-      ((subst (λ l. IsReady nodes table l m q) (restored_visit steps n root numbers) h.0, rest.0), rest.1)
+      ((subst (λ l. IsReady shared nodes table l m q) (restored_visit steps n root numbers) h.0, rest.0), rest.1)
   ready_visit (Restore v old ∷ steps) n root numbers h = let rest = ready_visit steps n root numbers h.1 in ((h.0, rest.0), rest.1)
 
   -- a visit that is put on
-  put_visit : (steps : List Step) (n root : ℕ) (numbers : List (Option ℕ)) → AreReady nodes table numbers steps → IsReady nodes table numbers n root → AreReady nodes table numbers (steps ++ Visit n root ∷ [])
+  put_visit : (steps : List Step) (n root : ℕ) (numbers : List (Option ℕ)) → AreReady shared nodes table numbers steps → IsReady shared nodes table numbers n root → AreReady shared nodes table numbers (steps ++ Visit n root ∷ [])
   put_visit [] n root numbers h ready = (ready, tt)
-  put_visit (Visit m q ∷ steps) n root numbers h ready = (subst (λ l. IsReady nodes table l m q) (sym (restored_visit steps n root numbers)) h.0, put_visit steps n root numbers h.1 ready)
+  put_visit (Visit m q ∷ steps) n root numbers h ready = (subst (λ l. IsReady shared nodes table l m q) (sym (restored_visit steps n root numbers)) h.0, put_visit steps n root numbers h.1 ready)
   put_visit (Restore v old ∷ steps) n root numbers h ready = (h.0, put_visit steps n root numbers h.1 ready)
 
   -- a restoring step that is taken off
-  ready_restore : (steps : List Step) (w : ℕ) (o : Option ℕ) (numbers : List (Option ℕ)) → AreReady nodes table numbers (steps ++ Restore w o ∷ []) → (w < length numbers) × AreReady nodes table (slice_set numbers w o) steps
+  ready_restore : (steps : List Step) (w : ℕ) (o : Option ℕ) (numbers : List (Option ℕ)) → AreReady shared nodes table numbers (steps ++ Restore w o ∷ []) → (w < length numbers) × AreReady shared nodes table (slice_set numbers w o) steps
   ready_restore [] w o numbers h = (h.0, tt)
   ready_restore (Visit m q ∷ steps) w o numbers h =
       let rest = ready_restore steps w o numbers h.1 in
-      (rest.0, (subst (λ l. IsReady nodes table l m q) (restored_restore steps w o numbers) h.0, rest.1))
+      (rest.0, (subst (λ l. IsReady shared nodes table l m q) (restored_restore steps w o numbers) h.0, rest.1))
   ready_restore (Restore v old ∷ steps) w o numbers h =
       let rest = ready_restore steps w o numbers h.1 in
       (rest.0, (subst (λ k. v < k) (sym (length-set numbers w o)) h.0, rest.1))
 
   -- and one that is put on
-  put_restore : (steps : List Step) (w : ℕ) (o : Option ℕ) (numbers : List (Option ℕ)) → w < length numbers → AreReady nodes table (slice_set numbers w o) steps → AreReady nodes table numbers (steps ++ Restore w o ∷ [])
+  pub put_restore : (steps : List Step) (w : ℕ) (o : Option ℕ) (numbers : List (Option ℕ)) → w < length numbers → AreReady shared nodes table (slice_set numbers w o) steps → AreReady shared nodes table numbers (steps ++ Restore w o ∷ [])
   put_restore [] w o numbers lt h = (lt, tt)
-  put_restore (Visit m q ∷ steps) w o numbers lt h = (subst (λ l. IsReady nodes table l m q) (sym (restored_restore steps w o numbers)) h.0, put_restore steps w o numbers lt h.1)
+  put_restore (Visit m q ∷ steps) w o numbers lt h = (subst (λ l. IsReady shared nodes table l m q) (sym (restored_restore steps w o numbers)) h.0, put_restore steps w o numbers lt h.1)
   put_restore (Restore v old ∷ steps) w o numbers lt h = (subst (λ k. v < k) (length-set numbers w o) h.0, put_restore steps w o numbers lt h.1)
 
-  -- a change, and the step that undoes it
-  change_ready : (steps : List Step) (numbers : List (Option ℕ)) (change : Option NewTerm) → NewTermWithin (length numbers) change → AreReady nodes table numbers steps → AreReady nodes table (changed_numbers numbers change) (steps ++ undoing steps numbers change)
-  change_ready steps numbers None within h = subst (AreReady nodes table numbers) (sym (append-nil steps)) h
-  change_ready [] numbers (Some change) within h = tt
-  change_ready (first ∷ rest) numbers (Some change) within h =
-      let steps = first ∷ rest in
-      let v = change.variable in
-      let old = slice_index_or numbers v None in
-      let back : slice_set (slice_set numbers v (Some change.number)) v old ≡ numbers = set-set numbers v (Some change.number) old ∙ set-get_or numbers v None in
-      put_restore steps v old (slice_set numbers v (Some change.number)) (subst (λ k. v < k) (sym (length-set numbers v (Some change.number))) within) (subst (λ l. AreReady nodes table l steps) (sym back) h)
-
 -- more entries of the table
-ready_on : (nodes : List Node) (old new : List TermKey) (numbers : List (Option ℕ)) (steps : List Step) → Stay old new → AreReady nodes old numbers steps → AreReady nodes new numbers steps
-ready_on nodes old new numbers [] stay h = tt
-ready_on nodes old new numbers (Visit n root ∷ steps) stay h =
+ready_on : (shared : ℕ) (nodes : List Node) (old new : List TermKey) (numbers : List (Option ℕ)) (steps : List Step) → Stay old new → AreReady shared nodes old numbers steps → AreReady shared nodes new numbers steps
+ready_on shared nodes old new numbers [] stay h = tt
+ready_on shared nodes old new numbers (Visit n root ∷ steps) stay h =
     let ready = h.0 in
-    (record { within = ready.within; before = ready.before; path = ready.path; represent = represent_on old new (restored steps numbers) root _ stay ready.represent }, ready_on nodes old new numbers steps stay h.1)
-ready_on nodes old new numbers (Restore v o ∷ steps) stay h = (h.0, ready_on nodes old new numbers steps stay h.1)
-
--- the numbers keep their length
-changed_long : (numbers : List (Option ℕ)) (change : Option NewTerm) → length (changed_numbers numbers change) ≡ length numbers
-changed_long numbers None = refl
-changed_long numbers (Some change) = length-set numbers change.variable (Some change.number)
+    (record { within = ready.within; before = ready.before; path = ready.path; represent = represent_on old new (restored steps numbers) root _ stay ready.represent }, ready_on shared nodes old new numbers steps stay h.1)
+ready_on shared nodes old new numbers (Restore v o ∷ steps) stay h = (h.0, ready_on shared nodes old new numbers steps stay h.1)
 
 -- ---- visits among the steps
 
@@ -143,34 +125,30 @@ module _ (graph : GraphShape) where
   visited_on : (listed listed' : List Bool) (holders : List (Option ℕ)) (n : ℕ) → ((s : ℕ) → slice_get listed s ≡ Some true → slice_get listed' s ≡ Some true) → IsVisited graph listed holders n → IsVisited graph listed' holders n
   visited_on listed listed' holders n more v = record { holder = v.holder; succs = λ s edge. more s (v.succs s edge) }
 
-  -- the visit that is taken: its node is at hand, with its holder, its change and the steps that undo it
-  module _ (is_graph : IsGraph graph.vars graph.received graph.nodes) (table table' : List TermKey) (numbers : List (Option ℕ)) (listed : List Bool) (steps : List Step) (holders : List (Option ℕ)) (n root : ℕ) (node : Node) (found : AtNode)
-      (walk : KeepsTerms graph table numbers listed (steps ++ Visit n root ∷ []) holders None) (here : slice_get graph.nodes n ≡ Some node) (finds : Finds table table' numbers root n node found) where
-    -- the numbers after it
-    abbrev numbers' : List (Option ℕ)
-    numbers' = changed_numbers numbers found.change
-
+  -- the visit that is taken: its node is at hand, with its holder, the numbers after it and the steps that undo them
+  module _ (is_graph : IsGraph graph.vars graph.received graph.nodes) (table table' : List TermKey) (numbers numbers' : List (Option ℕ)) (listed : List Bool) (steps changed : List Step) (holders : List (Option ℕ)) (n root : ℕ) (node : Node) (found : Option ℕ)
+      (walk : IsUnderWay graph table numbers listed (steps ++ Visit n root ∷ []) holders None) (here : slice_get graph.nodes n ≡ Some node) (passes : Passes graph.shared root n node table table' numbers numbers' steps changed found) where
     -- the holders with its own
     abbrev holders' : List (Option ℕ)
-    holders' = slice_set holders n found.holder
+    holders' = slice_set holders n found
 
     -- the numbers stand for the terms before it
-    ready : IsReady graph.nodes table numbers n root
-    ready = (ready_visit graph.nodes table steps n root numbers walk.ready).1
+    ready : IsReady graph.shared graph.nodes table numbers n root
+    ready = (ready_visit graph.shared graph.nodes table steps n root numbers walk.ready).1
 
     -- the terms before the node
     abbrev terms : Terms
-    terms = terms_before graph.nodes root ready.before
+    terms = terms_before graph.shared graph.nodes root ready.before
 
     -- the holder is known
-    holder_known : (node' : Node) → slice_get graph.nodes n ≡ Some node' → IsHolderAt graph.nodes (length graph.vars) n node' (holder_at holders' n)
+    holder_known : (node' : Node) → slice_get graph.nodes n ≡ Some node' → IsHolderAt graph.shared graph.nodes (length graph.vars) n node' (holder_at holders' n)
     holder_known node' there = record {
       root = root;
       before = ready.before;
       path = ready.path;
       is = subst (λ m. IsHolder (length graph.vars) terms (movable_term terms m) (holder_at holders' n)) (same_Some _ _ (sym here ∙ there))
-          (subst (λ h. IsHolder (length graph.vars) terms (movable_term terms node) h) (sym (get_or-set_same holders n found.holder None (omega (arith, ready.within, walk.holders_long))))
-          (subst (λ k. IsHolder k terms (movable_term terms node) found.holder) walk.numbers_long (finds.holder terms ready.represent)));
+          (subst (λ h. IsHolder (length graph.vars) terms (movable_term terms node) h) (sym (get_or-set_same holders n found None (omega (arith, ready.within, walk.holders_long))))
+          (subst (λ k. IsHolder k terms (movable_term terms node) found) walk.numbers_long (passes.holds terms ready.represent)));
     }
 
     -- a Start is its own root
@@ -181,47 +159,48 @@ module _ (graph : GraphShape) where
         absurd (false≢true (sym path.0 ∙ ap (is_root graph.nodes) first))
 
     -- the numbers stand for the terms after the node
-    after_node : Represent table' numbers' root (node_terms n node terms)
+    after_node : Represent table' numbers' root (node_terms graph.shared n node terms)
     after_node = by node refl
       where
-        by_start : (s : ℕ) → node ≡ Start s → Represent table' numbers' root (node_terms n node terms)
+        by_start : (s : ℕ) → node ≡ Start s → Represent table' numbers' root (node_terms graph.shared n node terms)
         by_start s e =
             let own = start_root s e ready.before ready.path in
-            let unchanged : found.change ≡ None = finds.start (ap is_start e) in
-            let before : terms ≡ initial_terms root = ap (terms_before graph.nodes root) own.1 in
-            let after : node_terms n node terms ≡ initial_terms root = ap (λ m. node_terms n m terms) e ∙ ap initial_terms (sym own.0) in
-            subst (Represent table' numbers' root) (before ∙ sym after) (subst (λ c. Represent table' (changed_numbers numbers c) root terms) (sym unchanged) (represent_on table table' numbers root terms finds.stay ready.represent))
+            let before : terms ≡ initial_terms root = ap (terms_before graph.shared graph.nodes root) own.1 in
+            let after : node_terms graph.shared n node terms ≡ initial_terms root = ap (λ m. node_terms graph.shared n m terms) e ∙ ap initial_terms (sym own.0) in
+            subst (Represent table' numbers' root) (before ∙ sym after) (passes.start terms ready.represent (ap is_start e))
 
-        by : (m : Node) → node ≡ m → Represent table' numbers' root (node_terms n node terms)
+        by : (m : Node) → node ≡ m → Represent table' numbers' root (node_terms graph.shared n node terms)
         by (Start s) e = by_start s e
-        by (Skip next) e = finds.change terms ready.represent (ap is_start e)
-        by (Assign x rhs next) e = finds.change terms ready.represent (ap is_start e)
-        by (Print a next) e = finds.change terms ready.represent (ap is_start e)
-        by (Call into unit operands next) e = finds.change terms ready.represent (ap is_start e)
-        by (Test test taken other) e = finds.change terms ready.represent (ap is_start e)
-        by (Return a) e = finds.change terms ready.represent (ap is_start e)
+        by (Skip next) e = passes.after terms ready.represent (ap is_start e)
+        by (Assign x rhs next) e = passes.after terms ready.represent (ap is_start e)
+        by (Print a next) e = passes.after terms ready.represent (ap is_start e)
+        by (Guard test number next) e = passes.after terms ready.represent (ap is_start e)
+        by (Call into unit operands next) e = passes.after terms ready.represent (ap is_start e)
+        by (Test test taken other) e = passes.after terms ready.represent (ap is_start e)
+        by (Return a) e = passes.after terms ready.represent (ap is_start e)
 
     -- the same, as the terms before its successors that are no roots
-    after_path : Represent table' numbers' root (terms_before graph.nodes root (n ∷ ready.before))
-    after_path = subst (λ o. Represent table' numbers' root (terms_after n o terms)) (sym here) after_node
+    after_path : Represent table' numbers' root (terms_before graph.shared graph.nodes root (n ∷ ready.before))
+    after_path = subst (λ o. Represent table' numbers' root (terms_after graph.shared n o terms)) (sym here) after_node
 
     -- the walk with the node at hand
-    taken : KeepsTerms graph table' numbers' listed (steps ++ undoing steps numbers found.change) holders' (Some n)
+    taken : IsUnderWay graph table' numbers' listed changed holders' (Some n)
     taken = record {
-      numbers_long = changed_long numbers found.change ∙ walk.numbers_long;
+      numbers_long = passes.undoes.long ∙ walk.numbers_long;
       listed_long = walk.listed_long;
-      holders_long = length-set holders n found.holder ∙ walk.holders_long;
+      holders_long = length-set holders n found ∙ walk.holders_long;
       roots = walk.roots;
-      ready = change_ready graph.nodes table' steps numbers found.change finds.within (ready_on graph.nodes table table' numbers steps finds.stay (ready_visit graph.nodes table steps n root numbers walk.ready).0);
+      ready = passes.undoes.ready graph.shared graph.nodes table' (ready_on graph.shared graph.nodes table table' numbers steps passes.stay (ready_visit graph.shared graph.nodes table steps n root numbers walk.ready).0);
+      stand = passes.all terms ready.represent walk.stand;
       all = all;
     }
       where
         Where : ℕ → Type 0
-        Where k = IsToVisit k (steps ++ undoing steps numbers found.change) ⊎ (Some n ≡ Some k) ⊎ IsVisited graph listed holders' k
+        Where k = IsToVisit k changed ⊎ (Some n ≡ Some k) ⊎ IsVisited graph listed holders' k
 
         other : (k : ℕ) → k ≢ n → IsVisited graph listed holders k → IsVisited graph listed holders' k
         other k apart v = record {
-          holder = λ node' there. subst (IsHolderAt graph.nodes (length graph.vars) k node') (sym (get_or-set_other holders n k found.holder None apart)) (v.holder node' there);
+          holder = λ node' there. subst (IsHolderAt graph.shared graph.nodes (length graph.vars) k node') (sym (get_or-set_other holders n k found None apart)) (v.holder node' there);
           succs = v.succs;
         }
 
@@ -229,7 +208,7 @@ module _ (graph : GraphShape) where
         visited k v = elim (cases_eq k n) as (λ _. Where k) [ inl same ↦ inr (inl (ap Some (sym same))) | inr apart ↦ inr (inr (other k apart v)) ]
 
         to_visit : (k : ℕ) → IsToVisit k (steps ++ Visit n root ∷ []) → Where k
-        to_visit k v = elim (visit_left k n root steps v) as (λ _. Where k) [ inl left ↦ inl (visit_stays k steps _ left) | inr same ↦ inr (inl (ap Some same)) ]
+        to_visit k v = elim (visit_left k n root steps v) as (λ _. Where k) [ inl left ↦ inl (passes.undoes.visits k left) | inr same ↦ inr (inl (ap Some same)) ]
 
         at_hand : (k : ℕ) → None ≡ Some k → Where k
         at_hand k e = cc
@@ -242,10 +221,10 @@ module _ (graph : GraphShape) where
 
   -- ---- its successors are listed
 
-  module _ (table : List TermKey) (numbers : List (Option ℕ)) (holders : List (Option ℕ)) (n root : ℕ) (before : List ℕ) (path : FromRoot graph.nodes root n before) (represent : Represent table numbers root (terms_before graph.nodes root (n ∷ before))) where
+  module _ (table : List TermKey) (numbers : List (Option ℕ)) (holders : List (Option ℕ)) (n root : ℕ) (before : List ℕ) (path : FromRoot graph.nodes root n before) (represent : Represent table numbers root (terms_before graph.shared graph.nodes root (n ∷ before))) where
     -- the walk with the node at hand
     abbrev AtHand : List Bool → List Step → Type 0
-    AtHand listed steps = KeepsTerms graph table numbers listed steps holders (Some n)
+    AtHand listed steps = IsUnderWay graph table numbers listed steps holders (Some n)
 
     -- a successor that is not listed is no root, and is put on
     put_on : (listed : List Bool) (steps : List Step) (s : ℕ) → AtHand listed steps → HasEdge graph.nodes n s → s < length listed → slice_index_or listed s false ≡ false → AtHand (slice_set listed s true) (steps ++ Visit s root ∷ [])
@@ -254,7 +233,8 @@ module _ (graph : GraphShape) where
       listed_long = length-set listed s true ∙ walk.listed_long;
       holders_long = walk.holders_long;
       roots = λ k k_lt is. set_keeps listed s k (walk.roots k k_lt is);
-      ready = put_visit graph.nodes table steps s root numbers walk.ready (record { within = within; before = n ∷ before; path = (no_root, only_enters graph.nodes n s no_root edge, path); represent = represent });
+      ready = put_visit graph.shared graph.nodes table steps s root numbers walk.ready (record { within = within; before = n ∷ before; path = (no_root, only_enters graph.nodes n s no_root edge, path); represent = represent });
+      stand = walk.stand;
       all = all;
     }
       where
@@ -304,46 +284,44 @@ listed_all (t ∷ succs) listed zero s at lt = let same : t ≡ s = same_Some _ 
 listed_all (t ∷ succs) listed (suc i) s at lt = listed_all succs (slice_set listed t true) i s at (subst (λ m. s < m) (sym (length-set listed t true)) lt)
 
 -- a node is visited: the walk goes on
-pub visit_walks : (graph : GraphShape) → IsGraph graph.vars graph.received graph.nodes → (table table' : List TermKey) (numbers : List (Option ℕ)) (listed : List Bool) (steps : List Step) (holders : List (Option ℕ)) (n root : ℕ) (node : Node) (found : AtNode)
-    → KeepsTerms graph table numbers listed (steps ++ Visit n root ∷ []) holders None → slice_get graph.nodes n ≡ Some node → Finds table table' numbers root n node found
-    → KeepsTerms graph table' (changed_numbers numbers found.change) (listed_after (succs_at graph.nodes n) listed) (steps_after root (succs_at graph.nodes n) listed (steps ++ undoing steps numbers found.change)) (slice_set holders n found.holder) None
-visit_walks graph is_graph table table' numbers listed steps holders n root node found walk here finds = record {
+pub visit_walks : (graph : GraphShape) → IsGraph graph.vars graph.received graph.nodes → (table table' : List TermKey) (numbers numbers' : List (Option ℕ)) (listed : List Bool) (steps changed : List Step) (holders : List (Option ℕ)) (n root : ℕ) (node : Node) (found : Option ℕ)
+    → IsUnderWay graph table numbers listed (steps ++ Visit n root ∷ []) holders None → slice_get graph.nodes n ≡ Some node → Passes graph.shared root n node table table' numbers numbers' steps changed found
+    → IsUnderWay graph table' numbers' (listed_after (succs_at graph.nodes n) listed) (steps_after root (succs_at graph.nodes n) listed changed) (slice_set holders n found) None
+visit_walks graph is_graph table table' numbers numbers' listed steps changed holders n root node found walk here passes = record {
   numbers_long = at_hand.numbers_long;
   listed_long = at_hand.listed_long;
   holders_long = at_hand.holders_long;
   roots = at_hand.roots;
   ready = at_hand.ready;
+  stand = at_hand.stand;
   all = all;
 }
   where
     succs : List ℕ
     succs = succs_at graph.nodes n
 
-    numbers' : List (Option ℕ)
-    numbers' = changed_numbers numbers found.change
-
     holders' : List (Option ℕ)
-    holders' = slice_set holders n found.holder
+    holders' = slice_set holders n found
 
     listed' : List Bool
     listed' = listed_after succs listed
 
     steps' : List Step
-    steps' = steps_after root succs listed (steps ++ undoing steps numbers found.change)
+    steps' = steps_after root succs listed changed
 
-    is_ready : IsReady graph.nodes table numbers n root
-    is_ready = ready graph is_graph table table' numbers listed steps holders n root node found walk here finds
+    is_ready : IsReady graph.shared graph.nodes table numbers n root
+    is_ready = ready graph is_graph table table' numbers numbers' listed steps changed holders n root node found walk here passes
 
     edges : (i s : ℕ) → slice_get succs i ≡ Some s → HasEdge graph.nodes n s × (s < length listed)
     edges i s at = ((i, at), omega (arith, (is_graph.can.succs n i s at).1, walk.listed_long))
 
-    at_hand : KeepsTerms graph table' numbers' listed' steps' holders' (Some n)
-    at_hand = list_all graph table' numbers' holders' n root is_ready.before is_ready.path (after_path graph is_graph table table' numbers listed steps holders n root node found walk here finds) succs listed (steps ++ undoing steps numbers found.change) edges
-        (taken graph is_graph table table' numbers listed steps holders n root node found walk here finds)
+    at_hand : IsUnderWay graph table' numbers' listed' steps' holders' (Some n)
+    at_hand = list_all graph table' numbers' holders' n root is_ready.before is_ready.path (after_path graph is_graph table table' numbers numbers' listed steps changed holders n root node found walk here passes) succs listed changed edges
+        (taken graph is_graph table table' numbers numbers' listed steps changed holders n root node found walk here passes)
 
     visited : IsVisited graph listed' holders' n
     visited = record {
-      holder = holder_known graph is_graph table table' numbers listed steps holders n root node found walk here finds;
+      holder = holder_known graph is_graph table table' numbers numbers' listed steps changed holders n root node found walk here passes;
       succs = λ s edge. listed_all succs listed edge.0 s edge.1 (edges edge.0 s edge.1).1;
     }
 
@@ -360,53 +338,52 @@ visit_walks graph is_graph table table' numbers listed steps holders n root node
     ]
 
 -- the node of a visit that is taken is one of the graph
-pub at_visit : {graph : GraphShape} {table : List TermKey} {numbers : List (Option ℕ)} {listed : List Bool} (steps : List Step) {holders : List (Option ℕ)} {n : ℕ} (root : ℕ) → KeepsTerms graph table numbers listed (steps ++ Visit n root ∷ []) holders None → n < length graph.nodes
-at_visit {graph = graph} {table = table} {numbers = numbers} steps {n = n} root walk = let ready = (ready_visit graph.nodes table steps n root numbers walk.ready).1 in ready.within
+pub at_visit : {graph : GraphShape} {table : List TermKey} {numbers : List (Option ℕ)} {listed : List Bool} (steps : List Step) {holders : List (Option ℕ)} {n : ℕ} (root : ℕ) → IsUnderWay graph table numbers listed (steps ++ Visit n root ∷ []) holders None → n < length graph.nodes
+at_visit {graph = graph} {table = table} {numbers = numbers} steps {n = n} root walk = let ready = (ready_visit graph.shared graph.nodes table steps n root numbers walk.ready).1 in ready.within
 
 -- and the numbers are those of the terms before it
-pub known_at : {graph : GraphShape} {table : List TermKey} {numbers : List (Option ℕ)} {listed : List Bool} (steps : List Step) {holders : List (Option ℕ)} {n : ℕ} (root : ℕ) → KeepsTerms graph table numbers listed (steps ++ Visit n root ∷ []) holders None → AreTermsBefore graph n root table numbers
+pub known_at : {graph : GraphShape} {table : List TermKey} {numbers : List (Option ℕ)} {listed : List Bool} (steps : List Step) {holders : List (Option ℕ)} {n : ℕ} (root : ℕ) → IsUnderWay graph table numbers listed (steps ++ Visit n root ∷ []) holders None → AreTermsBefore graph n root table numbers
 known_at {graph = graph} {table = table} {numbers = numbers} steps {n = n} root walk =
-    let ready = (ready_visit graph.nodes table steps n root numbers walk.ready).1 in
-    record { long = walk.numbers_long; before = ready.before; path = ready.path; represent = ready.represent }
+    let ready = (ready_visit graph.shared graph.nodes table steps n root numbers walk.ready).1 in
+    record { long = walk.numbers_long; before = ready.before; path = ready.path; represent = ready.represent; stand = walk.stand }
 
 -- its successors are nodes of the graph, for which there are marks
 pub succs_below : (graph : GraphShape) → IsGraph graph.vars graph.received graph.nodes → (listed : List Bool) (n : ℕ) → length listed ≡ length graph.nodes → AllBelow (length listed) (succs_at graph.nodes n)
 succs_below graph is_graph listed n long = all_below (length listed) (succs_at graph.nodes n) (λ i s at. omega (arith, (is_graph.can.succs n i s at).1, long))
 
 -- a visit, as the code makes it: the walk goes on, and less is left
-module _ (graph : GraphShape) (is_graph : IsGraph graph.vars graph.received graph.nodes) (table table' : List TermKey) (numbers : List (Option ℕ)) (listed : List Bool) (steps : List Step) (holders : List (Option ℕ)) (n root : ℕ) (node : Node) (found : AtNode)
-    (numbers' : List (Option ℕ)) (listed' : List Bool) (changed steps' : List Step) (holders' : List (Option ℕ)) (succs : List ℕ)
-    (numbers_are : numbers' ≡ changed_numbers numbers found.change) (changed_are : changed ≡ steps ++ undoing steps numbers found.change) (succs_are : succs ≡ succs_at graph.nodes n)
-    (listed_are : listed' ≡ listed_after succs listed) (steps_are : steps' ≡ steps_after root succs listed changed) (holders_are : holders' ≡ slice_set holders n found.holder) where
+module _ (graph : GraphShape) (is_graph : IsGraph graph.vars graph.received graph.nodes) (table table' : List TermKey) (numbers numbers' : List (Option ℕ)) (listed : List Bool) (steps changed : List Step) (holders : List (Option ℕ)) (n root : ℕ) (node : Node) (found : Option ℕ)
+    (listed' : List Bool) (steps' : List Step) (holders' : List (Option ℕ)) (succs : List ℕ) (succs_are : succs ≡ succs_at graph.nodes n)
+    (listed_are : listed' ≡ listed_after succs listed) (steps_are : steps' ≡ steps_after root succs listed changed) (holders_are : holders' ≡ slice_set holders n found)
+    (passes : Passes graph.shared root n node table table' numbers numbers' steps changed found) where
   -- the marks, by the graph's own successors
   marks_made : listed' ≡ listed_after (succs_at graph.nodes n) listed
   marks_made = listed_are ∙ ap (λ l. listed_after l listed) succs_are
 
   -- and the steps
-  steps_made : steps' ≡ steps_after root (succs_at graph.nodes n) listed (steps ++ undoing steps numbers found.change)
-  steps_made = steps_are ∙ ap (λ l. steps_after root l listed changed) succs_are ∙ ap (steps_after root (succs_at graph.nodes n) listed) changed_are
+  steps_made : steps' ≡ steps_after root (succs_at graph.nodes n) listed changed
+  steps_made = steps_are ∙ ap (λ l. steps_after root l listed changed) succs_are
 
   -- the walk goes on
-  pub visit_goes_on : KeepsTerms graph table numbers listed (steps ++ Visit n root ∷ []) holders None → slice_get graph.nodes n ≡ Some node → Finds table table' numbers root n node found → KeepsTerms graph table' numbers' listed' steps' holders' None
-  visit_goes_on walk here finds =
-      subst (λ l. KeepsTerms graph table' l listed' steps' holders' None) (sym numbers_are)
-      (subst (λ l. KeepsTerms graph table' (changed_numbers numbers found.change) l steps' holders' None) (sym marks_made)
-      (subst (λ l. KeepsTerms graph table' (changed_numbers numbers found.change) (listed_after (succs_at graph.nodes n) listed) l holders' None) (sym steps_made)
-      (subst (λ l. KeepsTerms graph table' (changed_numbers numbers found.change) (listed_after (succs_at graph.nodes n) listed) (steps_after root (succs_at graph.nodes n) listed (steps ++ undoing steps numbers found.change)) l None) (sym holders_are)
-      (visit_walks graph is_graph table table' numbers listed steps holders n root node found walk here finds))))
+  pub visit_goes_on : IsUnderWay graph table numbers listed (steps ++ Visit n root ∷ []) holders None → slice_get graph.nodes n ≡ Some node → IsUnderWay graph table' numbers' listed' steps' holders' None
+  visit_goes_on walk here =
+      subst (λ l. IsUnderWay graph table' numbers' l steps' holders' None) (sym marks_made)
+      (subst (λ l. IsUnderWay graph table' numbers' (listed_after (succs_at graph.nodes n) listed) l holders' None) (sym steps_made)
+      (subst (λ l. IsUnderWay graph table' numbers' (listed_after (succs_at graph.nodes n) listed) (steps_after root (succs_at graph.nodes n) listed changed) l None) (sym holders_are)
+      (visit_walks graph is_graph table table' numbers numbers' listed steps changed holders n root node found walk here passes)))
 
   -- and less is left
-  pub visit_less : length listed ≡ length graph.nodes → weight_left listed' steps' < weight_left listed (steps ++ Visit n root ∷ [])
+  pub visit_less : length listed ≡ length graph.nodes → weight_left graph.shared listed' steps' < weight_left graph.shared listed (steps ++ Visit n root ∷ [])
   visit_less long =
-      subst (λ l. weight_left l steps' < weight_left listed (steps ++ Visit n root ∷ [])) (sym marks_made)
-      (subst (λ l. weight_left (listed_after (succs_at graph.nodes n) listed) l < weight_left listed (steps ++ Visit n root ∷ [])) (sym steps_made)
-      (visit_light n root (succs_at graph.nodes n) listed steps numbers found.change (succs_below graph is_graph listed n long)))
+      subst (λ l. weight_left graph.shared l steps' < weight_left graph.shared listed (steps ++ Visit n root ∷ [])) (sym marks_made)
+      (subst (λ l. weight_left graph.shared (listed_after (succs_at graph.nodes n) listed) l < weight_left graph.shared listed (steps ++ Visit n root ∷ [])) (sym steps_made)
+      (visit_light graph.shared n root (succs_at graph.nodes n) listed steps changed (succs_below graph is_graph listed n long) (passes.undoes.light graph.shared)))
 
 -- a number is restored: the walk goes on
 pub restore_walks : (graph : GraphShape) (table : List TermKey) (numbers : List (Option ℕ)) (listed : List Bool) (steps : List Step) (holders : List (Option ℕ)) (v : ℕ) (old : Option ℕ)
-    → KeepsTerms graph table numbers listed (steps ++ Restore v old ∷ []) holders None → (v < length numbers) × KeepsTerms graph table (slice_set numbers v old) listed steps holders None
+    → IsUnderWay graph table numbers listed (steps ++ Restore v old ∷ []) holders None → (v < length numbers) × IsUnderWay graph table (slice_set numbers v old) listed steps holders None
 restore_walks graph table numbers listed steps holders v old walk =
-    let rest = ready_restore graph.nodes table steps v old numbers walk.ready in (
+    let rest = ready_restore graph.shared graph.nodes table steps v old numbers walk.ready in (
       rest.0,
       record {
         numbers_long = length-set numbers v old ∙ walk.numbers_long;
@@ -414,6 +391,7 @@ restore_walks graph table numbers listed steps holders v old walk =
         holders_long = walk.holders_long;
         roots = walk.roots;
         ready = rest.1;
+        stand = walk.stand;
         all = all;
       },
     )
@@ -437,12 +415,12 @@ visits_restore (Restore v old ∷ steps) numbers only = let bad = only 0 (Restor
     differs e = cc
 
 -- visits of roots are ready where no variable has a number
-roots_ready : (nodes : List Node) (table : List TermKey) (numbers : List (Option ℕ)) (count : ℕ) (roots : List Bool) → numbers ≡ replicate count None → AreRoots nodes roots → (steps : List Step)
-    → ((i : ℕ) (step : Step) → slice_get steps i ≡ Some step → (n : ℕ) × (step ≡ Visit n n) × (slice_get roots n ≡ Some true)) → AreReady nodes table numbers steps
-roots_ready nodes table numbers count roots none are [] only = tt
-roots_ready nodes table numbers count roots none are (Visit n root ∷ steps) only =
+roots_ready : (shared : ℕ) (nodes : List Node) (table : List TermKey) (numbers : List (Option ℕ)) (count : ℕ) (roots : List Bool) → numbers ≡ replicate count None → AreRoots nodes roots → (steps : List Step)
+    → ((i : ℕ) (step : Step) → slice_get steps i ≡ Some step → (n : ℕ) × (step ≡ Visit n n) × (slice_get roots n ≡ Some true)) → AreReady shared nodes table numbers steps
+roots_ready shared nodes table numbers count roots none are [] only = tt
+roots_ready shared nodes table numbers count roots none are (Visit n root ∷ steps) only =
     let own = only 0 (Visit n root) refl in
-    (ready own.0 own.1 own.2, roots_ready nodes table numbers count roots none are steps (λ i step at. only (suc i) step at))
+    (ready own.0 own.1 own.2, roots_ready shared nodes table numbers count roots none are steps (λ i step at. only (suc i) step at))
   where
     parts : (k : ℕ) → Visit n root ≡ Visit k k → (n ≡ k) × (root ≡ k)
     parts k e = (cc, cc)
@@ -450,7 +428,7 @@ roots_ready nodes table numbers count roots none are (Visit n root ∷ steps) on
     visits : (i : ℕ) (step : Step) → slice_get steps i ≡ Some step → (m : ℕ) × (step ≡ Visit m m)
     visits i step at = let o = only (suc i) step at in (o.0, o.1)
 
-    ready : (k : ℕ) → Visit n root ≡ Visit k k → slice_get roots k ≡ Some true → IsReady nodes table (restored steps numbers) n root
+    ready : (k : ℕ) → Visit n root ≡ Visit k k → slice_get roots k ≡ Some true → IsReady shared nodes table (restored steps numbers) n root
     ready k e on =
         let p = parts k e in
         let within : k < length nodes = omega (arith, slice_get_within roots k true on, are.long) in
@@ -461,25 +439,26 @@ roots_ready nodes table numbers count roots none are (Visit n root ∷ steps) on
           path = (p.0 ∙ sym p.1, subst (λ j. is_root nodes j ≡ true) (sym p.0) is);
           represent = initial_represent table (restored steps numbers) count root (visits_restore steps numbers visits ∙ none);
         }
-roots_ready nodes table numbers count roots none are (Restore v old ∷ steps) only = let bad = only 0 (Restore v old) refl in differs bad.1
+roots_ready shared nodes table numbers count roots none are (Restore v old ∷ steps) only = let bad = only 0 (Restore v old) refl in differs bad.1
   where
     differs : {n : ℕ} {A : Type 0} → Restore v old ≡ Visit n n → A
     differs e = cc
 
 -- the walk before its first step
 pub begins : (graph : GraphShape) (table : List TermKey) (numbers holders : List (Option ℕ)) (roots : List Bool) (steps : List Step) → numbers ≡ replicate (length graph.vars) None → holders ≡ replicate (length graph.nodes) None
-    → AreRoots graph.nodes roots → VisitRoots roots steps → KeepsTerms graph table numbers roots steps holders None
-begins graph table numbers holders roots steps none unheld are visits = record {
+    → table ≡ [] → AreRoots graph.nodes roots → VisitRoots roots steps → IsUnderWay graph table numbers roots steps holders None
+begins graph table numbers holders roots steps none unheld no_keys are visits = record {
   numbers_long = ap length none ∙ length-replicate (length graph.vars) None;
   listed_long = are.long;
   holders_long = ap length unheld ∙ length-replicate (length graph.nodes) None;
   roots = λ n lt is. are.are n lt ∙ ap Some is;
-  ready = roots_ready graph.nodes table numbers (length graph.vars) roots none are steps visits.only;
+  ready = roots_ready graph.shared graph.nodes table numbers (length graph.vars) roots none are steps visits.only;
+  stand = none_stand table no_keys;
   all = λ n at. let v = visits.has n at in inl (v.0, n, v.1);
 }
 
 -- when no step is left, all nodes have been visited
-module _ (graph : GraphShape) (is_graph : IsGraph graph.vars graph.received graph.nodes) (table : List TermKey) (numbers : List (Option ℕ)) (listed : List Bool) (holders : List (Option ℕ)) (walk : KeepsTerms graph table numbers listed [] holders None) where
+module _ (graph : GraphShape) (is_graph : IsGraph graph.vars graph.received graph.nodes) (table : List TermKey) (numbers : List (Option ℕ)) (listed : List Bool) (holders : List (Option ℕ)) (walk : IsUnderWay graph table numbers listed [] holders None) where
   -- each node that is listed
   listed_visited : (n : ℕ) → slice_get listed n ≡ Some true → IsVisited graph listed holders n
   listed_visited n at = elim (walk.all n at) as (λ _. IsVisited graph listed holders n) [

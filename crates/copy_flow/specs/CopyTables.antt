@@ -4,7 +4,7 @@ use Rattle.mir_base.specs.declared.instructions.Operand.TheVariants.{Var, Const}
 use Rattle.mir_base.specs.declared.instructions.Rhs.{Rhs}
 use Rattle.mir_base.specs.declared.instructions.Rhs.TheVariants.{Plain, Unary, Binary}
 use Rattle.flow_graph.specs.declared.nodes.Node.{Node}
-use Rattle.flow_graph.specs.declared.nodes.Node.TheVariants.{Start, Skip, Assign, Print, Call, Test, Return}
+use Rattle.flow_graph.specs.declared.nodes.Node.TheVariants.{Start, Skip, Assign, Print, Guard, Call, Test, Return}
 use Rattle.path_laws.specs.KeyRows.{HasKey}
 use Rattle.copy_flow.specs.declared.table.VarCopy.{VarCopy}
 
@@ -25,6 +25,7 @@ copy_of (Start next) = None
 copy_of (Skip next) = None
 copy_of (Assign x rhs next) = copy_by_rhs x rhs
 copy_of (Print a next) = None
+copy_of (Guard test number next) = None
 copy_of (Call into unit operands next) = None
 copy_of (Test test taken other) = None
 copy_of (Return a) = None
