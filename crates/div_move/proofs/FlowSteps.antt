@@ -1,40 +1,16 @@
--- An edge of the flow against the edges of a graph is an edge of the graph the other way round, and what a push along it
--- leaves.
-use Rattle.std.proofs.Common.{◌≡◌, ℕ, ◌+◌, ◌<◌, true, List, length, slice_get, Some, Bool, option_map, sym, ap, ◌∙◌, subst}
-use Rattle.std.proofs.lemmas.Option.{slice_get_within, slice_get-get_or, slice_get-map, get_or_from_slice_get}
+-- An edge by target is that of the flow the other way round, and what a push along it leaves is the least upper bound.
+use Rattle.std.proofs.Common.{◌≡◌, ℕ, ◌<◌, true, List, length, slice_get, Some, Bool, option_map, sym, ap, ◌∙◌, subst}
+use Rattle.std.proofs.lemmas.Option.{slice_get-map, get_or_from_slice_get}
 use Rattle.flow_graph.specs.declared.edges.Edge.{Edge}
 use Rattle.flow_graph.specs.declared.nodes.Node.{Node}
-use Rattle.flow_graph.specs.EdgeLaws.{by_target_from, by_target_has, edge_is, edge_number}
-use Rattle.flow_graph.specs.Edges.{EdgesShape, by_target, edges_from, edges_of, first_leaving}
-use Rattle.flow_graph.specs.FlowEdgeLaws.{reversed_from}
+use Rattle.flow_graph.specs.Edges.{EdgesShape, by_target, edges_from, edges_of}
 use Rattle.flow_graph.specs.FlowEdges.{edge_at, flow_edges, reversed_edge}
-use Rattle.flow_graph.specs.Graphs.{AllWithin}
-use Rattle.flow_graph.specs.Paths.{HasEdge}
 use Rattle.fix_solve.specs.Order.{IsLeastUpper}
 use Rattle.div_move.specs.declared.flow.SlotFlow.{SlotFlow}
 use Rattle.div_move.specs.SlotFlow.{IsSlotFlow, arriving_at, down_row, slot_net}
 use Rattle.div_move.specs.SlotFlowLaws.{flow_ends, slot_flow_laws}
 use Rattle.div_move.specs.SlotLaws.{or_pairs_join}
 use Rattle.div_move.specs.Slots.{BelowSlots, or_pairs}
-
--- its target leads to its source
-pub flow_step : (nodes : List Node) (e : ℕ) → e < length (flow_edges true nodes) → HasEdge nodes (edge_at (flow_edges true nodes) e).target (edge_at (flow_edges true nodes) e).source
-flow_step nodes e h =
-    let edge = edge_at (flow_edges true nodes) e in
-    let back = reversed_from (by_target (length nodes) (edges_from 0 nodes)) e edge (slice_get-get_or (flow_edges true nodes) e _ h) in
-    let k = by_target_from (length nodes) (edges_from 0 nodes) e (reversed_edge edge) back in
-    edge_is nodes k.0 (reversed_edge edge) k.1
-
--- and each edge is so one of the flow
-pub step_edge : (nodes : List Node) → AllWithin nodes → (m n : ℕ) → HasEdge nodes m n
-    → (e : ℕ) × (e < length (flow_edges true nodes)) × ((edge_at (flow_edges true nodes) e).source ≡ n) × ((edge_at (flow_edges true nodes) e).target ≡ m)
-step_edge nodes within m n step =
-    let edge : Edge = record { source = m; target = n } in
-    let k = first_leaving m (edges_from 0 nodes) + step.0 in
-    let place = by_target_has (length nodes) (edges_from 0 nodes) k edge (edge_number nodes m step.0 n step.1) (within m step.0 n step.1) in
-    let there : slice_get (flow_edges true nodes) place.0 ≡ Some (reversed_edge edge) = slice_get-map reversed_edge (by_target (length nodes) (edges_from 0 nodes)) place.0 ∙ ap (option_map reversed_edge) place.1 in
-    let is = get_or_from_slice_get (flow_edges true nodes) place.0 (reversed_edge edge) (record { source = 0; target = 0 }) there in
-    (place.0, slice_get_within (flow_edges true nodes) place.0 (reversed_edge edge) there, ap (λ (x : Edge). x.source) is, ap (λ (x : Edge). x.target) is)
 
 -- ---- one push
 

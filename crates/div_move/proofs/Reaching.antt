@@ -9,7 +9,7 @@ use Rattle.fix_solve.specs.Arising.{arising_hold}
 use Rattle.fix_solve.specs.Net.{value_at}
 use Rattle.fix_solve.specs.Order.{IsLeastUpper}
 use Rattle.flow_graph.specs.declared.nodes.Node.{Node}
-use Rattle.flow_graph.specs.declared.nodes.Node.TheVariants.{Start, Skip, Assign, Print, Call, Test, Return}
+use Rattle.flow_graph.specs.declared.nodes.Node.TheVariants.{Start, Skip, Assign, Print, Guard, Call, Test, Return}
 use Rattle.flow_graph.specs.FlowEdges.{edge_at, flow_edges}
 use Rattle.flow_graph.specs.Graphs.{GraphShape, succs_at, succs_of}
 use Rattle.flow_graph.specs.Paths.{HasEdge, IsReturnAt, is_return}
@@ -22,7 +22,7 @@ use Rattle.motion_rewrite.specs.Rows.{AreRowsOf, AreRowsWhere}
 use Rattle.div_move.specs.SlotFlow.{AreDownRowsTo, IsSlotFlow, SolvesSlots, arriving, down_bit, down_row, halts_at, is_lacking, is_node, lacks_at, leads_at, node_halts, slot_net}
 use Rattle.div_move.specs.SlotFlowLaws.{flow_ends}
 use Rattle.div_move.specs.Slots.{BelowSlots}
-use Rattle.div_move.proofs.FlowSteps.{step_edge}
+use Rattle.path_laws.specs.LeadsLaws.{step_edge}
 use Rattle.div_move.proofs.Pairs.{arriving_from, arriving_to, below_known, down_from, down_to, joined_known, known_of, pick, pick_way, slot_no}
 
 -- ---- steps
@@ -46,6 +46,7 @@ two_slots nodes n slot s at = of (slice_get nodes n) slot at
     of (Some (Skip next)) (suc (suc i)) at' = cc
     of (Some (Assign x rhs next)) (suc (suc i)) at' = cc
     of (Some (Print a next)) (suc (suc i)) at' = cc
+    of (Some (Guard test number next)) (suc (suc i)) at' = cc
     of (Some (Call into unit operands next)) (suc (suc i)) at' = cc
     of (Some (Test test taken other)) (suc (suc i)) at' = cc
     of (Some (Return a)) (suc (suc i)) at' = cc
@@ -166,6 +167,7 @@ module _ {L : Type 0} (f : SlotFlow L) (is : IsSlotFlow f) (values : List (List 
           by (Some (Skip next)) free' returns' = cc
           by (Some (Assign x rhs next)) free' returns' = cc
           by (Some (Print a next)) free' returns' = cc
+          by (Some (Guard test number next)) free' returns' = cc
           by (Some (Call into unit operands next)) free' returns' = cc
           by (Some (Test test taken other)) free' returns' = cc
           by (Some (Return a)) free' returns' = let rest = (or_parts (node_kills graph e (Some (Return a))) (true || (false && not (node_uses e (Some (Return a))))) free').1 in true≢false rest
@@ -217,7 +219,7 @@ module _ {L : Type 0} (f : SlotFlow L) (is : IsSlotFlow f) (values : List (List 
     | inr leads ↦
         let s = leads.0 in
         let edge : HasEdge graph.nodes n s = (slot_no which, leads.1) in
-        let i = step_edge graph.nodes is.within n s edge in
+        let i = step_edge true graph.nodes is.within n s edge in
         let s_in = is.within n (slot_no which) s leads.1 in
         let down : get_or (down_row f s (v s)) b false ≡ true =
         down_to (halts_at graph.nodes s) (row_of f.uses.now s) (row_of f.kills.now s) (v s) b (subst (λ k. b < k) (sym (is.use_rows.each s s_in)) b_in) (is.kill_rows.each s s_in ∙ sym (is.use_rows.each s s_in)) (v_long s s_in ∙ sym (is.use_rows.each s s_in)) (all s edge) in

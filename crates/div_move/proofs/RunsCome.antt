@@ -11,13 +11,13 @@ use Rattle.mir_base.specs.ExpressionVars.{expr_vars}
 use Rattle.mir_base.specs.Frames.{Code, Continues, Frame, Traps, Values, with_value}
 use Rattle.mir_base.specs.Units.{assigned, at, test_holds}
 use Rattle.flow_graph.specs.declared.nodes.Node.{Node}
-use Rattle.flow_graph.specs.declared.nodes.Node.TheVariants.{Start, Skip, Assign, Print, Call, Test, Return}
+use Rattle.flow_graph.specs.declared.nodes.Node.TheVariants.{Start, Skip, Assign, Print, Guard, Call, Test, Return}
 use Rattle.flow_graph.specs.BoundLaws.{edge_within}
 use Rattle.flow_graph.specs.Graphs.{AllWithin, GraphShape, assigns, succs_of}
 use Rattle.flow_graph.specs.ListLaws.{some_at}
 use Rattle.flow_graph.specs.Machines.{graph_code, node_transition}
 use Rattle.flow_graph.specs.Paths.{HasEdge}
-use Rattle.flow_graph.specs.VarLaws.{NoneAssigned}
+use Rattle.graph_edit.specs.VarLaws.{NoneAssigned}
 use Rattle.motion_rewrite.specs.Expressions.{node_kills, node_uses, uses}
 use Rattle.motion_rewrite.specs.KillLaws.{kills_none}
 use Rattle.div_move.specs.MustCome.{MustComeTo, RunComesTo, RunsComeTo, is_division, is_observable, node_hinders}
@@ -42,7 +42,7 @@ undivided false u h off = refl
 
 module _ (graph : GraphShape) (e : Expr) where
   abbrev code : Code
-  code = graph_code graph.received graph.nodes
+  code = graph_code graph.shared graph.received graph.nodes
 
   abbrev frame : ℕ → List ℤ → Values → Frame
   frame n arguments values = record { place = n; arguments = arguments; values = values }
@@ -78,7 +78,7 @@ module _ (graph : GraphShape) (e : Expr) where
   from_node : (n : ℕ) (node : Node) (arguments : List ℤ) (v : Values) → slice_get graph.nodes n ≡ Some node → node_hinders graph e (Some node) ≡ false → ((s : ℕ) → HasEdge graph.nodes n s → (w : Values) → RunComesTo graph e s arguments w) → RunComesTo graph e n arguments v
   from_node n (Start next) arguments v is free later = let kept = (free_parts (Start next) free).0 in absurd (cc)
   from_node n (Skip next) arguments v is free later =
-      one_before n next 0 arguments v v (ap (λ o. node_transition graph.received o (frame n arguments v)) is) (equal_itself (expr_vars e) v) (later next (0, ap (λ o. slice_get (succs_of o) 0) is) v)
+      one_before n next 0 arguments v v (ap (λ o. node_transition graph.shared graph.received o (frame n arguments v)) is) (equal_itself (expr_vars e) v) (later next (0, ap (λ o. slice_get (succs_of o) 0) is) v)
   from_node n (Assign x t next) arguments v is free later = elim (cases_Bool (uses graph e n)) [
     | inl used ↦ at_once n arguments v used
     | inr unused ↦
@@ -87,14 +87,15 @@ module _ (graph : GraphShape) (e : Expr) where
         let untrapped : rhs_traps v t ≡ false = never_traps_where_undivided v t (undivided (divides t) (node_uses e (Some (Assign x t next))) parts.2 (ap (node_uses e) (sym is) ∙ unused)) in
         let c = rhs_value v t in
         one_before n next (rhs_count t) arguments v (with_value x c v)
-        (ap (λ o. node_transition graph.received o f) is ∙ assign_is x t next f ∙ ap (λ b. (if b then Traps ZeroDivisor 1 else Continues (rhs_count t) (assigned x c next f))) untrapped)
+        (ap (λ o. node_transition graph.shared graph.received o f) is ∙ assign_is x t next f ∙ ap (λ b. (if b then Traps ZeroDivisor 1 else Continues (rhs_count t) (assigned x c next f))) untrapped)
         (leaves x c v (Assign x t next) (expr_vars e) (λ y. refl) (kills_none graph e (Assign x t next) parts.0)) (later next (0, ap (λ o. slice_get (succs_of o) 0) is) (with_value x c v))
   ]
   from_node n (Print a next) arguments v is free later = let kept = (free_parts (Print a next) free).1 in absurd (cc)
+  from_node n (Guard test number next) arguments v is free later = let kept = (free_parts (Guard test number next) free).1 in absurd (cc)
   from_node n (Call into unit operands next) arguments v is free later = let kept = (free_parts (Call into unit operands next) free).1 in absurd (cc)
   from_node n (Test test taken other) arguments v is free later =
       let f = frame n arguments v in
-      let steps = ap (λ o. node_transition graph.received o f) is in
+      let steps = ap (λ o. node_transition graph.shared graph.received o f) is in
       elim (cases_Bool (test_holds v test)) [
         | inl holds ↦ one_before n taken 0 arguments v v (steps ∙ ap (λ b. Continues 0 (at (if b then taken else other) f)) holds) (equal_itself (expr_vars e) v) (later taken (0, ap (λ o. slice_get (succs_of o) 0) is) v)
         | inr fails ↦ one_before n other 0 arguments v v (steps ∙ ap (λ b. Continues 0 (at (if b then taken else other) f)) fails) (equal_itself (expr_vars e) v) (later other (1, ap (λ o. slice_get (succs_of o) 1) is) v)

@@ -1,5 +1,5 @@
--- Which nodes must come to an expression before anything can be observed: the rule for expressions that divide. Cited by
--- contracts.
+-- Which nodes must come to an expression before anything can be observed: the rule for expressions that divide. Cited
+-- by contracts.
 use Rattle.std.specs.Prelude.{◌≡◌, ◌⊎◌, ◌<◌, ◌≤◌, ◌&&◌, ◌||◌, ℕ, Bool, true, false, not, List, [], ◌∷◌, length, slice_get, Option, Some, None, ℤ}
 use Rattle.mir_base.specs.declared.instructions.Expr.{Expr}
 use Rattle.mir_base.specs.EqualValues.{EqualOn}
@@ -8,7 +8,7 @@ use Rattle.mir_base.specs.ExpressionVars.{expr_vars}
 use Rattle.mir_base.specs.Frames.{Frame, Values}
 use Rattle.mir_base.specs.Simulations.{Silently}
 use Rattle.flow_graph.specs.declared.nodes.Node.{Node}
-use Rattle.flow_graph.specs.declared.nodes.Node.TheVariants.{Start, Skip, Assign, Print, Call, Test, Return}
+use Rattle.flow_graph.specs.declared.nodes.Node.TheVariants.{Start, Skip, Assign, Print, Guard, Call, Test, Return}
 use Rattle.flow_graph.specs.Graphs.{GraphShape}
 use Rattle.flow_graph.specs.Machines.{graph_code}
 use Rattle.flow_graph.specs.Paths.{Begins, Ends, IsPath, IsReturnAt}
@@ -16,12 +16,13 @@ use Rattle.motion_rewrite.specs.Expressions.{node_kills, node_uses, uses}
 
 -- ---- one node
 
--- an observable action: a print, a call or a return
+-- an observable action: a print, a guard, a call or a return
 abbrev pub is_observable : Node → Bool
 is_observable (Start next) = false
 is_observable (Skip next) = false
 is_observable (Assign x rhs next) = false
 is_observable (Print a next) = true
+is_observable (Guard test number next) = true
 is_observable (Call into unit operands next) = true
 is_observable (Test test taken other) = false
 is_observable (Return a) = true
@@ -32,6 +33,7 @@ is_division (Start next) = false
 is_division (Skip next) = false
 is_division (Assign x rhs next) = divides rhs
 is_division (Print a next) = false
+is_division (Guard test number next) = false
 is_division (Call into unit operands next) = false
 is_division (Test test taken other) = false
 is_division (Return a) = false
@@ -43,7 +45,8 @@ halts node = is_observable node || is_division node
 -- the node, where there is one, kills e, can be observed, or assigns another right side that divides
 abbrev pub node_hinders : GraphShape → Expr → Option Node → Bool
 node_hinders graph e None = false
-node_hinders graph e (Some node) = node_kills graph e (Some node) || (is_observable node || (is_division node && not (node_uses e (Some node))))
+node_hinders graph e (Some node) =
+    node_kills graph e (Some node) || (is_observable node || (is_division node && not (node_uses e (Some node))))
 
 -- node n does
 abbrev pub hinders : GraphShape → Expr → ℕ → Bool
@@ -69,7 +72,8 @@ GoesAsFar nodes count path = (length path ≡ count) ⊎ ((length path < count) 
 pub record MustComeTo (graph : GraphShape) (e : Expr) (n : ℕ) : Type 0 where
   pub within : ℕ
   pub positive : 1 ≤ within
-  pub comes : (path : List ℕ) → IsPath graph.nodes path → Begins n path → GoesAsFar graph.nodes within path → ComesTo graph e path
+  pub comes : (path : List ℕ) → IsPath graph.nodes path → Begins n path → GoesAsFar graph.nodes within path
+      → ComesTo graph e path
 
 -- ---- runs
 
@@ -79,7 +83,8 @@ pub record RunComesTo (graph : GraphShape) (e : Expr) (n : ℕ) (arguments : Lis
   pub steps : ℕ
   pub there : Frame
   pub counted : ℕ
-  pub silent : Silently (graph_code graph.received graph.nodes) steps (record { place = n; arguments = arguments; values = values }) there counted
+  pub silent : Silently (graph_code graph.shared graph.received graph.nodes) steps
+      (record { place = n; arguments = arguments; values = values }) there counted
   pub used : uses graph e there.place ≡ true
   pub operands : EqualOn (expr_vars e) there.values values
 

@@ -6,7 +6,7 @@ use Rattle.std.proofs.lemmas.Bool.{cases_Bool, or_parts}
 use Rattle.mir_base.specs.ItemLaws.{one_item}
 use Rattle.mir_base.specs.declared.instructions.Expr.{Expr}
 use Rattle.flow_graph.specs.declared.nodes.Node.{Node}
-use Rattle.flow_graph.specs.declared.nodes.Node.TheVariants.{Start, Skip, Assign, Print, Call, Test, Return}
+use Rattle.flow_graph.specs.declared.nodes.Node.TheVariants.{Start, Skip, Assign, Print, Guard, Call, Test, Return}
 use Rattle.flow_graph.specs.BoundLaws.{edge_within}
 use Rattle.flow_graph.specs.Graphs.{AllWithin, GraphShape, IsGraph, succs_at, succs_of}
 use Rattle.flow_graph.specs.Paths.{Begins, HasEdge, IsPath, IsReturnAt}
@@ -29,6 +29,7 @@ return_or_edge (Start next ∷ nodes) zero lt = inr (next, (0, refl))
 return_or_edge (Skip next ∷ nodes) zero lt = inr (next, (0, refl))
 return_or_edge (Assign x rhs next ∷ nodes) zero lt = inr (next, (0, refl))
 return_or_edge (Print a next ∷ nodes) zero lt = inr (next, (0, refl))
+return_or_edge (Guard test number next ∷ nodes) zero lt = inr (next, (0, refl))
 return_or_edge (Call into unit operands next ∷ nodes) zero lt = inr (next, (0, refl))
 return_or_edge (Test test taken other ∷ nodes) zero lt = inr (taken, (0, refl))
 return_or_edge (Return a ∷ nodes) zero lt = inl refl
@@ -41,6 +42,7 @@ return_ends (Start next ∷ nodes) zero s returns edge = cc
 return_ends (Skip next ∷ nodes) zero s returns edge = cc
 return_ends (Assign x rhs next ∷ nodes) zero s returns edge = cc
 return_ends (Print a next ∷ nodes) zero s returns edge = cc
+return_ends (Guard test number next ∷ nodes) zero s returns edge = cc
 return_ends (Call into unit operands next ∷ nodes) zero s returns edge = cc
 return_ends (Test test taken other ∷ nodes) zero s returns edge = cc
 return_ends (Return a ∷ nodes) zero s returns edge = let none = edge.1 in cc

@@ -1,32 +1,19 @@
 -- The laws of known slots, ordered by implication. Cited by the ghost members of `Slots`.
-use Rattle.std.proofs.Common.{◌≡◌, ◌≢◌, ◌⊎◌, ◌+◌, ◌<◌, ◌≤◌, ◌||◌, Bool, true, false, List, [], ◌∷◌, length, inl, inr, refl, sym, ap, ◌∙◌, arith}
+use Rattle.std.proofs.Common.{◌≡◌, ◌≢◌, ◌⊎◌, ◌+◌, ◌<◌, ◌≤◌, Bool, true, false, List, [], ◌∷◌, length, inl, inr, ap, ◌∙◌, arith}
 use Rattle.std.proofs.lemmas.Bool.{or_left, or_right}
 use Rattle.fix_solve.specs.Order.{IsLeastUpper, OrderLaws}
 use Rattle.fix_solve.specs.Pointwise.{pointwise_antisym, pointwise_length, pointwise_refl, pointwise_rises, pointwise_trans}
 use Rattle.flow_graph.specs.Sums.{one_if}
-use Rattle.path_laws.specs.Order.{BelowBit}
+use Rattle.path_laws.specs.OrderLaws.{bit_rises, or_least, same_bit}
 use Rattle.div_move.specs.Slots.{BelowSlot, BelowSlots, or_pairs, slot_rank, slots_rank}
 
 -- ---- an order
 
--- bits that imply each other are equal
-same_bit : (x y : Bool) → BelowBit x y → BelowBit y x → x ≡ y
-same_bit true y p q = sym (p refl)
-same_bit false true p q = q refl
-same_bit false false p q = refl
-
--- and so are pairs of them
+-- pairs of bits that imply each other are equal
 same_slot : (x y : Bool × Bool) → BelowSlot x y → BelowSlot y x → x ≡ y
 same_slot x y p q = ap (λ a. (a, x.1)) (same_bit x.0 y.0 p.0 q.0) ∙ ap (λ b. (y.0, b)) (same_bit x.1 y.1 p.1 q.1)
 
--- a bit that implies another is equal to it, or counts less
-bit_rises : (x y : Bool) → BelowBit x y → (x ≡ y) ⊎ (one_if x < one_if y)
-bit_rises true true h = inl refl
-bit_rises true false h = let bad : false ≡ true = h refl in absurd (cc)
-bit_rises false true h = inr (omega arith)
-bit_rises false false h = inl refl
-
--- so it is of pairs
+-- a pair of bits that implies another is equal to it, or counts less
 slot_rises : (x y : Bool × Bool) → BelowSlot x y → (x ≡ y) ⊎ (slot_rank x < slot_rank y)
 slot_rises x y h = both (bit_rises x.0 y.0 h.0) (bit_rises x.1 y.1 h.1)
   where
@@ -61,12 +48,7 @@ slots_rank_le (x ∷ xs) = let a = slots_rank_le xs in let b = one_le x.0 in let
 
 -- ---- the least upper bound
 
--- the disjunction implies whatever both of its parts imply
-or_least : (x y z : Bool) → BelowBit x z → BelowBit y z → BelowBit (x || y) z
-or_least true y z p q h = p refl
-or_least false y z p q h = q h
-
--- so what is known in either lies above the first
+-- what is known in either lies above the first
 below_left : (xs ys : List (Bool × Bool)) → length xs ≡ length ys → BelowSlots xs (or_pairs xs ys)
 below_left [] ys e = tt
 below_left (x ∷ xs) [] e = absurd (omega (arith, e))

@@ -15,7 +15,7 @@ use std::alloc::Global;
 use std::marker::PhantomData;
 use std::sync::ledger::Ledger;
 
-/// What is known of a node flows to its predecessors, so the edges are turned round and go in order of their targets.
+/// What is known of a node flows to its predecessors, so the edges are reversed and go in order of their targets.
 /// The value of a node says which of its slots are known to lead to a node that is down. Where a node is known to be
 /// down, for it uses the expression, or it neither kills it nor halts and all its slots are known, each slot that leads
 /// to it becomes known. A slot that a node lacks is known from the first. `uses` and `kills` have a row for each node,

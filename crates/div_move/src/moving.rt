@@ -1,12 +1,12 @@
 // Moving the divisions of a graph.
 ghost use Rattle.std.specs.Prelude.{length, IfOk};
-ghost use Rattle.flow_graph.specs.Along.{RunsFollow};
+ghost use Rattle.graph_edit.specs.Along.{RunsFollow};
 ghost use Rattle.flow_graph.specs.Edges.{IsSplit};
 ghost use Rattle.flow_graph.specs.Passes.{GraphKeeps};
 ghost use Rattle.motion_rewrite.specs.Over.{HasOverEach};
 ghost use Rattle.motion_rewrite.specs.Placements.{AreOptimal, InsertionsTrapAlike};
-ghost use Rattle.motion_rewrite.specs.Tables.{AreOver};
-ghost use Rattle.div_move.specs.Moves.{IsDivMove, PlacesDivisions};
+ghost use Rattle.motion_rewrite.specs.ExprTables.{AreOver};
+ghost use Rattle.div_move.specs.Moves.{InsertionsCome, IsDivMove, PlacesDivisions};
 ghost use Rattle.div_move.specs.MustCome.{MustComeTo};
 
 use crate::MustReach;
@@ -40,7 +40,12 @@ pub fn move_dividing(alloc: Global, graph: &Graph) -> Result<DivMove, Memory>
     ensures keeps { IfOk result (λ made. GraphKeeps graph.now made.moved) }
     ensures split { IfOk result (λ made. IsSplit made.moved.nodes) }
 
-    // where a division that is evaluated before a node traps, a run of the graph from the node traps alike, and shows
+    // a division is evaluated before a node only where each run of the graph from the node comes to this very division,
+    // with its operands as they were, and shows nothing before
+    ensures comes { IfOk result (λ made.
+        InsertionsCome graph.now made.table made.placement) }
+
+    // so where a division that is evaluated before a node traps, a run of the graph from the node traps alike, and shows
     // nothing before
     ensures traps { IfOk result (λ made.
         InsertionsTrapAlike graph.now made.table made.placement) }

@@ -15,6 +15,7 @@ pub(crate) fn halts(node: &Node) -> bool
         Node::Skip(_) => false,
         Node::Assign(_, rhs, _) => divides(rhs),
         Node::Print(_, _) => true,
+        Node::Guard(_, _, _) => true,
         Node::Call(_, _, _, _) => true,
         Node::Test(_, _, _) => false,
         Node::Return(_) => true,

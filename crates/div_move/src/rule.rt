@@ -13,9 +13,9 @@ use motion_rewrite::ExprTable;
 use std::alloc::Global;
 
 /// The rule for expressions that divide: a node is down where each path from it comes, within some number of nodes, to
-/// one that uses the expression, and no node before that one kills it, can be observed (a print, a call or a return) or
-/// divides by another right side. So a loop alone makes no node down, and where the expression traps at a node that is
-/// down, a run from there traps alike, and shows nothing before.
+/// one that uses the expression, and no node before that one kills it, can be observed (a print, a guard, a call or a
+/// return) or divides by another right side. So a loop alone makes no node down, and where the expression traps at a
+/// node that is down, a run from there traps alike, and shows nothing before.
 #[derive(Clone, Copy, Debug, PartialEq, Eq)]
 pub struct MustReach;
 

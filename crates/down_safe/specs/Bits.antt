@@ -13,13 +13,13 @@ use Rattle.motion_rewrite.specs.Placements.{ReachesAlong}
 abbrev pub IsAvailableBit : List Node → (ℕ → Bool) → (ℕ → Bool) → ℕ → Type 0
 IsAvailableBit nodes used killed n = (before : List ℕ) → Trace nodes n before → ReachesAlong (λ m. used m ≡ true) killed before
 
--- blocking: the node kills, or is neither up nor down, so nothing is evaluated before it for what follows it
-abbrev pub is_blocking : Bool → Bool → Bool → Bool
-is_blocking killed up down = killed || not (up || down)
+-- a frontier: the node kills, or is neither up nor down, so nothing is evaluated before it for what follows it
+abbrev pub is_frontier : Bool → Bool → Bool → Bool
+is_frontier killed up down = killed || not (up || down)
 
--- earliest: n is down, and some predecessor is blocking
+-- earliest: n is down, and some predecessor is a frontier
 abbrev pub IsEarliestBit : List Node → (ℕ → Bool) → (ℕ → Bool) → (ℕ → Bool) → ℕ → Type 0
-IsEarliestBit nodes killed up down n = (down n ≡ true) × ((m : ℕ) × HasEdge nodes m n × (is_blocking (killed m) (up m) (down m) ≡ true))
+IsEarliestBit nodes killed up down n = (down n ≡ true) × ((m : ℕ) × HasEdge nodes m n × (is_frontier (killed m) (up m) (down m) ≡ true))
 
 -- ---- all bits
 
@@ -27,9 +27,9 @@ IsEarliestBit nodes killed up down n = (down n ≡ true) × ((m : ℕ) × HasEdg
 abbrev pub AreAvailableRows : GraphShape → List (List Bool) → List (List Bool) → List (List Bool) → Type 0
 AreAvailableRows graph uses kills rows = Tell graph (width kills) rows (λ b. IsAvailableBit graph.nodes (has_bit uses b) (has_bit kills b))
 
--- the rows say where each bit is blocking
-abbrev pub AreBlockingRows : List (List Bool) → List (List Bool) → List (List Bool) → List (List Bool) → Type 0
-AreBlockingRows kills up down rows = (n b : ℕ) → n < length kills → b < width kills → has_bit rows b n ≡ is_blocking (has_bit kills b n) (has_bit up b n) (has_bit down b n)
+-- the rows say where each bit has a frontier
+abbrev pub AreFrontierRows : List (List Bool) → List (List Bool) → List (List Bool) → List (List Bool) → Type 0
+AreFrontierRows kills up down rows = (n b : ℕ) → n < length kills → b < width kills → has_bit rows b n ≡ is_frontier (has_bit kills b n) (has_bit up b n) (has_bit down b n)
 
 -- the rows say where each bit is earliest
 abbrev pub AreEarliestRows : GraphShape → List (List Bool) → List (List Bool) → List (List Bool) → List (List Bool) → Type 0

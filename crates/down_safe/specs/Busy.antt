@@ -8,7 +8,7 @@ use Rattle.motion_rewrite.specs.declared.placement.Placement.{Placement}
 use Rattle.motion_rewrite.specs.Expressions.{kills, uses}
 use Rattle.motion_rewrite.specs.Placements.{IsAvailable, IsSafe, Places, places_of}
 use Rattle.motion_rewrite.specs.Rows.{AreRowsOf, AreRowsWhere}
-use Rattle.motion_rewrite.specs.Tables.{ForEachExpr}
+use Rattle.motion_rewrite.specs.ExprTables.{ForEachExpr}
 use Rattle.down_safe.specs.declared.safety.Busy.{Busy}
 use Rattle.down_safe.specs.declared.safety.Sites.{Sites}
 
@@ -21,7 +21,8 @@ pub record AreSitesOf (sites : Sites) (table : List Expr) : Type 0 where
 
 -- n is down, and some predecessor kills e or is not safe
 abbrev pub IsEarliest : GraphShape → Expr → (ℕ → Type 0) → ℕ → Type 0
-IsEarliest graph e Down n = Down n × ((m : ℕ) × HasEdge graph.nodes m n × ((kills graph e m ≡ true) ⊎ (IsSafe graph e Down m → ⊥)))
+IsEarliest graph e Down n = Down n
+    × ((m : ℕ) × HasEdge graph.nodes m n × ((kills graph e m ≡ true) ⊎ (IsSafe graph e Down m → ⊥)))
 
 -- the rows say where each expression of the table is used, available, down by the rule, and earliest
 pub record AreBusyRows (graph : GraphShape) (table : List Expr) (Down : Expr → ℕ → Type 0) (busy : Busy) : Type 0 where

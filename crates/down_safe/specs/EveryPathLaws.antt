@@ -3,7 +3,7 @@ use Rattle.std.proofs.Common.{◌≡◌, ℕ, zero, suc, ◌<◌, true, false, L
 use Rattle.std.proofs.lemmas.Bool.{cases_Bool}
 use Rattle.mir_base.specs.declared.instructions.Expr.{Expr}
 use Rattle.flow_graph.specs.declared.nodes.Node.{Node}
-use Rattle.flow_graph.specs.declared.nodes.Node.TheVariants.{Start, Skip, Assign, Print, Call, Test, Return}
+use Rattle.flow_graph.specs.declared.nodes.Node.TheVariants.{Start, Skip, Assign, Print, Guard, Call, Test, Return}
 use Rattle.flow_graph.specs.BoundLaws.{edge_within}
 use Rattle.flow_graph.specs.Graphs.{GraphShape, succs_at, succs_of}
 use Rattle.flow_graph.specs.Paths.{HasEdge, IsReturnAt, is_return}
@@ -20,6 +20,7 @@ returns (Start next ∷ nodes) zero lt none = cc
 returns (Skip next ∷ nodes) zero lt none = cc
 returns (Assign x rhs next ∷ nodes) zero lt none = cc
 returns (Print a next ∷ nodes) zero lt none = cc
+returns (Guard test number next ∷ nodes) zero lt none = cc
 returns (Call into unit operands next ∷ nodes) zero lt none = cc
 returns (Test test taken other ∷ nodes) zero lt none = cc
 returns (Return a ∷ nodes) zero lt none = refl

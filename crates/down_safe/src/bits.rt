@@ -2,7 +2,7 @@
 ghost use Rattle.std.specs.Prelude.{◌≡◌, length, IfOk};
 ghost use Rattle.flow_graph.specs.Edges.{edges_of};
 ghost use Rattle.path_laws.specs.Paths.{AreRows, HaveShape, width};
-ghost use Rattle.down_safe.specs.Bits.{AreAvailableRows, AreBlockingRows, AreEarliestRows};
+ghost use Rattle.down_safe.specs.Bits.{AreAvailableRows, AreFrontierRows, AreEarliestRows};
 
 use crate::Sites;
 use bit_rows::Rows;
@@ -41,20 +41,20 @@ pub(crate) fn early_rows(
     ensures early { IfOk result
         (AreEarliestRows sites.now.graph.now sites.now.kills.now up.now down.now) }
 {
-    let blocking = blocking_rows(alloc, sites.kills, up, down)?;
-    let mut rows = some_predecessor(alloc, sites.graph, sites.edges, &blocking)?;
+    let frontier = frontier_rows(alloc, sites.kills, up, down)?;
+    let mut rows = some_predecessor(alloc, sites.graph, sites.edges, &frontier)?;
     rows.and_rows(down);
     Ok(rows)
 }
 
-/// Which bits a node blocks, so that no evaluation of them moves up before it: those that it kills, and those that are
-/// neither up nor down there.
-fn blocking_rows(alloc: Global, kills: &Rows, up: &Rows, down: &Rows) -> Result<Rows, Memory>
+/// For which bits a node is a frontier, before which no evaluation of them moves up: those that it kills, and those
+/// that are neither up nor down there.
+fn frontier_rows(alloc: Global, kills: &Rows, up: &Rows, down: &Rows) -> Result<Rows, Memory>
     requires kills { AreRows (length kills.now) (width kills.now) kills.now }
     requires up { AreRows (length kills.now) (width kills.now) up.now }
     requires down { AreRows (length kills.now) (width kills.now) down.now }
     ensures shape { IfOk result (AreRows (length kills.now) (width kills.now)) }
-    ensures bits { IfOk result (AreBlockingRows kills.now up.now down.now) }
+    ensures bits { IfOk result (AreFrontierRows kills.now up.now down.now) }
 {
     let mut rows = up.copied(alloc)?;
     rows.or_rows(down);

@@ -11,7 +11,7 @@ use Rattle.down_safe.specs.Busy.{IsEarliest}
 use Rattle.latest_place.specs.Lazy.{ComesToUse, IsDelayed, IsIsolated, IsLatest, IsLazy}
 use Rattle.latest_place.specs.Rows.{IsDelayedBit, IsLatestBit, IsNeededBit}
 use Rattle.latest_place.specs.Stable.{not_both, split_bit}
-use Rattle.latest_place.specs.Walks.{Walks}
+use Rattle.latest_place.specs.SplitFacts.{SplitFacts}
 use Rattle.latest_place.specs.Admissible.{IsNeeded}
 use Rattle.path_laws.specs.Says.{both_say, not_says, off_says}
 
@@ -31,14 +31,14 @@ pub record AreLazyBits (graph : GraphShape) (e : Expr) (Down : ℕ → Type 0) (
   pub inserts_is : (n : ℕ) → p.inserts n ≡ (latest n && not (isolated n))
   pub replaces_is : (n : ℕ) → p.replaces n ≡ (used n && not (latest n && isolated n))
 
-module _ (graph : GraphShape) (walks : Walks graph) (e : Expr) (Down : ℕ → Type 0) (early used delayed latest isolated : ℕ → Bool)
+module _ (graph : GraphShape) (facts : SplitFacts graph) (e : Expr) (Down : ℕ → Type 0) (early used delayed latest isolated : ℕ → Bool)
     (rows : AreLateBits graph e Down early used delayed latest isolated) where
   -- ---- delayed
 
   reaches_from_since : (n : ℕ) (before : List ℕ) → Trace graph.nodes n before → Since (λ m. early m && not (used m)) used before → ReachesAlong (IsEarliest graph e Down) (uses graph e) before
   reaches_from_since n [] t h = absurd h
   reaches_from_since n (m ∷ before) (goes_on m0 n0 before0 t edge) h =
-      let below = walks.sources_below m n edge in
+      let below = facts.sources_below m n edge in
       let free : used m ≡ false → uses graph e m ≡ false = λ off. sym (rows.used_is m below) ∙ off in
       elim h [
         | inl here ↦ (let both = (both_say (early m) (not (used m))).0 here in (free ((not_says (used m)).0 both.1), inl ((rows.early_is m below).0 both.0)))
@@ -48,7 +48,7 @@ module _ (graph : GraphShape) (walks : Walks graph) (e : Expr) (Down : ℕ → T
   since_from_reaches : (n : ℕ) (before : List ℕ) → Trace graph.nodes n before → ReachesAlong (IsEarliest graph e Down) (uses graph e) before → Since (λ m. early m && not (used m)) used before
   since_from_reaches n [] t h = absurd h
   since_from_reaches n (m ∷ before) (goes_on m0 n0 before0 t edge) h =
-      let below = walks.sources_below m n edge in
+      let below = facts.sources_below m n edge in
       let off : used m ≡ false = rows.used_is m below ∙ h.0 in
       elim h.1 [
         | inl here ↦ inl ((both_say (early m) (not (used m))).1 ((rows.early_is m below).1 here, (not_says (used m)).1 off))
@@ -86,14 +86,14 @@ module _ (graph : GraphShape) (walks : Walks graph) (e : Expr) (Down : ℕ → T
       (delayed_says n below).0 l.0,
       elim l.1 [
         | inl here ↦ inl (sym (rows.used_is n below) ∙ here)
-        | inr s ↦ inr (s.0, s.1, (not_delayed s.0 (walks.targets_below n s.0 s.1)).0 s.2)
+        | inr s ↦ inr (s.0, s.1, (not_delayed s.0 (facts.targets_below n s.0 s.1)).0 s.2)
       ],
     ),
     λ l. (rows.latest_is n below).1 (
       (delayed_says n below).1 l.0,
       elim l.1 [
         | inl here ↦ inl (rows.used_is n below ∙ here)
-        | inr s ↦ inr (s.0, s.1, (not_delayed s.0 (walks.targets_below n s.0 s.1)).1 s.2)
+        | inr s ↦ inr (s.0, s.1, (not_delayed s.0 (facts.targets_below n s.0 s.1)).1 s.2)
       ],
     ),
   )
@@ -111,12 +111,12 @@ module _ (graph : GraphShape) (walks : Walks graph) (e : Expr) (Down : ℕ → T
   ends_comes (n ∷ []) is ends =
       let both = (both_say (used n) (not (latest n))).0 ends in
       ((not_latest n is).0 ((not_says (latest n)).0 both.1), sym (rows.used_is n is) ∙ both.0)
-  ends_comes (m ∷ n ∷ path) is ends = ((not_latest m (walks.sources_below m n is.0)).0 ends.0, ends_comes (n ∷ path) is.1 ends.1)
+  ends_comes (m ∷ n ∷ path) is ends = ((not_latest m (facts.sources_below m n is.0)).0 ends.0, ends_comes (n ∷ path) is.1 ends.1)
 
   comes_ends : (path : List ℕ) → IsPath graph.nodes path → ComesToUse graph e Down path → EndsBorn (λ m. used m && not (latest m)) latest path
   comes_ends [] is comes = absurd comes
   comes_ends (n ∷ []) is comes = (both_say (used n) (not (latest n))).1 (rows.used_is n is ∙ comes.1, (not_says (latest n)).1 ((not_latest n is).1 comes.0))
-  comes_ends (m ∷ n ∷ path) is comes = ((not_latest m (walks.sources_below m n is.0)).1 comes.0, comes_ends (n ∷ path) is.1 comes.1)
+  comes_ends (m ∷ n ∷ path) is comes = ((not_latest m (facts.sources_below m n is.0)).1 comes.0, comes_ends (n ∷ path) is.1 comes.1)
 
   -- an edge before a path
   one_more : (n s : ℕ) (path : List ℕ) → HasEdge graph.nodes n s → IsPath graph.nodes path → Begins s path → IsPath graph.nodes (n ∷ path)

@@ -9,7 +9,7 @@ use Rattle.motion_rewrite.specs.Placements.{DownLaws, IsAdmissible, IsAvailableA
 use Rattle.latest_place.specs.Lazy.{ComesToUse, IsDelayed, IsLatest, IsLazy}
 use Rattle.latest_place.specs.DelayLaws.{delayed_down}
 use Rattle.latest_place.specs.Stable.{Stable, stable_of_dec, dec_is, dec_or, dec_both, stable_cases, split_bit}
-use Rattle.latest_place.specs.Walks.{Walks, trace_below}
+use Rattle.latest_place.specs.SplitFacts.{SplitFacts, trace_below}
 
 -- that a good node reaches along a path can be tested
 pub dec_reaches : (good bad : ℕ → Bool) (before : List ℕ) → Dec (ReachesAlong (λ m. good m ≡ true) bad before)
@@ -20,10 +20,10 @@ dec_reaches good bad (m ∷ before) = dec_both (dec_is (bad m) false) (dec_or (d
 abbrev pub IsNeeded : GraphShape → Expr → (ℕ → Type 0) → ℕ → Type 0
 IsNeeded graph e Down n = (path : List ℕ) × IsPath graph.nodes (n ∷ path) × ComesToUse graph e Down path
 
-module _ (graph : GraphShape) (walks : Walks graph) (e : Expr) (Down : ℕ → Type 0) where
+module _ (graph : GraphShape) (facts : SplitFacts graph) (e : Expr) (Down : ℕ → Type 0) where
   -- by the use at a successor, or by what a successor needs
   pub needed_at_once : (n s : ℕ) → HasEdge graph.nodes n s → ¬ (IsLatest graph e Down s) → uses graph e s ≡ true → IsNeeded graph e Down n
-  needed_at_once n s edge not_latest used = (s ∷ [], (edge, walks.targets_below n s edge), (not_latest, used))
+  needed_at_once n s edge not_latest used = (s ∷ [], (edge, facts.targets_below n s edge), (not_latest, used))
 
   pub needed_later : (n s : ℕ) → HasEdge graph.nodes n s → ¬ (IsLatest graph e Down s) → IsNeeded graph e Down s → IsNeeded graph e Down n
   needed_later n s edge not_latest more = (s ∷ more.0, (edge, more.1), through more.0 more.2)
@@ -35,7 +35,7 @@ module _ (graph : GraphShape) (walks : Walks graph) (e : Expr) (Down : ℕ → T
   module _ (laws : DownLaws graph e Down) where
     -- Start is not down
     pub start_not_down : ¬ (Down 0)
-    start_not_down = killing_not_down graph e Down laws 0 walks.start_below (walks.start_kills e) (walks.start_unused e)
+    start_not_down = killing_not_down graph e Down laws 0 facts.start_below (facts.start_kills e) (facts.start_unused e)
 
     -- a use that is not latest, or a node from which one is reached through nodes that are not latest
     abbrev pub Ahead : ℕ → Type 0
@@ -69,7 +69,7 @@ module _ (graph : GraphShape) (walks : Walks graph) (e : Expr) (Down : ℕ → T
                   ),
                 )))
             | inr s ↦ elim s.1 [
-              | inl used ↦ from s.0 (inl (laws.used m (walks.sources_below m n edge) used, λ delayed. not_here none s.0 (delayed, inl used)))
+              | inl used ↦ from s.0 (inl (laws.used m (facts.sources_below m n edge) used, λ delayed. not_here none s.0 (delayed, inl used)))
               | inr more ↦ from s.0 (inr more)
             ]
           ])
@@ -81,7 +81,7 @@ module _ (graph : GraphShape) (walks : Walks graph) (e : Expr) (Down : ℕ → T
           needed = elim ahead [ inl used ↦ needed_at_once m n edge not_latest used | inr more ↦ needed_later m n edge not_latest more ]
 
           not_here : ¬ (IsAvailableAfter graph e (λ k. p.inserts k ≡ true) (m ∷ path)) → kills graph e m ≡ false → ¬ (IsLatest graph e Down m)
-          not_here none keeps latest = none (keeps, inl ((is.inserts_at m (walks.sources_below m n edge)).1 (latest, λ isolated. isolated needed.0 needed.1 needed.2)))
+          not_here none keeps latest = none (keeps, inl ((is.inserts_at m (facts.sources_below m n edge)).1 (latest, λ isolated. isolated needed.0 needed.1 needed.2)))
 
       -- the theorem
       pub lazy_admissible : IsAdmissible graph e Down p
@@ -89,12 +89,12 @@ module _ (graph : GraphShape) (walks : Walks graph) (e : Expr) (Down : ℕ → T
         where
           safe_at : (n : ℕ) → n < length graph.nodes → p.inserts n ≡ true → IsSafe graph e Down n
           safe_at n below i =
-              let reach = walks.reached n below in
+              let reach = facts.reached n below in
               inr (delayed_down graph e Down laws n reach.0 reach.1 (((is.inserts_at n below).0 i).0.0 reach.0 reach.1))
 
           available_at : (n : ℕ) (before : List ℕ) → p.replaces n ≡ true → Trace graph.nodes n before → (p.inserts n ≡ true) ⊎ IsAvailableAfter graph e (λ m. p.inserts m ≡ true) before
           available_at n before r t =
-              let below = trace_below graph walks n before t in
+              let below = trace_below graph facts n before t in
               stable_cases (IsLatest graph e Down n) (stable_of_dec (dec_or (dec_is (p.inserts n) true) (dec_reaches p.inserts (kills graph e) before)))
               (λ latest. inl ((is.inserts_at n below).1 (latest, λ isolated. ((is.replaces_at n below).0 r).1 (latest, isolated))))
               (λ not_latest.

@@ -12,8 +12,8 @@ use Rattle.motion_rewrite.specs.Placements.{DownLaws, IsAdmissible, IsAvailable,
 use Rattle.down_safe.specs.Busy.{IsEarliest}
 use Rattle.latest_place.specs.Lazy.{IsDelayed, IsLatest, IsLazy}
 use Rattle.latest_place.specs.Stable.{Is, stable_le, stable_cases, split_bit, not_both}
-use Rattle.flow_graph.specs.JoinLaws.{skip_leads}
-use Rattle.latest_place.specs.Walks.{Walks}
+use Rattle.graph_edit.specs.JoinLaws.{skip_leads}
+use Rattle.latest_place.specs.SplitFacts.{SplitFacts}
 
 -- the temporary of e holds its value at n: every path from Start to n has an insertion from which on no node kills e
 abbrev pub IsAvailableFrom : GraphShape → Expr → Places → ℕ → Type 0
@@ -24,7 +24,7 @@ IsAvailableFrom graph e p n = (before : List ℕ) → Trace graph.nodes n before
 abbrev pub IsPending : GraphShape → Expr → (ℕ → Type 0) → Places → ℕ → Type 0
 IsPending graph e Down p n = Down n × ¬ (IsAvailableFrom graph e p n)
 
-module _ (graph : GraphShape) (walks : Walks graph) (e : Expr) (Down : ℕ → Type 0) (laws : DownLaws graph e Down) where
+module _ (graph : GraphShape) (facts : SplitFacts graph) (e : Expr) (Down : ℕ → Type 0) (laws : DownLaws graph e Down) where
   -- where an insertion makes e available along a path to m, a use does, or m is down
   pub rises : (p : Places) → IsAdmissible graph e Down p → (m : ℕ) (before : List ℕ) → Trace graph.nodes m before
       → IsAvailableAfter graph e (λ k. p.inserts k ≡ true) before → IsAvailableAfter graph e (λ k. uses graph e k ≡ true) before ⊎ Down m
@@ -33,7 +33,7 @@ module _ (graph : GraphShape) (walks : Walks graph) (e : Expr) (Down : ℕ → T
       split_bit (uses graph e k)
       (λ used. inl (s.0, inl used))
       (λ unused. elim s.1 [
-        | inl i ↦ elim (ok.safe k (walks.sources_below k m edge) i) [ inl up ↦ inl (s.0, inr (up before t)) | inr down ↦ inr (laws.onward k m down unused edge) ]
+        | inl i ↦ elim (ok.safe k (facts.sources_below k m edge) i) [ inl up ↦ inl (s.0, inr (up before t)) | inr down ↦ inr (laws.onward k m down unused edge) ]
         | inr more ↦ elim (rises p ok k before t more) [ inl u ↦ inl (s.0, inr u) | inr down ↦ inr (laws.onward k m down unused edge) ]
       ])
 
@@ -45,7 +45,7 @@ module _ (graph : GraphShape) (walks : Walks graph) (e : Expr) (Down : ℕ → T
       up before t =
           let s = available (m ∷ before) (goes_on m n before t edge) in
           elim s.1 [
-            | inl i ↦ absurd (unsafe (ok.safe m (walks.sources_below m n edge) i))
+            | inl i ↦ absurd (unsafe (ok.safe m (facts.sources_below m n edge) i))
             | inr more ↦ elim (rises p ok m before t more) [ inl u ↦ u | inr down ↦ absurd (unsafe (inr down)) ]
           ]
 
@@ -69,7 +69,7 @@ module _ (graph : GraphShape) (walks : Walks graph) (e : Expr) (Down : ℕ → T
 
   -- each predecessor of an earliest node kills or is not safe
   pub cause : (m n : ℕ) → HasEdge graph.nodes m n → IsEarliest graph e Down n → (kills graph e m ≡ true) ⊎ ¬ (IsSafe graph e Down m)
-  cause m n edge early = elim (walks.one_or_skips n) [
+  cause m n edge early = elim (facts.one_or_skips n) [
     | inl one ↦ subst (λ k. (kills graph e k ≡ true) ⊎ ¬ (IsSafe graph e Down k)) (one early.1.0 m early.1.1 edge) early.1.2
     | inr skips ↦ elim early.1.2 [
       | inl kill ↦ not_both kill (skip_keeps graph e early.1.0 n (skips early.1.0 early.1.1))
@@ -107,7 +107,7 @@ module _ (graph : GraphShape) (walks : Walks graph) (e : Expr) (Down : ℕ → T
 
   -- and on along the only edge to a node
   pub delayed_on : (m s : ℕ) → HasEdge graph.nodes m s → ((k : ℕ) → HasEdge graph.nodes k s → m ≡ k) → IsDelayed graph e Down m → uses graph e m ≡ false → IsDelayed graph e Down s
-  delayed_on m s edge only d unused before from_start = absurd (walks.start_unentered m edge)
+  delayed_on m s edge only d unused before from_start = absurd (facts.start_unentered m edge)
   delayed_on m s edge only d unused before (goes_on k s0 earlier t edge') =
       let same = only k edge' in
       inr (subst (λ x. uses graph e x ≡ false) same unused, subst (λ x. IsDelayed graph e Down x) same d earlier t)
@@ -119,7 +119,7 @@ module _ (graph : GraphShape) (walks : Walks graph) (e : Expr) (Down : ℕ → T
         | inl early ↦ late early
         | inr s ↦ elim latest.1 [
           | inl used ↦ true≢false (sym used ∙ s.0)
-          | inr x ↦ x.2 (elim (walks.one_or_skips x.0) [
+          | inr x ↦ x.2 (elim (facts.one_or_skips x.0) [
             | inl one ↦ delayed_on m x.0 x.1 (λ k edge'. one m k x.1 edge') (delayed_back m n edge late d) s.0
             | inr skips ↦ subst (λ y. IsDelayed graph e Down y) (sym (skip_leads graph.nodes m x.0 n (skips m x.1) edge)) d
           ])
@@ -148,7 +148,7 @@ module _ (graph : GraphShape) (walks : Walks graph) (e : Expr) (Down : ℕ → T
   other_edge p ok m n before t edge true false true early o o' = omega arith
   other_edge p ok m n before t edge true true true early o o' =
       elim (cause m n edge early)
-      [ inl kill ↦ (let h = evaluates_kill p ok m (walks.sources_below m n edge) o kill in omega arith) | inr unsafe ↦ absurd (unsafe (inr o.0)) ]
+      [ inl kill ↦ (let h = evaluates_kill p ok m (facts.sources_below m n edge) o kill in omega arith) | inr unsafe ↦ absurd (unsafe (inr o.0)) ]
   other_edge p ok m n before t edge false false on early o o' = omega arith
   other_edge p ok m n before t edge false true true early o o' = omega arith
   other_edge p ok m n before t edge false true false early o o' =

@@ -3,7 +3,7 @@ pub mod Rows
 pub mod LazyLaws
 pub mod DelayLaws
 pub mod Stable
-pub mod Walks
+pub mod SplitFacts
 pub mod Inequalities
 pub mod Admissible
 pub mod Counts

@@ -86,11 +86,11 @@ pub(crate) fn placement_of(uses: Rows, latest: Rows, isolated: Rows) -> Placemen
     ensures inserted { AreInsertedRows latest isolated result.insert }
     ensures replaced { AreReplacedRows uses latest isolated result.replace }
 {
-    let mut kept = isolated;
-    kept.and_rows(&latest);
+    let mut left_alone = isolated;
+    left_alone.and_rows(&latest);
     let mut insert = latest;
-    insert.minus_rows(&kept);
+    insert.minus_rows(&left_alone);
     let mut replace = uses;
-    replace.minus_rows(&kept);
+    replace.minus_rows(&left_alone);
     Placement { insert, replace }
 }

@@ -13,7 +13,7 @@ use Rattle.motion_rewrite.specs.Placements.{DownLaws, IsAdmissible, IsAvailableA
 use Rattle.latest_place.specs.Lazy.{AreLazy, IsLazy}
 use Rattle.latest_place.specs.Optimal.{lazy_optimal}
 use Rattle.latest_place.specs.Stable.{not_both, split_bit}
-use Rattle.latest_place.specs.Walks.{Walks, walks}
+use Rattle.latest_place.specs.SplitFacts.{SplitFacts, split_facts}
 use Rattle.live_range.proofs.Least.{wanted_too}
 use Rattle.live_range.proofs.Targets.{target_row, target_shape}
 use Rattle.live_range.specs.Held.{AreHeldEdges, AreNeighbours, IsHeldLeast, InsertsNowhere, IsHeld, ReachesReturn}
@@ -37,7 +37,7 @@ held_wanted nodes p m n held = let c = held.carries in wanted_on nodes p m n c.l
 
 -- ---- an edge to a node that is wanted
 
-module _ (graph : GraphShape) (known : Walks graph) (e : Expr) (Down : ℕ → Type 0) (q : Places) (ok : IsAdmissible graph e Down q) where
+module _ (graph : GraphShape) (known : SplitFacts graph) (e : Expr) (Down : ℕ → Type 0) (q : Places) (ok : IsAdmissible graph e Down q) where
   -- on each path to a node that is wanted an insertion has made e available
   served_on : (last : ℕ) → q.replaces last ≡ true → (n : ℕ) (before : List ℕ) → Trace graph.nodes n before → (path : List ℕ) → IsPath graph.nodes (n ∷ path) → InsertsNowhere q (n ∷ path) → Ends last (n ∷ path)
       → IsAvailableAfter graph e (λ k. q.inserts k ≡ true) before
@@ -82,13 +82,13 @@ module _ (graph : GraphShape) (is_graph : IsGraph graph.vars graph.received grap
     (p : Places) (is_lazy : IsLazy graph e Down p) where
   -- its edges are held exactly where what they enter is wanted
   pub lazy_held : (m n : ℕ) → HasEdge graph.nodes m n → IsWanted graph.nodes p n → IsHeld graph.nodes p m n
-  lazy_held m n edge w = wanted_held graph (walks graph is_graph split) e Down p (lazy_optimal graph is_graph split e Down laws p is_lazy).admissible m n edge w
+  lazy_held m n edge w = wanted_held graph (split_facts graph is_graph split) e Down p (lazy_optimal graph is_graph split e Down laws p is_lazy).admissible m n edge w
 
   -- and those of every optimal placement too
   pub lazy_least : IsHeldLeast graph e Down p
   lazy_least other best m n held =
       let wanted = held_wanted graph.nodes p m n held in
-      wanted_held graph (walks graph is_graph split) e Down other best.admissible m n wanted.0 (wanted_too graph is_graph split e Down laws p is_lazy other best n wanted.1)
+      wanted_held graph (split_facts graph is_graph split) e Down other best.admissible m n wanted.0 (wanted_too graph is_graph split e Down laws p is_lazy other best n wanted.1)
 
 -- ---- the rows
 

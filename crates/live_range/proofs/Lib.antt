@@ -3,6 +3,7 @@ pub mod Tight
 pub mod Least
 pub mod HeldEdges
 pub mod Reaching
-pub mod Kept
+pub mod Masked
 pub mod Targets
 pub mod BelowCounts
+pub mod Differences

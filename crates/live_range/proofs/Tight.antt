@@ -17,7 +17,7 @@ use Rattle.latest_place.specs.Inequalities.{IsPending, earliest_pending, evaluat
 use Rattle.latest_place.specs.Lazy.{IsDelayed, IsLatest, IsLazy}
 use Rattle.latest_place.specs.Optimal.{behind, lazy_end, lazy_optimal, pending_end, return_ends}
 use Rattle.latest_place.specs.Stable.{Is, Stable, dec_both, dec_is, dec_or, decide_bit, split_bit, stable_cases, stable_of_dec, with_bit_le}
-use Rattle.latest_place.specs.Walks.{Walks, trace_below, walks}
+use Rattle.latest_place.specs.SplitFacts.{SplitFacts, trace_below, split_facts}
 use Rattle.live_range.proofs.Ways.{trace_full}
 use Rattle.live_range.specs.Held.{ReachesReturn}
 
@@ -40,8 +40,8 @@ everywhere P (suc k) h = everywhere P k (λ below_k. stable_cases (P k) (λ nn. 
 
 module _ (graph : GraphShape) (is_graph : IsGraph graph.vars graph.received graph.nodes) (split : IsSplit graph.nodes) (e : Expr) (Down : ℕ → Type 0) (laws : DownLaws graph e Down)
     (p : Places) (is_lazy : IsLazy graph e Down p) (q : Places) (best : IsOptimal graph e Down q) where
-  known : Walks graph
-  known = walks graph is_graph split
+  known : SplitFacts graph
+  known = split_facts graph is_graph split
 
   -- on a full path the other placement evaluates no more than the lazy one
   no_more : (n : ℕ) (before : List ℕ) → Trace graph.nodes n before → IsReturnAt graph.nodes n

@@ -38,10 +38,10 @@ pub record AreReachingRows (graph : GraphShape) (rows : List (List Bool)) : Type
 
 -- of the rows of the nodes below a number those stay whose one bit is set in these, and the others lose all bits; the
 -- rows from the number on are as they were
-pub record AreKeptBelow (below : ℕ) (keep old new : List (List Bool)) : Type 0 where
+pub record AreMaskedBelow (below : ℕ) (mask old new : List (List Bool)) : Type 0 where
   pub len : length new ≡ length old
   pub each : (n : ℕ) → length (row_of new n) ≡ length (row_of old n)
-  pub done : (n b : ℕ) → n < below → n < length old → has_bit new b n ≡ (has_bit old b n && has_bit keep 0 n)
+  pub done : (n b : ℕ) → n < below → n < length old → has_bit new b n ≡ (has_bit old b n && has_bit mask 0 n)
   pub later : (n : ℕ) → (n < below → ⊥) → row_of new n ≡ row_of old n
 
 -- the row of each edge is that of its target

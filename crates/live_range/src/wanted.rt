@@ -3,7 +3,7 @@ ghost use Rattle.std.specs.Prelude.{◌≡◌, length, IfOk, Some};
 ghost use Rattle.flow_graph.specs.Edges.{edges_of};
 ghost use Rattle.flow_graph.specs.Paths.{is_return};
 ghost use Rattle.path_laws.specs.Paths.{AreRows, HaveShape};
-ghost use Rattle.live_range.specs.Wanted.{AreKeptBelow, AreReachingRows, AreReturnRows, AreWantedRows};
+ghost use Rattle.live_range.specs.Wanted.{AreMaskedBelow, AreReachingRows, AreReturnRows, AreWantedRows};
 
 use bit_rows::Rows;
 use flow_graph::{Edges, Graph, Node};
@@ -29,7 +29,7 @@ pub(crate) fn wanted_rows(
 {
     let reaching = reaching_rows(alloc, graph, edges)?;
     let mut born = placement.replace.copied(alloc)?;
-    keep_rows(&mut born, &placement.replace, &reaching);
+    mask_rows(&mut born, &placement.replace, &reaching);
     born.minus_rows(&placement.insert);
     let rows = backward_some(alloc, graph, edges, &born, &placement.insert)?;
     Ok(rows)
@@ -68,13 +68,13 @@ fn is_return(node: &Node) -> bool
 }
 
 /// Each row, which is that of the second rows, stays where its bit is set in the third, and else loses all bits.
-fn keep_rows(rows: &mut Rows, same: &Rows, keep: &Rows)
+fn mask_rows(rows: &mut Rows, same: &Rows, mask: &Rows)
     requires same { rows.old ≡ same.now }
-    requires keep { AreRows (length rows.old) 1 keep.now }
-    ensures { AreKeptBelow (length rows.old) keep.now rows.old rows.new }
+    requires mask { AreRows (length rows.old) 1 mask.now }
+    ensures { AreMaskedBelow (length rows.old) mask.now rows.old rows.new }
 {
     for n in 0..rows.len() {
-        if !keep.get(n, 0) {
+        if !mask.get(n, 0) {
             rows.minus_into(n, same, n);
         }
     }

@@ -12,11 +12,11 @@ use Rattle.mir_base.specs.Shapes.{AllBelow, AllDiffer}
 use Rattle.mir_base.specs.ExpressionVars.{rhs_of}
 use Rattle.mir_base.specs.SameExpressions.{expr_is, expr_itself, is_expr, of_rhs, same_expr}
 use Rattle.flow_graph.specs.declared.nodes.Node.{Node}
-use Rattle.flow_graph.specs.declared.nodes.Node.TheVariants.{Start, Skip, Assign, Print, Call, Test, Return}
+use Rattle.flow_graph.specs.declared.nodes.Node.TheVariants.{Start, Skip, Assign, Print, Guard, Call, Test, Return}
 use Rattle.flow_graph.specs.Graphs.{GraphShape, rhs_at}
-use Rattle.flow_graph.specs.InsertionPaths.{over_weight}
-use Rattle.flow_graph.specs.Over.{weigh, weigh_all, weight_at, new_weight_at, over_path}
-use Rattle.flow_graph.specs.Insertions.{Replaced, changed, rewritten_nodes}
+use Rattle.graph_edit.specs.InsertionPaths.{over_weight}
+use Rattle.graph_edit.specs.Over.{weigh, weigh_all, weight_at, new_weight_at, over_path}
+use Rattle.graph_edit.specs.Insertions.{Replaced, changed, rewritten_nodes}
 use Rattle.flow_graph.specs.Sums.{one_if, sum_on, count_sums, on_same}
 use Rattle.flow_graph.specs.Numbering.{is_in}
 use Rattle.path_laws.specs.Paths.{has_bit}
@@ -27,7 +27,7 @@ use Rattle.motion_rewrite.specs.PlacementLaws.{count_sum}
 use Rattle.motion_rewrite.specs.Placements.{count, evaluations_at, places_of}
 use Rattle.motion_rewrite.proofs.Insertions.{among_inserted, head_or_none, once_inserted}
 use Rattle.motion_rewrite.specs.UseLaws.{used_once}
-use Rattle.motion_rewrite.proofs.Evaluations.{kept_weight}
+use Rattle.motion_rewrite.proofs.Evaluations.{unchanged_weight}
 use Rattle.motion_rewrite.proofs.Rewriting.{one_more}
 use Rattle.motion_rewrite.proofs.RowNumbers.{AllKnown}
 use Rattle.motion_rewrite.proofs.Rewritable.{IsRewritable, first_bit, known, replaced_use, rewriting_by, temps_of}
@@ -78,6 +78,7 @@ use_weight e (Some (Start next)) = refl
 use_weight e (Some (Skip next)) = refl
 use_weight e (Some (Assign x rhs next)) = refl
 use_weight e (Some (Print a next)) = refl
+use_weight e (Some (Guard test number next)) = refl
 use_weight e (Some (Call into unit operands next)) = refl
 use_weight e (Some (Test test taken other)) = refl
 use_weight e (Some (Return a)) = refl
@@ -98,6 +99,7 @@ read_weight e x (Some (Start next)) = refl
 read_weight e x (Some (Skip next)) = refl
 read_weight e x (Some (Assign y rhs next)) = refl
 read_weight e x (Some (Print a next)) = refl
+read_weight e x (Some (Guard test number next)) = refl
 read_weight e x (Some (Call into unit operands next)) = refl
 read_weight e x (Some (Test test taken other)) = refl
 read_weight e x (Some (Return a)) = refl
@@ -118,7 +120,7 @@ module _ {graph : GraphShape} {table : List Expr} {p : Placement} (r : IsRewrita
 
   -- a node that reads no temporary stays, and one that reads one uses no expression
   unread : (e : Expr) (n : ℕ) → inserted p.replace n ≡ [] → made e n ≡ one_if (uses graph e n)
-  unread e n none = ap (λ l. weigh (being e) (option_map (changed (reading temp l)) (slice_get graph.nodes n))) none ∙ kept_weight (being e) (slice_get graph.nodes n) ∙ sym (use_weight e (slice_get graph.nodes n))
+  unread e n none = ap (λ l. weigh (being e) (option_map (changed (reading temp l)) (slice_get graph.nodes n))) none ∙ unchanged_weight (being e) (slice_get graph.nodes n) ∙ sym (use_weight e (slice_get graph.nodes n))
 
   read : (e : Expr) (n i : ℕ) (rest : List ℕ) → inserted p.replace n ≡ i ∷ rest → made e n ≡ 0
   read e n i rest first = ap (λ l. weigh (being e) (option_map (changed (reading temp l)) (slice_get graph.nodes n))) first ∙ read_weight e (temp i) (slice_get graph.nodes n)

@@ -11,17 +11,17 @@ use Rattle.mir_base.specs.ExpressionLaws.{never_traps_where_movable}
 use Rattle.mir_base.specs.Expressions.{divides, is_movable}
 use Rattle.mir_base.specs.ExpressionVars.{rhs_of}
 use Rattle.flow_graph.specs.declared.nodes.Node.TheVariants.{Assign}
-use Rattle.flow_graph.specs.Dividing.{DividesStay}
-use Rattle.flow_graph.specs.DividingLaws.{stay_in_place}
+use Rattle.flow_graph.specs.Dividing.{DividesUnchanged}
+use Rattle.flow_graph.specs.DividingLaws.{unchanged_in_place}
 use Rattle.flow_graph.specs.Graphs.{GraphShape}
-use Rattle.flow_graph.specs.InsertionNodes.{old_get}
-use Rattle.flow_graph.specs.Insertions.{Change, Kept, changed, entry, rewritten_nodes}
-use Rattle.flow_graph.specs.Kept.{redirected}
+use Rattle.graph_edit.specs.InsertionNodes.{old_get}
+use Rattle.graph_edit.specs.Insertions.{Change, Unchanged, changed, entry, rewritten_nodes}
+use Rattle.flow_graph.specs.Retained.{redirected}
 use Rattle.path_laws.specs.Paths.{has_bit}
 use Rattle.motion_rewrite.specs.declared.placement.Placement.{Placement}
 use Rattle.motion_rewrite.specs.Flatten.{IsFlattened, inserted, reading}
 use Rattle.motion_rewrite.specs.Placements.{InsertionsTrapAlike}
-use Rattle.motion_rewrite.specs.Tables.{AreMovable}
+use Rattle.motion_rewrite.specs.ExprTables.{AreMovable}
 use Rattle.motion_rewrite.proofs.Insertions.{head_or_none}
 use Rattle.motion_rewrite.specs.UseLaws.{uses_assign}
 use Rattle.motion_rewrite.proofs.Rewritable.{IsRewritable, first_bit, replaced_use, rewriting_by, temps_of}
@@ -36,7 +36,7 @@ module _ {graph : GraphShape} {table : List Expr} {p : Placement} (r : IsRewrita
   not_moved rhs e same moves stays = absurd (true≢false (sym moves ∙ sym (ap is_movable same) ∙ stays))
 
   -- so no dividing assignment is replaced
-  unchanged : (n x : ℕ) (op : Op) (left right : Operand) (next : ℕ) → divides (Binary op left right) ≡ true → slice_get graph.nodes n ≡ Some (Assign x (Binary op left right) next) → reading (temps_of graph p) (inserted p.replace n) ≡ Kept
+  unchanged : (n x : ℕ) (op : Op) (left right : Operand) (next : ℕ) → divides (Binary op left right) ≡ true → slice_get graph.nodes n ≡ Some (Assign x (Binary op left right) next) → reading (temps_of graph p) (inserted p.replace n) ≡ Unchanged
   unchanged n x op left right next may_trap is = elim (head_or_none (inserted p.replace n)) [
     | inl none ↦ ap (reading (temps_of graph p)) none
     | inr first ↦
@@ -48,10 +48,10 @@ module _ {graph : GraphShape} {table : List Expr} {p : Placement} (r : IsRewrita
         not_moved (Binary op left right) u.0 same (movable.movable first.0 u.0 u.1) (ap not may_trap)
   ]
 
-  -- and each stays
-  pub flattened_stay : (result : GraphShape) → IsFlattened graph table p result → DividesStay graph.nodes result.nodes
-  flattened_stay result flat = subst (DividesStay graph.nodes) (sym flat.nodes_are)
-      (stay_in_place graph.nodes (rewritten_nodes (rewriting_by graph table p) graph.nodes) (λ n x op left right next may_trap is. (
+  -- and each stays as it is, with its operands
+  pub flattened_unchanged : (result : GraphShape) → IsFlattened graph table p result → DividesUnchanged graph.nodes result.nodes
+  flattened_unchanged result flat = subst (DividesUnchanged graph.nodes) (sym flat.nodes_are)
+      (unchanged_in_place graph.nodes (rewritten_nodes (rewriting_by graph table p) graph.nodes) (λ n x op left right next may_trap is. (
         _,
         old_get (rewriting_by graph table p) graph.nodes n (Assign x (Binary op left right) next) is
             ∙ ap (λ (change : Change). Some (redirected (entry (rewriting_by graph table p).inserts (length graph.nodes)) (changed change (Assign x (Binary op left right) next)))) (unchanged n x op left right next may_trap is),

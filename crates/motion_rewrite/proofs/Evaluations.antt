@@ -13,10 +13,11 @@ use Rattle.flow_graph.specs.declared.nodes.Node.{Node}
 use Rattle.flow_graph.specs.declared.nodes.Node.TheVariants.{Assign}
 use Rattle.flow_graph.specs.Graphs.{GraphShape}
 use Rattle.flow_graph.specs.ListLaws.{some_at}
-use Rattle.flow_graph.specs.NodeLaws.{changed_kept, option_map_itself}
-use Rattle.flow_graph.specs.Over.{weigh, weigh_all, weight_at, new_weight_at}
-use Rattle.flow_graph.specs.InsertionRuns.{counts, CountsNoMore}
-use Rattle.flow_graph.specs.Insertions.{Kept, changed}
+use Rattle.flow_graph.specs.NodeLaws.{option_map_itself}
+use Rattle.graph_edit.specs.ChangeLaws.{changed_not}
+use Rattle.graph_edit.specs.Over.{weigh, weigh_all, weight_at, new_weight_at}
+use Rattle.graph_edit.specs.InsertionRuns.{counts, CountsNoMore}
+use Rattle.graph_edit.specs.Insertions.{Unchanged, changed}
 use Rattle.flow_graph.specs.Sums.{one_if, sum_on, count_sums, on_plus, on_same}
 use Rattle.path_laws.specs.Paths.{has_bit}
 use Rattle.motion_rewrite.specs.declared.placement.Placement.{Placement}
@@ -63,8 +64,8 @@ set_length (suc m) k (true ∷ bits) le = omega (arith, set_length m (suc k) bit
 set_length (suc m) k (false ∷ bits) le = omega (arith, set_length m (suc k) bits (omega (arith, le)))
 
 -- a node that stays weighs as before
-pub kept_weight : (f : ℕ → Rhs → ℕ) (o : Option Node) → weigh f (option_map (changed Kept) o) ≡ weigh f o
-kept_weight f o = ap (weigh f) (option_map_itself (changed Kept) changed_kept o)
+pub unchanged_weight : (f : ℕ → Rhs → ℕ) (o : Option Node) → weigh f (option_map (changed Unchanged) o) ≡ weigh f o
+unchanged_weight f o = ap (weigh f) (option_map_itself (changed Unchanged) changed_not o)
 
 -- each insertion counts one
 puts_count : (temp : ℕ → ℕ) (table : List Expr) (numbers : List ℕ) → AllKnown table numbers → weigh_all counts (insertions_of temp table numbers) ≡ length numbers
@@ -129,7 +130,7 @@ module _ {graph : GraphShape} {table : List Expr} {p : Placement} (r : IsRewrita
           | inr no_one ↦ no_one
         ] in
         let zero_sum = sum_none size (λ i. one_if (has_bit p.replace i n)) (λ i. ap one_if (all i)) in
-        let same : own n ≡ weight_at counts graph.nodes n = ap (λ l. weigh counts (option_map (changed (reading temp l)) (slice_get graph.nodes n))) (lists_none p.replace n all) ∙ kept_weight counts (slice_get graph.nodes n) in
+        let same : own n ≡ weight_at counts graph.nodes n = ap (λ l. weigh counts (option_map (changed (reading temp l)) (slice_get graph.nodes n))) (lists_none p.replace n all) ∙ unchanged_weight counts (slice_get graph.nodes n) in
         omega (arith, zero_sum, same)
   ]
 

@@ -5,7 +5,7 @@ use Rattle.mir_base.specs.Shapes.{AllBelow, rhs_vars}
 use Rattle.mir_base.specs.BelowLaws.{all_below_more}
 use Rattle.mir_base.specs.ExpressionVars.{rhs_of, rhs_of_vars}
 use Rattle.flow_graph.specs.Graphs.{GraphShape}
-use Rattle.flow_graph.specs.Insertions.{InsertionsBelow, ChangeBelow, CanRewrite}
+use Rattle.graph_edit.specs.Insertions.{InsertionsBelow, ChangeBelow, CanRewrite}
 use Rattle.fresh_names.specs.FreshNames.{AreTemporaryNames}
 use Rattle.fresh_names.specs.FreshNameLaws.{names_differ}
 use Rattle.motion_rewrite.specs.declared.placement.Placement.{Placement}

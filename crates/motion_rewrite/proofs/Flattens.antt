@@ -1,19 +1,20 @@
 -- What follows of the rewritten graph from the laws of rewritings: `flatten` and `flatten_dividing` ensure it.
-use Rattle.std.proofs.Common.{◌≡◌, ℕ, List, length, sym, ap, ◌∙◌, subst}
+use Rattle.std.proofs.Common.{◌≡◌, ℕ, List, length, take, sym, ap, ◌∙◌, subst}
 use Rattle.mir_base.specs.declared.instructions.Expr.{Expr}
+use Rattle.std.proofs.lemmas.List.{take-append-le}
 use Rattle.mir_base.specs.Shapes.{AllDiffer}
 use Rattle.mir_base.specs.UnitRuns.{UnitSame, UnitCheaper}
 use Rattle.flow_graph.specs.declared.nodes.Node.{Node}
-use Rattle.flow_graph.specs.Along.{RunsAlong, RunsFollow}
+use Rattle.graph_edit.specs.Along.{RunsAlong, RunsFollow}
 use Rattle.flow_graph.specs.Calls.{NodesCall}
 use Rattle.flow_graph.specs.Edges.{IsSplit}
 use Rattle.flow_graph.specs.Graphs.{GraphShape}
-use Rattle.flow_graph.specs.InsertionGraphs.{rewritten_calls}
-use Rattle.flow_graph.specs.InsertionPaths.{path_within, rewritten_over, rewritten_alone}
-use Rattle.flow_graph.specs.Over.{IsOver, over_path}
-use Rattle.flow_graph.specs.InsertionRunLaws.{rewritten_same, rewritten_cheaper, rewritten_runs}
-use Rattle.flow_graph.specs.InsertionSplit.{rewritten_split}
-use Rattle.flow_graph.specs.Insertions.{Rewriting, CanRewrite, rewritten_nodes}
+use Rattle.graph_edit.specs.InsertionGraphs.{rewritten_calls}
+use Rattle.graph_edit.specs.InsertionPaths.{path_within, rewritten_over, rewritten_alone}
+use Rattle.graph_edit.specs.Over.{IsOver, over_path}
+use Rattle.graph_edit.specs.InsertionRunLaws.{rewritten_same, rewritten_cheaper, rewritten_runs}
+use Rattle.graph_edit.specs.InsertionSplit.{rewritten_split}
+use Rattle.graph_edit.specs.Insertions.{Rewriting, CanRewrite, rewritten_nodes}
 use Rattle.flow_graph.specs.Machines.{graph_machine, machine_of}
 use Rattle.flow_graph.specs.Paths.{IsFullPath}
 use Rattle.motion_rewrite.specs.declared.placement.Placement.{Placement}
@@ -27,8 +28,8 @@ use Rattle.motion_rewrite.proofs.Evaluations.{counts_no_more}
 use Rattle.motion_rewrite.proofs.Rewritable.{IsRewritable, rewriting_by}
 
 -- the machines of the two graphs have the same received variables
-machine_is : (graph result : GraphShape) (nodes : List Node) → result.received ≡ graph.received → result.nodes ≡ nodes → graph_machine graph.received nodes ≡ machine_of result
-machine_is graph result nodes received is = ap (λ l. graph_machine l nodes) (sym received) ∙ ap (graph_machine result.received) (sym is)
+machine_is : (graph result : GraphShape) (nodes : List Node) → result.shared ≡ graph.shared → result.received ≡ graph.received → result.nodes ≡ nodes → graph_machine graph.shared graph.received nodes ≡ machine_of result
+machine_is graph result nodes shared received is = ap (λ k. graph_machine k graph.received nodes) (sym shared) ∙ ap (λ l. graph_machine result.shared l nodes) (sym received) ∙ ap (graph_machine result.shared result.received) (sym is)
 
 module _ {graph : GraphShape} {table : List Expr} {p : Placement} (r : IsRewritable graph table p) where
   -- the rewriting, and the nodes that it makes
@@ -47,8 +48,12 @@ module _ {graph : GraphShape} {table : List Expr} {p : Placement} (r : IsRewrita
     nodes_are : result.nodes ≡ nodes'
     nodes_are = flat.nodes_are
 
-    machines : graph_machine graph.received nodes' ≡ machine_of result
-    machines = machine_is graph result nodes' flat.received_are nodes_are
+    machines : graph_machine graph.shared graph.received nodes' ≡ machine_of result
+    machines = machine_is graph result nodes' flat.shared_is flat.received_are nodes_are
+
+    -- the globals stay the first variables
+    pub flattened_globals : take result.shared result.vars ≡ take graph.shared graph.vars
+    flattened_globals = ap (λ k. take k result.vars) flat.shared_is ∙ ap (take graph.shared) flat.vars_are ∙ take-append-le graph.shared graph.vars flat.names r.least
 
     -- a split graph stays split, and no call is new
     pub flattened_split : IsSplit graph.nodes → IsSplit result.nodes
@@ -90,6 +95,6 @@ module _ {graph : GraphShape} {table : List Expr} {p : Placement} (r : IsRewrita
       follow = λ path other entry answers full is is_entry are runs.
           let lies : IsOver graph.nodes nodes' path other = subst (λ l. IsOver graph.nodes l path other) nodes_are is in
           subst (λ m. RunsAlong m entry answers other) machines
-          (subst (RunsAlong (graph_machine graph.received nodes') entry answers) (sym (rewritten_alone way flat.names graph fits r.is_graph path other lies))
-          (rewritten_runs way flat.names graph (TemporariesHold r) fits r.is_graph (placement_preserves r alike) path entry answers runs));
+          (subst (RunsAlong (graph_machine graph.shared graph.received nodes') entry answers) (sym (rewritten_alone way flat.names graph fits r.is_graph path other lies))
+          (rewritten_runs way flat.names graph (TemporariesHold r) fits r.is_graph (placement_preserves r alike) path entry answers are runs));
     }

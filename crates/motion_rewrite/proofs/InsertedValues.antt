@@ -9,7 +9,7 @@ use Rattle.mir_base.specs.Expressions.{rhs_traps}
 use Rattle.mir_base.specs.ExpressionVars.{expr_vars, rhs_of, rhs_of_vars}
 use Rattle.mir_base.specs.Frames.{Values, with_value}
 use Rattle.mir_base.specs.Shapes.{AllBelow}
-use Rattle.flow_graph.specs.InsertionRuns.{values_after, none_traps}
+use Rattle.graph_edit.specs.InsertionRuns.{values_after, none_traps}
 use Rattle.flow_graph.specs.Numbering.{is_in}
 use Rattle.motion_rewrite.specs.Flatten.{insertions_of}
 use Rattle.motion_rewrite.proofs.Insertions.{among_head, among_tail}

@@ -15,9 +15,9 @@ use Rattle.mir_base.specs.declared.instructions.Rhs.{Rhs}
 use Rattle.mir_base.specs.declared.instructions.Rhs.TheVariants.{Plain, Unary, Binary}
 use Rattle.mir_base.specs.declared.instructions.Expr.TheVariants.{Bin}
 use Rattle.flow_graph.specs.declared.nodes.Node.{Node}
-use Rattle.flow_graph.specs.declared.nodes.Node.TheVariants.{Start, Skip, Assign, Print, Call, Test, Return}
+use Rattle.flow_graph.specs.declared.nodes.Node.TheVariants.{Start, Skip, Assign, Print, Guard, Call, Test, Return}
 use Rattle.flow_graph.specs.Graphs.{HaveVarsBelow, node_vars}
-use Rattle.motion_rewrite.specs.Tables.{dividing_at, dividing_in, expr_at, firsts, listed, read_off}
+use Rattle.motion_rewrite.specs.ExprTables.{dividing_at, dividing_in, expr_at, firsts, listed, read_off}
 
 -- ---- put in
 
@@ -151,6 +151,7 @@ node_movable vars (Start next) e below h = cc
 node_movable vars (Skip next) e below h = cc
 node_movable vars (Assign x rhs next) e below h = let parts = expr_of_vars rhs e h in (parts.0, subst (AllBelow vars) (sym parts.1) below.1)
 node_movable vars (Print a next) e below h = cc
+node_movable vars (Guard test number next) e below h = cc
 node_movable vars (Call into unit operands next) e below h = cc
 node_movable vars (Test test taken other) e below h = cc
 node_movable vars (Return a) e below h = cc
@@ -171,6 +172,7 @@ node_divides vars (Start next) e below h = cc
 node_divides vars (Skip next) e below h = cc
 node_divides vars (Assign x rhs next) e below h = dividing_is vars rhs e below.1 h
 node_divides vars (Print a next) e below h = cc
+node_divides vars (Guard test number next) e below h = cc
 node_divides vars (Call into unit operands next) e below h = cc
 node_divides vars (Test test taken other) e below h = cc
 node_divides vars (Return a) e below h = cc

@@ -1,11 +1,11 @@
 -- What `flatten` and `flatten_dividing` require of a graph, a table and a placement, and what follows at once: no
 -- insertion stands before Start, and each replaced node uses its expression, which is inserted somewhere.
-use Rattle.std.proofs.Common.{◌≡◌, ℕ, ◌+◌, ◌<◌, Bool, true, cond, List, [], ◌∷◌, length, slice_get, Some, inl, inr, refl, sym, ap, ◌∙◌, subst, arith}
+use Rattle.std.proofs.Common.{◌≡◌, ℕ, ◌+◌, ◌<◌, ◌≤◌, Bool, true, cond, List, [], ◌∷◌, length, slice_get, Some, inl, inr, refl, sym, ap, ◌∙◌, subst, arith}
 use Rattle.mir_base.specs.declared.instructions.Expr.{Expr}
 use Rattle.flow_graph.specs.declared.nodes.Node.{Node}
 use Rattle.flow_graph.specs.Graphs.{GraphShape, IsGraph}
 use Rattle.flow_graph.specs.PathLaws.{reached_trace}
-use Rattle.flow_graph.specs.Insertions.{Rewriting}
+use Rattle.graph_edit.specs.Insertions.{Rewriting}
 use Rattle.flow_graph.specs.ListLaws.{some_at}
 use Rattle.flow_graph.specs.Numbering.{is_in}
 use Rattle.path_laws.specs.Paths.{AreRows, has_bit}
@@ -13,7 +13,7 @@ use Rattle.motion_rewrite.specs.declared.placement.Placement.{Placement}
 use Rattle.motion_rewrite.specs.Expressions.{kills, uses}
 use Rattle.motion_rewrite.specs.Flatten.{by_placement, inserted}
 use Rattle.motion_rewrite.specs.Placements.{CanFlattenBy, ReachesAlong}
-use Rattle.motion_rewrite.specs.Tables.{AreOver}
+use Rattle.motion_rewrite.specs.ExprTables.{AreOver}
 use Rattle.motion_rewrite.specs.Temporaries.{temporaries_before, temporary}
 use Rattle.motion_rewrite.proofs.Insertions.{among_inserted, among_head}
 use Rattle.motion_rewrite.proofs.RowNumbers.{AllKnown, inserted_bit, row_known, set_within}
@@ -22,15 +22,16 @@ use Rattle.motion_rewrite.proofs.TemporaryNumbers.{bit_inserted, temporaries_mon
 -- what both require
 pub record IsRewritable (graph : GraphShape) (table : List Expr) (p : Placement) : Type 0 where
   pub is_graph : IsGraph graph.vars graph.received graph.nodes
+  pub least : graph.shared ≤ length graph.vars
   pub over : AreOver (length graph.vars) table
   pub insert : AreRows (length graph.nodes) (length table) p.insert
   pub replace : AreRows (length graph.nodes) (length table) p.replace
   pub placed : CanFlattenBy graph table p
 
 -- so it is where the nodes are those of a graph
-pub rewritable : (graph : GraphShape) (table : List Expr) (p : Placement) (nodes : List Node) → nodes ≡ graph.nodes → IsGraph graph.vars graph.received nodes → AreOver (length graph.vars) table → AreRows (length graph.nodes) (length table) p.insert → AreRows (length graph.nodes) (length table) p.replace
+pub rewritable : (graph : GraphShape) (table : List Expr) (p : Placement) (nodes : List Node) → nodes ≡ graph.nodes → IsGraph graph.vars graph.received nodes → graph.shared ≤ length graph.vars → AreOver (length graph.vars) table → AreRows (length graph.nodes) (length table) p.insert → AreRows (length graph.nodes) (length table) p.replace
     → CanFlattenBy graph table p → IsRewritable graph table p
-rewritable graph table p nodes is is_graph over insert replace placed = record { is_graph = subst (IsGraph graph.vars graph.received) is is_graph; over = over; insert = insert; replace = replace; placed = placed }
+rewritable graph table p nodes is is_graph least over insert replace placed = record { is_graph = subst (IsGraph graph.vars graph.received) is is_graph; least = least; over = over; insert = insert; replace = replace; placed = placed }
 
 -- the temporaries of a placement
 abbrev pub temps_of : GraphShape → Placement → ℕ → ℕ

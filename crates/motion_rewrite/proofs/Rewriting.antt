@@ -6,9 +6,9 @@ use Rattle.mir_base.specs.declared.instructions.Expr.{Expr}
 use Rattle.mir_base.specs.Shapes.{AllBelow}
 use Rattle.mir_base.specs.ExpressionVars.{rhs_of}
 use Rattle.flow_graph.specs.declared.nodes.Node.{Node}
-use Rattle.flow_graph.specs.EditingOrder.{rewritten_alike}
+use Rattle.graph_edit.specs.EditingOrder.{rewritten_alike}
 use Rattle.flow_graph.specs.Graphs.{AllWithin}
-use Rattle.flow_graph.specs.Insertions.{Replaced}
+use Rattle.graph_edit.specs.Insertions.{Replaced}
 use Rattle.path_laws.specs.Paths.{AreRows}
 use Rattle.motion_rewrite.specs.declared.placement.Placement.{Placement}
 use Rattle.motion_rewrite.specs.Flatten.{inserted, insertion_of, insertions_of, reading, by_placement, flattened}

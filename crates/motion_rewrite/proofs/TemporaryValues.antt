@@ -16,9 +16,9 @@ use Rattle.mir_base.specs.Frames.{Values, with_value}
 use Rattle.flow_graph.specs.declared.nodes.Node.{Node}
 use Rattle.flow_graph.specs.declared.nodes.Node.TheVariants.{Assign}
 use Rattle.flow_graph.specs.Graphs.{GraphShape, assigns, node_reads}
-use Rattle.flow_graph.specs.InsertionRuns.{values_after, none_traps, BothAssign, Preserves, TrapsAfter}
+use Rattle.graph_edit.specs.InsertionRuns.{values_after, none_traps, BothAssign, Preserves, TrapsAfter}
 use Rattle.flow_graph.specs.Machines.{graph_code}
-use Rattle.flow_graph.specs.Insertions.{Insertion, Replaced, Removed}
+use Rattle.graph_edit.specs.Insertions.{Insertion, Replaced, Removed}
 use Rattle.flow_graph.specs.Numbering.{is_in}
 use Rattle.flow_graph.specs.Paths.{Trace}
 use Rattle.path_laws.specs.Paths.{has_bit}
@@ -29,7 +29,7 @@ use Rattle.motion_rewrite.specs.Placements.{InsertionsTrapAlike, IsAvailableAfte
 use Rattle.motion_rewrite.proofs.InsertedValues.{others_keep, after_sets, none_of_them, one_of_them}
 use Rattle.motion_rewrite.proofs.Insertions.{among_inserted, head_or_none}
 use Rattle.motion_rewrite.specs.UseLaws.{uses_assign}
-use Rattle.flow_graph.specs.VarLaws.{NoneAssigned, new_unassigned, reads_below}
+use Rattle.graph_edit.specs.VarLaws.{NoneAssigned, new_unassigned, reads_below}
 use Rattle.motion_rewrite.specs.KillLaws.{kills_none}
 use Rattle.motion_rewrite.proofs.RowNumbers.{set_within}
 use Rattle.motion_rewrite.proofs.Rewritable.{IsRewritable, evaluated_at, first_bit, known, replaced_use, rewriting_by, temps_of}
@@ -112,7 +112,7 @@ module _ {graph : GraphShape} {table : List Expr} {p : Placement} (r : IsRewrita
             let below = r.is_graph.can.below n node is in
             let equal = stay node v1 w1 both (expr_vars e) (kills_none graph e node kept) in
             let was = held_after i e at_i after.1 in (
-              both.second_keeps (temp i) (new_unassigned graph vars (temp i) node below (temps.fresh i)) ∙ was.0 ∙ sym (value_equal e v1 v equal),
+              both.second_keeps (temp i) (new_unassigned graph vars (temp i) r.least node below (temps.fresh i)) ∙ was.0 ∙ sym (value_equal e v1 v equal),
               traps_equal v1 v (rhs_of e) (subst (λ l. EqualOn l v1 v) (sym (rhs_of_vars e)) equal) ∙ was.1,
             );
       }
@@ -167,7 +167,7 @@ module _ {graph : GraphShape} {table : List Expr} {p : Placement} (r : IsRewrita
   module _ (alike : InsertionsTrapAlike graph table p) where
     -- where an insertion traps, the graph traps too: it is an expression whose bit is set at a node of the graph
     trapped : (n : ℕ) (before : List ℕ) (arguments : List ℤ) (v w : Values) → TemporariesHold n before v w → none_traps (inserts n) w ≡ false
-        → (steps : ℕ) × TrapsAfter (graph_code graph.received graph.nodes) steps (record { place = n; arguments = arguments; values = v })
+        → (steps : ℕ) × TrapsAfter (graph_code graph.shared graph.received graph.nodes) steps (record { place = n; arguments = arguments; values = v })
     trapped n before arguments v w keeps trap =
         let one = one_of_them temp table vars temps.fresh r.over (inserted p.insert n) (known r n) w trap in
         let set = bit_of n one.0 one.3 in
@@ -188,7 +188,7 @@ module _ {graph : GraphShape} {table : List Expr} {p : Placement} (r : IsRewrita
         held = λ i e at_i after. absurd (true≢false (sym (ap (node_kills graph e) r.is_graph.can.start.1) ∙ after.0));
       };
       traps = λ n before arguments v w trace keeps trap. trapped n before arguments v w keeps trap;
-      reads = λ n node before v w trace is kept keeps untrapped. equal_below vars (node_reads graph node) (values_after (inserts n) w) v (reads_below graph vars node (r.is_graph.can.below n node is)) (agree_after n before v w keeps);
+      reads = λ n node before v w trace is kept keeps untrapped. equal_below vars (node_reads graph node) (values_after (inserts n) w) v (reads_below graph vars r.least node (r.is_graph.can.below n node is)) (agree_after n before v w keeps);
       keeps = λ n s node before v w v1 w1 trace is edge kept keeps untrapped both. onward n before v w keeps untrapped s node is v1 w1 both;
       replaces = λ n s x rhs other before v w trace is change keeps untrapped. replaced_ends n s x rhs other before v w trace is change keeps untrapped;
       removes = λ n s x rhs before v w trace is change keeps untrapped. absurd (never_removed n change);

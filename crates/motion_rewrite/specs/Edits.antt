@@ -3,11 +3,11 @@
 use Rattle.std.specs.Prelude.{◌≡◌, ◌⊎◌, ◌<◌, ℕ, Bool, IsTrue, List, length, slice_get}
 use Rattle.mir_base.specs.declared.instructions.Expr.{Expr}
 use Rattle.bit_rows.specs.Bits.{row_of}
-use Rattle.flow_graph.specs.Editing.{graph_change_each, graph_put_each, is_assignment}
+use Rattle.graph_edit.specs.Editing.{graph_change_each, graph_put_each, is_assignment}
 use Rattle.flow_graph.specs.Graphs.{GraphShape}
-use Rattle.flow_graph.specs.Insertions.{Change, ChangeBelow, Insertion, InsertionsBelow, Kept}
+use Rattle.graph_edit.specs.Insertions.{Change, ChangeBelow, Insertion, InsertionsBelow, Unchanged}
 use Rattle.motion_rewrite.specs.Flatten.{insertions_of, reading, set_from}
-use Rattle.flow_graph.specs.Tables.{number_at}
+use Rattle.flow_graph.specs.NumberTables.{number_at}
 
 -- the temporary of an expression
 abbrev pub temp_in : List ℕ → ℕ → ℕ
@@ -25,7 +25,7 @@ puts_by temps table row = insertions_of (temp_in temps) table (set_from 0 row)
 
 -- the node stays, or is an assignment
 abbrev pub CanChange : GraphShape → ℕ → Change → Type 0
-CanChange graph n change = (change ≡ Kept) ⊎ IsTrue (is_assignment (slice_get graph.nodes n))
+CanChange graph n change = (change ≡ Unchanged) ⊎ IsTrue (is_assignment (slice_get graph.nodes n))
 
 -- ---- all nodes
 

@@ -4,7 +4,7 @@ use Rattle.mir_base.specs.declared.instructions.Expr.{Expr}
 use Rattle.mir_base.specs.ExpressionVars.{expr_vars}
 use Rattle.flow_graph.specs.declared.nodes.Node.TheVariants.{Start, Skip}
 use Rattle.flow_graph.specs.Graphs.{GraphShape}
-use Rattle.flow_graph.specs.VarLaws.{assigns_none}
+use Rattle.graph_edit.specs.VarLaws.{assigns_none}
 use Rattle.motion_rewrite.specs.Expressions.{kills, node_kills, node_uses, uses}
 
 module _ (graph : GraphShape) (e : Expr) where

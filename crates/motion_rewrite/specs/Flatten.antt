@@ -8,7 +8,7 @@ use Rattle.mir_base.specs.ExpressionVars.{rhs_of}
 use Rattle.bit_rows.specs.Bits.{row_of}
 use Rattle.flow_graph.specs.declared.nodes.Node.{Node}
 use Rattle.flow_graph.specs.Graphs.{GraphShape}
-use Rattle.flow_graph.specs.Insertions.{Insertion, Change, Kept, Replaced, Rewriting, rewritten_nodes}
+use Rattle.graph_edit.specs.Insertions.{Insertion, Change, Unchanged, Replaced, Rewriting, rewritten_nodes}
 use Rattle.motion_rewrite.specs.declared.placement.Placement.{Placement}
 use Rattle.fresh_names.specs.FreshNames.{AreTemporaryNames}
 use Rattle.motion_rewrite.specs.Temporaries.{temporary, temporaries_before}
@@ -43,14 +43,19 @@ insertions_of temp table (i ∷ numbers) = insertion_of (temp i) (slice_get tabl
 
 -- the temporary of the first of these expressions is read
 abbrev pub reading : (ℕ → ℕ) → List ℕ → Change
-reading temp [] = Kept
+reading temp [] = Unchanged
 reading temp (i ∷ numbers) = Replaced (Plain (Var (temp i)))
 
 -- ---- the whole
 
 -- before each node stand the expressions that are inserted there, and a replaced use reads its temporary
 abbrev pub by_placement : (ℕ → ℕ) → List Expr → Placement → Rewriting
-by_placement temp table p = record { inserts = λ n. insertions_of temp table (inserted p.insert n); changes = λ n. reading temp (inserted p.replace n) }
+by_placement temp table p =
+    record {
+      inserts = λ n. insertions_of temp table (inserted p.insert n);
+      changes =
+          λ n. reading temp (inserted p.replace n);
+    }
 
 -- the nodes of the graph that is rewritten by a placement
 abbrev pub flattened : (ℕ → ℕ) → List Expr → Placement → List Node → List Node
@@ -61,6 +66,7 @@ pub record IsFlattened (graph : GraphShape) (table : List Expr) (p : Placement) 
   pub names : List (List ℕ)
   pub are_names : AreTemporaryNames graph.vars (temporaries_before p.insert (length table)) names
   pub name_is : result.name ≡ graph.name
+  pub shared_is : result.shared ≡ graph.shared
   pub vars_are : result.vars ≡ graph.vars ++ names
   pub received_are : result.received ≡ graph.received
   pub nodes_are : result.nodes ≡ flattened (temporary (length graph.vars) p.insert) table p graph.nodes

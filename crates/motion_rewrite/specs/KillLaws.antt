@@ -6,7 +6,7 @@ use Rattle.mir_base.specs.declared.instructions.Expr.{Expr}
 use Rattle.mir_base.specs.ExpressionVars.{expr_vars}
 use Rattle.flow_graph.specs.declared.nodes.Node.{Node}
 use Rattle.flow_graph.specs.Graphs.{GraphShape, assigns, is_start}
-use Rattle.flow_graph.specs.VarLaws.{NoneAssigned, none_assigned}
+use Rattle.graph_edit.specs.VarLaws.{NoneAssigned, none_assigned}
 use Rattle.motion_rewrite.specs.Expressions.{node_kills}
 
 -- what does not kill e assigns none of the variables that e reads

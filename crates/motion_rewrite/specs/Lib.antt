@@ -2,7 +2,7 @@ pub mod Expressions
 pub mod ExpressionLaws
 pub mod UseLaws
 pub mod KillLaws
-pub mod Tables
+pub mod ExprTables
 pub mod Placements
 pub mod PlacementLaws
 pub mod Rows

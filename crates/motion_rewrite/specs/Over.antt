@@ -2,7 +2,7 @@
 use Rattle.std.specs.Prelude.{◌≡◌, ℕ, count_by, Contains, List, slice_get, Some}
 use Rattle.mir_base.specs.declared.instructions.Expr.{Expr}
 use Rattle.flow_graph.specs.Graphs.{GraphShape}
-use Rattle.flow_graph.specs.Over.{IsOver}
+use Rattle.graph_edit.specs.Over.{IsOver}
 use Rattle.flow_graph.specs.Paths.{IsFullPath}
 use Rattle.motion_rewrite.specs.declared.placement.Placement.{Placement}
 use Rattle.motion_rewrite.specs.Expressions.{uses}
@@ -14,7 +14,8 @@ pub record HasOver (graph result : GraphShape) (table : List Expr) (p : Placemen
   pub over : List ℕ
   pub is_over : IsOver graph.nodes result.nodes path over
   pub alone : (other : List ℕ) → IsOver graph.nodes result.nodes path other → other ≡ over
-  pub counted : (i : ℕ) (e : Expr) → slice_get table i ≡ Some e → count_by (uses result e) over ≡ count graph e (places_of p i) path
+  pub counted : (i : ℕ) (e : Expr) → slice_get table i ≡ Some e
+      → count_by (uses result e) over ≡ count graph e (places_of p i) path
   pub others : (e : Expr) → (Contains table e → ⊥) → count_by (uses result e) over ≡ count_by (uses graph e) path
 
 -- so it is of each full path of the graph

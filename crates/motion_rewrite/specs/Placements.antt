@@ -1,6 +1,6 @@
 -- Placements of one expression: where it is available and anticipatable, which nodes are safe, which placements are
--- admissible, how often a placement evaluates on a path, and when it is optimal; the same of each expression of a table;
--- and when expressions that may trap trap alike. Cited by contracts.
+-- admissible, how often a placement evaluates on a path, and when it is optimal; the same of each expression of a
+-- table; and when expressions that may trap trap alike. Cited by contracts.
 use Rattle.std.specs.Prelude.{◌≡◌, ◌≢◌, ◌⊎◌, ◌<◌, ◌≤◌, ◌+◌, ◌&&◌, ℕ, Bool, true, false, not, count_by, List, [], ◌∷◌, length, slice_get, Some, ℤ}
 use Rattle.mir_base.specs.declared.instructions.Expr.{Expr}
 use Rattle.mir_base.specs.Expressions.{rhs_traps}
@@ -8,14 +8,14 @@ use Rattle.mir_base.specs.ExpressionVars.{rhs_of}
 use Rattle.mir_base.specs.Frames.{Values}
 use Rattle.flow_graph.specs.declared.nodes.Node.TheVariants.{Skip}
 use Rattle.flow_graph.specs.Graphs.{GraphShape, succs_at}
-use Rattle.flow_graph.specs.InsertionRuns.{TrapsAfter}
+use Rattle.graph_edit.specs.InsertionRuns.{TrapsAfter}
 use Rattle.flow_graph.specs.Machines.{graph_code}
 use Rattle.flow_graph.specs.Paths.{HasEdge, IsFullPath, Trace}
 use Rattle.flow_graph.specs.Sums.{one_if}
 use Rattle.path_laws.specs.Paths.{BornAfter, HaveShape, has_bit}
 use Rattle.motion_rewrite.specs.declared.placement.Placement.{Placement}
 use Rattle.motion_rewrite.specs.Expressions.{uses, kills}
-use Rattle.motion_rewrite.specs.Tables.{AreOver, ForEachExpr}
+use Rattle.motion_rewrite.specs.ExprTables.{AreOver, ForEachExpr}
 
 -- of the nodes before a node, the nearest first, one is good, and neither it nor any after it is bad
 abbrev pub ReachesAlong : (ℕ → Type 0) → (ℕ → Bool) → List ℕ → Type 0
@@ -31,7 +31,8 @@ IsAvailableAfter graph e Evaluates before = ReachesAlong Evaluates (kills graph 
 -- available, or up-safe: every path from Start to n has, before n, a node that uses e such that neither it nor a later
 -- one before n kills e
 abbrev pub IsAvailable : GraphShape → Expr → ℕ → Type 0
-IsAvailable graph e n = (before : List ℕ) → Trace graph.nodes n before → IsAvailableAfter graph e (λ m. uses graph e m ≡ true) before
+IsAvailable graph e n = (before : List ℕ) → Trace graph.nodes n before
+    → IsAvailableAfter graph e (λ m. uses graph e m ≡ true) before
 
 -- anticipatable, or down-safe: every path from n that ends at its first killing node, or at a Return with no killing
 -- node before it, has a use of e on it, the last node included
@@ -67,7 +68,8 @@ places_of p i = record { inserts = has_bit p.insert i; replaces = has_bit p.repl
 -- every path from Start to a replaced node has an insertion, at that node or before it, from which on no node before
 -- the replaced one kills e
 abbrev pub ReplacedAreAvailable : GraphShape → Expr → Places → Type 0
-ReplacedAreAvailable graph e p = (n : ℕ) (before : List ℕ) → p.replaces n ≡ true → Trace graph.nodes n before → (p.inserts n ≡ true) ⊎ IsAvailableAfter graph e (λ m. p.inserts m ≡ true) before
+ReplacedAreAvailable graph e p = (n : ℕ) (before : List ℕ) → p.replaces n ≡ true → Trace graph.nodes n before
+    → (p.inserts n ≡ true) ⊎ IsAvailableAfter graph e (λ m. p.inserts m ≡ true) before
 
 -- each replaced node uses e, which is available there from the insertions, and each insertion stands at a safe node
 pub record IsAdmissible (graph : GraphShape) (e : Expr) (Down : ℕ → Type 0) (p : Places) : Type 0 where
@@ -97,7 +99,8 @@ evaluations_at graph e p n = one_if (p.inserts n) + one_if (uses graph e n && no
 -- admissible, and on no full path is e evaluated more often than by any other admissible placement
 pub record IsOptimal (graph : GraphShape) (e : Expr) (Down : ℕ → Type 0) (p : Places) : Type 0 where
   pub admissible : IsAdmissible graph e Down p
-  pub least : (other : Places) → IsAdmissible graph e Down other → (path : List ℕ) → IsFullPath graph.nodes path → count graph e p path ≤ count graph e other path
+  pub least : (other : Places) → IsAdmissible graph e Down other → (path : List ℕ) → IsFullPath graph.nodes path
+      → count graph e p path ≤ count graph e other path
 
 -- ---- placements of a table
 
@@ -125,13 +128,17 @@ pub record IsFlattenable (graph : GraphShape) (table : List Expr) (p : Placement
 -- where the evaluation of e traps, a run of the graph that goes on from node n with the same values traps alike, after
 -- steps that show nothing
 abbrev pub TrapsFrom : GraphShape → Expr → ℕ → Type 0
-TrapsFrom graph e n = (arguments : List ℤ) (values : Values) → rhs_traps values (rhs_of e) ≡ true → (steps : ℕ) × TrapsAfter (graph_code graph.received graph.nodes) steps (record { place = n; arguments = arguments; values = values })
+TrapsFrom graph e n = (arguments : List ℤ) (values : Values) → rhs_traps values (rhs_of e) ≡ true → (steps : ℕ)
+    × TrapsAfter (graph_code graph.shared graph.received graph.nodes) steps
+    (record { place = n; arguments = arguments; values = values })
 
 -- so it is of each expression at each node before which the placement inserts it: no insertion traps where the graph
 -- would not
 abbrev pub InsertionsTrapAlike : GraphShape → List Expr → Placement → Type 0
-InsertionsTrapAlike graph table p = ForEachExpr table (λ i e. (n : ℕ) → n < length graph.nodes → has_bit p.insert i n ≡ true → TrapsFrom graph e n)
+InsertionsTrapAlike graph table p =
+    ForEachExpr table (λ i e. (n : ℕ) → n < length graph.nodes → has_bit p.insert i n ≡ true → TrapsFrom graph e n)
 
 -- the placement evaluates no expression of the table more often than the nodes as they are
 pub record IsNoDearer (graph : GraphShape) (table : List Expr) (p : Placement) : Type 0 where
-  pub no_dearer : (i : ℕ) (e : Expr) → slice_get table i ≡ Some e → (path : List ℕ) → IsFullPath graph.nodes path → count graph e (places_of p i) path ≤ count_by (uses graph e) path
+  pub no_dearer : (i : ℕ) (e : Expr) → slice_get table i ≡ Some e → (path : List ℕ) → IsFullPath graph.nodes path
+      → count graph e (places_of p i) path ≤ count_by (uses graph e) path

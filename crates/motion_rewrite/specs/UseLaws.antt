@@ -6,7 +6,7 @@ use Rattle.mir_base.specs.declared.instructions.Expr.{Expr}
 use Rattle.mir_base.specs.ExpressionVars.{rhs_of}
 use Rattle.mir_base.specs.SameExpressions.{expr_is, expr_itself, is_expr, of_rhs, rhs_is}
 use Rattle.flow_graph.specs.declared.nodes.Node.{Node}
-use Rattle.flow_graph.specs.declared.nodes.Node.TheVariants.{Start, Skip, Assign, Print, Call, Test, Return}
+use Rattle.flow_graph.specs.declared.nodes.Node.TheVariants.{Start, Skip, Assign, Print, Guard, Call, Test, Return}
 use Rattle.flow_graph.specs.Graphs.{GraphShape, rhs_at}
 use Rattle.motion_rewrite.specs.Expressions.{uses}
 
@@ -21,6 +21,7 @@ node_assigns e (Some (Start next)) is = absurd (false≢true is)
 node_assigns e (Some (Skip next)) is = absurd (false≢true is)
 node_assigns e (Some (Assign x rhs next)) is = (x, next, ap (λ r. Some (Assign x r next)) (rhs_is e rhs is))
 node_assigns e (Some (Print a next)) is = absurd (false≢true is)
+node_assigns e (Some (Guard test number next)) is = absurd (false≢true is)
 node_assigns e (Some (Call into unit operands next)) is = absurd (false≢true is)
 node_assigns e (Some (Test test taken other)) is = absurd (false≢true is)
 node_assigns e (Some (Return a)) is = absurd (false≢true is)

@@ -1,15 +1,15 @@
 // The edits by which a graph is rewritten: uses that read temporaries, and evaluations before nodes.
 ghost use Rattle.std.specs.Prelude.{◌≡◌, [], ◌+◌, ◌<◌, ◌≤◌, length, IfOk};
 ghost use Rattle.mir_base.specs.ExpressionVars.{rhs_of};
-ghost use Rattle.flow_graph.specs.Editing.{graph_changed, graph_put_all};
-ghost use Rattle.flow_graph.specs.Insertions.{ChangeBelow, InsertionsBelow};
+ghost use Rattle.graph_edit.specs.Editing.{graph_changed, graph_put_all};
+ghost use Rattle.graph_edit.specs.Insertions.{ChangeBelow, InsertionsBelow};
 ghost use Rattle.path_laws.specs.Paths.{AreRows};
 ghost use Rattle.motion_rewrite.specs.Edits.{CanChange, CanChangeEach, ChangesBelow, PutsBelow, change_by, graph_evaluating, graph_read, puts_by};
 ghost use Rattle.motion_rewrite.specs.Flatten.{inserted, inserted_below, set_from};
 
 use crate::ExprTable;
 use bit_rows::{RowView, Rows};
-use flow_graph::Editor;
+use graph_edit::Editor;
 use mir_base::{Expr, Memory, Operand, Rhs};
 use std::alloc::AllocError;
 

@@ -1,21 +1,22 @@
 // The rewriting of a graph by a placement.
-ghost use Rattle.std.specs.Prelude.{length, IfOk, OnOk};
+ghost use Rattle.std.specs.Prelude.{length, IfOk, OnOk, ◌≤◌};
 ghost use Rattle.mir_base.specs.Shapes.{AllDiffer};
-ghost use Rattle.flow_graph.specs.Along.{RunsFollow};
+ghost use Rattle.graph_edit.specs.Along.{RunsFollow};
 ghost use Rattle.flow_graph.specs.Edges.{IsSplit};
 ghost use Rattle.flow_graph.specs.Graphs.{IsGraph};
-ghost use Rattle.flow_graph.specs.Passes.{GraphCalls, GraphCheaper, GraphDivides, GraphKeeps, GraphSame};
+ghost use Rattle.flow_graph.specs.Passes.{GraphCalls, GraphCheaper, GraphDividesUnchanged, GraphKeeps, GraphSame};
 ghost use Rattle.path_laws.specs.Paths.{HaveShape};
 ghost use Rattle.motion_rewrite.specs.Flatten.{IsFlattened};
 ghost use Rattle.motion_rewrite.specs.Over.{HasOverEach};
 ghost use Rattle.motion_rewrite.specs.Placements.{CanFlattenBy, InsertionsTrapAlike, IsFlattenable, IsNoDearer};
-ghost use Rattle.motion_rewrite.specs.Tables.{AreMovable, AreOver};
+ghost use Rattle.motion_rewrite.specs.ExprTables.{AreMovable, AreOver};
 
 use crate::editing::{insertions_in, put_evaluations, read_temporaries};
 use crate::temporaries::number_temporaries;
 use crate::{ExprTable, Placement};
-use flow_graph::{Editor, Graph};
+use flow_graph::Graph;
 use fresh_names::temporary_names;
+use graph_edit::Editor;
 use mir_base::Memory;
 use std::alloc::Global;
 
@@ -60,8 +61,8 @@ pub fn flatten(
     // a split graph stays split
     ensures split { IfOk result (λ flat. IsSplit graph.now.nodes → IsSplit flat.nodes) }
 
-    // each dividing assignment stays
-    ensures divides { IfOk result (GraphDivides graph.now) }
+    // each dividing assignment stays, with its operands
+    ensures divides { IfOk result (GraphDividesUnchanged graph.now) }
 
     // the result makes no calls but those of the graph
     ensures calls { IfOk result (GraphCalls graph.now) }
@@ -124,6 +125,7 @@ fn rewritten(
 ) -> Result<Graph, Memory>
     requires { IsFlattenable graph.now table.now placement.now }
     ensures graph { OnOk result (IsGraph graph.now.vars graph.now.received graph.now.nodes) }
+    ensures shares { OnOk result (graph.now.shared ≤ length graph.now.vars) }
     ensures differ { OnOk result (AllDiffer table.now) }
     ensures flattened { IfOk result (IsFlattened graph.now table.now placement.now) }
 {
@@ -132,6 +134,7 @@ fn rewritten(
     let names = temporary_names(alloc, graph.vars(), temporaries.count)?;
     let temps = temporaries.numbers.as_slice();
     let _nodes = graph.nodes();
+    let _shared = graph.shared();
     let _differ = table.len();
     let room = insertions_in(insert)?;
     let mut editor = Editor::open(alloc, graph, names, room)?;

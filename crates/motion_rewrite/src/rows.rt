@@ -32,7 +32,7 @@ pub fn kill_rows(alloc: Global, graph: &Graph, table: &ExprTable) -> Result<Rows
 {
     let nodes = graph.nodes();
     let operands = operand_rows(alloc, graph.vars().len(), table)?;
-    let rows = assigned_rows(alloc, nodes, &operands, table.len(), true)?;
+    let rows = assigned_rows(alloc, nodes, &operands, table.len(), graph.shared(), true)?;
     Ok(rows)
 }
 

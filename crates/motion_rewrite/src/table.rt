@@ -3,7 +3,7 @@ ghost use Rattle.std.specs.Prelude.{◌≡◌, length, IfOk, Some};
 ghost use Rattle.mir_base.specs.ExpressionVars.{written_expr};
 ghost use Rattle.mir_base.specs.Shapes.{AllDiffer};
 ghost use Rattle.flow_graph.specs.Graphs.{node_rhs};
-ghost use Rattle.motion_rewrite.specs.Tables.{AreDividing, AreMovable, AreOver, dividing_at, dividing_exprs, dividing_in, expr_at, movable_exprs};
+ghost use Rattle.motion_rewrite.specs.ExprTables.{AreDividing, AreMovable, AreOver, dividing_at, dividing_exprs, dividing_in, expr_at, movable_exprs};
 
 use flow_graph::{Graph, Node};
 use key_table::KeyTable;

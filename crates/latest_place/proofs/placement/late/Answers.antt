@@ -3,7 +3,7 @@ use Rattle.std.proofs.lemmas.Option.{slice_get_within}
 use Rattle.mir_base.specs.declared.instructions.Expr.{Expr}
 use Rattle.path_laws.specs.Paths.{AreRows, has_bit, width}
 use Rattle.path_laws.specs.RowLaws.{rows_as_many}
-use Rattle.latest_place.specs.Walks.{walks}
+use Rattle.latest_place.specs.SplitFacts.{split_facts}
 use Rattle.latest_place.proofs.Combined.{like_uses}
 use Rattle.latest_place.proofs.Reading.{AreLateBits, delayed_says, isolated_says, latest_says}
 use Rattle.latest_place.proofs.placement.late.Goals as goal
@@ -20,7 +20,7 @@ latest_shape g c = rows_as_many (length c.args.graph.now.nodes) (length c.args.t
 bits_are : (g : _) (c : In_ok-isolated g) (i : ℕ) (e : Expr) → slice_get c.args.table.now i ≡ Some e
     → AreLateBits c.args.graph.now e (g.R.DownRule.is_down c.args.rule.now c.args.graph.now e) (has_bit c.in_ok-busy.busy.early i) (has_bit c.in_ok-busy.busy.uses i) (has_bit c.in_ok-delayed.delayed i) (has_bit c.in_ok-latest.latest i) (has_bit c.in_ok-isolated.isolated i)
 bits_are g c i e at =
-    let some : 0 < length c.args.graph.now.nodes = (walks c.args.graph.now c.in_ok-isolated.ensures.graph c.requires.split).start_below in
+    let some : 0 < length c.args.graph.now.nodes = (split_facts c.args.graph.now c.in_ok-isolated.ensures.graph c.requires.split).start_below in
     let in_table = slice_get_within c.args.table.now i e at in
     let in_early : i < width c.in_ok-busy.busy.early = rw (c.in_ok-busy.ensures.early.shape.each 0 some) in_table in
     let in_delayed : i < width c.in_ok-delayed.delayed = rw (c.in_ok-delayed.ensures.shape.each 0 some) in_early in
@@ -46,7 +46,7 @@ isolated_rows-requires g c =
 
 pub returns : goal.returns
 returns g c =
-    let known = walks c.args.graph.now c.in_ok-isolated.ensures.graph c.requires.split in
+    let known = split_facts c.args.graph.now c.in_ok-isolated.ensures.graph c.requires.split in
     let bits = bits_are g (goal.at.returns g c).In_ok-isolated in
     record {
       uses = c.in_ok-busy.ensures.uses;

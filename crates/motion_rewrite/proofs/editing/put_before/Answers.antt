@@ -1,8 +1,8 @@
 use Rattle.std.proofs.Common.{◌≡◌, ℕ, ◌+◌, ◌∷◌, drop, get_or, length, ap, sym, ◌∙◌, subst, arith}
-use Rattle.flow_graph.specs.Editing.{graph_put_all}
-use Rattle.flow_graph.specs.EditingOrder.{put_length}
+use Rattle.graph_edit.specs.Editing.{graph_put_all}
+use Rattle.graph_edit.specs.EditingOrder.{put_length}
 use Rattle.flow_graph.specs.Graphs.{GraphShape}
-use Rattle.flow_graph.specs.Insertions.{InsertionsBelow}
+use Rattle.graph_edit.specs.Insertions.{InsertionsBelow}
 use Rattle.motion_rewrite.specs.Flatten.{insertions_of, set_from}
 use Rattle.motion_rewrite.proofs.Rewriting.{one_more}
 use Rattle.motion_rewrite.proofs.SetBits.{bits_step, bits_end}

@@ -1,6 +1,6 @@
 use Rattle.std.proofs.Common.{◌≡◌, ◌+◌, ◌-◌, ◌<◌, ◌≤◌, drop, length, get_or}
-use Rattle.flow_graph.specs.Editing.{graph_put_all}
-use Rattle.flow_graph.specs.Insertions.{InsertionsBelow}
+use Rattle.graph_edit.specs.Editing.{graph_put_all}
+use Rattle.graph_edit.specs.Insertions.{InsertionsBelow}
 use Rattle.motion_rewrite.specs.Flatten.{insertions_of, set_from}
 use Rattle.motion_rewrite.proofs.editing.put_before.Given as goal
 

@@ -1,6 +1,6 @@
 use Rattle.std.proofs.Common.{◌≡◌, ℕ, suc, ◌+◌, ◌-◌, get_or, length, ap, sym, ◌∙◌, arith}
-use Rattle.flow_graph.specs.Editing.{put_all, put_each}
-use Rattle.flow_graph.specs.EditingOrder.{put_all_length}
+use Rattle.graph_edit.specs.Editing.{put_all, put_each}
+use Rattle.graph_edit.specs.EditingOrder.{put_all_length}
 use Rattle.flow_graph.specs.Graphs.{GraphShape}
 use Rattle.motion_rewrite.specs.Flatten.{inserted, inserted_below, insertions_of, set_from}
 use Rattle.motion_rewrite.proofs.RowNumbers.{inserted_mono}
@@ -27,6 +27,7 @@ loop-node-preserved c =
     let below = ap {B = ℕ} (inserted_below c.args.insert.now) next in
     record {
       name = ap (λ (g : GraphShape). g.name) graph ∙ inv.name;
+      shared = ap (λ (g : GraphShape). g.shared) graph ∙ inv.shared;
       vars = ap (λ (g : GraphShape). g.vars) graph ∙ inv.vars;
       received = ap (λ (g : GraphShape). g.received) graph ∙ inv.received;
       long = let longer = ap (λ (g : GraphShape). length g.nodes) graph in omega (arith, longer, put_all_length n (insertions_of temp c.args.table.now (set_from 0 c.row.result)) c.loop-node.editor.graph.nodes, inv.long);

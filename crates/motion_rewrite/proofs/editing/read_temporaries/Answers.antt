@@ -1,6 +1,6 @@
 use Rattle.std.proofs.Common.{◌≡◌, ℕ, suc, ◌+◌, ◌-◌, get_or, length, slice_get, ap, sym, ◌∙◌, arith}
-use Rattle.flow_graph.specs.Editing.{change_at, change_each}
-use Rattle.flow_graph.specs.EditingLaws.{change_other}
+use Rattle.graph_edit.specs.Editing.{change_at, change_each}
+use Rattle.graph_edit.specs.EditingLaws.{change_other}
 use Rattle.flow_graph.specs.Graphs.{GraphShape}
 use Rattle.motion_rewrite.specs.Flatten.{inserted, reading, set_from}
 use Rattle.motion_rewrite.proofs.editing.read_temporaries.Goals as goal
@@ -17,6 +17,7 @@ loop-node-preserved c =
     let next : n + 1 ≡ suc n = omega arith in
     record {
       name = ap (λ (g : GraphShape). g.name) graph ∙ inv.name;
+      shared = ap (λ (g : GraphShape). g.shared) graph ∙ inv.shared;
       vars = ap (λ (g : GraphShape). g.vars) graph ∙ inv.vars;
       received = ap (λ (g : GraphShape). g.received) graph ∙ inv.received;
       rest = λ m le. ap (λ (g : GraphShape). slice_get g.nodes m) graph ∙ change_other n m _ c.loop-node.editor.graph.nodes (λ e. omega (arith, e, le)) ∙ inv.rest m (omega (arith, le));

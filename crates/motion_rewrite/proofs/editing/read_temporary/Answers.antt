@@ -1,7 +1,7 @@
 use Rattle.std.proofs.Common.{◌≡◌, ◌+◌, ◌∷◌, drop, get_or, length, ap, sym, ◌∙◌, subst, inl, inr, arith}
-use Rattle.flow_graph.specs.Editing.{graph_changed}
-use Rattle.flow_graph.specs.EditingLaws.{change_none}
-use Rattle.flow_graph.specs.Insertions.{ChangeBelow}
+use Rattle.graph_edit.specs.Editing.{graph_changed}
+use Rattle.graph_edit.specs.EditingLaws.{change_none}
+use Rattle.graph_edit.specs.Insertions.{ChangeBelow}
 use Rattle.motion_rewrite.specs.Flatten.{reading, set_from}
 use Rattle.motion_rewrite.proofs.SetBits.{bits_step, bits_end}
 use Rattle.motion_rewrite.proofs.editing.read_temporary.Goals as goal

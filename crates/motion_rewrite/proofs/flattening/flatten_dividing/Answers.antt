@@ -1,6 +1,6 @@
 -- Each clause follows from clause `flattened` by the laws of rewritten graphs.
 use Rattle.std.proofs.Common.{refl}
-use Rattle.motion_rewrite.proofs.Flattens.{flattened_same, flattened_cheaper, flattened_paths, flattened_runs, flattened_split, flattened_calls}
+use Rattle.motion_rewrite.proofs.Flattens.{flattened_globals, flattened_same, flattened_cheaper, flattened_paths, flattened_runs, flattened_split, flattened_calls}
 use Rattle.motion_rewrite.proofs.Rewritable.{IsRewritable, rewritable}
 use Rattle.motion_rewrite.proofs.flattening.flatten_dividing.Goals as goal
 use Rattle.motion_rewrite.proofs.flattening.flatten_dividing.Goals.{In_ok-flat}
@@ -9,7 +9,7 @@ pub rewritten-requires : goal.rewritten-requires
 rewritten-requires c = record { over = c.requires.over; insert = c.requires.insert; replace = c.requires.replace; placed = c.requires.placed }
 
 rewritable_here : (c : In_ok-flat) → IsRewritable c.args.graph.now c.args.table.now c.args.placement.now
-rewritable_here c = rewritable c.args.graph.now c.args.table.now c.args.placement.now c.args.graph.now.nodes refl c.in_ok-flat.ensures.graph c.requires.over c.requires.insert c.requires.replace c.requires.placed
+rewritable_here c = rewritable c.args.graph.now c.args.table.now c.args.placement.now c.args.graph.now.nodes refl c.in_ok-flat.ensures.graph c.in_ok-flat.ensures.shares c.requires.over c.requires.insert c.requires.replace c.requires.placed
 
 pub returns-clause-same : goal.returns-clause-same
 returns-clause-same c = flattened_same (rewritable_here (goal.at.returns-clause-same c).In_ok-flat) c.in_ok-flat.flat c.in_ok-flat.ensures.flattened c.requires.traps
@@ -32,6 +32,7 @@ returns-clause-calls c = flattened_calls (rewritable_here (goal.at.returns-claus
 pub returns-clause-keeps : goal.returns-clause-keeps
 returns-clause-keeps c = λ no_dearer. record {
   name = c.in_ok-flat.ensures.flattened.name_is;
+  globals = flattened_globals (rewritable_here (goal.at.returns-clause-keeps c).In_ok-flat) c.in_ok-flat.flat c.in_ok-flat.ensures.flattened;
   same = returns-clause-same c;
   cheaper = returns-clause-cheaper c no_dearer;
   calls = returns-clause-calls c;

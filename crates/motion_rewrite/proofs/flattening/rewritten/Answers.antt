@@ -1,10 +1,10 @@
 use Rattle.std.proofs.Common.{◌≡◌, ◌∙◌, ◌<◌, ◌++◌, ℕ, List, length, get_or, slice_get, ap, sym, subst, inl, inr, arith}
 use Rattle.std.proofs.lemmas.Option.{get_or_from_slice_get}
-use Rattle.flow_graph.specs.Editing.{change_each, put_each, is_assignment}
-use Rattle.flow_graph.specs.EditingLaws.{change_each_length}
-use Rattle.flow_graph.specs.EditingOrder.{edited_in_order}
+use Rattle.graph_edit.specs.Editing.{change_each, put_each, is_assignment}
+use Rattle.graph_edit.specs.EditingLaws.{change_each_length}
+use Rattle.graph_edit.specs.EditingOrder.{edited_in_order}
 use Rattle.flow_graph.specs.Graphs.{GraphShape, AllWithin}
-use Rattle.flow_graph.specs.Insertions.{CanRewrite, ChangeBelow, InsertionsBelow}
+use Rattle.graph_edit.specs.Insertions.{CanRewrite, ChangeBelow, InsertionsBelow}
 use Rattle.path_laws.specs.Paths.{AreRows}
 use Rattle.motion_rewrite.specs.Flatten.{by_placement, inserted, insertions_of, reading}
 use Rattle.fresh_names.specs.FreshNames.{AreTemporaryNames}
@@ -19,7 +19,7 @@ use Rattle.motion_rewrite.proofs.flattening.rewritten.Goals as goal
 use Rattle.motion_rewrite.proofs.flattening.rewritten.Goals.{In_ok-room}
 
 rewritable_here : (c : In_ok-room) → IsRewritable c.args.graph.now c.args.table.now c.args.placement.now
-rewritable_here c = rewritable _ _ _ _ c.nodes-nodes.ensures.value c.nodes-nodes.ensures.graph c.requires.over c.requires.insert c.requires.replace c.requires.placed
+rewritable_here c = rewritable _ _ _ _ c.nodes-nodes.ensures.value c.nodes-nodes.ensures.graph (omega (arith, c.shared-shared.ensures.value, c.shared-shared.ensures.shares.count)) c.requires.over c.requires.insert c.requires.replace c.requires.placed
 
 -- the list of the temporaries gives their numbers
 numbered : (c : In_ok-room) → (i : ℕ) → i < length c.args.table.now → get_or c.as_slice-temps.result.now i 0 ≡ temporary (length c.args.graph.now.vars) c.args.placement.now.insert i
@@ -103,6 +103,7 @@ returns-clause-flattened c =
       names = c.in_ok-names.names.items;
       are_names = names_are known;
       name_is = ap (λ (g : GraphShape). g.name) put ∙ ap (λ (g : GraphShape). g.name) read ∙ ap (λ (g : GraphShape). g.name) opened;
+      shared_is = ap (λ (g : GraphShape). g.shared) put ∙ ap (λ (g : GraphShape). g.shared) read ∙ ap (λ (g : GraphShape). g.shared) opened;
       vars_are = ap (λ (g : GraphShape). g.vars) put ∙ ap (λ (g : GraphShape). g.vars) read ∙ ap (λ (g : GraphShape). g.vars) opened;
       received_are = ap (λ (g : GraphShape). g.received) put ∙ ap (λ (g : GraphShape). g.received) read ∙ ap (λ (g : GraphShape). g.received) opened;
       nodes_are = ap (λ (g : GraphShape). g.nodes) put

@@ -3,7 +3,7 @@ use Rattle.mir_base.specs.declared.instructions.Expr.{Expr}
 use Rattle.mir_base.specs.Expressions.{divides}
 use Rattle.mir_base.specs.ExpressionVars.{expr_vars, rhs_of}
 use Rattle.mir_base.specs.Shapes.{AllBelow}
-use Rattle.motion_rewrite.specs.Tables.{dividing_at, dividing_exprs}
+use Rattle.motion_rewrite.specs.ExprTables.{dividing_at, dividing_exprs}
 use Rattle.motion_rewrite.proofs.Inserts.{IsTableOf, node_divides, table_taken}
 use Rattle.motion_rewrite.proofs.table.dividing_exprs.Goals as goal
 use Rattle.motion_rewrite.proofs.table.dividing_exprs.Goals.{In_ok-exprs}

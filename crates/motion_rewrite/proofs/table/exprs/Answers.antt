@@ -3,7 +3,7 @@ use Rattle.mir_base.specs.declared.instructions.Expr.{Expr}
 use Rattle.mir_base.specs.Expressions.{is_movable}
 use Rattle.mir_base.specs.ExpressionVars.{expr_vars, rhs_of}
 use Rattle.mir_base.specs.Shapes.{AllBelow}
-use Rattle.motion_rewrite.specs.Tables.{expr_at, movable_exprs}
+use Rattle.motion_rewrite.specs.ExprTables.{expr_at, movable_exprs}
 use Rattle.motion_rewrite.proofs.Inserts.{IsTableOf, node_movable, table_taken}
 use Rattle.motion_rewrite.proofs.table.exprs.Goals as goal
 use Rattle.motion_rewrite.proofs.table.exprs.Goals.{In_ok-exprs}

@@ -6,7 +6,7 @@ use Rattle.mir_base.specs.declared.instructions.Expr.{Expr}
 use Rattle.flow_graph.specs.declared.nodes.Node.TheVariants.{Skip}
 use Rattle.flow_graph.specs.Edges.{IsSplit}
 use Rattle.flow_graph.specs.Graphs.{GraphShape, IsGraph}
-use Rattle.flow_graph.specs.JoinLaws.{one_or_skips}
+use Rattle.graph_edit.specs.JoinLaws.{one_or_skips}
 use Rattle.flow_graph.specs.PathLaws.{reached_trace}
 use Rattle.flow_graph.specs.Paths.{HasEdge, Trace, from_start, goes_on}
 use Rattle.flow_graph.specs.BoundLaws.{edge_within}
@@ -14,7 +14,7 @@ use Rattle.motion_rewrite.specs.ExpressionLaws.{start_kills, start_unused}
 use Rattle.motion_rewrite.specs.Expressions.{kills, uses}
 
 -- Start has no edge into it, uses nothing and kills all; edges join nodes that are there; each node is reached
-pub record Walks (graph : GraphShape) : Type 0 where
+pub record SplitFacts (graph : GraphShape) : Type 0 where
   pub start_below : 0 < length graph.nodes
   pub start_unentered : (m : ℕ) → HasEdge graph.nodes m 0 → ⊥
   pub start_kills : (e : Expr) → kills graph e 0 ≡ true
@@ -25,8 +25,8 @@ pub record Walks (graph : GraphShape) : Type 0 where
   pub one_or_skips : (n : ℕ) → ((m k : ℕ) → HasEdge graph.nodes m n → HasEdge graph.nodes k n → m ≡ k) ⊎ ((m : ℕ) → HasEdge graph.nodes m n → slice_get graph.nodes m ≡ Some (Skip n))
 
 -- so it is of every split graph
-pub walks : (graph : GraphShape) → IsGraph graph.vars graph.received graph.nodes → IsSplit graph.nodes → Walks graph
-walks graph is_graph split = record {
+pub split_facts : (graph : GraphShape) → IsGraph graph.vars graph.received graph.nodes → IsSplit graph.nodes → SplitFacts graph
+split_facts graph is_graph split = record {
   start_below = slice_get_within graph.nodes 0 _ is_graph.can.start.1;
   start_unentered = λ m edge. let above = (is_graph.can.succs m edge.0 0 edge.1).0 in absurd (omega arith);
   start_kills = λ e. start_kills graph e is_graph.can.start.0 0 is_graph.can.start.1;
@@ -38,6 +38,6 @@ walks graph is_graph split = record {
 }
 
 -- a node that has a trace is there
-pub trace_below : (graph : GraphShape) → Walks graph → (n : ℕ) (before : List ℕ) → Trace graph.nodes n before → n < length graph.nodes
-trace_below graph walks n before from_start = walks.start_below
-trace_below graph walks n before (goes_on m k earlier trace edge) = walks.targets_below m n edge
+pub trace_below : (graph : GraphShape) → SplitFacts graph → (n : ℕ) (before : List ℕ) → Trace graph.nodes n before → n < length graph.nodes
+trace_below graph facts n before from_start = facts.start_below
+trace_below graph facts n before (goes_on m k earlier trace edge) = facts.targets_below m n edge

@@ -3,7 +3,7 @@ use Rattle.std.proofs.Common.{◌≡◌, ◌<◌, ◌||◌, not, Bool, List, len
 use Rattle.std.proofs.Math.Bool.{or_comm}
 use Rattle.bit_rows.specs.Bits.{row_of}
 use Rattle.path_laws.specs.Paths.{has_bit, width}
-use Rattle.down_safe.proofs.bits.blocking_rows.Goals as goal
+use Rattle.down_safe.proofs.bits.frontier_rows.Goals as goal
 
 pub returns-clause-bits : goal.returns-clause-bits
 returns-clause-bits c = λ n b h l.
