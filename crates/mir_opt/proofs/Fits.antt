@@ -1,11 +1,11 @@
 -- The units that the passes made fit together as a program.
-use Rattle.std.proofs.Common.{◌≡◌, ℕ, zero, suc, ◌<◌, List, [], ◌∷◌, length, slice_get, Option, Some, None, option_map, refl, sym, ap, ◌∙◌, subst, arith}
+use Rattle.std.proofs.Common.{◌≡◌, ℕ, zero, suc, ◌<◌, ◌≤◌, List, [], ◌∷◌, length, slice_get, Option, Some, None, option_map, take, refl, sym, ap, ◌∙◌, subst, arith}
 use Rattle.std.specs.List.{AllZip}
 use Rattle.std.proofs.lemmas.Option.{slice_get_within}
 use Rattle.std.proofs.lemmas.Slice.Zip.{AllZip-long}
 use Rattle.mir_base.specs.declared.instructions.Inst.{Inst}
-use Rattle.mir_base.specs.declared.instructions.Inst.TheVariants.{Receive, Assign, Goto, If, Call, Print, Return}
-use Rattle.mir_base.specs.Shapes.{UnitShape, receives_in, body_at, body_or_empty, names_of, AllDiffer, InstFits, BodyFits, IsProgram}
+use Rattle.mir_base.specs.declared.instructions.Inst.TheVariants.{Receive, Assign, Goto, If, TrapIf, Call, Print, Return}
+use Rattle.mir_base.specs.Shapes.{UnitShape, receives_in, body_at, body_or_empty, names_of, AllDiffer, InstFits, BodyFits, IsProgram, SharesGlobals}
 use Rattle.mir_base.specs.UnitRuns.{UnitSame, UnitCheaper, body_machine, unit_machine, machine_at}
 use Rattle.mir_sim.specs.Calls.{HasCall, CallsNoMore}
 use Rattle.mir_sim.specs.Pairs.{AllUnitsSame, AllUnitsCheaper}
@@ -26,6 +26,7 @@ called_fits units body called count fits c = go c.inst (fits.insts c.place c.ins
     go (Assign x rhs) f is = cc
     go (Goto to) f is = cc
     go (If test to) f is = cc
+    go (TrapIf test number) f is = cc
     go (Call into unit operands) f is =
         let both : ◌≡◌ {A = ℕ × ℕ} (unit, length operands) (called, count) = cc in
         let one : unit ≡ called = ap (λ (p : ℕ × ℕ). p.0) both in
@@ -48,7 +49,7 @@ names_long [] = refl
 names_long (unit ∷ units) = ap suc (names_long units)
 
 -- units of a program, each kept
-module _ (sources targets : List UnitShape) (all : AllZip IsKept sources targets) where
+module _ (globals : List (List ℕ)) (sources targets : List UnitShape) (program : IsProgram globals sources) (all : AllZip IsKept sources targets) where
   -- there are as many targets as sources
   targets_long : length targets ≡ length sources
   targets_long = AllZip-long IsKept sources targets all
@@ -72,23 +73,38 @@ module _ (sources targets : List UnitShape) (all : AllZip IsKept sources targets
       let t = some_at targets n (omega (arith, lt, targets_long)) in
       record { source = s.0; target = t.0; source_at = s.1; target_at = t.1; kept = zip_at IsKept sources targets all n s.0 t.0 s.1 t.1 }
 
-  -- the machines of the two, as the programs have them
-  source_machine : (n : ℕ) (m : KeptAt n) → unit_machine m.source ≡ machine_at (record { units = sources }) n
-  source_machine n m = ap body_machine (sym (body_is sources n m.source m.source_at))
+  -- the globals are the first variables of the source
+  source_shares : (n : ℕ) (m : KeptAt n) → SharesGlobals globals m.source
+  source_shares n m = program.shares n m.source m.source_at
 
-  target_machine : (n : ℕ) (m : KeptAt n) → unit_machine m.target ≡ machine_at (record { units = targets }) n
-  target_machine n m = ap body_machine (sym (body_is targets n m.target m.target_at))
+  -- and of the target
+  target_count : (n : ℕ) (m : KeptAt n) → m.target.shared ≡ length globals
+  target_count n m = sym m.kept.keeps.same.shared ∙ (source_shares n m).count
+
+  target_shares : (n : ℕ) (m : KeptAt n) → SharesGlobals globals m.target
+  target_shares n m = record {
+    count = target_count n m;
+    begin = ap (λ k. take k m.target.vars) (sym (target_count n m)) ∙ m.kept.keeps.globals ∙ ap (λ k. take k m.source.vars) (source_shares n m).count ∙ (source_shares n m).begin;
+    own = λ place x at. subst (λ k. k ≤ x) (target_count n m) (m.kept.lowers.own place x at);
+  }
+
+  -- the machines of the two, as the programs have them
+  source_machine : (n : ℕ) (m : KeptAt n) → unit_machine m.source ≡ machine_at (record { globals = globals; units = sources }) n
+  source_machine n m = ap (λ k. body_machine k m.source.body) (source_shares n m).count ∙ ap (body_machine (length globals)) (sym (body_is sources n m.source m.source_at))
+
+  target_machine : (n : ℕ) (m : KeptAt n) → unit_machine m.target ≡ machine_at (record { globals = globals; units = targets }) n
+  target_machine n m = ap (λ k. body_machine k m.target.body) (target_count n m) ∙ ap (body_machine (length globals)) (sym (body_is targets n m.target m.target_at))
 
   -- they do the same, and the second evaluates no more
-  same_at : (n : ℕ) → n < length sources → UnitSame (machine_at (record { units = sources }) n) (machine_at (record { units = targets }) n)
+  same_at : (n : ℕ) → n < length sources → UnitSame (machine_at (record { globals = globals; units = sources }) n) (machine_at (record { globals = globals; units = targets }) n)
   same_at n lt =
       let m = kept_at n lt in
-      subst (λ a. UnitSame a (machine_at (record { units = targets }) n)) (source_machine n m) (subst (UnitSame (unit_machine m.source)) (target_machine n m) m.kept.keeps.same)
+      subst (λ a. UnitSame a (machine_at (record { globals = globals; units = targets }) n)) (source_machine n m) (subst (UnitSame (unit_machine m.source)) (target_machine n m) m.kept.keeps.same)
 
-  cheaper_at : (n : ℕ) → n < length sources → UnitCheaper (machine_at (record { units = sources }) n) (machine_at (record { units = targets }) n)
+  cheaper_at : (n : ℕ) → n < length sources → UnitCheaper (machine_at (record { globals = globals; units = sources }) n) (machine_at (record { globals = globals; units = targets }) n)
   cheaper_at n lt =
       let m = kept_at n lt in
-      subst (λ a. UnitCheaper a (machine_at (record { units = targets }) n)) (source_machine n m) (subst (UnitCheaper (unit_machine m.source)) (target_machine n m) m.kept.keeps.cheaper)
+      subst (λ a. UnitCheaper a (machine_at (record { globals = globals; units = targets }) n)) (source_machine n m) (subst (UnitCheaper (unit_machine m.source)) (target_machine n m) m.kept.keeps.cheaper)
 
   -- units of a number receive as many arguments, and have one name
   same_receives : (n : ℕ) → n < length sources → receives_in (body_at sources n) ≡ receives_in (body_at targets n)
@@ -104,24 +120,24 @@ module _ (sources targets : List UnitShape) (all : AllZip IsKept sources targets
   within n lt = omega (arith, lt, names_long targets, targets_long)
 
   -- so the programs are the same unit by unit
-  pub kept_same : AllUnitsSame (record { units = sources }) (record { units = targets })
+  pub kept_same : AllUnitsSame (record { globals = globals; units = sources }) (record { globals = globals; units = targets })
   kept_same = record { units = sym targets_long; same = same_at }
 
-  pub kept_cheaper : AllUnitsCheaper (record { units = sources }) (record { units = targets })
+  pub kept_cheaper : AllUnitsCheaper (record { globals = globals; units = sources }) (record { globals = globals; units = targets })
   kept_cheaper = record { cheaper = cheaper_at }
 
   -- ---- the targets are a program
 
   -- their names differ
-  names_differ : IsProgram sources → AllDiffer (names_of targets)
-  names_differ program i j lt lt' same =
+  names_differ : AllDiffer (names_of targets)
+  names_differ i j lt lt' same =
       let a = within i lt in
       let b = within j lt' in
       program.names i j (omega (arith, a, names_long sources)) (omega (arith, b, names_long sources)) (sym (same_name i a) ∙ same ∙ same_name j b)
 
   -- their bodies fit
-  kept_fits : IsProgram sources → (n : ℕ) (unit : UnitShape) → slice_get targets n ≡ Some unit → BodyFits targets unit.body
-  kept_fits program n unit at =
+  kept_fits : (n : ℕ) (unit : UnitShape) → slice_get targets n ≡ Some unit → BodyFits targets unit.body
+  kept_fits n unit at =
       let lt : n < length sources = omega (arith, slice_get_within targets n unit at, targets_long) in
       let m = kept_at n lt in
       let one : Some unit ≡ Some m.target = sym at ∙ m.target_at in
@@ -136,6 +152,7 @@ module _ (sources targets : List UnitShape) (all : AllZip IsKept sources targets
       inst_fits n m place (Assign x rhs) here fits = tt
       inst_fits n m place (Goto to) here fits = m.kept.lowers.targets place to (ap target_of here)
       inst_fits n m place (If test to) here fits = m.kept.lowers.targets place to (ap target_of here)
+      inst_fits n m place (TrapIf test number) here fits = tt
       inst_fits n m place (Call into called operands) here fits =
           let source = called_fits sources m.source.body called (length operands) fits (m.kept.keeps.calls called (length operands) (record { place = place; inst = Call into called operands; here = here; calls = refl })) in
           (omega (arith, source.0, targets_long), source.1 ∙ same_receives called source.0)
@@ -143,21 +160,30 @@ module _ (sources targets : List UnitShape) (all : AllZip IsKept sources targets
       inst_fits n m place (Return a) here fits = tt
 
   -- so they are one
-  pub kept_program : IsProgram sources → IsProgram targets
-  kept_program program = record {
+  pub kept_program : IsProgram globals targets
+  kept_program = record {
     some_unit = omega (arith, program.some_unit, targets_long);
-    names = names_differ program;
-    bodies = kept_fits program;
+    names = names_differ;
+    bodies = kept_fits;
+    shares = shares;
   }
+    where
+      shares : (n : ℕ) (unit : UnitShape) → slice_get targets n ≡ Some unit → SharesGlobals globals unit
+      shares n unit at =
+          let m = kept_at n (omega (arith, slice_get_within targets n unit at, targets_long)) in
+          let one : Some unit ≡ Some m.target = sym at ∙ m.target_at in
+          let same : m.target ≡ unit = cc in
+          subst (SharesGlobals globals) same (target_shares n m)
 
   -- ---- the targets call no other units
 
   -- a call of a body of the sources, as the programs have it
-  has_call : (n : ℕ) (m : KeptAt n) (called count : ℕ) (place : ℕ) (inst : Inst) → slice_get m.source.body place ≡ Some inst → inst_call inst ≡ Some (called, count) → HasCall (record { units = sources }) n called
+  has_call : (n : ℕ) (m : KeptAt n) (called count : ℕ) (place : ℕ) (inst : Inst) → slice_get m.source.body place ≡ Some inst → inst_call inst ≡ Some (called, count) → HasCall (record { globals = globals; units = sources }) n called
   has_call n m called count place (Receive x) here is = absurd (cc)
   has_call n m called count place (Assign x rhs) here is = absurd (cc)
   has_call n m called count place (Goto to) here is = absurd (cc)
   has_call n m called count place (If test to) here is = absurd (cc)
+  has_call n m called count place (TrapIf test number) here is = absurd (cc)
   has_call n m called count place (Call into unit operands) here is =
       let both : (unit, length operands) ≡ (called, count) = cc in
       let same : unit ≡ called = ap (λ (p : ℕ × ℕ). p.0) both in
@@ -170,10 +196,10 @@ module _ (sources targets : List UnitShape) (all : AllZip IsKept sources targets
   has_call n m called count place (Print a) here is = absurd (cc)
   has_call n m called count place (Return a) here is = absurd (cc)
 
-  pub kept_calls : CallsNoMore (record { units = sources }) (record { units = targets })
+  pub kept_calls : CallsNoMore (record { globals = globals; units = sources }) (record { globals = globals; units = targets })
   kept_calls n called call = go (slice_get targets n) refl
     where
-      go : (o : Option UnitShape) → slice_get targets n ≡ o → HasCall (record { units = sources }) n called
+      go : (o : Option UnitShape) → slice_get targets n ≡ o → HasCall (record { globals = globals; units = sources }) n called
       go None none = absurd (let e : Some (Call call.into called call.operands) ≡ None = sym call.at ∙ ap (λ (o : Option UnitShape). slice_get (body_or_empty o) call.place) none in cc)
       go (Some unit) some =
           let lt : n < length sources = omega (arith, slice_get_within targets n unit some, targets_long) in

@@ -1,5 +1,6 @@
 mod Zips
 mod Fits
 mod Linking
-mod Walks
+mod ProgramSteps
 mod Rounds
+mod KeptDivisions

@@ -15,7 +15,7 @@ use Rattle.sink_dead.specs.RoundGraphs.{AreRounds, last_round}
 use Rattle.motion_rewrite.specs.declared.placement.Placement.{Placement}
 use Rattle.motion_rewrite.specs.Flatten.{IsFlattened}
 use Rattle.motion_rewrite.specs.Placements.{IsAnticipatable}
-use Rattle.motion_rewrite.specs.Tables.{dividing_exprs, movable_exprs}
+use Rattle.motion_rewrite.specs.ExprTables.{dividing_exprs, movable_exprs}
 use Rattle.latest_place.specs.Lazy.{IsLazyPlacement}
 use Rattle.div_move.specs.MustCome.{MustComeTo}
 use Rattle.mir_opt.specs.declared.trails.UnitTrail.{UnitTrail}
@@ -30,7 +30,8 @@ use Rattle.mir_opt.specs.Stages.{AreLaid, graph_at, move_graph_at}
 
 -- the steps of code motion: the split graph, the expressions of it that are moved, their lazy placement by the rule,
 -- and the graph rewritten by it
-pub record IsMotion (exprs : List Node → List Expr) (Down : GraphShape → Expr → ℕ → Type 0) (graph split : GraphShape) (table : List Expr) (placement : Placement) (moved : GraphShape) : Type 0 where
+pub record IsMotion (exprs : List Node → List Expr) (Down : GraphShape → Expr → ℕ → Type 0) (graph split : GraphShape)
+    (table : List Expr) (placement : Placement) (moved : GraphShape) : Type 0 where
   pub splits : IsEdgeSplit graph split
   pub table_is : table ≡ exprs split.nodes
   pub placed : IsLazyPlacement Down split table placement
@@ -38,11 +39,13 @@ pub record IsMotion (exprs : List Node → List Expr) (Down : GraphShape → Exp
 
 -- the motion of the movable expressions, which may stand where they are anticipatable
 abbrev pub IsSafeMotion : GraphShape → GraphShape → List Expr → Placement → GraphShape → Type 0
-IsSafeMotion graph split table placement moved = IsMotion movable_exprs IsAnticipatable graph split table placement moved
+IsSafeMotion graph split table placement moved =
+    IsMotion movable_exprs IsAnticipatable graph split table placement moved
 
 -- the motion of the expressions that divide, which may stand where a run must come to them
 abbrev pub IsDivisionMotion : GraphShape → GraphShape → List Expr → Placement → GraphShape → Type 0
-IsDivisionMotion graph split table placement moved = IsMotion dividing_exprs MustComeTo graph split table placement moved
+IsDivisionMotion graph split table placement moved =
+    IsMotion dividing_exprs MustComeTo graph split table placement moved
 
 -- ---- one unit
 
@@ -85,22 +88,24 @@ pub record LinksDivision (source : UnitShape) (unit : MoveUnit) : Type 0 where
 -- ---- all units
 
 -- each unit of the source has its steps, and the unit of the target of its number is the layout of their last graph;
--- there are no others
-pub record AllLinked {T S : Type 0} (graph_of : T → S → GraphShape) (last : S) (Links : UnitShape → T → Type 0) (sources : List UnitShape) (units : List T) (targets : List UnitShape) : Type 0 where
-  pub steps : AllZip Links sources units
-  pub laid : AreLaid graph_of last units targets
+-- there are no others, and the globals are those of the source
+pub record AllLinked {T S : Type 0} (graph_of : T → S → GraphShape) (last : S) (Links : UnitShape → T → Type 0)
+    (source : ProgramShape) (units : List T) (target : ProgramShape) : Type 0 where
+  pub steps : AllZip Links source.units units
+  pub laid : AreLaid graph_of last units target.units
+  pub globals : target.globals ≡ source.globals
 
 -- the trail of `optimise`
 abbrev pub IsLinked : Trail → Type 0
-IsLinked trail = AllLinked graph_at Result LinksUnit trail.source.units trail.units trail.target.units
+IsLinked trail = AllLinked graph_at Result LinksUnit trail.source trail.units trail.target
 
 -- the trail of `motion`
 abbrev pub IsMoveLinked : MoveTrail → Type 0
-IsMoveLinked trail = AllLinked move_graph_at moves.Result LinksMove trail.source.units trail.units trail.target.units
+IsMoveLinked trail = AllLinked move_graph_at moves.Result LinksMove trail.source trail.units trail.target
 
 -- the trail of `divisions`
 abbrev pub IsDivisionLinked : MoveTrail → Type 0
-IsDivisionLinked trail = AllLinked move_graph_at moves.Result LinksDivision trail.source.units trail.units trail.target.units
+IsDivisionLinked trail = AllLinked move_graph_at moves.Result LinksDivision trail.source trail.units trail.target
 
 -- no other trail of the program is linked
 abbrev pub IsOnlyTrail : ProgramShape → Trail → Type 0
@@ -112,7 +117,8 @@ IsOnlyMoveTrail program trail = (other : MoveTrail) → other.source ≡ program
 
 -- no other division trail of the program is linked
 abbrev pub IsOnlyDivisionTrail : ProgramShape → MoveTrail → Type 0
-IsOnlyDivisionTrail program trail = (other : MoveTrail) → other.source ≡ program → IsDivisionLinked other → trail ≡ other
+IsOnlyDivisionTrail program trail = (other : MoveTrail) → other.source ≡ program → IsDivisionLinked other
+    → trail ≡ other
 
 -- a unit of the source has no two values of linked steps, where those of one lead to nodes
 abbrev pub HasOneLink : {T : Type 0} → (T → Type 0) → (UnitShape → T → Type 0) → Type 0

@@ -3,7 +3,7 @@
 use Rattle.std.proofs.Common.{◌≡◌, ℕ, List, [], ◌∷◌, refl, sym, ap, ◌∙◌, subst}
 use Rattle.std.specs.List.{AllZip}
 use Rattle.mir_base.specs.declared.instructions.Expr.{Expr}
-use Rattle.mir_base.specs.Shapes.{UnitShape}
+use Rattle.mir_base.specs.Shapes.{ProgramShape, UnitShape}
 use Rattle.flow_graph.specs.declared.nodes.Node.{Node}
 use Rattle.flow_graph.specs.Graphs.{AllWithin, GraphShape}
 use Rattle.flow_graph.specs.Layouts.{IsLayout}
@@ -24,7 +24,7 @@ use Rattle.motion_rewrite.specs.declared.placement.Placement.{Placement}
 use Rattle.motion_rewrite.specs.Flatten.{IsFlattened}
 use Rattle.motion_rewrite.specs.FlattenLaws.{flattened_is_one}
 use Rattle.motion_rewrite.specs.Placements.{IsAnticipatable}
-use Rattle.motion_rewrite.specs.Tables.{dividing_exprs, movable_exprs}
+use Rattle.motion_rewrite.specs.ExprTables.{dividing_exprs, movable_exprs}
 use Rattle.latest_place.specs.Lazy.{IsLazyPlacement}
 use Rattle.latest_place.specs.LazyLaws.{lazy_is_one}
 use Rattle.div_move.specs.MustCome.{MustComeTo}
@@ -37,7 +37,7 @@ use Rattle.mir_opt.specs.Stages.{AreLaid, CleansWithin, MotionCleansWithin}
 
 -- a graph has one split graph
 split_is_one : (graph a b : GraphShape) → IsEdgeSplit graph a → IsEdgeSplit graph b → a ≡ b
-split_is_one graph a b p q = same_graphs a b (p.name_is ∙ sym q.name_is) (p.vars_are ∙ sym q.vars_are) (p.received_are ∙ sym q.received_are) (p.nodes_are ∙ sym q.nodes_are)
+split_is_one graph a b p q = same_graphs a b (p.name_is ∙ sym q.name_is) (p.shared_is ∙ sym q.shared_is) (p.vars_are ∙ sym q.vars_are) (p.received_are ∙ sym q.received_are) (p.nodes_are ∙ sym q.nodes_are)
 
 -- and a split graph one lazy placement
 placement_is_one : (Down : GraphShape → Expr → ℕ → Type 0) (graph : GraphShape) (table : List Expr) (p q : Placement) → IsLazyPlacement Down graph table p → IsLazyPlacement Down graph table q → p ≡ q
@@ -188,19 +188,22 @@ zip_is_one R S one (x ∷ xs) (y ∷ ys) [] z z' = absurd z'
 zip_is_one R S one (x ∷ xs) (y ∷ ys) (y' ∷ ys') z z' = cons_same (one x y y' z.0 z'.0) (zip_is_one R S one xs ys ys' z.1 z'.1)
 
 -- where a unit has one trail, a program has one list of trails, and one target
-pub record OneTrail {T : Type 0} (units units' : List T) (targets targets' : List UnitShape) : Type 0 where
+pub record OneTrail {T : Type 0} (units units' : List T) (target target' : ProgramShape) : Type 0 where
   pub units_are : units ≡ units'
-  pub targets_are : targets ≡ targets'
+  pub target_is : target ≡ target'
 
 -- so it is
 pub linked_is_one : {T S : Type 0} (graph_of : T → S → GraphShape) (last : S) (Within : T → Type 0) (Links : UnitShape → T → Type 0) → HasOneLink Within Links
-    → (sources : List UnitShape) (units units' : List T) (targets targets' : List UnitShape) → AllZip (λ source unit. Within unit × Links source unit) sources units → AreLaid graph_of last units targets → AllLinked graph_of last Links sources units' targets'
-    → OneTrail units units' targets targets'
-linked_is_one {T = T} graph_of last Within Links one sources units units' targets targets' steps laid other = record { units_are = same; targets_are = same_targets }
+    → (source : ProgramShape) (units units' : List T) (target target' : ProgramShape) → AllZip (λ source unit. Within unit × Links source unit) source.units units → AreLaid graph_of last units target.units → target.globals ≡ source.globals
+    → AllLinked graph_of last Links source units' target' → OneTrail units units' target target'
+linked_is_one {T = T} graph_of last Within Links one source units units' target target' steps laid globals other = record { units_are = same; target_is = same_target }
   where
     same : units ≡ units'
-    same = zip_is_one (λ source unit. Within unit × Links source unit) Links (λ source a b p q. one source a b p.0 p.1 q) sources units units' steps other.steps
+    same = zip_is_one (λ source unit. Within unit × Links source unit) Links (λ source a b p q. one source a b p.0 p.1 q) source.units units units' steps other.steps
 
-    same_targets : targets ≡ targets'
-    same_targets = zip_is_one (λ unit target. IsLayout (graph_of unit last) target) (λ unit target. IsLayout (graph_of unit last) target) (λ unit target target' p q. layout_is_one (graph_of unit last) target target' p q) units targets targets' laid
-        (subst (λ (l : List T). AreLaid graph_of last l targets') (sym same) other.laid)
+    same_targets : target.units ≡ target'.units
+    same_targets = zip_is_one (λ unit target. IsLayout (graph_of unit last) target) (λ unit target. IsLayout (graph_of unit last) target) (λ unit target target' p q. layout_is_one (graph_of unit last) target target' p q) units target.units target'.units laid
+        (subst (λ (l : List T). AreLaid graph_of last l target'.units) (sym same) other.laid)
+
+    same_target : target ≡ target'
+    same_target = ap (λ x. record target { globals = x }) (globals ∙ sym other.globals) ∙ ap (λ x. record target' { units = x }) same_targets

@@ -71,7 +71,8 @@ MotionCleansWithin unit = AllWithin unit.lowered.nodes × AllWithin unit.moved.n
 
 -- at each stage the graph of each unit keeps the unit of the source of its number
 abbrev pub AllKeep : {T S : Type 0} → (T → S → GraphShape) → List UnitShape → List T → Type 0
-AllKeep {S = S} graph_of sources units = AllZip (λ source unit. (stage : S) → Keeps (AsUnit source) (AsGraph (graph_of unit stage))) sources units
+AllKeep {S = S} graph_of sources units =
+    AllZip (λ source unit. (stage : S) → Keeps (AsUnit source) (AsGraph (graph_of unit stage))) sources units
 
 -- these units are the layouts of the graphs of a stage
 abbrev pub AreLaid : {T S : Type 0} → (T → S → GraphShape) → S → List T → List UnitShape → Type 0

@@ -1,13 +1,13 @@
-// The calls of this crate: each is the walk over the units of a program, with the steps of its command.
+// The calls of this crate: each takes all units of a program through the steps of its command.
 ghost use Rattle.std.specs.Prelude.{◌≡◌, All, IfOk};
-ghost use Rattle.mir_opt.specs.Best.{DivisionsAreBest, MotionIsBest, MovesBest};
-ghost use Rattle.mir_opt.specs.Divisions.{DivisionsStay};
+ghost use Rattle.mir_opt.specs.Best.{DivisionsAreBest, MotionIsBest, MovesBest, SinksNoMore};
+ghost use Rattle.mir_opt.specs.Divisions.{DivisionsReachTarget, DivisionsStay, MotionKeepsDivisions};
 ghost use Rattle.mir_opt.specs.Links.{IsDivisionLinked, IsLinked, IsMoveLinked, IsOnlyDivisionTrail, IsOnlyMoveTrail, IsOnlyTrail};
 ghost use Rattle.mir_opt.specs.Stages.{AllKeep, AreLaid, KeepsProgram, graph_at, move_graph_at};
 
 use crate::chain::Optimising;
 use crate::motions::{Dividing, Moving};
-use crate::walking::{program_at, walk};
+use crate::over_units::{program_at, program_steps};
 use crate::{MoveStage, MoveTrail, Stage, Trail};
 use mir_base::{Memory, Program};
 use std::alloc::Global;
@@ -29,15 +29,19 @@ pub fn optimise(alloc: Global, program: &Program) -> Result<Trail, Memory>
     // In each unit no admissible placement evaluates an expression less often on any full path.
     ensures best { IfOk result (λ trail. All MovesBest trail.units) }
 
-    // In each unit each dividing assignment that is reached stays through all passes, with its variable and its
-    // operator, unless its divisor is known and not 0.
-    ensures divisions { IfOk result (λ trail. All DivisionsStay trail.units) }
+    // On no full path the rounds of sinking together leave more of any plain or movable assignment.
+    ensures sinks { IfOk result (λ trail. All SinksNoMore trail.units) }
+
+    // Each dividing instruction of the source that is reached is one of the target, with its variable and its operator,
+    // unless its divisor is known and not 0, and no two are one. So it is from graph to graph.
+    ensures divisions { IfOk result DivisionsReachTarget }
+    ensures stay { IfOk result (λ trail. All DivisionsStay trail.units) }
 {
-    let walked = walk::<Optimising>(alloc, program, &Stage::Result)?;
+    let steps = program_steps::<Optimising>(alloc, program, &Stage::Result)?;
     Ok(Trail {
-        source: walked.source,
-        units: walked.units,
-        target: walked.target,
+        source: steps.source,
+        units: steps.units,
+        target: steps.target,
     })
 }
 
@@ -57,12 +61,16 @@ pub fn motion(alloc: Global, program: &Program) -> Result<MoveTrail, Memory>
 
     // In each unit no admissible placement evaluates an expression less often on any full path.
     ensures best { IfOk result (λ trail. All MotionIsBest trail.units) }
+
+    // Each dividing instruction of the source that is reached is one of the target, with its variable, its operator and
+    // its operands, and no two are one.
+    ensures divisions { IfOk result MotionKeepsDivisions }
 {
-    let walked = walk::<Moving>(alloc, program, &MoveStage::Result)?;
+    let steps = program_steps::<Moving>(alloc, program, &MoveStage::Result)?;
     Ok(MoveTrail {
-        source: walked.source,
-        units: walked.units,
-        target: walked.target,
+        source: steps.source,
+        units: steps.units,
+        target: steps.target,
     })
 }
 
@@ -80,23 +88,26 @@ pub fn divisions(alloc: Global, program: &Program) -> Result<MoveTrail, Memory>
     ensures keeps { IfOk result (λ trail. KeepsProgram program.now trail.target) }
     ensures stages { IfOk result (λ trail. AllKeep move_graph_at trail.source.units trail.units) }
 
-    // In each unit no placement that is admissible by the rule of divisions evaluates one less often on any full path.
+    // In each unit no placement that is admissible by the rule of divisions evaluates one less often on any full path,
+    // and each is inserted only where a run is sure to come to that very division.
     ensures best { IfOk result (λ trail. All DivisionsAreBest trail.units) }
 {
-    let walked = walk::<Dividing>(alloc, program, &MoveStage::Result)?;
+    let steps = program_steps::<Dividing>(alloc, program, &MoveStage::Result)?;
     Ok(MoveTrail {
-        source: walked.source,
-        units: walked.units,
-        target: walked.target,
+        source: steps.source,
+        units: steps.units,
+        target: steps.target,
     })
 }
 
-/// The program whose units are the layouts of the graphs at a stage. It is the same as the source, unit by unit,
-/// evaluates no more operators, and calls no units but those that the source calls. At each stage the graph of each
-/// unit keeps the unit of the source, as in every trail that `optimise` makes. It fails only with `Memory`.
+/// The program with the globals of the source whose units are the layouts of the graphs at a stage. It is the same as the
+/// source, unit by unit, evaluates no more operators, and calls no units but those that the source calls. At each stage
+/// the graph of each unit keeps the unit of the source, as in every trail that `optimise` makes. It fails only with
+/// `Memory`.
 pub fn stage_program(alloc: Global, trail: &Trail, stage: Stage) -> Result<Program, Memory>
     requires { AllKeep graph_at trail.now.source.units trail.now.units }
     ensures laid { IfOk result (λ program. AreLaid graph_at stage trail.now.units program.units) }
+    ensures globals { IfOk result (λ program. program.globals ≡ trail.now.source.globals) }
     ensures keeps { IfOk result (λ program. KeepsProgram trail.now.source program) }
 {
     let program = program_at::<Optimising>(alloc, &trail.source, trail.units.items(), &stage)?;

@@ -13,7 +13,7 @@ use value_number::number;
 
 /// Makes the graph of a unit, cleans it, and replaces what is known. It fails only with `Memory`.
 pub(crate) fn make_front(alloc: Global, source: &MirUnit) -> Result<Front, Memory>
-    requires { CanLower source.now.body }
+    requires { CanLower source.now.shared source.now.body }
     ensures { IfOk result (FrontMade source.now) }
 {
     let start = lower_clean(alloc, source)?;
@@ -23,7 +23,7 @@ pub(crate) fn make_front(alloc: Global, source: &MirUnit) -> Result<Front, Memor
 
 /// Makes the graph of a unit and cleans it. It fails only with `Memory`.
 pub(crate) fn lower_clean(alloc: Global, source: &MirUnit) -> Result<Lowered, Memory>
-    requires { CanLower source.now.body }
+    requires { CanLower source.now.shared source.now.body }
     ensures { IfOk result (LoweredMade source.now) }
 {
     let lowered = lower(alloc, source)?;

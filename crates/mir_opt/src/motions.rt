@@ -1,6 +1,7 @@
 // The steps of code motion alone on one unit, and those of the motion of divisions.
-ghost use Rattle.mir_opt.specs.Best.{DivisionsAreBest, MotionIsBest};
+ghost use Rattle.mir_opt.specs.Best.{DivisionsAreBest};
 ghost use Rattle.mir_opt.specs.Links.{LinksDivision, LinksMove};
+ghost use Rattle.mir_opt.specs.Made.{MoveBest};
 ghost use Rattle.mir_opt.specs.OneLaws.{division_is_one, move_is_one};
 ghost use Rattle.mir_opt.specs.Stages.{MotionCleansWithin, move_graph_at};
 
@@ -26,7 +27,7 @@ impl UnitSteps for Moving {
 
     ghost linked = { LinksMove };
 
-    ghost best = { MotionIsBest };
+    ghost best = { MoveBest };
 
     ghost within = { MotionCleansWithin };
 
@@ -65,7 +66,7 @@ impl UnitSteps for Dividing {
 
     ghost linked = { LinksDivision };
 
-    ghost best = { DivisionsAreBest };
+    ghost best = { λ source unit. DivisionsAreBest unit };
 
     ghost within = { MotionCleansWithin };
 

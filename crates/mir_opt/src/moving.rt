@@ -1,7 +1,7 @@
 // Code motion on one graph.
 ghost use Rattle.std.specs.Prelude.{length, IfOk};
 ghost use Rattle.flow_graph.specs.Edges.{IsSplit};
-ghost use Rattle.motion_rewrite.specs.Tables.{AreMovable};
+ghost use Rattle.motion_rewrite.specs.ExprTables.{AreMovable};
 ghost use Rattle.mir_opt.specs.Made.{CodeMade, DivisionsMade, MotionMade};
 
 use div_move::move_dividing;

@@ -12,7 +12,7 @@ use std::alloc::Global;
 
 /// The steps that a command makes of one unit, `Unit`, with a graph at each stage. `linked` says when steps are those of
 /// a unit, and then they are the only ones, where the graphs that are cleaned lead to nodes (`within`); `best` says when
-/// their code motion is the best, and what else the command says of its steps.
+/// their code motion is the best, and what else the command says of the steps of a unit.
 pub(crate) trait UnitSteps {
     /// What is made of one unit.
     type Unit: Drop;
@@ -24,13 +24,13 @@ pub(crate) trait UnitSteps {
 
     ghost linked: { UnitShape → Self.Unit → Type 0 };
 
-    ghost best: { Self.Unit → Type 0 };
+    ghost best: { UnitShape → Self.Unit → Type 0 };
 
     ghost within: { Self.Unit → Type 0 };
 
     /// Makes the steps of a unit. It fails only with `Memory`.
     fn make(alloc: Global, source: &MirUnit) -> Result<Self::Unit, Memory>
-        requires { CanLower source.now.body }
+        requires { CanLower source.now.shared source.now.body }
         ensures { IfOk result (UnitMade graph_at linked best within source.now) };
 
     /// The graph at a stage. It does not allocate.

@@ -5,14 +5,14 @@ use Rattle.std.proofs.lemmas.Option.{slice_get_within}
 use Rattle.mir_base.specs.declared.instructions.Rhs.{Rhs}
 use Rattle.mir_base.specs.Shapes.{AllBelow, rhs_vars}
 use Rattle.flow_graph.specs.declared.nodes.Node.{Node}
-use Rattle.flow_graph.specs.declared.nodes.Node.TheVariants.{Start, Skip, Assign, Print, Call, Test, Return}
-use Rattle.flow_graph.specs.Credits.{IsCredit}
+use Rattle.flow_graph.specs.declared.nodes.Node.TheVariants.{Start, Skip, Assign, Print, Guard, Call, Test, Return}
+use Rattle.graph_edit.specs.Credits.{IsCredit}
 use Rattle.flow_graph.specs.Edges.{IsSplit}
 use Rattle.flow_graph.specs.Graphs.{GraphShape, IsGraph}
-use Rattle.flow_graph.specs.Insertions.{Insertion, changed}
-use Rattle.flow_graph.specs.Over.{weigh, weigh_all, weight_at}
+use Rattle.graph_edit.specs.Insertions.{Insertion, changed}
+use Rattle.graph_edit.specs.Over.{weigh, weigh_all, weight_at}
 use Rattle.flow_graph.specs.Paths.{HasEdge, IsReturnAt, is_return}
-use Rattle.flow_graph.specs.Sinking.{put_for}
+use Rattle.graph_edit.specs.Sinking.{put_for}
 use Rattle.sink_dead.specs.Accesses.{is_sinkable, occurs_at}
 use Rattle.sink_dead.specs.SunkGraphs.{AreInsertions, emptied, sinking}
 use Rattle.sink_dead.specs.Delaying.{IsDelayedTo}
@@ -68,6 +68,7 @@ module _ (graph : GraphShape) (is_graph : IsGraph graph.vars graph.received grap
       kept (Some (Skip next)) = refl
       kept (Some (Assign x t next)) = refl
       kept (Some (Print a next)) = refl
+      kept (Some (Guard test number next)) = refl
       kept (Some (Call into unit operands next)) = refl
       kept (Some (Test test taken other)) = refl
       kept (Some (Return a)) = refl
@@ -83,6 +84,7 @@ module _ (graph : GraphShape) (is_graph : IsGraph graph.vars graph.received grap
           let own = ap {B = ℕ} (λ b. (if b then weight y t else 0)) (eq-eqb y y refl) in
           omega (arith, one, own)
       by (Some (Print a next)) true is sinkable = absurd (true≢false (sym sinkable))
+      by (Some (Guard test number next)) true is sinkable = absurd (true≢false (sym sinkable))
       by (Some (Call into unit operands next)) true is sinkable = absurd (true≢false (sym sinkable))
       by (Some (Test test taken other)) true is sinkable = absurd (true≢false (sym sinkable))
       by (Some (Return a)) true is sinkable = absurd (true≢false (sym sinkable))

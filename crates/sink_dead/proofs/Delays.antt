@@ -13,13 +13,13 @@ use Rattle.flow_graph.specs.declared.nodes.Node.TheVariants.{Start, Skip, Assign
 use Rattle.flow_graph.specs.BoundLaws.{edge_within}
 use Rattle.flow_graph.specs.Edges.{IsSplit}
 use Rattle.flow_graph.specs.Graphs.{GraphShape, IsGraph, AllWithin, assigns, node_reads, succs_of}
-use Rattle.flow_graph.specs.Insertions.{Insertion, Kept, Removed}
-use Rattle.flow_graph.specs.JoinLaws.{joins, one_or_skips, skip_leads}
+use Rattle.graph_edit.specs.Insertions.{Insertion, Unchanged, Removed}
+use Rattle.graph_edit.specs.JoinLaws.{joins, one_or_skips, skip_leads}
 use Rattle.flow_graph.specs.Numbering.{is_in}
 use Rattle.flow_graph.specs.PathLaws.{reached_trace}
 use Rattle.flow_graph.specs.Paths.{HasEdge, Trace, from_start, goes_on}
-use Rattle.flow_graph.specs.Sinking.{put_for, AllOthers, AllPut, AreApart, LeaveAlone, NeverTrap, NonePut, Sinks}
-use Rattle.flow_graph.specs.VarLaws.{NoneAssigned, none_assigned}
+use Rattle.graph_edit.specs.Sinking.{put_for, AllOthers, AllPut, AreApart, LeaveAlone, NeverTrap, NonePut, Sinks}
+use Rattle.graph_edit.specs.VarLaws.{NoneAssigned, none_assigned}
 use Rattle.sink_dead.specs.Accesses.{blocks_at, blocks_pattern, is_sinkable, is_occurrence, occurs_at}
 use Rattle.sink_dead.specs.Delaying.{IsDelayedTo, IsInsertedAt}
 use Rattle.sink_dead.specs.SunkGraphs.{AreInsertions, RisesFrom, emptied, sinking}
@@ -269,7 +269,7 @@ module _ (graph : GraphShape) (is_graph : IsGraph graph.vars graph.received grap
   ]
 
   -- what becomes of a node
-  only : (n : ℕ) (node : Node) → slice_get graph.nodes n ≡ Some node → (emptied (is_sinkable (slice_get graph.nodes n)) ≡ Kept) ⊎ ((emptied (is_sinkable (slice_get graph.nodes n)) ≡ Removed) × ((x : ℕ) × (t : Rhs) × (next : ℕ) × (node ≡ Assign x t next)))
+  only : (n : ℕ) (node : Node) → slice_get graph.nodes n ≡ Some node → (emptied (is_sinkable (slice_get graph.nodes n)) ≡ Unchanged) ⊎ ((emptied (is_sinkable (slice_get graph.nodes n)) ≡ Removed) × ((x : ℕ) × (t : Rhs) × (next : ℕ) × (node ≡ Assign x t next)))
   only n node is = elim (cases_Bool (is_sinkable (slice_get graph.nodes n))) [
     | inl sinkable ↦
         let w = sinkable_is (slice_get graph.nodes n) sinkable in

@@ -12,12 +12,12 @@ use Rattle.mir_base.specs.Expressions.{divides}
 use Rattle.mir_base.specs.ItemLaws.{get_left}
 use Rattle.mir_base.specs.Shapes.{AllBelow, AllDiffer, rhs_vars}
 use Rattle.flow_graph.specs.declared.nodes.Node.{Node}
-use Rattle.flow_graph.specs.declared.nodes.Node.TheVariants.{Start, Skip, Assign, Print, Call, Test, Return}
+use Rattle.flow_graph.specs.declared.nodes.Node.TheVariants.{Start, Skip, Assign, Print, Guard, Call, Test, Return}
 use Rattle.flow_graph.specs.Graphs.{node_vars}
 use Rattle.sink_dead.specs.declared.patterns.Pattern.{Pattern}
 use Rattle.flow_graph.specs.Graphs.{GraphShape}
 use Rattle.sink_dead.specs.Moving.{IsHeldUp, MovesFrom}
-use Rattle.sink_dead.specs.Tables.{AreSinkableBelow, pattern_of}
+use Rattle.sink_dead.specs.PatternTables.{AreSinkableBelow, pattern_of}
 use Rattle.sink_dead.specs.contracts.patterns.PatternPartialEq.TheImpl.{ghosts}
 use Rattle.sink_dead.specs.SamePatterns.{pattern_self, same_patterns}
 
@@ -105,6 +105,7 @@ node_sinkable vars (Assign x rhs next) p below h = by (divides rhs) refl h
         let same : record { var = x; rhs = rhs } ≡ p = same_Some (record { var = x; rhs = rhs }) p h' in
         subst (λ (q : Pattern). (divides q.rhs ≡ false) × ((q.var < vars) × AllBelow vars (rhs_vars q.rhs))) same (e, below)
 node_sinkable vars (Print a next) p below h = cc
+node_sinkable vars (Guard test number next) p below h = cc
 node_sinkable vars (Call into unit operands next) p below h = cc
 node_sinkable vars (Test test taken other) p below h = cc
 node_sinkable vars (Return a) p below h = cc

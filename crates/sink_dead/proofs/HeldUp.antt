@@ -11,7 +11,7 @@ use Rattle.sink_dead.specs.declared.patterns.Pattern.{Pattern}
 use Rattle.sink_dead.specs.Accesses.{blocks_at}
 use Rattle.sink_dead.specs.Moving.{IsHeldUp}
 use Rattle.sink_dead.specs.Skips.{LeadsBy, LeadsTo, skip_on}
-use Rattle.sink_dead.specs.Tables.{pattern_of}
+use Rattle.sink_dead.specs.PatternTables.{pattern_of}
 use Rattle.sink_dead.proofs.Skipping.{blocked_ends, leads_same, steps_after}
 
 -- a pattern is not held up where the last node to which Skips lead on does not block it

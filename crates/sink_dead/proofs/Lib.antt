@@ -8,7 +8,7 @@ pub mod SunkKeeps
 pub mod Chosen
 pub mod Telling
 pub mod Listing
-pub mod SiteBits
+pub mod PatternBits
 pub mod KeptTies
 pub mod Found
 pub mod RowsTell

@@ -1,9 +1,9 @@
 -- Insertions listed for all nodes: putting them one after the other puts those of each node, in order of the nodes.
 use Rattle.std.proofs.Common.{◌≡◌, ◌<◌, ◌≤◌, ℕ, zero, suc, ◌+◌, List, [], ◌∷◌, ◌++◌, length, refl, ap, ◌∙◌, arith}
 use Rattle.flow_graph.specs.declared.nodes.Node.{Node}
-use Rattle.flow_graph.specs.Editing.{put_all, put_before, put_each}
+use Rattle.graph_edit.specs.Editing.{put_all, put_before, put_each}
 use Rattle.flow_graph.specs.Graphs.{GraphShape}
-use Rattle.flow_graph.specs.Insertions.{Insertion, InsertionsBelow}
+use Rattle.graph_edit.specs.Insertions.{Insertion, InsertionsBelow}
 use Rattle.sink_dead.specs.declared.inserting.Put.{Put}
 use Rattle.sink_dead.specs.Puts.{CanPut, all_puts, nodes_with, puts_at}
 

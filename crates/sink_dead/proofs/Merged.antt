@@ -2,8 +2,8 @@
 use Rattle.std.proofs.Common.{◌≡◌, ◌<◌, ◌≤◌, ℕ, suc, if◌then◌else◌, List, [], ◌∷◌, ◌++◌, append_assoc, Some, None, inl, inr, sym, ap, ◌∙◌, subst, arith}
 use Rattle.std.proofs.lemmas.Bool.{cases_eq, cases_lt, lt-ltb, le-ltb}
 use Rattle.std.proofs.lemmas.Option.{none-some}
-use Rattle.flow_graph.specs.Insertions.{Insertion}
-use Rattle.flow_graph.specs.Sinking.{put_for}
+use Rattle.graph_edit.specs.Insertions.{Insertion}
+use Rattle.graph_edit.specs.Sinking.{put_for}
 use Rattle.sink_dead.specs.declared.patterns.Pattern.{Pattern}
 use Rattle.sink_dead.specs.PutLaws.{put_first, put_rest}
 use Rattle.sink_dead.specs.declared.inserting.Put.{Put}

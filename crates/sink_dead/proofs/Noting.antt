@@ -10,7 +10,7 @@ use Rattle.flow_graph.specs.declared.nodes.Node.TheVariants.{Assign}
 use Rattle.sink_dead.specs.declared.patterns.Pattern.{Pattern}
 use Rattle.sink_dead.specs.Settled.{AreNotedOn, AreSettled, AreSettledTo, NotesNode, SettlesAt}
 use Rattle.sink_dead.specs.Skips.{LeadsBy, skip_on}
-use Rattle.sink_dead.specs.Tables.{pattern_of}
+use Rattle.sink_dead.specs.PatternTables.{pattern_of}
 use Rattle.sink_dead.proofs.Skipping.{ends_there, leads_same}
 
 -- the pattern of an assignment that does not divide

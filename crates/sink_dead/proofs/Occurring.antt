@@ -6,7 +6,7 @@ use Rattle.mir_base.specs.declared.instructions.Rhs.{Rhs}
 use Rattle.mir_base.specs.Expressions.{divides}
 use Rattle.mir_base.specs.Shapes.{rhs_vars}
 use Rattle.flow_graph.specs.declared.nodes.Node.{Node}
-use Rattle.flow_graph.specs.declared.nodes.Node.TheVariants.{Start, Skip, Assign, Print, Call, Test, Return}
+use Rattle.flow_graph.specs.declared.nodes.Node.TheVariants.{Start, Skip, Assign, Print, Guard, Call, Test, Return}
 use Rattle.flow_graph.specs.Graphs.{GraphShape, assigns, is_start, node_reads}
 use Rattle.flow_graph.specs.Numbering.{is_in}
 use Rattle.sink_dead.specs.Accesses.{same_rhs, is_occurrence, blocks_pattern, is_sinkable}
@@ -26,6 +26,7 @@ occurrence_is x t (Some (Assign y rhs next)) is =
     let rhs_same : t ≡ rhs = same_rhs_is t rhs same.1 in
     (next, ap (λ z. Some (Assign z rhs next)) (sym var) ∙ ap (λ r. Some (Assign x r next)) (sym rhs_same), not-true (divides t) parts.1)
 occurrence_is x t (Some (Print a next)) is = absurd (false≢true is)
+occurrence_is x t (Some (Guard test number next)) is = absurd (false≢true is)
 occurrence_is x t (Some (Call into unit operands next)) is = absurd (false≢true is)
 occurrence_is x t (Some (Test test taken other)) is = absurd (false≢true is)
 occurrence_is x t (Some (Return a)) is = absurd (false≢true is)
@@ -45,6 +46,7 @@ sinkable_is (Some (Start next)) is = absurd (false≢true is)
 sinkable_is (Some (Skip next)) is = absurd (false≢true is)
 sinkable_is (Some (Assign x rhs next)) is = (x, rhs, next, refl, not-true (divides rhs) is)
 sinkable_is (Some (Print a next)) is = absurd (false≢true is)
+sinkable_is (Some (Guard test number next)) is = absurd (false≢true is)
 sinkable_is (Some (Call into unit operands next)) is = absurd (false≢true is)
 sinkable_is (Some (Test test taken other)) is = absurd (false≢true is)
 sinkable_is (Some (Return a)) is = absurd (false≢true is)

@@ -2,9 +2,9 @@
 use Rattle.std.proofs.Common.{◌≡◌, ℕ, zero, suc, ◌+◌, ◌<◌, ◌≤◌, List, [], ◌∷◌, Option, Some, None, inl, inr, refl, sym, ap, ◌∙◌, subst, arith}
 use Rattle.std.proofs.lemmas.Bool.{cases_eq}
 use Rattle.mir_base.specs.declared.instructions.Rhs.{Rhs}
-use Rattle.flow_graph.specs.Insertions.{Insertion}
-use Rattle.flow_graph.specs.Over.{weigh_all}
-use Rattle.flow_graph.specs.Sinking.{put_for}
+use Rattle.graph_edit.specs.Insertions.{Insertion}
+use Rattle.graph_edit.specs.Over.{weigh_all}
+use Rattle.graph_edit.specs.Sinking.{put_for}
 use Rattle.sink_dead.specs.SunkGraphs.{RisesFrom}
 pub use Rattle.sink_dead.specs.PutLaws.{put_first, put_rest, put_above, put_later}
 

@@ -4,12 +4,12 @@ use Rattle.std.proofs.lemmas.Bool.{cases_Bool, and_parts, and_from, not-true, no
 use Rattle.mir_base.specs.declared.instructions.Rhs.{Rhs}
 use Rattle.mir_base.specs.Expressions.{divides}
 use Rattle.flow_graph.specs.declared.nodes.Node.{Node}
-use Rattle.flow_graph.specs.declared.nodes.Node.TheVariants.{Start, Skip, Assign, Print, Call, Test, Return}
+use Rattle.flow_graph.specs.declared.nodes.Node.TheVariants.{Start, Skip, Assign, Print, Guard, Call, Test, Return}
 use Rattle.flow_graph.specs.BlockLaws.{only_to}
-use Rattle.flow_graph.specs.Editing.{change_at}
-use Rattle.flow_graph.specs.Insertions.{changed}
+use Rattle.graph_edit.specs.Editing.{change_at}
+use Rattle.graph_edit.specs.Insertions.{changed}
 use Rattle.flow_graph.specs.Graphs.{GraphShape, IsGraph, succs_of}
-use Rattle.flow_graph.specs.NodeLaws.{changed_kept}
+use Rattle.graph_edit.specs.ChangeLaws.{changed_not}
 use Rattle.path_laws.specs.Paths.{HaveShape, has_bit}
 use Rattle.sink_dead.specs.Liveness.{IsLiveBefore}
 use Rattle.sink_dead.specs.LiveRows.{HasBitAfter, HaveBitsAfter, NoneDead, TellLive, graph_pruned, is_dead_at, is_dead_node}
@@ -44,6 +44,7 @@ module _ (graph : GraphShape) (live : List (List Bool)) (is_graph : IsGraph grap
   dead_from n (Some (Skip next)) is h = cc
   dead_from n (Some (Assign x rhs next)) is h = is_dead n x next rhs is h
   dead_from n (Some (Print a next)) is h = cc
+  dead_from n (Some (Guard test number next)) is h = cc
   dead_from n (Some (Call into unit operands next)) is h = cc
   dead_from n (Some (Test test taken other)) is h = cc
   dead_from n (Some (Return a)) is h = cc
@@ -70,7 +71,7 @@ module _ (graph : GraphShape) (live : List (List Bool)) (is_graph : IsGraph grap
     where
       none_pruned : (k : ℕ) (nodes : List Node) → pruned_from (λ n. false) k nodes ≡ nodes
       none_pruned k [] = refl
-      none_pruned k (node ∷ nodes) = ap (λ l. l ∷ pruned_from (λ n. false) (suc k) nodes) (changed_kept node) ∙ ap (λ l. node ∷ l) (none_pruned (suc k) nodes)
+      none_pruned k (node ∷ nodes) = ap (λ l. l ∷ pruned_from (λ n. false) (suc k) nodes) (changed_not node) ∙ ap (λ l. node ∷ l) (none_pruned (suc k) nodes)
 
 -- ---- all nodes
 
@@ -86,6 +87,7 @@ bits_after graph live is_graph shape = λ n node is. at n node is
         let x_in = (is_graph.can.below n (Assign x rhs next) is).0 in
         (omega (arith, next_in, shape.len), omega (arith, x_in, shape.each next next_in))
     at n (Print a next) is = tt
+    at n (Guard test number next) is = tt
     at n (Call into unit operands next) is = tt
     at n (Test test taken other) is = tt
     at n (Return a) is = tt

@@ -1,14 +1,13 @@
 -- Rows of what nodes read and assign: marks of one node, and of the nodes as far as a loop has come.
 use Rattle.std.proofs.Common.{◌≡◌, ◌≢◌, ℕ, zero, suc, ◌+◌, ◌<◌, ◌≤◌, ◌||◌, ◌&&◌, Bool, true, false, nat_eq, List, [], ◌∷◌, ◌++◌, length, get_or, replicate, set, take, slice_get, Option, Some, None, inl, inr, refl, sym, ap, ◌∙◌, subst, arith, get_or-set_same, get_or-set_other}
-use Rattle.std.proofs.Math.Bool.{and-false, or-false, or-true, or_assoc}
+use Rattle.std.proofs.Math.Bool.{and-false, or-false, or-true}
 use Rattle.std.proofs.Math.Path.{fun_ext}
 use Rattle.std.proofs.lemmas.Bool.{cases_eq, cases_lt, eq-eqb, ne_eqb}
-use Rattle.std.proofs.lemmas.Cmp.{nat_eq_equiv}
 use Rattle.std.proofs.lemmas.List.{get_or-replicate, length-replicate, length-set, length-take}
 use Rattle.std.proofs.lemmas.Option.{slice_get_past}
+use Rattle.mir_base.specs.Frames.{shared_vars}
 use Rattle.bit_rows.specs.Bits.{row_of}
 use Rattle.flow_graph.specs.declared.nodes.Node.{Node}
-use Rattle.flow_graph.specs.declared.nodes.Node.TheVariants.{Start, Skip, Assign, Print, Call, Test, Return}
 use Rattle.flow_graph.specs.Graphs.{GraphShape, node_reads}
 use Rattle.flow_graph.specs.ListLaws.{get_take}
 use Rattle.flow_graph.specs.Numbering.{is_in}
@@ -16,6 +15,7 @@ use Rattle.path_laws.specs.KeyRowLaws.{false_bit}
 use Rattle.path_laws.specs.Paths.{AreRows, has_bit}
 use Rattle.sink_dead.specs.Accesses.{assigns_at, assigns_var, reads_at, reads_var}
 use Rattle.sink_dead.specs.LiveRows.{AreMarked, IsMarkedAt, assigned_vars, vars_of}
+use Rattle.sink_dead.specs.VarLaws.{assigned_is_in, is_in_append, shared_more}
 use Rattle.path_laws.specs.KeyRowLaws.{false_bit}
 
 -- ---- truth values
@@ -26,13 +26,6 @@ set_twice true here one two = refl
 set_twice false true true two = refl
 set_twice false true false two = refl
 set_twice false false one two = refl
-
--- ---- lists
-
--- what stands in a joined list
-is_in_append : (x : ℕ) (xs ys : List ℕ) → is_in x (xs ++ ys) ≡ (is_in x xs || is_in x ys)
-is_in_append x [] ys = refl
-is_in_append x (y ∷ xs) ys = ap (λ b. nat_eq y x || b) (is_in_append x xs ys) ∙ sym (or_assoc (nat_eq y x) (is_in x xs) (is_in x ys))
 
 -- ---- marks of one node
 
@@ -82,6 +75,10 @@ marked_one n x rows new n_in x_in is = subst (IsMarkedAt n (x ∷ []) rows) (sym
       | inl same ↦ ap (λ k. has_bit (set rows n row) y k) same ∙ ap (λ r. get_or r y false) at_n ∙ bit y ∙ sym (ap (λ b. has_bit rows y m || (b && (nat_eq x y || false))) (eq-eqb n m (sym same)) ∙ ap (λ k. has_bit rows y k || (nat_eq x y || false)) same)
       | inr differ ↦ ap (λ r. get_or r y false) (at_other m differ) ∙ sym (ap (λ b. has_bit rows y m || (b && (nat_eq x y || false))) (ne_eqb n m (λ e. differ (sym e))) ∙ or-false (has_bit rows y m))
     ]
+
+-- one global more
+pub marked_global : (n x : ℕ) (old mid new : List (List Bool)) → n < length mid → x < length (row_of mid n) → IsMarkedAt n (shared_vars x) old mid → new ≡ set mid n (set (row_of mid n) x true) → IsMarkedAt n (shared_vars (x + 1)) old new
+marked_global n x old mid new n_in x_in before is = subst (λ xs. IsMarkedAt n xs old new) (sym (shared_more x)) (marked_both n (shared_vars x) (x ∷ []) old mid new before (marked_one n x mid new n_in x_in is))
 
 -- ---- the nodes as far as a loop has come
 
@@ -139,19 +136,9 @@ reads_are graph rows x marked = fun_ext (λ n. marked n x ∙ at (slice_get grap
     at (Some node) = refl
 
 -- and those of the rows of assigned variables what nodes assign
-pub assigned_are : (graph : GraphShape) (rows : List (List Bool)) (x : ℕ) → AreMarked assigned_vars graph.nodes rows → has_bit rows x ≡ assigns_at graph x
+pub assigned_are : (graph : GraphShape) (rows : List (List Bool)) (x : ℕ) → AreMarked (assigned_vars graph) graph.nodes rows → has_bit rows x ≡ assigns_at graph x
 assigned_are graph rows x marked = fun_ext (λ n. marked n x ∙ at (slice_get graph.nodes n))
   where
-    commuted : (y : ℕ) → (nat_eq y x || false) ≡ nat_eq x y
-    commuted y = or-false (nat_eq y x) ∙ nat_eq_equiv.symm y x
-
-    at : (o : Option Node) → is_in x (vars_of assigned_vars o) ≡ assigns_var graph x o
+    at : (o : Option Node) → is_in x (vars_of (assigned_vars graph) o) ≡ assigns_var graph x o
     at None = refl
-    at (Some (Start next)) = refl
-    at (Some (Skip next)) = refl
-    at (Some (Assign y rhs next)) = commuted y
-    at (Some (Print a next)) = refl
-    at (Some (Call None unit operands next)) = refl
-    at (Some (Call (Some y) unit operands next)) = commuted y
-    at (Some (Test test taken other)) = refl
-    at (Some (Return a)) = refl
+    at (Some node) = assigned_is_in graph node x

@@ -2,13 +2,14 @@
 use Rattle.std.proofs.Common.{◌≡◌, ◌≤◌, ◌+◌, ℕ, Bool, true, false, List, [], ◌∷◌, length, count_by, slice_get, Option, Some, None, option_map, refl, sym, ap, ◌∙◌, arith}
 use Rattle.mir_base.specs.declared.instructions.Rhs.{Rhs}
 use Rattle.flow_graph.specs.declared.nodes.Node.{Node}
-use Rattle.flow_graph.specs.declared.nodes.Node.TheVariants.{Start, Skip, Assign, Print, Call, Test, Return}
+use Rattle.flow_graph.specs.declared.nodes.Node.TheVariants.{Start, Skip, Assign, Print, Guard, Call, Test, Return}
 use Rattle.flow_graph.specs.Graphs.{GraphShape, IsGraph, succs_at}
-use Rattle.flow_graph.specs.Insertions.{changed}
+use Rattle.graph_edit.specs.Insertions.{changed}
 use Rattle.flow_graph.specs.Paths.{IsFullPath, IsPath, is_return}
 use Rattle.flow_graph.specs.Sums.{count_sums, one_if, sum_on}
 use Rattle.sink_dead.specs.Accesses.{is_occurrence, occurs_at}
 use Rattle.sink_dead.specs.NoMore.{HasNoMore}
+use Rattle.sink_dead.specs.NoMoreLaws.{no_more_in_place}
 use Rattle.sink_dead.specs.Pruned.{IsPruned, removed_if}
 use Rattle.sink_dead.specs.PrunedLaws.{pruned_get, pruned_succs}
 use Rattle.sink_dead.proofs.PrunedBy.{pruned_length}
@@ -21,6 +22,7 @@ return_stays gone (Some (Skip next)) = refl
 return_stays true (Some (Assign x rhs next)) = refl
 return_stays false (Some (Assign x rhs next)) = refl
 return_stays gone (Some (Print a next)) = refl
+return_stays gone (Some (Guard test number next)) = refl
 return_stays gone (Some (Call into unit operands next)) = refl
 return_stays gone (Some (Test test taken other)) = refl
 return_stays gone (Some (Return a)) = refl
@@ -33,6 +35,7 @@ occurs_less x t gone (Some (Skip next)) = omega arith
 occurs_less x t true (Some (Assign y rhs next)) = omega arith
 occurs_less x t false (Some (Assign y rhs next)) = omega arith
 occurs_less x t gone (Some (Print a next)) = omega arith
+occurs_less x t gone (Some (Guard test number next)) = omega arith
 occurs_less x t gone (Some (Call into unit operands next)) = omega arith
 occurs_less x t gone (Some (Test test taken other)) = omega arith
 occurs_less x t gone (Some (Return a)) = omega arith
@@ -80,13 +83,6 @@ module _ (graph pruned : GraphShape) (is_graph : IsGraph graph.vars graph.receiv
   counts_less : (x : ℕ) (t : Rhs) (path : List ℕ) → count_by (occurs_at x t pruned) path ≤ count_by (occurs_at x t graph) path
   counts_less x t path = omega (arith, count_sums (occurs_at x t pruned) path, count_sums (occurs_at x t graph) path, fewer x t path)
 
-  -- so it is on the corresponding path of each full path of a graph before
-  pub still_no_more : (before : GraphShape) → HasNoMore before graph → HasNoMore before pruned
-  still_no_more before no_more = λ path full.
-      let has = no_more path full in
-      record {
-        over = has.over;
-        is_over = record { full = full_stays has.over has.is_over.full; same = has.is_over.same };
-        alone = λ other is. has.alone other (record { full = full_stood other is.full; same = is.same });
-        no_more = λ x t sinkable. omega (arith, has.no_more x t sinkable, counts_less x t has.over);
-      }
+  -- so it is on each full path, which is its own corresponding one
+  pub pruned_no_more : HasNoMore graph pruned
+  pruned_no_more = no_more_in_place graph pruned as_many full_stays full_stood counts_less

@@ -6,7 +6,7 @@ use Rattle.mir_base.specs.declared.instructions.Rhs.{Rhs}
 use Rattle.flow_graph.specs.declared.nodes.Node.TheVariants.{Skip}
 use Rattle.flow_graph.specs.Edges.{IsSplit}
 use Rattle.flow_graph.specs.Graphs.{GraphShape, IsGraph}
-use Rattle.flow_graph.specs.JoinLaws.{skip_leads}
+use Rattle.graph_edit.specs.JoinLaws.{skip_leads}
 use Rattle.flow_graph.specs.Paths.{HasEdge, Trace, goes_on}
 use Rattle.sink_dead.specs.Accesses.{blocks_at, occurs_at}
 use Rattle.sink_dead.specs.Delaying.{IsDelayedTo, IsInsertedAt}

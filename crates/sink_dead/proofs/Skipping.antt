@@ -6,13 +6,13 @@ use Rattle.std.proofs.lemmas.Option.{none-some, same_Some}
 use Rattle.mir_base.specs.declared.instructions.Rhs.{Rhs}
 use Rattle.mir_base.specs.Shapes.{rhs_vars}
 use Rattle.flow_graph.specs.declared.nodes.Node.{Node}
-use Rattle.flow_graph.specs.declared.nodes.Node.TheVariants.{Start, Skip, Assign, Print, Call, Test, Return}
+use Rattle.flow_graph.specs.declared.nodes.Node.TheVariants.{Start, Skip, Assign, Print, Guard, Call, Test, Return}
 use Rattle.flow_graph.specs.BlockLaws.{only_from, only_one}
 use Rattle.flow_graph.specs.Edges.{IsSplit, preds_of}
 use Rattle.flow_graph.specs.Graphs.{AllWithin, GraphShape, succs_of}
-use Rattle.flow_graph.specs.JoinLaws.{joins}
+use Rattle.graph_edit.specs.JoinLaws.{joins}
 use Rattle.flow_graph.specs.Paths.{HasEdge}
-use Rattle.flow_graph.specs.VarLaws.{assigns_none}
+use Rattle.graph_edit.specs.VarLaws.{assigns_none}
 use Rattle.sink_dead.specs.Accesses.{blocks_at, blocks_pattern}
 use Rattle.sink_dead.specs.Skips.{LeadsBy, skip_on, skip_over}
 
@@ -37,6 +37,7 @@ steps_on nodes m n is = by (slice_get nodes m) refl is
     by (Some (Skip next)) e h = once next (nat_eq (length (preds_of nodes next)) 1) e refl h
     by (Some (Assign x rhs next)) e h = absurd (none-some n h)
     by (Some (Print a next)) e h = absurd (none-some n h)
+    by (Some (Guard test number next)) e h = absurd (none-some n h)
     by (Some (Call into unit operands next)) e h = absurd (none-some n h)
     by (Some (Test test taken other)) e h = absurd (none-some n h)
     by (Some (Return a)) e h = absurd (none-some n h)

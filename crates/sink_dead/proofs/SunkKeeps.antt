@@ -7,28 +7,29 @@ use Rattle.mir_base.specs.Expressions.{divides}
 use Rattle.mir_base.specs.Shapes.{AllBelow, AllDiffer, rhs_vars}
 use Rattle.mir_base.specs.UnitRuns.{UnitSame, UnitCheaper}
 use Rattle.flow_graph.specs.declared.nodes.Node.{Node}
-use Rattle.flow_graph.specs.declared.nodes.Node.TheVariants.{Start, Skip, Assign, Print, Call, Test, Return}
+use Rattle.flow_graph.specs.declared.nodes.Node.TheVariants.{Start, Skip, Assign, Print, Guard, Call, Test, Return}
 use Rattle.flow_graph.specs.Calls.{NodesCall}
-use Rattle.flow_graph.specs.Credits.{weighs_no_more}
-use Rattle.flow_graph.specs.Dividing.{DividesStay}
-use Rattle.flow_graph.specs.DividingLaws.{stay_in_place}
+use Rattle.graph_edit.specs.Credits.{weighs_no_more}
+use Rattle.flow_graph.specs.Dividing.{DividesUnchanged}
+use Rattle.flow_graph.specs.DividingLaws.{unchanged_in_place}
 use Rattle.flow_graph.specs.Edges.{IsSplit}
 use Rattle.flow_graph.specs.Graphs.{AllWithin, GraphShape, IsGraph}
-use Rattle.flow_graph.specs.InsertionGraphs.{rewritten_calls}
-use Rattle.flow_graph.specs.InsertionNodes.{old_get}
-use Rattle.flow_graph.specs.InsertionPaths.{over_weight, path_within, rewritten_alone, rewritten_over}
-use Rattle.flow_graph.specs.InsertionRuns.{counts}
-use Rattle.flow_graph.specs.InsertionSplit.{rewritten_split}
-use Rattle.flow_graph.specs.Insertions.{Insertion, InsertionsBelow, CanRewrite, ChangeBelow, Rewriting, changed, entry, rewritten_nodes}
+use Rattle.graph_edit.specs.InsertionGraphs.{rewritten_calls}
+use Rattle.graph_edit.specs.InsertionNodes.{old_get, rewritten_length}
+use Rattle.graph_edit.specs.InsertionPaths.{over_weight, path_within, rewritten_alone, rewritten_over, rewritten_under}
+use Rattle.graph_edit.specs.InsertionRuns.{counts}
+use Rattle.graph_edit.specs.InsertionSplit.{rewritten_split}
+use Rattle.graph_edit.specs.Insertions.{Insertion, InsertionsBelow, CanRewrite, ChangeBelow, Rewriting, changed, entry, rewritten_nodes}
 use Rattle.flow_graph.specs.Keeps.{AsGraph, Keeps}
-use Rattle.flow_graph.specs.Kept.{redirected}
+use Rattle.flow_graph.specs.KeepsLaws.{same_globals}
+use Rattle.flow_graph.specs.Retained.{redirected}
 use Rattle.flow_graph.specs.Machines.{graph_machine, machine_of}
-use Rattle.flow_graph.specs.Over.{over_path, weigh, weight_at}
+use Rattle.graph_edit.specs.Over.{over_path, weigh, weight_at}
 use Rattle.flow_graph.specs.Paths.{IsFullPath}
-use Rattle.flow_graph.specs.Sinking.{put_for, sinking_same, sinking_cheaper}
+use Rattle.graph_edit.specs.Sinking.{put_for, sinking_same, sinking_cheaper}
 use Rattle.flow_graph.specs.Sums.{count_sums, one_if, on_same, sum_on}
 use Rattle.sink_dead.specs.Accesses.{is_sinkable, is_occurrence, occurs_at, same_rhs}
-use Rattle.sink_dead.specs.NoMore.{HasNoMoreOver}
+use Rattle.sink_dead.specs.NoMore.{HasNoMore, HasNoMoreOver}
 use Rattle.sink_dead.specs.RoundsKept.{RoundKeeps}
 use Rattle.sink_dead.specs.SunkGraphs.{AreInsertions, IsSunk, emptied, sinking}
 use Rattle.sink_dead.proofs.Credit.{credit, delayed_below, is_credit}
@@ -47,6 +48,7 @@ weighs_one x t sinkable (Some (Start next)) = refl
 weighs_one x t sinkable (Some (Skip next)) = refl
 weighs_one x t sinkable (Some (Assign y u next)) = ap (λ b. one_if (nat_eq x y && same_rhs t u && not b)) sinkable ∙ ap one_if (and-true (nat_eq x y && same_rhs t u))
 weighs_one x t sinkable (Some (Print a next)) = refl
+weighs_one x t sinkable (Some (Guard test number next)) = refl
 weighs_one x t sinkable (Some (Call into unit operands next)) = refl
 weighs_one x t sinkable (Some (Test test taken other)) = refl
 weighs_one x t sinkable (Some (Return a)) = refl
@@ -106,8 +108,17 @@ module _ (graph : GraphShape) (is_graph : IsGraph graph.vars graph.received grap
   received_are : result.received ≡ graph.received
   received_are = ap (λ (g : GraphShape). g.received) sunk.is
 
-  machines : graph_machine graph.received nodes' ≡ machine_of result
-  machines = ap (λ l. graph_machine l nodes') (sym received_are) ∙ ap (graph_machine result.received) (sym nodes_are)
+  shared_is : result.shared ≡ graph.shared
+  shared_is = ap (λ (g : GraphShape). g.shared) sunk.is
+
+  vars_are : result.vars ≡ graph.vars
+  vars_are = ap (λ (g : GraphShape). g.vars) sunk.is ∙ append-nil graph.vars
+
+  machines : graph_machine graph.shared graph.received nodes' ≡ machine_of result
+  machines =
+      ap (λ l. graph_machine graph.shared l nodes') (sym received_are)
+      ∙ ap (λ n. graph_machine n result.received nodes') (sym shared_is)
+      ∙ ap (graph_machine result.shared result.received) (sym nodes_are)
 
   sunk_fits : CanRewrite way [] graph
   sunk_fits = inserts_fit graph is_graph split sunk.delayed sunk.inserts sunk.insertions
@@ -129,11 +140,11 @@ module _ (graph : GraphShape) (is_graph : IsGraph graph.vars graph.received grap
   sunk_calls called count calls = rewritten_calls way graph.nodes called count (subst (λ l. NodesCall l called count) nodes_are calls)
 
   sunk_keeps : Keeps (AsGraph graph) (AsGraph result)
-  sunk_keeps = record { name = ap (λ (g : GraphShape). g.name) sunk.is; same = sunk_same; cheaper = sunk_cheaper; calls = sunk_calls }
+  sunk_keeps = record { name = ap (λ (g : GraphShape). g.name) sunk.is; globals = same_globals graph result shared_is vars_are; same = sunk_same; cheaper = sunk_cheaper; calls = sunk_calls }
 
-  -- a node that divides stays
-  sunk_divides : DividesStay graph.nodes result.nodes
-  sunk_divides = subst (DividesStay graph.nodes) (sym nodes_are) (stay_in_place graph.nodes nodes' (λ n x op left right next may_trap is. (
+  -- a node that divides stays, with its operands
+  sunk_divides : DividesUnchanged graph.nodes result.nodes
+  sunk_divides = subst (DividesUnchanged graph.nodes) (sym nodes_are) (unchanged_in_place graph.nodes nodes' (λ n x op left right next may_trap is. (
     _,
     old_get way graph.nodes n (Assign x (Binary op left right) next) is
         ∙ ap (λ b. Some (redirected (entry sunk.inserts (length graph.nodes)) (changed (emptied b) (Assign x (Binary op left right) next)))) (ap is_sinkable is ∙ ap not may_trap),
@@ -141,8 +152,8 @@ module _ (graph : GraphShape) (is_graph : IsGraph graph.vars graph.received grap
 
   -- ---- paths
 
-  sunk_no_more : (path : List ℕ) → IsFullPath graph.nodes path → HasNoMoreOver graph result path
-  sunk_no_more path full = subst (λ l. HasNoMoreOver graph (record result { nodes = l }) path) (sym nodes_are) (record {
+  no_more_over : (path : List ℕ) → IsFullPath graph.nodes path → HasNoMoreOver graph result path
+  no_more_over path full = subst (λ l. HasNoMoreOver graph (record result { nodes = l }) path) (sym nodes_are) (record {
     over = over_path sunk.inserts (length graph.nodes) path;
     is_over = rewritten_over way [] graph sunk_fits is_graph path full;
     alone = rewritten_alone way [] graph sunk_fits is_graph path;
@@ -153,6 +164,13 @@ module _ (graph : GraphShape) (is_graph : IsGraph graph.vars graph.received grap
         let less = weighs_no_more (one_at x t) way graph.nodes (credit graph is_graph split sunk.delayed sunk.inserts sunk.insertions (one_at x t)) (is_credit graph is_graph split sunk.delayed sunk.inserts sunk.insertions (one_at x t)) path full in
         omega (arith, now, was, sum, less);
   })
+
+  sunk_no_more : HasNoMore graph result
+  sunk_no_more = record {
+    each_over = no_more_over;
+    lies_over = λ over full. rewritten_under way [] graph sunk_fits is_graph over (subst (λ l. IsFullPath l over) nodes_are full);
+    no_fewer = omega (arith, rewritten_length way graph.nodes, ap {B = ℕ} length nodes_are);
+  }
 
   -- all of it
   pub sunk_round : AllWithin result.nodes → RoundKeeps graph result

@@ -9,19 +9,19 @@ use Rattle.indexmap.proofs.CallerLemmas.{Contains-list_any}
 use Rattle.mir_base.specs.declared.instructions.Rhs.{Rhs}
 use Rattle.bit_rows.specs.Bits.{row_of}
 use Rattle.flow_graph.specs.declared.nodes.Node.{Node}
-use Rattle.flow_graph.specs.declared.nodes.Node.TheVariants.{Start, Skip, Assign, Print, Call, Test, Return}
+use Rattle.flow_graph.specs.declared.nodes.Node.TheVariants.{Start, Skip, Assign, Print, Guard, Call, Test, Return}
 use Rattle.flow_graph.specs.BlockLaws.{only_to}
 use Rattle.flow_graph.specs.Edges.{IsSplit}
 use Rattle.flow_graph.specs.Graphs.{GraphShape, IsGraph, succs_of}
 use Rattle.flow_graph.specs.ListLaws.{some_at}
 use Rattle.flow_graph.specs.Paths.{HasEdge}
-use Rattle.flow_graph.specs.Sinking.{put_for}
+use Rattle.graph_edit.specs.Sinking.{put_for}
 use Rattle.sink_dead.specs.declared.patterns.Pattern.{Pattern}
 use Rattle.sink_dead.specs.Accesses.{is_occurrence, occurs_at}
 use Rattle.sink_dead.specs.Delaying.{IsDelayedTo, IsInsertedAt}
 use Rattle.sink_dead.specs.Puts.{chosen, chosen_at}
-use Rattle.sink_dead.specs.Settled.{AreSettled, delayed_by, held, held_at, inserted_by, merged}
-use Rattle.sink_dead.specs.SiteRows.{AreRowsTelling}
+use Rattle.sink_dead.specs.Settled.{AreSettled, delayed_by, noted_for, noted_at, inserted_by, merged}
+use Rattle.sink_dead.specs.PatternRows.{AreRowsTelling}
 use Rattle.sink_dead.specs.SunkGraphs.{AreInsertions, RisesFrom}
 use Rattle.sink_dead.specs.Moving.{AreMoving, IsHeldUp}
 use Rattle.sink_dead.proofs.Chosen.{RiseStrictly, chosen_from, chosen_none, chosen_put, chosen_rises}
@@ -182,48 +182,50 @@ module _ (graph : GraphShape) (is_graph : IsGraph graph.vars graph.received grap
         by (Some p) e = merged_rises p 0 (chosen_at table rows n) (omega arith) rises (unchosen n p lt e)
 
   -- what is noted for a node that is no Skip
-  held_is : (o : Option Node) (noted : Option Pattern) (p : Pattern) → held o noted ≡ Some p → (noted ≡ Some p) × ((next : ℕ) → o ≡ Some (Skip next) → ⊥)
-  held_is None noted p is = absurd (none-some p is)
-  held_is (Some (Start next)) noted p is = (is, λ k e. cc)
-  held_is (Some (Skip next)) noted p is = absurd (none-some p is)
-  held_is (Some (Assign y u next)) noted p is = (is, λ k e. cc)
-  held_is (Some (Print a next)) noted p is = (is, λ k e. cc)
-  held_is (Some (Call into unit operands next)) noted p is = (is, λ k e. cc)
-  held_is (Some (Test test taken other)) noted p is = (is, λ k e. cc)
-  held_is (Some (Return a)) noted p is = (is, λ k e. cc)
+  noted_is : (o : Option Node) (noted : Option Pattern) (p : Pattern) → noted_for o noted ≡ Some p → (noted ≡ Some p) × ((next : ℕ) → o ≡ Some (Skip next) → ⊥)
+  noted_is None noted p is = absurd (none-some p is)
+  noted_is (Some (Start next)) noted p is = (is, λ k e. cc)
+  noted_is (Some (Skip next)) noted p is = absurd (none-some p is)
+  noted_is (Some (Assign y u next)) noted p is = (is, λ k e. cc)
+  noted_is (Some (Print a next)) noted p is = (is, λ k e. cc)
+  noted_is (Some (Guard test number next)) noted p is = (is, λ k e. cc)
+  noted_is (Some (Call into unit operands next)) noted p is = (is, λ k e. cc)
+  noted_is (Some (Test test taken other)) noted p is = (is, λ k e. cc)
+  noted_is (Some (Return a)) noted p is = (is, λ k e. cc)
 
-  held_of : (node : Node) (noted : Option Pattern) → ((next : ℕ) → Some node ≡ Some (Skip next) → ⊥) → held (Some node) noted ≡ noted
-  held_of (Start next) noted differs = refl
-  held_of (Skip next) noted differs = absurd (differs next refl)
-  held_of (Assign y u next) noted differs = refl
-  held_of (Print a next) noted differs = refl
-  held_of (Call into unit operands next) noted differs = refl
-  held_of (Test test taken other) noted differs = refl
-  held_of (Return a) noted differs = refl
+  noted_of : (node : Node) (noted : Option Pattern) → ((next : ℕ) → Some node ≡ Some (Skip next) → ⊥) → noted_for (Some node) noted ≡ noted
+  noted_of (Start next) noted differs = refl
+  noted_of (Skip next) noted differs = absurd (differs next refl)
+  noted_of (Assign y u next) noted differs = refl
+  noted_of (Print a next) noted differs = refl
+  noted_of (Guard test number next) noted differs = refl
+  noted_of (Call into unit operands next) noted differs = refl
+  noted_of (Test test taken other) noted differs = refl
+  noted_of (Return a) noted differs = refl
 
   -- is inserted there
-  held_inserted : (n : ℕ) (p : Pattern) → n < length graph.nodes → held_at graph.nodes settled n ≡ Some p → IsInsertedAt graph p.var p.rhs n × (Contains table p → ⊥)
-  held_inserted n p lt is =
-      let h = held_is (slice_get graph.nodes n) (settled_at settled n) p is in
+  noted_inserted : (n : ℕ) (p : Pattern) → n < length graph.nodes → noted_at graph.nodes settled n ≡ Some p → IsInsertedAt graph p.var p.rhs n × (Contains table p → ⊥)
+  noted_inserted n p lt is =
+      let h = noted_is (slice_get graph.nodes n) (settled_at settled n) p is in
       let d = noted_delayed n p h.0 in
       (delayed_inserted graph is_graph split p.var p.rhs (holds_up p.var p.rhs d.1) n lt h.1 d.0, d.1)
 
   -- and what is inserted and not in the table is noted there
-  inserted_held : (n x : ℕ) (t : Rhs) → n < length graph.nodes → IsInsertedAt graph x t n → (Contains table (record { var = x; rhs = t }) → ⊥) → held_at graph.nodes settled n ≡ Some (record { var = x; rhs = t })
-  inserted_held n x t lt put absent =
+  inserted_noted : (n x : ℕ) (t : Rhs) → n < length graph.nodes → IsInsertedAt graph x t n → (Contains table (record { var = x; rhs = t }) → ⊥) → noted_at graph.nodes settled n ≡ Some (record { var = x; rhs = t })
+  inserted_noted n x t lt put absent =
       let node = some_at graph.nodes n lt in
       let other = inserted_no_skip graph is_graph split x t (holds_up x t absent) n lt put in
-      ap (λ o. held o (settled_at settled n)) node.1 ∙ held_of node.0 (settled_at settled n) (λ next e. other next (node.1 ∙ e)) ∙ delayed_noted n x t lt put.0 absent
+      ap (λ o. noted_for o (settled_at settled n)) node.1 ∙ noted_of node.0 (settled_at settled n) (λ next e. other next (node.1 ∙ e)) ∙ delayed_noted n x t lt put.0 absent
 
   -- so rows of insertions, with what is noted, give the insertions
   pub rows_insert : (delayed rows : List (List Bool)) → AreRowsTelling graph table (IsDelayedTo graph) delayed → AreRowsTelling graph table (IsInsertedAt graph) rows → AreInsertions graph (λ n x. put_for (delayed_by table settled delayed n) x) (inserted_by graph.nodes table settled rows)
   rows_insert delayed rows tell_delayed tell_inserted = record {
     delayed_are = λ n x t lt. merged_tell (settled_at settled) (IsDelayedTo graph) (λ x t n d. d) (λ n p lt is. noted_delayed n p is) delayed_noted delayed tell_delayed n x t lt;
     inserts_are = λ n lt. record {
-      exact = λ x t. merged_tell (held_at graph.nodes settled) (IsInsertedAt graph) (λ x t n put. put.0) held_inserted inserted_held rows tell_inserted n x t lt;
-      in_order = merged_order (held_at graph.nodes settled) (IsInsertedAt graph) (λ x t n put. put.0) held_inserted inserted_held rows tell_inserted n lt;
+      exact = λ x t. merged_tell (noted_at graph.nodes settled) (IsInsertedAt graph) (λ x t n put. put.0) noted_inserted inserted_noted rows tell_inserted n x t lt;
+      in_order = merged_order (noted_at graph.nodes settled) (IsInsertedAt graph) (λ x t n put. put.0) noted_inserted inserted_noted rows tell_inserted n lt;
     };
     none_past = λ n ge.
-        ap (λ o. merged (held o (settled_at settled n)) (chosen_at table rows n)) (slice_get_past graph.nodes n ge)
+        ap (λ o. merged (noted_for o (settled_at settled n)) (chosen_at table rows n)) (slice_get_past graph.nodes n ge)
         ∙ ap (chosen table) (get_or_past rows n [] (omega (arith, ge, tell_inserted.shape.len))) ∙ chosen_none table;
   }

@@ -9,7 +9,7 @@ use Rattle.mir_base.specs.Expressions.{divides}
 use Rattle.mir_base.specs.SameExpressions.{same_expr, same_operand}
 use Rattle.mir_base.specs.Shapes.{rhs_vars}
 use Rattle.flow_graph.specs.declared.nodes.Node.{Node}
-use Rattle.flow_graph.specs.declared.nodes.Node.TheVariants.{Start, Skip, Assign, Print, Call, Test, Return}
+use Rattle.flow_graph.specs.declared.nodes.Node.TheVariants.{Start, Skip, Assign, Print, Guard, Call, Test, Return}
 use Rattle.flow_graph.specs.Graphs.{GraphShape, assigns, is_start, node_reads}
 use Rattle.flow_graph.specs.Numbering.{is_in}
 
@@ -54,6 +54,7 @@ is_occurrence x t (Some (Start next)) = false
 is_occurrence x t (Some (Skip next)) = false
 is_occurrence x t (Some (Assign y rhs next)) = nat_eq x y && same_rhs t rhs && not (divides t)
 is_occurrence x t (Some (Print a next)) = false
+is_occurrence x t (Some (Guard test number next)) = false
 is_occurrence x t (Some (Call into unit operands next)) = false
 is_occurrence x t (Some (Test test taken other)) = false
 is_occurrence x t (Some (Return a)) = false
@@ -61,7 +62,9 @@ is_occurrence x t (Some (Return a)) = false
 -- the node, where there is one, blocks the pattern x <- t: it reads x, assigns x or a variable of t, or is Start
 abbrev pub blocks_pattern : GraphShape → ℕ → Rhs → Option Node → Bool
 blocks_pattern graph x t None = false
-blocks_pattern graph x t (Some node) = is_start node || (is_in x (node_reads graph node) || (assigns graph x node || list_any (λ y. assigns graph y node) (rhs_vars t)))
+blocks_pattern graph x t (Some node) =
+    is_start node ||
+    (is_in x (node_reads graph node) || (assigns graph x node || list_any (λ y. assigns graph y node) (rhs_vars t)))
 
 -- the pattern x <- t occurs at node n
 abbrev pub occurs_at : ℕ → Rhs → GraphShape → ℕ → Bool
@@ -78,6 +81,7 @@ is_sinkable (Some (Start next)) = false
 is_sinkable (Some (Skip next)) = false
 is_sinkable (Some (Assign x rhs next)) = not (divides rhs)
 is_sinkable (Some (Print a next)) = false
+is_sinkable (Some (Guard test number next)) = false
 is_sinkable (Some (Call into unit operands next)) = false
 is_sinkable (Some (Test test taken other)) = false
 is_sinkable (Some (Return a)) = false

@@ -16,15 +16,18 @@ IsDelayedTo graph x t n = BornBefore graph.nodes (occurs_at x t graph) (blocks_a
 
 -- it is inserted before n: it is delayed at n, and n blocks it or has a successor at which it is not delayed
 abbrev pub IsInsertedAt : GraphShape → ℕ → Rhs → ℕ → Type 0
-IsInsertedAt graph x t n = IsDelayedTo graph x t n × ((blocks_at x t graph n ≡ true) ⊎ ((s : ℕ) × HasEdge graph.nodes n s × ¬ (IsDelayedTo graph x t s)))
+IsInsertedAt graph x t n = IsDelayedTo graph x t n
+    × ((blocks_at x t graph n ≡ true) ⊎ ((s : ℕ) × HasEdge graph.nodes n s × ¬ (IsDelayedTo graph x t s)))
 
 -- where a pattern is inserted before node n though n does not block it, n is a Skip: n leads to a node that others lead
 -- to, at which the pattern is not delayed
 abbrev pub IsPassedAtSkips : GraphShape → ℕ → Type 0
-IsPassedAtSkips graph n = (x : ℕ) (t : Rhs) → IsInsertedAt graph x t n → blocks_at x t graph n ≡ false → (next : ℕ) × (slice_get graph.nodes n ≡ Some (Skip next))
+IsPassedAtSkips graph n = (x : ℕ) (t : Rhs) → IsInsertedAt graph x t n → blocks_at x t graph n ≡ false → (next : ℕ)
+    × (slice_get graph.nodes n ≡ Some (Skip next))
 
 -- of the patterns that are inserted before node n no two have one variable, and none assigns what another reads: none
 -- blocks another
 pub record AreApartAt (graph : GraphShape) (n : ℕ) : Type 0 where
   pub one : (x : ℕ) (t u : Rhs) → IsInsertedAt graph x t n → IsInsertedAt graph x u n → t ≡ u
-  pub apart : (x y : ℕ) (t u : Rhs) → IsInsertedAt graph x t n → IsInsertedAt graph y u n → x ≢ y → is_in y (rhs_vars t) ≡ false
+  pub apart : (x y : ℕ) (t u : Rhs) → IsInsertedAt graph x t n → IsInsertedAt graph y u n → x ≢ y
+      → is_in y (rhs_vars t) ≡ false

@@ -5,11 +5,11 @@ use Rattle.sink_dead.specs.declared.delaying.DelayedPatterns.{DelayedPatterns}
 use Rattle.sink_dead.specs.declared.patterns.Pattern.{Pattern}
 use Rattle.sink_dead.specs.Accesses.{blocks_at}
 use Rattle.sink_dead.specs.Delaying.{IsDelayedTo, IsInsertedAt}
-use Rattle.sink_dead.specs.SiteRows.{AreRowsTelling, AreSiteRows}
+use Rattle.sink_dead.specs.PatternRows.{AreRowsTelling, ArePatternRows}
 
 -- the patterns are those of the table, and the rows tell where each is blocked, delayed and inserted
 pub record AreFoundIn (graph : GraphShape) (table : List Pattern) (found : DelayedPatterns) : Type 0 where
   pub same : found.table ≡ table
-  pub blocked : AreSiteRows graph found.table (λ x t. blocks_at x t graph) found.blocked
+  pub blocked : ArePatternRows graph found.table (λ x t. blocks_at x t graph) found.blocked
   pub delayed : AreRowsTelling graph found.table (IsDelayedTo graph) found.delayed
   pub inserted : AreRowsTelling graph found.table (IsInsertedAt graph) found.inserted

@@ -1,11 +1,12 @@
 -- Rows of bits by nodes and variables: what nodes read and assign, and which variables are live before them. Cited by
 -- contracts.
-use Rattle.std.specs.Prelude.{◌≡◌, ℕ, ◌<◌, ◌||◌, ◌&&◌, not, Bool, false, nat_eq, List, [], ◌∷◌, length, slice_get, Option, Some, None}
+use Rattle.std.specs.Prelude.{◌≡◌, ℕ, ◌<◌, ◌||◌, ◌&&◌, not, Bool, false, nat_eq, List, [], ◌∷◌, ◌++◌, length, slice_get, Option, Some, None}
 use Rattle.mir_base.specs.Expressions.{divides}
+use Rattle.mir_base.specs.Frames.{shared_vars}
 use Rattle.mir_base.specs.Shapes.{into_vars}
 use Rattle.bit_rows.specs.Bits.{row_of}
 use Rattle.flow_graph.specs.declared.nodes.Node.{Node}
-use Rattle.flow_graph.specs.declared.nodes.Node.TheVariants.{Start, Skip, Assign, Print, Call, Test, Return}
+use Rattle.flow_graph.specs.declared.nodes.Node.TheVariants.{Start, Skip, Assign, Print, Guard, Call, Test, Return}
 use Rattle.flow_graph.specs.Graphs.{GraphShape, node_reads}
 use Rattle.flow_graph.specs.Numbering.{is_in}
 use Rattle.path_laws.specs.Paths.{HaveShape, Tell, has_bit}
@@ -30,22 +31,23 @@ vars_of vars (Some node) = vars node
 abbrev pub AreMarked : (Node → List ℕ) → List Node → List (List Bool) → Type 0
 AreMarked vars nodes rows = (n x : ℕ) → has_bit rows x n ≡ is_in x (vars_of vars (slice_get nodes n))
 
--- the variable that a node assigns, where it assigns one
-abbrev pub assigned_vars : Node → List ℕ
-assigned_vars (Start next) = []
-assigned_vars (Skip next) = []
-assigned_vars (Assign x rhs next) = x ∷ []
-assigned_vars (Print a next) = []
-assigned_vars (Call into unit operands next) = into_vars into
-assigned_vars (Test test taken other) = []
-assigned_vars (Return a) = []
+-- the variables that a node of the graph assigns: a call assigns each global, and its own variable where it has one
+abbrev pub assigned_vars : GraphShape → Node → List ℕ
+assigned_vars graph (Start next) = []
+assigned_vars graph (Skip next) = []
+assigned_vars graph (Assign x rhs next) = x ∷ []
+assigned_vars graph (Print a next) = []
+assigned_vars graph (Guard test number next) = []
+assigned_vars graph (Call into unit operands next) = shared_vars graph.shared ++ into_vars into
+assigned_vars graph (Test test taken other) = []
+assigned_vars graph (Return a) = []
 
 -- one row for each node and one bit for each variable: which variables the nodes read, and which they assign
 pub record AreAccessRows (graph : GraphShape) (accesses : AccessRows) : Type 0 where
   pub reads_shape : HaveShape graph (length graph.vars) accesses.reads
   pub assigns_shape : HaveShape graph (length graph.vars) accesses.assigns
   pub reads : AreMarked (node_reads graph) graph.nodes accesses.reads
-  pub assigns : AreMarked assigned_vars graph.nodes accesses.assigns
+  pub assigns : AreMarked (assigned_vars graph) graph.nodes accesses.assigns
 
 -- ---- rows of what is live
 
@@ -60,6 +62,7 @@ is_dead_node live (Some (Start next)) = false
 is_dead_node live (Some (Skip next)) = false
 is_dead_node live (Some (Assign x rhs next)) = not (divides rhs) && not (has_bit live x next)
 is_dead_node live (Some (Print a next)) = false
+is_dead_node live (Some (Guard test number next)) = false
 is_dead_node live (Some (Call into unit operands next)) = false
 is_dead_node live (Some (Test test taken other)) = false
 is_dead_node live (Some (Return a)) = false
@@ -78,6 +81,7 @@ HasBitAfter live (Start next) = Unit {0}
 HasBitAfter live (Skip next) = Unit {0}
 HasBitAfter live (Assign x rhs next) = (next < length live) × (x < length (row_of live next))
 HasBitAfter live (Print a next) = Unit {0}
+HasBitAfter live (Guard test number next) = Unit {0}
 HasBitAfter live (Call into unit operands next) = Unit {0}
 HasBitAfter live (Test test taken other) = Unit {0}
 HasBitAfter live (Return a) = Unit {0}

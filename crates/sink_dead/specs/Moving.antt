@@ -6,7 +6,7 @@ use Rattle.flow_graph.specs.Graphs.{GraphShape}
 use Rattle.sink_dead.specs.declared.patterns.Pattern.{Pattern}
 use Rattle.sink_dead.specs.Accesses.{blocks_at}
 use Rattle.sink_dead.specs.Skips.{LeadsOn}
-use Rattle.sink_dead.specs.Tables.{AreSinkableBelow, AreOrdered, pattern_of}
+use Rattle.sink_dead.specs.PatternTables.{AreSinkableBelow, AreOrdered, pattern_of}
 
 -- Skips lead on from node s to a node that blocks the pattern, each to a node that no other edge enters
 pub record IsHeldUp (graph : GraphShape) (p : Pattern) (s : ℕ) : Type 0 where

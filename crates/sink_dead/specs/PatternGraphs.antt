@@ -5,8 +5,8 @@ use Rattle.flow_graph.specs.Edges.{edges_of}
 use Rattle.sink_dead.specs.declared.delaying.PatternGraph.{PatternGraph}
 use Rattle.sink_dead.specs.Accesses.{blocks_at}
 use Rattle.sink_dead.specs.Delaying.{IsDelayedTo, IsInsertedAt}
-use Rattle.sink_dead.specs.SiteRows.{AreRowsTelling, AreSiteRows}
-use Rattle.sink_dead.specs.Tables.{AreSinkableBelow}
+use Rattle.sink_dead.specs.PatternRows.{AreRowsTelling, ArePatternRows}
+use Rattle.sink_dead.specs.PatternTables.{AreSinkableBelow}
 
 -- its edges are those of its graph, and its patterns do not divide and are over the graph's variables
 pub record IsPatternGraph (over : PatternGraph) : Type 0 where
@@ -15,7 +15,7 @@ pub record IsPatternGraph (over : PatternGraph) : Type 0 where
 
 -- the rows say where each of its patterns is blocked
 abbrev pub AreBlockedIn : PatternGraph → List (List Bool) → Type 0
-AreBlockedIn over rows = AreSiteRows over.graph.now over.table.now (λ x t. blocks_at x t over.graph.now) rows
+AreBlockedIn over rows = ArePatternRows over.graph.now over.table.now (λ x t. blocks_at x t over.graph.now) rows
 
 -- where each is delayed
 abbrev pub AreDelayedIn : PatternGraph → List (List Bool) → Type 0

@@ -5,8 +5,8 @@ use Rattle.mir_base.specs.Expressions.{divides}
 use Rattle.flow_graph.specs.declared.nodes.Node.{Node}
 use Rattle.flow_graph.specs.declared.nodes.Node.TheVariants.{Assign}
 use Rattle.flow_graph.specs.Graphs.{GraphShape}
-use Rattle.flow_graph.specs.Insertions.{Change, Kept, Removed, changed}
-use Rattle.sink_dead.specs.Liveness.{IsLiveAfter}
+use Rattle.graph_edit.specs.Insertions.{Change, Unchanged, Removed, changed}
+use Rattle.sink_dead.specs.Liveness.{IsHandedOn, IsLiveAfter}
 
 -- node n assigns a variable that is not live after it, and its right side does not divide: it is plain or movable
 pub record IsDeadAt (graph : GraphShape) (n : ℕ) : Type 0 where
@@ -20,7 +20,7 @@ pub record IsDeadAt (graph : GraphShape) (n : ℕ) : Type 0 where
 -- what becomes of a node that is dead, or is not
 abbrev pub removed_if : Bool → Change
 removed_if true = Removed
-removed_if false = Kept
+removed_if false = Unchanged
 
 -- the nodes from number n on, of which each dead one is a Skip with the same successor
 abbrev pub pruned_from : (ℕ → Bool) → ℕ → List Node → List Node
@@ -32,3 +32,9 @@ pub record IsPruned (graph pruned : GraphShape) : Type 0 where
   pub dead : ℕ → Bool
   pub dead_are : (n : ℕ) → n < length graph.nodes → (dead n ≡ true) ↔ IsDeadAt graph n
   pub is : pruned ≡ record graph { nodes = pruned_from dead 0 graph.nodes }
+
+-- each assignment of a global whose value is handed on stays
+abbrev pub KeepsHandedOn : GraphShape → GraphShape → Type 0
+KeepsHandedOn graph pruned = (n x : ℕ) (rhs : Rhs) (next : ℕ) → x < graph.shared
+    → slice_get graph.nodes n ≡ Some (Assign x rhs next) → IsHandedOn graph x next
+    → slice_get pruned.nodes n ≡ Some (Assign x rhs next)

@@ -13,24 +13,27 @@ use Rattle.mir_base.specs.UnitRuns.{UnitCheaper, UnitSame}
 use Rattle.flow_graph.specs.declared.nodes.Node.{Node}
 use Rattle.flow_graph.specs.declared.nodes.Node.TheVariants.{Assign}
 use Rattle.flow_graph.specs.Calls.{NodesCall}
-use Rattle.flow_graph.specs.Dividing.{DividesStay}
-use Rattle.flow_graph.specs.DividingLaws.{stay_in_place}
+use Rattle.flow_graph.specs.Dividing.{DividesUnchanged}
+use Rattle.flow_graph.specs.DividingLaws.{unchanged_in_place}
 use Rattle.flow_graph.specs.Edges.{IsSplit}
 use Rattle.flow_graph.specs.Graphs.{GraphShape, IsGraph, node_reads, succs_at, succs_of}
-use Rattle.flow_graph.specs.InsertionGraphs.{rewritten_calls}
-use Rattle.flow_graph.specs.InsertionSplit.{rewritten_split}
-use Rattle.flow_graph.specs.Insertions.{Change, Removed, changed, olds, chains, entry, rewritten_nodes}
+use Rattle.graph_edit.specs.InsertionGraphs.{rewritten_calls}
+use Rattle.graph_edit.specs.InsertionSplit.{rewritten_split}
+use Rattle.graph_edit.specs.Insertions.{Change, Removed, changed, olds, chains, entry, rewritten_nodes}
+use Rattle.flow_graph.specs.KeepsLaws.{same_globals}
 use Rattle.flow_graph.specs.Machines.{graph_machine, machine_of}
-use Rattle.flow_graph.specs.NodeLaws.{changed_succs, redirected_none}
+use Rattle.flow_graph.specs.NodeLaws.{redirected_none}
+use Rattle.graph_edit.specs.ChangeLaws.{changed_succs}
 use Rattle.flow_graph.specs.Numbering.{is_in}
 use Rattle.flow_graph.specs.OneLaws.{same_places}
-use Rattle.flow_graph.specs.Passes.{GraphCalls, GraphCheaper, GraphDivides, GraphKeeps, GraphSame}
+use Rattle.flow_graph.specs.Passes.{GraphCalls, GraphCheaper, GraphDividesUnchanged, GraphKeeps, GraphSame}
 use Rattle.flow_graph.specs.Paths.{Begins, HasEdge, IsPath}
-use Rattle.flow_graph.specs.Removal.{AllLive, RemovesDead, removing, removal_cheaper, removal_same}
+use Rattle.graph_edit.specs.Removal.{AllLive, RemovesDead, removing, removal_cheaper, removal_same}
 use Rattle.path_laws.specs.Paths.{EndsBorn}
 use Rattle.sink_dead.specs.Accesses.{assigns_at, assigns_var, reads_at, reads_var}
+use Rattle.sink_dead.specs.LastLaws.{handed_live}
 use Rattle.sink_dead.specs.Liveness.{IsLiveBefore}
-use Rattle.sink_dead.specs.Pruned.{IsDeadAt, IsPruned, pruned_from, removed_if}
+use Rattle.sink_dead.specs.Pruned.{IsDeadAt, IsPruned, KeepsHandedOn, pruned_from, removed_if}
 use Rattle.path_laws.specs.Says.{same_says}
 use Rattle.flow_graph.specs.PathLaws.{assign_edge}
 
@@ -114,6 +117,27 @@ pruned_is_one graph a b p q =
     let alike = pruned_alike p.dead q.dead graph.nodes (λ n lt. same_says (p.dead n) (q.dead n) (λ h. (q.dead_are n lt).1 ((p.dead_are n lt).0 h), λ h. (p.dead_are n lt).1 ((q.dead_are n lt).0 h))) in
     p.is ∙ ap (λ (l : List Node). record graph { nodes = l }) alike ∙ sym q.is
 
+-- ---- globals
+
+-- each assignment of a global whose value is handed on stays, since the global is live
+pub handed_stays : (graph pruned : GraphShape) → IsPruned graph pruned → KeepsHandedOn graph pruned
+handed_stays graph pruned p n x rhs next global is on =
+    ap (λ (g : GraphShape). slice_get g.nodes n) p.is
+    ∙ pruned_get p.dead graph.nodes 0 n
+    ∙ ap (option_map (changed (removed_if (p.dead (0 + n))))) is
+    ∙ ap (λ m. Some (changed (removed_if (p.dead m)) (Assign x rhs next))) (zero_more n)
+    ∙ ap (λ b. Some (changed (removed_if b) (Assign x rhs next))) alive
+  where
+    alive : p.dead n ≡ false
+    alive = elim (cases_Bool (p.dead n)) [
+      | inl gone ↦
+          let d = (p.dead_are n (slice_get_within graph.nodes n _ is)).0 gone in
+          let same : Assign d.var d.rhs d.next ≡ Assign x rhs next = same_Some (Assign d.var d.rhs d.next) (Assign x rhs next) (sym d.is ∙ is) in
+          let same_var : d.var ≡ x = cc in
+          absurd (d.unread (next, assign_edge graph.nodes n x next rhs is, subst (λ y. IsLiveBefore graph y next) (sym same_var) (handed_live graph x next global on)))
+      | inr left ↦ left
+    ]
+
 -- ---- what is kept
 
 module _ (graph pruned : GraphShape) (is_graph : IsGraph graph.vars graph.received graph.nodes) (p : IsPruned graph pruned) where
@@ -161,8 +185,14 @@ module _ (graph pruned : GraphShape) (is_graph : IsGraph graph.vars graph.receiv
   received_is : graph.received ≡ pruned.received
   received_is = sym (ap (λ (g : GraphShape). g.received) p.is)
 
-  machine_is : graph_machine graph.received raw ≡ machine_of pruned
-  machine_is = ap (λ (l : List Node). graph_machine graph.received l) raw_is ∙ ap (λ (l : List ℕ). graph_machine l pruned.nodes) received_is
+  shared_is : graph.shared ≡ pruned.shared
+  shared_is = sym (ap (λ (g : GraphShape). g.shared) p.is)
+
+  machine_is : graph_machine graph.shared graph.received raw ≡ machine_of pruned
+  machine_is =
+      ap (λ (l : List Node). graph_machine graph.shared graph.received l) raw_is
+      ∙ ap (λ (l : List ℕ). graph_machine graph.shared l pruned.nodes) received_is
+      ∙ ap (λ n. graph_machine n pruned.received pruned.nodes) shared_is
 
   -- it does the same, by the agreement of the two on what is live
   pub pruned_same : GraphSame graph pruned
@@ -178,15 +208,15 @@ module _ (graph pruned : GraphShape) (is_graph : IsGraph graph.vars graph.receiv
 
   -- so it keeps all of the unit
   pub pruned_keeps : GraphKeeps graph pruned
-  pruned_keeps = record { name = ap (λ (g : GraphShape). g.name) p.is; same = pruned_same; cheaper = pruned_cheaper; calls = pruned_calls }
+  pruned_keeps = record { name = ap (λ (g : GraphShape). g.name) p.is; globals = same_globals graph pruned (sym shared_is) (ap (λ (g : GraphShape). g.vars) p.is); same = pruned_same; cheaper = pruned_cheaper; calls = pruned_calls }
 
   -- a split graph stays split
   pub pruned_splits : IsSplit graph.nodes → IsSplit pruned.nodes
   pruned_splits split = subst IsSplit raw_is (rewritten_split (removing (λ n. removed_if (p.dead n))) graph.nodes (λ m slot s edge. (is_graph.can.succs m slot s edge).1) split)
 
-  -- each dividing assignment stays
-  pub pruned_divides : GraphDivides graph pruned
-  pruned_divides = subst (DividesStay graph.nodes) (sym (ap (λ (g : GraphShape). g.nodes) p.is)) (stay_in_place graph.nodes after stays)
+  -- each dividing assignment stays, with its operands
+  pub pruned_divides : GraphDividesUnchanged graph pruned
+  pruned_divides = subst (DividesUnchanged graph.nodes) (sym (ap (λ (g : GraphShape). g.nodes) p.is)) (unchanged_in_place graph.nodes after stays)
     where
       alive : (n x : ℕ) (op : Op) (left right : Operand) (next : ℕ) → divides (Binary op left right) ≡ true → slice_get graph.nodes n ≡ Some (Assign x (Binary op left right) next) → dead n ≡ false
       alive n x op left right next may is = elim (cases_Bool (dead n)) [

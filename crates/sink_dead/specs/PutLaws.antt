@@ -5,9 +5,9 @@ use Rattle.std.specs.Prelude.{◌↔◌}
 use Rattle.std.proofs.lemmas.Bool.{cases_eq, eq-eqb, ne_eqb}
 use Rattle.std.proofs.lemmas.Option.{same_Some, none-some}
 use Rattle.mir_base.specs.declared.instructions.Rhs.{Rhs}
-use Rattle.flow_graph.specs.Insertions.{Insertion}
+use Rattle.graph_edit.specs.Insertions.{Insertion}
 use Rattle.flow_graph.specs.ListLaws.{cons_same}
-use Rattle.flow_graph.specs.Sinking.{put_for}
+use Rattle.graph_edit.specs.Sinking.{put_for}
 use Rattle.sink_dead.specs.SunkGraphs.{RisesFrom}
 
 -- ---- what is put for a variable

@@ -4,7 +4,7 @@ use Rattle.std.proofs.Common.{◌≡◌, ◌⊎◌, ℕ, zero, suc, ◌≤◌, L
 use Rattle.std.specs.Prelude.{All}
 use Rattle.std.proofs.lemmas.List.Elements.{All-cons, All-nil}
 use Rattle.mir_base.specs.Shapes.{UnitShape}
-use Rattle.flow_graph.specs.DividingLaws.{stay_trans}
+use Rattle.flow_graph.specs.DividingLaws.{unchanged_trans}
 use Rattle.flow_graph.specs.Edges.{IsSplit}
 use Rattle.flow_graph.specs.Graphs.{AllWithin, GraphShape}
 use Rattle.flow_graph.specs.Keeps.{AsGraph, KeepInTurn}
@@ -12,11 +12,11 @@ use Rattle.flow_graph.specs.KeepsLaws.{keeps_trans}
 use Rattle.flow_graph.specs.Layouts.{IsLayout}
 use Rattle.flow_graph.specs.ListLaws.{cons_same}
 use Rattle.flow_graph.specs.OneLaws.{layout_is_one}
-use Rattle.flow_graph.specs.Passes.{GraphDivides}
-use Rattle.sink_dead.specs.Pruned.{IsPruned}
-use Rattle.sink_dead.specs.PrunedLaws.{pruned_is_one}
-use Rattle.sink_dead.specs.RoundGraphs.{AreRounds, AreRoundsFrom, HaveOneLayout, IsRound, last_round}
-use Rattle.sink_dead.specs.RoundsKept.{LastKeeps, RoundKeeps, RoundsKeep}
+use Rattle.sink_dead.specs.NoMoreLaws.{no_more_trans}
+use Rattle.sink_dead.specs.Pruned.{IsPruned, KeepsHandedOn}
+use Rattle.sink_dead.specs.PrunedLaws.{handed_stays, pruned_is_one}
+use Rattle.sink_dead.specs.RoundGraphs.{AreRounds, AreRoundsFrom, HaveOneLayout, IsRound, KeepsGlobals, last_round}
+use Rattle.sink_dead.specs.RoundsKept.{RoundKeeps, RoundsKeep}
 use Rattle.sink_dead.specs.SunkLaws.{sunk_is_one}
 
 -- ---- one result
@@ -100,6 +100,10 @@ rounds_end graph rounds last next leads is few ends = all (rounds ++ next ∷ []
 
 -- ---- what is kept
 
+-- no last assignment of a global before a call or a return is removed
+pub round_keeps_globals : (graph round : GraphShape) → IsRound graph round → KeepsGlobals graph round
+round_keeps_globals graph round r = λ sunk is_sunk. subst (λ g. KeepsHandedOn g round) (sunk_is_one graph r.sunk sunk r.is_sunk is_sunk) (handed_stays r.sunk round r.is_pruned)
+
 -- one round more keeps what it should
 pub keep_on : (graph : GraphShape) (rounds : List GraphShape) (last next : GraphShape) → LeadBy graph rounds last → RoundsKeep graph rounds → RoundKeeps last next → RoundsKeep graph (rounds ++ next ∷ [])
 keep_on graph [] last next leads kept keeps = (subst (λ g. RoundKeeps g next) (sym leads) keeps, tt)
@@ -115,25 +119,22 @@ pub rounds_split : (graph : GraphShape) (rounds : List GraphShape) → RoundsKee
 rounds_split graph [] kept = All-nil (λ (round : GraphShape). IsSplit round.nodes × AllWithin round.nodes)
 rounds_split graph (round ∷ rounds) kept = All-cons (λ (round : GraphShape). IsSplit round.nodes × AllWithin round.nodes) round rounds (kept.0.is_split, kept.0.within) (rounds_split round rounds kept.1)
 
--- the last of one round and more keeps of the graph what each keeps of the one before
-last_keeps_from : (graph round : GraphShape) (rounds : List GraphShape) → RoundKeeps graph round → RoundsKeep round rounds → LastKeeps graph (last_round round rounds)
-last_keeps_from graph round [] first kept = record { keeps = first.keeps; divides = first.divides; is_split = first.is_split; within = first.within }
-last_keeps_from graph round (next ∷ rounds) first kept =
-    let later = last_keeps_from round next rounds kept.0 kept.1 in
-    let last = last_round next rounds in
-    record {
-      keeps = keeps_trans (AsGraph graph) (AsGraph round) (AsGraph last) first.keeps later.keeps;
-      divides = stay_trans graph.nodes round.nodes last.nodes first.divides later.divides;
-      is_split = later.is_split;
-      within = later.within;
-    }
+-- two rounds, or more, keep of the graph what each keeps of the one before
+pub round_keeps_trans : (a b c : GraphShape) → RoundKeeps a b → RoundKeeps b c → RoundKeeps a c
+round_keeps_trans a b c p q = record {
+  keeps = keeps_trans (AsGraph a) (AsGraph b) (AsGraph c) p.keeps q.keeps;
+  divides = unchanged_trans a.nodes b.nodes c.nodes p.divides q.divides;
+  no_more = no_more_trans a b c p.no_more q.no_more;
+  is_split = q.is_split;
+  within = q.within;
+}
 
--- so it is of the rounds of a graph
-pub last_keeps : (graph : GraphShape) (rounds : List GraphShape) → AreRounds graph rounds → RoundsKeep graph rounds → LastKeeps graph (last_round graph rounds)
+-- so does the last of one round and more
+last_keeps_from : (graph round : GraphShape) (rounds : List GraphShape) → RoundKeeps graph round → RoundsKeep round rounds → RoundKeeps graph (last_round round rounds)
+last_keeps_from graph round [] first kept = first
+last_keeps_from graph round (next ∷ rounds) first kept = round_keeps_trans graph round (last_round next rounds) first (last_keeps_from round next rounds kept.0 kept.1)
+
+-- and of the rounds of a graph
+pub last_keeps : (graph : GraphShape) (rounds : List GraphShape) → AreRounds graph rounds → RoundsKeep graph rounds → RoundKeeps graph (last_round graph rounds)
 last_keeps graph [] are kept = absurd are
 last_keeps graph (round ∷ rounds) are kept = last_keeps_from graph round rounds kept.0 kept.1
-
--- in each of them each dividing assignment of the graph stays
-pub rounds_divide : (graph : GraphShape) (rounds : List GraphShape) → RoundsKeep graph rounds → All (GraphDivides graph) rounds
-rounds_divide graph [] kept = All-nil (GraphDivides graph)
-rounds_divide graph (round ∷ rounds) kept = All-cons (GraphDivides graph) round rounds kept.0.divides (λ n other lt. stay_trans graph.nodes round.nodes _ kept.0.divides (rounds_divide round rounds kept.1 n other lt))

@@ -5,12 +5,12 @@ use Rattle.mir_base.specs.declared.instructions.Rhs.{Rhs}
 use Rattle.mir_base.specs.Expressions.{divides}
 use Rattle.flow_graph.specs.declared.nodes.Node.{Node}
 use Rattle.flow_graph.specs.declared.nodes.Node.TheVariants.{Assign, Skip}
-use Rattle.flow_graph.specs.Insertions.{Insertion}
+use Rattle.graph_edit.specs.Insertions.{Insertion}
 use Rattle.sink_dead.specs.declared.patterns.Pattern.{Pattern}
 use Rattle.sink_dead.specs.declared.inserting.Put.{Put}
 use Rattle.sink_dead.specs.Puts.{chosen_at, insertion_of_pattern, puts_at}
 use Rattle.sink_dead.specs.Skips.{LeadsBy}
-use Rattle.sink_dead.specs.Tables.{pattern_of}
+use Rattle.sink_dead.specs.PatternTables.{pattern_of}
 
 -- node m assigns t to x, and from its successor so many Skips lead to node n; t does not divide, and the table does not
 -- have the pattern
@@ -68,15 +68,15 @@ abbrev pub delayed_by : List Pattern → List (Option Pattern) → List (List Bo
 delayed_by table settled rows n = merged (slice_index_or settled n None) (chosen_at table rows n)
 
 -- what is noted for the node, where it is no Skip: the node blocks it
-abbrev pub held : Option Node → Option Pattern → Option Pattern
-held None noted = None
-held (Some (Skip next)) noted = None
-held _ noted = noted
+abbrev pub noted_for : Option Node → Option Pattern → Option Pattern
+noted_for None noted = None
+noted_for (Some (Skip next)) noted = None
+noted_for _ noted = noted
 
 -- the same of node n
-abbrev pub held_at : List Node → List (Option Pattern) → ℕ → Option Pattern
-held_at nodes settled n = held (slice_get nodes n) (slice_index_or settled n None)
+abbrev pub noted_at : List Node → List (Option Pattern) → ℕ → Option Pattern
+noted_at nodes settled n = noted_for (slice_get nodes n) (slice_index_or settled n None)
 
 -- what is inserted before a node: what the rows say, and what is noted for it and blocked there
 abbrev pub inserted_by : List Node → List Pattern → List (Option Pattern) → List (List Bool) → ℕ → List Insertion
-inserted_by nodes table settled rows n = merged (held_at nodes settled n) (chosen_at table rows n)
+inserted_by nodes table settled rows n = merged (noted_at nodes settled n) (chosen_at table rows n)

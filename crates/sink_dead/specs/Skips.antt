@@ -1,7 +1,7 @@
 -- Skips that an assignment passes: the node after each, and where they lead. Cited by contracts.
 use Rattle.std.specs.Prelude.{◌≡◌, ◌<◌, ◌≤◌, ℕ, zero, suc, nat_eq, if◌then◌else◌, List, length, slice_get, Option, Some, None}
 use Rattle.flow_graph.specs.declared.nodes.Node.{Node}
-use Rattle.flow_graph.specs.declared.nodes.Node.TheVariants.{Start, Skip, Assign, Print, Call, Test, Return}
+use Rattle.flow_graph.specs.declared.nodes.Node.TheVariants.{Start, Skip, Assign, Print, Guard, Call, Test, Return}
 use Rattle.flow_graph.specs.Edges.{preds_of}
 
 -- the node, where one edge alone enters it
@@ -15,6 +15,7 @@ skip_over nodes (Some (Start next)) = None
 skip_over nodes (Some (Skip next)) = entered_once nodes next
 skip_over nodes (Some (Assign x rhs next)) = None
 skip_over nodes (Some (Print a next)) = None
+skip_over nodes (Some (Guard test number next)) = None
 skip_over nodes (Some (Call into unit operands next)) = None
 skip_over nodes (Some (Test test taken other)) = None
 skip_over nodes (Some (Return a)) = None

@@ -3,8 +3,8 @@
 use Rattle.std.specs.Prelude.{◌≡◌, ◌↔◌, ◌<◌, ◌≤◌, ℕ, suc, if◌then◌else◌, Bool, List, [], ◌∷◌, length, slice_get, Option, Some}
 use Rattle.mir_base.specs.declared.instructions.Rhs.{Rhs}
 use Rattle.flow_graph.specs.Graphs.{GraphShape}
-use Rattle.flow_graph.specs.Insertions.{Insertion, Change, Kept, Removed, Rewriting, rewritten}
-use Rattle.flow_graph.specs.Sinking.{put_for}
+use Rattle.graph_edit.specs.Insertions.{Insertion, Change, Unchanged, Removed, Rewriting, rewritten}
+use Rattle.graph_edit.specs.Sinking.{put_for}
 use Rattle.sink_dead.specs.Accesses.{is_sinkable}
 use Rattle.sink_dead.specs.Delaying.{IsDelayedTo, IsInsertedAt}
 
@@ -22,7 +22,8 @@ pub record AreInsertedAt (graph : GraphShape) (n : ℕ) (puts : List Insertion) 
 
 -- `delayed n x` is the right side of the one pattern of x that is delayed at node n, where one is, and `inserts n` is
 -- what is put before it. Nothing is put before what is no node
-pub record AreInsertions (graph : GraphShape) (delayed : ℕ → ℕ → Option Rhs) (inserts : ℕ → List Insertion) : Type 0 where
+pub record AreInsertions (graph : GraphShape) (delayed : ℕ → ℕ → Option Rhs) (inserts : ℕ
+    → List Insertion) : Type 0 where
   pub delayed_are : (n x : ℕ) (t : Rhs) → n < length graph.nodes → (delayed n x ≡ Some t) ↔ IsDelayedTo graph x t n
   pub inserts_are : (n : ℕ) → n < length graph.nodes → AreInsertedAt graph n (inserts n)
   pub none_past : (n : ℕ) → length graph.nodes ≤ n → inserts n ≡ []
@@ -31,7 +32,7 @@ pub record AreInsertions (graph : GraphShape) (delayed : ℕ → ℕ → Option 
 
 -- every occurrence becomes Skip
 abbrev pub emptied : Bool → Change
-emptied sinkable = if sinkable then Removed else Kept
+emptied sinkable = if sinkable then Removed else Unchanged
 
 -- occurrences become Skips, and these stand before each node
 abbrev pub sinking : GraphShape → (ℕ → List Insertion) → Rewriting

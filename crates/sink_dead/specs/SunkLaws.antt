@@ -2,7 +2,7 @@
 use Rattle.std.proofs.Common.{◌≡◌, ℕ, List, [], length, inl, inr, sym, ap, ◌∙◌}
 use Rattle.std.proofs.lemmas.Bool.{cases_lt}
 use Rattle.flow_graph.specs.Graphs.{GraphShape}
-use Rattle.flow_graph.specs.Insertions.{Insertion, rewritten}
+use Rattle.graph_edit.specs.Insertions.{Insertion, rewritten}
 use Rattle.sink_dead.specs.PutLaws.{one_list}
 use Rattle.sink_dead.specs.SunkGraphs.{AreInsertedAt, IsSunk, sinking}
 

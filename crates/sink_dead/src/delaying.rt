@@ -7,11 +7,11 @@ ghost use Rattle.sink_dead.specs.Delaying.{AreApartAt, IsDelayedTo, IsInsertedAt
 ghost use Rattle.sink_dead.specs.FoundPatterns.{AreFoundIn};
 ghost use Rattle.sink_dead.specs.Moving.{AreMoving};
 ghost use Rattle.sink_dead.specs.PatternGraphs.{AreBlockedIn, AreDelayedIn, AreInsertedIn, IsPatternGraph};
-ghost use Rattle.sink_dead.specs.SiteRows.{AreRowsTelling, AreSiteRows};
-ghost use Rattle.sink_dead.specs.Tables.{AreSinkableBelow};
+ghost use Rattle.sink_dead.specs.PatternRows.{AreRowsTelling, ArePatternRows};
+ghost use Rattle.sink_dead.specs.PatternTables.{AreSinkableBelow};
 
+use crate::pattern_rows::{blocking_rows, occurrence_rows};
 use crate::patterns::{Pattern, Patterns, moving_patterns};
-use crate::sites::{blocking_rows, occurrence_rows};
 use bit_rows::Rows;
 use flow_graph::{Edges, Graph};
 use key_table::KeyTable;
@@ -58,7 +58,7 @@ impl DelayedPatterns {
         requires { edges.now ≡ edges_of graph.now.nodes }
         ensures moving { IfOk result (λ found. AreMoving graph.now found.table) }
         ensures blocked { IfOk result (λ found.
-            AreSiteRows graph.now found.table (λ x t. blocks_at x t graph.now) found.blocked) }
+            ArePatternRows graph.now found.table (λ x t. blocks_at x t graph.now) found.blocked) }
         ensures delayed { IfOk result (λ found.
             AreRowsTelling graph.now found.table (IsDelayedTo graph.now) found.delayed) }
         ensures inserted { IfOk result (λ found.

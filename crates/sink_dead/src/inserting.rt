@@ -1,15 +1,16 @@
 // What is inserted before each node, and the edits that insert it.
 ghost use Rattle.std.specs.Prelude.{◌≡◌, ◌<◌, ◌≤◌, ◌++◌, [], length, slice_get, IfOk, OnOk, Some};
-ghost use Rattle.flow_graph.specs.Editing.{graph_changed};
+ghost use Rattle.graph_edit.specs.Editing.{graph_changed};
 ghost use Rattle.path_laws.specs.Paths.{AreRows};
 ghost use Rattle.sink_dead.specs.Accesses.{is_sinkable};
 ghost use Rattle.sink_dead.specs.Puts.{CanPut, all_puts, chosen, graph_emptied, graph_with, put_at, puts_at};
-ghost use Rattle.sink_dead.specs.Settled.{PushesEarlier, held_at, inserted_by, merged};
+ghost use Rattle.sink_dead.specs.Settled.{PushesEarlier, noted_at, inserted_by, merged};
 ghost use Rattle.sink_dead.specs.SunkGraphs.{emptied};
 
 use crate::patterns::{Pattern, Patterns};
 use bit_rows::{RowView, Rows};
-use flow_graph::{Editor, Node};
+use flow_graph::Node;
+use graph_edit::Editor;
 use mir_base::{Memory, Rhs, divides};
 use std::alloc::Global;
 
@@ -38,23 +39,24 @@ pub(crate) fn puts_of(
 {
     let mut puts = Vec::new(alloc);
     for node in 0..insert.len() {
-        let held = held_at(nodes, settled, node);
-        push_merged(&mut puts, node, table, held, &insert.row(node))?;
+        let noted = noted_at(nodes, settled, node);
+        push_merged(&mut puts, node, table, noted, &insert.row(node))?;
     }
     Ok(puts)
 }
 
 /// What is noted for a node, where it is no Skip.
-fn held_at(nodes: &[Node], settled: &[Option<Pattern>], node: usize) -> Option<Pattern>
+fn noted_at(nodes: &[Node], settled: &[Option<Pattern>], node: usize) -> Option<Pattern>
     requires node { node < length nodes.now }
     requires settled { node < length settled.now }
-    ensures { result ≡ held_at nodes.now settled.now node }
+    ensures { result ≡ noted_at nodes.now settled.now node }
 {
     match &nodes[node] {
         Node::Start(_) => settled[node],
         Node::Skip(_) => None,
         Node::Assign(_, _, _) => settled[node],
         Node::Print(_, _) => settled[node],
+        Node::Guard(_, _, _) => settled[node],
         Node::Call(_, _, _, _) => settled[node],
         Node::Test(_, _, _) => settled[node],
         Node::Return(_) => settled[node],

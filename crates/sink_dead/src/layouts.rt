@@ -3,11 +3,12 @@ ghost use Rattle.std.specs.Prelude.{◌≡◌, ◌↔◌, IsTrue};
 
 use mir_base::{Args, Inst, Name, Operand, Rhs, Test, Unit as MirUnit};
 
-/// Whether two units are equal: name, variables and instructions. It does not allocate.
+/// Whether two units are equal: name, number of globals, variables and instructions. It does not allocate.
 pub(crate) fn same_unit(a: &MirUnit, b: &MirUnit) -> bool
     ensures { IsTrue result ↔ (a.now ≡ b.now) }
 {
-    same_items(a.insts(), b.insts())
+    a.shared == b.shared
+        && same_items(a.insts(), b.insts())
         && same_items(a.vars.items(), b.vars.items())
         && a.name.is_equal(&b.name)
 }
@@ -63,6 +64,7 @@ fn same_inst(a: &Inst, b: &Inst) -> bool
         Inst::If(test, place) => is_if(b, test, *place),
         Inst::Call(into, unit, args) => is_call(b, *into, *unit, args),
         Inst::Print(operand) => is_print(b, *operand),
+        Inst::TrapIf(test, number) => is_trap_if(b, test, *number),
         Inst::Return(operand) => is_return(b, *operand),
     }
 }
@@ -125,6 +127,16 @@ fn is_print(inst: &Inst, operand: Operand) -> bool
 {
     match inst {
         Inst::Print(other) => same_operand(operand, *other),
+        _ => false,
+    }
+}
+
+/// Whether it traps with this number under this test.
+fn is_trap_if(inst: &Inst, test: &Test, number: u8) -> bool
+    ensures { IsTrue result ↔ (Inst.TrapIf test.now number ≡ inst.now) }
+{
+    match inst {
+        Inst::TrapIf(other, raised) => number == *raised && same_test(test, other),
         _ => false,
     }
 }

@@ -4,7 +4,8 @@
 //! out can be asked too: where each pattern that can still move is delayed and inserted, and which variables are live.
 //!
 //! The theorem that this crate carries is the contract of `sink`: each round is the exact graph of the one before it,
-//! does the same, and has on the corresponding path of each full path no more of any plain or movable assignment.
+//! does the same, and has on the corresponding path of each full path no more of any plain or movable assignment; and
+//! so it is from the graph to the last round.
 #![tactic(auto)]
 
 mod answers;
@@ -13,12 +14,12 @@ mod inserting;
 mod keys;
 mod layouts;
 mod liveness;
+mod pattern_rows;
 mod patterns;
 mod pruning;
 mod rounds;
 mod settling;
 mod sinking;
-mod sites;
 mod skips;
 
 pub use answers::{Round, Sunk};

@@ -1,6 +1,7 @@
 // Which variables are live before each node.
-ghost use Rattle.std.specs.Prelude.{◌<◌, ◌++◌, flat_map, length, IfOk};
-ghost use Rattle.mir_base.specs.Shapes.{AllBelow, operand_vars, rhs_vars, test_vars};
+ghost use Rattle.std.specs.Prelude.{◌≡◌, ◌<◌, ◌≤◌, ◌++◌, flat_map, length, IfOk};
+ghost use Rattle.mir_base.specs.Frames.{shared_vars};
+ghost use Rattle.mir_base.specs.Shapes.{AllBelow, into_vars, operand_vars, rhs_vars, test_vars};
 ghost use Rattle.bit_rows.specs.Bits.{row_of};
 ghost use Rattle.flow_graph.specs.Graphs.{node_reads, node_vars};
 ghost use Rattle.path_laws.specs.Paths.{HaveShape};
@@ -30,28 +31,31 @@ pub fn live_rows(alloc: Global, graph: &Graph) -> Result<Rows, Memory>
 struct AccessRows {
     /// Which variables each node reads.
     reads: Rows,
-    /// Which variable it assigns, where it assigns one.
+    /// Which variables it assigns.
     assigns: Rows,
 }
 
-/// Which variables each node reads, and which one it assigns.
+/// Which variables each node reads, and which it assigns.
 fn access_rows(alloc: Global, graph: &Graph) -> Result<AccessRows, Memory>
     ensures { IfOk result (AreAccessRows graph.now) }
 {
     let nodes = graph.nodes();
     let mut reads = Rows::new(alloc, nodes.len(), graph.vars().len())?;
     let mut assigns = Rows::new(alloc, nodes.len(), graph.vars().len())?;
+    let shared = graph.shared();
     for n in 0..nodes.len() {
-        mark_read(graph, &mut reads, n, &nodes[n]);
-        mark_assigned(&mut assigns, n, &nodes[n]);
+        mark_read(graph, &mut reads, n, &nodes[n], shared);
+        mark_assigned(graph, &mut assigns, n, &nodes[n], shared);
     }
     Ok(AccessRows { reads, assigns })
 }
 
 // ---- what nodes read
 
-/// Sets the bits of the variables that a node reads in its row.
-fn mark_read(graph: &Graph, rows: &mut Rows, n: usize, node: &Node)
+/// Sets the bits of the variables that a node reads in its row. `shared` is the number of the globals of the graph.
+fn mark_read(graph: &Graph, rows: &mut Rows, n: usize, node: &Node, shared: usize)
+    requires shared { shared ≡ graph.now.shared }
+    requires globals { shared ≤ length (row_of rows.old n) }
     requires row { n < length rows.old }
     requires vars { AllBelow (length (row_of rows.old n)) (node_vars node.now) }
     ensures { IsMarkedAt n (node_reads graph.now node.now) rows.old rows.new }
@@ -61,9 +65,27 @@ fn mark_read(graph: &Graph, rows: &mut Rows, n: usize, node: &Node)
         Node::Skip(_) => {}
         Node::Assign(_, rhs, _) => mark_rhs(rows, n, rhs),
         Node::Print(a, _) => mark_operand(rows, n, *a),
-        Node::Call(_, _, args, _) => mark_operands(rows, n, args.items()),
+        Node::Guard(test, _, _) => mark_test(rows, n, test),
+        Node::Call(_, _, args, _) => {
+            mark_globals(rows, n, shared);
+            mark_operands(rows, n, args.items());
+        }
         Node::Test(test, _, _) => mark_test(rows, n, test),
-        Node::Return(a) => mark_operand(rows, n, *a),
+        Node::Return(a) => {
+            mark_globals(rows, n, shared);
+            mark_operand(rows, n, *a);
+        }
+    }
+}
+
+/// Sets the bits of the globals, which are the first `shared` variables.
+fn mark_globals(rows: &mut Rows, n: usize, shared: usize)
+    requires row { n < length rows.old }
+    requires globals { shared ≤ length (row_of rows.old n) }
+    ensures { IsMarkedAt n (shared_vars shared) rows.old rows.new }
+{
+    for x in 0..shared {
+        rows.set(n, x, true);
     }
 }
 
@@ -128,20 +150,37 @@ fn mark_operand(rows: &mut Rows, n: usize, operand: Operand)
 
 // ---- what nodes assign
 
-/// Sets the bit of the variable that a node assigns in its row.
-fn mark_assigned(rows: &mut Rows, n: usize, node: &Node)
+/// Sets the bits of the variables that a node assigns in its row. `shared` is the number of the globals of the graph.
+fn mark_assigned(graph: &Graph, rows: &mut Rows, n: usize, node: &Node, shared: usize)
+    requires shared { shared ≡ graph.now.shared }
+    requires globals { shared ≤ length (row_of rows.old n) }
     requires row { n < length rows.old }
     requires vars { AllBelow (length (row_of rows.old n)) (node_vars node.now) }
-    ensures { IsMarkedAt n (assigned_vars node.now) rows.old rows.new }
+    ensures { IsMarkedAt n (assigned_vars graph.now node.now) rows.old rows.new }
 {
     match node {
         Node::Start(_) => {}
         Node::Skip(_) => {}
         Node::Assign(x, _, _) => rows.set(n, *x, true),
         Node::Print(_, _) => {}
-        Node::Call(None, _, _, _) => {}
-        Node::Call(Some(x), _, _, _) => rows.set(n, *x, true),
+        Node::Guard(_, _, _) => {}
+        Node::Call(into, _, _, _) => {
+            mark_globals(rows, n, shared);
+            mark_into(rows, n, *into);
+        }
         Node::Test(_, _, _) => {}
         Node::Return(_) => {}
+    }
+}
+
+/// Sets the bit of the variable to which the result of a call goes, where there is one.
+fn mark_into(rows: &mut Rows, n: usize, into: Option<usize>)
+    requires row { n < length rows.old }
+    requires vars { AllBelow (length (row_of rows.old n)) (into_vars into) }
+    ensures { IsMarkedAt n (into_vars into) rows.old rows.new }
+{
+    match into {
+        Some(x) => rows.set(n, x, true),
+        None => {}
     }
 }

@@ -1,15 +1,16 @@
 // The patterns of assignments: a variable and a right side that does not divide.
-ghost use Rattle.std.specs.Prelude.{◌≡◌, ◌<◌, ◌||◌, IsPermutation, flat_map, length, nat_eq, IfOk, Some};
+ghost use Rattle.std.specs.Prelude.{◌≡◌, ◌<◌, ◌||◌, IsPermutation, flat_map, length, nat_eq, nat_lt, IfOk, Some};
+ghost use Rattle.mir_base.specs.Frames.{shared_vars};
 ghost use Rattle.mir_base.specs.Shapes.{AllDiffer, operand_vars, rhs_vars, test_vars};
 ghost use Rattle.flow_graph.specs.Edges.{edges_of};
-ghost use Rattle.flow_graph.specs.Graphs.{AllWithin, GraphShape, SuccsBelow, is_start, node_reads};
+ghost use Rattle.flow_graph.specs.Graphs.{SuccsBelow, is_start, node_reads};
 ghost use Rattle.std.specs.List.{list_any};
 ghost use Rattle.std.specs.List.Sorted.{IsStableByKey};
 ghost use Rattle.std.specs.Ordering.{nat_cmp};
 ghost use Rattle.flow_graph.specs.Numbering.{is_in};
 ghost use Rattle.sink_dead.specs.Accesses.{blocks_pattern};
 ghost use Rattle.sink_dead.specs.Moving.{AreMoving, MovesFrom, MovesOn};
-ghost use Rattle.sink_dead.specs.Tables.{AreOrdered, sinkable_pattern, pattern_of, touches_pattern};
+ghost use Rattle.sink_dead.specs.PatternTables.{AreOrdered, assigns_in, sinkable_pattern, pattern_of, touches_pattern};
 
 use crate::skips::stop_after;
 use flow_graph::{Edges, Graph, Node};
@@ -44,7 +45,7 @@ pub(crate) fn moving_patterns(
     let mut found = KeyTable::new(alloc);
     let nodes = graph.nodes();
     for node in nodes {
-        if let Some(pattern) = moving_at(nodes, edges, node) {
+        if let Some(pattern) = moving_at(graph, edges, node) {
             found.number(pattern)?;
         }
     }
@@ -78,28 +79,27 @@ fn listed(alloc: Global, table: &Patterns) -> Result<Vec<Pattern>, Memory>
 }
 
 /// The pattern that occurs at a node, where Skips do not lead on from there to a node that blocks it.
-fn moving_at(nodes: &[Node], edges: &Edges, node: &Node) -> Option<Pattern>
-    requires edges { edges.now ≡ edges_of nodes.now }
-    requires within { AllWithin nodes.now }
-    requires below { SuccsBelow (length nodes.now) node.now }
-    ensures { (graph : GraphShape) → nodes.now ≡ graph.nodes → MovesFrom graph node.now result }
+fn moving_at(graph: &Graph, edges: &Edges, node: &Node) -> Option<Pattern>
+    requires edges { edges.now ≡ edges_of graph.now.nodes }
+    requires below { SuccsBelow (length graph.now.nodes) node.now }
+    ensures { MovesFrom graph.now node.now result }
 {
     match node {
-        Node::Assign(_, _, next) => moving_on(nodes, edges, node, *next),
+        Node::Assign(_, _, next) => moving_on(graph, edges, node, *next),
         _ => None,
     }
 }
 
 /// The pattern that occurs at a node, where Skips do not lead on from its successor to a node that blocks it.
-fn moving_on(nodes: &[Node], edges: &Edges, node: &Node, next: usize) -> Option<Pattern>
-    requires edges { edges.now ≡ edges_of nodes.now }
-    requires within { AllWithin nodes.now }
-    requires next { next < length nodes.now }
-    ensures { (graph : GraphShape) → nodes.now ≡ graph.nodes → MovesOn graph node.now next result }
+fn moving_on(graph: &Graph, edges: &Edges, node: &Node, next: usize) -> Option<Pattern>
+    requires edges { edges.now ≡ edges_of graph.now.nodes }
+    requires next { next < length graph.now.nodes }
+    ensures { MovesOn graph.now node.now next result }
 {
     let pattern = pattern_at(node)?;
+    let nodes = graph.nodes();
     let stop = stop_after(nodes, edges, next);
-    if blocks(&nodes[stop], &pattern) {
+    if blocks(graph, &nodes[stop], &pattern) {
         None
     } else {
         Some(pattern)
@@ -127,14 +127,15 @@ fn sinkable_pattern(var: usize, rhs: Rhs) -> Option<Pattern>
     }
 }
 
-/// Whether a node blocks a pattern: it is Start, reads the variable, or assigns it or a variable of the right side.
-fn blocks(node: &Node, pattern: &Pattern) -> bool
-    ensures { (graph : GraphShape) →
-        result ≡ blocks_pattern graph pattern.now.var pattern.now.rhs (Some node.now) }
+/// Whether a node of the graph blocks a pattern: it is Start, reads the variable, or assigns it or a variable of the
+/// right side.
+fn blocks(graph: &Graph, node: &Node, pattern: &Pattern) -> bool
+    ensures { result ≡
+        blocks_pattern graph.now pattern.now.var pattern.now.rhs (Some node.now) }
 {
     let starts = is_start(node);
-    let reads = node_reads(node, pattern.var);
-    let touches = node_touches(node, pattern);
+    let reads = node_reads(graph, node, pattern.var);
+    let touches = node_touches(graph, node, pattern);
     let accesses = either(reads, touches);
     let blocked = either(starts, accesses);
     blocked
@@ -156,41 +157,95 @@ fn is_start(node: &Node) -> bool
         Node::Skip(_) => false,
         Node::Assign(_, _, _) => false,
         Node::Print(_, _) => false,
+        Node::Guard(_, _, _) => false,
         Node::Call(_, _, _, _) => false,
         Node::Test(_, _, _) => false,
         Node::Return(_) => false,
     }
 }
 
-/// Whether a node reads x.
-fn node_reads(node: &Node, x: usize) -> bool
-    ensures { (graph : GraphShape) → result ≡ is_in x (node_reads graph node.now) }
+/// Whether a node of the graph reads x.
+#[tactic(auto, using(crate::specs::VarLaws::is_in_append))]
+fn node_reads(graph: &Graph, node: &Node, x: usize) -> bool
+    ensures { result ≡ is_in x (node_reads graph.now node.now) }
 {
     match node {
         Node::Start(_) => false,
         Node::Skip(_) => false,
         Node::Assign(_, rhs, _) => rhs_reads(rhs, x),
         Node::Print(a, _) => is_var(*a, x),
-        Node::Call(_, _, args, _) => one_is(args.items(), x),
+        Node::Guard(test, _, _) => test_reads(test, x),
+        Node::Call(_, _, args, _) => is_global(graph, x) || one_is(args.items(), x),
         Node::Test(test, _, _) => test_reads(test, x),
-        Node::Return(a) => is_var(*a, x),
+        Node::Return(a) => is_global(graph, x) || is_var(*a, x),
     }
 }
 
-/// Whether a node assigns a variable of the pattern.
-#[tactic(auto, using(flow_graph::specs::VarLaws::assigns_none))]
-fn node_touches(node: &Node, pattern: &Pattern) -> bool
-    ensures { (graph : GraphShape) → result ≡ touches_pattern graph node.now pattern.now }
+/// Whether x is a global of the graph.
+#[tactic(auto, using(crate::specs::VarLaws::shared_is_in))]
+fn is_global(graph: &Graph, x: usize) -> bool
+    ensures { result ≡ is_in x (shared_vars graph.now.shared) }
+{
+    x < graph.shared()
+}
+
+/// Whether a node of the graph assigns a variable of the pattern.
+#[tactic(auto, using(graph_edit::specs::VarLaws::assigns_none))]
+fn node_touches(graph: &Graph, node: &Node, pattern: &Pattern) -> bool
+    ensures { result ≡ touches_pattern graph.now node.now pattern.now }
 {
     match node {
         Node::Start(_) => false,
         Node::Skip(_) => false,
         Node::Assign(y, _, _) => touches(pattern, *y),
         Node::Print(_, _) => false,
-        Node::Call(Some(y), _, _, _) => touches(pattern, *y),
-        Node::Call(None, _, _, _) => false,
+        Node::Guard(_, _, _) => false,
+        Node::Call(Some(y), _, _, _) => call_touches(graph, pattern, *y),
+        Node::Call(None, _, _, _) => has_global(pattern, graph.shared()),
         Node::Test(_, _, _) => false,
         Node::Return(_) => false,
+    }
+}
+
+/// Whether a call whose result goes to y assigns a variable of the pattern.
+fn call_touches(graph: &Graph, pattern: &Pattern, y: usize) -> bool
+    ensures { result ≡ (assigns_in graph.now.shared y pattern.now.var ||
+        list_any (assigns_in graph.now.shared y) (rhs_vars pattern.now.rhs)) }
+{
+    let global = has_global(pattern, graph.shared());
+    let own = touches(pattern, y);
+    let one = either(global, own);
+    one
+}
+
+/// Whether the variable of the pattern or one of its right side is a global, which are the first `shared` variables.
+fn has_global(pattern: &Pattern, shared: usize) -> bool
+    ensures { result ≡ (nat_lt pattern.now.var shared ||
+        list_any (λ z. nat_lt z shared) (rhs_vars pattern.now.rhs)) }
+{
+    let own = pattern.var < shared;
+    let operand = rhs_has_global(&pattern.rhs, shared);
+    own || operand
+}
+
+/// Whether a right side reads a global, which are the first `shared` variables.
+fn rhs_has_global(rhs: &Rhs, shared: usize) -> bool
+    ensures { result ≡ list_any (λ z. nat_lt z shared) (rhs_vars rhs.now) }
+{
+    match rhs {
+        Rhs::Plain(a) => is_global_var(*a, shared),
+        Rhs::Unary(_, a) => is_global_var(*a, shared),
+        Rhs::Binary(_, a, b) => is_global_var(*a, shared) || is_global_var(*b, shared),
+    }
+}
+
+/// Whether an operand is a global, which are the first `shared` variables.
+fn is_global_var(operand: Operand, shared: usize) -> bool
+    ensures { result ≡ list_any (λ z. nat_lt z shared) (operand_vars operand) }
+{
+    match operand {
+        Operand::Var(x) => x < shared,
+        Operand::Const(_) => false,
     }
 }
 

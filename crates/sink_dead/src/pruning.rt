@@ -1,15 +1,16 @@
 // The removal of dead assignments.
 ghost use Rattle.std.specs.Prelude.{◌≡◌, ◌↔◌, false, slice_get, IfOk, Some};
 ghost use Rattle.flow_graph.specs.Edges.{IsSplit};
-ghost use Rattle.flow_graph.specs.Editing.{graph_changed};
-ghost use Rattle.flow_graph.specs.Passes.{GraphDivides, GraphKeeps};
+ghost use Rattle.graph_edit.specs.Editing.{graph_changed};
+ghost use Rattle.flow_graph.specs.Passes.{GraphDividesUnchanged, GraphKeeps};
 ghost use Rattle.sink_dead.specs.LiveRows.{HasBitAfter, HaveBitsAfter, NoneDead, graph_pruned, is_dead_node};
+ghost use Rattle.sink_dead.specs.NoMore.{HasNoMore};
 ghost use Rattle.sink_dead.specs.Pruned.{IsPruned, removed_if};
-ghost use Rattle.sink_dead.specs.RoundsKept.{KeepsNoMore};
 
 use crate::liveness::live_rows;
 use bit_rows::Rows;
-use flow_graph::{Editor, Graph, Node};
+use flow_graph::{Graph, Node};
+use graph_edit::Editor;
 use mir_base::{Memory, divides};
 use std::alloc::Global;
 
@@ -22,11 +23,11 @@ pub(crate) fn pruned(alloc: Global, graph: Graph) -> Result<Graph, Memory>
     ensures keeps { IfOk result (GraphKeeps graph) }
     ensures split { IfOk result (λ pruned. IsSplit graph.nodes → IsSplit pruned.nodes) }
 
-    // each dividing assignment stays
-    ensures divides { IfOk result (GraphDivides graph) }
+    // each dividing assignment stays, with its operands
+    ensures divides { IfOk result (GraphDividesUnchanged graph) }
 
     // and no assignment stands on a path more often than before
-    ensures no_more { IfOk result (KeepsNoMore graph) }
+    ensures no_more { IfOk result (HasNoMore graph) }
 {
     let live = live_rows(alloc, &graph)?;
     if has_dead(graph.nodes(), &live) {
@@ -96,6 +97,7 @@ fn is_dead(node: &Node, live: &Rows) -> bool
         Node::Skip(_) => false,
         Node::Assign(x, rhs, next) => !divides(rhs) && !live.get(*next, *x),
         Node::Print(_, _) => false,
+        Node::Guard(_, _, _) => false,
         Node::Call(_, _, _, _) => false,
         Node::Test(_, _, _) => false,
         Node::Return(_) => false,

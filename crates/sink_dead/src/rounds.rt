@@ -2,8 +2,8 @@
 ghost use Rattle.std.specs.Prelude.{IfOk};
 ghost use Rattle.flow_graph.specs.Edges.{IsSplit};
 ghost use Rattle.flow_graph.specs.Layouts.{IsLayout};
-ghost use Rattle.sink_dead.specs.RoundGraphs.{AreRounds, IsRound, SaysChanged, last_round};
-ghost use Rattle.sink_dead.specs.RoundsKept.{LastKeeps, RoundKeeps, RoundsKeep};
+ghost use Rattle.sink_dead.specs.RoundGraphs.{AreOnlyRounds, AreRounds, IsOnlyRound, IsRound, KeepsGlobals, SaysChanged, last_round};
+ghost use Rattle.sink_dead.specs.RoundsKept.{RoundKeeps, RoundsKeep};
 ghost use Rattle.sink_dead.specs.RoundsMade.{IsMadeRound};
 
 use crate::answers::{Round, Sunk};
@@ -24,7 +24,13 @@ pub fn round(alloc: Global, graph: &Graph) -> Result<Round, Memory>
     requires { IsSplit graph.now.nodes }
     ensures exact { IfOk result (λ round. IsRound graph.now round.graph) }
     ensures changed { IfOk result (λ round. SaysChanged graph.now round.graph round.changed) }
+
+    // there is no other such graph
+    ensures only { IfOk result (λ round. IsOnlyRound graph.now round.graph) }
     ensures keeps { IfOk result (λ round. RoundKeeps graph.now round.graph) }
+
+    // no last assignment of a global before a call or a return is removed
+    ensures globals { IfOk result (λ round. KeepsGlobals graph.now round.graph) }
 {
     let unit = layout(alloc, graph)?;
     let made = next_round(alloc, graph, &unit)?;
@@ -40,10 +46,13 @@ pub fn round(alloc: Global, graph: &Graph) -> Result<Round, Memory>
 pub fn sink(alloc: Global, graph: &Graph) -> Result<Sunk, Memory>
     requires { IsSplit graph.now.nodes }
     ensures rounds { IfOk result (λ sunk. AreRounds graph.now sunk.rounds) }
+
+    // there are no other such graphs
+    ensures only { IfOk result (λ sunk. AreOnlyRounds graph.now sunk.rounds) }
     ensures keeps { IfOk result (λ sunk. RoundsKeep graph.now sunk.rounds) }
 
-    // the last of them keeps the graph in one step
-    ensures last { IfOk result (λ sunk. LastKeeps graph.now (last_round graph.now sunk.rounds)) }
+    // the last of them keeps of the graph what one round does
+    ensures last { IfOk result (λ sunk. RoundKeeps graph.now (last_round graph.now sunk.rounds)) }
 {
     let unit = layout(alloc, graph)?;
     let mut last = next_round(alloc, graph, &unit)?;

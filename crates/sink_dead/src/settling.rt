@@ -52,6 +52,7 @@ fn note(
             None => {}
         },
         Node::Print(_, _) => {}
+        Node::Guard(_, _, _) => {}
         Node::Call(_, _, _, _) => {}
         Node::Test(_, _, _) => {}
         Node::Return(_) => {}

@@ -9,7 +9,8 @@ ghost use Rattle.sink_dead.specs.SunkGraphs.{IsSunk};
 use crate::delaying::DelayedPatterns;
 use crate::inserting::{Put, empty_occurrences, put_each, puts_of};
 use crate::settling::settled;
-use flow_graph::{Edges, Editor, Graph};
+use flow_graph::{Edges, Graph};
+use graph_edit::Editor;
 use mir_base::Memory;
 use std::alloc::Global;
 

@@ -49,6 +49,7 @@ fn skip_over(edges: &Edges, node: &Node) -> Option<usize>
         Node::Skip(next) => entered_once(edges, *next),
         Node::Assign(_, _, _) => None,
         Node::Print(_, _) => None,
+        Node::Guard(_, _, _) => None,
         Node::Call(_, _, _, _) => None,
         Node::Test(_, _, _) => None,
         Node::Return(_) => None,

@@ -1,6 +1,6 @@
 use Rattle.std.proofs.Common.{◌≡◌, ◌∙◌, ap, subst}
-use Rattle.flow_graph.specs.DividingLaws.{stay_trans}
-use Rattle.flow_graph.specs.Passes.{GraphDivides, GraphKeeps}
+use Rattle.flow_graph.specs.DividingLaws.{stay_trans, unchanged_stay, unchanged_trans}
+use Rattle.flow_graph.specs.Passes.{GraphDividesUnchanged, GraphKeeps}
 use Rattle.jump_clean.specs.Cleaned.{IsClean}
 use Rattle.sink_dead.specs.RoundGraphs.{last_round}
 use Rattle.mir_opt.proofs.back.make_back.Goals as goal
@@ -29,5 +29,5 @@ returns c =
       last_keeps = sunk.last;
       swept_keeps = subst (λ g. GraphKeeps g swept) (last_is c) c.in_ok-swept.ensures.keeps;
       divides = stay_trans c.args.moved.now.nodes recopied.nodes swept.nodes c.in_ok-recopied.ensures.divides
-          (stay_trans recopied.nodes last.nodes swept.nodes sunk.last.divides (subst (λ g. GraphDivides g swept) (last_is c) c.in_ok-swept.ensures.divides));
+          (unchanged_stay recopied.nodes swept.nodes (unchanged_trans recopied.nodes last.nodes swept.nodes sunk.last.divides (subst (λ g. GraphDividesUnchanged g swept) (last_is c) c.in_ok-swept.ensures.divides)));
     }

@@ -8,5 +8,6 @@ returns c = record {
   within = subst AllWithin c.nodes-nodes.ensures.value (λ m slot s edge. (c.nodes-nodes.ensures.graph.can.succs m slot s edge).1);
   lowered_keeps = c.in_ok-lowered.ensures.keeps;
   cleaned_keeps = c.in_ok-cleaned.ensures.keeps;
+  lowered_divides = c.in_ok-lowered.ensures.divides;
   divides = c.in_ok-cleaned.ensures.divides;
 }

@@ -1,4 +1,4 @@
-use Rattle.flow_graph.specs.DividingLaws.{stay_trans}
+use Rattle.flow_graph.specs.DividingLaws.{unchanged_trans}
 use Rattle.mir_opt.proofs.moving.move_code.Goals as goal
 
 pub returns : goal.returns
@@ -13,5 +13,5 @@ returns g c = record {
   is_split = c.in_ok-code.ensures.is_split;
   split_keeps = c.in_ok-split.ensures.keeps;
   moved_keeps = c.in_ok-code.ensures.keeps;
-  divides = stay_trans c.args.graph.now.nodes c.in_ok-split.split.nodes c.in_ok-code.code.moved.nodes c.in_ok-split.ensures.divides c.in_ok-code.ensures.divides;
+  divides = unchanged_trans c.args.graph.now.nodes c.in_ok-split.split.nodes c.in_ok-code.code.moved.nodes c.in_ok-split.ensures.divides c.in_ok-code.ensures.divides;
 }

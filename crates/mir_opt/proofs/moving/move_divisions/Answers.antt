@@ -9,6 +9,7 @@ returns c = record {
     flattened = c.in_ok-code.ensures.exact.flattened;
   };
   best = record { optimal = c.in_ok-code.ensures.optimal; evaluates = c.in_ok-code.ensures.paths; follows = c.in_ok-code.ensures.runs };
+  comes = c.in_ok-code.ensures.comes;
   split_keeps = c.in_ok-split.ensures.keeps;
   moved_keeps = c.in_ok-code.ensures.keeps;
 }

@@ -1,7 +1,7 @@
 use Rattle.std.proofs.Common.{◌≡◌, ℕ, suc, ◌+◌, ◌-◌, length, slice_get, Some, ap, sym, ◌∙◌, arith}
 use Rattle.std.proofs.lemmas.Option.{slice_get-get_or}
-use Rattle.flow_graph.specs.Editing.{change_at, change_each}
-use Rattle.flow_graph.specs.EditingLaws.{change_other}
+use Rattle.graph_edit.specs.Editing.{change_at, change_each}
+use Rattle.graph_edit.specs.EditingLaws.{change_other}
 use Rattle.flow_graph.specs.Graphs.{GraphShape}
 use Rattle.sink_dead.specs.Accesses.{is_sinkable}
 use Rattle.sink_dead.specs.SunkGraphs.{emptied}

@@ -1,5 +1,5 @@
 use Rattle.std.proofs.Common.{◌≡◌, ℕ, ◌-◌, ◌≤◌, length, slice_get}
-use Rattle.flow_graph.specs.Editing.{change_each}
+use Rattle.graph_edit.specs.Editing.{change_each}
 use Rattle.sink_dead.specs.Accesses.{is_sinkable}
 use Rattle.sink_dead.specs.SunkGraphs.{emptied}
 use Rattle.sink_dead.proofs.Edited.{OnlyNodes}

@@ -12,10 +12,10 @@ loop-node-preserved c =
     let rest = length c.args.insert.now - (n + 1) in
     let more : length c.args.insert.now - n ≡ suc rest = omega (arith, c.loop-node-test.true, c.len-node-end.ensures) in
     let next : n + 1 ≡ suc n = omega arith in
-    let here = c.held_at-held.ensures in
+    let here = c.noted_at-noted.ensures in
     ap (λ (l : List Put). l ++ all_puts inserts rest (n + 1)) c.in_ok-push_merged.ensures
-    ∙ append_assoc c.loop-node.puts.items (puts_at n (merged c.held_at-held.result (chosen c.args.table.now c.row.result))) (all_puts inserts rest (n + 1))
-    ∙ ap (λ r. c.loop-node.puts.items ++ (puts_at n (merged c.held_at-held.result (chosen c.args.table.now r)) ++ all_puts inserts rest (n + 1))) c.row.ensures
+    ∙ append_assoc c.loop-node.puts.items (puts_at n (merged c.noted_at-noted.result (chosen c.args.table.now c.row.result))) (all_puts inserts rest (n + 1))
+    ∙ ap (λ r. c.loop-node.puts.items ++ (puts_at n (merged c.noted_at-noted.result (chosen c.args.table.now r)) ++ all_puts inserts rest (n + 1))) c.row.ensures
     ∙ ap (λ (o : Option Pattern). c.loop-node.puts.items ++ (puts_at n (merged o (chosen_at c.args.table.now c.args.insert.now n)) ++ all_puts inserts rest (n + 1))) here
     ∙ ap (λ k. c.loop-node.puts.items ++ (puts_at n (inserts n) ++ all_puts inserts rest k)) next
     ∙ sym (ap (λ k. c.loop-node.puts.items ++ all_puts inserts k n) more)

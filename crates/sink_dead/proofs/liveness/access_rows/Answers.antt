@@ -19,5 +19,5 @@ loop-n-preserved c =
       reads_shape = still_rows (length nodes) vars n _ c.loop-n.reads c.mark_read.new.rows c.loop-n.invariant.reads_shape c.mark_read.ensures;
       assigns_shape = still_rows (length nodes) vars n _ c.loop-n.assigns c.mark_assigned.new.rows c.loop-n.invariant.assigns_shape c.mark_assigned.ensures;
       reads = marked_more (node_reads graph) nodes n node c.loop-n.reads c.mark_read.new.rows at c.loop-n.invariant.reads c.mark_read.ensures;
-      assigns = marked_more assigned_vars nodes n again c.loop-n.assigns c.mark_assigned.new.rows at_again c.loop-n.invariant.assigns c.mark_assigned.ensures;
+      assigns = marked_more (assigned_vars graph) nodes n again c.loop-n.assigns c.mark_assigned.new.rows at_again c.loop-n.invariant.assigns c.mark_assigned.ensures;
     }

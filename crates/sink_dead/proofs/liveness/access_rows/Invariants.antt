@@ -9,5 +9,5 @@ invariant-loop-n l = record {
   reads_shape : AreRows (length l.nodes) (length l.graph.vars) l.reads;
   assigns_shape : AreRows (length l.nodes) (length l.graph.vars) l.assigns;
   reads : AreMarked (node_reads l.graph) (take l.n l.nodes) l.reads;
-  assigns : AreMarked assigned_vars (take l.n l.nodes) l.assigns;
+  assigns : AreMarked (assigned_vars l.graph) (take l.n l.nodes) l.assigns;
 }

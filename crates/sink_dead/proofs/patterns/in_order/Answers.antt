@@ -3,7 +3,7 @@ use Rattle.std.proofs.lemmas.List.Sorted.{answers_always, IsNonDecreasingBy-from
 use Rattle.std.specs.List.Sorted.{IsStableByKey}
 use Rattle.std.specs.Ordering.{nat_cmp}
 use Rattle.sink_dead.specs.declared.patterns.Pattern.{Pattern}
-use Rattle.sink_dead.specs.Tables.{AreOrdered}
+use Rattle.sink_dead.specs.PatternTables.{AreOrdered}
 use Rattle.mir_base.specs.Shapes.{AllDiffer}
 use Rattle.sink_dead.proofs.Found.{moved_differ}
 use Rattle.sink_dead.proofs.patterns.in_order.Goals as goal

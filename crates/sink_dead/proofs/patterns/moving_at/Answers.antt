@@ -5,7 +5,7 @@ use Rattle.flow_graph.specs.declared.nodes.Node.TheVariants.{Assign}
 use Rattle.flow_graph.specs.Graphs.{GraphShape}
 use Rattle.sink_dead.specs.declared.patterns.Pattern.{Pattern}
 use Rattle.sink_dead.specs.Moving.{IsHeldUp, MovesFrom, MovesOn}
-use Rattle.sink_dead.specs.Tables.{pattern_of}
+use Rattle.sink_dead.specs.PatternTables.{pattern_of}
 use Rattle.sink_dead.proofs.HeldUp.{pattern_is}
 use Rattle.sink_dead.proofs.patterns.moving_at.Goals as goal
 
@@ -20,4 +20,4 @@ moves_from graph node x next t is (Some p) moves =
     (moves.0, (next, is ∙ ap (λ (q : Pattern). Assign q.var q.rhs next) one, moves.1))
 
 pub returns-in-Assign : goal.returns-in-Assign
-returns-in-Assign c = λ graph same. moves_from graph c.args.node.now c.in-Assign.field-0 c.in-Assign.next c.in-Assign.field-1 c.in-Assign.is c.moving_on.result (c.moving_on.ensures graph same)
+returns-in-Assign c = moves_from c.args.graph.now c.args.node.now c.in-Assign.field-0 c.in-Assign.next c.in-Assign.field-1 c.in-Assign.is c.moving_on.result c.moving_on.ensures

@@ -4,8 +4,7 @@ use Rattle.std.proofs.lemmas.Option.{slice_get-get_or, slice_get_within}
 use Rattle.flow_graph.specs.BoundLaws.{node_succs_below}
 use Rattle.flow_graph.specs.declared.nodes.Node.{Node}
 use Rattle.flow_graph.specs.declared.nodes.Node.TheVariants.{Assign}
-use Rattle.flow_graph.specs.Edges.{edges_of}
-use Rattle.flow_graph.specs.Graphs.{succs_of}
+use Rattle.flow_graph.specs.Graphs.{SuccsBelow, succs_of}
 use Rattle.key_table.specs.Keys.{IsWithSome}
 use Rattle.key_table.specs.KeyLaws.{place_of}
 use Rattle.sink_dead.specs.declared.patterns.Pattern.{Pattern}
@@ -24,7 +23,7 @@ more c found new is put =
     let nodes = c.nodes-nodes.result.now in
     let i = c.loop-node.node-index in
     let at = slice_get-get_or nodes i c.node-item.result c.loop-node-test.true ∙ ap Some (sym c.node-item.is) in
-    found_more c.args.graph.now (length c.args.graph.now.vars) nodes i c.node-item.result found c.loop-node.found new at (c.nodes-nodes.ensures.graph.can.below i c.node-item.result at) (subst (MovesFrom c.args.graph.now c.node-item.result) is (c.moving_at.ensures c.args.graph.now c.nodes-nodes.ensures.value)) put c.loop-node.invariant
+    found_more c.args.graph.now (length c.args.graph.now.vars) nodes i c.node-item.result found c.loop-node.found new at (c.nodes-nodes.ensures.graph.can.below i c.node-item.result at) (subst (MovesFrom c.args.graph.now c.node-item.result) is c.moving_at.ensures) put c.loop-node.invariant
 
 pub loop-node-preserved : goal.loop-node-preserved
 loop-node-preserved c =
@@ -34,18 +33,13 @@ loop-node-preserved c =
       | in_default w ↦ more known None c.match-moving_at.found w.in_default.is w.found-is
     ]
 
-pub moving_at-requires-clause-edges : goal.moving_at-requires-clause-edges
-moving_at-requires-clause-edges c = c.requires ∙ ap (λ (l : List Node). edges_of l) (sym c.nodes-nodes.ensures.value)
-
-pub moving_at-requires-clause-within : goal.moving_at-requires-clause-within
-moving_at-requires-clause-within c = λ m slot s edge. (c.nodes-nodes.ensures.graph.can.succs m slot s edge).1
-
 pub moving_at-requires-clause-below : goal.moving_at-requires-clause-below
 moving_at-requires-clause-below c =
     let nodes = c.nodes-nodes.result.now in
     let i = c.loop-node.node-index in
     let at = slice_get-get_or nodes i c.node-item.result c.loop-node-test.true ∙ ap Some (sym c.node-item.is) in
-    node_succs_below (length nodes) c.node-item.result (λ slot s there. (c.nodes-nodes.ensures.graph.can.succs i slot s (ap (λ (o : Option Node). slice_get (succs_of o) slot) at ∙ there)).1)
+    subst (λ (l : List Node). SuccsBelow (length l) c.node-item.result) c.nodes-nodes.ensures.value
+    (node_succs_below (length nodes) c.node-item.result (λ slot s there. (c.nodes-nodes.ensures.graph.can.succs i slot s (ap (λ (o : Option Node). slice_get (succs_of o) slot) at ∙ there)).1))
 
 pub returns : goal.returns
 returns c =

@@ -6,7 +6,7 @@ use Rattle.sink_dead.specs.LiveRows.{HaveBitsAfter, is_dead_at}
 use Rattle.sink_dead.specs.Pruned.{IsPruned}
 use Rattle.sink_dead.specs.PrunedLaws.{pruned_divides, pruned_keeps, pruned_splits}
 use Rattle.sink_dead.proofs.PrunedBy.{bits_after, pruned_by, pruned_itself}
-use Rattle.sink_dead.proofs.PrunedPaths.{still_no_more}
+use Rattle.sink_dead.proofs.PrunedPaths.{pruned_no_more}
 use Rattle.sink_dead.proofs.pruning.pruned.Goals as goal
 use Rattle.sink_dead.proofs.pruning.pruned.Goals.{In_ok-pruned, Else-has_dead}
 
@@ -43,7 +43,7 @@ pub returns-in_ok-pruned-clause-divides : goal.returns-in_ok-pruned-clause-divid
 returns-in_ok-pruned-clause-divides c = let here = (goal.at.returns-in_ok-pruned-clause-divides c).In_ok-pruned in pruned_divides c.args.graph c.in_ok-pruned.pruned (graph_then here) (exact_then here)
 
 pub returns-in_ok-pruned-clause-no_more : goal.returns-in_ok-pruned-clause-no_more
-returns-in_ok-pruned-clause-no_more c = let here = (goal.at.returns-in_ok-pruned-clause-no_more c).In_ok-pruned in still_no_more c.args.graph c.in_ok-pruned.pruned (graph_then here) (exact_then here)
+returns-in_ok-pruned-clause-no_more c = let here = (goal.at.returns-in_ok-pruned-clause-no_more c).In_ok-pruned in pruned_no_more c.args.graph c.in_ok-pruned.pruned (graph_then here) (exact_then here)
 
 -- ---- where none is
 
@@ -68,4 +68,4 @@ pub returns-else-has_dead-clause-split : goal.returns-else-has_dead-clause-split
 returns-else-has_dead-clause-split c = λ split. split
 
 pub returns-else-has_dead-clause-no_more : goal.returns-else-has_dead-clause-no_more
-returns-else-has_dead-clause-no_more c = λ before no_more. no_more
+returns-else-has_dead-clause-no_more c = let here = (goal.at.returns-else-has_dead-clause-no_more c).Else-has_dead in pruned_no_more c.args.graph c.args.graph (graph_else here) (exact_else here)

@@ -1,7 +1,7 @@
 use Rattle.std.proofs.Common.{List, ap, sym, ◌∙◌}
 use Rattle.flow_graph.specs.declared.nodes.Node.{Node}
-use Rattle.flow_graph.specs.Editing.{graph_changed}
-use Rattle.flow_graph.specs.EditingLaws.{change_none}
+use Rattle.graph_edit.specs.Editing.{graph_changed}
+use Rattle.graph_edit.specs.EditingLaws.{change_none}
 use Rattle.sink_dead.specs.Pruned.{removed_if}
 use Rattle.sink_dead.proofs.pruning.remove_if_dead.Goals as goal
 

@@ -2,7 +2,7 @@ use Rattle.std.proofs.Common.{◌≡◌, ◌∙◌, ◌<◌, ◌≤◌, ◌++◌
 use Rattle.flow_graph.specs.Graphs.{GraphShape}
 use Rattle.sink_dead.specs.declared.rounds.MadeRound.{MadeRound}
 use Rattle.sink_dead.specs.RoundGraphs.{AreRounds}
-use Rattle.sink_dead.specs.RoundLaws.{last_keeps}
+use Rattle.sink_dead.specs.RoundLaws.{last_keeps, sunk_rounds_are_one}
 use Rattle.sink_dead.specs.RoundsKept.{RoundsKeep}
 use Rattle.sink_dead.proofs.RoundsSoFar.{AreSoFar, all_keep, all_rounds, one_more}
 use Rattle.sink_dead.proofs.rounds.sink.Goals as goal
@@ -36,6 +36,9 @@ they_keep c = subst (RoundsKeep c.args.graph.now) (sym (list_is c)) (all_keep c.
 
 pub returns-clause-rounds : goal.returns-clause-rounds
 returns-clause-rounds c = are_rounds (goal.at.returns-clause-rounds c).After-of
+
+pub returns-clause-only : goal.returns-clause-only
+returns-clause-only c = λ other are. sunk_rounds_are_one c.args.graph.now other c.of.result are (are_rounds (goal.at.returns-clause-only c).After-of)
 
 pub returns-clause-keeps : goal.returns-clause-keeps
 returns-clause-keeps c = they_keep (goal.at.returns-clause-keeps c).After-of

@@ -2,7 +2,7 @@ use Rattle.std.proofs.Common.{List, Option, length, ap, sym, ◌∙◌, subst}
 use Rattle.flow_graph.specs.declared.nodes.Node.{Node}
 use Rattle.flow_graph.specs.Edges.{edges_of}
 use Rattle.flow_graph.specs.Graphs.{IsGraph}
-use Rattle.flow_graph.specs.Sinking.{put_for}
+use Rattle.graph_edit.specs.Sinking.{put_for}
 use Rattle.path_laws.specs.Paths.{AreRows}
 use Rattle.sink_dead.specs.declared.patterns.Pattern.{Pattern}
 use Rattle.sink_dead.specs.Puts.{all_puts}

@@ -1,14 +1,14 @@
 use Rattle.std.proofs.Common.{◌≡◌, ◌++◌, ℕ, [], List, length, slice_get, ap, sym, ◌∙◌, subst, append-nil, arith}
 use Rattle.flow_graph.specs.declared.nodes.Node.{Node}
-use Rattle.flow_graph.specs.Editing.{change_each, graph_extended}
-use Rattle.flow_graph.specs.EditingOrder.{edited_in_order}
+use Rattle.graph_edit.specs.Editing.{change_each, graph_extended}
+use Rattle.graph_edit.specs.EditingOrder.{edited_in_order}
 use Rattle.flow_graph.specs.Graphs.{GraphShape, AllWithin}
-use Rattle.flow_graph.specs.Insertions.{InsertionsBelow}
+use Rattle.graph_edit.specs.Insertions.{InsertionsBelow}
 use Rattle.sink_dead.specs.declared.inserting.Put.{Put}
 use Rattle.sink_dead.specs.Accesses.{is_sinkable}
 use Rattle.sink_dead.specs.Puts.{CanPut, all_puts, graph_emptied, graph_with}
 use Rattle.sink_dead.specs.SunkGraphs.{emptied, sinking}
-use Rattle.flow_graph.specs.EditingLaws.{change_each_length}
+use Rattle.graph_edit.specs.EditingLaws.{change_each_length}
 use Rattle.sink_dead.proofs.Listing.{can_all, with_all}
 use Rattle.sink_dead.proofs.SunkKeeps.{inserts_below, start_free}
 use Rattle.sink_dead.proofs.sinking.sunk_graph.Goals as goal

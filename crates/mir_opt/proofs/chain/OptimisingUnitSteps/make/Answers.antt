@@ -1,7 +1,7 @@
 -- Each pass keeps the graph before it, so each stage keeps the source; and what divides stays from pass to pass.
 use Rattle.std.proofs.Common.{List, [], ◌∷◌, arith}
 use Rattle.std.specs.Prelude.{All}
-use Rattle.flow_graph.specs.DividingLaws.{stay_trans}
+use Rattle.flow_graph.specs.DividingLaws.{stay_trans, unchanged_stay}
 use Rattle.flow_graph.specs.Keeps.{AsGraph, AsUnit, Form, KeepInTurn, Keeps}
 use Rattle.flow_graph.specs.KeepsLaws.{chain_keeps}
 use Rattle.flow_graph.specs.Passes.{GraphDivides}
@@ -27,10 +27,15 @@ returns c =
     let passes : KeepInTurn source stages = (front.start.lowered_keeps, (front.start.cleaned_keeps, (front.values.folded_keeps, (front.values.numbered_keeps, (front.values.copied_keeps, (c.in_ok-code.ensures.split_keeps, (c.in_ok-code.ensures.moved_keeps, (after.recopied_keeps, (after.last_keeps.keeps, (after.swept_keeps, tt)))))))))) in
     let keep : All (Keeps source) stages = chain_keeps source stages passes in
     let rest : GraphDivides values.folded back.swept =
-    stay_trans values.folded.nodes values.copied.nodes back.swept.nodes front.values.copied_divides (stay_trans values.copied.nodes code.moved.nodes back.swept.nodes c.in_ok-code.ensures.divides after.divides) in
+    stay_trans values.folded.nodes values.copied.nodes back.swept.nodes front.values.copied_divides (stay_trans values.copied.nodes code.moved.nodes back.swept.nodes (unchanged_stay values.copied.nodes code.moved.nodes c.in_ok-code.ensures.divides) after.divides) in
     record {
       linked = record { start = front.start.start; front = front.values.values; motion = c.in_ok-code.ensures.motion; back = after.back };
-      best = record { moves = c.in_ok-code.ensures.best; divisions = record { cleans = front.start.divides; folds = front.values.folded_divides; keeps = rest } };
+      best = record {
+        moves = c.in_ok-code.ensures.best;
+        lowers = front.start.lowered_divides;
+        divisions = record { cleans = front.start.divides; folds = front.values.folded_divides; keeps = rest };
+        sinks = after.last_keeps.no_more;
+      };
       keeps = elim [
         | Lower ↦ keep 0 source (omega arith)
         | Clean ↦ keep 1 source (omega arith)

@@ -18,7 +18,7 @@ returns c =
     let keep : All (Keeps source) stages = chain_keeps source stages passes in
     record {
       linked = record { start = made.start; motion = c.in_ok-code.ensures.motion; sweeps = c.in_ok-swept.ensures.clean };
-      best = c.in_ok-code.ensures.best;
+      best = record { best = c.in_ok-code.ensures.best; comes = c.in_ok-code.ensures.comes };
       keeps = elim [ Lower ↦ keep 0 source (omega arith) | Clean ↦ keep 1 source (omega arith) | Split ↦ keep 2 source (omega arith) | Motion ↦ keep 3 source (omega arith) | Result ↦ keep 4 source (omega arith) ];
       within = (made.within, subst AllWithin c.nodes-nodes.ensures.value (λ m slot s edge. (c.nodes-nodes.ensures.graph.can.succs m slot s edge).1));
     }

@@ -1,6 +1,7 @@
--- Each step keeps the graph before it, so each stage keeps the source.
+-- Each step keeps the graph before it, so each stage keeps the source; and what divides stays as it is.
 use Rattle.std.proofs.Common.{List, [], ◌∷◌, subst, arith}
 use Rattle.std.specs.Prelude.{All}
+use Rattle.flow_graph.specs.DividingLaws.{unchanged_trans}
 use Rattle.flow_graph.specs.Graphs.{AllWithin}
 use Rattle.flow_graph.specs.Keeps.{AsGraph, AsUnit, Form, KeepInTurn, Keeps}
 use Rattle.flow_graph.specs.KeepsLaws.{chain_keeps}
@@ -18,7 +19,11 @@ returns c =
     let keep : All (Keeps source) stages = chain_keeps source stages passes in
     record {
       linked = record { start = made.start; motion = c.in_ok-code.ensures.motion; sweeps = c.in_ok-swept.ensures.clean };
-      best = c.in_ok-code.ensures.best;
+      best = record {
+        moves = c.in_ok-code.ensures.best;
+        lowers = made.lowered_divides;
+        divisions = unchanged_trans start.lowered.nodes start.cleaned.nodes c.in_ok-swept.swept.nodes made.divides (unchanged_trans start.cleaned.nodes code.moved.nodes c.in_ok-swept.swept.nodes c.in_ok-code.ensures.divides c.in_ok-swept.ensures.divides);
+      };
       keeps = elim [ Lower ↦ keep 0 source (omega arith) | Clean ↦ keep 1 source (omega arith) | Split ↦ keep 2 source (omega arith) | Motion ↦ keep 3 source (omega arith) | Result ↦ keep 4 source (omega arith) ];
       within = (made.within, subst AllWithin c.nodes-nodes.ensures.value (λ m slot s edge. (c.nodes-nodes.ensures.graph.can.succs m slot s edge).1));
     }
