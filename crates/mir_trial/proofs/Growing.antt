@@ -23,7 +23,7 @@ pub groups_zero : (at z : ℕ) → groups zero at z ≡ record { insts = []; sta
 unfolding groups
 groups_zero at z = refl
 
--- one more turn of the loop appends one group, so the invariant holds with one turn fewer left
+-- one more group at the end, so the invariant holds with one group fewer left
 grow : (count : ℕ) (first : List Inst) (start left : ℕ) (items : List Inst) (state : ℕ) → SoFar count first start (suc left) items state
     → SoFar count first start left (items ++ (group (length items) state).insts) (group (length items) state).state
 grow count first start left items state so =
@@ -37,22 +37,22 @@ grow count first start left items state so =
     }
 
 -- one group more at the end
-pub turn_grows : (count : ℕ) (first : List Inst) (start turn : ℕ) (items : List Inst) (state : ℕ) (new : List Inst) (next : ℕ) → turn < count → SoFar count first start (count - turn) items state
-    → new ≡ items ++ (group (length items) state).insts → next ≡ (group (length items) state).state → SoFar count first start (count - (turn + 1)) new next
-turn_grows count first start turn items state new next below so is also =
-    let one : count - turn ≡ suc (count - (turn + 1)) = omega arith in
-    let grown = grow count first start (count - (turn + 1)) items state (subst (λ (n : ℕ). SoFar count first start n items state) one so) in
-    subst (λ (l : List Inst). SoFar count first start (count - (turn + 1)) l next) (sym is)
-    (subst (λ (z : ℕ). SoFar count first start (count - (turn + 1)) (items ++ (group (length items) state).insts) z) (sym also) grown)
+pub group_grows : (count : ℕ) (first : List Inst) (start group_number : ℕ) (items : List Inst) (state : ℕ) (new : List Inst) (next : ℕ) → group_number < count → SoFar count first start (count - group_number) items state
+    → new ≡ items ++ (group (length items) state).insts → next ≡ (group (length items) state).state → SoFar count first start (count - (group_number + 1)) new next
+group_grows count first start group_number items state new next below so is also =
+    let one : count - group_number ≡ suc (count - (group_number + 1)) = omega arith in
+    let grown = grow count first start (count - (group_number + 1)) items state (subst (λ (n : ℕ). SoFar count first start n items state) one so) in
+    subst (λ (l : List Inst). SoFar count first start (count - (group_number + 1)) l next) (sym is)
+    (subst (λ (z : ℕ). SoFar count first start (count - (group_number + 1)) (items ++ (group (length items) state).insts) z) (sym also) grown)
 
 -- at the end there are all groups, and the draws have their state
-pub ends_insts : (count : ℕ) (first : List Inst) (start turn : ℕ) (items : List Inst) (state : ℕ) → turn ≡ count → SoFar count first start (count - turn) items state → items ≡ first ++ (groups count (length first) start).insts
-ends_insts count first start turn items state is so =
-    let none : count - turn ≡ 0 = omega arith in
+pub ends_insts : (count : ℕ) (first : List Inst) (start group_number : ℕ) (items : List Inst) (state : ℕ) → group_number ≡ count → SoFar count first start (count - group_number) items state → items ≡ first ++ (groups count (length first) start).insts
+ends_insts count first start group_number items state is so =
+    let none : count - group_number ≡ 0 = omega arith in
     sym (so.insts ∙ ap (λ (n : ℕ). items ++ (groups n (length items) state).insts) none ∙ ap (λ (g : Group). items ++ g.insts) (groups_zero (length items) state) ∙ append-nil items)
 
 -- when all turns are done the state is that of all groups
-pub ends_state : (count : ℕ) (first : List Inst) (start turn : ℕ) (items : List Inst) (state : ℕ) → turn ≡ count → SoFar count first start (count - turn) items state → state ≡ (groups count (length first) start).state
-ends_state count first start turn items state is so =
-    let none : count - turn ≡ 0 = omega arith in
+pub ends_state : (count : ℕ) (first : List Inst) (start group_number : ℕ) (items : List Inst) (state : ℕ) → group_number ≡ count → SoFar count first start (count - group_number) items state → state ≡ (groups count (length first) start).state
+ends_state count first start group_number items state is so =
+    let none : count - group_number ≡ 0 = omega arith in
     sym (so.ends ∙ ap (λ (n : ℕ). (groups n (length items) state).state) none ∙ ap (λ (g : Group). g.state) (groups_zero (length items) state))

@@ -5,10 +5,10 @@ use Rattle.std.proofs.lemmas.Grind.{flat_map-append}
 use Rattle.std.proofs.lemmas.Nat.{mod_below}
 use Rattle.std.proofs.lemmas.List.{length-map}
 use Rattle.mir_base.specs.declared.instructions.Inst.{Inst}
-use Rattle.mir_base.specs.declared.instructions.Inst.TheVariants.{Receive, Assign, Goto, If, Call, Print, Return}
+use Rattle.mir_base.specs.declared.instructions.Inst.TheVariants.{Receive, Assign, Goto, If, TrapIf, Call, Print, Return}
 use Rattle.mir_base.specs.declared.instructions.Operand.TheVariants.{Var}
 use Rattle.mir_base.specs.Limits.{most_units}
-use Rattle.mir_base.specs.Shapes.{UnitShape, AllBelow, AllDiffer, inst_vars, receives_in, body_or_empty, body_at, names_of, InstFits, BodyFits, IsProgram}
+use Rattle.mir_base.specs.Shapes.{UnitShape, AllBelow, AllDiffer, inst_vars, receives_in, body_or_empty, body_at, names_of, InstFits, BodyFits, IsProgram, SharesGlobals}
 use Rattle.mir_base.specs.BelowLaws.{all_below_append}
 use Rattle.flow_graph.specs.Numbering.{first_index, renamed, renamed_operand, seen_in}
 use Rattle.flow_graph.specs.NumberingLaws.{seen_grows}
@@ -20,12 +20,13 @@ use Rattle.mir_trial.proofs.Spelled.{unit_one}
 
 -- ---- what the instructions behind the receives are
 
--- no receive; a jump goes behind the receives and within the body; a call is of the next unit, with two arguments
+-- no receive, and no trap instruction; a jump goes behind the receives and within the body; a call is of the next unit, with two arguments
 abbrev Inner : ℕ → ℕ → Bool → Inst → Type 0
 Inner total next last (Receive x) = ⊥
 Inner total next last (Assign x rhs) = Unit {0}
 Inner total next last (Goto place) = ⊥
 Inner total next last (If test place) = (2 ≤ place) × (place ≤ total)
+Inner total next last (TrapIf test number) = ⊥
 Inner total next last (Call into called operands) = (called ≡ next) × (last ≡ false) × (length operands ≡ 2)
 Inner total next last (Print a) = Unit {0}
 Inner total next last (Return a) = Unit {0}
@@ -136,6 +137,7 @@ inner_renamed to total k last (Receive x) h = h
 inner_renamed to total k last (Assign x rhs) h = tt
 inner_renamed to total k last (Goto place) h = h
 inner_renamed to total k last (If test place) h = h
+inner_renamed to total k last (TrapIf test number) h = h
 inner_renamed to total k last (Call into called operands) h = (h.0, h.1, length-map operands (renamed_operand to) ∙ h.2)
 inner_renamed to total k last (Print a) h = tt
 inner_renamed to total k last (Return a) h = tt
@@ -158,13 +160,14 @@ inner_receives total k last (Receive x ∷ insts) h = absurd h.0
 inner_receives total k last (Assign x rhs ∷ insts) h = refl
 inner_receives total k last (Goto place ∷ insts) h = refl
 inner_receives total k last (If test place ∷ insts) h = refl
+inner_receives total k last (TrapIf test number ∷ insts) h = absurd h.0
 inner_receives total k last (Call into called operands ∷ insts) h = refl
 inner_receives total k last (Print a ∷ insts) h = refl
 inner_receives total k last (Return a ∷ insts) h = refl
 
 -- the new numbers
 abbrev to_of : ℕ → Bool → ℕ → ℕ → ℕ
-to_of j last z = first_index (seen_in (body_of j last z))
+to_of j last z = first_index (seen_in 0 (body_of j last z))
 
 -- the unit's body behind its two receives
 abbrev tail_of : ℕ → Bool → ℕ → List Inst
@@ -280,6 +283,7 @@ inner_fits units body total j place last (Receive x) two long next_is h = absurd
 inner_fits units body total j place last (Assign x rhs) two long next_is h = tt
 inner_fits units body total j place last (Goto target) two long next_is h = absurd h
 inner_fits units body total j place last (If test target) two long next_is h = let low = h.0 in let high = h.1 in (omega (arith, two, low), omega (arith, long, high))
+inner_fits units body total j place last (TrapIf test number) two long next_is h = absurd h
 inner_fits units body total j place last (Call into called operands) two long next_is h =
     let there_is = next_is h.1 in (
       subst (λ (n : ℕ). n < length units) (sym h.0) there_is.0,
@@ -321,11 +325,12 @@ unit_fits units j last z next_is = record { insts = insts; received = received }
     received (suc (suc p)) q x here also = absurd (no_receive p x here)
 
 -- each unit fits among the others
-pub is_valid : (number count : ℕ) → 0 < count → count ≤ most_units → IsProgram (units_from count 0 number)
+pub is_valid : (number count : ℕ) → 0 < count → count ≤ most_units → IsProgram [] (units_from count 0 number)
 is_valid number count some few = record {
   some_unit = let long = units_long count 0 number in omega (arith, long, some);
   names = names_differ count number few;
   bodies = bodies;
+  shares = λ u unit at. let f = found count 0 number u unit at in subst (SharesGlobals []) (sym f.is) (record { count = refl; begin = refl; own = λ place x receives. omega arith });
 }
   where
     bodies : (u : ℕ) (unit : UnitShape) → slice_get (units_from count 0 number) u ≡ Some unit → BodyFits (units_from count 0 number) unit.body

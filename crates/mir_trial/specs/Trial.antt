@@ -51,7 +51,9 @@ pub record Group : Type 0 where
 -- `V <- P o Q`, which draws V, P, o and Q from this state on
 abbrev pub operation : ℕ → Inst
 operation z =
-    Assign (variable (next z)) (Binary (operator_of (drawn 8 (next (next (next z))))) (parameter (next (next z))) (parameter (next (next (next (next z))))))
+    Assign (variable (next z))
+    (Binary (operator_of (drawn 8 (next (next (next z))))) (parameter (next (next z)))
+    (parameter (next (next (next (next z))))))
 
 -- `a + b`
 abbrev pub parameter_sum : Rhs
@@ -64,7 +66,8 @@ plain_group z = record { insts = operation z ∷ []; state = next (next (next (n
 -- `if P goto T`, `V <- a + b`, `T: W <- a + b`, at this place
 abbrev pub branch_group : ℕ → ℕ → Group
 branch_group at z = record {
-  insts = If (Holds (parameter (next z))) (at + 2) ∷ Assign (variable (next (next z))) parameter_sum ∷ Assign (variable (next (next (next z)))) parameter_sum ∷ [];
+  insts = If (Holds (parameter (next z))) (at + 2) ∷ Assign (variable (next (next z))) parameter_sum ∷ Assign
+      (variable (next (next (next z)))) parameter_sum ∷ [];
   state = next (next (next z));
 }
 
@@ -108,7 +111,8 @@ call_of j last = if last then [] else (Call (Some 2) (suc j) (Var 3 ∷ Var 4 �
 
 -- the body of unit number j, before its variables are numbered in the order of their first occurrence
 abbrev pub body_of : ℕ → Bool → ℕ → List Inst
-body_of j last z = (Receive 0 ∷ Receive 1 ∷ []) ++ (groups 60 2 z).insts ++ call_of j last ++ (Print (Var 2) ∷ Return (Var 5) ∷ [])
+body_of j last z =
+    (Receive 0 ∷ Receive 1 ∷ []) ++ (groups 60 2 z).insts ++ call_of j last ++ (Print (Var 2) ∷ Return (Var 5) ∷ [])
 
 -- `u` and the unit's number
 abbrev pub name_of : ℕ → List ℕ
@@ -125,4 +129,4 @@ units_from (suc count) j z = unit_of j (count == 0) z ∷ units_from count (suc 
 
 -- the program of a number with so many units
 abbrev pub trial_program : ℕ → ℕ → ProgramShape
-trial_program number count = record { units = units_from count 0 number }
+trial_program number count = record { globals = []; units = units_from count 0 number }

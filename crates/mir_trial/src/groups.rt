@@ -16,7 +16,7 @@ pub fn push_groups(body: &mut Vec<Inst>, draws: &mut Draws, count: usize) -> Res
     ensures state { OnOk result (draws.new.state
         ≡ (groups count (length body.old.items) draws.old.state).state) }
 {
-    for turn in 0..count {
+    for group_number in 0..count {
         push_group(body, draws)?;
     }
     Ok(())

@@ -35,6 +35,7 @@ pub fn trial_program(alloc: Global, number: u64, count: usize) -> Result<Program
         units.push(unit(alloc, &mut draws, &vars, j, j + 1 == count)?)?;
     }
     Ok(Program {
+        globals: Items::new(alloc),
         units: Items::of(units),
     })
 }

@@ -3,7 +3,7 @@ use Rattle.std.proofs.Common.{◌≡◌, ℕ, suc, ◌+◌, List, [], ◌∷◌,
 use Rattle.std.proofs.lemmas.List.{length_push}
 use Rattle.flow_graph.specs.declared.nodes.Node.{Node}
 use Rattle.flow_graph.specs.declared.nodes.Node.TheVariants.{Assign}
-use Rattle.flow_graph.specs.Insertions.{Insertion, chain, entry_among}
+use Rattle.graph_edit.specs.Insertions.{Insertion, chain, entry_among}
 use Rattle.flow_graph.specs.ListLaws.{drop_at}
 use Rattle.program_pass.specs.declared.standing.Put.{Put}
 use Rattle.program_pass.specs.Puts.{insertions}

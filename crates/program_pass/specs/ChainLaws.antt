@@ -11,8 +11,8 @@ use Rattle.mir_base.specs.Simulations.{Silently}
 use Rattle.mir_base.specs.Units.{assign_transition, at}
 use Rattle.flow_graph.specs.declared.nodes.Node.{Node}
 use Rattle.flow_graph.specs.declared.nodes.Node.TheVariants.{Assign, Skip}
-use Rattle.flow_graph.specs.InsertionRuns.{values_after}
-use Rattle.flow_graph.specs.Insertions.{Insertion, chain, entry_among}
+use Rattle.graph_edit.specs.InsertionRuns.{values_after}
+use Rattle.graph_edit.specs.Insertions.{Insertion, chain, entry_among}
 use Rattle.flow_graph.specs.ListLaws.{get_left, get_right_at, set_elsewhere, set_here}
 use Rattle.flow_graph.specs.Machines.{graph_code, node_transition}
 use Rattle.jump_clean.specs.Chains.{Skips}
@@ -53,26 +53,26 @@ put_or_not P false put puts without with = with refl
 abbrev pub gone_on : ℕ → Values → Frame → Frame
 gone_on place values frame = record { place = place; arguments = frame.arguments; values = values }
 
-module _ (received : List ℕ) (nodes : List Node) where
+module _ (shared : ℕ) (received : List ℕ) (nodes : List Node) where
   -- a node that goes on silently, and counts nothing
-  one_silent : (f g : Frame) → graph_code received nodes f ≡ Continues 0 g → Silently (graph_code received nodes) 1 f g 0
+  one_silent : (f g : Frame) → graph_code shared received nodes f ≡ Continues 0 g → Silently (graph_code shared received nodes) 1 f g 0
   one_silent f g is = (g, 0, 0, is, (refl, refl), refl)
 
   -- a plain assignment
-  plain_step : (f : Frame) (x : ℕ) (rhs : Rhs) (next : ℕ) → slice_get nodes f.place ≡ Some (Assign x rhs next) → (a : Operand) × (rhs ≡ Plain a) → graph_code received nodes f ≡ Continues 0 (gone_on next (with_value x (rhs_value f.values rhs) f.values) f)
+  plain_step : (f : Frame) (x : ℕ) (rhs : Rhs) (next : ℕ) → slice_get nodes f.place ≡ Some (Assign x rhs next) → (a : Operand) × (rhs ≡ Plain a) → graph_code shared received nodes f ≡ Continues 0 (gone_on next (with_value x (rhs_value f.values rhs) f.values) f)
   plain_step f x rhs next here p =
-      ap (λ o. node_transition received o f) here ∙ ap (λ r. assign_transition x r next f) p.1
+      ap (λ o. node_transition shared received o f) here ∙ ap (λ r. assign_transition x r next f) p.1
       ∙ ap (λ r. Continues 0 (gone_on next (with_value x (rhs_value f.values r) f.values) f)) (sym p.1)
 
   -- Skips one after the other
-  pub skips_silently : (k n m : ℕ) (f : Frame) → f.place ≡ n → Skips nodes k n m → Silently (graph_code received nodes) k f (at m f) 0
+  pub skips_silently : (k n m : ℕ) (f : Frame) → f.place ≡ n → Skips nodes k n m → Silently (graph_code shared received nodes) k f (at m f) 0
   skips_silently zero n m f here s = (ap (λ p. at p f) (here ∙ s), refl)
   skips_silently (suc k) n m f here s =
-      let is : graph_code received nodes f ≡ Continues 0 (at s.0 f) = ap (λ o. node_transition received o f) (ap (slice_get nodes) here ∙ s.1) in
+      let is : graph_code shared received nodes f ≡ Continues 0 (at s.0 f) = ap (λ o. node_transition shared received o f) (ap (slice_get nodes) here ∙ s.1) in
       (at s.0 f, 0, 0, is, skips_silently k s.0 m (at s.0 f) refl s.2, refl)
 
   -- from a new node on
-  chain_silently : (fresh : ℕ) (puts : List Insertion) (end : ℕ) → ChainStands nodes fresh puts end → ArePlain puts → (f : Frame) → f.place ≡ entry_among end fresh puts → (k : ℕ) × Silently (graph_code received nodes) k f (gone_on end (values_after puts f.values) f) 0
+  chain_silently : (fresh : ℕ) (puts : List Insertion) (end : ℕ) → ChainStands nodes fresh puts end → ArePlain puts → (f : Frame) → f.place ≡ entry_among end fresh puts → (k : ℕ) × Silently (graph_code shared received nodes) k f (gone_on end (values_after puts f.values) f) 0
   chain_silently fresh [] end stands plain f here = (0, (ap (λ p. gone_on p f.values f) here, refl))
   chain_silently fresh (put ∷ puts) end stands plain f here =
       let next : ℕ = entry_among end (suc fresh) puts in
@@ -81,9 +81,9 @@ module _ (received : List ℕ) (nodes : List Node) where
       (suc rest.0, (there, 0, 0, plain_step f put.var put.rhs next (ap (slice_get nodes) here ∙ stands.0) plain.0, rest.1, refl))
 
   -- plain assignments lead silently to the end, with the values after them
-  pub stands_silently : (n fresh : ℕ) (puts : List Insertion) (end : ℕ) → StandsAt nodes n fresh puts end → ArePlain puts → (f : Frame) → f.place ≡ n → (k : ℕ) × (1 ≤ k) × Silently (graph_code received nodes) k f (gone_on end (values_after puts f.values) f) 0
+  pub stands_silently : (n fresh : ℕ) (puts : List Insertion) (end : ℕ) → StandsAt nodes n fresh puts end → ArePlain puts → (f : Frame) → f.place ≡ n → (k : ℕ) × (1 ≤ k) × Silently (graph_code shared received nodes) k f (gone_on end (values_after puts f.values) f) 0
   stands_silently n fresh [] end stands plain f here =
-      (1, omega arith, one_silent f (gone_on end f.values f) (ap (λ o. node_transition received o f) (ap (slice_get nodes) here ∙ stands)))
+      (1, omega arith, one_silent f (gone_on end f.values f) (ap (λ o. node_transition shared received o f) (ap (slice_get nodes) here ∙ stands)))
   stands_silently n fresh (put ∷ puts) end stands plain f here =
       let next : ℕ = entry_among end fresh puts in
       let there : Frame = gone_on next (with_value put.var (rhs_value f.values put.rhs) f.values) f in

@@ -28,10 +28,9 @@ module _ (Exact Between : PassRelation) (one : (u : ℕ) (graph a b : GraphShape
       layout_is_one p.back.swept a b p.back.is_laid (subst (λ g. IsLayout g b) (sym swept) q.is_laid)
 
   -- so is a program
-  pub program_one : (source target other : ProgramShape) → AllPassed Exact Between source.units target.units → IsPassedProgram Exact source other → target ≡ other
-  program_one source target other p q = ap program_of (places_same target.units other.units (p.long ∙ sym q.long) (λ u a b at at'.
+  pub program_one : (source target other : ProgramShape) → target.globals ≡ source.globals → AllPassed Exact Between source.units target.units → IsPassedProgram Exact source other → target ≡ other
+  program_one source target other globals p q =
+      let same : target.units ≡ other.units = places_same target.units other.units (p.long ∙ sym q.long) (λ u a b at at'.
       let at_source = some_at source.units u (omega (arith, slice_get_within target.units u a at, p.long)) in
-      unit_one at_source.0 u a b (p.units u at_source.0 a at_source.1 at) (q.units u at_source.0 b at_source.1 at')))
-    where
-      program_of : List UnitShape → ProgramShape
-      program_of units = record { units = units }
+      unit_one at_source.0 u a b (p.units u at_source.0 a at_source.1 at) (q.units u at_source.0 b at_source.1 at')) in
+      ap (λ us. record target { units = us }) same ∙ ap (λ gs. record other { globals = gs }) (globals ∙ sym q.globals)

@@ -1,9 +1,9 @@
--- Programs of whose units each is lowered, cleaned, put through one pass, cleaned and laid out, where the pass may add or
--- take calls. Cited by contracts.
-use Rattle.std.specs.Prelude.{◌≡◌, ℕ, List, length, slice_get, Some}
+-- Programs of whose units each is lowered, cleaned, put through one pass, cleaned and laid out, where the pass may add
+-- or take calls. Cited by contracts.
+use Rattle.std.specs.Prelude.{◌≡◌, ℕ, List, length, take, slice_get, Some}
 use Rattle.mir_base.specs.Runs.{Cheaper, Same}
 use Rattle.mir_base.specs.Shapes.{ProgramShape, UnitShape}
-use Rattle.flow_graph.specs.Graphs.{AllWithin, CanMake, GraphShape}
+use Rattle.flow_graph.specs.Graphs.{AllWithin, CanMake, GraphShape, SharesVars}
 use Rattle.flow_graph.specs.Keeps.{AsGraph, AsUnit, Keeps}
 use Rattle.flow_graph.specs.Layouts.{IsLayout}
 use Rattle.flow_graph.specs.Lowered.{CanLower, IsLowered}
@@ -34,10 +34,12 @@ IsOnly Is target = (other : ProgramShape) → Is other → target ≡ other
 
 -- each unit of the source gives the unit of its number
 abbrev pub EachUnit : (UnitShape → ℕ → UnitShape → Type 0) → List UnitShape → List UnitShape → Type 0
-EachUnit Gives sources targets = (u : ℕ) (source target : UnitShape) → slice_get sources u ≡ Some source → slice_get targets u ≡ Some target → Gives source u target
+EachUnit Gives sources targets = (u : ℕ) (source target : UnitShape) → slice_get sources u ≡ Some source
+    → slice_get targets u ≡ Some target → Gives source u target
 
--- the program of the units of this one through the pass
+-- the program of the units of this one through the pass, with its globals
 pub record IsPassedProgram (Exact : PassRelation) (source target : ProgramShape) : Type 0 where
+  pub globals : target.globals ≡ source.globals
   pub long : length target.units ≡ length source.units
   pub units : EachUnit (IsPassedUnit Exact) source.units target.units
 
@@ -49,13 +51,15 @@ pub record KeepsRuns (first second : ProgramShape) : Type 0 where
 
 -- ---- what is kept, graph by graph
 
--- The result of a pass has the name of the graph. In between is a graph of the nodes that the pass wrote, reached or not:
--- the result does the same as this, evaluates no more operators, and makes no other calls; and it makes none but those of
--- the graph
+-- The result of a pass has the name and the globals of the graph. In between is a graph of the nodes that the pass
+-- wrote, reached or not: the result does the same as this, evaluates no more operators, and makes no other calls; and
+-- it makes none but those of the graph
 pub record PassKeeps (Between : GraphShape → GraphShape → Type 0) (graph passed : GraphShape) : Type 0 where
   pub name : passed.name ≡ graph.name
+  pub globals : take passed.shared passed.vars ≡ take graph.shared graph.vars
   pub middle : GraphShape
   pub between : Between graph middle
+  pub shared : middle.shared ≡ graph.shared
   pub received : middle.received ≡ graph.received
   pub same : GraphSame middle passed
   pub cheaper : GraphCheaper middle passed
@@ -71,6 +75,7 @@ pub record LoweredClean (unit : UnitShape) (lowered cleaned : GraphShape) : Type
   pub is_cleaned : IsClean lowered cleaned
   pub keeps : Keeps (AsUnit unit) (AsGraph cleaned)
   pub can : CanMake cleaned.vars cleaned.received cleaned.nodes
+  pub shares : SharesVars cleaned.shared cleaned.vars cleaned.received
 
 -- a graph cleaned and laid out
 pub record CleanedLaid (graph : GraphShape) (target : UnitShape) : Type 0 where
@@ -79,7 +84,7 @@ pub record CleanedLaid (graph : GraphShape) (target : UnitShape) : Type 0 where
   pub is_swept : IsClean graph swept
   pub is_laid : IsLayout swept target
   pub keeps : Keeps (AsGraph graph) (AsUnit target)
-  pub lowers : CanLower target.body
+  pub lowers : CanLower target.shared target.body
 
 -- the unit through the pass, and what it keeps
 pub record UnitPassed (Exact Between : PassRelation) (unit : UnitShape) (number : ℕ) (target : UnitShape) : Type 0 where
@@ -93,7 +98,8 @@ pub record UnitPassed (Exact Between : PassRelation) (unit : UnitShape) (number 
 
 -- of the unit of this number
 abbrev pub PassedAt : PassRelation → PassRelation → List UnitShape → ℕ → UnitShape → Type 0
-PassedAt Exact Between sources number target = (source : UnitShape) → slice_get sources number ≡ Some source → UnitPassed Exact Between source number target
+PassedAt Exact Between sources number target = (source : UnitShape) → slice_get sources number ≡ Some source
+    → UnitPassed Exact Between source number target
 
 -- of each unit of a program
 pub record AllPassed (Exact Between : PassRelation) (sources targets : List UnitShape) : Type 0 where

@@ -1,6 +1,6 @@
 -- Laws: what is pushed of a list of assignments, and what is still to come, are all of it. For proofs only.
 use Rattle.std.proofs.Common.{◌≡◌, List, [], ◌∷◌, ◌++◌, append_assoc, append-nil, refl, sym, ap, ◌∙◌}
-use Rattle.flow_graph.specs.Insertions.{Insertion}
+use Rattle.graph_edit.specs.Insertions.{Insertion}
 use Rattle.program_pass.specs.declared.standing.Put.{Put}
 use Rattle.program_pass.specs.Puts.{insertions}
 

@@ -1,6 +1,6 @@
 -- Lists of new assignments in code, as lists of insertions. Cited by contracts.
 use Rattle.std.specs.Prelude.{List, map}
-use Rattle.flow_graph.specs.Insertions.{Insertion}
+use Rattle.graph_edit.specs.Insertions.{Insertion}
 use Rattle.program_pass.specs.declared.standing.Put.{Put}
 
 -- the insertions

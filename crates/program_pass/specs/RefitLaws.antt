@@ -1,10 +1,10 @@
--- Law: units that take the places of those of a program, with their names, with as many receives and with no other calls,
--- fit together as a program. For proofs only.
-use Rattle.std.proofs.Common.{◌≡◌, ℕ, zero, suc, ◌<◌, List, [], ◌∷◌, length, slice_get, Some, option_map, refl, sym, ap, ◌∙◌, subst, arith}
+-- Law: units that take the places of those of a program, with their names and globals, with as many receives and with
+-- no other calls, fit together as a program. For proofs only.
+use Rattle.std.proofs.Common.{◌≡◌, ℕ, zero, suc, ◌<◌, ◌≤◌, List, [], ◌∷◌, length, take, slice_get, Some, option_map, refl, sym, ap, ◌∙◌, subst, arith}
 use Rattle.std.proofs.lemmas.Option.{slice_get_within}
 use Rattle.mir_base.specs.declared.instructions.Inst.{Inst}
-use Rattle.mir_base.specs.declared.instructions.Inst.TheVariants.{Receive, Assign, Goto, If, Call, Print, Return}
-use Rattle.mir_base.specs.Shapes.{AllDiffer, BodyFits, InstFits, IsProgram, UnitShape, body_at, body_or_empty, names_of, receives_in}
+use Rattle.mir_base.specs.declared.instructions.Inst.TheVariants.{Receive, Assign, Goto, If, TrapIf, Call, Print, Return}
+use Rattle.mir_base.specs.Shapes.{AllDiffer, BodyFits, InstFits, IsProgram, SharesGlobals, UnitShape, body_at, body_or_empty, names_of, receives_in}
 use Rattle.flow_graph.specs.Calls.{BodyCalls, CallsAmong, inst_call}
 use Rattle.flow_graph.specs.ListLaws.{some_at}
 use Rattle.flow_graph.specs.Lowered.{CanLower, target_of}
@@ -12,9 +12,11 @@ use Rattle.flow_graph.specs.Lowered.{CanLower, target_of}
 -- the second unit may take the place of the first
 pub record Refits (source target : UnitShape) : Type 0 where
   pub name : target.name ≡ source.name
+  pub shared : target.shared ≡ source.shared
+  pub globals : take target.shared target.vars ≡ take source.shared source.vars
   pub receives : receives_in target.body ≡ receives_in source.body
   pub calls : CallsAmong (BodyCalls target.body) (BodyCalls source.body)
-  pub lowers : CanLower target.body
+  pub lowers : CanLower target.shared target.body
 
 -- a call of a body that fits
 pub called_fits : (units : List UnitShape) (body : List Inst) (called count : ℕ) → BodyFits units body → BodyCalls body called count → (called < length units) × (count ≡ receives_in (body_at units called))
@@ -25,6 +27,7 @@ called_fits units body called count fits c = go c.inst (fits.insts c.place c.ins
     go (Assign x rhs) f is = cc
     go (Goto to) f is = cc
     go (If test to) f is = cc
+    go (TrapIf test number) f is = cc
     go (Call into unit operands) f is =
         let both : ◌≡◌ {A = ℕ × ℕ} (unit, length operands) (called, count) = cc in
         let one : unit ≡ called = ap (λ (p : ℕ × ℕ). p.0) both in
@@ -75,8 +78,8 @@ module _ (sources targets : List UnitShape) (long : length targets ≡ length so
   within n lt = omega (arith, lt, names_long targets, long)
 
   -- their names differ
-  names_differ : IsProgram sources → AllDiffer (names_of targets)
-  names_differ program i j lt lt' same =
+  names_differ : (globals : List (List ℕ)) → IsProgram globals sources → AllDiffer (names_of targets)
+  names_differ globals program i j lt lt' same =
       let a = within i lt in
       let b = within j lt' in
       program.names i j (omega (arith, a, names_long sources)) (omega (arith, b, names_long sources)) (sym (same_name i a) ∙ same ∙ same_name j b)
@@ -86,6 +89,7 @@ module _ (sources targets : List UnitShape) (long : length targets ≡ length so
   inst_fits n m place (Assign x rhs) here fits = tt
   inst_fits n m place (Goto to) here fits = m.refits.lowers.targets place to (ap target_of here)
   inst_fits n m place (If test to) here fits = m.refits.lowers.targets place to (ap target_of here)
+  inst_fits n m place (TrapIf test number) here fits = tt
   inst_fits n m place (Call into called operands) here fits =
       let source = called_fits sources m.source.body called (length operands) fits (m.refits.calls called (length operands) (record { place = place; inst = Call into called operands; here = here; calls = refl })) in
       (omega (arith, source.0, long), source.1 ∙ same_receives called source.0)
@@ -93,8 +97,8 @@ module _ (sources targets : List UnitShape) (long : length targets ≡ length so
   inst_fits n m place (Return a) here fits = tt
 
   -- their bodies fit
-  bodies_fit : IsProgram sources → (n : ℕ) (unit : UnitShape) → slice_get targets n ≡ Some unit → BodyFits targets unit.body
-  bodies_fit program n unit at =
+  bodies_fit : (globals : List (List ℕ)) → IsProgram globals sources → (n : ℕ) (unit : UnitShape) → slice_get targets n ≡ Some unit → BodyFits targets unit.body
+  bodies_fit globals program n unit at =
       let lt : n < length sources = omega (arith, slice_get_within targets n unit at, long) in
       let m = refit_at n lt in
       let one : Some unit ≡ Some m.target = sym at ∙ m.target_at in
@@ -104,10 +108,26 @@ module _ (sources targets : List UnitShape) (long : length targets ≡ length so
         received = m.refits.lowers.received;
       })
 
+  -- they have the globals
+  globals_shared : (globals : List (List ℕ)) → IsProgram globals sources → (n : ℕ) (unit : UnitShape) → slice_get targets n ≡ Some unit → SharesGlobals globals unit
+  globals_shared globals program n unit at =
+      let lt : n < length sources = omega (arith, slice_get_within targets n unit at, long) in
+      let m = refit_at n lt in
+      let one : Some unit ≡ Some m.target = sym at ∙ m.target_at in
+      let same : m.target ≡ unit = cc in
+      let source = program.shares n m.source m.source_at in
+      let count : m.target.shared ≡ length globals = m.refits.shared ∙ source.count in
+      subst (SharesGlobals globals) same (record {
+        count = count;
+        begin = ap (λ k. take k m.target.vars) (sym count) ∙ m.refits.globals ∙ ap (λ k. take k m.source.vars) source.count ∙ source.begin;
+        own = λ place x here. subst (λ k. k ≤ x) count (m.refits.lowers.own place x here);
+      })
+
   -- so they are a program
-  pub refit_program : IsProgram sources → IsProgram targets
-  refit_program program = record {
+  pub refit_program : (globals : List (List ℕ)) → IsProgram globals sources → IsProgram globals targets
+  refit_program globals program = record {
     some_unit = omega (arith, program.some_unit, long);
-    names = names_differ program;
-    bodies = bodies_fit program;
+    names = names_differ globals program;
+    bodies = bodies_fit globals program;
+    shares = globals_shared globals program;
   }

@@ -1,21 +1,21 @@
 -- Laws: a graph can be made of nodes with assignments in the place of one and with further variables, and they make no
 -- calls but those of the nodes. For proofs only.
-use Rattle.std.proofs.Common.{◌≡◌, ◌⊎◌, inl, inr, ℕ, zero, suc, ◌+◌, ◌<◌, ◌≤◌, List, [], ◌∷◌, ◌++◌, length, length-append, slice_get, slice_set, Option, Some, None, refl, sym, ap, ◌∙◌, subst, arith}
+use Rattle.std.proofs.Common.{◌≡◌, ◌⊎◌, inl, inr, ℕ, zero, suc, ◌+◌, ◌<◌, ◌≤◌, List, [], ◌∷◌, ◌++◌, length, take, length-append, slice_get, slice_set, Option, Some, None, refl, sym, ap, ◌∙◌, subst, arith}
 use Rattle.std.proofs.lemmas.Bool.{cases_eq}
-use Rattle.std.proofs.lemmas.List.{length-set}
+use Rattle.std.proofs.lemmas.List.{length-set, take-append-le}
 use Rattle.mir_base.specs.BelowLaws.{all_below_more}
 use Rattle.mir_base.specs.Shapes.{AllBelow, AllDiffer, rhs_vars}
 use Rattle.flow_graph.specs.declared.nodes.Node.{Node}
 use Rattle.flow_graph.specs.declared.nodes.Node.TheVariants.{Start, Skip, Assign}
 use Rattle.flow_graph.specs.Calls.{NodesCall, node_call}
-use Rattle.flow_graph.specs.Graphs.{CanMake, node_succs, node_vars, succs_of}
-use Rattle.flow_graph.specs.Insertions.{Insertion, InsertionsBelow, chain, entry_among}
+use Rattle.flow_graph.specs.Graphs.{CanMake, GraphShape, node_succs, node_vars, succs_of}
+use Rattle.graph_edit.specs.Insertions.{Insertion, InsertionsBelow, chain, entry_among}
 use Rattle.flow_graph.specs.ListLaws.{get_append, set_elsewhere, set_here}
 use Rattle.program_pass.specs.ChainLaws.{chain_long, stood_kept, stood_long}
 use Rattle.program_pass.specs.Chains.{stood}
 
--- a node that is new: the first of the assignments, a later one, or the Skip where there are none. It leads to the end or
--- to a new node
+-- a node that is new: the first of the assignments, a later one, or the Skip where there are none. It leads to the end
+-- or to a new node
 pub record IsNew (vars : ℕ) (first last end : ℕ) (node : Node) : Type 0 where
   pub succs : (slot s : ℕ) → slice_get (node_succs node) slot ≡ Some s → (s ≡ end) ⊎ ((first ≤ s) × (s < last))
   pub below : AllBelow vars (node_vars node)
@@ -140,3 +140,7 @@ wide_can vars names received nodes can differ =
       received_differ = can.received_differ;
       names = differ;
     }
+
+-- with further variables after its own a graph has its globals
+pub globals_stay : (shared : ℕ) (vars names : List (List ℕ)) (made : GraphShape) → shared ≤ length vars → made.shared ≡ shared → made.vars ≡ vars ++ names → take made.shared made.vars ≡ take shared vars
+globals_stay shared vars names made least shared_is vars_are = ap (λ k. take k made.vars) shared_is ∙ ap (take shared) vars_are ∙ take-append-le shared vars names least

@@ -1,7 +1,7 @@
 // Assignments in the place of a node.
 ghost use Rattle.std.specs.Prelude.{◌≡◌, ◌++◌, ◌+◌, ◌<◌, length, OnOk};
 ghost use Rattle.mir_base.specs.declared.instructions.Rhs.TheVariants.{Plain};
-ghost use Rattle.flow_graph.specs.Insertions.{chain, entry_among};
+ghost use Rattle.graph_edit.specs.Insertions.{chain, entry_among};
 ghost use Rattle.program_pass.specs.Chains.{stood};
 ghost use Rattle.program_pass.specs.Puts.{insertions};
 
@@ -27,8 +27,9 @@ pub fn plain_put(var: usize, operand: Operand) -> Put
     }
 }
 
-/// Lets the assignments stand in the place of node `n`: it becomes the first of them, the others are new nodes in order,
-/// and the last leads to node `end`. Where there are none, it becomes a Skip to `end`. It fails only with `Memory`.
+/// Lets the assignments stand in the place of node `n`: it becomes the first of them, the others are new nodes in
+/// order, and the last leads to node `end`. Where there are none, it becomes a Skip to `end`. It fails only with
+/// `Memory`.
 pub fn stand(nodes: &mut Vec<Node>, n: usize, puts: &[Put], end: usize) -> Result<(), Memory>
     requires { n < length nodes.old.items }
     ensures { OnOk result (nodes.new.items ≡ stood nodes.old.items n (insertions puts.now) end) }

@@ -1,13 +1,14 @@
 -- The self tail calls among the first nodes, and how one node is told to be one.
-use Rattle.std.proofs.Common.{◌≡◌, inl, inr, ℕ, zero, suc, ◌<◌, ◌≤◌, ◌↔◌, Bool, true, false, if◌then◌else◌, nat_eq, List, length, slice_get, Option, Some, None, refl, sym, ap, ◌∙◌, subst, arith}
-use Rattle.std.proofs.lemmas.Bool.{eq-eqb, eqb-true}
+use Rattle.std.proofs.Common.{◌≡◌, ◌⊎◌, inl, inr, ℕ, zero, suc, ◌+◌, ◌<◌, ◌≤◌, ◌↔◌, Bool, true, false, if◌then◌else◌, nat_eq, nat_lt, List, [], ◌∷◌, ◌++◌, length, slice_get, Option, Some, None, refl, sym, ap, ◌∙◌, subst, arith}
+use Rattle.std.proofs.lemmas.Bool.{eq-eqb, eqb-true, le-ltb, ltb-false}
 use Rattle.std.proofs.lemmas.Option.{slice_get_within}
 use Rattle.mir_base.specs.declared.instructions.Operand.{Operand}
 use Rattle.mir_base.specs.declared.instructions.Operand.TheVariants.{Var, Const}
 use Rattle.flow_graph.specs.declared.nodes.Node.{Node}
-use Rattle.flow_graph.specs.declared.nodes.Node.TheVariants.{Start, Skip, Assign, Print, Call, Test, Return}
+use Rattle.flow_graph.specs.declared.nodes.Node.TheVariants.{Start, Skip, Assign, Print, Guard, Call, Test, Return}
 use Rattle.flow_graph.specs.Graphs.{AllWithin, succs_of}
-use Rattle.flow_graph.specs.ListLaws.{some_at}
+use Rattle.flow_graph.specs.ListLaws.{get_push, some_at}
+use Rattle.flow_graph.specs.Numbering.{IsIn}
 use Rattle.jump_clean.specs.Chains.{IsEnd, Skips, SkipsTo}
 use Rattle.jump_clean.specs.ChainLaws.{one_leads_on}
 use Rattle.tail_loop.specs.declared.calls.Answered.{Answered}
@@ -16,8 +17,8 @@ use Rattle.tail_loop.specs.Tails.{AreTailCalls, HasTailCall, ReturnsNext}
 use Rattle.program_pass.specs.MemberLaws.{AreFoundBelow}
 
 -- all of them
-pub found_all : (nodes : List Node) (unit n : ℕ) (calls : List ℕ) → AreFoundBelow (HasTailCall nodes unit) n calls → length nodes ≤ n → AreTailCalls nodes unit calls
-found_all nodes unit n calls f late = record {
+pub found_all : (shared : ℕ) (nodes : List Node) (unit n : ℕ) (calls : List ℕ) → AreFoundBelow (HasTailCall shared nodes unit) n calls → length nodes ≤ n → AreTailCalls shared nodes unit calls
+found_all shared nodes unit n calls f late = record {
   ordered = f.ordered;
   are = λ m there. (f.are m there).1;
   all = λ m has. let within = slice_get_within nodes m (Call (Some has.1.into) unit has.0 has.1.next) has.1.is in f.all m (omega (arith, within, late)) has;
@@ -25,49 +26,57 @@ found_all nodes unit n calls f late = record {
 
 -- ---- one node
 
--- a call of the unit whose answer goes to a variable
-answered_is : (unit : ℕ) (node : Node) (a : Answered) → answered_call unit node ≡ Some a → (operands : List Operand) × (node ≡ Call (Some a.into) unit operands a.next)
-answered_is unit (Start next) a e = cc
-answered_is unit (Skip next) a e = cc
-answered_is unit (Assign x rhs next) a e = cc
-answered_is unit (Print b next) a e = cc
-answered_is unit (Call None called operands next) a e = cc
-answered_is unit (Call (Some x) called operands next) a e = go (nat_eq called unit) refl e
+-- a call of the unit whose answer goes to a variable that is no global
+answered_is : (shared unit : ℕ) (node : Node) (a : Answered) → answered_call shared unit node ≡ Some a → (operands : List Operand) × (node ≡ Call (Some a.into) unit operands a.next) × (shared ≤ a.into)
+answered_is shared unit (Start next) a e = cc
+answered_is shared unit (Skip next) a e = cc
+answered_is shared unit (Assign x rhs next) a e = cc
+answered_is shared unit (Print b next) a e = cc
+answered_is shared unit (Guard test number next) a e = cc
+answered_is shared unit (Call None called operands next) a e = cc
+answered_is shared unit (Call (Some x) called operands next) a e = go (nat_eq called unit) refl (nat_lt x shared) refl e
   where
-    go : (t : Bool) → nat_eq called unit ≡ t → (if t then Some (record { into = x; next = next }) else None) ≡ Some a → (others : List Operand) × (Call (Some x) called operands next ≡ Call (Some a.into) unit others a.next)
-    go true is f =
+    go : (t : Bool) → nat_eq called unit ≡ t → (g : Bool) → nat_lt x shared ≡ g → (if t then (if g then None else Some (record { into = x; next = next })) else None) ≡ Some a
+        → (others : List Operand) × (Call (Some x) called operands next ≡ Call (Some a.into) unit others a.next) × (shared ≤ a.into)
+    go true is true low f = cc
+    go true is false low f =
         let same : called ≡ unit = eqb-true called unit is in
-        let all : record { into = x; next = next } ≡ a = cc in
-        (operands, ap (λ u. Call (Some x) u operands next) same ∙ ap (λ (b : Answered). Call (Some b.into) unit operands b.next) all)
-    go false is f = cc
-answered_is unit (Test test taken other) a e = cc
-answered_is unit (Return b) a e = cc
+        let all : record { into = x; next = next } ≡ a = cc in (
+          operands,
+          ap (λ u. Call (Some x) u operands next) same ∙ ap (λ (b : Answered). Call (Some b.into) unit operands b.next) all,
+          subst (λ (b : Answered). shared ≤ b.into) all (ltb-false x shared low),
+        )
+    go false is g low f = cc
+answered_is shared unit (Test test taken other) a e = cc
+answered_is shared unit (Return b) a e = cc
 
 -- each such call is told
-is_answered : (unit x next : ℕ) (operands : List Operand) → answered_call unit (Call (Some x) unit operands next) ≡ Some (record { into = x; next = next })
-is_answered unit x next operands = ap (λ t. if t then Some (record { into = x; next = next }) else None) (eq-eqb unit unit refl)
+is_answered : (shared unit x next : ℕ) (operands : List Operand) → shared ≤ x → answered_call shared unit (Call (Some x) unit operands next) ≡ Some (record { into = x; next = next })
+is_answered shared unit x next operands own =
+    ap (λ t. if t then (if nat_lt x shared then None else Some (record { into = x; next = next })) else None) (eq-eqb unit unit refl)
+    ∙ ap (λ g. if g then None else Some (record { into = x; next = next })) (le-ltb x shared own)
 
 -- nothing is something
 none_is_some : (a : Answered) → None ≡ Some a → ⊥
 none_is_some a e = cc
 
 -- where it is none of these, it is no self tail call
-pub no_tail_call : (nodes : List Node) (unit n : ℕ) (node : Node) → slice_get nodes n ≡ Some node → answered_call unit node ≡ None → HasTailCall nodes unit n → ⊥
-no_tail_call nodes unit n node here none has =
+pub no_tail_call : (shared : ℕ) (nodes : List Node) (unit n : ℕ) (node : Node) → slice_get nodes n ≡ Some node → answered_call shared unit node ≡ None → HasTailCall shared nodes unit n → ⊥
+no_tail_call shared nodes unit n node here none has =
     let both : Some node ≡ Some (Call (Some has.1.into) unit has.0 has.1.next) = sym here ∙ has.1.is in
     let same : node ≡ Call (Some has.1.into) unit has.0 has.1.next = cc in
-    let e : None ≡ Some (record { into = has.1.into; next = has.1.next }) = sym none ∙ ap (answered_call unit) same ∙ is_answered unit has.1.into has.1.next has.0 in
+    let e : None ≡ Some (record { into = has.1.into; next = has.1.next }) = sym none ∙ ap (answered_call shared unit) same ∙ is_answered shared unit has.1.into has.1.next has.0 has.1.own in
     none_is_some (record { into = has.1.into; next = has.1.next }) e
 
 -- where it is, it is one exactly if its answer is returned next
-pub tail_call_where : (nodes : List Node) (unit n : ℕ) (node : Node) (a : Answered) → slice_get nodes n ≡ Some node → answered_call unit node ≡ Some a → ReturnsNext nodes a.next a.into ↔ HasTailCall nodes unit n
-tail_call_where nodes unit n node a here answered =
-    let is = answered_is unit node a answered in (
-      λ returned. (is.0, record { into = a.into; next = a.next; is = here ∙ ap Some is.1; returned = returned }),
+pub tail_call_where : (shared : ℕ) (nodes : List Node) (unit n : ℕ) (node : Node) (a : Answered) → slice_get nodes n ≡ Some node → answered_call shared unit node ≡ Some a → ReturnsNext nodes a.next a.into ↔ HasTailCall shared nodes unit n
+tail_call_where shared nodes unit n node a here answered =
+    let is = answered_is shared unit node a answered in (
+      λ returned. (is.0, record { into = a.into; next = a.next; is = here ∙ ap Some is.1; own = is.2; returned = returned }),
       λ has.
           let both : Some (Call (Some a.into) unit is.0 a.next) ≡ Some (Call (Some has.1.into) unit has.0 has.1.next) = ap Some (sym is.1) ∙ sym here ∙ has.1.is in
-          let same : answered_call unit (Call (Some a.into) unit is.0 a.next) ≡ answered_call unit (Call (Some has.1.into) unit has.0 has.1.next) = let one : Call (Some a.into) unit is.0 a.next ≡ Call (Some has.1.into) unit has.0 has.1.next = cc in ap (answered_call unit) one in
-          let pairs : Some (record { into = a.into; next = a.next }) ≡ Some (record { into = has.1.into; next = has.1.next }) = sym (is_answered unit a.into a.next is.0) ∙ same ∙ is_answered unit has.1.into has.1.next has.0 in
+          let same : answered_call shared unit (Call (Some a.into) unit is.0 a.next) ≡ answered_call shared unit (Call (Some has.1.into) unit has.0 has.1.next) = let one : Call (Some a.into) unit is.0 a.next ≡ Call (Some has.1.into) unit has.0 has.1.next = cc in ap (answered_call shared unit) one in
+          let pairs : Some (record { into = a.into; next = a.next }) ≡ Some (record { into = has.1.into; next = has.1.next }) = sym (is_answered shared unit a.into a.next is.0 is.2) ∙ same ∙ is_answered shared unit has.1.into has.1.next has.0 has.1.own in
           let all : a ≡ record { into = has.1.into; next = has.1.next } = cc in
           subst (λ (b : Answered). ReturnsNext nodes b.next b.into) (sym all) has.1.returned,
     )
@@ -91,6 +100,7 @@ returned_is (Start next) x e = cc
 returned_is (Skip next) x e = cc
 returned_is (Assign y rhs next) x e = cc
 returned_is (Print b next) x e = cc
+returned_is (Guard test number next) x e = cc
 returned_is (Call into called operands next) x e = cc
 returned_is (Test test taken other) x e = cc
 returned_is (Return (Var y)) x e = let same : y ≡ x = cc in ap (λ z. Return (Var z)) same
@@ -125,16 +135,16 @@ returns_told nodes n e x found lt is told =
     returns_where nodes n e x node.0 found is node.1 (sym (told ∙ ap returned_at node.1))
 
 -- that of `is_tail_call`
-pub none_told : (nodes : List Node) (unit n : ℕ) → n < length nodes → None ≡ answered_at unit (slice_get nodes n) → HasTailCall nodes unit n → ⊥
-none_told nodes unit n lt told = let node = some_at nodes n lt in no_tail_call nodes unit n node.0 node.1 (sym (told ∙ ap (answered_at unit) node.1))
+pub none_told : (shared : ℕ) (nodes : List Node) (unit n : ℕ) → n < length nodes → None ≡ answered_at shared unit (slice_get nodes n) → HasTailCall shared nodes unit n → ⊥
+none_told shared nodes unit n lt told = let node = some_at nodes n lt in no_tail_call shared nodes unit n node.0 node.1 (sym (told ∙ ap (answered_at shared unit) node.1))
 
 -- and where it is a call of the unit
-pub call_told : (nodes : List Node) (unit n : ℕ) (a : Answered) → n < length nodes → Some a ≡ answered_at unit (slice_get nodes n) → ReturnsNext nodes a.next a.into ↔ HasTailCall nodes unit n
-call_told nodes unit n a lt told = let node = some_at nodes n lt in tail_call_where nodes unit n node.0 a node.1 (sym (told ∙ ap (answered_at unit) node.1))
+pub call_told : (shared : ℕ) (nodes : List Node) (unit n : ℕ) (a : Answered) → n < length nodes → Some a ≡ answered_at shared unit (slice_get nodes n) → ReturnsNext nodes a.next a.into ↔ HasTailCall shared nodes unit n
+call_told shared nodes unit n a lt told = let node = some_at nodes n lt in tail_call_where shared nodes unit n node.0 a node.1 (sym (told ∙ ap (answered_at shared unit) node.1))
 
 -- its successor is a node
-pub call_next : (nodes : List Node) (unit n : ℕ) (a : Answered) → AllWithin nodes → n < length nodes → Some a ≡ answered_at unit (slice_get nodes n) → a.next < length nodes
-call_next nodes unit n a within lt told =
+pub call_next : (shared : ℕ) (nodes : List Node) (unit n : ℕ) (a : Answered) → AllWithin nodes → n < length nodes → Some a ≡ answered_at shared unit (slice_get nodes n) → a.next < length nodes
+call_next shared nodes unit n a within lt told =
     let node = some_at nodes n lt in
-    let is = answered_is unit node.0 a (sym (told ∙ ap (answered_at unit) node.1)) in
+    let is = answered_is shared unit node.0 a (sym (told ∙ ap (answered_at shared unit) node.1)) in
     within n 0 a.next (ap (λ o. slice_get (succs_of o) 0) (node.1 ∙ ap Some is.1))

@@ -1,12 +1,16 @@
 -- What is pushed, and what is still to come, are all of a list.
-use Rattle.std.proofs.Common.{◌≡◌, ℕ, suc, ◌+◌, ◌-◌, ◌<◌, true, false, if◌then◌else◌, List, ◌∷◌, drop, pos, slice_get, Some, sym, ap, ◌∙◌, arith}
+use Rattle.std.proofs.Common.{◌≡◌, ℕ, suc, ◌+◌, ◌-◌, ◌<◌, true, false, if◌then◌else◌, List, [], ◌∷◌, ◌++◌, append_assoc, append-nil, length, drop, pos, slice_get, Some, refl, sym, ap, ◌∙◌, arith}
+use Rattle.std.proofs.lemmas.List.{length_push}
 use Rattle.mir_base.specs.declared.instructions.Operand.{Operand}
 use Rattle.mir_base.specs.declared.instructions.Operand.TheVariants.{Var, Const}
 use Rattle.mir_base.specs.declared.instructions.Rhs.TheVariants.{Plain}
-use Rattle.flow_graph.specs.Insertions.{Insertion}
+use Rattle.flow_graph.specs.declared.nodes.Node.{Node}
+use Rattle.flow_graph.specs.declared.nodes.Node.TheVariants.{Assign}
+use Rattle.graph_edit.specs.Insertions.{Insertion, chain, entry_among}
 use Rattle.flow_graph.specs.ListLaws.{drop_at}
 use Rattle.flow_graph.specs.Numbering.{is_in}
 use Rattle.program_pass.specs.declared.standing.Put.{Put}
+use Rattle.program_pass.specs.Puts.{insertions}
 use Rattle.tail_loop.specs.Tails.{cleared, moved, saved}
 use Rattle.program_pass.specs.PutLaws.{insertion}
 

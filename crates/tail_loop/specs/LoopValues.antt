@@ -1,22 +1,26 @@
 -- The assignments of a self tail call give the variables the values that a new frame has after its receives.
-use Rattle.std.proofs.Common.{◌≡◌, ◌⊎◌, inl, inr, ℕ, zero, suc, ◌+◌, ◌<◌, ◌≤◌, true, false, List, [], ◌∷◌, ◌++◌, length, map, flat_map, ℤ, pos, slice_index_or, refl, sym, ap, ◌∙◌, arith}
-use Rattle.std.proofs.lemmas.Bool.{cases_Bool}
+use Rattle.std.proofs.Common.{◌≡◌, ◌⊎◌, inl, inr, ℕ, zero, suc, ◌+◌, ◌-◌, ◌<◌, ◌≤◌, Bool, true, false, ◌||◌, nat_eq, List, [], ◌∷◌, ◌++◌, length, map, flat_map, ℤ, pos, slice_index_or, refl, sym, ap, ◌∙◌, arith}
+use Rattle.std.proofs.lemmas.Bool.{cases_Bool, cases_lt, eq-eqb, eqb-true}
+use Rattle.std.proofs.lemmas.Int.{int_wrap_fits}
 use Rattle.mir_base.specs.declared.instructions.Operand.{Operand}
 use Rattle.mir_base.specs.declared.instructions.Operand.TheVariants.{Var, Const}
 use Rattle.mir_base.specs.declared.instructions.Rhs.TheVariants.{Plain}
 use Rattle.mir_base.specs.BelowLaws.{all_below_left, all_below_right}
 use Rattle.mir_base.specs.EqualValues.{equal_below, operand_equal, with_other, with_same}
-use Rattle.mir_base.specs.Frames.{Values, all_zero, with_value}
+use Rattle.mir_base.specs.Frames.{Values, all_zero, shared_values, with_first, with_value}
+use Rattle.mir_base.specs.NumberLaws.{zero_fits}
 use Rattle.mir_base.specs.Numbers.{wrapped}
 use Rattle.mir_base.specs.Shapes.{AllBelow, operand_vars}
+use Rattle.mir_base.specs.SharedLaws.{shared_long, with_first_other}
 use Rattle.mir_base.specs.Units.{operand_value}
-use Rattle.flow_graph.specs.InsertionRuns.{values_after}
-use Rattle.flow_graph.specs.Insertions.{Insertion}
+use Rattle.graph_edit.specs.InsertionRuns.{values_after}
+use Rattle.graph_edit.specs.Insertions.{Insertion}
 use Rattle.flow_graph.specs.Machines.{received_from}
 use Rattle.flow_graph.specs.Numbering.{is_in}
 use Rattle.program_pass.specs.ChainLaws.{ArePlain, plain_append, put_or_not, values_append}
 use Rattle.tail_loop.specs.Tails.{cleared, loop_assignments, moved, saved}
-use Rattle.program_pass.specs.EntryLaws.{received_out, wrapped_zero}
+use mir.Syntax.{w64}
+use Rattle.program_pass.specs.EntryLaws.{received_out, with_shared, wrapped_zero}
 use Rattle.program_pass.specs.MemberLaws.{above, apart_or_not, in_first, not_in}
 
 -- ---- the temporaries get the arguments
@@ -96,6 +100,14 @@ zeroed_zero : (y x : ℕ) (w : Values) → (x ≡ y → ⊥) ⊎ (x ≡ y) → (
 zeroed_zero y x w (inl apart) is = with_other y x (wrapped (pos 0)) w apart ∙ is apart
 zeroed_zero y x w (inr same) is = ap (zeroed y w) same ∙ with_same y (wrapped (pos 0)) w ∙ wrapped_zero
 
+-- a variable before the first of them stays
+cleared_low : (received : List ℕ) (count y x : ℕ) (w : Values) → x < y → values_after (cleared received y count) w x ≡ w x
+cleared_low received zero y x w lt = refl
+cleared_low received (suc count) y x w lt =
+    put_or_not (λ puts. values_after puts w x ≡ w x) (is_in y received) (zero_put y) (cleared received (suc y) count)
+    (λ is. cleared_low received count (suc y) x w (omega (arith, lt)))
+    (λ is. cleared_low received count (suc y) x (zeroed y w) (omega (arith, lt)) ∙ with_other y x (wrapped (pos 0)) w (λ same. omega (arith, same, lt)))
+
 -- what is 0 stays 0
 cleared_zero : (received : List ℕ) (count y x : ℕ) (w : Values) → w x ≡ pos 0 → values_after (cleared received y count) w x ≡ pos 0
 cleared_zero received zero y x w is = is
@@ -134,25 +146,34 @@ cleared_plain received (suc count) y =
     put_or_not ArePlain (is_in y received) (zero_put y) (cleared received (suc y) count) (λ is. cleared_plain received count (suc y)) (λ is. ((Const (pos 0), refl), cleared_plain received count (suc y)))
 
 -- all of them
-pub loop_plain : (vars : ℕ) (received : List ℕ) (operands : List Operand) → ArePlain (loop_assignments vars received operands)
-loop_plain vars received operands = plain_append (saved vars operands) (moved vars received ++ cleared received 0 vars) (saved_plain operands vars) (plain_append (moved vars received) (cleared received 0 vars) (moved_plain received vars) (cleared_plain received vars 0))
+pub loop_plain : (shared vars : ℕ) (received : List ℕ) (operands : List Operand) → ArePlain (loop_assignments shared vars received operands)
+loop_plain shared vars received operands =
+    plain_append (saved vars operands) (moved vars received ++ cleared received shared (vars - shared)) (saved_plain operands vars) (plain_append (moved vars received) (cleared received shared (vars - shared)) (moved_plain received vars) (cleared_plain received (vars - shared) shared))
 
--- the variables get the values of a frame that has received these arguments
-pub loop_values : (vars : ℕ) (received : List ℕ) (operands : List Operand) (v w : Values) → AllBelow vars received → AllBelow vars (flat_map operand_vars operands) → length operands ≡ length received → ((y : ℕ) → y < vars → v y ≡ w y)
-    → (x : ℕ) → x < vars → values_after (loop_assignments vars received operands) w x ≡ received_from 0 received (map (operand_value v) operands) all_zero x
-loop_values vars received operands v w received_below below long same x lt =
+-- the variables get the values of a frame that has received these arguments, with the globals as they are
+pub loop_values : (shared vars : ℕ) (received : List ℕ) (operands : List Operand) (v w : Values) → AllBelow vars received → AllBelow vars (flat_map operand_vars operands) → length operands ≡ length received → ((y : ℕ) → y < vars → v y ≡ w y)
+    → (x : ℕ) → x < vars → values_after (loop_assignments shared vars received operands) w x ≡ received_from 0 received (map (operand_value v) operands) (with_first (shared_values shared v) all_zero) x
+loop_values shared vars received operands v w received_below below long same x lt =
     let w1 : Values = values_after (saved vars operands) w in
     let w2 : Values = values_after (moved vars received) w1 in
+    let first : Values = with_first (shared_values shared v) all_zero in
     let arguments : List ℤ = map (operand_value v) operands in
-    let parts : values_after (loop_assignments vars received operands) w ≡ values_after (cleared received 0 vars) w2 =
-    values_append (saved vars operands) (moved vars received ++ cleared received 0 vars) w ∙ values_append (moved vars received) (cleared received 0 vars) w1 in
+    let rest : List Insertion = cleared received shared (vars - shared) in
+    let parts : values_after (loop_assignments shared vars received operands) w ≡ values_after rest w2 = values_append (saved vars operands) (moved vars received ++ rest) w ∙ values_append (moved vars received) rest w1 in
     ap (λ values. values x) parts ∙ elim (cases_Bool (is_in x received)) [
       | inl there ↦
-          cleared_in received vars 0 x w2 there
-          ∙ moved_in vars arguments received vars 0 x w1 all_zero received_below (omega arith)
+          cleared_in received (vars - shared) shared x w2 there
+          ∙ moved_in vars arguments received vars 0 x w1 first received_below (omega arith)
           (λ j lt'.
           let place : j ≡ 0 + j = omega arith in
           saved_new vars v operands vars w (omega arith) below same j (omega (arith, lt', long)) ∙ ap (λ k. slice_index_or arguments k (pos 0)) place)
           there
-      | inr out ↦ cleared_out received vars 0 x w2 out (omega arith) (omega (arith, lt)) ∙ sym (received_out received 0 arguments x all_zero out)
+      | inr out ↦ elim (cases_lt x shared) [
+        | inl global ↦
+            cleared_low received (vars - shared) shared x w2 global ∙ moved_out received vars x w1 out ∙ saved_old operands vars x w lt ∙ sym (same x lt)
+            ∙ sym (with_shared shared v all_zero x global) ∙ sym (received_out received 0 arguments x first out)
+        | inr own ↦
+            cleared_out received (vars - shared) shared x w2 out own (omega (arith, lt, own))
+            ∙ sym (with_first_other (shared_values shared v) all_zero x (let long' = shared_long shared v in omega (arith, long', own))) ∙ sym (received_out received 0 arguments x first out)
+      ]
     ]

@@ -1,19 +1,22 @@
 -- Laws: a graph can be made of the nodes with loops, and they make no calls but those of the graph. For proofs only.
-use Rattle.std.proofs.Common.{◌≡◌, ℕ, zero, suc, ◌+◌, ◌<◌, ◌≤◌, List, [], ◌∷◌, ◌++◌, length, flat_map, length-append, slice_get, pos, Some, refl, sym, ap, ◌∙◌, subst, arith}
+use Rattle.std.proofs.Common.{◌≡◌, ◌⊎◌, inl, inr, ℕ, zero, suc, ◌+◌, ◌-◌, ◌<◌, ◌≤◌, List, [], ◌∷◌, ◌++◌, length, flat_map, length-append, slice_get, slice_set, pos, Option, Some, None, refl, sym, ap, ◌∙◌, subst, arith}
+use Rattle.std.proofs.lemmas.Bool.{cases_eq}
+use Rattle.std.proofs.lemmas.List.{length-set}
 use Rattle.std.proofs.lemmas.Option.{slice_get_within}
 use Rattle.mir_base.specs.declared.instructions.Operand.{Operand}
 use Rattle.mir_base.specs.declared.instructions.Operand.TheVariants.{Const}
 use Rattle.mir_base.specs.declared.instructions.Rhs.TheVariants.{Plain}
 use Rattle.mir_base.specs.BelowLaws.{all_below_left, all_below_more, all_below_right}
-use Rattle.mir_base.specs.Shapes.{AllBelow, AllDiffer, into_vars, operand_vars}
+use Rattle.mir_base.specs.Shapes.{AllBelow, AllDiffer, into_vars, operand_vars, rhs_vars}
 use Rattle.flow_graph.specs.declared.nodes.Node.{Node}
-use Rattle.flow_graph.specs.declared.nodes.Node.TheVariants.{Start, Call}
-use Rattle.flow_graph.specs.Calls.{NodesCall}
-use Rattle.flow_graph.specs.Graphs.{CanMake, GraphShape, succs_of}
-use Rattle.flow_graph.specs.Insertions.{InsertionsBelow}
+use Rattle.flow_graph.specs.declared.nodes.Node.TheVariants.{Start, Skip, Assign, Call}
+use Rattle.flow_graph.specs.Calls.{NodesCall, node_call}
+use Rattle.flow_graph.specs.Graphs.{CanMake, GraphShape, node_succs, node_vars, succs_of}
+use Rattle.graph_edit.specs.Insertions.{Insertion, InsertionsBelow, chain, entry_among}
+use Rattle.flow_graph.specs.ListLaws.{get_append, set_elsewhere, set_here}
 use Rattle.flow_graph.specs.Numbering.{is_in}
 use Rattle.flow_graph.specs.Plans.{start_succ}
-use Rattle.program_pass.specs.ChainLaws.{put_or_not, stood_long}
+use Rattle.program_pass.specs.ChainLaws.{chain_long, put_or_not, stood_kept, stood_long}
 use Rattle.program_pass.specs.Chains.{stood}
 use Rattle.tail_loop.specs.Tails.{AreLooped, IsTailCall, cleared, loop_assignments, moved, saved}
 use Rattle.program_pass.specs.StoodLaws.{below_append, stood_calls, stood_can}
@@ -40,26 +43,26 @@ cleared_below all received (suc count) y room =
     (λ is. ((omega (arith, room), tt), cleared_below all received count (suc y) (omega (arith, room))))
 
 -- they are of variables of the graph and of its temporaries
-pub loop_below : (vars all : ℕ) (received : List ℕ) (operands : List Operand) → vars + length received ≤ all → AllBelow vars received → AllBelow vars (flat_map operand_vars operands) → length operands ≡ length received → InsertionsBelow all (loop_assignments vars received operands)
-loop_below vars all received operands room received_below operands_below long =
-    below_append all (saved vars operands) (moved vars received ++ cleared received 0 vars) (saved_below vars all operands vars (omega (arith, room)) operands_below (omega (arith, room, long)))
-    (below_append all (moved vars received) (cleared received 0 vars) (moved_below vars all received vars (omega (arith, room)) received_below (omega (arith, room))) (cleared_below all received vars 0 (omega (arith, room))))
+pub loop_below : (shared vars all : ℕ) (received : List ℕ) (operands : List Operand) → shared ≤ vars → vars + length received ≤ all → AllBelow vars received → AllBelow vars (flat_map operand_vars operands) → length operands ≡ length received → InsertionsBelow all (loop_assignments shared vars received operands)
+loop_below shared vars all received operands least room received_below operands_below long =
+    below_append all (saved vars operands) (moved vars received ++ cleared received shared (vars - shared)) (saved_below vars all operands vars (omega (arith, room)) operands_below (omega (arith, room, long)))
+    (below_append all (moved vars received) (cleared received shared (vars - shared)) (moved_below vars all received vars (omega (arith, room)) received_below (omega (arith, room))) (cleared_below all received (vars - shared) shared (omega (arith, room, least))))
 
 -- ---- all of them
 
-module _ (graph : GraphShape) (unit : ℕ) (names : List (List ℕ)) (can : CanMake graph.vars graph.received graph.nodes) (fit : (count : ℕ) → NodesCall graph.nodes unit count → count ≡ length graph.received) (differ : AllDiffer (graph.vars ++ names)) where
+module _ (graph : GraphShape) (unit : ℕ) (names : List (List ℕ)) (can : CanMake graph.vars graph.received graph.nodes) (fit : (count : ℕ) → NodesCall graph.nodes unit count → count ≡ length graph.received) (differ : AllDiffer (graph.vars ++ names)) (least : graph.shared ≤ length graph.vars) where
   abbrev all_vars : List (List ℕ)
   all_vars = graph.vars ++ names
 
   -- the assignments of a self tail call are in range, where there are temporaries for the received variables
-  call_below : length names ≡ length graph.received → (n : ℕ) (operands : List Operand) → IsTailCall graph.nodes unit n operands → InsertionsBelow (length all_vars) (loop_assignments (length graph.vars) graph.received operands)
+  call_below : length names ≡ length graph.received → (n : ℕ) (operands : List Operand) → IsTailCall graph.shared graph.nodes unit n operands → InsertionsBelow (length all_vars) (loop_assignments graph.shared (length graph.vars) graph.received operands)
   call_below temps n operands call =
       let below = can.below n (Call (Some call.into) unit operands call.next) call.is in
       let long = fit (length operands) (record { number = n; node = Call (Some call.into) unit operands call.next; here = call.is; calls = refl }) in
-      loop_below (length graph.vars) (length all_vars) graph.received operands (omega (arith, temps, length-append graph.vars names)) can.received_below (all_below_right (length graph.vars) (into_vars (Some call.into)) (flat_map operand_vars operands) below) long
+      loop_below graph.shared (length graph.vars) (length all_vars) graph.received operands least (omega (arith, temps, length-append graph.vars names)) can.received_below (all_below_right (length graph.vars) (into_vars (Some call.into)) (flat_map operand_vars operands) below) long
 
   -- a self tail call is not the first node
-  call_later : (n : ℕ) (operands : List Operand) → IsTailCall graph.nodes unit n operands → 1 ≤ n
+  call_later : (n : ℕ) (operands : List Operand) → IsTailCall graph.shared graph.nodes unit n operands → 1 ≤ n
   call_later zero operands call = let e : Some (Start can.start.0) ≡ Some (Call (Some call.into) unit operands call.next) = sym can.start.1 ∙ call.is in cc
   call_later (suc n) operands call = omega arith
 
@@ -76,7 +79,7 @@ module _ (graph : GraphShape) (unit : ℕ) (names : List (List ℕ)) (can : CanM
   pub looped_can : (calls : List ℕ) (nodes looped : List Node) → ((n : ℕ) (more : List ℕ) → calls ≡ n ∷ more → length names ≡ length graph.received) → length graph.nodes ≤ length nodes → CanMake all_vars graph.received nodes → AreLooped graph unit calls nodes looped → CanMake all_vars graph.received looped
   looped_can [] nodes looped temps le made are = subst (CanMake all_vars graph.received) (sym are) made
   looped_can (n ∷ calls) nodes looped temps le made are =
-      let puts = loop_assignments (length graph.vars) graph.received are.0 in
+      let puts = loop_assignments graph.shared (length graph.vars) graph.received are.0 in
       let end = start_succ (slice_get graph.nodes 0) in
       let enough = temps n calls refl in
       let there = slice_get_within graph.nodes n (Call (Some are.1.into) unit are.0 are.1.next) are.1.is in
@@ -89,7 +92,7 @@ module _ (graph : GraphShape) (unit : ℕ) (names : List (List ℕ)) (can : CanM
   pub looped_calls : (calls : List ℕ) (nodes looped : List Node) → ((n : ℕ) (more : List ℕ) → calls ≡ n ∷ more → length names ≡ length graph.received) → length graph.nodes ≤ length nodes → AreLooped graph unit calls nodes looped → (called count : ℕ) → NodesCall looped called count → NodesCall nodes called count
   looped_calls [] nodes looped temps le are called count c = subst (λ l. NodesCall l called count) are c
   looped_calls (n ∷ calls) nodes looped temps le are called count c =
-      let puts = loop_assignments (length graph.vars) graph.received are.0 in
+      let puts = loop_assignments graph.shared (length graph.vars) graph.received are.0 in
       let end = start_succ (slice_get graph.nodes 0) in
       let enough = temps n calls refl in
       let there = slice_get_within graph.nodes n (Call (Some are.1.into) unit are.0 are.1.next) are.1.is in

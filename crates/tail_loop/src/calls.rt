@@ -10,15 +10,21 @@ use jump_clean::ends;
 use mir_base::{Memory, Operand};
 use std::alloc::Global;
 
-/// The nodes that call the unit of this number and then return what it answers, in order.
-pub(crate) fn tail_calls(alloc: Global, nodes: &[Node], unit: usize) -> Result<Vec<usize>, Memory>
+/// The nodes that call the unit of this number and then return what it answers, in order. The first `shared` variables
+/// are globals.
+pub(crate) fn tail_calls(
+    alloc: Global,
+    shared: usize,
+    nodes: &[Node],
+    unit: usize,
+) -> Result<Vec<usize>, Memory>
     requires { AllWithin nodes.now }
-    ensures { IfOk result (λ calls. AreTailCalls nodes.now unit calls.items) }
+    ensures { IfOk result (λ calls. AreTailCalls shared nodes.now unit calls.items) }
 {
     let ends = ends(alloc, nodes)?;
     let mut calls = Vec::new(alloc);
     for n in 0..nodes.len() {
-        if is_tail_call(nodes, ends.as_slice(), unit, n) {
+        if is_tail_call(shared, nodes, ends.as_slice(), unit, n) {
             calls.push(n)?;
         }
     }
@@ -26,24 +32,25 @@ pub(crate) fn tail_calls(alloc: Global, nodes: &[Node], unit: usize) -> Result<V
 }
 
 /// Whether the node is such a call.
-fn is_tail_call(nodes: &[Node], ends: &[usize], unit: usize, n: usize) -> bool
+fn is_tail_call(shared: usize, nodes: &[Node], ends: &[usize], unit: usize, n: usize) -> bool
     requires within { AllWithin nodes.now }
     requires ends { AreEnds nodes.now ends.now }
     requires node { n < length nodes.now }
-    ensures { IsTrue result ↔ HasTailCall nodes.now unit n }
+    ensures { IsTrue result ↔ HasTailCall shared nodes.now unit n }
 {
-    match answered_at(nodes, n, unit) {
+    match answered_at(shared, nodes, n, unit) {
         None => false,
         Some(call) => returns_next(nodes, ends, call.next, call.into),
     }
 }
 
-/// The variable and the successor where the node of this number is a call of the unit whose answer goes to a variable.
-fn answered_at(nodes: &[Node], n: usize, unit: usize) -> Option<Answered>
+/// The variable and the successor where the node of this number is a call of the unit whose answer goes to a variable
+/// that is no global.
+fn answered_at(shared: usize, nodes: &[Node], n: usize, unit: usize) -> Option<Answered>
     requires { n < length nodes.now }
-    ensures { result ≡ answered_at unit (slice_get nodes.now n) }
+    ensures { result ≡ answered_at shared unit (slice_get nodes.now n) }
 {
-    answered_call(&nodes[n], unit)
+    answered_call(&nodes[n], shared, unit)
 }
 
 /// A call whose answer goes to a variable.
@@ -55,17 +62,22 @@ pub(crate) struct Answered {
     pub(crate) next: usize,
 }
 
-/// The variable and the successor of a call of the unit of this number whose answer goes to a variable.
-fn answered_call(node: &Node, unit: usize) -> Option<Answered>
-    ensures { result ≡ answered_call unit node.now }
+/// The variable and the successor of a call of the unit of this number whose answer goes to a variable that is no
+/// global.
+fn answered_call(node: &Node, shared: usize, unit: usize) -> Option<Answered>
+    ensures { result ≡ answered_call shared unit node.now }
 {
     match node {
         Node::Call(Some(into), called, _, next) => {
             if *called == unit {
-                Some(Answered {
-                    into: *into,
-                    next: *next,
-                })
+                if *into < shared {
+                    None
+                } else {
+                    Some(Answered {
+                        into: *into,
+                        next: *next,
+                    })
+                }
             } else {
                 None
             }

@@ -1,5 +1,5 @@
 // The nodes of a graph with its self tail calls as loops.
-ghost use Rattle.std.specs.Prelude.{◌≡◌, ◌++◌, ◌+◌, ◌<◌, IfOk, OnOk, length, slice_get};
+ghost use Rattle.std.specs.Prelude.{◌≡◌, ◌++◌, ◌+◌, ◌-◌, ◌<◌, ◌≤◌, IfOk, OnOk, length, slice_get};
 ghost use Rattle.flow_graph.specs.Plans.{start_succ};
 ghost use Rattle.program_pass.specs.Marks.{AreMarksOf};
 ghost use Rattle.program_pass.specs.Puts.{insertions};
@@ -18,7 +18,7 @@ pub(crate) fn looped(
     unit: usize,
     calls: &[usize],
 ) -> Result<Vec<Node>, Memory>
-    requires { AreTailCalls graph.now.nodes unit calls.now }
+    requires { AreTailCalls graph.now.shared graph.now.nodes unit calls.now }
     ensures { IfOk result (λ looped.
         AreLooped graph.now unit calls.now graph.now.nodes looped.items) }
 {
@@ -31,11 +31,12 @@ pub(crate) fn looped(
 }
 
 /// The assignments of a self tail call: the temporaries get the arguments, the received variables get the temporaries,
-/// and all other variables become 0.
+/// and all other variables that are no globals become 0.
 fn assignments(alloc: Global, graph: &Graph, call: usize) -> Result<Vec<Put>, Memory>
     requires { call < length graph.now.nodes }
     ensures { let operands = operands_at (slice_get graph.now.nodes call) in
-        let all = loop_assignments (length graph.now.vars) graph.now.received operands in
+        let vars = length graph.now.vars in
+        let all = loop_assignments graph.now.shared vars graph.now.received operands in
         IfOk result (λ puts. insertions puts.items ≡ all) }
 {
     let vars = graph.vars().len();
@@ -43,7 +44,7 @@ fn assignments(alloc: Global, graph: &Graph, call: usize) -> Result<Vec<Put>, Me
     let mut puts = saved(alloc, graph.node(call), vars)?;
     push_moved(&mut puts, vars, received)?;
     let marks = marks_of(alloc, received, vars)?;
-    push_cleared(&mut puts, marks.as_slice(), received, vars)?;
+    push_cleared(&mut puts, marks.as_slice(), received, graph.shared(), vars)?;
     Ok(puts)
 }
 
@@ -79,19 +80,21 @@ fn push_moved(puts: &mut Vec<Put>, first: usize, received: &[usize]) -> Result<(
     Ok(())
 }
 
-/// Of so many variables those that are not received become 0. The marks tell which are received.
+/// Of so many variables those from number `first` on that are not received become 0. The marks tell which are received.
 fn push_cleared(
     puts: &mut Vec<Put>,
     marks: &[bool],
     received: &[usize],
+    first: usize,
     vars: usize,
 ) -> Result<(), Memory>
-    requires { AreMarksOf received.now vars marks.now }
-    ensures { OnOk result
-        (insertions puts.new.items ≡ insertions puts.old.items ++ cleared received.now 0 vars) }
+    requires marks { AreMarksOf received.now vars marks.now }
+    requires first { first ≤ vars }
+    ensures { OnOk result (insertions puts.new.items ≡
+        insertions puts.old.items ++ cleared received.now first (vars - first)) }
 {
     let _ = received;
-    for x in 0..vars {
+    for x in first..vars {
         let marked = marks[x];
         if !marked {
             puts.push(plain_put(x, Operand::Const(0)))?;

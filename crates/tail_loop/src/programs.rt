@@ -4,13 +4,13 @@ ghost use Rattle.program_pass.specs.PassPrograms.{AllPassed, IsOnly, IsPassedPro
 ghost use Rattle.tail_loop.specs.Tails.{Looped, Tailed};
 
 use crate::tails::tail;
-use mir_base::{Items, Memory, Program, Unit as MirUnit};
-use program_pass::{fits_together, laid_out, lowered_clean};
+use mir_base::{Memory, Program, Unit as MirUnit};
+use program_pass::{fits_together, laid_out, lowered_clean, program_with};
 use std::alloc::Global;
 
-/// The program whose units are those of this one with self tail calls as loops: each unit is lowered, cleaned, put through
-/// `tail` with its own number, cleaned and laid out. It is the same, evaluates no more operators, and never has more
-/// frames. It fails only with `Memory`.
+/// The program whose units are those of this one with self tail calls as loops: each unit is lowered, cleaned, put
+/// through `tail` with its own number, cleaned and laid out; the globals stay. It is the same, evaluates no more
+/// operators, and never has more frames. It fails only with `Memory`.
 pub fn tail_program(alloc: Global, program: &Program) -> Result<Program, Memory>
     ensures tailed { IfOk result (IsPassedProgram Tailed program.now) }
     ensures only { IfOk result (IsOnly (IsPassedProgram Tailed program.now)) }
@@ -18,9 +18,8 @@ pub fn tail_program(alloc: Global, program: &Program) -> Result<Program, Memory>
 {
     let units = tailed_units(alloc, program)?;
     fits_together(program);
-    Ok(Program {
-        units: Items::of(units),
-    })
+    let target = program_with(program, units)?;
+    Ok(target)
 }
 
 /// The units with self tail calls as loops.

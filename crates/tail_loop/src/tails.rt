@@ -6,17 +6,19 @@ ghost use Rattle.tail_loop.specs.Widened.{HasTemporaries, TailMade};
 
 use crate::calls::tail_calls;
 use crate::looping::looped;
-use flow_graph::{Editor, Graph};
+use flow_graph::Graph;
 use fresh_names::temporary_names;
+use graph_edit::Editor;
 use mir_base::Memory;
 use std::alloc::Global;
 
-/// The graph of the unit of this number with its self tail calls as loops. A self tail call calls the unit itself, gives
-/// its answer to a variable, and from there Skips, none at all included, lead to a Return of this variable. In its place
-/// stand assignments: each argument goes to a temporary, each temporary to the received variable, and each other variable
-/// becomes 0, as in a new frame; the last of them leads to where Start leads. The temporaries are the same for all self
-/// tail calls, and there are none where there is no such call. Then the nodes that are not reached are dropped. Each call
-/// of the unit has as many arguments as the graph has received variables. It fails only with `Memory`.
+/// The graph of the unit of this number with its self tail calls as loops. A self tail call calls the unit itself,
+/// gives its answer to a variable that is no global, and from there Skips, none at all included, lead to a Return of
+/// this variable. In its place stand assignments: each argument goes to a temporary, each temporary to the received
+/// variable, and each other variable that is no global becomes 0, as in a new frame; the last of them leads to where
+/// Start leads. The temporaries are the same for all self tail calls, and there are none where there is no such call.
+/// Then the nodes that are not reached are dropped. Each call of the unit has as many arguments as the graph has
+/// received variables. It fails only with `Memory`.
 pub fn tail(alloc: Global, graph: &Graph, unit: usize) -> Result<Graph, Memory>
     requires { SelfCallsFit graph.now.nodes unit (length graph.now.received) }
     ensures tailed { IfOk result (IsTailed graph.now unit) }
@@ -25,7 +27,7 @@ pub fn tail(alloc: Global, graph: &Graph, unit: usize) -> Result<Graph, Memory>
     ensures keeps { IfOk result (PassKeeps (Looped unit) graph.now) }
 {
     let _nodes = graph.nodes();
-    let calls = tail_calls(alloc, graph.nodes(), unit)?;
+    let calls = tail_calls(alloc, graph.shared(), graph.nodes(), unit)?;
     let tailed = with_loops(alloc, graph, unit, calls.as_slice())?;
     Ok(tailed)
 }
@@ -33,10 +35,11 @@ pub fn tail(alloc: Global, graph: &Graph, unit: usize) -> Result<Graph, Memory>
 /// The graph with these self tail calls as loops.
 fn with_loops(alloc: Global, graph: &Graph, unit: usize, calls: &[usize]) -> Result<Graph, Memory>
     requires fit { SelfCallsFit graph.now.nodes unit (length graph.now.received) }
-    requires calls { AreTailCalls graph.now.nodes unit calls.now }
+    requires calls { AreTailCalls graph.now.shared graph.now.nodes unit calls.now }
     ensures { IfOk result (TailMade graph.now unit calls.now) }
 {
     let _nodes = graph.nodes();
+    let _shared = graph.shared();
     let wide = widened(alloc, graph, calls)?;
     let nodes = looped(alloc, graph, unit, calls)?;
     let tailed = wide.with_nodes(alloc, nodes)?;

@@ -3,7 +3,7 @@ use Rattle.std.proofs.Common.{◌≡◌, ℕ, ◌≤◌, List, [], ◌∷◌, le
 use Rattle.std.proofs.lemmas.Option.{slice_get_within}
 use Rattle.mir_base.specs.declared.instructions.Operand.{Operand}
 use Rattle.flow_graph.specs.declared.nodes.Node.{Node}
-use Rattle.flow_graph.specs.declared.nodes.Node.TheVariants.{Start, Skip, Assign, Print, Call, Test, Return}
+use Rattle.flow_graph.specs.declared.nodes.Node.TheVariants.{Start, Skip, Assign, Print, Guard, Call, Test, Return}
 use Rattle.flow_graph.specs.Graphs.{GraphShape}
 use Rattle.unit_join.specs.Joins.{AreLeafCalls, IsLeafCall, if_leaf, leaf_at, leaf_called}
 use Rattle.program_pass.specs.MemberLaws.{AreFoundBelow}
@@ -24,6 +24,7 @@ call_told leaves (Start next) unit e = cc
 call_told leaves (Skip next) unit e = cc
 call_told leaves (Assign x rhs next) unit e = cc
 call_told leaves (Print a next) unit e = cc
+call_told leaves (Guard test number next) unit e = cc
 call_told leaves (Call into called operands next) unit e = go (leaf_at leaves called) refl e
   where
     go : (o : Option GraphShape) → leaf_at leaves called ≡ o → unit ∷ [] ≡ if_leaf called o → (i : Option ℕ) × (os : List Operand) × (s : ℕ) × (leaf : GraphShape) × (Call into called operands next ≡ Call i unit os s) × (leaf_at leaves unit ≡ Some leaf)

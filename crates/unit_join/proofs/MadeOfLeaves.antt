@@ -2,20 +2,24 @@
 use Rattle.std.proofs.Common.{◌≡◌, ℕ, ◌+◌, ◌<◌, ◌≤◌, inl, inr, List, length, slice_get, Option, Some, None, refl, sym, ap, ◌∙◌, subst, arith}
 use Rattle.std.proofs.lemmas.Bool.{cases_eq}
 use Rattle.std.proofs.lemmas.Option.{slice_get_within}
-use Rattle.flow_graph.specs.Graphs.{CanMake, GraphShape}
+use Rattle.flow_graph.specs.Graphs.{CanMake, GraphShape, SharesVars}
 use Rattle.unit_join.specs.Joins.{LeavesCan, leaf_at, or_none}
+
+-- a graph can be made of the leaf, and its globals are variables of it
+abbrev pub CanBe : GraphShape → Type 0
+CanBe leaf = CanMake leaf.vars leaf.received leaf.nodes × SharesVars leaf.shared leaf.vars leaf.received
 
 -- a graph can be made of the leaf of an entry, where it has one
 abbrev pub EntryCan : Option GraphShape → Type 0
-EntryCan entry = (leaf : GraphShape) → entry ≡ Some leaf → CanMake leaf.vars leaf.received leaf.nodes
+EntryCan entry = (leaf : GraphShape) → entry ≡ Some leaf → CanBe leaf
 
 -- and of the leaves of the first i entries
 abbrev pub FirstCan : List (Option GraphShape) → ℕ → Type 0
-FirstCan leaves i = (u : ℕ) (leaf : GraphShape) → u < i → leaf_at leaves u ≡ Some leaf → CanMake leaf.vars leaf.received leaf.nodes
+FirstCan leaves i = (u : ℕ) (leaf : GraphShape) → u < i → leaf_at leaves u ≡ Some leaf → CanBe leaf
 
 -- an entry with a leaf
-pub some_can : (graph : GraphShape) → CanMake graph.vars graph.received graph.nodes → EntryCan (Some graph)
-some_can graph can leaf is = let same : graph ≡ leaf = cc in subst (λ (g : GraphShape). CanMake g.vars g.received g.nodes) same can
+pub some_can : (graph : GraphShape) → CanBe graph → EntryCan (Some graph)
+some_can graph can leaf is = let same : graph ≡ leaf = cc in subst CanBe same can
 
 -- an entry with none
 pub none_can : EntryCan None

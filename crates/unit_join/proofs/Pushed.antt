@@ -1,5 +1,5 @@
 -- What is pushed, and what is still to come, are all of a list; and one more leaf in the place of its call.
-use Rattle.std.proofs.Common.{◌≡◌, ◌⊎◌, inl, inr, ℕ, zero, suc, ◌+◌, ◌-◌, ◌<◌, ◌≤◌, Bool, true, false, if◌then◌else◌, List, [], ◌∷◌, ◌++◌, append_assoc, length, map, drop, pos, slice_get, slice_index_or, Option, Some, refl, sym, ap, ◌∙◌, subst, arith}
+use Rattle.std.proofs.Common.{◌≡◌, ◌⊎◌, inl, inr, ℕ, zero, suc, ◌+◌, ◌-◌, ◌<◌, ◌≤◌, Bool, true, false, if◌then◌else◌, List, [], ◌∷◌, ◌++◌, append_assoc, append-nil, length, map, drop, pos, slice_get, slice_index_or, Option, Some, refl, sym, ap, ◌∙◌, subst, arith}
 use Rattle.std.proofs.lemmas.List.{drop_all}
 use Rattle.std.proofs.lemmas.Option.{slice_get-get_or, slice_get_within}
 use Rattle.mir_base.specs.declared.instructions.Inst.{Inst}
@@ -11,51 +11,52 @@ use Rattle.flow_graph.specs.declared.nodes.Node.{Node}
 use Rattle.flow_graph.specs.declared.nodes.Node.TheVariants.{Call}
 use Rattle.flow_graph.specs.Calls.{BodyCalls, inst_call}
 use Rattle.flow_graph.specs.Graphs.{GraphShape}
-use Rattle.flow_graph.specs.Insertions.{Insertion}
+use Rattle.graph_edit.specs.Insertions.{Insertion}
 use Rattle.flow_graph.specs.ListLaws.{drop_at}
 use Rattle.flow_graph.specs.Numbering.{is_in}
 use Rattle.program_pass.specs.declared.standing.Put.{Put}
+use Rattle.program_pass.specs.Puts.{insertions}
 use Rattle.unit_join.specs.JoinPrograms.{calls_none, is_call}
-use Rattle.unit_join.specs.JoinStacks.{with_leaf_long}
-use Rattle.unit_join.specs.Joins.{LeavesAreJoined, AreLeafCalls, IsLeafCall, copy_in, entered, first_copy, nodes_with_leaf, joined_by, leaf_at, zeroed}
+use Rattle.unit_join.specs.JoinedNodes.{with_leaf_long}
+use Rattle.unit_join.specs.Joins.{LeavesAreJoined, AreLeafCalls, IsLeafCall, copy_in, copy_number, entered, first_copy, nodes_with_leaf, joined_by, leaf_at, zeroed}
 use Rattle.program_pass.specs.MemberLaws.{in_at}
 use Rattle.program_pass.specs.PutLaws.{insertion}
 
 -- ---- assignments
 
 -- the next that gets an argument
-pub entered_next : (base i : ℕ) (received : List ℕ) (operands : List Operand) (x : ℕ) (a : Operand) (put : Put) → slice_get received i ≡ Some x → slice_get operands i ≡ Some a → put ≡ record { var = base + x; rhs = Plain a }
-    → entered (λ y. base + y) (drop i received) (drop i operands) ≡ insertion put ∷ entered (λ y. base + y) (drop (i + 1) received) (drop (i + 1) operands)
-entered_next base i received operands x a put here here' is =
-    ap (λ l. entered (λ y. base + y) l (drop i operands)) (drop_at received i x here) ∙ ap (entered (λ y. base + y) (x ∷ drop (i + 1) received)) (drop_at operands i a here')
-    ∙ ap (λ (p : Put). insertion p ∷ entered (λ y. base + y) (drop (i + 1) received) (drop (i + 1) operands)) (sym is)
+pub entered_next : (copy : ℕ → ℕ) (i : ℕ) (received : List ℕ) (operands : List Operand) (x : ℕ) (a : Operand) (put : Put) → slice_get received i ≡ Some x → slice_get operands i ≡ Some a → put ≡ record { var = copy x; rhs = Plain a }
+    → entered copy (drop i received) (drop i operands) ≡ insertion put ∷ entered copy (drop (i + 1) received) (drop (i + 1) operands)
+entered_next copy i received operands x a put here here' is =
+    ap (λ l. entered copy l (drop i operands)) (drop_at received i x here) ∙ ap (entered copy (x ∷ drop (i + 1) received)) (drop_at operands i a here')
+    ∙ ap (λ (p : Put). insertion p ∷ entered copy (drop (i + 1) received) (drop (i + 1) operands)) (sym is)
 
 -- none gets one where the variables or the arguments are at an end
-pub entered_done : (base i : ℕ) (received : List ℕ) (operands : List Operand) → (length received ≤ i) ⊎ (length operands ≤ i) → entered (λ y. base + y) (drop i received) (drop i operands) ≡ []
-entered_done base i received operands (inl late) = ap (λ l. entered (λ y. base + y) l (drop i operands)) (drop_all i received late)
-entered_done base i received operands (inr late) = ap (entered (λ y. base + y) (drop i received)) (drop_all i operands late) ∙ none (drop i received)
+pub entered_done : (copy : ℕ → ℕ) (i : ℕ) (received : List ℕ) (operands : List Operand) → (length received ≤ i) ⊎ (length operands ≤ i) → entered copy (drop i received) (drop i operands) ≡ []
+entered_done copy i received operands (inl late) = ap (λ l. entered copy l (drop i operands)) (drop_all i received late)
+entered_done copy i received operands (inr late) = ap (entered copy (drop i received)) (drop_all i operands late) ∙ none (drop i received)
   where
-    none : (xs : List ℕ) → entered (λ y. base + y) xs [] ≡ []
+    none : (xs : List ℕ) → entered copy xs [] ≡ []
     none [] = refl
     none (x ∷ xs) = refl
 
 -- the copy of a variable that is not received is the next to become 0
-pub zeroed_next : (base : ℕ) (received : List ℕ) (x vars : ℕ) (put : Put) → x < vars → is_in x received ≡ false → put ≡ record { var = base + x; rhs = Plain (Const (pos 0)) } → zeroed (λ y. base + y) received x (vars - x) ≡ insertion put ∷ zeroed (λ y. base + y) received (x + 1) (vars - (x + 1))
-zeroed_next base received x vars put lt out is =
+pub zeroed_next : (copy : ℕ → ℕ) (received : List ℕ) (x vars : ℕ) (put : Put) → x < vars → is_in x received ≡ false → put ≡ record { var = copy x; rhs = Plain (Const (pos 0)) } → zeroed copy received x (vars - x) ≡ insertion put ∷ zeroed copy received (x + 1) (vars - (x + 1))
+zeroed_next copy received x vars put lt out is =
     let count : vars - x ≡ suc (vars - (x + 1)) = omega (arith, lt) in
     let next : suc x ≡ x + 1 = omega arith in
-    let here : Insertion = record { var = base + x; rhs = Plain (Const (pos 0)) } in
-    let rest : List Insertion = zeroed (λ y. base + y) received (suc x) (vars - (x + 1)) in
-    ap (zeroed (λ y. base + y) received x) count ∙ ap (λ b. if b then rest else here ∷ rest) out ∙ ap (λ (p : Put). insertion p ∷ rest) (sym is) ∙ ap (λ n. insertion put ∷ zeroed (λ y. base + y) received n (vars - (x + 1))) next
+    let here : Insertion = record { var = copy x; rhs = Plain (Const (pos 0)) } in
+    let rest : List Insertion = zeroed copy received (suc x) (vars - (x + 1)) in
+    ap (zeroed copy received x) count ∙ ap (λ b. if b then rest else here ∷ rest) out ∙ ap (λ (p : Put). insertion p ∷ rest) (sym is) ∙ ap (λ n. insertion put ∷ zeroed copy received n (vars - (x + 1))) next
 
 -- that of one that is received is not
-pub zeroed_passed : (base : ℕ) (received : List ℕ) (x vars : ℕ) → x < vars → is_in x received ≡ true → zeroed (λ y. base + y) received x (vars - x) ≡ zeroed (λ y. base + y) received (x + 1) (vars - (x + 1))
-zeroed_passed base received x vars lt there =
+pub zeroed_passed : (copy : ℕ → ℕ) (received : List ℕ) (x vars : ℕ) → x < vars → is_in x received ≡ true → zeroed copy received x (vars - x) ≡ zeroed copy received (x + 1) (vars - (x + 1))
+zeroed_passed copy received x vars lt there =
     let count : vars - x ≡ suc (vars - (x + 1)) = omega (arith, lt) in
     let next : suc x ≡ x + 1 = omega arith in
-    let here : Insertion = record { var = base + x; rhs = Plain (Const (pos 0)) } in
-    let rest : List Insertion = zeroed (λ y. base + y) received (suc x) (vars - (x + 1)) in
-    ap (zeroed (λ y. base + y) received x) count ∙ ap (λ b. if b then rest else here ∷ rest) there ∙ ap (λ n. zeroed (λ y. base + y) received n (vars - (x + 1))) next
+    let here : Insertion = record { var = copy x; rhs = Plain (Const (pos 0)) } in
+    let rest : List Insertion = zeroed copy received (suc x) (vars - (x + 1)) in
+    ap (zeroed copy received x) count ∙ ap (λ b. if b then rest else here ∷ rest) there ∙ ap (λ n. zeroed copy received n (vars - (x + 1))) next
 
 -- ---- nodes
 
@@ -75,7 +76,7 @@ call_within leaves nodes calls are i lt = let c = call_at leaves nodes calls are
 
 -- the leaf in the place of a call is the leaf of this call
 pub joined_is : (leaves : List (Option GraphShape)) (units : List ℕ) (graph : GraphShape) (nodes nodes' : List Node) (n : ℕ) (into : Option ℕ) (unit : ℕ) (operands : List Operand) (next : ℕ) (leaf : GraphShape) (base : ℕ) → slice_get graph.nodes n ≡ Some (Call into unit operands next) → leaf_at leaves unit ≡ Some leaf → base ≡ first_copy leaves units (length graph.vars) unit
-    → nodes' ≡ nodes_with_leaf nodes n (λ x. base + x) leaf into operands next → (c : IsLeafCall leaves graph.nodes n) → nodes' ≡ joined_by leaves units graph nodes n c
+    → nodes' ≡ nodes_with_leaf nodes n (copy_number graph.shared base) leaf into operands next → (c : IsLeafCall leaves graph.nodes n) → nodes' ≡ joined_by leaves units graph nodes n c
 joined_is leaves units graph nodes nodes' n into unit operands next leaf base here leaf_is base_is made c =
     let both : Some (Call into unit operands next) ≡ Some (Call c.into c.unit c.operands c.next) = sym here ∙ c.is in
     let into_same : into ≡ c.into = cc in
@@ -84,9 +85,9 @@ joined_is leaves units graph nodes nodes' n into unit operands next leaf base he
     let next_same : next ≡ c.next = cc in
     let leaves_same : Some leaf ≡ Some c.leaf = sym leaf_is ∙ ap (leaf_at leaves) unit_same ∙ c.leaf_is in
     let leaf_same : leaf ≡ c.leaf = cc in
-    made ∙ ap (λ b. nodes_with_leaf nodes n (λ x. b + x) leaf into operands next) (base_is ∙ ap (first_copy leaves units (length graph.vars)) unit_same)
-    ∙ ap (λ l. nodes_with_leaf nodes n (copy_in leaves units (length graph.vars) c.unit) l into operands next) leaf_same ∙ ap (λ i. nodes_with_leaf nodes n (copy_in leaves units (length graph.vars) c.unit) c.leaf i operands next) into_same
-    ∙ ap (λ o. nodes_with_leaf nodes n (copy_in leaves units (length graph.vars) c.unit) c.leaf c.into o next) operands_same ∙ ap (nodes_with_leaf nodes n (copy_in leaves units (length graph.vars) c.unit) c.leaf c.into c.operands) next_same
+    made ∙ ap (λ b. nodes_with_leaf nodes n (copy_number graph.shared b) leaf into operands next) (base_is ∙ ap (first_copy leaves units (length graph.vars)) unit_same)
+    ∙ ap (λ l. nodes_with_leaf nodes n (copy_in graph.shared leaves units (length graph.vars) c.unit) l into operands next) leaf_same ∙ ap (λ i. nodes_with_leaf nodes n (copy_in graph.shared leaves units (length graph.vars) c.unit) c.leaf i operands next) into_same
+    ∙ ap (λ o. nodes_with_leaf nodes n (copy_in graph.shared leaves units (length graph.vars) c.unit) c.leaf c.into o next) operands_same ∙ ap (nodes_with_leaf nodes n (copy_in graph.shared leaves units (length graph.vars) c.unit) c.leaf c.into c.operands) next_same
 
 -- what the loop keeps
 pub joined_on : (leaves : List (Option GraphShape)) (units : List ℕ) (graph : GraphShape) (calls : List ℕ) (i : ℕ) (nodes nodes' joined : List Node) → AreLeafCalls leaves graph.nodes calls → i < length calls
@@ -117,6 +118,7 @@ none_call body none called count c = go body c.place none c.here
     one (insts.Assign x rhs) e f = cc
     one (insts.Goto place) e f = cc
     one (insts.If test place) e f = cc
+    one (insts.TrapIf test number) e f = cc
     one (insts.Call into unit operands) e f = cc
     one (insts.Print a) e f = cc
     one (insts.Return a) e f = cc
@@ -136,6 +138,7 @@ is_one (insts.Receive x) f = cc
 is_one (insts.Assign x rhs) f = cc
 is_one (insts.Goto place) f = cc
 is_one (insts.If test place) f = cc
+is_one (insts.TrapIf test number) f = cc
 is_one (insts.Call into unit operands) f = (unit, length operands, refl)
 is_one (insts.Print a) f = cc
 is_one (insts.Return a) f = cc

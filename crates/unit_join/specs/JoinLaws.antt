@@ -1,6 +1,6 @@
 -- Laws: a graph can be made of the nodes with leaves, and they make no calls but those of the graph. For proofs only.
 use Rattle.std.proofs.Common.{◌≡◌, ◌⊎◌, inl, inr, ℕ, zero, suc, ◌+◌, ◌-◌, ◌<◌, ◌≤◌, Bool, true, false, ◌||◌, if◌then◌else◌, nat_eq, List, [], ◌∷◌, ◌++◌, drop, length, flat_map, length-append, map, slice_get, pos, Option, Some, None, refl, sym, ap, ◌∙◌, subst, arith}
-use Rattle.std.proofs.lemmas.Bool.{eq-eqb, eqb-true}
+use Rattle.std.proofs.lemmas.Bool.{cases_lt, eq-eqb, eqb-true}
 use Rattle.std.proofs.lemmas.List.{length-map}
 use Rattle.std.proofs.lemmas.Option.{slice_get-map, slice_get_within}
 use Rattle.mir_base.specs.declared.instructions.Operand.{Operand}
@@ -12,10 +12,10 @@ use Rattle.mir_base.specs.declared.instructions.Test.TheVariants.{Rel, Holds, Fa
 use Rattle.mir_base.specs.BelowLaws.{all_below_append, all_below_left, all_below_more, all_below_right}
 use Rattle.mir_base.specs.Shapes.{AllBelow, into_vars, operand_vars, rhs_vars, test_vars}
 use Rattle.flow_graph.specs.declared.nodes.Node.{Node}
-use Rattle.flow_graph.specs.declared.nodes.Node.TheVariants.{Start, Skip, Assign, Print, Call, Test, Return}
+use Rattle.flow_graph.specs.declared.nodes.Node.TheVariants.{Start, Skip, Assign, Print, Guard, Call, Test, Return}
 use Rattle.flow_graph.specs.Calls.{NodesCall, node_call}
 use Rattle.flow_graph.specs.Graphs.{CanMake, GraphShape, node_succs, node_vars, succs_of}
-use Rattle.flow_graph.specs.Insertions.{Insertion, InsertionsBelow}
+use Rattle.graph_edit.specs.Insertions.{Insertion, InsertionsBelow}
 use Rattle.flow_graph.specs.ListLaws.{get_append}
 use Rattle.flow_graph.specs.NodeLaws.{mapped_from}
 use Rattle.flow_graph.specs.Numbering.{is_in, renamed_operand, renamed_rhs, renamed_test, seen_after}
@@ -23,8 +23,9 @@ use Rattle.flow_graph.specs.NumberingLaws.{is_in_first, is_in_last, seen_grows}
 use Rattle.flow_graph.specs.Plans.{start_succ}
 use Rattle.program_pass.specs.ChainLaws.{put_or_not}
 use Rattle.program_pass.specs.Chains.{stood}
-use Rattle.unit_join.specs.JoinStacks.{drop_first, stood_count, with_leaf, with_leaf_kept, with_leaf_long}
-use Rattle.unit_join.specs.Joins.{LeavesAreJoined, IsLeafCall, LeavesCan, called_leaves, copies, copy_in, entered, entry_assignments, first_copy, first_place, if_leaf, leaf_at, leaf_called, leaf_node, leaf_place, returned_node, leaf_vars, zeroed}
+use Rattle.unit_join.specs.JoinValues.{copy_global, copy_other}
+use Rattle.unit_join.specs.JoinedNodes.{drop_first, stood_count, with_leaf, with_leaf_kept, with_leaf_long}
+use Rattle.unit_join.specs.Joins.{LeavesAreJoined, IsLeafCall, LeavesCan, LeavesShare, called_leaves, copies, copy_in, entered, entry_assignments, first_copy, first_place, if_leaf, leaf_at, leaf_called, leaf_node, leaf_place, returned_node, leaf_vars, zeroed}
 use Rattle.program_pass.specs.StoodLaws.{IsNew, below_append, stood_node}
 
 -- ---- variables in range
@@ -67,12 +68,12 @@ zeroed_below copy bound all low received (suc count) y room =
 
 -- ---- one leaf in the place of a call
 
-module _ (vars all : ℕ) (copy : ℕ → ℕ) (leaf : GraphShape) (le : vars ≤ all) (low : (x : ℕ) → x < length leaf.vars → copy x < all) (leaf_can : CanMake leaf.vars leaf.received leaf.nodes) where
+module _ (vars all : ℕ) (copy : ℕ → ℕ) (leaf : GraphShape) (le : vars ≤ all) (low : (x : ℕ) → x < length leaf.vars → copy x < all) (leaf_can : CanMake leaf.vars leaf.received leaf.nodes) (leaf_least : leaf.shared ≤ length leaf.vars) where
   -- the assignments are in range
   entry_below : (operands : List Operand) → AllBelow vars (flat_map operand_vars operands) → InsertionsBelow all (entry_assignments copy leaf operands)
   entry_below operands read =
-      below_append all (entered copy leaf.received operands) (zeroed copy leaf.received 0 (length leaf.vars)) (entered_below copy vars (length leaf.vars) all le low leaf.received operands leaf_can.received_below read)
-      (zeroed_below copy (length leaf.vars) all low leaf.received (length leaf.vars) 0 (omega arith))
+      below_append all (entered copy leaf.received operands) (zeroed copy leaf.received leaf.shared (length leaf.vars - leaf.shared)) (entered_below copy vars (length leaf.vars) all le low leaf.received operands leaf_can.received_below read)
+      (zeroed_below copy (length leaf.vars) all low leaf.received (length leaf.vars - leaf.shared) leaf.shared (omega (arith, leaf_least)))
 
   -- a node of the leaf leads to a node of the leaf, or to where the call leads
   record IsLeafNode (first last next : ℕ) (node : Node) : Type 0 where
@@ -101,6 +102,7 @@ module _ (vars all : ℕ) (copy : ℕ → ℕ) (leaf : GraphShape) (le : vars �
   leaf_node_is first next into (Skip succ) into_below succs below = record { succs = λ slot s e. only_one first (first + (length leaf.nodes - 1)) next (leaf_place first succ) (inr (place_within first succ (succs 0 succ refl))) slot s e; below = tt; call = refl; no_start = λ s e. cc }
   leaf_node_is first next into (Assign x rhs succ) into_below succs below = record { succs = λ slot s e. only_one first (first + (length leaf.nodes - 1)) next (leaf_place first succ) (inr (place_within first succ (succs 0 succ refl))) slot s e; below = (low x below.0, rhs_below copy (length leaf.vars) all low rhs below.1); call = refl; no_start = λ s e. cc }
   leaf_node_is first next into (Print a succ) into_below succs below = record { succs = λ slot s e. only_one first (first + (length leaf.nodes - 1)) next (leaf_place first succ) (inr (place_within first succ (succs 0 succ refl))) slot s e; below = operand_below copy (length leaf.vars) all low a below; call = refl; no_start = λ s e. cc }
+  leaf_node_is first next into (Guard test number succ) into_below succs below = record { succs = λ slot s e. only_one first (first + (length leaf.nodes - 1)) next (leaf_place first succ) (inr (place_within first succ (succs 0 succ refl))) slot s e; below = test_below copy (length leaf.vars) all low test below; call = refl; no_start = λ s e. cc }
   leaf_node_is first next into (Call into' unit operands succ) into_below succs below = record { succs = λ slot s e. only_one first (first + (length leaf.nodes - 1)) next (leaf_place first succ) (inr (place_within first succ (succs 0 succ refl))) slot s e; below = tt; call = refl; no_start = λ s e. cc }
   leaf_node_is first next into (Test test taken other) into_below succs below = record { succs = λ slot s e. two slot s e; below = test_below copy (length leaf.vars) all low test below; call = refl; no_start = λ s e. cc }
     where
@@ -161,7 +163,7 @@ copies_low leaves (u ∷ units) first unit there = chosen (nat_eq u unit) refl t
 
 -- ---- all of them
 
-module _ (leaves : List (Option GraphShape)) (graph : GraphShape) (names : List (List ℕ)) (can : CanMake graph.vars graph.received graph.nodes) (leaves_can : LeavesCan leaves) (long : length names ≡ copies leaves (called_leaves leaves graph.nodes)) where
+module _ (leaves : List (Option GraphShape)) (graph : GraphShape) (names : List (List ℕ)) (can : CanMake graph.vars graph.received graph.nodes) (leaves_can : LeavesCan leaves) (long : length names ≡ copies leaves (called_leaves leaves graph.nodes)) (least : graph.shared ≤ length graph.vars) (share : LeavesShare leaves graph.shared) where
   abbrev units : List ℕ
   units = called_leaves leaves graph.nodes
 
@@ -173,16 +175,23 @@ module _ (leaves : List (Option GraphShape)) (graph : GraphShape) (names : List 
   vars_le = omega (arith, length-append graph.vars names)
 
   -- and so are the copies of a leaf that is called
-  copy_low : (n : ℕ) (c : IsLeafCall leaves graph.nodes n) (x : ℕ) → x < length c.leaf.vars → copy_in leaves units (length graph.vars) c.unit x < length all_vars
-  copy_low n c x lt =
-      let low = copies_low leaves units (length graph.vars) c.unit (called_in leaves graph.nodes n c) in
-      let vars : leaf_vars (leaf_at leaves c.unit) ≡ length c.leaf.vars = ap leaf_vars c.leaf_is in
-      omega (arith, low, vars, lt, long, length-append graph.vars names)
+  copy_low : (n : ℕ) (c : IsLeafCall leaves graph.nodes n) (x : ℕ) → x < length c.leaf.vars → copy_in graph.shared leaves units (length graph.vars) c.unit x < length all_vars
+  copy_low n c x lt = elim (cases_lt x graph.shared) [
+    | inl global ↦
+        let is = copy_global graph.shared (first_copy leaves units (length graph.vars) c.unit) x global in
+        subst (λ k. k < length all_vars) (sym is) (omega (arith, global, least, vars_le))
+    | inr other ↦
+        let is = copy_other graph.shared (first_copy leaves units (length graph.vars) c.unit) x other in
+        let low = copies_low leaves units (length graph.vars) c.unit (called_in leaves graph.nodes n c) in
+        let vars : leaf_vars (leaf_at leaves c.unit) ≡ length c.leaf.vars - c.leaf.shared = ap leaf_vars c.leaf_is in
+        let alike = share c.unit c.leaf c.leaf_is in
+        subst (λ k. k < length all_vars) (sym is) (omega (arith, low, vars, alike, other, lt, long, length-append graph.vars names))
+  ]
 
   -- the assignments of a call are in range
-  call_below : (n : ℕ) (c : IsLeafCall leaves graph.nodes n) → InsertionsBelow (length all_vars) (entry_assignments (copy_in leaves units (length graph.vars) c.unit) c.leaf c.operands)
+  call_below : (n : ℕ) (c : IsLeafCall leaves graph.nodes n) → InsertionsBelow (length all_vars) (entry_assignments (copy_in graph.shared leaves units (length graph.vars) c.unit) c.leaf c.operands)
   call_below n c =
-      entry_below (length graph.vars) (length all_vars) (copy_in leaves units (length graph.vars) c.unit) c.leaf vars_le (copy_low n c) (leaves_can c.unit c.leaf c.leaf_is) c.operands
+      entry_below (length graph.vars) (length all_vars) (copy_in graph.shared leaves units (length graph.vars) c.unit) c.leaf vars_le (copy_low n c) (leaves_can c.unit c.leaf c.leaf_is).0 (leaves_can c.unit c.leaf c.leaf_is).1.count c.operands
       (all_below_right (length graph.vars) (into_vars c.into) (flat_map operand_vars c.operands) (can.below n (Call c.into c.unit c.operands c.next) c.is))
 
   -- a call is not the first node
@@ -192,7 +201,7 @@ module _ (leaves : List (Option GraphShape)) (graph : GraphShape) (names : List 
 
   module _ (nodes : List Node) (n : ℕ) (c : IsLeafCall leaves graph.nodes n) (lt : n < length nodes) where
     abbrev to : ℕ → ℕ
-    to = copy_in leaves units (length graph.vars) c.unit
+    to = copy_in graph.shared leaves units (length graph.vars) c.unit
 
     abbrev puts : List Insertion
     puts = entry_assignments to c.leaf c.operands
@@ -222,24 +231,24 @@ module _ (leaves : List (Option GraphShape)) (graph : GraphShape) (names : List 
 
     -- a node was there before, or is new, or is one of the leaf
     one_of : (m : ℕ) (node : Node) → slice_get (with_leaf leaves units graph nodes n c) m ≡ Some node
-        → (slice_get nodes m ≡ Some node) ⊎ (IsNew (length all_vars) (length nodes) (length front) end node ⊎ IsLeafNode (length graph.vars) (length all_vars) to c.leaf vars_le (copy_low n c) (leaves_can c.unit c.leaf c.leaf_is) first (first + (length c.leaf.nodes - 1)) c.next node)
+        → (slice_get nodes m ≡ Some node) ⊎ (IsNew (length all_vars) (length nodes) (length front) end node ⊎ IsLeafNode (length graph.vars) (length all_vars) to c.leaf vars_le (copy_low n c) (leaves_can c.unit c.leaf c.leaf_is).0 (leaves_can c.unit c.leaf c.leaf_is).1.count first (first + (length c.leaf.nodes - 1)) c.next node)
     one_of m node e = elim (get_append front back m node e) [
       | inl old ↦ elim (stood_node (length all_vars) nodes n puts end lt (call_below n c) m node old) [ inl kept ↦ inl kept.1 | inr new ↦ inr (inl new.1) ]
       | inr leaf ↦
           let from = mapped_from (leaf_node to (leaf_place first) c.into c.next) (slice_get (drop 1 c.leaf.nodes) leaf.0) node (sym (slice_get-map (leaf_node to (leaf_place first) c.into c.next) (drop 1 c.leaf.nodes) leaf.0) ∙ leaf.2) in
           let same : suc leaf.0 - 1 ≡ leaf.0 = omega arith in
           let at : slice_get c.leaf.nodes (suc leaf.0) ≡ Some from.0 = sym (drop_first c.leaf.nodes (suc leaf.0) (omega arith)) ∙ ap (slice_get (drop 1 c.leaf.nodes)) same ∙ from.1 in
-          let leaf_can = leaves_can c.unit c.leaf c.leaf_is in
+          let leaf_can = (leaves_can c.unit c.leaf c.leaf_is).0 in
           let into_below = all_below_more (length graph.vars) (length all_vars) (into_vars c.into) vars_le (all_below_left (length graph.vars) (into_vars c.into) (flat_map operand_vars c.operands) (can.below n (Call c.into c.unit c.operands c.next) c.is)) in
-          inr (inr (subst (IsLeafNode (length graph.vars) (length all_vars) to c.leaf vars_le (copy_low n c) leaf_can first (first + (length c.leaf.nodes - 1)) c.next) from.2
-          (leaf_node_is (length graph.vars) (length all_vars) to c.leaf vars_le (copy_low n c) leaf_can first c.next c.into from.0 into_below
+          inr (inr (subst (IsLeafNode (length graph.vars) (length all_vars) to c.leaf vars_le (copy_low n c) leaf_can (leaves_can c.unit c.leaf c.leaf_is).1.count first (first + (length c.leaf.nodes - 1)) c.next) from.2
+          (leaf_node_is (length graph.vars) (length all_vars) to c.leaf vars_le (copy_low n c) leaf_can (leaves_can c.unit c.leaf c.leaf_is).1.count first c.next c.into from.0 into_below
           (λ slot s edge. leaf_can.succs (suc leaf.0) slot s (ap (λ o. slice_get (succs_of o) slot) at ∙ edge)) (leaf_can.below (suc leaf.0) from.0 at))))
     ]
 
     -- where the assignments lead on
     end_within : (first ≤ end) × (end < first + (length c.leaf.nodes - 1))
     end_within =
-        let leaf_can = leaves_can c.unit c.leaf c.leaf_is in
+        let leaf_can = (leaves_can c.unit c.leaf c.leaf_is).0 in
         let after = leaf_can.succs 0 0 leaf_can.start.0 (ap (λ o. slice_get (succs_of o) 0) leaf_can.start.1) in
         let is : start_succ (slice_get c.leaf.nodes 0) ≡ leaf_can.start.0 = ap start_succ leaf_can.start.1 in
         let ge = after.0 in

@@ -1,12 +1,12 @@
 -- A graph has one result of `join` with the same leaves, a program one list of leaves, and so one joined program. For
 -- proofs only.
-use Rattle.std.proofs.Common.{◌≡◌, ℕ, List, [], ◌∷◌, ◌++◌, length, Option, Some, None, refl, sym, ap, ◌∙◌, subst, arith}
+use Rattle.std.proofs.Common.{◌≡◌, ℕ, List, [], ◌∷◌, ◌++◌, length, slice_get, Option, Some, None, refl, sym, ap, ◌∙◌, subst, arith}
 use Rattle.mir_base.specs.declared.instructions.Operand.{Operand}
 use Rattle.mir_base.specs.Shapes.{ProgramShape, UnitShape}
 use Rattle.flow_graph.specs.declared.nodes.Node.{Node}
 use Rattle.flow_graph.specs.declared.nodes.Node.TheVariants.{Call}
 use Rattle.flow_graph.specs.Graphs.{GraphShape}
-use Rattle.flow_graph.specs.Kept.{IsMade}
+use Rattle.flow_graph.specs.Retained.{IsMade}
 use Rattle.flow_graph.specs.ListLaws.{some_at}
 use Rattle.flow_graph.specs.OneLaws.{lowered_is_one, made_is_one}
 use Rattle.std.proofs.lemmas.Option.{slice_get_within}
@@ -15,7 +15,7 @@ use Rattle.jump_clean.specs.Cleaned.{IsClean}
 use Rattle.jump_clean.specs.CleanLaws.{clean_is_one}
 use Rattle.program_pass.specs.PassPrograms.{AllPassed, IsPassedProgram}
 use Rattle.unit_join.specs.JoinPrograms.{AreLeavesMade, IsJoinedProgram, LeafMade}
-use Rattle.unit_join.specs.Joins.{AreLeafCalls, AreLeavesOf, IsLeafCall, IsLeafOf, JoinedBetween, LeavesAreJoined, LeavesJoined, called_leaves, copies, copy_in, joined_by, leaf_at, nodes_with_leaf}
+use Rattle.unit_join.specs.Joins.{AreLeafCalls, AreLeavesOf, IsJoined, IsLeafCall, IsLeafOf, JoinedBetween, LeavesAreJoined, LeavesJoined, called_leaves, copies, copy_in, joined_by, leaf_at, nodes_with_leaf}
 use Rattle.program_pass.specs.MemberLaws.{members_same}
 use Rattle.program_pass.specs.PassOneLaws.{places_same, program_one}
 
@@ -48,7 +48,7 @@ by_one leaves units graph nodes n p q = unit_same p.into q.into p.unit q.unit p.
     leaf = let e : Some p.leaf ≡ Some q.leaf = sym p.leaf_is ∙ ap (leaf_at leaves) unit ∙ q.leaf_is in cc
 
     nodes_of : Option ℕ → ℕ → List Operand → ℕ → GraphShape → List Node
-    nodes_of i u o s l = nodes_with_leaf nodes n (copy_in leaves units (length graph.vars) u) l i o s
+    nodes_of i u o s l = nodes_with_leaf nodes n (copy_in graph.shared leaves units (length graph.vars) u) l i o s
 
     unit_same : (i i' : Option ℕ) (u u' : ℕ) (o o' : List Operand) (s s' : ℕ) (l l' : GraphShape) → i ≡ i' → u ≡ u' → o ≡ o' → s ≡ s' → l ≡ l' → nodes_of i u o s l ≡ nodes_of i' u' o' s' l'
     unit_same i i' u u' o o' s s' l l' a b c d e =
@@ -68,8 +68,8 @@ joined_one leaves unit graph a b p q =
     let calls : p.calls ≡ q.calls = leaf_calls_one leaves graph.nodes p.calls q.calls p.are_calls q.are_calls in
     let names : p.names ≡ q.names = names_are_one graph.vars (copies leaves units) p.names q.names p.are_names q.are_names in
     let nodes : p.nodes ≡ q.nodes = leaves_joined_one leaves units graph p.calls graph.nodes p.nodes q.nodes p.are_joined (subst (λ c. LeavesAreJoined leaves units graph c graph.nodes q.nodes) (sym calls) q.are_joined) in
-    made_is_one graph.name (graph.vars ++ p.names) graph.received p.nodes a b p.made
-    (subst (λ l. IsMade graph.name (graph.vars ++ p.names) graph.received l b) (sym nodes) (subst (λ l. IsMade graph.name (graph.vars ++ l) graph.received q.nodes b) (sym names) q.made))
+    made_is_one graph.name graph.shared (graph.vars ++ p.names) graph.received p.nodes a b p.made
+    (subst (λ l. IsMade graph.name graph.shared (graph.vars ++ p.names) graph.received l b) (sym nodes) (subst (λ l. IsMade graph.name graph.shared (graph.vars ++ l) graph.received q.nodes b) (sym names) q.made))
 
 -- ---- one list of leaves
 
@@ -91,7 +91,7 @@ leaves_one units a b p q = places_same a b (p.long ∙ sym q.long) (λ u x y at 
 -- ---- one program
 
 -- a joined program that was made is the only one
-pub joined_program_one : (leaves : List (Option GraphShape)) (source target other : ProgramShape) → AreLeavesMade source.units leaves → AllPassed (LeavesJoined leaves) (JoinedBetween leaves) source.units target.units → IsJoinedProgram source other → target ≡ other
-joined_program_one leaves source target other made passed is =
+pub joined_program_one : (leaves : List (Option GraphShape)) (source target other : ProgramShape) → target.globals ≡ source.globals → AreLeavesMade source.units leaves → AllPassed (LeavesJoined leaves) (JoinedBetween leaves) source.units target.units → IsJoinedProgram source other → target ≡ other
+joined_program_one leaves source target other globals made passed is =
     let same : leaves ≡ is.leaves = leaves_one source.units leaves is.leaves made is.are_leaves in
-    program_one (LeavesJoined leaves) (JoinedBetween leaves) (joined_one leaves) source target other passed (subst (λ l. IsPassedProgram (LeavesJoined l) source other) (sym same) is.passed)
+    program_one (LeavesJoined leaves) (JoinedBetween leaves) (joined_one leaves) source target other globals passed (subst (λ l. IsPassedProgram (LeavesJoined l) source other) (sym same) is.passed)

@@ -1,28 +1,28 @@
 -- Laws: joined leaves keep a program; the exact leaves; and what the calls of leaves hand over. For proofs only.
-use Rattle.std.proofs.Common.{◌≡◌, ℕ, ◌+◌, inl, inr, List, [], ◌∷◌, ◌++◌, length, slice_get, Option, Some, None, refl, sym, ap, ◌∙◌, subst, arith, le_refl}
+use Rattle.std.proofs.Common.{◌≡◌, ℕ, ◌+◌, ◌≤◌, inl, inr, List, [], ◌∷◌, ◌++◌, length, length-append, slice_get, Option, Some, None, refl, sym, ap, ◌∙◌, subst, arith, le_refl}
 use Rattle.std.proofs.lemmas.List.{length_push}
 use Rattle.std.proofs.lemmas.Option.{slice_get_within}
-use Rattle.mir_base.specs.Shapes.{BodyFits, IsProgram, ProgramShape, UnitShape, body_or_empty, receives_in}
+use Rattle.mir_base.specs.BelowLaws.{all_below_more}
+use Rattle.mir_base.specs.Shapes.{AllDiffer, BodyFits, IsProgram, ProgramShape, UnitShape, body_or_empty, receives_in}
 use Rattle.mir_base.specs.UnitRuns.{UnitCheaper, UnitSame}
 use Rattle.flow_graph.specs.declared.nodes.Node.{Node}
 use Rattle.flow_graph.specs.declared.nodes.Node.TheVariants.{Call}
 use Rattle.flow_graph.specs.Calls.{CallsAmong, NodesCall}
-use Rattle.flow_graph.specs.Graphs.{CanMake, GraphShape}
-use Rattle.flow_graph.specs.Kept.{IsMade}
+use Rattle.flow_graph.specs.Graphs.{CanMake, GraphShape, node_vars}
+use Rattle.flow_graph.specs.Retained.{IsMade}
 use Rattle.flow_graph.specs.ListLaws.{get_push, some_at}
 use Rattle.flow_graph.specs.Machines.{graph_machine, machine_of}
 use Rattle.flow_graph.specs.OneLaws.{lowered_is_one}
 use Rattle.jump_clean.specs.CleanLaws.{clean_is_one}
 use Rattle.jump_clean.specs.Cleaned.{IsClean}
-use Rattle.program_pass.specs.GraphPrograms.{graph_or_empty}
 use Rattle.program_pass.specs.PassPrograms.{AllPassed, LoweredClean, KeepsRuns, PassKeeps}
-use Rattle.program_pass.specs.PassProgramLaws.{at, between_at, graph_program, graphs, graphs_count, middles, passes_keep}
+use Rattle.program_pass.specs.PassProgramLaws.{at, between_at, graph_program, graphs, middles, passes_keep}
 use Rattle.program_pass.specs.RefitLaws.{called_fits}
 use Rattle.unit_join.specs.JoinLaws.{joined_calls, joined_can}
 use Rattle.unit_join.specs.JoinPrograms.{AreLeavesMade, EachLeaf, HasLeafCopies, JoinMade, LeafMade}
 use Rattle.unit_join.specs.JoinStacks.{joins_keep}
-use Rattle.unit_join.specs.Joins.{LeavesAreJoined, AreLeafCalls, AreLeaves, AreLeavesOf, IsJoined, IsLeafOf, LeavesJoined, JoinedBetween, JoinsLeaves, LeafCallsFit, LeavesCan, NoLeafCalls, called_leaves, leaf_at, or_none}
-use Rattle.program_pass.specs.StoodLaws.{wide_can}
+use Rattle.unit_join.specs.Joins.{LeavesAreJoined, AreLeafCalls, AreLeaves, AreLeavesOf, IsJoined, IsLeafOf, LeavesJoined, JoinedBetween, JoinsLeaves, LeafCallsFit, LeavesCan, LeavesShare, NoLeafCalls, called_leaves, leaf_at, or_none}
+use Rattle.program_pass.specs.StoodLaws.{globals_stay, wide_can}
 
 -- ---- entries
 
@@ -54,6 +54,12 @@ pub no_leaf_calls : (units : List UnitShape) (leaves : List (Option GraphShape))
 no_leaf_calls units leaves are u leaf called count is c =
     let has = has_leaf units leaves are u leaf is in
     has.made.0.no_calls called count (has.made.2.keeps.calls called count c)
+
+-- the globals of a program are those of each leaf
+pub leaves_share : (globals : List (List ℕ)) (units : List UnitShape) (leaves : List (Option GraphShape)) (shared : ℕ) → IsProgram globals units → shared ≡ length globals → AreLeavesMade units leaves → LeavesShare leaves shared
+leaves_share globals units leaves shared program count are u leaf is =
+    let has = has_leaf units leaves are u leaf is in
+    sym has.made.2.keeps.same.shared ∙ (program.shares u has.unit has.unit_at).count ∙ sym count
 
 -- the exact leaves
 pub leaves_of : (units : List UnitShape) (leaves : List (Option GraphShape)) → AreLeavesMade units leaves → AreLeavesOf units leaves
@@ -87,24 +93,22 @@ leaf_calls_fit units leaves unit lowered cleaned are fits front n c =
 
 -- ---- the program
 
-module _ (leaves : List (Option GraphShape)) (source target : ProgramShape) (program : IsProgram source.units) (all : AllPassed (LeavesJoined leaves) (JoinedBetween leaves) source.units target.units) (made : AreLeavesMade source.units leaves) where
+module _ (leaves : List (Option GraphShape)) (source target : ProgramShape) (program : IsProgram source.globals source.units) (globals : target.globals ≡ source.globals) (all : AllPassed (LeavesJoined leaves) (JoinedBetween leaves) source.units target.units) (made : AreLeavesMade source.units leaves) where
   abbrev own_graphs : List GraphShape
-  own_graphs = graphs (LeavesJoined leaves) (JoinedBetween leaves) source target program all
+  own_graphs = graphs (LeavesJoined leaves) (JoinedBetween leaves) source target program globals all
 
   -- each leaf is the graph of its unit
   leaf_is : (u : ℕ) (leaf : GraphShape) → leaf_at leaves u ≡ Some leaf → slice_get own_graphs u ≡ Some leaf
   leaf_is u leaf is =
       let has = has_leaf source.units leaves made u leaf is in
       let lt = slice_get_within source.units u has.unit has.unit_at in
-      let a = at (LeavesJoined leaves) (JoinedBetween leaves) source target program all u lt in
+      let a = at (LeavesJoined leaves) (JoinedBetween leaves) source target program globals all u lt in
       let both : Some has.unit ≡ Some a.source = sym has.unit_at ∙ a.source_at in
       let same : has.unit ≡ a.source = cc in
       let front : LoweredClean a.source has.made.1 leaf = subst (λ v. LoweredClean v has.made.1 leaf) same has.made.2 in
       let lowered = lowered_is_one a.source has.made.1 a.made.lowered front.is_lowered a.made.front.is_lowered in
       let cleaned : leaf ≡ a.made.cleaned = clean_is_one a.made.lowered leaf a.made.cleaned a.made.front.within (subst (λ g. IsClean g leaf) lowered front.is_cleaned) a.made.front.is_cleaned in
-      let long = graphs_count (LeavesJoined leaves) (JoinedBetween leaves) source target program all in
-      let here = some_at own_graphs u (omega (arith, lt, long)) in
-      here.1 ∙ ap Some (sym (ap graph_or_empty here.1) ∙ a.graph_is ∙ sym cleaned)
+      a.graph_at ∙ ap Some (sym cleaned)
 
   are_leaves : AreLeaves own_graphs leaves
   are_leaves = record {
@@ -115,29 +119,29 @@ module _ (leaves : List (Option GraphShape)) (source target : ProgramShape) (pro
   -- the target is the same, evaluates no more operators and is never deeper
   pub join_keeps : KeepsRuns source target
   join_keeps =
-      passes_keep (LeavesJoined leaves) (JoinedBetween leaves) source target program all
-      (joins_keep own_graphs (middles (LeavesJoined leaves) (JoinedBetween leaves) source target program all) leaves (graph_program (LeavesJoined leaves) (JoinedBetween leaves) source target program all) are_leaves
-      (between_at (LeavesJoined leaves) (JoinedBetween leaves) source target program all))
+      passes_keep (LeavesJoined leaves) (JoinedBetween leaves) source target program globals all
+      (joins_keep own_graphs (middles (LeavesJoined leaves) (JoinedBetween leaves) source target program globals all) leaves (graph_program (LeavesJoined leaves) (JoinedBetween leaves) source target program globals all) are_leaves
+      (between_at (LeavesJoined leaves) (JoinedBetween leaves) source target program globals all))
 
 -- ---- the graph
 
-module _ (graph : GraphShape) (leaves : List (Option GraphShape)) (calls : List ℕ) (wide : GraphShape) (nodes : List Node) (can : CanMake graph.vars graph.received graph.nodes) (leaves_can : LeavesCan leaves) (w : HasLeafCopies graph leaves wide) (joined : LeavesAreJoined leaves (called_leaves leaves graph.nodes) graph calls graph.nodes nodes) where
+module _ (graph : GraphShape) (leaves : List (Option GraphShape)) (calls : List ℕ) (wide : GraphShape) (nodes : List Node) (can : CanMake graph.vars graph.received graph.nodes) (leaves_can : LeavesCan leaves) (least : graph.shared ≤ length graph.vars) (share : LeavesShare leaves graph.shared) (w : HasLeafCopies graph leaves wide) (joined : LeavesAreJoined leaves (called_leaves leaves graph.nodes) graph calls graph.nodes nodes) where
   -- the nodes make a graph
   pub leaves_made_can : CanMake wide.vars wide.received nodes
   leaves_made_can = subst (λ (g : GraphShape). CanMake g.vars g.received nodes) (sym w.is)
-      (joined_can leaves graph w.names can leaves_can w.are_names.long calls graph.nodes nodes (le_refl (length graph.nodes)) (wide_can graph.vars w.names graph.received graph.nodes can w.differ) joined)
+      (joined_can leaves graph w.names can leaves_can w.are_names.long least share calls graph.nodes nodes (le_refl (length graph.nodes)) (wide_can graph.vars w.names graph.received graph.nodes can w.differ) joined)
 
   -- and this graph does the same as they
-  pub join_made : (made : GraphShape) → IsMade wide.name wide.vars wide.received nodes made → UnitSame (graph_machine wide.received nodes) (machine_of made) → UnitCheaper (graph_machine wide.received nodes) (machine_of made) → CallsAmong (NodesCall made.nodes) (NodesCall nodes) → JoinMade graph leaves calls made
+  pub join_made : (made : GraphShape) → IsMade wide.name wide.shared wide.vars wide.received nodes made → UnitSame (graph_machine wide.shared wide.received nodes) (machine_of made) → UnitCheaper (graph_machine wide.shared wide.received nodes) (machine_of made) → CallsAmong (NodesCall made.nodes) (NodesCall nodes) → JoinMade graph leaves calls made
   join_made made is same cheaper among = record {
     names = w.names;
     are_names = w.are_names;
     nodes = nodes;
     are_joined = joined;
-    made = subst (λ (g : GraphShape). IsMade g.name g.vars g.received nodes made) w.is is;
-    same = subst (λ (g : GraphShape). UnitSame (graph_machine g.received nodes) (machine_of made)) w.is same;
-    cheaper = subst (λ (g : GraphShape). UnitCheaper (graph_machine g.received nodes) (machine_of made)) w.is cheaper;
-    node_calls = joined_calls leaves graph w.names can leaves_can w.are_names.long calls graph.nodes nodes (le_refl (length graph.nodes)) joined;
+    made = subst (λ (g : GraphShape). IsMade g.name g.shared g.vars g.received nodes made) w.is is;
+    same = subst (λ (g : GraphShape). UnitSame (graph_machine g.shared g.received nodes) (machine_of made)) w.is same;
+    cheaper = subst (λ (g : GraphShape). UnitCheaper (graph_machine g.shared g.received nodes) (machine_of made)) w.is cheaper;
+    node_calls = joined_calls leaves graph w.names can leaves_can w.are_names.long least share calls graph.nodes nodes (le_refl (length graph.nodes)) joined;
     joined_calls = among;
   }
 
@@ -146,11 +150,13 @@ pub is_joined : (graph : GraphShape) (leaves : List (Option GraphShape)) (calls 
 is_joined graph leaves calls joined are m = record { calls = calls; are_calls = are; names = m.names; are_names = m.are_names; nodes = m.nodes; are_joined = m.are_joined; made = m.made }
 
 -- and what it keeps
-pub keeps_joins : (graph : GraphShape) (leaves : List (Option GraphShape)) (calls : List ℕ) (joined : GraphShape) → AreLeafCalls leaves graph.nodes calls → JoinMade graph leaves calls joined → PassKeeps (JoinsLeaves leaves) graph joined
-keeps_joins graph leaves calls joined are m = record {
+pub keeps_joins : (graph : GraphShape) (leaves : List (Option GraphShape)) (calls : List ℕ) (joined : GraphShape) → graph.shared ≤ length graph.vars → AreLeafCalls leaves graph.nodes calls → JoinMade graph leaves calls joined → PassKeeps (JoinsLeaves leaves) graph joined
+keeps_joins graph leaves calls joined least are m = record {
   name = m.made.name_is;
-  middle = record { name = graph.name; vars = graph.vars ++ m.names; received = graph.received; nodes = m.nodes };
-  between = record { calls = calls; are_calls = are; units = called_leaves leaves graph.nodes; are_joined = m.are_joined; received = refl };
+  globals = globals_stay graph.shared graph.vars m.names joined least m.made.shared_is m.made.vars_are;
+  middle = record { name = graph.name; shared = graph.shared; vars = graph.vars ++ m.names; received = graph.received; nodes = m.nodes };
+  between = record { calls = calls; are_calls = are; units = called_leaves leaves graph.nodes; are_joined = m.are_joined; shared = refl; received = refl };
+  shared = refl;
   received = refl;
   same = m.same;
   cheaper = m.cheaper;

@@ -7,7 +7,7 @@ use Rattle.mir_base.specs.UnitRuns.{UnitCheaper, UnitSame}
 use Rattle.flow_graph.specs.declared.nodes.Node.{Node}
 use Rattle.flow_graph.specs.Calls.{CallsAmong, NodesCall}
 use Rattle.flow_graph.specs.Graphs.{GraphShape}
-use Rattle.flow_graph.specs.Kept.{IsMade}
+use Rattle.flow_graph.specs.Retained.{IsMade}
 use Rattle.flow_graph.specs.Machines.{graph_machine, machine_of}
 use Rattle.fresh_names.specs.FreshNames.{AreTemporaryNames}
 use Rattle.program_pass.specs.PassPrograms.{AllPassed, IsPassedProgram, LoweredClean, PassedAt}
@@ -20,7 +20,8 @@ LeafMade unit (Some leaf) = IsLeafUnit unit × (lowered : GraphShape) × Lowered
 
 -- those of the first units of a program
 abbrev pub EachLeaf : List UnitShape → List (Option GraphShape) → Type 0
-EachLeaf units leaves = (u : ℕ) (unit : UnitShape) (entry : Option GraphShape) → slice_get units u ≡ Some unit → slice_get leaves u ≡ Some entry → LeafMade unit entry
+EachLeaf units leaves = (u : ℕ) (unit : UnitShape) (entry : Option GraphShape) → slice_get units u ≡ Some unit
+    → slice_get leaves u ≡ Some entry → LeafMade unit entry
 
 -- the leaves of a program, with what they keep
 pub record AreLeavesMade (units : List UnitShape) (leaves : List (Option GraphShape)) : Type 0 where
@@ -35,14 +36,15 @@ pub record HasLeafCopies (graph : GraphShape) (leaves : List (Option GraphShape)
   pub is : wide ≡ record graph { vars = graph.vars ++ names }
 
 -- the graph with the leaves in the places of these calls
-pub record JoinMade (graph : GraphShape) (leaves : List (Option GraphShape)) (at_calls : List ℕ) (joined : GraphShape) : Type 0 where
+pub record JoinMade (graph : GraphShape) (leaves : List (Option GraphShape)) (at_calls : List ℕ)
+    (joined : GraphShape) : Type 0 where
   pub names : List (List ℕ)
   pub are_names : AreTemporaryNames graph.vars (copies leaves (called_leaves leaves graph.nodes)) names
   pub nodes : List Node
   pub are_joined : LeavesAreJoined leaves (called_leaves leaves graph.nodes) graph at_calls graph.nodes nodes
-  pub made : IsMade graph.name (graph.vars ++ names) graph.received nodes joined
-  pub same : UnitSame (graph_machine graph.received nodes) (machine_of joined)
-  pub cheaper : UnitCheaper (graph_machine graph.received nodes) (machine_of joined)
+  pub made : IsMade graph.name graph.shared (graph.vars ++ names) graph.received nodes joined
+  pub same : UnitSame (graph_machine graph.shared graph.received nodes) (machine_of joined)
+  pub cheaper : UnitCheaper (graph_machine graph.shared graph.received nodes) (machine_of joined)
   pub node_calls : CallsAmong (NodesCall nodes) (NodesCall graph.nodes)
   pub joined_calls : CallsAmong (NodesCall joined.nodes) (NodesCall nodes)
 

@@ -1,172 +1,46 @@
 -- Leaves joined into their callers keep a program of graphs: each stack of the source is the result's with at most one
 -- frame more, of a leaf, on top. For proofs only.
-use Rattle.std.proofs.Common.{◌≡◌, ◌⊎◌, inl, inr, ℕ, zero, suc, ◌+◌, ◌-◌, ◌<◌, ◌≤◌, Bool, true, false, if◌then◌else◌, nat_eq, List, [], ◌∷◌, ◌++◌, drop, length, length-append, map, flat_map, slice_get, slice_set, get_or, ℤ, Option, Some, None, option_map, refl, sym, ap, ◌∙◌, subst, arith, le_refl}
+use Rattle.std.proofs.Common.{◌≡◌, ◌⊎◌, inl, inr, ℕ, suc, ◌+◌, ◌-◌, ◌<◌, ◌≤◌, Bool, true, false, if◌then◌else◌, List, [], ◌∷◌, length, map, flat_map, slice_get, get_or, ℤ, Option, Some, None, refl, sym, ap, ◌∙◌, subst, arith, le_refl}
 use Rattle.std.specs.Prelude.{max}
-use Rattle.std.proofs.lemmas.List.{length-set}
-use Rattle.std.proofs.lemmas.Option.{slice_get-get_or, slice_get-map, slice_get_within}
+use Rattle.std.proofs.lemmas.Bool.{cases_lt}
+use Rattle.std.proofs.lemmas.Option.{slice_get-get_or, slice_get_within}
 use Rattle.mir_base.specs.declared.instructions.Operand.{Operand}
 use Rattle.mir_base.specs.declared.instructions.Rhs.{Rhs}
 use Rattle.mir_base.specs.declared.instructions.Rhs.TheVariants.{Plain, Unary, Binary}
 use Rattle.mir_base.specs.declared.instructions.Test.{Test as Condition}
 use Rattle.mir_base.specs.declared.operators.Trap.{Trap}
-use Rattle.mir_base.specs.declared.operators.Trap.TheVariants.{ZeroDivisor}
+use Rattle.mir_base.specs.declared.operators.Trap.TheVariants.{ZeroDivisor, Raised}
 use Rattle.mir_base.specs.BelowLaws.{all_below_right}
 use Rattle.mir_base.specs.EqualValues.{with_other}
 use Rattle.mir_base.specs.ExpressionLaws.{assign_is}
 use Rattle.mir_base.specs.Expressions.{rhs_count, rhs_traps, rhs_value}
-use Rattle.mir_base.specs.Frames.{Answer, CallEntry, Code, Frame, first_frame, Continues, Prints, Calls, Returns, Traps, all_zero, resumed}
-use Rattle.mir_base.specs.Runs.{Caller, Running, Stopped, returned}
+use Rattle.mir_base.specs.Frames.{Answer, CallEntry, Code, Frame, first_frame, Continues, Prints, Calls, Returns, Traps, all_zero, resumed, shared_values, with_first}
+use Rattle.mir_base.specs.Runs.{Caller, Control, Running, Stopped, returned}
 use Rattle.mir_base.specs.Shapes.{into_vars, operand_vars}
+use Rattle.mir_base.specs.SharedLaws.{shared_long, with_first_other}
 use Rattle.mir_base.specs.Units.{assigned, at, operand_value, test_holds}
 use Rattle.flow_graph.specs.declared.nodes.Node.{Node}
-use Rattle.flow_graph.specs.declared.nodes.Node.TheVariants.{Start, Skip, Assign, Print, Call, Test, Return}
-use Rattle.flow_graph.specs.Graphs.{CanMake, GraphShape, succs_of}
-use Rattle.flow_graph.specs.InsertionRuns.{values_after}
-use Rattle.flow_graph.specs.Insertions.{Insertion, chain, entry_among}
-use Rattle.flow_graph.specs.ListLaws.{get_left, get_right_at, some_at}
+use Rattle.flow_graph.specs.declared.nodes.Node.TheVariants.{Start, Skip, Assign, Print, Guard, Call, Test, Return}
+use Rattle.flow_graph.specs.Graphs.{CanMake, GraphShape, SharesVars, succs_of}
+use Rattle.graph_edit.specs.InsertionRuns.{values_after}
+use Rattle.flow_graph.specs.ListLaws.{some_at}
+use Rattle.flow_graph.specs.MachineLaws.{first_shared}
 use Rattle.flow_graph.specs.Machines.{graph_code, node_transition, received_from}
 use Rattle.flow_graph.specs.Numbering.{IsIn, renamed_operand, renamed_rhs}
 use Rattle.flow_graph.specs.RedirectLaws.{resumed_place}
 use Rattle.flow_graph.specs.Plans.{start_succ}
 use Rattle.mir_sim.specs.Machines.{MachinesKeep, codes_in}
 use Rattle.mir_sim.specs.StackLaws.{leads_nowhere, leads_silently, leads_step, leads_trans, stacks_keep}
-use Rattle.mir_sim.specs.StackSimulations.{Abreast, MeetsAgain, Stack, StackRelation}
-use Rattle.program_pass.specs.Chains.{stood}
-use Rattle.program_pass.specs.ChainLaws.{StandsAt, chain_long, gone_on, stands_moves, stands_silently, stood_kept, stood_long, stood_stands}
-use Rattle.program_pass.specs.GraphPrograms.{IsGraphProgram, graph_numbered, graph_machines, graph_or_empty}
-use Rattle.program_pass.specs.GraphProgramLaws.{Agree, called_exists, node_together, onward_agree, resumed_agree, with_equal}
-use Rattle.unit_join.specs.JoinValues.{CopiesHold, entry_copies, entry_keeps, entry_plain, operand_copied, rhs_copied, set_copied, test_copied, traps_copied}
-use Rattle.unit_join.specs.Joins.{LeavesAreJoined, AreLeaves, IsLeafCall, JoinsLeaves, copy_in, entry_assignments, first_copy, first_place, nodes_with_leaf, leaf_at, leaf_node, leaf_place, returned_node, leaf_vars}
+use Rattle.mir_sim.specs.StackSimulations.{Abreast, MeetsAgain, Stack, StackRelation, StepsLead}
+use Rattle.program_pass.specs.ChainLaws.{StandsAt, gone_on, stands_silently}
+use Rattle.program_pass.specs.GraphPrograms.{IsGraphProgram, graph_numbered, graph_machines, graph_or_empty, shared_in}
+use Rattle.program_pass.specs.GraphProgramLaws.{Agree, answers_long, called_exists, node_together, onward_agree, resumed_agree, with_equal}
+use Rattle.program_pass.specs.EntryLaws.{with_shared}
+use Rattle.unit_join.specs.JoinedNodes.{LeafStands, copy, copy_above, copy_one, copy_same, joined_kept, joined_stands, ordered_apart}
+use Rattle.unit_join.specs.JoinValues.{CopiesHold, entry_copies, entry_keeps, entry_plain, operand_copied, own_list, rhs_copied, set_copied, test_copied, traps_copied}
+use Rattle.unit_join.specs.Joins.{AreLeaves, IsLeafCall, JoinsLeaves, entry_assignments, leaf_node, leaf_place, returned_node}
 use Rattle.program_pass.specs.StepLaws.{OneStepEach, steps_meet}
-use Rattle.program_pass.specs.MemberLaws.{in_or_not, place_in}
-
--- ---- the nodes with leaves
-
--- copies come after the variables of the graph
-first_above : (leaves : List (Option GraphShape)) (units : List ℕ) (first unit : ℕ) → first ≤ first_copy leaves units first unit
-first_above leaves [] first unit = le_refl first
-first_above leaves (u ∷ units) first unit = chosen (nat_eq u unit) (first_above leaves units (first + leaf_vars (leaf_at leaves u)) unit)
-  where
-    chosen : (b : Bool) → first + leaf_vars (leaf_at leaves u) ≤ first_copy leaves units (first + leaf_vars (leaf_at leaves u)) unit → first ≤ (if b then first else first_copy leaves units (first + leaf_vars (leaf_at leaves u)) unit)
-    chosen true le = le_refl first
-    chosen false le = omega (arith, le)
-
--- how many nodes there are with assignments in the place of one
-pub stood_count : (nodes : List Node) (n : ℕ) (puts : List Insertion) (end : ℕ) → length (stood nodes n puts end) ≡ length nodes + (length puts - 1)
-stood_count nodes n [] end = let long = length-set nodes n (Skip end) in omega (arith, long)
-stood_count nodes n (put ∷ puts) end =
-    let node : Node = Assign put.var put.rhs (entry_among end (length nodes) puts) in
-    let long = length-set nodes n node in
-    let all = length-append (slice_set nodes n node) (chain end (length nodes) puts) in
-    let count = chain_long end (length nodes) puts in
-    omega (arith, long, all, count)
-
--- the nodes of a list without its first
-pub drop_first : {A : Type 0} (xs : List A) (m : ℕ) → 1 ≤ m → slice_get (drop 1 xs) (m - 1) ≡ slice_get xs m
-drop_first xs zero ge = absurd (omega (arith, ge))
-drop_first [] (suc m) ge = refl
-drop_first (x ∷ xs) (suc m) ge = let same : suc m - 1 ≡ m = omega arith in ap (slice_get xs) same
-
-module _ (leaves : List (Option GraphShape)) (units : List ℕ) (graph : GraphShape) where
-  -- the copies of a unit's variables
-  abbrev pub copy : ℕ → ℕ → ℕ
-  copy unit = copy_in leaves units (length graph.vars) unit
-
-  -- the nodes with the leaf in the place of a call
-  abbrev pub with_leaf : List Node → (n : ℕ) → IsLeafCall leaves graph.nodes n → List Node
-  with_leaf nodes n c = nodes_with_leaf nodes n (copy c.unit) c.leaf c.into c.operands c.next
-
-  -- there are no fewer
-  pub with_leaf_long : (nodes : List Node) (n : ℕ) (c : IsLeafCall leaves graph.nodes n) → length nodes ≤ length (with_leaf nodes n c)
-  with_leaf_long nodes n c =
-      let puts = entry_assignments (copy c.unit) c.leaf c.operands in
-      let first = first_place (length nodes) puts in
-      let end = leaf_place first (start_succ (slice_get c.leaf.nodes 0)) in
-      let more = stood_long nodes n puts end in
-      let all = length-append (stood nodes n puts end) (map (leaf_node (copy c.unit) (leaf_place first) c.into c.next) (drop 1 c.leaf.nodes)) in
-      omega (arith, more, all)
-
-  -- the other nodes stay
-  pub with_leaf_kept : (nodes : List Node) (n : ℕ) (c : IsLeafCall leaves graph.nodes n) (m : ℕ) → (m ≡ n → ⊥) → m < length nodes → slice_get (with_leaf nodes n c) m ≡ slice_get nodes m
-  with_leaf_kept nodes n c m apart lt =
-      let puts = entry_assignments (copy c.unit) c.leaf c.operands in
-      let first = first_place (length nodes) puts in
-      let end = leaf_place first (start_succ (slice_get c.leaf.nodes 0)) in
-      let more = stood_long nodes n puts end in
-      get_left (stood nodes n puts end) (map (leaf_node (copy c.unit) (leaf_place first) c.into c.next) (drop 1 c.leaf.nodes)) m (omega (arith, lt, more)) ∙ stood_kept nodes n puts end m apart lt
-
-  -- all nodes stay but these calls
-  joined_kept : (calls : List ℕ) (nodes joined : List Node) → LeavesAreJoined leaves units graph calls nodes joined → (m : ℕ) → m < length nodes → (IsIn m calls → ⊥) → slice_get joined m ≡ slice_get nodes m
-  joined_kept [] nodes joined are m lt out = ap (λ l. slice_get l m) are
-  joined_kept (n ∷ calls) nodes joined are m lt out =
-      joined_kept calls (with_leaf nodes n are.0) joined are.1 m (omega (arith, lt, with_leaf_long nodes n are.0)) (λ there. out (inr there))
-      ∙ with_leaf_kept nodes n are.0 m (λ same. out (inl (sym same))) lt
-
-  -- a call of a leaf, whose assignments stand in its place, and the nodes of the leaf from number `first` on
-  pub record LeafStands (joined : List Node) (n : ℕ) : Type 0 where
-    pub call : IsLeafCall leaves graph.nodes n
-    pub fresh : ℕ
-    pub first : ℕ
-    pub stands : StandsAt joined n fresh (entry_assignments (copy call.unit) call.leaf call.operands) (leaf_place first (start_succ (slice_get call.leaf.nodes 0)))
-    pub nodes : (m : ℕ) (node : Node) → 1 ≤ m → slice_get call.leaf.nodes m ≡ Some node → slice_get joined (leaf_place first m) ≡ Some (leaf_node (copy call.unit) (leaf_place first) call.into call.next node)
-
-  -- none of the numbers is one of those after it
-  abbrev Apart : List ℕ → Type 0
-  Apart [] = Unit {0}
-  Apart (n ∷ calls) = (IsIn n calls → ⊥) × Apart calls
-
-  -- the leaf stands in the place of the call, also where more follows that keeps these nodes
-  leaf_stands : (nodes joined : List Node) (n : ℕ) (c : IsLeafCall leaves graph.nodes n) → n < length nodes → slice_get joined n ≡ slice_get (with_leaf nodes n c) n → ((m : ℕ) → length nodes ≤ m → m < length (with_leaf nodes n c) → slice_get joined m ≡ slice_get (with_leaf nodes n c) m) → LeafStands joined n
-  leaf_stands nodes joined n c lt here same =
-      let puts = entry_assignments (copy c.unit) c.leaf c.operands in
-      let first = first_place (length nodes) puts in
-      let end = leaf_place first (start_succ (slice_get c.leaf.nodes 0)) in
-      let front = stood nodes n puts end in
-      let back = map (leaf_node (copy c.unit) (leaf_place first) c.into c.next) (drop 1 c.leaf.nodes) in
-      let more = stood_long nodes n puts end in
-      let count : length front ≡ first = stood_count nodes n puts end in
-      let all : length (front ++ back) ≡ length front + length back = length-append front back in
-      record {
-        call = c;
-        fresh = length nodes;
-        first = first;
-        stands = stands_moves front joined n (length nodes) puts end (here ∙ get_left front back n (omega (arith, lt, more)))
-            (λ m ge lt'. same m ge (omega (arith, lt', all)) ∙ get_left front back m lt')
-            (stood_stands nodes n puts end lt);
-        nodes = λ m node ge at_m.
-            let place = leaf_place first m in
-            let from : slice_get (drop 1 c.leaf.nodes) (m - 1) ≡ Some node = drop_first c.leaf.nodes m ge ∙ at_m in
-            let of : slice_get back (m - 1) ≡ Some (leaf_node (copy c.unit) (leaf_place first) c.into c.next node) = slice_get-map (leaf_node (copy c.unit) (leaf_place first) c.into c.next) (drop 1 c.leaf.nodes) (m - 1) ∙ ap (option_map (leaf_node (copy c.unit) (leaf_place first) c.into c.next)) from in
-            let low = slice_get_within back (m - 1) (leaf_node (copy c.unit) (leaf_place first) c.into c.next node) of in
-            same place (omega arith) (omega (arith, all, count, low)) ∙ get_right_at front back place (m - 1) (omega (arith, count)) ∙ of;
-      }
-
-  -- each of these leaves stands in the place of its call
-  joined_stands : (calls : List ℕ) (nodes joined : List Node) → Apart calls → ((n : ℕ) → IsIn n calls → n < length nodes) → LeavesAreJoined leaves units graph calls nodes joined → (n : ℕ) → IsIn n calls → LeafStands joined n
-  joined_stands [] nodes joined apart within are n there = absurd there
-  joined_stands (m ∷ calls) nodes joined apart within are n (inl same) =
-      let lt : m < length nodes = within m (inl refl) in
-      let more = with_leaf_long nodes m are.0 in
-      subst (LeafStands joined) same (leaf_stands nodes joined m are.0 lt
-      (joined_kept calls (with_leaf nodes m are.0) joined are.1 m (omega (arith, lt, more)) apart.0)
-      (λ k ge lt'. joined_kept calls (with_leaf nodes m are.0) joined are.1 k lt' (λ there. let low = within k (inr there) in absurd (omega (arith, low, ge)))))
-  joined_stands (m ∷ calls) nodes joined apart within are n (inr there) =
-      joined_stands calls (with_leaf nodes m are.0) joined apart.1 (λ k there'. let lt = within k (inr there') in omega (arith, lt, with_leaf_long nodes m are.0)) are.1 n there
-
-  -- numbers in order are apart
-  ordered_apart : (calls : List ℕ) → ((i j m n : ℕ) → i < j → slice_get calls i ≡ Some m → slice_get calls j ≡ Some n → m < n) → Apart calls
-  ordered_apart [] ordered = tt
-  ordered_apart (x ∷ calls) ordered = (
-    λ there. let r = place_in x calls there in let lt = ordered 0 (suc r.0) x x (omega arith) refl r.1 in absurd (omega (arith, lt)),
-    ordered_apart calls (λ i j m n lt. ordered (suc i) (suc j) m n (omega (arith, lt))),
-  )
-
-  -- two variables have two copies, which come after those of the graph
-  copy_one : (unit x y : ℕ) → copy unit x ≡ copy unit y → x ≡ y
-  copy_one unit x y same = omega (arith, same)
-
-  copy_above : (unit x : ℕ) → length graph.vars ≤ copy unit x
-  copy_above unit x = let le = first_above leaves units (length graph.vars) unit in omega (arith, le)
+use Rattle.program_pass.specs.MemberLaws.{in_or_not}
 
 module _ (graphs joined : List GraphShape) (leaves : List (Option GraphShape)) (program : IsGraphProgram graphs) (are_leaves : AreLeaves graphs leaves) (joins : (u : ℕ) → u < length graphs → JoinsLeaves leaves (graph_numbered graphs u) (graph_numbered joined u)) where
   abbrev codes : ℕ → Code
@@ -177,6 +51,14 @@ module _ (graphs joined : List GraphShape) (leaves : List (Option GraphShape)) (
 
   abbrev Exists : ℕ → Type 0
   Exists u = u < length graphs
+
+  -- how many globals there are
+  abbrev shared : ℕ
+  shared = shared_in graphs
+
+  -- they are variables of each graph
+  least : (u : ℕ) → Exists u → (graph_numbered graphs u).shared ≤ length (graph_numbered graphs u).vars
+  least u lt = (program.shares u lt).count
 
   -- frames of the unit of this number agree
   abbrev AgreeIn : ℕ → Frame → Frame → Type 0
@@ -209,7 +91,7 @@ module _ (graphs joined : List GraphShape) (leaves : List (Option GraphShape)) (
   LeafOf u lt n = LeafStands leaves (joins u lt).units (graph_numbered graphs u) (graph_numbered joined u).nodes n
 
   -- The first side has a frame of a leaf on top, whose caller p is the running frame of the second side: its variables
-  -- have the values of p, and the copies those of the leaf
+  -- that are no globals have the values of p, and the copies those of the leaf
   record Inside (f : Frame) (leaf_unit : ℕ) (p : Caller) (ps : List Caller) (from' : Stack) : Type 0 where
     there : Exists p.unit
     unit : from'.unit ≡ p.unit
@@ -221,7 +103,7 @@ module _ (graphs joined : List GraphShape) (leaves : List (Option GraphShape)) (
     later : 1 ≤ f.place
     within : f.place < length leaf.call.leaf.nodes
     place : from'.frame.place ≡ leaf_place leaf.first f.place
-    outer : (x : ℕ) → x < length (graph_numbered graphs p.unit).vars → p.frame.values x ≡ from'.frame.values x
+    outer : (x : ℕ) → (graph_numbered graphs p.unit).shared ≤ x → x < length (graph_numbered graphs p.unit).vars → p.frame.values x ≡ from'.frame.values x
     inner : CopiesHold (copy leaves (joins p.unit there).units (graph_numbered graphs p.unit) leaf.call.unit) (length leaf.call.leaf.vars) f.values from'.frame.values
     callers : SameCallers ps from'.callers
 
@@ -259,19 +141,19 @@ module _ (graphs joined : List GraphShape) (leaves : List (Option GraphShape)) (
         callers = same.1;
       })
 
-  can_step : OneStepEach codes Related Exists AgreeIn SameCallers
+  can_step : OneStepEach codes shared Related Exists AgreeIn SameCallers
   can_step = record {
     no_higher = λ ps qs same. let high = same_height ps qs same in omega (arith, high);
     related = λ u f g ps qs lt agree same. inl (record { there = lt; unit = refl; frames = agree; callers = same });
     called = λ u called entry into f g ps qs lt lt' agree same. inl (record { there = lt'; unit = refl; frames = entered_agree called entry lt'; callers = (record { there = lt; unit = refl; into = refl; frames = agree }, same) });
-    answered = λ answer ps qs same. (0, returned answer ps, leads_nowhere codes (returned answer ps), answered answer ps qs same);
+    answered = λ answer ps qs long same. (0, returned answer ps, leads_nowhere codes (returned answer ps), answered answer ps qs same);
   }
 
   -- ---- leaves
 
   -- the graph of a leaf
   leaf_is : (u n : ℕ) (call : IsLeafCall leaves (graph_numbered graphs u).nodes n) → graph_numbered graphs call.unit ≡ call.leaf
-  leaf_is u n call = ap graph_or_empty (are_leaves.is call.unit call.leaf call.leaf_is)
+  leaf_is u n call = ap (graph_or_empty shared) (are_leaves.is call.unit call.leaf call.leaf_is)
 
   leaf_exists : (u n : ℕ) (call : IsLeafCall leaves (graph_numbered graphs u).nodes n) → Exists call.unit
   leaf_exists u n call = slice_get_within graphs call.unit call.leaf (are_leaves.is call.unit call.leaf call.leaf_is)
@@ -279,8 +161,15 @@ module _ (graphs joined : List GraphShape) (leaves : List (Option GraphShape)) (
   leaf_can : (u n : ℕ) (call : IsLeafCall leaves (graph_numbered graphs u).nodes n) → CanMake call.leaf.vars call.leaf.received call.leaf.nodes
   leaf_can u n call = subst (λ (g : GraphShape). CanMake g.vars g.received g.nodes) (leaf_is u n call) (program.are call.unit (leaf_exists u n call))
 
-  leaf_code : (u n : ℕ) (call : IsLeafCall leaves (graph_numbered graphs u).nodes n) (f : Frame) → codes call.unit f ≡ graph_code call.leaf.received call.leaf.nodes f
-  leaf_code u n call f = ap (λ (g : GraphShape). graph_code g.received g.nodes f) (leaf_is u n call)
+  leaf_shares : (u n : ℕ) (call : IsLeafCall leaves (graph_numbered graphs u).nodes n) → SharesVars call.leaf.shared call.leaf.vars call.leaf.received
+  leaf_shares u n call = subst (λ (g : GraphShape). SharesVars g.shared g.vars g.received) (leaf_is u n call) (program.shares call.unit (leaf_exists u n call))
+
+  -- it has the globals of its caller
+  leaf_alike : (u n : ℕ) → Exists u → (call : IsLeafCall leaves (graph_numbered graphs u).nodes n) → call.leaf.shared ≡ (graph_numbered graphs u).shared
+  leaf_alike u n lt call = sym (ap (λ (g : GraphShape). g.shared) (leaf_is u n call)) ∙ program.globals call.unit (leaf_exists u n call) ∙ sym (program.globals u lt)
+
+  leaf_code : (u n : ℕ) (call : IsLeafCall leaves (graph_numbered graphs u).nodes n) (f : Frame) → codes call.unit f ≡ graph_code call.leaf.shared call.leaf.received call.leaf.nodes f
+  leaf_code u n call f = ap (λ (g : GraphShape). graph_code g.shared g.received g.nodes f) (leaf_is u n call)
 
   -- where a call of a leaf leads
   call_next : (u n : ℕ) → Exists u → (call : IsLeafCall leaves (graph_numbered graphs u).nodes n) → (1 ≤ call.next) × (call.next < length (graph_numbered graphs u).nodes)
@@ -298,29 +187,39 @@ module _ (graphs joined : List GraphShape) (leaves : List (Option GraphShape)) (
       let start = can.start in
       let after = can.succs 0 0 start.0 (ap (λ o. slice_get (succs_of o) 0) start.1) in
       let arguments : List ℤ = map (operand_value f.values) call.operands in
-      let entry : CallEntry = record { arguments = arguments } in
+      let alike : leaf.shared ≡ graph.shared = leaf_alike u f.place lt call in
+      let entry : CallEntry = record { arguments = arguments; globals = shared_values graph.shared f.values } in
       let waiting : Caller = record { unit = u; into = call.into; frame = at call.next f } in
-      let begun : Frame = record { place = start.0; arguments = arguments; values = received_from 0 leaf.received arguments all_zero } in
-      let is : codes u f ≡ Calls call.unit entry call.into (at call.next f) = ap (λ o. node_transition graph.received o f) call.is in
-      let is0 : codes call.unit (first_frame entry) ≡ Continues 0 begun = leaf_code u f.place call (first_frame entry) ∙ ap (λ o. node_transition leaf.received o (first_frame entry)) start.1 in
-      let two = leads_trans codes 1 1 (Running u f ps) (Running call.unit (first_frame entry) (waiting ∷ ps)) (Running call.unit begun (waiting ∷ ps)) [] [] 0 0 (suc (suc (length ps))) 0
-      (leads_step codes u f ps (Calls call.unit entry call.into (at call.next f)) is) (leads_step codes call.unit (first_frame entry) (waiting ∷ ps) (Continues 0 begun) is0) in
+      let received_frame : Frame = record { place = start.0; arguments = arguments; values = received_from 0 leaf.received arguments (with_first (shared_values leaf.shared f.values) all_zero) } in
+      let is : codes u f ≡ Calls call.unit entry call.into (at call.next f) = ap (λ o. node_transition graph.shared graph.received o f) call.is in
+      let globals : shared_values leaf.shared (with_first entry.globals all_zero) ≡ shared_values leaf.shared f.values =
+      first_shared leaf.shared entry.globals all_zero (shared_long graph.shared f.values ∙ sym alike) ∙ ap (λ n. shared_values n f.values) (sym alike) in
+      let is0 : codes call.unit (first_frame entry) ≡ Continues 0 received_frame = leaf_code u f.place call (first_frame entry) ∙ ap (λ o. node_transition leaf.shared leaf.received o (first_frame entry)) start.1
+      ∙ ap (λ zs. Continues 0 (record { place = start.0; arguments = arguments; values = received_from 0 leaf.received arguments (with_first zs all_zero) })) globals in
+      let two = leads_trans codes 1 1 (Running u f ps) (Running call.unit (first_frame entry) (waiting ∷ ps)) (Running call.unit received_frame (waiting ∷ ps)) [] [] 0 0 (suc (suc (length ps))) 0
+      (leads_step codes u f ps (Calls call.unit entry call.into (at call.next f)) is) (leads_step codes call.unit (first_frame entry) (waiting ∷ ps) (Continues 0 received_frame) is0) in
       let to = copy leaves (joins u lt).units graph call.unit in
       let puts = entry_assignments to leaf call.operands in
       let begins : start_succ (slice_get leaf.nodes 0) ≡ start.0 = ap start_succ start.1 in
       let end = leaf_place stands.first start.0 in
       let chain_there = subst (λ s. StandsAt joined_u.nodes f.place stands.fresh puts (leaf_place stands.first s)) begins stands.stands in
-      let run = stands_silently joined_u.received joined_u.nodes f.place stands.fresh puts end chain_there (entry_plain to leaf.received (length leaf.vars) call.operands) g agree.place in
+      let run = stands_silently joined_u.shared joined_u.received joined_u.nodes f.place stands.fresh puts end chain_there (entry_plain to leaf.shared leaf.received (length leaf.vars - leaf.shared) call.operands) g agree.place in
       let there' : Frame = gone_on end (values_after puts g.values) g in
       let below = all_below_right (length graph.vars) (into_vars call.into) (flat_map operand_vars call.operands) ((program.are u lt).below f.place (Call call.into call.unit call.operands call.next) call.is) in
       let fits = program.calls u lt call.unit (length call.operands) (record { number = f.place; node = Call call.into call.unit call.operands call.next; here = call.is; calls = refl }) in
       let long : length call.operands ≡ length leaf.received = fits.1 ∙ ap (λ (g : GraphShape). length g.received) (leaf_is u f.place call) in
-      let one = copy_one leaves (joins u lt).units graph call.unit in
-      let above = copy_above leaves (joins u lt).units graph call.unit in
+      let shares = leaf_shares u f.place call in
+      let own = own_list leaf.shared leaf.received shares.own in
+      let enough = least u lt in
+      let one = copy_one leaves (joins u lt).units graph enough call.unit in
+      let above : (x : ℕ) → leaf.shared ≤ x → length graph.vars ≤ to x = λ x le. copy_above leaves (joins u lt).units graph call.unit x (subst (λ n. n ≤ x) alike le) in
+      let global : (x : ℕ) → x < leaf.shared → to x ≡ x = λ x low. copy_same leaves (joins u lt).units graph call.unit x (subst (λ n. x < n) alike low) in
+      let count : leaf.shared + (length leaf.vars - leaf.shared) ≡ length leaf.vars = let within = shares.count in omega (arith, within) in
+      let copied = entry_copies to leaf.shared (length graph.vars) one above global leaf.received (length leaf.vars - leaf.shared) call.operands f.values g.values (subst (λ n. n ≤ length graph.vars) (sym alike) enough) own below agree.values long in
       record {
         steps = 1 + 1;
         steps' = run.0;
-        to = Running call.unit begun (waiting ∷ ps);
+        to = Running call.unit received_frame (waiting ∷ ps);
         to' = Running u there' qs;
         prints = [];
         counted = 0;
@@ -343,8 +242,8 @@ module _ (graphs joined : List GraphShape) (leaves : List (Option GraphShape)) (
           later = after.0;
           within = after.1;
           place = refl;
-          outer = λ x lt'. agree.values x lt' ∙ sym (entry_keeps to (length graph.vars) one above leaf.received (length leaf.vars) call.operands g.values x lt');
-          inner = entry_copies to (length graph.vars) one above leaf.received (length leaf.vars) call.operands f.values g.values below agree.values long;
+          outer = λ x le lt'. agree.values x lt' ∙ sym (entry_keeps to leaf.shared (length graph.vars) one above global leaf.received (length leaf.vars - leaf.shared) call.operands g.values x own lt');
+          inner = subst (λ n. CopiesHold to n received_frame.values there'.values) count copied;
           callers = same;
         });
         moves = inl (omega arith);
@@ -364,85 +263,59 @@ module _ (graphs joined : List GraphShape) (leaves : List (Option GraphShape)) (
       let joined_u = graph_numbered joined u in
       let can = program.are u lt in
       let kept : slice_get joined_u.nodes g.place ≡ Some node = ap (slice_get joined_u.nodes) agree.place ∙ joined_kept leaves (joins u lt).units graph (joins u lt).calls graph.nodes joined_u.nodes (joins u lt).are_joined f.place agree.within out ∙ here in
-      let is : codes u f ≡ node_transition graph.received (Some node) f = ap (λ o. node_transition graph.received o f) here in
-      let is' : codes' u g ≡ node_transition graph.received (Some node) g = ap (λ o. node_transition joined_u.received o g) kept ∙ ap (λ r. node_transition r (Some node) g) (joins u lt).received in
-      steps_meet codes codes' Related Exists AgreeIn SameCallers can_step z u f g ps qs (node_transition graph.received (Some node) f) (node_transition graph.received (Some node) g) lt same is is'
-      (node_together (length graph.vars) graph.received (length graph.nodes) node f g
+      let is : codes u f ≡ node_transition graph.shared graph.received (Some node) f = ap (λ o. node_transition graph.shared graph.received o f) here in
+      let is' : codes' u g ≡ node_transition graph.shared graph.received (Some node) g = ap (λ o. node_transition joined_u.shared joined_u.received o g) kept
+      ∙ ap (λ n. node_transition n joined_u.received (Some node) g) (joins u lt).shared ∙ ap (λ r. node_transition graph.shared r (Some node) g) (joins u lt).received in
+      steps_meet codes codes' shared Related Exists AgreeIn SameCallers can_step z u f g ps qs (node_transition graph.shared graph.received (Some node) f) (node_transition graph.shared graph.received (Some node) g) lt same is is'
+      (node_together graph.shared (length graph.vars) (least u lt) graph.received (length graph.nodes) node f g
       (λ slot s edge. can.succs f.place slot s (ap (λ o. slice_get (succs_of o) slot) here ∙ edge))
       (can.below f.place node here)
       (λ s start. can.only f.place s (here ∙ ap Some start))
       agree)
-      (called_exists graphs graph (program.calls u lt) graph.received node f.place f here)
+      (called_exists graphs graph (program.calls u lt) graph.shared graph.received node f.place f here)
+      (λ answer returns. answers_long graph.shared graph.received node f answer returns ∙ program.globals u lt)
 
   -- ---- both sides go on from within a leaf
+
+  -- one step of each that shows the same
+  one_each : (z u u' : ℕ) (f g : Frame) (ps qs : List Caller) (to to' : Control) (prints : List ℤ) (n : ℕ) → StepsLead codes 1 (Running u f ps) to prints n 0 → StepsLead codes' 1 (Running u' g qs) to' prints n 0 → Abreast Related 0 to to'
+      → MeetsAgain Related codes codes' z (record { unit = u; frame = f; callers = ps }) (record { unit = u'; frame = g; callers = qs })
+  one_each z u u' f g ps qs to to' prints n leads leads' abreast = record {
+    steps = 1;
+    steps' = 1;
+    to = to;
+    to' = to';
+    prints = prints;
+    counted = n;
+    counted' = n;
+    frames = 0;
+    frames' = 0;
+    leads = leads;
+    leads' = leads';
+    cheaper = le_refl n;
+    shallower = le_refl 0;
+    measure = 0;
+    abreast = abreast;
+    moves = inl (omega arith);
+    moves' = inl (omega arith);
+  }
 
   -- a silent step of each
   both_go_on : (z u u' : ℕ) (f g : Frame) (ps qs : List Caller) (n : ℕ) (next next' : Frame) → codes u f ≡ Continues n next → codes' u' g ≡ Continues n next' → Related 0 (record { unit = u; frame = next; callers = ps }) (record { unit = u'; frame = next'; callers = qs })
       → MeetsAgain Related codes codes' z (record { unit = u; frame = f; callers = ps }) (record { unit = u'; frame = g; callers = qs })
-  both_go_on z u u' f g ps qs n next next' is is' related = record {
-    steps = 1;
-    steps' = 1;
-    to = Running u next ps;
-    to' = Running u' next' qs;
-    prints = [];
-    counted = n;
-    counted' = n;
-    frames = 0;
-    frames' = 0;
-    leads = leads_step codes u f ps (Continues n next) is;
-    leads' = leads_step codes' u' g qs (Continues n next') is';
-    cheaper = le_refl n;
-    shallower = le_refl 0;
-    measure = 0;
-    abreast = related;
-    moves = inl (omega arith);
-    moves' = inl (omega arith);
-  }
+  both_go_on z u u' f g ps qs n next next' is is' related =
+      one_each z u u' f g ps qs (Running u next ps) (Running u' next' qs) [] n (leads_step codes u f ps (Continues n next) is) (leads_step codes' u' g qs (Continues n next') is') related
 
   -- a print of each
   both_print : (z u u' : ℕ) (f g : Frame) (ps qs : List Caller) (v : ℤ) (next next' : Frame) → codes u f ≡ Prints v next → codes' u' g ≡ Prints v next' → Related 0 (record { unit = u; frame = next; callers = ps }) (record { unit = u'; frame = next'; callers = qs })
       → MeetsAgain Related codes codes' z (record { unit = u; frame = f; callers = ps }) (record { unit = u'; frame = g; callers = qs })
-  both_print z u u' f g ps qs v next next' is is' related = record {
-    steps = 1;
-    steps' = 1;
-    to = Running u next ps;
-    to' = Running u' next' qs;
-    prints = v ∷ [];
-    counted = 0;
-    counted' = 0;
-    frames = 0;
-    frames' = 0;
-    leads = leads_step codes u f ps (Prints v next) is;
-    leads' = leads_step codes' u' g qs (Prints v next') is';
-    cheaper = le_refl 0;
-    shallower = le_refl 0;
-    measure = 0;
-    abreast = related;
-    moves = inl (omega arith);
-    moves' = inl (omega arith);
-  }
+  both_print z u u' f g ps qs v next next' is is' related =
+      one_each z u u' f g ps qs (Running u next ps) (Running u' next' qs) (v ∷ []) 0 (leads_step codes u f ps (Prints v next) is) (leads_step codes' u' g qs (Prints v next') is') related
 
   -- a trap of each
   both_trap : (z u u' : ℕ) (f g : Frame) (ps qs : List Caller) (kind : Trap) (n : ℕ) → codes u f ≡ Traps kind n → codes' u' g ≡ Traps kind n → MeetsAgain Related codes codes' z (record { unit = u; frame = f; callers = ps }) (record { unit = u'; frame = g; callers = qs })
-  both_trap z u u' f g ps qs kind n is is' = record {
-    steps = 1;
-    steps' = 1;
-    to = Stopped kind;
-    to' = Stopped kind;
-    prints = [];
-    counted = n;
-    counted' = n;
-    frames = 0;
-    frames' = 0;
-    leads = leads_step codes u f ps (Traps kind n) is;
-    leads' = leads_step codes' u' g qs (Traps kind n) is';
-    cheaper = le_refl n;
-    shallower = le_refl 0;
-    measure = 0;
-    abreast = refl;
-    moves = inl (omega arith);
-    moves' = inl (omega arith);
-  }
+  both_trap z u u' f g ps qs kind n is is' =
+      one_each z u u' f g ps qs (Stopped kind) (Stopped kind) [] n (leads_step codes u f ps (Traps kind n) is) (leads_step codes' u' g qs (Traps kind n) is') refl
 
   module _ (z : ℕ) (f : Frame) (v : ℕ) (p : Caller) (ps : List Caller) (g : Frame) (qs : List Caller) (i : Inside f v p ps (record { unit = p.unit; frame = g; callers = qs })) where
     abbrev leaf : GraphShape
@@ -461,19 +334,26 @@ module _ (graphs joined : List GraphShape) (leaves : List (Option GraphShape)) (
     can : CanMake leaf.vars leaf.received leaf.nodes
     can = leaf_can p.unit i.n i.leaf.call
 
-    -- what the two sides do at a node of the leaf
-    first_does : (node : Node) → slice_get leaf.nodes f.place ≡ Some node → codes v f ≡ node_transition leaf.received (Some node) f
-    first_does node here = ap (λ u. codes u f) i.is_unit ∙ leaf_code p.unit i.n i.leaf.call f ∙ ap (λ o. node_transition leaf.received o f) here
+    -- the leaf has the globals of its caller, which are variables of both
+    alike : leaf.shared ≡ (graph_numbered graphs p.unit).shared
+    alike = leaf_alike p.unit i.n i.there i.leaf.call
 
-    second_does : (node : Node) → slice_get leaf.nodes f.place ≡ Some node → codes' p.unit g ≡ node_transition (graph_numbered joined p.unit).received (Some (leaf_node to place i.leaf.call.into i.leaf.call.next node)) g
-    second_does node here = ap (λ o. node_transition (graph_numbered joined p.unit).received o g) (ap (slice_get (graph_numbered joined p.unit).nodes) i.place ∙ i.leaf.nodes f.place node i.later here)
+    enough : leaf.shared ≤ length leaf.vars
+    enough = (leaf_shares p.unit i.n i.leaf.call).count
+
+    -- what the two sides do at a node of the leaf
+    first_does : (node : Node) → slice_get leaf.nodes f.place ≡ Some node → codes v f ≡ node_transition leaf.shared leaf.received (Some node) f
+    first_does node here = ap (λ u. codes u f) i.is_unit ∙ leaf_code p.unit i.n i.leaf.call f ∙ ap (λ o. node_transition leaf.shared leaf.received o f) here
+
+    second_does : (node : Node) → slice_get leaf.nodes f.place ≡ Some node → codes' p.unit g ≡ node_transition (graph_numbered joined p.unit).shared (graph_numbered joined p.unit).received (Some (leaf_node to place i.leaf.call.into i.leaf.call.next node)) g
+    second_does node here = ap (λ o. node_transition (graph_numbered joined p.unit).shared (graph_numbered joined p.unit).received o g) (ap (slice_get (graph_numbered joined p.unit).nodes) i.place ∙ i.leaf.nodes f.place node i.later here)
 
     -- a successor is a node of the leaf, and not its first
     succ_within : (node : Node) → slice_get leaf.nodes f.place ≡ Some node → (slot s : ℕ) → slice_get (succs_of (Some node)) slot ≡ Some s → (1 ≤ s) × (s < length leaf.nodes)
     succ_within node here slot s edge = can.succs f.place slot s (ap (λ o. slice_get (succs_of o) slot) here ∙ edge)
 
     -- they go on within the leaf
-    on_within : (s : ℕ) (next next' : Frame) → (1 ≤ s) × (s < length leaf.nodes) → next.place ≡ s → next'.place ≡ place s → ((x : ℕ) → x < length (graph_numbered graphs p.unit).vars → next'.values x ≡ g.values x) → CopiesHold to (length leaf.vars) next.values next'.values
+    on_within : (s : ℕ) (next next' : Frame) → (1 ≤ s) × (s < length leaf.nodes) → next.place ≡ s → next'.place ≡ place s → ((x : ℕ) → (graph_numbered graphs p.unit).shared ≤ x → x < length (graph_numbered graphs p.unit).vars → next'.values x ≡ g.values x) → CopiesHold to (length leaf.vars) next.values next'.values
         → Related 0 (record { unit = v; frame = next; callers = p ∷ ps }) (record { unit = p.unit; frame = next'; callers = qs })
     on_within s next next' range here here' outer inner = inr (record {
       there = i.there;
@@ -486,23 +366,30 @@ module _ (graphs joined : List GraphShape) (leaves : List (Option GraphShape)) (
       later = subst (λ m. 1 ≤ m) (sym here) range.0;
       within = subst (λ m. m < length leaf.nodes) (sym here) range.1;
       place = here' ∙ ap place (sym here);
-      outer = λ x lt. i.outer x lt ∙ sym (outer x lt);
+      outer = λ x own lt. i.outer x own lt ∙ sym (outer x own lt);
       inner = inner;
       callers = i.callers;
     })
 
     -- with values as they are
     on_kept : (s : ℕ) → (1 ≤ s) × (s < length leaf.nodes) → Related 0 (record { unit = v; frame = at s f; callers = p ∷ ps }) (record { unit = p.unit; frame = at (place s) g; callers = qs })
-    on_kept s range = on_within s (at s f) (at (place s) g) range refl refl (λ x lt. refl) i.inner
+    on_kept s range = on_within s (at s f) (at (place s) g) range refl refl (λ x own lt. refl) i.inner
 
-    -- a copy is no variable of the caller
-    apart : (x y : ℕ) → y < length (graph_numbered graphs p.unit).vars → y ≡ to x → ⊥
-    apart x y lt same = let ge = copy_above leaves (joins p.unit i.there).units (graph_numbered graphs p.unit) i.leaf.call.unit x in omega (arith, lt, same, ge)
+    -- a copy is no variable of the caller that is no global
+    apart : (x y : ℕ) → (graph_numbered graphs p.unit).shared ≤ y → y < length (graph_numbered graphs p.unit).vars → y ≡ to x → ⊥
+    apart x y own lt same = elim (cases_lt x (graph_numbered graphs p.unit).shared) [
+      | inl low ↦ let e : y ≡ x = same ∙ copy_same leaves (joins p.unit i.there).units (graph_numbered graphs p.unit) i.leaf.call.unit x low in omega (arith, low, own, e)
+      | inr high ↦ let ge = copy_above leaves (joins p.unit i.there).units (graph_numbered graphs p.unit) i.leaf.call.unit x high in omega (arith, lt, same, ge)
+    ]
+
+    -- a copy is one of one variable
+    to_one : (x y : ℕ) → to x ≡ to y → x ≡ y
+    to_one = copy_one leaves (joins p.unit i.there).units (graph_numbered graphs p.unit) (least p.unit i.there) i.leaf.call.unit
 
     -- with another value of a variable and of its copy
     on_assigned : (s x : ℕ) (a b : ℤ) → b ≡ a → (1 ≤ s) × (s < length leaf.nodes) → Related 0 (record { unit = v; frame = assigned x a s f; callers = p ∷ ps }) (record { unit = p.unit; frame = assigned (to x) b (place s) g; callers = qs })
-    on_assigned s x a b same range = on_within s (assigned x a s f) (assigned (to x) b (place s) g) range refl refl (λ y lt. with_other (to x) y b g.values (apart x y lt))
-        (set_copied to (length leaf.vars) f.values g.values i.inner (copy_one leaves (joins p.unit i.there).units (graph_numbered graphs p.unit) i.leaf.call.unit) x a b same)
+    on_assigned s x a b same range = on_within s (assigned x a s f) (assigned (to x) b (place s) g) range refl refl (λ y own lt. with_other (to x) y b g.values (apart x y own lt))
+        (set_copied to (length leaf.vars) f.values g.values i.inner to_one x a b same)
 
     -- copies change no count
     same_count : (rhs : Rhs) → rhs_count (renamed_rhs to rhs) ≡ rhs_count rhs
@@ -546,6 +433,37 @@ module _ (graphs joined : List GraphShape) (leaves : List (Option GraphShape)) (
         (second_does (Test test taken other) here ∙ ap (λ (c : Bool). Continues 0 (at (if c then place taken else place other) g)) holds')
         (on_kept other (succ_within (Test test taken other) here 1 other refl))
 
+    -- a trap instruction
+    guard_meets : (test : Condition) (number s : ℕ) (b : Bool) → test_holds f.values test ≡ b → slice_get leaf.nodes f.place ≡ Some (Guard test number s) → Meet
+    guard_meets test number s true holds here =
+        let below = can.below f.place (Guard test number s) here in
+        let holds' = test_copied to (length leaf.vars) f.values g.values i.inner test below ∙ holds in
+        both_trap z v p.unit f g (p ∷ ps) qs (Raised number) 0
+        (first_does (Guard test number s) here ∙ ap (λ (c : Bool). if c then Traps (Raised number) 0 else Continues 0 (at s f)) holds)
+        (second_does (Guard test number s) here ∙ ap (λ (c : Bool). if c then Traps (Raised number) 0 else Continues 0 (at (place s) g)) holds')
+    guard_meets test number s false holds here =
+        let below = can.below f.place (Guard test number s) here in
+        let holds' = test_copied to (length leaf.vars) f.values g.values i.inner test below ∙ holds in
+        both_go_on z v p.unit f g (p ∷ ps) qs 0 (at s f) (at (place s) g)
+        (first_does (Guard test number s) here ∙ ap (λ (c : Bool). if c then Traps (Raised number) 0 else Continues 0 (at s f)) holds)
+        (second_does (Guard test number s) here ∙ ap (λ (c : Bool). if c then Traps (Raised number) 0 else Continues 0 (at (place s) g)) holds')
+        (on_kept s (succ_within (Guard test number s) here 0 s refl))
+
+    -- what a return of the leaf hands back
+    abbrev answer_of : Operand → Answer
+    answer_of a = record { value = operand_value f.values a; globals = shared_values leaf.shared f.values }
+
+    -- with the globals of the leaf the caller has the values of the second frame
+    globals_back : (x : ℕ) → x < length (graph_numbered graphs p.unit).vars → with_first (shared_values leaf.shared f.values) p.frame.values x ≡ g.values x
+    globals_back x lt = elim (cases_lt x leaf.shared) [
+      | inl low ↦
+          with_shared leaf.shared f.values p.frame.values x low ∙ sym (i.inner x (omega (arith, low, enough)))
+          ∙ ap g.values (copy_same leaves (joins p.unit i.there).units (graph_numbered graphs p.unit) i.leaf.call.unit x (subst (λ n. x < n) alike low))
+      | inr high ↦
+          with_first_other (shared_values leaf.shared f.values) p.frame.values x (let long = shared_long leaf.shared f.values in omega (arith, long, high))
+          ∙ i.outer x (subst (λ n. n ≤ x) alike high) lt
+    ]
+
     -- after the return the second frame is that of the caller
     returns_to : (answer : Answer) (next' : Frame) → next'.place ≡ i.leaf.call.next → ((x : ℕ) → x < length (graph_numbered graphs p.unit).vars → (resumed p.into answer p.frame).values x ≡ next'.values x) → codes v f ≡ Returns answer → codes' p.unit g ≡ Continues 0 next' → Meet
     returns_to answer next' here values first second =
@@ -569,7 +487,7 @@ module _ (graphs joined : List GraphShape) (leaves : List (Option GraphShape)) (
           abreast = inl (record {
             there = i.there;
             unit = refl;
-            frames = onward_agree (length (graph_numbered graphs p.unit).vars) (graph_numbered graphs p.unit).received (length (graph_numbered graphs p.unit).nodes) i.leaf.call.next back next' range.0 range.1 (resumed_place p.into answer p.frame ∙ i.next) here values;
+            frames = onward_agree (graph_numbered graphs p.unit).shared (length (graph_numbered graphs p.unit).vars) (least p.unit i.there) (graph_numbered graphs p.unit).received (length (graph_numbered graphs p.unit).nodes) i.leaf.call.next back next' range.0 range.1 (resumed_place p.into answer p.frame ∙ i.next) here values;
             callers = i.callers;
           });
           moves = inl (omega arith);
@@ -579,16 +497,17 @@ module _ (graphs joined : List GraphShape) (leaves : List (Option GraphShape)) (
     -- a return, by whether the call has a variable
     return_meets : (a : Operand) (into : Option ℕ) → i.leaf.call.into ≡ into → slice_get leaf.nodes f.place ≡ Some (Return a) → Meet
     return_meets a None into_is here =
-        let answer : Answer = record { value = operand_value f.values a } in
-        returns_to answer (at i.leaf.call.next g) refl (λ x lt. ap (λ o. (resumed o answer p.frame).values x) (i.into ∙ into_is) ∙ i.outer x lt) (first_does (Return a) here)
-        (second_does (Return a) here ∙ ap (λ o. node_transition (graph_numbered joined p.unit).received (Some (returned_node o (renamed_operand to a) i.leaf.call.next)) g) into_is)
+        let answer : Answer = answer_of a in
+        returns_to answer (at i.leaf.call.next g) refl (λ x lt. ap (λ o. (resumed o answer p.frame).values x) (i.into ∙ into_is) ∙ globals_back x lt) (first_does (Return a) here)
+        (second_does (Return a) here ∙ ap (λ o. node_transition (graph_numbered joined p.unit).shared (graph_numbered joined p.unit).received (Some (returned_node o (renamed_operand to a) i.leaf.call.next)) g) into_is)
     return_meets a (Some y) into_is here =
-        let answer : Answer = record { value = operand_value f.values a } in
+        let answer : Answer = answer_of a in
         let same = operand_copied to (length leaf.vars) f.values g.values i.inner a (can.below f.place (Return a) here) in
         returns_to answer (assigned y (operand_value g.values (renamed_operand to a)) i.leaf.call.next g) refl
-        (λ x lt. ap (λ o. (resumed o answer p.frame).values x) (i.into ∙ into_is) ∙ with_equal (length (graph_numbered graphs p.unit).vars) y (operand_value f.values a) (operand_value g.values (renamed_operand to a)) p.frame.values g.values (sym same) i.outer x lt)
+        (λ x lt. ap (λ o. (resumed o answer p.frame).values x) (i.into ∙ into_is)
+        ∙ with_equal (length (graph_numbered graphs p.unit).vars) y (operand_value f.values a) (operand_value g.values (renamed_operand to a)) (with_first (shared_values leaf.shared f.values) p.frame.values) g.values (sym same) globals_back x lt)
         (first_does (Return a) here)
-        (second_does (Return a) here ∙ ap (λ o. node_transition (graph_numbered joined p.unit).received (Some (returned_node o (renamed_operand to a) i.leaf.call.next)) g) into_is)
+        (second_does (Return a) here ∙ ap (λ o. node_transition (graph_numbered joined p.unit).shared (graph_numbered joined p.unit).received (Some (returned_node o (renamed_operand to a) i.leaf.call.next)) g) into_is)
 
     -- any node of the leaf
     inside_at : (node : Node) → slice_get leaf.nodes f.place ≡ Some node → Meet
@@ -598,6 +517,7 @@ module _ (graphs joined : List GraphShape) (leaves : List (Option GraphShape)) (
     inside_at (Print a s) here =
         let same = operand_copied to (length leaf.vars) f.values g.values i.inner a (can.below f.place (Print a s) here) in
         both_print z v p.unit f g (p ∷ ps) qs (operand_value f.values a) (at s f) (at (place s) g) (first_does (Print a s) here) (second_does (Print a s) here ∙ ap (λ n. Prints n (at (place s) g)) same) (on_kept s (succ_within (Print a s) here 0 s refl))
+    inside_at (Guard test number s) here = guard_meets test number s (test_holds f.values test) refl here
     inside_at (Call into unit operands s) here = absurd (are_leaves.no_calls i.leaf.call.unit leaf i.leaf.call.leaf_is f.place into unit operands s here)
     inside_at (Test test taken other) here = test_meets test taken other (test_holds f.values test) refl here
     inside_at (Return a) here = return_meets a i.leaf.call.into refl here
@@ -649,6 +569,7 @@ module _ (graphs joined : List GraphShape) (leaves : List (Option GraphShape)) (
   pub joins_keep : MachinesKeep (graph_machines graphs) (graph_machines joined)
   joins_keep = stacks_keep (graph_machines graphs) (graph_machines joined) Related (record {
     receives = ap (λ (l : List ℕ). length l) (sym (joins 0 program.some).received);
+    shared = sym (joins 0 program.some).shared;
     starts = λ entry is. (0, inl (record { there = program.some; unit = refl; frames = entered_agree 0 entry program.some; callers = tt }));
     meets = meets;
   })

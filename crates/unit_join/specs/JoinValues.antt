@@ -1,8 +1,8 @@
--- Laws: values under copies of variables, and that the assignments of a call of a leaf give the copies the values that a
--- new frame of it has after its receives. For proofs only.
-use Rattle.std.proofs.Common.{◌≡◌, inl, inr, ℕ, zero, suc, ◌+◌, ◌<◌, ◌≤◌, true, false, not, List, [], ◌∷◌, ◌++◌, length, map, flat_map, ℤ, pos, slice_get, slice_index_or, Some, refl, sym, ap, ◌∙◌, arith}
+-- Laws: values under copies of variables, and that the assignments of a call of a leaf give the copies the values that
+-- a new frame of it has after its receives. For proofs only.
+use Rattle.std.proofs.Common.{◌≡◌, inl, inr, ℕ, zero, suc, ◌+◌, ◌-◌, ◌<◌, ◌≤◌, true, false, not, ◌||◌, if◌then◌else◌, List, [], ◌∷◌, ◌++◌, length, map, flat_map, ℤ, pos, slice_get, slice_index_or, Some, refl, sym, ap, ◌∙◌, arith, le_refl}
 use Rattle.std.specs.Ordering.{int_eq}
-use Rattle.std.proofs.lemmas.Bool.{cases_Bool, cases_eq}
+use Rattle.std.proofs.lemmas.Bool.{cases_Bool, cases_eq, cases_lt, le-ltb, lt-ltb, ne_eqb}
 use Rattle.mir_base.specs.declared.instructions.Operand.{Operand}
 use Rattle.mir_base.specs.declared.instructions.Operand.TheVariants.{Var, Const}
 use Rattle.mir_base.specs.declared.instructions.Rhs.{Rhs}
@@ -12,16 +12,17 @@ use Rattle.mir_base.specs.declared.instructions.Test.TheVariants.{Rel, Holds, Fa
 use Rattle.mir_base.specs.BelowLaws.{all_below_left, all_below_right}
 use Rattle.mir_base.specs.EqualValues.{equal_below, operand_equal, with_other, with_same}
 use Rattle.mir_base.specs.Expressions.{rhs_traps, rhs_value}
-use Rattle.mir_base.specs.Frames.{Values, all_zero, with_value}
+use Rattle.mir_base.specs.Frames.{Values, all_zero, shared_values, with_first, with_value}
 use Rattle.mir_base.specs.Numbers.{relation_holds, traps, value_of_op, value_of_un_op, wrapped}
 use Rattle.mir_base.specs.Shapes.{AllBelow, operand_vars, rhs_vars, test_vars}
+use Rattle.mir_base.specs.SharedLaws.{shared_long, with_first_other}
 use Rattle.mir_base.specs.Units.{operand_value, test_holds}
-use Rattle.flow_graph.specs.InsertionRuns.{values_after}
+use Rattle.graph_edit.specs.InsertionRuns.{values_after}
 use Rattle.flow_graph.specs.Machines.{received_from}
 use Rattle.flow_graph.specs.Numbering.{is_in, renamed_operand, renamed_rhs, renamed_test}
 use Rattle.program_pass.specs.ChainLaws.{ArePlain, plain_append, put_or_not, values_append}
-use Rattle.unit_join.specs.Joins.{entered, zeroed}
-use Rattle.program_pass.specs.EntryLaws.{received_out, wrapped_zero}
+use Rattle.unit_join.specs.Joins.{copy_number, entered, zeroed}
+use Rattle.program_pass.specs.EntryLaws.{received_out, with_shared, wrapped_zero}
 use Rattle.program_pass.specs.MemberLaws.{above, apart_or_not, in_first, not_in}
 
 -- ---- values under copies
@@ -62,25 +63,58 @@ module _ (copy : ℕ → ℕ) (count : ℕ) (v w : Values) (hold : CopiesHold co
     | inr apart ↦ with_other (copy x) (copy y) b w (λ e. apart (one y x e)) ∙ hold y lt ∙ sym (with_other x y a v apart)
   ]
 
+-- ---- copies
+
+-- a global is its own copy
+pub copy_global : (shared base x : ℕ) → x < shared → copy_number shared base x ≡ x
+copy_global shared base x lt = ap (λ b. if b then x else base + (x - shared)) (lt-ltb x shared lt)
+
+-- the copies of the others come one after the other
+pub copy_other : (shared base x : ℕ) → shared ≤ x → copy_number shared base x ≡ base + (x - shared)
+copy_other shared base x ge = ap (λ b. if b then x else base + (x - shared)) (le-ltb x shared ge)
+
+-- two variables have two copies, where those that are new come after the globals
+pub copy_of_one : (shared base x y : ℕ) → shared ≤ base → copy_number shared base x ≡ copy_number shared base y → x ≡ y
+copy_of_one shared base x y least same = elim (cases_lt x shared) [
+  | inl low ↦ elim (cases_lt y shared) [
+    | inl low' ↦ sym (copy_global shared base x low) ∙ same ∙ copy_global shared base y low'
+    | inr high' ↦ let e : x ≡ base + (y - shared) = sym (copy_global shared base x low) ∙ same ∙ copy_other shared base y high' in absurd (omega (arith, e, low, least))
+  ]
+  | inr high ↦ elim (cases_lt y shared) [
+    | inl low' ↦ let e : base + (x - shared) ≡ y = sym (copy_other shared base x high) ∙ same ∙ copy_global shared base y low' in absurd (omega (arith, e, low', least))
+    | inr high' ↦ let e : base + (x - shared) ≡ base + (y - shared) = sym (copy_other shared base x high) ∙ same ∙ copy_other shared base y high' in omega (arith, e, high, high')
+  ]
+]
+
+-- none of these is a global
+abbrev pub AreOwn : ℕ → List ℕ → Type 0
+AreOwn shared [] = Unit {0}
+AreOwn shared (x ∷ xs) = (shared ≤ x) × AreOwn shared xs
+
+-- received variables are none
+pub own_list : (shared : ℕ) (received : List ℕ) → ((i x : ℕ) → slice_get received i ≡ Some x → shared ≤ x) → AreOwn shared received
+own_list shared [] each = tt
+own_list shared (x ∷ received) each = (each 0 x refl, own_list shared received (λ i. each (suc i)))
+
 -- ---- the assignments of a call
 
-module _ (copy : ℕ → ℕ) (vars : ℕ) (one : (x y : ℕ) → copy x ≡ copy y → x ≡ y) (above_vars : (x : ℕ) → vars ≤ copy x) where
-  -- a variable of the caller is no copy
-  no_copy : (x y : ℕ) → y < vars → y ≡ copy x → ⊥
-  no_copy x y lt same = let ge = above_vars x in omega (arith, lt, same, ge)
+module _ (copy : ℕ → ℕ) (shared vars : ℕ) (one : (x y : ℕ) → copy x ≡ copy y → x ≡ y) (above_vars : (x : ℕ) → shared ≤ x → vars ≤ copy x) (global : (x : ℕ) → x < shared → copy x ≡ x) where
+  -- a variable of the caller is no copy of a variable that is no global
+  no_copy : (x y : ℕ) → shared ≤ x → y < vars → y ≡ copy x → ⊥
+  no_copy x y own lt same = let ge = above_vars x own in omega (arith, lt, same, ge)
 
   -- the caller's variables stay
-  entered_keeps : (received : List ℕ) (operands : List Operand) (w : Values) (y : ℕ) → y < vars → values_after (entered copy received operands) w y ≡ w y
-  entered_keeps [] operands w y lt = refl
-  entered_keeps (x ∷ received) [] w y lt = refl
-  entered_keeps (x ∷ received) (a ∷ operands) w y lt = entered_keeps received operands (with_value (copy x) (operand_value w a) w) y lt ∙ with_other (copy x) y (operand_value w a) w (no_copy x y lt)
+  entered_keeps : (received : List ℕ) (operands : List Operand) (w : Values) (y : ℕ) → AreOwn shared received → y < vars → values_after (entered copy received operands) w y ≡ w y
+  entered_keeps [] operands w y own lt = refl
+  entered_keeps (x ∷ received) [] w y own lt = refl
+  entered_keeps (x ∷ received) (a ∷ operands) w y own lt = entered_keeps received operands (with_value (copy x) (operand_value w a) w) y own.1 lt ∙ with_other (copy x) y (operand_value w a) w (no_copy x y own.0 lt)
 
-  zeroed_keeps : (received : List ℕ) (count x : ℕ) (w : Values) (y : ℕ) → y < vars → values_after (zeroed copy received x count) w y ≡ w y
-  zeroed_keeps received zero x w y lt = refl
-  zeroed_keeps received (suc count) x w y lt =
+  zeroed_keeps : (received : List ℕ) (count x : ℕ) (w : Values) (y : ℕ) → shared ≤ x → y < vars → values_after (zeroed copy received x count) w y ≡ w y
+  zeroed_keeps received zero x w y own lt = refl
+  zeroed_keeps received (suc count) x w y own lt =
       put_or_not (λ puts. values_after puts w y ≡ w y) (is_in x received) (record { var = copy x; rhs = Plain (Const (pos 0)) }) (zeroed copy received (suc x) count)
-      (λ is. zeroed_keeps received count (suc x) w y lt)
-      (λ is. zeroed_keeps received count (suc x) (with_value (copy x) (wrapped (pos 0)) w) y lt ∙ with_other (copy x) y (wrapped (pos 0)) w (no_copy x y lt))
+      (λ is. zeroed_keeps received count (suc x) w y (omega (arith, own)) lt)
+      (λ is. zeroed_keeps received count (suc x) (with_value (copy x) (wrapped (pos 0)) w) y (omega (arith, own)) lt ∙ with_other (copy x) y (wrapped (pos 0)) w (no_copy x y own lt))
 
   -- the copy of a variable that is not received stays
   entered_out : (received : List ℕ) (operands : List Operand) (w : Values) (x : ℕ) → is_in x received ≡ false → values_after (entered copy received operands) w (copy x) ≡ w (copy x)
@@ -91,18 +125,18 @@ module _ (copy : ℕ → ℕ) (vars : ℕ) (one : (x y : ℕ) → copy x ≡ cop
       entered_out received operands (with_value (copy y) (operand_value w a) w) x apart.1 ∙ with_other (copy y) (copy x) (operand_value w a) w (λ e. apart.0 (one x y e))
 
   -- that of a received one gets what a frame receives
-  entered_in : (v : Values) (arguments : List ℤ) (received : List ℕ) (operands : List Operand) (i x : ℕ) (w u : Values) → AllBelow vars (flat_map operand_vars operands) → ((y : ℕ) → y < vars → v y ≡ w y) → length operands ≡ length received
+  entered_in : (v : Values) (arguments : List ℤ) (received : List ℕ) (operands : List Operand) (i x : ℕ) (w u : Values) → AreOwn shared received → AllBelow vars (flat_map operand_vars operands) → ((y : ℕ) → y < vars → v y ≡ w y) → length operands ≡ length received
       → ((j : ℕ) (a : Operand) → slice_get operands j ≡ Some a → slice_index_or arguments (i + j) (pos 0) ≡ operand_value v a) → is_in x received ≡ true
       → values_after (entered copy received operands) w (copy x) ≡ received_from i received arguments u x
-  entered_in v arguments [] operands i x w u below same long hold there = cc
-  entered_in v arguments (y ∷ received) [] i x w u below same long hold there = absurd (omega (arith, long))
-  entered_in v arguments (y ∷ received) (a ∷ operands) i x w u below same long hold there =
+  entered_in v arguments [] operands i x w u own below same long hold there = cc
+  entered_in v arguments (y ∷ received) [] i x w u own below same long hold there = absurd (omega (arith, long))
+  entered_in v arguments (y ∷ received) (a ∷ operands) i x w u own below same long hold there =
       let w' : Values = with_value (copy y) (operand_value w a) w in
       let u' : Values = with_value y (slice_index_or arguments i (pos 0)) u in
       elim (cases_Bool (is_in x received)) [
         | inl within ↦
-            entered_in v arguments received operands (suc i) x w' u' (all_below_right vars (operand_vars a) (flat_map operand_vars operands) below)
-            (λ z lt. same z lt ∙ sym (with_other (copy y) z (operand_value w a) w (no_copy y z lt))) (omega (arith, long))
+            entered_in v arguments received operands (suc i) x w' u' own.1 (all_below_right vars (operand_vars a) (flat_map operand_vars operands) below)
+            (λ z lt. same z lt ∙ sym (with_other (copy y) z (operand_value w a) w (no_copy y z own.0 lt))) (omega (arith, long))
             (λ j b at. let place : suc i + j ≡ i + suc j = omega arith in ap (λ k. slice_index_or arguments k (pos 0)) place ∙ hold (suc j) b at) within
         | inr out ↦
             let is = in_first x y received there out in
@@ -144,21 +178,38 @@ module _ (copy : ℕ → ℕ) (vars : ℕ) (one : (x y : ℕ) → copy x ≡ cop
         | inr same ↦ zeroed_zero received count (suc y) x (with_value (copy y) (wrapped (pos 0)) w) (ap (λ z. with_value (copy y) (wrapped (pos 0)) w (copy z)) same ∙ with_same (copy y) (wrapped (pos 0)) w ∙ wrapped_zero)
       ])
 
-  -- the caller's variables stay, and the copies get the values of a frame that has received the arguments
-  pub entry_keeps : (received : List ℕ) (count : ℕ) (operands : List Operand) (w : Values) (y : ℕ) → y < vars → values_after (entered copy received operands ++ zeroed copy received 0 count) w y ≡ w y
-  entry_keeps received count operands w y lt =
-      ap (λ u. u y) (values_append (entered copy received operands) (zeroed copy received 0 count) w)
-      ∙ zeroed_keeps received count 0 (values_after (entered copy received operands) w) y lt ∙ entered_keeps received operands w y lt
+  -- the caller's variables stay, and the copies get the values of a frame that has received the arguments, with the
+  -- globals as they are
+  pub entry_keeps : (received : List ℕ) (count : ℕ) (operands : List Operand) (w : Values) (y : ℕ) → AreOwn shared received → y < vars → values_after (entered copy received operands ++ zeroed copy received shared count) w y ≡ w y
+  entry_keeps received count operands w y own lt =
+      ap (λ u. u y) (values_append (entered copy received operands) (zeroed copy received shared count) w)
+      ∙ zeroed_keeps received count shared (values_after (entered copy received operands) w) y (le_refl shared) lt ∙ entered_keeps received operands w y own lt
 
-  pub entry_copies : (received : List ℕ) (count : ℕ) (operands : List Operand) (v w : Values) → AllBelow vars (flat_map operand_vars operands) → ((y : ℕ) → y < vars → v y ≡ w y) → length operands ≡ length received
-      → CopiesHold copy count (received_from 0 received (map (operand_value v) operands) all_zero) (values_after (entered copy received operands ++ zeroed copy received 0 count) w)
-  entry_copies received count operands v w below same long x lt =
+  -- a global is none of the received variables
+  own_out : (received : List ℕ) (x : ℕ) → AreOwn shared received → x < shared → is_in x received ≡ false
+  own_out [] x own lt = refl
+  own_out (y ∷ received) x own lt = ap (λ b. b || is_in x received) (ne_eqb y x (λ same. let low = own.0 in omega (arith, same, low, lt))) ∙ own_out received x own.1 lt
+
+  pub entry_copies : (received : List ℕ) (count : ℕ) (operands : List Operand) (v w : Values) → shared ≤ vars → AreOwn shared received → AllBelow vars (flat_map operand_vars operands) → ((y : ℕ) → y < vars → v y ≡ w y) → length operands ≡ length received
+      → CopiesHold copy (shared + count) (received_from 0 received (map (operand_value v) operands) (with_first (shared_values shared v) all_zero)) (values_after (entered copy received operands ++ zeroed copy received shared count) w)
+  entry_copies received count operands v w least own below same long x lt =
       let w1 : Values = values_after (entered copy received operands) w in
+      let first : Values = with_first (shared_values shared v) all_zero in
       let arguments : List ℤ = map (operand_value v) operands in
-      ap (λ u. u (copy x)) (values_append (entered copy received operands) (zeroed copy received 0 count) w)
-      ∙ elim (cases_Bool (is_in x received)) [
-        | inl there ↦ zeroed_in received count 0 x w1 there ∙ entered_in v arguments received operands 0 x w all_zero below same long (λ j a at. let place : 0 + j ≡ j = omega arith in ap (λ k. slice_index_or arguments k (pos 0)) place ∙ argument_is v operands j a at) there
-        | inr out ↦ zeroed_out received count 0 x w1 out (omega arith) (omega (arith, lt)) ∙ sym (received_out received 0 arguments x all_zero out)
+      elim (cases_lt x shared) [
+        | inl low ↦
+            ap (values_after (entered copy received operands ++ zeroed copy received shared count) w) (global x low) ∙ entry_keeps received count operands w x own (omega (arith, low, least)) ∙ sym (same x (omega (arith, low, least)))
+            ∙ sym (with_shared shared v all_zero x low) ∙ sym (received_out received 0 arguments x first (own_out received x own low))
+        | inr high ↦
+            ap (λ u. u (copy x)) (values_append (entered copy received operands) (zeroed copy received shared count) w)
+            ∙ elim (cases_Bool (is_in x received)) [
+              | inl there ↦
+                  zeroed_in received count shared x w1 there
+                  ∙ entered_in v arguments received operands 0 x w first own below same long (λ j a at. let place : 0 + j ≡ j = omega arith in ap (λ k. slice_index_or arguments k (pos 0)) place ∙ argument_is v operands j a at) there
+              | inr out ↦
+                  zeroed_out received count shared x w1 out high lt
+                  ∙ sym (with_first_other (shared_values shared v) all_zero x (let count_is = shared_long shared v in omega (arith, count_is, high))) ∙ sym (received_out received 0 arguments x first out)
+            ]
       ]
     where
       argument_is : (u : Values) (args : List Operand) (j : ℕ) (a : Operand) → slice_get args j ≡ Some a → slice_index_or (map (operand_value u) args) j (pos 0) ≡ operand_value u a
@@ -181,5 +232,5 @@ zeroed_plain copy received (suc count) x =
     put_or_not ArePlain (is_in x received) (record { var = copy x; rhs = Plain (Const (pos 0)) }) (zeroed copy received (suc x) count) (λ is. zeroed_plain copy received count (suc x)) (λ is. ((Const (pos 0), refl), zeroed_plain copy received count (suc x)))
 
 -- all of them
-pub entry_plain : (copy : ℕ → ℕ) (received : List ℕ) (count : ℕ) (operands : List Operand) → ArePlain (entered copy received operands ++ zeroed copy received 0 count)
-entry_plain copy received count operands = plain_append (entered copy received operands) (zeroed copy received 0 count) (entered_plain copy received operands) (zeroed_plain copy received count 0)
+pub entry_plain : (copy : ℕ → ℕ) (shared : ℕ) (received : List ℕ) (count : ℕ) (operands : List Operand) → ArePlain (entered copy received operands ++ zeroed copy received shared count)
+entry_plain copy shared received count operands = plain_append (entered copy received operands) (zeroed copy received shared count) (entered_plain copy received operands) (zeroed_plain copy received count shared)

@@ -1,5 +1,6 @@
 pub mod Joins
 pub mod JoinValues
+pub mod JoinedNodes
 pub mod JoinStacks
 pub mod JoinLaws
 pub mod JoinPrograms

@@ -12,12 +12,13 @@ use flow_graph::Node;
 use mir_base::Memory;
 use std::alloc::Global;
 
-/// The leaves that a graph calls, with the numbers of the copies of their variables, which come after its own variables.
+/// The leaves that a graph calls, with the numbers of the copies of their variables, which come after its own
+/// variables.
 #[derive(Drop)]
 pub(crate) struct CopyTable {
     /// The units of the leaves, in order of the first node that calls each.
     pub(crate) units: Vec<usize>,
-    /// For each unit of the program the copy of variable 0, where it is one of them.
+    /// For each unit of the program its first copy, where it is one of them.
     firsts: Vec<Option<usize>>,
     /// The number after the last copy.
     pub(crate) end: usize,
@@ -80,7 +81,7 @@ impl CopyTable {
         Ok(())
     }
 
-    /// The copy of variable 0 of a unit.
+    /// The first copy of a unit.
     pub(crate) fn first_copy(&self, unit: usize) -> usize
         requires { unit < length self.now.firsts.items }
         ensures { (leaves : List (Option GraphShape)) (vars : ℕ)
@@ -101,12 +102,12 @@ fn none_of(alloc: Global, count: usize) -> Result<Vec<Option<usize>>, Memory>
     Ok(vec![in alloc; None; count]?)
 }
 
-/// How many variables the leaf of this unit has, where it is one.
+/// How many variables the leaf of this unit has that are no globals, where it is one.
 fn leaf_vars(leaves: &Leaves, unit: usize) -> usize
     ensures { result ≡ leaf_vars (leaf_at leaves.now.units unit) }
 {
     match leaf_at(leaves, unit) {
-        Some(leaf) => leaf.vars().len(),
+        Some(leaf) => leaf.vars().len().saturating_sub(leaf.shared()),
         None => 0,
     }
 }

@@ -1,42 +1,54 @@
 // Nodes of a leaf with copies for their variables.
 ghost use Rattle.std.specs.Prelude.{◌≡◌, ◌+◌, IfOk};
 ghost use Rattle.flow_graph.specs.Numbering.{renamed_operand, renamed_rhs, renamed_test};
-ghost use Rattle.unit_join.specs.Joins.{leaf_node, leaf_place, returned_node};
+ghost use Rattle.unit_join.specs.Joins.{copy_number, leaf_node, leaf_place, returned_node};
 
 use flow_graph::Node;
 use mir_base::{Memory, Operand, Rhs, Test};
 use std::alloc::AllocError;
 
-/// The node of a leaf in its caller: variable x becomes number `base + x`, and node m, which is not Start, has the number
+/// The numbers of the copies of a leaf's variables in its caller.
+#[derive(Clone, Copy)]
+pub(crate) struct CopyNumbers {
+    /// How many globals there are, which are their own copies.
+    pub(crate) shared: usize,
+    /// The copy of the first variable that is no global. Those of the others follow in order.
+    pub(crate) base: usize,
+}
+
+/// The node of a leaf in its caller: its variables become their copies, and node m, which is not Start, has the number
 /// `first + m - 1`. A Return gives its value to `into`, where the call has a variable, and leads to `next`.
 pub(crate) fn leaf_node(
     node: &Node,
-    base: usize,
+    to: CopyNumbers,
     first: usize,
     into: Option<usize>,
     next: usize,
 ) -> Result<Node, Memory>
     ensures { IfOk result (λ made.
-        made ≡ leaf_node (λ x. base + x) (leaf_place first) into next node.now) }
+        made ≡ leaf_node (copy_number to.shared to.base) (leaf_place first) into next node.now) }
 {
     Ok(match node {
         Node::Start(succ) => Node::Skip(leaf_place(first, *succ)?),
         Node::Skip(succ) => Node::Skip(leaf_place(first, *succ)?),
         Node::Assign(x, rhs, succ) => {
             Node::Assign(
-                plus(base, *x)?,
-                copied_rhs(base, *rhs)?,
+                copy(to, *x)?,
+                copied_rhs(to, *rhs)?,
                 leaf_place(first, *succ)?,
             )
         }
-        Node::Print(a, succ) => Node::Print(copied(base, *a)?, leaf_place(first, *succ)?),
+        Node::Print(a, succ) => Node::Print(copied(to, *a)?, leaf_place(first, *succ)?),
+        Node::Guard(test, number, succ) => {
+            Node::Guard(copied_test(to, *test)?, *number, leaf_place(first, *succ)?)
+        }
         Node::Call(_, _, _, succ) => Node::Skip(leaf_place(first, *succ)?),
         Node::Test(test, taken, other) => Node::Test(
-            copied_test(base, *test)?,
+            copied_test(to, *test)?,
             leaf_place(first, *taken)?,
             leaf_place(first, *other)?,
         ),
-        Node::Return(a) => returned(into, copied(base, *a)?, next),
+        Node::Return(a) => returned(into, copied(to, *a)?, next),
     })
 }
 
@@ -57,6 +69,17 @@ pub(crate) fn leaf_place(first: usize, m: usize) -> Result<usize, Memory>
     plus(first, m.saturating_sub(1))
 }
 
+/// The copy of a variable.
+pub(crate) fn copy(to: CopyNumbers, x: usize) -> Result<usize, Memory>
+    ensures { IfOk result (λ number. number ≡ copy_number to.shared to.base x) }
+{
+    if x < to.shared {
+        return Ok(x);
+    }
+    let number = plus(to.base, x - to.shared)?;
+    Ok(number)
+}
+
 /// The sum.
 pub(crate) fn plus(a: usize, b: usize) -> Result<usize, Memory>
     ensures { IfOk result (λ sum. sum ≡ a + b) }
@@ -65,33 +88,33 @@ pub(crate) fn plus(a: usize, b: usize) -> Result<usize, Memory>
 }
 
 /// The operand with a copy for its variable.
-fn copied(base: usize, a: Operand) -> Result<Operand, Memory>
-    ensures { IfOk result (λ made. made ≡ renamed_operand (λ x. base + x) a) }
+fn copied(to: CopyNumbers, a: Operand) -> Result<Operand, Memory>
+    ensures { IfOk result (λ made. made ≡ renamed_operand (copy_number to.shared to.base) a) }
 {
     match a {
-        Operand::Var(x) => Ok(Operand::Var(plus(base, x)?)),
+        Operand::Var(x) => Ok(Operand::Var(copy(to, x)?)),
         Operand::Const(c) => Ok(Operand::Const(c)),
     }
 }
 
 /// The right side with copies for its variables.
-fn copied_rhs(base: usize, rhs: Rhs) -> Result<Rhs, Memory>
-    ensures { IfOk result (λ made. made ≡ renamed_rhs (λ x. base + x) rhs) }
+fn copied_rhs(to: CopyNumbers, rhs: Rhs) -> Result<Rhs, Memory>
+    ensures { IfOk result (λ made. made ≡ renamed_rhs (copy_number to.shared to.base) rhs) }
 {
     match rhs {
-        Rhs::Plain(a) => Ok(Rhs::Plain(copied(base, a)?)),
-        Rhs::Unary(op, a) => Ok(Rhs::Unary(op, copied(base, a)?)),
-        Rhs::Binary(op, a, b) => Ok(Rhs::Binary(op, copied(base, a)?, copied(base, b)?)),
+        Rhs::Plain(a) => Ok(Rhs::Plain(copied(to, a)?)),
+        Rhs::Unary(op, a) => Ok(Rhs::Unary(op, copied(to, a)?)),
+        Rhs::Binary(op, a, b) => Ok(Rhs::Binary(op, copied(to, a)?, copied(to, b)?)),
     }
 }
 
 /// The test with copies for its variables.
-fn copied_test(base: usize, test: Test) -> Result<Test, Memory>
-    ensures { IfOk result (λ made. made ≡ renamed_test (λ x. base + x) test) }
+fn copied_test(to: CopyNumbers, test: Test) -> Result<Test, Memory>
+    ensures { IfOk result (λ made. made ≡ renamed_test (copy_number to.shared to.base) test) }
 {
     match test {
-        Test::Rel(op, a, b) => Ok(Test::Rel(op, copied(base, a)?, copied(base, b)?)),
-        Test::Holds(a) => Ok(Test::Holds(copied(base, a)?)),
-        Test::Fails(a) => Ok(Test::Fails(copied(base, a)?)),
+        Test::Rel(op, a, b) => Ok(Test::Rel(op, copied(to, a)?, copied(to, b)?)),
+        Test::Holds(a) => Ok(Test::Holds(copied(to, a)?)),
+        Test::Fails(a) => Ok(Test::Fails(copied(to, a)?)),
     }
 }

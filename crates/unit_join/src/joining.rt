@@ -1,14 +1,14 @@
 // The nodes of a graph with the leaves that it calls.
-ghost use Rattle.std.specs.Prelude.{◌≡◌, ◌++◌, ◌+◌, ◌<◌, IfOk, OnOk, drop, length, map, slice_get};
+ghost use Rattle.std.specs.Prelude.{◌≡◌, ◌++◌, ◌+◌, ◌-◌, ◌<◌, ◌≤◌, IfOk, OnOk, drop, length, map, slice_get};
 ghost use Rattle.program_pass.specs.Marks.{AreMarksOf};
 ghost use Rattle.program_pass.specs.Puts.{insertions};
 ghost use Rattle.unit_join.specs.CopyTables.{HasCopyNumbers};
-ghost use Rattle.unit_join.specs.Joins.{AreLeafCalls, IsLeafCall, LeavesAreJoined, entered, entry_assignments, joined_by, leaf_node, leaf_place, nodes_with_leaf, zeroed};
+ghost use Rattle.unit_join.specs.Joins.{AreLeafCalls, IsLeafCall, LeavesAreJoined, copy_number, entered, entry_assignments, joined_by, leaf_node, leaf_place, nodes_with_leaf, zeroed};
 
 use crate::Leaves;
 use crate::calls::leaf_at;
 use crate::copy_table::CopyTable;
-use crate::copying::{leaf_node, leaf_place, plus};
+use crate::copying::{CopyNumbers, copy, leaf_node, leaf_place, plus};
 use flow_graph::{Graph, Node};
 use mir_base::{Memory, Operand};
 use program_pass::{Put, copied_nodes, marks_of, plain_put, stand, start_succ};
@@ -53,12 +53,13 @@ fn join_at(
         Node::Call(into, unit, operands, next) => match leaf_at(leaves, *unit) {
             Some(leaf) => {
                 let base = table.first_copy(*unit);
+                let shared = graph.shared();
                 put_leaf(
                     alloc,
                     nodes,
                     call,
                     leaf,
-                    base,
+                    CopyNumbers { shared, base },
                     *into,
                     operands.items(),
                     *next,
@@ -77,56 +78,64 @@ fn put_leaf(
     nodes: &mut Vec<Node>,
     call: usize,
     leaf: &Graph,
-    base: usize,
+    to: CopyNumbers,
     into: Option<usize>,
     operands: &[Operand],
     next: usize,
 ) -> Result<(), Memory>
     requires { call < length nodes.old.items }
-    ensures { OnOk result (nodes.new.items ≡
-        nodes_with_leaf nodes.old.items call (λ x. base + x) leaf.now into operands.now next) }
+    ensures { OnOk result (let copy = copy_number to.shared to.base in nodes.new.items
+        ≡ nodes_with_leaf nodes.old.items call copy leaf.now into operands.now next) }
 {
-    let puts = entry_assignments(alloc, leaf, base, operands)?;
+    let puts = entry_assignments(alloc, leaf, to, operands)?;
     let first = plus(nodes.len(), puts.len().saturating_sub(1))?;
     let entry = leaf_place(first, start_succ(leaf))?;
     stand(nodes, call, puts.as_slice(), entry)?;
-    push_leaf(nodes, leaf, base, first, into, next)
+    push_leaf(nodes, leaf, to, first, into, next)
 }
 
 /// The nodes of the leaf without its Start, as new nodes.
 fn push_leaf(
     nodes: &mut Vec<Node>,
     leaf: &Graph,
-    base: usize,
+    to: CopyNumbers,
     first: usize,
     into: Option<usize>,
     next: usize,
 ) -> Result<(), Memory>
-    ensures { OnOk result (nodes.new.items ≡ nodes.old.items
-        ++ map (leaf_node (λ x. base + x) (leaf_place first) into next) (drop 1 leaf.now.nodes)) }
+    ensures { OnOk result (let copy = copy_number to.shared to.base in
+        let made = leaf_node copy (leaf_place first) into next in
+        nodes.new.items ≡ nodes.old.items ++ map made (drop 1 leaf.now.nodes)) }
 {
     for m in 1..leaf.len() {
-        nodes.push(leaf_node(leaf.node(m), base, first, into, next)?)?;
+        nodes.push(leaf_node(leaf.node(m), to, first, into, next)?)?;
     }
     Ok(())
 }
 
-/// The assignments of a call of the leaf: the copies of its received variables get the arguments, and those of all others
-/// become 0.
+/// The assignments of a call of the leaf: the copies of its received variables get the arguments, and those of all
+/// others that are no globals become 0.
 fn entry_assignments(
     alloc: Global,
     leaf: &Graph,
-    base: usize,
+    to: CopyNumbers,
     operands: &[Operand],
 ) -> Result<Vec<Put>, Memory>
     ensures { IfOk result (λ puts. insertions puts.items ≡
-        entry_assignments (λ x. base + x) leaf.now operands.now) }
+        entry_assignments (copy_number to.shared to.base) leaf.now operands.now) }
 {
     let received = leaf.received();
     let vars = leaf.vars().len();
-    let mut puts = entered(alloc, received, base, operands)?;
+    let mut puts = entered(alloc, received, to, operands)?;
     let marks = marks_of(alloc, received, vars)?;
-    push_zeroed(&mut puts, marks.as_slice(), received, base, vars)?;
+    push_zeroed(
+        &mut puts,
+        marks.as_slice(),
+        received,
+        to,
+        leaf.shared(),
+        vars,
+    )?;
     Ok(puts)
 }
 
@@ -134,38 +143,41 @@ fn entry_assignments(
 fn entered(
     alloc: Global,
     received: &[usize],
-    base: usize,
+    to: CopyNumbers,
     operands: &[Operand],
 ) -> Result<Vec<Put>, Memory>
     ensures { IfOk result (λ puts. insertions puts.items ≡
-        entered (λ x. base + x) received.now operands.now) }
+        entered (copy_number to.shared to.base) received.now operands.now) }
 {
     let mut puts = Vec::new(alloc);
     let mut i = 0;
     while i < received.len() && i < operands.len() {
-        puts.push(plain_put(plus(base, received[i])?, operands[i]))?;
+        puts.push(plain_put(copy(to, received[i])?, operands[i]))?;
         i += 1;
     }
     Ok(puts)
 }
 
-/// Of so many variables the copies of those that are not received become 0. The marks tell which are received.
+/// Of so many variables the copies of those from number `first` on that are not received become 0. The marks tell which
+/// are received.
 fn push_zeroed(
     puts: &mut Vec<Put>,
     marks: &[bool],
     received: &[usize],
-    base: usize,
+    to: CopyNumbers,
+    first: usize,
     vars: usize,
 ) -> Result<(), Memory>
-    requires { AreMarksOf received.now vars marks.now }
-    ensures { OnOk result (insertions puts.new.items ≡
-        insertions puts.old.items ++ zeroed (λ x. base + x) received.now 0 vars) }
+    requires marks { AreMarksOf received.now vars marks.now }
+    requires first { first ≤ vars }
+    ensures { OnOk result (insertions puts.new.items ≡ insertions puts.old.items
+        ++ zeroed (copy_number to.shared to.base) received.now first (vars - first)) }
 {
     let _ = received;
-    for x in 0..vars {
+    for x in first..vars {
         let marked = marks[x];
         if !marked {
-            puts.push(plain_put(plus(base, x)?, Operand::Const(0)))?;
+            puts.push(plain_put(copy(to, x)?, Operand::Const(0)))?;
         }
     }
     Ok(())

@@ -20,8 +20,8 @@ pub struct Leaves {
 }
 
 impl Leaves {
-    /// The leaves of the program: a unit is one where it has at most 32 instructions, receives included, and no call. It
-    /// fails only with `Memory`.
+    /// The leaves of the program: a unit is one where it has at most 32 instructions, receives included, and no call.
+    /// It fails only with `Memory`.
     pub fn of(alloc: Global, program: &Program) -> Result<Leaves, Memory>
         ensures leaves { IfOk result (λ leaves. AreLeavesOf program.now.units leaves.units) }
 
@@ -36,7 +36,8 @@ impl Leaves {
 }
 
 impl Leaves {
-    /// Has no effect; carries the theorem that a graph can be made of each leaf, which is an invariant of each.
+    /// Has no effect; carries the theorem that a graph can be made of each leaf, whose globals are variables of it,
+    /// which is an invariant of each.
     pub(crate) fn can_be_made(&self)
         ensures { LeavesCan self.now.units }
     {
@@ -44,6 +45,7 @@ impl Leaves {
             match entry {
                 Some(leaf) => {
                     let _nodes = leaf.nodes();
+                    let _shared = leaf.shared();
                 }
                 None => {}
             }
@@ -64,7 +66,7 @@ fn all_leaves(alloc: Global, program: &Program) -> Result<Vec<Option<Graph>>, Me
 
 /// The graph of a unit with clean jumps, where the unit is a leaf.
 fn leaf_of(alloc: Global, unit: &MirUnit) -> Result<Option<Graph>, Memory>
-    requires { CanLower unit.now.body }
+    requires { CanLower unit.now.shared unit.now.body }
     ensures { IfOk result (LeafMade unit.now) }
 {
     if !is_leaf(unit) {

@@ -1,10 +1,10 @@
-//! Leaf units joined into their callers. In go the graph of a unit and the leaves of its program, and out comes the graph
-//! in which the nodes of a leaf stand in the place of each call of it (`join`); in goes a program, and out comes the
-//! program of these graphs (`join_program`). A leaf is a unit of at most 32 instructions that calls nobody.
+//! Leaf units joined into their callers. In go the graph of a unit and the leaves of its program, and out comes the
+//! graph in which the nodes of a leaf stand in the place of each call of it (`join`); in goes a program, and out comes
+//! the program of these graphs (`join_program`). A leaf is a unit of at most 32 instructions that calls nobody.
 //!
 //! The theorem that this crate carries is the contract of `join_program`: the program is the same, evaluates no more
-//! operators, and never has more frames. Since calls vanish, units do not do the same one by one: it rests on the rule for
-//! stacks of `mir_sim`.
+//! operators, and never has more frames. Since calls vanish, units do not do the same one by one: it rests on the rule
+//! for stacks of `mir_sim`.
 #![tactic(auto)]
 
 mod calls;

@@ -5,13 +5,13 @@ ghost use Rattle.unit_join.specs.JoinPrograms.{AreLeavesMade, IsJoinedProgram, J
 
 use crate::Leaves;
 use crate::joins::join;
-use mir_base::{Items, Memory, Program, Unit as MirUnit};
-use program_pass::{fits_together, laid_out, lowered_clean};
+use mir_base::{Memory, Program, Unit as MirUnit};
+use program_pass::{fits_together, laid_out, lowered_clean, program_with};
 use std::alloc::Global;
 
-/// The program whose units are those of this one with its leaves joined into them: each unit is lowered, cleaned, joined
-/// with the leaves of the program, cleaned and laid out. Units that nobody calls any more stay. It is the same, evaluates
-/// no more operators, and never has more frames. It fails only with `Memory`.
+/// The program whose units are those of this one with its leaves joined into them: each unit is lowered, cleaned,
+/// joined with the leaves of the program, cleaned and laid out; the globals stay. Units that nobody calls any more
+/// stay. It is the same, evaluates no more operators, and never has more frames. It fails only with `Memory`.
 pub fn join_program(alloc: Global, program: &Program) -> Result<Program, Memory>
     ensures joined { IfOk result (IsJoinedProgram program.now) }
     ensures only { IfOk result (IsOnly (IsJoinedProgram program.now)) }
@@ -20,9 +20,8 @@ pub fn join_program(alloc: Global, program: &Program) -> Result<Program, Memory>
     let leaves = Leaves::of(alloc, program)?;
     let units = joined_units(alloc, program, &leaves)?;
     fits_together(program);
-    Ok(Program {
-        units: Items::of(units),
-    })
+    let target = program_with(program, units)?;
+    Ok(target)
 }
 
 /// The units with leaves joined into them.

@@ -1,4 +1,4 @@
-use Rattle.std.proofs.Common.{◌≡◌, ◌∙◌, ◌≤◌, ◌+◌, ◌-◌, ◌==◌, ℕ, List, Some, length, slice_get, refl, sym, subst, arith}
+use Rattle.std.proofs.Common.{◌≡◌, ◌∙◌, ◌≤◌, ◌+◌, ◌-◌, ◌==◌, ℕ, List, [], Some, length, slice_get, refl, sym, subst, arith}
 use Rattle.mir_base.specs.Shapes.{IsProgram, UnitShape, receives_in, body_at}
 use Rattle.mir_sim.specs.Calls.{CallsHigher}
 use Rattle.mir_trial.specs.Trial.{units_from}
@@ -18,7 +18,7 @@ loop-j-preserved c =
 pub invariant_of-result : goal.invariant_of-result
 invariant_of-result c =
     let end : c.loop-j.j ≡ c.args.count = omega (arith, c.loop-j.auto.j-end, c.loop-j-test.false) in
-    subst IsProgram (listing_ends c.args.count c.args.number c.loop-j.j c.loop-j.units.items c.loop-j.draws.state end c.loop-j.invariant ∙ sym c.of.ensures) (is_valid c.args.number c.args.count c.requires.some c.requires.few)
+    subst (λ g. IsProgram g c.of.result) (sym c.new.ensures) (subst (IsProgram []) (listing_ends c.args.count c.args.number c.loop-j.j c.loop-j.units.items c.loop-j.draws.state end c.loop-j.invariant ∙ sym c.of.ensures) (is_valid c.args.number c.args.count c.requires.some c.requires.few))
 
 units_are : (c : goal.After-drop-vars-2) → units_from c.args.count 0 c.args.number ≡ c.of.result
 units_are c =
@@ -26,10 +26,12 @@ units_are c =
     listing_ends c.args.count c.args.number c.loop-j.j c.loop-j.units.items c.loop-j.draws.state end c.loop-j.invariant ∙ sym c.of.ensures
 
 pub returns-clause-program : goal.returns-clause-program
-returns-clause-program c = λ i. record { units = sym (units_are c) i }
+returns-clause-program c = λ i. record { globals = c.new.ensures i; units = sym (units_are c) i }
 
 pub returns-clause-higher : goal.returns-clause-higher
-returns-clause-higher c = subst (λ (units : List UnitShape). CallsHigher (record { units = units })) (units_are c) (calls_higher c.args.number c.args.count)
+returns-clause-higher c =
+    subst (λ (g : List (List ℕ)). CallsHigher (record { globals = g; units = c.of.result })) (sym c.new.ensures)
+    (subst (λ (units : List UnitShape). CallsHigher (record { globals = []; units = units })) (units_are c) (calls_higher c.args.number c.args.count))
 
 pub returns-clause-short : goal.returns-clause-short
 returns-clause-short c = subst (λ (units : List UnitShape). (u : ℕ) (unit : UnitShape) → slice_get units u ≡ Some unit → length unit.body ≤ 245) (units_are c) (is_short c.args.number c.args.count)

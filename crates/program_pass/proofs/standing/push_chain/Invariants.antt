@@ -1,5 +1,5 @@
 use Rattle.std.proofs.Common.{◌≡◌, ◌++◌, drop, length}
-use Rattle.flow_graph.specs.Insertions.{chain}
+use Rattle.graph_edit.specs.Insertions.{chain}
 use Rattle.program_pass.specs.Puts.{insertions}
 use Rattle.program_pass.proofs.standing.push_chain.Given as goal
 

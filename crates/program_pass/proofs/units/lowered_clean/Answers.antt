@@ -1,5 +1,5 @@
 use Rattle.std.proofs.Common.{subst}
-use Rattle.flow_graph.specs.Graphs.{CanMake}
+use Rattle.flow_graph.specs.Graphs.{CanMake, SharesVars}
 use Rattle.flow_graph.specs.Keeps.{AsGraph, AsUnit}
 use Rattle.flow_graph.specs.KeepsLaws.{keeps_trans}
 use Rattle.program_pass.proofs.units.lowered_clean.Goals as goal
@@ -15,4 +15,5 @@ returns c =
       is_cleaned = c.in_ok-cleaned.ensures.clean;
       keeps = keeps_trans (AsUnit c.args.unit.now) (AsGraph c.in_ok-lowered.lowered) (AsGraph cleaned) c.in_ok-lowered.ensures.keeps c.in_ok-cleaned.ensures.keeps;
       can = subst (CanMake cleaned.vars cleaned.received) c.nodes-cleaned.ensures.value c.nodes-cleaned.ensures.graph.can;
+      shares = subst (λ n. SharesVars n cleaned.vars cleaned.received) c.shared-shared.ensures.value c.shared-shared.ensures.shares;
     }

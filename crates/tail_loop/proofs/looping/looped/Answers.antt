@@ -4,10 +4,10 @@ use Rattle.tail_loop.proofs.OneLoop.{call_within, looped_long, looped_on}
 use Rattle.tail_loop.proofs.looping.looped.Goals as goal
 
 pub assignments-requires : goal.assignments-requires
-assignments-requires c = call_within c.args.graph.now.nodes c.args.unit c.args.calls.now c.requires c.loop-call.call-index c.loop-call-test.true
+assignments-requires c = call_within c.args.graph.now.shared c.args.graph.now.nodes c.args.unit c.args.calls.now c.requires c.loop-call.call-index c.loop-call-test.true
 
 pub stand-requires : goal.stand-requires
-stand-requires c = omega (arith, c.loop-call.invariant.long, call_within c.args.graph.now.nodes c.args.unit c.args.calls.now c.requires c.loop-call.call-index c.loop-call-test.true)
+stand-requires c = omega (arith, c.loop-call.invariant.long, call_within c.args.graph.now.shared c.args.graph.now.nodes c.args.unit c.args.calls.now c.requires c.loop-call.call-index c.loop-call-test.true)
 
 pub loop-call-preserved : goal.loop-call-preserved
 loop-call-preserved c =

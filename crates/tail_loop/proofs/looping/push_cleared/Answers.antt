@@ -11,8 +11,8 @@ pub loop-x-preserved : goal.loop-x-preserved
 loop-x-preserved c =
     let received = c.args.received.now in
     let x = c.loop-x.x in
-    let all = insertions c.args.puts.now.items ++ cleared received 0 c.args.vars in
-    let told = mark_told received c.args.vars c.args.marks.now x c.requires c.loop-x-test.true in
+    let all = insertions c.args.puts.now.items ++ cleared received c.args.first (c.args.vars - c.args.first) in
+    let told = mark_told received c.args.vars c.args.marks.now x c.requires.marks c.loop-x-test.true in
     elim c.if-not-marked.branch [
       | then-not-marked+in_ok-push w ↦
           pushed c.loop-x.puts.items c.if-not-marked.puts.items w.plain_put.result (cleared received x (c.args.vars - x)) (cleared received (x + 1) (c.args.vars - (x + 1))) all (ap (λ v. v.items) w.puts-is ∙ w.in_ok-push.ensures.items)

@@ -1,6 +1,9 @@
-use Rattle.std.proofs.Common.{length, sym, subst}
+use Rattle.std.proofs.Common.{◌≤◌, ℕ, List, length, sym, subst}
 use Rattle.program_pass.specs.Marks.{AreMarksOf}
 use Rattle.unit_join.proofs.joining.entry_assignments.Goals as goal
 
-pub push_zeroed-requires : goal.push_zeroed-requires
-push_zeroed-requires c = subst (AreMarksOf c.received-received.result.now (length c.vars-vars.result.now)) (sym c.as_slice.ensures.value) c.in_ok-marks.ensures
+pub push_zeroed-requires-clause-marks : goal.push_zeroed-requires-clause-marks
+push_zeroed-requires-clause-marks c = subst (AreMarksOf c.received-received.result.now (length c.vars-vars.result.now)) (sym c.as_slice.ensures.value) c.in_ok-marks.ensures
+
+pub push_zeroed-requires-clause-first : goal.push_zeroed-requires-clause-first
+push_zeroed-requires-clause-first c = subst (λ (l : List (List ℕ)). c.shared.result ≤ length l) (sym c.vars-vars.ensures) c.shared.ensures.shares.count

@@ -1,4 +1,4 @@
-use Rattle.std.proofs.Common.{sym, subst}
+use Rattle.std.proofs.Common.{◌≤◌, length, sym, subst}
 use Rattle.unit_join.specs.JoinProgramLaws.{is_joined, keeps_joins}
 use Rattle.unit_join.specs.Joins.{AreLeafCalls}
 use Rattle.unit_join.proofs.joins.join.Goals as goal
@@ -12,4 +12,6 @@ pub returns-clause-joined : goal.returns-clause-joined
 returns-clause-joined c = is_joined c.args.graph.now c.args.leaves.now.units c.as_slice.result.now c.in_ok-joined.joined (are_calls c) c.in_ok-joined.ensures
 
 pub returns-clause-keeps : goal.returns-clause-keeps
-returns-clause-keeps c = keeps_joins c.args.graph.now c.args.leaves.now.units c.as_slice.result.now c.in_ok-joined.joined (are_calls c) c.in_ok-joined.ensures
+returns-clause-keeps c =
+    let least = subst (λ n. n ≤ length c.args.graph.now.vars) c.shared-shared.ensures.value c.shared-shared.ensures.shares.count in
+    keeps_joins c.args.graph.now c.args.leaves.now.units c.as_slice.result.now c.in_ok-joined.joined least (are_calls c) c.in_ok-joined.ensures

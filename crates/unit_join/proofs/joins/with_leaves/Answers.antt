@@ -1,4 +1,4 @@
-use Rattle.std.proofs.Common.{◌≡◌, ◌∙◌, ℕ, List, length, ap, subst}
+use Rattle.std.proofs.Common.{◌≡◌, ◌∙◌, ◌≤◌, ℕ, List, length, ap, subst}
 use Rattle.flow_graph.specs.Graphs.{CanMake}
 use Rattle.unit_join.specs.CopyTables.{HasCopyNumbers}
 use Rattle.unit_join.specs.JoinProgramLaws.{join_made, leaves_made_can}
@@ -32,11 +32,13 @@ joined c =
 pub with_nodes-requires : goal.with_nodes-requires
 with_nodes-requires c =
     let graph = c.args.graph.now in
-    leaves_made_can graph c.args.leaves.now.units c.args.calls.now c.in_ok-wide.wide c.in_ok-nodes.nodes.items (subst (CanMake graph.vars graph.received) c.nodes-nodes.ensures.value c.nodes-nodes.ensures.graph.can) c.can_be_made.ensures c.in_ok-wide.ensures (joined (goal.at.with_nodes-requires c).In_ok-nodes)
+    let least = subst (λ n. n ≤ length graph.vars) c.shared-shared.ensures.value c.shared-shared.ensures.shares.count in
+    leaves_made_can graph c.args.leaves.now.units c.args.calls.now c.in_ok-wide.wide c.in_ok-nodes.nodes.items (subst (CanMake graph.vars graph.received) c.nodes-nodes.ensures.value c.nodes-nodes.ensures.graph.can) c.can_be_made.ensures least c.requires.globals c.in_ok-wide.ensures (joined (goal.at.with_nodes-requires c).In_ok-nodes)
 
 pub returns : goal.returns
 returns c =
     let graph = c.args.graph.now in
+    let least = subst (λ n. n ≤ length graph.vars) c.shared-shared.ensures.value c.shared-shared.ensures.shares.count in
     let is = c.in_ok-joined.ensures in
-    join_made graph c.args.leaves.now.units c.args.calls.now c.in_ok-wide.wide c.in_ok-nodes.nodes.items (subst (CanMake graph.vars graph.received) c.nodes-nodes.ensures.value c.nodes-nodes.ensures.graph.can) c.can_be_made.ensures c.in_ok-wide.ensures (joined (goal.at.returns c).In_ok-nodes)
+    join_made graph c.args.leaves.now.units c.args.calls.now c.in_ok-wide.wide c.in_ok-nodes.nodes.items (subst (CanMake graph.vars graph.received) c.nodes-nodes.ensures.value c.nodes-nodes.ensures.graph.can) c.can_be_made.ensures least c.requires.globals c.in_ok-wide.ensures (joined (goal.at.returns c).In_ok-nodes)
     c.in_ok-joined.joined is.made is.same is.cheaper is.calls

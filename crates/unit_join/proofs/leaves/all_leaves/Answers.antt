@@ -4,7 +4,7 @@ use Rattle.unit_join.specs.JoinProgramLaws.{each_leaf, leaves_more}
 use Rattle.unit_join.proofs.leaves.all_leaves.Goals as goal
 
 pub leaf_of-requires : goal.leaf_of-requires
-leaf_of-requires c = fits_lower c.args.program.now.units c.unit.result.now.body c.unit.ensures.fits
+leaf_of-requires c = fits_lower c.args.program.now.units c.args.program.now.globals c.unit.result.now c.unit.ensures.fits c.unit.ensures.shares
 
 pub loop-number-preserved : goal.loop-number-preserved
 loop-number-preserved c =

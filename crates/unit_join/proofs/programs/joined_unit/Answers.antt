@@ -1,16 +1,21 @@
+use Rattle.std.proofs.Common.{◌∙◌, sym}
 use Rattle.program_pass.specs.UnitMakes.{fits_lower, passed_at}
-use Rattle.unit_join.specs.JoinProgramLaws.{leaf_calls_fit, no_leaf_calls}
+use Rattle.unit_join.specs.JoinProgramLaws.{leaf_calls_fit, leaves_share, no_leaf_calls}
 use Rattle.unit_join.specs.Joins.{LeavesJoined, JoinedBetween}
 use Rattle.unit_join.proofs.programs.joined_unit.Goals as goal
 
 pub lowered_clean-requires : goal.lowered_clean-requires
-lowered_clean-requires c = fits_lower c.args.program.now.units c.unit.result.now.body c.unit.ensures.fits
+lowered_clean-requires c = fits_lower c.args.program.now.units c.args.program.now.globals c.unit.result.now c.unit.ensures.fits c.unit.ensures.shares
 
 pub join-requires-clause-fit : goal.join-requires-clause-fit
 join-requires-clause-fit c = leaf_calls_fit c.args.program.now.units c.args.leaves.now.units c.unit.result.now c.in_ok-front.front.lowered c.in_ok-front.front.cleaned c.requires.leaves c.unit.ensures.fits c.in_ok-front.ensures
 
 pub join-requires-clause-no_calls : goal.join-requires-clause-no_calls
 join-requires-clause-no_calls c = no_leaf_calls c.args.program.now.units c.args.leaves.now.units c.requires.leaves
+
+pub join-requires-clause-globals : goal.join-requires-clause-globals
+join-requires-clause-globals c =
+    leaves_share c.args.program.now.globals c.args.program.now.units c.args.leaves.now.units c.in_ok-front.front.cleaned.shared c.fits_together.ensures (sym c.in_ok-front.ensures.keeps.same.shared ∙ c.unit.ensures.shares.count) c.requires.leaves
 
 pub returns : goal.returns
 returns c =

@@ -1,6 +1,6 @@
 use Rattle.std.proofs.Common.{◌≡◌, ◌∙◌, ◌≤◌, Some, length, slice_get, ap, sym, subst}
 use Rattle.std.proofs.lemmas.Option.{slice_get-get_or}
-use Rattle.flow_graph.specs.Graphs.{CanMake}
+use Rattle.flow_graph.specs.Graphs.{CanMake, SharesVars}
 use Rattle.unit_join.proofs.MadeOfLeaves.{EntryCan, all_can, first_more, none_can, some_can}
 use Rattle.unit_join.proofs.leaves.Leaves.can_be_made.Goals as goal
 use Rattle.unit_join.proofs.leaves.Leaves.can_be_made.Goals.{in-Some, in-None}
@@ -15,7 +15,7 @@ loop-entry-preserved c =
     first_more leaves i entry here (elim c.match-entry.branch [
       | in-Some w ↦
           let leaf = w.in-Some.leaf in
-          subst EntryCan (sym w.in-Some.is) (some_can leaf (subst (CanMake leaf.vars leaf.received) w.nodes-nodes.ensures.value w.nodes-nodes.ensures.graph.can))
+          subst EntryCan (sym w.in-Some.is) (some_can leaf (subst (CanMake leaf.vars leaf.received) w.nodes-nodes.ensures.value w.nodes-nodes.ensures.graph.can, subst (λ n. SharesVars n leaf.vars leaf.received) w.shared-shared.ensures.value w.shared-shared.ensures.shares))
       | in-None w ↦ subst EntryCan (sym w.in-None.is) none_can
     ]) c.loop-entry.invariant
 
