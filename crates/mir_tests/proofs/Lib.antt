@@ -1,1 +1,2 @@
+mod NewNames
 mod OneBlock

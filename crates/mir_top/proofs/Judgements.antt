@@ -343,10 +343,10 @@ only_output inputs program _ _ _ (optimised trail source optimises) _ _ (optimis
     ap (λ (t : Trail). canonical_text t.target) (optimises.only other (also ∙ sym source) improves.linked)
 only_output inputs program _ _ _ (shown trail source optimises text shows) _ _ (shown other also improves text' shows') =
     stages_same trail text text' shows (subst (λ (t : Trail). ShowsStages t text') (sym (optimises.only other (also ∙ sym source) improves.linked)) shows')
-only_output inputs program _ _ _ (moved trail source moves) _ _ (moved other also improves) =
-    ap (λ (t : MoveTrail). canonical_text t.target) (moves.only other (also ∙ sym source) improves.linked)
-only_output inputs program _ _ _ (ranged trail source moves text shows) _ _ (ranged other also improves text' shows') =
-    ranges_same trail.units text text' shows (subst (λ (t : MoveTrail). ShowsRanges t.units text') (sym (moves.only other (also ∙ sym source) improves.linked)) shows')
+only_output inputs program _ _ _ (moved trail source moves) _ _ (moved other also too) =
+    ap (λ (t : MoveTrail). canonical_text t.target) (moves.improves.only other (also ∙ sym source) too.improves.linked)
+only_output inputs program _ _ _ (ranged trail source moves text shows) _ _ (ranged other also too text' shows') =
+    ranges_same trail.units text text' shows (subst (λ (t : MoveTrail). ShowsRanges t.units text') (sym (moves.improves.only other (also ∙ sym source) too.improves.linked)) shows')
 only_output inputs program _ _ _ (divided trail source divides) _ _ (divided other also too) =
     ap (λ (t : MoveTrail). canonical_text t.target) (divides.improves.only other (also ∙ sym source) too.improves.linked)
 only_output inputs program _ _ _ (tailed target rewrites) _ _ (tailed other also) = ap canonical_text (rewrites.only other also.exact)

@@ -15,13 +15,11 @@ use Rattle.mir_top.specs.StageTexts.{IsProgramAt, ShowsInTurn, ShowsStages, stag
 
 -- ---- one text
 
--- a stage has one program, since each graph has one layout
+-- a stage has one program, since each graph has one layout and the globals are those of the source
 program_at_same : (trail : Trail) (stage : Stage) (a b : ProgramShape) → IsProgramAt trail stage a → IsProgramAt trail stage b → a ≡ b
-program_at_same trail stage a b p q = ap program_of units_same
+program_at_same trail stage a b p q =
+    ap (λ x. record a { globals = x }) (p.globals ∙ sym q.globals) ∙ ap (λ x. record b { units = x }) units_same
   where
-    program_of : List UnitShape → ProgramShape
-    program_of units = record { units = units }
-
     laid : UnitTrail → UnitShape → Type 0
     laid unit target = IsLayout (graph_at unit stage) target
 

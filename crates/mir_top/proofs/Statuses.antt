@@ -12,7 +12,7 @@ use Rattle.mir_parse.specs.declared.faults.TextFault.{TextFault}
 use Rattle.mir_parse.specs.declared.faults.TextFault.TheVariants.{Lex, Parse}
 use Rattle.mir_parse.specs.Spells.{IsTextRefusal, IsTextMemory}
 use Rattle.mir_valid.specs.declared.faults.ValidFault.{ValidFault}
-use Rattle.mir_valid.specs.declared.faults.ValidFault.TheVariants.{NoUnit, TooManyUnits, SameUnit, TooManyInsts, LateReceive, SameReceive, TooManyReceives, SameLabel, NoLabel, NoSuchUnit, WrongCount, Memory as NoMemoryForProgram}
+use Rattle.mir_valid.specs.declared.faults.ValidFault.TheVariants.{NoUnit, TooManyUnits, SameUnit, TooManyInsts, LateReceive, SameReceive, TooManyReceives, SameLabel, NoLabel, NoSuchUnit, WrongCount, SameGlobal, TooManyGlobals, GlobalReceive, BadTrap, Memory as NoMemoryForProgram}
 use Rattle.mir_valid.specs.Refusals.{IsValidMemory}
 use Rattle.mir_top.specs.declared.outcome.Outcome.{Outcome}
 use Rattle.mir_top.specs.declared.outcome.Outcome.TheVariants.{Optimised, Shown, Moved, Ranged, Divided, Tailed, Joined, Ran, Compared}
@@ -156,6 +156,10 @@ program_complaint (SameLabel line) = (λ is. absurd is, λ _. two)
 program_complaint (NoLabel line) = (λ is. absurd is, λ _. two)
 program_complaint (NoSuchUnit line) = (λ is. absurd is, λ _. two)
 program_complaint (WrongCount line) = (λ is. absurd is, λ _. two)
+program_complaint (SameGlobal line) = (λ is. absurd is, λ _. two)
+program_complaint (TooManyGlobals line) = (λ is. absurd is, λ _. two)
+program_complaint (GlobalReceive line) = (λ is. absurd is, λ _. two)
+program_complaint (BadTrap line) = (λ is. absurd is, λ _. two)
 program_complaint (NoMemoryForProgram refusal) = (λ _. refl, λ other. absurd (other tt))
 
 -- ---- a refusal that is due has status 1, 2 or 5

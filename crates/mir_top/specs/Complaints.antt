@@ -11,7 +11,7 @@ use Rattle.mir_parse.specs.declared.faults.ParseFault.TheVariants.{Unexpected, U
 use Rattle.mir_parse.specs.declared.faults.TextFault.{TextFault}
 use Rattle.mir_parse.specs.declared.faults.TextFault.TheVariants.{Lex, Parse}
 use Rattle.mir_valid.specs.declared.faults.ValidFault.{ValidFault}
-use Rattle.mir_valid.specs.declared.faults.ValidFault.TheVariants.{NoUnit, TooManyUnits, SameUnit, TooManyInsts, LateReceive, SameReceive, TooManyReceives, SameLabel, NoLabel, NoSuchUnit, WrongCount, Memory as NoMemoryForProgram}
+use Rattle.mir_valid.specs.declared.faults.ValidFault.TheVariants.{NoUnit, TooManyUnits, SameUnit, TooManyInsts, LateReceive, SameReceive, TooManyReceives, SameLabel, NoLabel, NoSuchUnit, WrongCount, SameGlobal, TooManyGlobals, GlobalReceive, BadTrap, Memory as NoMemoryForProgram}
 use Rattle.mir_top.specs.declared.cause.Cause.{Cause}
 use Rattle.mir_top.specs.declared.complaint.ComplaintParts.{ComplaintParts}
 use Rattle.mir_top.specs.declared.cause.Cause.TheVariants.{Usage, Reading, Text, Program, Making}
@@ -115,6 +115,10 @@ of_program (SameLabel line) = refused_at line (codes ": label named twice\n")
 of_program (NoLabel line) = refused_at line (codes ": no such label\n")
 of_program (NoSuchUnit line) = refused_at line (codes ": no such unit\n")
 of_program (WrongCount line) = refused_at line (codes ": wrong number of arguments\n")
+of_program (SameGlobal line) = refused_at line (codes ": global named twice\n")
+of_program (TooManyGlobals line) = refused_at line (codes ": too many globals\n")
+of_program (GlobalReceive line) = refused_at line (codes ": global received\n")
+of_program (BadTrap line) = refused_at line (codes ": bad trap number\n")
 of_program (NoMemoryForProgram refusal) = out_of_memory
 
 -- the complaint of a command that makes nothing of its program

@@ -2,7 +2,7 @@
 use Rattle.std.specs.Prelude.{ℕ, ℤ, pos, ◌≡◌, ◌≢◌, ◌<◌, ◌≤◌, List, [], ◌∷◌, All, length, sum_by, ◌++◌, codes, decimal, flat_map}
 use Rattle.std.specs.declared.alloc.AllocError.{AllocError}
 use Rattle.std.specs.Fmt.{signed_decimal}
-use Rattle.mir_base.specs.declared.operators.Trap.TheVariants.{ZeroDivisor}
+use Rattle.mir_base.specs.declared.operators.Trap.TheVariants.{ZeroDivisor, Raised}
 use Rattle.mir_base.specs.Limits.{most_frames, most_steps}
 use Rattle.mir_base.specs.Shapes.{ProgramShape}
 use Rattle.mir_base.specs.Runs.{State, Same, Cheaper, run, inputs_of}
@@ -16,6 +16,7 @@ use Rattle.mir_interp.specs.Reports.{report_of}
 use Rattle.mir_opt.specs.declared.trails.Trail.{Trail}
 use Rattle.mir_opt.specs.declared.trails.MoveTrail.{MoveTrail}
 use Rattle.div_move.specs.MustCome.{MustComeTo}
+use Rattle.motion_rewrite.specs.Placements.{IsAnticipatable}
 use Rattle.mir_opt.specs.Links.{IsDivisionLinked, IsLinked, IsMoveLinked, IsOnlyDivisionTrail, IsOnlyMoveTrail, IsOnlyTrail}
 use Rattle.mir_opt.specs.Best.{DivisionsAreBest, MotionIsBest, MovesBest}
 use Rattle.mir_sim.specs.Pairs.{AllUnitsSame}
@@ -50,15 +51,16 @@ Optimises trail =
     Improves (IsLinked trail) (IsOnlyTrail trail.source trail) (All MovesBest trail.units)
     trail.source trail.target
 
--- and so has the trail of code motion alone
-abbrev pub MovesCode : MoveTrail → Type 0
-MovesCode trail =
-    Improves (IsMoveLinked trail) (IsOnlyMoveTrail trail.source trail) (All MotionIsBest trail.units)
-    trail.source trail.target
+-- and so has the trail of code motion alone, whose placements also hold their temporaries least
+pub record MovesCode (trail : MoveTrail) : Type 0 where
+  pub improves : Improves (IsMoveLinked trail) (IsOnlyMoveTrail trail.source trail)
+      (All MotionIsBest trail.units) trail.source trail.target
+  pub least : All (UnitHoldsLeast IsAnticipatable) trail.units
 
--- and so has that of the motion of divisions alone, whose placements hold their temporaries least
+-- and so has that of the motion of divisions alone, which hold them least too
 pub record Divides (trail : MoveTrail) : Type 0 where
-  pub improves : Improves (IsDivisionLinked trail) (IsOnlyDivisionTrail trail.source trail) (All DivisionsAreBest trail.units) trail.source trail.target
+  pub improves : Improves (IsDivisionLinked trail) (IsOnlyDivisionTrail trail.source trail)
+      (All DivisionsAreBest trail.units) trail.source trail.target
   pub least : All (UnitHoldsLeast MustComeTo) trail.units
 
 -- ---- programs whose calls are rewritten
@@ -89,6 +91,7 @@ abbrev pub finish_text : Finish → List ℕ
 finish_text Running = codes "running\n"
 finish_text (Ended result) = codes "result " ++ number_line result
 finish_text (Trapped ZeroDivisor) = codes "trapped zero divisor\n"
+finish_text (Trapped (Raised number)) = codes "trapped " ++ number_line (pos number)
 
 -- the printed numbers, one a line, then how the run stands, then its evaluations
 abbrev pub report_text : Report → List ℕ

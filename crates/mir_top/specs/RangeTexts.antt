@@ -1,5 +1,5 @@
--- What `ranges` writes: of each temporary of code motion how often it is set and read, and on how many edges it is held.
--- Cited by contracts.
+-- What `ranges` writes: of each temporary of code motion how often it is set and read, and on how many edges it is
+-- held. Cited by contracts.
 use Rattle.std.specs.Prelude.{ℕ, zero, suc, ◌≡◌, Bool, if◌then◌else◌, List, [], ◌∷◌, ◌++◌, codes, decimal, length, slice_get, slice_index_or, Option, None, Some, Vec}
 use Rattle.mir_base.specs.declared.instructions.Expr.{Expr}
 use Rattle.mir_base.specs.ExpressionVars.{rhs_of}

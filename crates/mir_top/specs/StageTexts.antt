@@ -24,11 +24,12 @@ stage_name CopiesAfterMotion = codes "copies after motion"
 stage_name (Round count) = codes "round " ++ decimal count
 stage_name Result = codes "result"
 
--- the program whose units are the layouts of the graphs of a stage: it is a program, and keeps what the source is and
--- does
+-- the program with the globals of the source whose units are the layouts of the graphs of a stage: it is a program, and
+-- keeps what the source is and does
 pub record IsProgramAt (trail : Trail) (stage : Stage) (program : ProgramShape) : Type 0 where
   pub laid : AreLaid graph_at stage trail.units program.units
-  pub fits : IsProgram program.units
+  pub globals : program.globals ≡ trail.source.globals
+  pub fits : IsProgram program.globals program.units
   pub keeps : KeepsProgram trail.source program
 
 -- the text is that of the program of each of these stages in turn, each behind its title

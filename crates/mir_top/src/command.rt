@@ -18,7 +18,8 @@ pub enum Command {
     Stages,
     /// `move`: the same of the target of code motion alone.
     Move,
-    /// `ranges`: of each temporary of code motion alone, how often it is set and read, and on how many edges it is held.
+    /// `ranges`: of each temporary of code motion alone, how often it is set and read, and on how many edges it is
+    /// held.
     Ranges,
     /// `divisions`: the canonical text of the target of the motion of divisions alone.
     Divisions,

@@ -170,6 +170,10 @@ fn of_program(fault: &ValidFault) -> ComplaintParts
         ValidFault::NoLabel(line) => at(*line, b": no such label\n"),
         ValidFault::NoSuchUnit(line) => at(*line, b": no such unit\n"),
         ValidFault::WrongCount(line) => at(*line, b": wrong number of arguments\n"),
+        ValidFault::SameGlobal(line) => at(*line, b": global named twice\n"),
+        ValidFault::TooManyGlobals(line) => at(*line, b": too many globals\n"),
+        ValidFault::GlobalReceive(line) => at(*line, b": global received\n"),
+        ValidFault::BadTrap(line) => at(*line, b": bad trap number\n"),
         ValidFault::Memory(_) => out_of_memory(),
     }
 }

@@ -69,7 +69,7 @@ pub fn source(alloc: Global, text: &[u8], on: Devices) -> Result<MemSource, Allo
 pub fn call(alloc: Global, words: &str, text: &[u8], on: Devices) -> Result<Seen, AllocError> {
     let words = owned(alloc, words)?;
     let mut source = source(alloc, text, on)?;
-    let mut out = sink(alloc, on.write_piece, on.failing_write, 60_000)?;
+    let mut out = sink(alloc, on.write_piece, on.failing_write, 140_000)?;
     let mut err = sink(alloc, 4, on.failing_line, 200)?;
     let status = status_of(alloc, &words, &mut source, &mut out, &mut err);
     Ok(Seen { status, out, err })

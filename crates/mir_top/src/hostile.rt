@@ -68,8 +68,8 @@ enum Left {
 /// The cases of `optimise`.
 const CASES: [Case; 24] = [
     // Each proper prefix of a text, of which the longest lacks the last line feed alone, and the text.
-    (Front(MOST_FORMS, 0, 152), Refused),
-    (Front(MOST_FORMS, 153, 154), Output(MOST_FORMS)),
+    (Front(MOST_FORMS, 0, 186), Refused),
+    (Front(MOST_FORMS, 187, 188), Output(MOST_FORMS)),
     // As many bytes as a text may have, and one more.
     (Bytes(1_048_576, b'\xff'), Bad(b"line 1: bad byte\n")),
     (Bytes(1_048_576, b'('), Bad(b"line 1: unexpected\n")),
@@ -122,11 +122,14 @@ const TOO_LONG: &[u8] = b"text longer than 1048576 bytes\n";
 
 /// A program with most forms, of which the passes change nothing.
 const MOST_FORMS: &[u8] = b"\
+global g
 main: begin
 receive a(val)
 L1: x <- f,(a,int;-1,int)
 print x
 if x < 3 goto L1
+if x = 9 trap 255
+g <- x
 return x
 end
 f: begin

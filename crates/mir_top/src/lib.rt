@@ -33,6 +33,8 @@ mod report_text;
 #[cfg(test)]
 mod run_examples;
 #[cfg(test)]
+mod shared_examples;
+#[cfg(test)]
 mod stage_examples;
 mod stages;
 #[cfg(test)]

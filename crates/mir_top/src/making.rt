@@ -10,7 +10,7 @@ ghost use Rattle.mir_top.specs.StageTexts.{ShowsStages};
 ghost use Rattle.mir_top.specs.Outputs.{CannotMake, Divides, IsMadeBy, JoinsUnits, LoopsTails, MovesCode, Optimises};
 
 use crate::command::inputs;
-use crate::ranges::{hold_least, text_of_ranges};
+use crate::ranges::{divisions_hold_least, moves_hold_least, text_of_ranges};
 use crate::report_text::text_of_report;
 use crate::stages::text_of_stages;
 use crate::trial::trial;
@@ -148,6 +148,7 @@ fn moved(alloc: Global, program: &Program) -> Result<(MoveTrail, Vec<u8>), Memor
     ensures output { IfOk result (λ made. made.1.items ≡ canonical_text made.0.target) }
 {
     let trail = motion(alloc, program)?;
+    moves_hold_least(&trail);
     let output = print(alloc, &trail.target)?;
     Ok((trail, output))
 }
@@ -159,6 +160,7 @@ fn ranged(alloc: Global, program: &Program) -> Result<(MoveTrail, Vec<u8>), Memo
     ensures output { IfOk result (λ made. ShowsRanges made.0.units made.1.items) }
 {
     let trail = motion(alloc, program)?;
+    moves_hold_least(&trail);
     let output = text_of_ranges(alloc, &trail)?;
     Ok((trail, output))
 }
@@ -170,7 +172,7 @@ fn divided(alloc: Global, program: &Program) -> Result<(MoveTrail, Vec<u8>), Mem
     ensures output { IfOk result (λ made. made.1.items ≡ canonical_text made.0.target) }
 {
     let trail = divisions(alloc, program)?;
-    hold_least(&trail);
+    divisions_hold_least(&trail);
     let output = print(alloc, &trail.target)?;
     Ok((trail, output))
 }

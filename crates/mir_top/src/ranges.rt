@@ -10,7 +10,7 @@ ghost use Rattle.mir_top.specs.RangeTexts.{AppendsRange, AppendsRanges, UnitHold
 
 use bit_rows::Rows;
 use div_move::MustReach;
-use down_safe::EveryPath;
+use down_safe::{DownRule, EveryPath};
 use edge_split::split_splits;
 use flow_graph::Edges;
 use itoa::Buffer;
@@ -20,9 +20,9 @@ use mir_opt::{MoveTrail, MoveUnit};
 use mir_print::put_side;
 use std::alloc::{AllocError, Global};
 
-/// For each unit of a move trail a line with its name, and for each of its expressions that has an insertion, in order of
-/// the table, a line with its temporary and the numbers of its insertions, of its replaced uses and of the edges on which
-/// the temporary is held. It fails only with `Memory`.
+/// For each unit of a move trail a line with its name, and for each of its expressions that has an insertion, in order
+/// of the table, a line with its temporary and the numbers of its insertions, of its replaced uses and of the edges on
+/// which the temporary is held. It fails only with `Memory`.
 pub(crate) fn text_of_ranges(alloc: Global, trail: &MoveTrail) -> Result<Vec<u8>, Memory>
     requires { IsMoveLinked trail.now }
     ensures { IfOk result (λ text. ShowsRanges trail.now.units text.items) }
@@ -216,29 +216,37 @@ fn put_count(text: &mut Vec<u8>, what: &[u8], count: usize) -> Result<(), Memory
     text.extend_from_slice(buffer.format(count).as_bytes())
 }
 
-/// Has no effect; carries the theorem that the placements of a division trail hold their temporaries least.
-pub(crate) fn hold_least(trail: &MoveTrail)
+/// Has no effect; carries the theorem that the placements of a trail of code motion hold their temporaries least.
+pub(crate) fn moves_hold_least(trail: &MoveTrail)
+    requires { IsMoveLinked trail.now }
+    ensures { All (UnitHoldsLeast IsAnticipatable) trail.now.units }
+{
+    hold_each(&EveryPath, trail.units.items());
+}
+
+/// Has no effect; carries the same of a trail of the motion of divisions.
+pub(crate) fn divisions_hold_least(trail: &MoveTrail)
     requires { IsDivisionLinked trail.now }
     ensures { All (UnitHoldsLeast MustComeTo) trail.now.units }
 {
-    hold_each(trail.units.items());
+    hold_each(&MustReach, trail.units.items());
 }
 
-/// Has no effect; carries the same of each of these units.
-fn hold_each(units: &[MoveUnit])
-    requires { All (IsLazilyPlaced MustComeTo) units.now }
-    ensures { All (UnitHoldsLeast MustComeTo) units.now }
+/// Has no effect; carries the same of each of these units, by a rule.
+fn hold_each<R: DownRule>(rule: &R, units: &[MoveUnit])
+    requires { All (IsLazilyPlaced (R.is_down rule.now)) units.now }
+    ensures { All (UnitHoldsLeast (R.is_down rule.now)) units.now }
 {
     for unit in units {
-        hold_unit(unit);
+        hold_unit(rule, unit);
     }
 }
 
 /// Has no effect; carries the same of a unit.
-fn hold_unit(unit: &MoveUnit)
-    requires { IsLazilyPlaced MustComeTo unit.now }
-    ensures { UnitHoldsLeast MustComeTo unit.now }
+fn hold_unit<R: DownRule>(rule: &R, unit: &MoveUnit)
+    requires { IsLazilyPlaced (R.is_down rule.now) unit.now }
+    ensures { UnitHoldsLeast (R.is_down rule.now) unit.now }
 {
     split_splits(&unit.cleaned, &unit.split);
-    holds_least(&MustReach, &unit.split, &unit.table, &unit.placement);
+    holds_least(rule, &unit.split, &unit.table, &unit.placement);
 }

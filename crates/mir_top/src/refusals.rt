@@ -1,6 +1,41 @@
 // Worked examples of texts that are refused, byte for byte, in the form of the other examples, and words of no command.
 
 pub const REFUSALS: &str = "\
+# a global that is received
+global g
+main: begin
+receive g(val)
+end
+$ optimise
+@ 2
+line 3: global received
+# a global that is named twice
+global g
+global g
+main: begin
+end
+$ optimise
+@ 2
+line 2: global named twice
+# a global alone
+global g
+$ optimise
+@ 2
+no unit
+# a global behind a unit
+main: begin
+end
+global g
+$ optimise
+@ 2
+line 3: unexpected
+# a trap number that is too great
+main: begin
+if 1 trap 256
+end
+$ optimise
+@ 2
+line 2: bad trap number
 # a number that is too great
 main: begin
 x <- 9223372036854775808

@@ -8,7 +8,7 @@ pub struct Reply {
     pub status: u8,
     /// What the passes made of the program, exactly where the status is 0 under `optimise` or `stages`.
     pub trail: Option<Trail>,
-    /// What code motion alone made of it, exactly where the status is 0 under `move` or `ranges`, and what the motion of
-    /// divisions alone made of it, exactly where it is 0 under `divisions`.
+    /// What code motion alone made of it, exactly where the status is 0 under `move` or `ranges`, and what the motion
+    /// of divisions alone made of it, exactly where it is 0 under `divisions`.
     pub moved: Option<MoveTrail>,
 }

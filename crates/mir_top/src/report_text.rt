@@ -52,5 +52,9 @@ fn put_finish(text: &mut Vec<u8>, finish: Finish) -> Result<(), Memory>
             put_number(text, result)
         }
         Finish::Trapped(Trap::ZeroDivisor) => text.extend_from_slice(b"trapped zero divisor\n"),
+        Finish::Trapped(Trap::Raised(number)) => {
+            text.extend_from_slice(b"trapped ")?;
+            put_number(text, i64::from(number))
+        }
     }
 }

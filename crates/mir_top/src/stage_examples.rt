@@ -5,15 +5,23 @@ use std::alloc::{AllocError, Global};
 /// of them.
 type StageExample = (&'static str, [(&'static str, &'static str); 3]);
 
-/// The smallest program, which is the same from the first stage on; a copy, which two stages remove; and three rounds
-/// of one unit, and two of the other, whose last shows in the third.
-pub const STAGE_EXAMPLES: [StageExample; 3] = [
+/// The smallest program, which is the same from the first stage on; one with a global and a trap; a copy, which two
+/// stages remove; and three rounds of one unit, and two of the other, whose last shows in the third.
+pub const STAGE_EXAMPLES: [StageExample; 4] = [
     (
         "f: begin\nL: end\n",
         [
             ("source", "f: begin\nend\n"),
             (THROUGH_MOTION, "f: begin\nreturn 0\nend\n"),
             ("round 1, result", "f: begin\nreturn 0\nend\n"),
+        ],
+    ),
+    (
+        SHARED,
+        [
+            ("source", SHARED),
+            (THROUGH_MOTION, SHARED_AND_RETURN),
+            ("round 1, result", SHARED_AND_RETURN),
         ],
     ),
     (
@@ -50,6 +58,13 @@ const FROM_COPIES: &str = "copies, split, motion, copies after motion";
 /// All before the rounds.
 const UP_TO_ROUNDS: &str =
     "source, lower, clean, fold, number, copies, split, motion, copies after motion";
+
+/// A global, and a trap.
+const SHARED: &str = "global g\nf: begin\nreceive a(val)\nif a trap 4\ng <- a + 1\nend\n";
+
+/// The same with its return.
+const SHARED_AND_RETURN: &str =
+    "global g\nf: begin\nreceive a(val)\nif a trap 4\ng <- a + 1\nreturn 0\nend\n";
 
 /// A copy.
 const COPY: &str = "f: begin\nreceive b(val)\nc <- b\nreturn c\nend\n";

@@ -5,6 +5,7 @@ use crate::hostile::{TRIAL, TRIAL_OUTPUT};
 use crate::motion_examples::{MOTION_EXAMPLES, diamonds, moved_diamonds};
 use crate::refusals::{OTHER_WORDS, REFUSALS};
 use crate::run_examples::RUN_EXAMPLES;
+use crate::shared_examples::SHARED_EXAMPLES;
 use crate::stage_examples::{STAGE_EXAMPLES, stages_written};
 use std::alloc::{AllocError, Global};
 use std::process::Abort;
@@ -68,7 +69,13 @@ fn leaves(
 /// Programs and texts, each with the calls that show what becomes of them.
 #[test]
 fn worked_examples(rt: HostRuntime) -> Result<(), Fail> {
-    for examples in [EXAMPLES, RUN_EXAMPLES, MOTION_EXAMPLES, REFUSALS] {
+    for examples in [
+        EXAMPLES,
+        RUN_EXAMPLES,
+        MOTION_EXAMPLES,
+        SHARED_EXAMPLES,
+        REFUSALS,
+    ] {
         assert_eq!(rt; first_wrong(rt.alloc(), examples)?, None);
     }
     Ok(())
@@ -107,17 +114,17 @@ fn prints(alloc: Global, count: usize, end: &[u8]) -> Result<Vec<u8>, AllocError
 #[test]
 fn limits(rt: HostRuntime) -> Result<(), Fail> {
     let alloc = rt.alloc();
-    let longest = prints(alloc, 4096, b"end\n")?;
-    let output = prints(alloc, 4096, b"return 0\nend\n")?;
+    let longest = prints(alloc, 16384, b"end\n")?;
+    let output = prints(alloc, 16384, b"return 0\nend\n")?;
     assert!(rt; leaves(alloc, "optimise", &longest, 0, &output)?);
-    let longer = prints(alloc, 4097, b"end\n")?;
+    let longer = prints(alloc, 16385, b"end\n")?;
     assert!(rt;
         leaves(
             alloc,
             "optimise",
             &longer,
             2,
-            b"line 4098: too many instructions\n"
+            b"line 16386: too many instructions\n"
         )?
     );
     Ok(())

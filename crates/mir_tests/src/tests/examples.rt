@@ -1,14 +1,15 @@
 // Examples of passes.
 
 /// An example is a line with a remark, a program, and what becomes of the graph of its first unit, once or more: after
-/// `$` the passes in turn, of which the first is `lower` (`divide` moves divisions), and then the graph that they make,
-/// node by node. Where the line of the passes ends with `: changes`, its nodes follow that the lowered graph does not
-/// have, and how many it has; with `: blocks` its blocks; with `: known` what is known of its variables before each
-/// node; with `: terms` the terms that they have there; with `: copies` where each of its copies holds; with `: delays`
-/// where each of its patterns that can still move is blocked, delayed and inserted; with `: live` before and after
-/// which nodes each of its variables is live; with `: motion` what code motion finds out of its first expression, and
-/// with `: motion of the second` of its second; and with a statement about paths the nodes at which a bit holds by it
-/// that is born and stopped at these nodes.
+/// `$` the passes in turn, of which the first is `lower` (`divide` moves divisions, and `put` has an editor put the sum
+/// of the first two variables before node 5), and then the graph that they make, node by node. Where the line of the
+/// passes ends with `: changes`, its nodes follow that the lowered graph does not have, and how many it has; with
+/// `: blocks` its blocks; with `: known` what is known of its variables before each node; with `: terms` the terms that
+/// they have there; with `: copies` where each of its copies holds; with `: delays` where each of its patterns that can
+/// still move is blocked, delayed and inserted; with `: live` before and after which nodes each of its variables is
+/// live; with `: motion` what code motion finds out of its first expression, and with `: motion of the second` of its
+/// second; and with a statement about paths the nodes at which a bit holds by it that is born and stopped at these
+/// nodes.
 pub(crate) const EXAMPLES: &str = "\
 # each kind of node
 main: begin
@@ -19,6 +20,7 @@ y <- call main,(x,int)
 call main,(7,int)
 if x <= y goto L
 if ! a goto L
+if y > 3 trap 255
 z <- y
 goto L
 L: return
@@ -29,11 +31,12 @@ $ lower
 2: y <- ! x to 3
 3: y <- call 0 x to 4
 4: call 0 7 to 5
-5: if x <= y to 9 else 6
-6: if ! a to 9 else 7
-7: z <- y to 8
-8: skip to 9
-9: return 0
+5: if x <= y to 10 else 6
+6: if ! a to 10 else 7
+7: if y > 3 trap 255 to 8
+8: z <- y to 9
+9: skip to 10
+10: return 0
 # branches are blocks of their own, and so is the node at which they come together
 main: begin
 receive a(val)
@@ -305,4 +308,30 @@ $ lower clean split divide
 11: skip to 6
 12: h1 <- a mod b to 3
 13: h1 <- a mod b to 8
+# a sum is put before the node on the edge into a loop: Start leads to it, and it leads to where Start led
+main: begin
+receive a(val)
+receive b(val)
+L1: x <- a + b
+i <- i + 1
+if i < x goto L1
+return i
+end
+$ lower split
+0: start to 5
+1: x <- a + b to 2
+2: i <- i + 1 to 3
+3: if i < x to 6 else 4
+4: return i
+5: skip to 1
+6: skip to 1
+$ lower split put
+0: start to 7
+1: x <- a + b to 2
+2: i <- i + 1 to 3
+3: if i < x to 6 else 4
+4: return i
+5: skip to 1
+6: skip to 1
+7: h1 <- a + b to 5
 ";

@@ -2,7 +2,8 @@
 use node_list::Links;
 use std::test::Fail;
 
-/// A node is taken out of one list, and the other stays.
+/// A node is taken out of one list, and the other stays. Put back before the node of the other, and one more behind it,
+/// they come out in the order 3, 0, 1.
 #[test]
 fn lists_stand_side_by_side(rt: HostRuntime) -> Result<(), Fail> {
     let mut links = Links::new(rt.alloc(), 4, 2)?;
@@ -11,6 +12,17 @@ fn lists_stand_side_by_side(rt: HostRuntime) -> Result<(), Fail> {
     links.unlink(3);
     let firsts = (links.first(0), links.first(1));
     assert!(rt; firsts == (None, Some(1)));
+    links.insert_before(1, 3);
+    links.insert_before(1, 0);
+    let afters = (links.next(3), links.next(0), links.next(1));
+    assert!(rt; afters == (Some(0), Some(1), None));
+    let popped = (
+        links.pop_front(1),
+        links.pop_front(1),
+        links.pop_front(1),
+        links.pop_front(1),
+    );
+    assert!(rt; popped == (Some(3), Some(0), Some(1), None));
     Ok(())
 }
 

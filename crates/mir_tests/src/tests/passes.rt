@@ -2,6 +2,7 @@
 // and `row_examples.rt`.
 use crate::tests::copied::copies_text;
 use crate::tests::delayed::{delays_text, live_text};
+use crate::tests::edits::put_of;
 use crate::tests::examples::EXAMPLES;
 use crate::tests::known::known_text;
 use crate::tests::paths::held_text;
@@ -74,7 +75,7 @@ fn next_of(alloc: Global, pass: &str, graph: Graph) -> Result<Graph, Fail> {
     next
 }
 
-/// What the pass of this name makes of a graph.
+/// What the pass of this name makes of a graph, or an editor by the name `put`.
 fn after(alloc: Global, pass: &str, graph: &Graph) -> Result<Graph, Fail> {
     match pass {
         "clean" => Ok(clean(alloc, graph)?),
@@ -84,6 +85,7 @@ fn after(alloc: Global, pass: &str, graph: &Graph) -> Result<Graph, Fail> {
         "split" => Ok(split(alloc, graph)?),
         "round" => round_of(alloc, graph),
         "divide" => divided_of(alloc, graph),
+        "put" => put_of(alloc, graph),
         _ => Err("no such pass".into()),
     }
 }

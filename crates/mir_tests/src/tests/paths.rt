@@ -1,48 +1,124 @@
-// Where a bit holds by the three statements about paths.
-ghost use Rattle.std.specs.Prelude.{◌≡◌, IfOk};
+// Where a bit holds by the three statements about paths; and that the calls over blocks give the same rows.
+ghost use Rattle.std.specs.Prelude.{◌≡◌, ◌<◌, IfOk};
+ghost use Rattle.flow_graph.specs.Blocks.{AreBlocksOf};
 ghost use Rattle.flow_graph.specs.Edges.{edges_of};
 ghost use Rattle.path_laws.specs.Paths.{HaveShape};
 
 use crate::tests::shown::put_bit;
 use bit_rows::Rows;
-use flow_graph::{Edges, Graph};
+use fix_solve::Steps;
+use flow_graph::{Blocks, Edges, Graph};
 use mir_base::Memory;
-use path_laws::{backward_all, backward_some, forward_all, some_successor};
+use path_laws::{
+    backward_all, backward_all_in, backward_some, backward_some_in, forward_all, forward_all_in,
+    some_successor,
+};
 use std::alloc::Global;
+use std::marker::Brand;
 use std::mem;
+use std::sync::ledger::{Blank, Ledger};
 use std::test::Fail;
 
 /// Where a bit holds by a statement about paths. The words are the statement's name and, after `born` and `stop`, the
 /// nodes at which the bit is born and stopped. It holds `before` a node on every path to it, `after` it on every path
 /// from it, `ahead` on some path from it, and `beyond` it on some path from a successor.
 pub(crate) fn held_text(alloc: Global, words: &str, graph: &Graph) -> Result<String, Fail> {
-    let (statement, sites) = words.split_once(" born").ok_or("no births")?;
-    let sites = sites.split_once(" stop").ok_or("no stops")?;
+    let (statement, born_and_stopped) = words.split_once(" born").ok_or("no births")?;
+    let born_and_stopped = born_and_stopped.split_once(" stop").ok_or("no stops")?;
     let edges = Edges::of(alloc, graph)?;
-    let text = text_along(alloc, statement, graph, &edges, sites);
+    let text = text_along(alloc, statement, graph, &edges, born_and_stopped);
     mem::drop(edges);
     Ok(text?)
 }
 
-/// The same, along the edges of the graph.
+/// The same, along the edges of the graph; and, where the call over blocks says otherwise, what it says.
 fn text_along(
     alloc: Global,
     statement: &str,
     graph: &Graph,
     edges: &Edges,
-    sites: (&str, &str),
+    born_and_stopped: (&str, &str),
 ) -> Result<String, Memory>
     requires { edges.now ≡ edges_of graph.now.nodes }
 {
-    let (born, stop) = sites;
-    let sites = BitRows {
+    let (born, stop) = born_and_stopped;
+    let born_and_stopped = BitRows {
         born: rows_at(alloc, graph, born)?,
         stop: rows_at(alloc, graph, stop)?,
     };
-    let held = sites.held(alloc, statement, graph, edges)?;
-    let mut text = String::new(alloc);
-    put_bit(&mut text, statement, &held, 0)?;
+    let plain = born_and_stopped.text(alloc, statement, graph, edges)?;
+    let over = rows_over::<Brand>(
+        alloc,
+        statement_of(statement),
+        graph,
+        edges,
+        &born_and_stopped,
+        Blank::new(1),
+    );
+    mem::drop(born_and_stopped);
+    let over = over?;
+    let other = text_of(alloc, statement, &over);
+    mem::drop(over);
+    let other = other?;
+    with_other(plain, other.as_str())
+}
+
+/// The text, with another behind it where that is not the same.
+fn with_other(text: String, other: &str) -> Result<String, Memory> {
+    let mut text = text;
+    if text.as_str() != other {
+        text.push_str("over blocks ")?;
+        text.push_str(other)?;
+    }
     Ok(text)
+}
+
+/// A statement about paths.
+#[derive(Clone, Copy, Debug, PartialEq, Eq)]
+enum Statement {
+    Before,
+    After,
+    Ahead,
+    Beyond,
+}
+
+/// The statement of this name.
+fn statement_of(name: &str) -> Statement {
+    match name {
+        "before" => Statement::Before,
+        "after" => Statement::After,
+        "ahead" => Statement::Ahead,
+        _ => Statement::Beyond,
+    }
+}
+
+/// Where bit 0 of the rows holds, behind the name of the statement.
+fn text_of(alloc: Global, name: &str, held: &Rows) -> Result<String, Memory> {
+    let mut text = String::new(alloc);
+    put_bit(&mut text, name, held, 0)?;
+    Ok(text)
+}
+
+/// The rows of where the bit of these rows holds by the statement, by the call over the blocks of the graph.
+fn rows_over<L: Ledger>(
+    alloc: Global,
+    statement: Statement,
+    graph: &Graph,
+    edges: &Edges,
+    rows: &BitRows,
+    blank: Blank,
+) -> Result<Rows, Memory>
+    requires edges { edges.now ≡ edges_of graph.now.nodes }
+    requires born { HaveShape graph.now 1 rows.now.born }
+    requires stop { HaveShape graph.now 1 rows.now.stop }
+    requires name { blank.name ≡ L.name }
+    requires parts { blank.parts ≡ L.parts }
+    requires some { 0 < blank.parts }
+{
+    let mut steps = Steps::<L>::new(blank);
+    let blocks = Blocks::of(alloc, graph, edges)?;
+    let held = rows.held_over(alloc, statement, graph, edges, &blocks, &mut steps)?;
+    Ok(held)
 }
 
 /// Where a bit is born, and where it is stopped.
@@ -54,18 +130,68 @@ struct BitRows {
 
 impl BitRows {
     /// Where the bit holds by the statement of this name.
-    fn held(&self, alloc: Global, name: &str, graph: &Graph, edges: &Edges) -> Result<Rows, Memory>
+    fn text(
+        &self,
+        alloc: Global,
+        name: &str,
+        graph: &Graph,
+        edges: &Edges,
+    ) -> Result<String, Memory>
+        requires edges { edges.now ≡ edges_of graph.now.nodes }
+        requires born { HaveShape graph.now 1 self.now.born }
+        requires stop { HaveShape graph.now 1 self.now.stop }
+    {
+        let held = self.held(alloc, statement_of(name), graph, edges)?;
+        let text = text_of(alloc, name, &held)?;
+        Ok(text)
+    }
+
+    /// The rows of where the bit holds.
+    fn held(
+        &self,
+        alloc: Global,
+        statement: Statement,
+        graph: &Graph,
+        edges: &Edges,
+    ) -> Result<Rows, Memory>
         requires edges { edges.now ≡ edges_of graph.now.nodes }
         requires born { HaveShape graph.now 1 self.now.born }
         requires stop { HaveShape graph.now 1 self.now.stop }
     {
         let BitRows { born, stop } = self;
-        match name {
-            "before" => forward_all(alloc, graph, edges, born, stop),
-            "after" => backward_all(alloc, graph, edges, born, stop),
-            "ahead" => backward_some(alloc, graph, edges, born, stop),
-            _ => {
+        match statement {
+            Statement::Before => forward_all(alloc, graph, edges, born, stop),
+            Statement::After => backward_all(alloc, graph, edges, born, stop),
+            Statement::Ahead => backward_some(alloc, graph, edges, born, stop),
+            Statement::Beyond => {
                 let ahead = backward_some(alloc, graph, edges, born, stop)?;
+                some_successor(alloc, graph, edges, &ahead)
+            }
+        }
+    }
+
+    /// The same, by the calls over blocks.
+    fn held_over<L: Ledger>(
+        &self,
+        alloc: Global,
+        statement: Statement,
+        graph: &Graph,
+        edges: &Edges,
+        blocks: &Blocks,
+        steps: &mut Steps<L>,
+    ) -> Result<Rows, Memory>
+        requires edges { edges.now ≡ edges_of graph.now.nodes }
+        requires blocks { AreBlocksOf graph.now.nodes blocks.now }
+        requires born { HaveShape graph.now 1 self.now.born }
+        requires stop { HaveShape graph.now 1 self.now.stop }
+    {
+        let BitRows { born, stop } = self;
+        match statement {
+            Statement::Before => forward_all_in(alloc, graph, edges, blocks, born, stop, steps),
+            Statement::After => backward_all_in(alloc, graph, edges, blocks, born, stop, steps),
+            Statement::Ahead => backward_some_in(alloc, graph, edges, blocks, born, stop, steps),
+            Statement::Beyond => {
+                let ahead = backward_some_in(alloc, graph, edges, blocks, born, stop, steps)?;
                 some_successor(alloc, graph, edges, &ahead)
             }
         }

@@ -1,4 +1,5 @@
-// What becomes of programs and of their runs: the examples of `program_examples.rt`.
+// What becomes of programs and of their runs: the examples of `program_examples.rt` and `leaf_examples.rt`.
+use crate::tests::leaf_examples::LEAF_EXAMPLES;
 use crate::tests::program_examples::PROGRAM_EXAMPLES;
 use crate::tests::shown::program_text;
 use crate::tests::support::program_of;
@@ -13,9 +14,11 @@ use unit_join::join_program;
 /// Each example.
 #[test]
 fn examples_of_programs(rt: HostRuntime) -> Result<(), Fail> {
-    for example in PROGRAM_EXAMPLES.split("# ").skip(1) {
-        let other = other_than(rt.alloc(), example)?;
-        assert!(rt; other.is_empty(), "{example}makes otherwise:\n{other}");
+    for examples in [PROGRAM_EXAMPLES, LEAF_EXAMPLES] {
+        for example in examples.split("# ").skip(1) {
+            let other = other_than(rt.alloc(), example)?;
+            assert!(rt; other.is_empty(), "{example}makes otherwise:\n{other}");
+        }
     }
     Ok(())
 }

@@ -114,11 +114,11 @@ $ lower: terms
 1 from 0
 2 from 2
 3 from 2 x=(x2+1)
-4 from 2 x=(x2+1) y=node3
-5 from 2 x=(x2+1) y=node3
-6 from 2 x=-node3 y=node3
-7 from 2 x=(x2+1) y=node3
-8 from 2 x=(x2+1) y=node3 z=node7
+4 from 2 x=(x2+1) y=node3.y
+5 from 2 x=(x2+1) y=node3.y
+6 from 2 x=-node3.y y=node3.y
+7 from 2 x=(x2+1) y=node3.y
+8 from 2 x=(x2+1) y=node3.y z=node7.z
 # copies: b of a, c of b, b of i and b of c in turn, and what becomes of the nodes
 main: begin
 receive a(val)
@@ -379,4 +379,146 @@ $ lower split round
 10: skip to 2
 11: i <- i + 1 to 6
 12: x <- n + 1 to 8
+# behind a call nothing is known of a global, and it has no term from before; a trap instruction changes none
+global g
+main: begin
+receive a(val)
+g <- 3
+x <- g + a
+if g = a trap 7
+y <- g + a
+call f,()
+z <- g + a
+return z
+end
+f: begin
+g <- 1
+end
+$ lower: known
+0 g=? a=0 x=0 y=0 z=0
+1 g=? a=? x=0 y=0 z=0
+2 g=3 a=? x=0 y=0 z=0
+3 g=3 a=? x=? y=0 z=0
+4 g=3 a=? x=? y=0 z=0
+5 g=3 a=? x=? y=? z=0
+6 g=? a=? x=? y=? z=0
+7 g=? a=? x=? y=? z=?
+$ lower: terms
+0 from 0
+1 from 0
+2 from 0 g=3
+3 from 0 g=3 x=(3+a0)
+4 from 0 g=3 x=(3+a0)
+5 from 0 g=3 x=(3+a0) y=(3+a0)
+6 from 0 g=node5.g x=(3+a0) y=(3+a0)
+7 from 0 g=node5.g x=(3+a0) y=(3+a0) z=(node5.g+a0)
+$ lower number: changes
+4: y <- x to 5
+7 stay
+# a global is copied up to the next call; the test of a trap instruction reads what its variable is a copy of
+global g
+main: begin
+b <- g
+if b = 1 trap 2
+print b
+call f,()
+print b
+return g
+end
+f: begin
+g <- 1
+end
+$ lower: copies
+b <- g 2 3 4
+$ lower copies: changes
+2: if g = 1 trap 2 to 3
+3: print g to 4
+5 stay
+# a sum of a global may be evaluated before a trap instruction that its use is behind, and not before a call
+global g
+main: begin
+receive a(val)
+if a trap 1
+x <- g + a
+call f,()
+y <- g + a
+z <- g + a
+return z
+end
+f: begin
+g <- 1
+end
+$ lower: motion
+used 2 4 5
+killed 0 3
+available 3 5 6
+anticipatable 1 2 4 5
+earliest 1 4
+delayed 1 2 4
+latest 2 4
+isolated 0 1 2 3 5 6
+busy inserted 1 4
+busy replaced 2 4 5
+lazy inserted 4
+lazy replaced 4 5
+# what a trap instruction does not read sinks past it; each global is live at calls and returns
+global g
+main: begin
+receive a(val)
+g <- 1
+x <- a + 1
+if a trap 7
+g <- 2
+y <- a + 2
+if y trap 8
+print x
+call f,()
+g <- 3
+g <- 4
+return y
+end
+f: begin
+g <- 1
+end
+$ lower: live
+g before 5 6 7 8 11
+g after 4 5 6 7 10
+a before 0 1 2 3 4 5
+a after 0 1 2 3 4
+x before 3 4 5 6 7
+x after 2 3 4 5 6
+y before 6 7 8 9 10 11
+y after 5 6 7 8 9 10
+$ lower: delays
+g <- 1
+blocked 0 1 4 8 9 10 11
+delayed 2 3 4
+inserted 4
+g <- 2
+blocked 0 1 4 8 9 10 11
+delayed 5 6 7 8
+inserted 8
+x <- a + 1
+blocked 0 2 7
+delayed 3 4 5 6 7
+inserted 7
+$ lower round
+0: start to 1
+1: skip to 2
+2: skip to 3
+3: if a trap 7 to 12
+4: skip to 5
+5: skip to 13
+6: if y trap 8 to 14
+7: print x to 15
+8: call 1 to 9
+9: skip to 16
+10: skip to 17
+11: return y
+12: skip to 4
+13: y <- a + 2 to 6
+14: x <- a + 1 to 7
+15: g <- 2 to 8
+16: skip to 10
+17: g <- 4 to 11
 ";

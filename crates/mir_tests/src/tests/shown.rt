@@ -53,6 +53,11 @@ fn put_node(text: &mut String, vars: &[Name], node: &Node) -> Result<(), Memory>
             put_test(text, vars, test)?;
             write!(text, " to {taken} else {other}\n")
         }
+        Node::Guard(test, number, next) => {
+            text.push_str("if ")?;
+            put_test(text, vars, test)?;
+            write!(text, " trap {number} to {next}\n")
+        }
         Node::Return(a) => {
             text.push_str("return ")?;
             put_operand(text, vars, a)?;

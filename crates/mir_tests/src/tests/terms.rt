@@ -98,7 +98,10 @@ fn put_term(
             put_var(text, vars, x)?;
             write!(text, "{root}")
         }
-        TermKey::Opaque(node) => write!(text, "node{node}"),
+        TermKey::Opaque(node, x) => {
+            write!(text, "node{node}.")?;
+            put_var(text, vars, x)
+        }
         TermKey::Number(number) => write!(text, "{number}"),
         TermKey::Unary(op, a) => {
             put_bytes(text, un_op_text(op))?;

@@ -10,5 +10,5 @@ returns-clause-divides c =
     let trail = c.in_ok-trail.trail in
     let is = c.in_ok-trail.ensures in record {
       improves = improves_from (IsDivisionLinked trail) (λ (p : ProgramShape). IsOnlyDivisionTrail p trail) (All DivisionsAreBest trail.units) c.args.program.now trail.source trail.target is.source is.linked is.only is.keeps is.best;
-      least = c.hold_least.ensures;
+      least = c.divisions_hold_least.ensures;
     }

@@ -8,5 +8,7 @@ use Rattle.mir_top.proofs.making.moved.Goals as goal
 pub returns-clause-moves : goal.returns-clause-moves
 returns-clause-moves c =
     let trail = c.in_ok-trail.trail in
-    let is = c.in_ok-trail.ensures in
-    improves_from (IsMoveLinked trail) (λ (p : ProgramShape). IsOnlyMoveTrail p trail) (All MotionIsBest trail.units) c.args.program.now trail.source trail.target is.source is.linked is.only is.keeps is.best
+    let is = c.in_ok-trail.ensures in record {
+      improves = improves_from (IsMoveLinked trail) (λ (p : ProgramShape). IsOnlyMoveTrail p trail) (All MotionIsBest trail.units) c.args.program.now trail.source trail.target is.source is.linked is.only is.keeps is.best;
+      least = c.moves_hold_least.ensures;
+    }

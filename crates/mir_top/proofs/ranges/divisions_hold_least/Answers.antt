@@ -3,7 +3,7 @@ use Rattle.std.specs.Prelude.{All}
 use Rattle.div_move.specs.MustCome.{MustComeTo}
 use Rattle.mir_top.specs.RangeTexts.{UnitHoldsLeast, IsLazilyPlaced}
 use Rattle.mir_top.proofs.RangeLaws.{divisions_placed}
-use Rattle.mir_top.proofs.ranges.hold_least.Goals as goal
+use Rattle.mir_top.proofs.ranges.divisions_hold_least.Goals as goal
 
 pub hold_each-requires : goal.hold_each-requires
 hold_each-requires c =

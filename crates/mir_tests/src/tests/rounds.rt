@@ -1,0 +1,72 @@
+// How many rounds of sinking there are.
+use crate::tests::support::graph_of;
+use edge_split::split;
+use flow_graph::{Edges, Graph, is_split};
+use sink_dead::{round, sink};
+use std::alloc::{AllocError, Global};
+use std::mem;
+use std::test::Fail;
+
+/// Of sums, each of the one before, that one way from a test alone needs, each round sinks one more: the last is no
+/// longer read before the test once the one behind it has sunk. Three have sunk after three rounds, and the fourth
+/// round changes nothing. Twenty would want twenty-one rounds, and sixteen are made.
+#[test]
+fn rounds_stop_at_sixteen(rt: HostRuntime) -> Result<(), Fail> {
+    let three = rounds_of(rt.alloc(), 3)?;
+    assert!(rt; three == (4, false));
+    let twenty = rounds_of(rt.alloc(), 20)?;
+    assert!(rt; twenty == (16, true));
+    Ok(())
+}
+
+/// How many rounds are made of a unit with so many sums, and whether one more would change the last.
+fn rounds_of(alloc: Global, sums: u32) -> Result<(usize, bool), Fail> {
+    let text = chain(alloc, sums)?;
+    let graph = graph_of(alloc, text.as_str())?;
+    let split = split(alloc, &graph);
+    mem::drop(graph);
+    let split = split?;
+    let rounds = rounds_on(alloc, &split);
+    mem::drop(split);
+    rounds
+}
+
+/// The text of a unit with so many sums, each of the one before, of which one way from a test needs the last.
+fn chain(alloc: Global, sums: u32) -> Result<String, AllocError> {
+    let mut text = String::from_str(alloc, "main: begin\nreceive x0(val)\n")?;
+    for sum in 0..sums {
+        write!(&mut text, "x{} <- x{sum} + 1\n", sum + 1)?;
+    }
+    write!(&mut text, "if x0 goto L\nreturn x0\nL: return x{sums}\nend")?;
+    Ok(text)
+}
+
+/// How many rounds are made of a graph, which has to be split, and whether one more would change the last.
+fn rounds_on(alloc: Global, graph: &Graph) -> Result<(usize, bool), Fail> {
+    let edges = Edges::of(alloc, graph)?;
+    let splits = is_split(graph, &edges);
+    mem::drop(edges);
+    if !splits {
+        return Err("not split".into());
+    }
+    let sunk = sink(alloc, graph)?;
+    let rounds = sunk.rounds.items();
+    let changed = match rounds.last() {
+        Some(last) => would_change(alloc, last),
+        None => Err("no round".into()),
+    };
+    let count = rounds.len();
+    mem::drop(sunk);
+    Ok((count, changed?))
+}
+
+/// Whether a round changes a graph, which has to be split.
+fn would_change(alloc: Global, graph: &Graph) -> Result<bool, Fail> {
+    let edges = Edges::of(alloc, graph)?;
+    let splits = is_split(graph, &edges);
+    mem::drop(edges);
+    if !splits {
+        return Err("not split".into());
+    }
+    Ok(round(alloc, graph)?.changed)
+}
