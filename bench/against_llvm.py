@@ -81,7 +81,7 @@ def compare_times(mir: str, repeat: int, folder: Path) -> None:
 
 
 class Draw:
-    """Draws a program of a few units, each of which calls later ones alone."""
+    """Draws a program of a few units, each of which calls later ones alone, with up to two globals and with traps."""
 
     operators = ('+', '-', '*', '/', 'mod', 'min', 'max', 'shl', 'shr', 'shra', 'and', 'or', 'xor', '=', '<', '>=')
     relations = ('=', '!=', '<', '<=', '>', '>=')
@@ -90,11 +90,16 @@ class Draw:
         self.random = random.Random(seed)
         self.units = self.random.randint(1, 3)
         self.receives = [self.random.randint(0, 3) for _ in range(self.units)]
+        self.globals = [f'g{number}' for number in range(self.random.randint(0, 2))]
+
+    def variable(self) -> str:
+        """One of six variables, or a global."""
+        return self.random.choice([f'v{number}' for number in range(6)] + self.globals)
 
     def operand(self) -> str:
         """A variable, more often than a small or an extreme number."""
         if self.random.random() < 0.75:
-            return f'v{self.random.randrange(6)}'
+            return self.variable()
         return str(self.random.choice((0, 1, -1, 2, 3, 7, -5, 63, 64, 2 ** 63 - 1, -2 ** 63)))
 
     def value(self) -> str:
@@ -110,24 +115,25 @@ class Draw:
         """An instruction of a unit that has labels for some places."""
         kind, target = self.random.random(), f'L{self.random.randrange(places)}'
         if kind < 0.55:
-            return f'v{self.random.randrange(6)} <- {self.value()}'
+            return f'{self.variable()} <- {self.value()}'
         if kind < 0.65:
             return f'print {self.operand()}'
         if kind < 0.85:
             test = self.random.choice((self.operand(), f'! {self.operand()}',
                                        f'{self.operand()} {self.random.choice(self.relations)} {self.operand()}'))
-            return f'if {test} goto {target}'
+            ends = f'trap {self.random.randrange(256)}' if kind < 0.68 else f'goto {target}'
+            return f'if {test} {ends}'
         if kind < 0.9:
             return f'goto {target}'
         if kind < 0.95 and unit + 1 < self.units:
             callee = self.random.randrange(unit + 1, self.units)
             arguments = ';'.join(f'{self.operand()},int' for _ in range(self.receives[callee]))
-            return f'{self.random.choice((f"v{self.random.randrange(6)} <-", "call"))} u{callee},({arguments})'
+            return f'{self.random.choice((f"{self.variable()} <-", "call"))} u{callee},({arguments})'
         return f'return {self.operand()}'
 
     def program(self) -> str:
         """The text."""
-        lines = []
+        lines = [f'global {name}' for name in self.globals]
         for unit in range(self.units):
             places = self.random.randint(4, 20)
             lines += [f'u{unit}: begin'] + [f'receive v{at}(val)' for at in range(self.receives[unit])]

@@ -23,12 +23,13 @@ TOP = Path(__file__).resolve().parent.parent
 # The steps of the source, and those of the target, in which insertions and jumps around them take some.
 STEPS, MORE_STEPS = 400, 8_000
 
-VARIABLES = ('a', 'b', 'c', 'x', 'y', 'z', 'i')
+VARIABLES = ('a', 'b', 'c', 'x', 'y', 'z', 'i', 'g')
 INPUTS = (0, 0, 1, -1, 2, 3, 7, -5, LEAST, -LEAST - 1)
 
 
 class Draw:
-    """Draws a program of a unit with three inputs, which calls a second one that prints and divides."""
+    """Draws a program of a unit with three inputs, which calls a second one that prints or divides; there is a global,
+    and there are traps."""
 
     def __init__(self, seed: int):
         self.random = random.Random(seed)
@@ -64,6 +65,8 @@ class Draw:
             return f'print {self.operand()}'
         if kind < 0.88:
             return f'if {self.test()} goto {label}'
+        if kind < 0.9:
+            return f'if {self.test()} trap {self.random.randrange(3)}'
         if kind < 0.93:
             return f'goto {label}'
         if kind < 0.96:
@@ -75,8 +78,9 @@ class Draw:
         places = self.random.randint(5, 22)
         lines = [f'L{place}: {self.instruction(f"L{self.random.randrange(places)}")}' for place in range(places)]
         received = ''.join(f'receive {name}(val)\n' for name in 'abc')
-        callee = f'f: begin\nreceive a(val)\nreceive b(val)\n{self.random.choice(("print a", "x <- a / b"))}\nreturn x\nend\n'
-        return f'main: begin\n{received}' + '\n'.join(lines) + '\nend\n' + callee
+        inside = self.random.choice(('print a', 'x <- a / b', 'g <- a', 'x <- g / b'))
+        callee = f'f: begin\nreceive a(val)\nreceive b(val)\n{inside}\nreturn x\nend\n'
+        return f'global g\nmain: begin\n{received}' + '\n'.join(lines) + '\nend\n' + callee
 
 
 def is_alike(source: Report, target: Report) -> bool:

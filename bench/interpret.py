@@ -18,8 +18,8 @@ class Trap(Exception):
 
 
 class Report(NamedTuple):
-    """What a run came to: `ended`, `trapped` or `running`, its result where it ended, what it printed, and how many
-    operators its assignments evaluated."""
+    """What a run came to: `ended`, `trapped` or `running`, its result where it ended and the number of its trap where one
+    was raised, what it printed, and how many operators its assignments evaluated."""
 
     end: str
     result: Optional[int]
@@ -58,19 +58,19 @@ UNARY: dict[str, Callable[[int], int]] = {'-': lambda a: wrapped(-a), '!': lambd
 
 
 class Code(NamedTuple):
-    """A unit to be run: the first value of each variable and constant, the places of the received ones, and for each
-    instruction its kind, a function where it evaluates, the places that it reads, and where its result or its jump
-    goes."""
+    """A unit to be run: the first value of each variable and constant, the globals before all others, the places of the
+    received ones, and for each instruction its kind, a function where it evaluates, the places that it reads, and where
+    its result or its jump goes; of a trap its number."""
 
     first: list[int]
     received: list[int]
     steps: list[tuple]
 
 
-def coded(unit: mir_text.Unit, numbers: dict[str, int]) -> Code:
-    """A unit as it is run, where each unit has a number."""
-    places: dict = {}
-    first: list[int] = []
+def coded(unit: mir_text.Unit, shared: list[str], numbers: dict[str, int]) -> Code:
+    """A unit as it is run, over these globals, where each unit has a number."""
+    places: dict = {name: place for place, name in enumerate(shared)}
+    first = [0] * len(shared)
 
     def at(operand: mir_text.Operand) -> int:
         """The place of a variable or a constant."""
@@ -102,6 +102,9 @@ def coded(unit: mir_text.Unit, numbers: dict[str, int]) -> Code:
         elif isinstance(one, mir_text.If):
             function, reads = evaluation(one.test)
             steps.append(('if', function, reads, unit.labels[one.label]))
+        elif isinstance(one, mir_text.TrapIf):
+            function, reads = evaluation(one.test)
+            steps.append(('trap', function, reads, one.number))
         else:
             kind = 'print' if isinstance(one, mir_text.Print) else 'return'
             steps.append((kind, None, (at(one.value),), None))
@@ -114,9 +117,12 @@ class Machine:
     """A program that can be run."""
 
     def __init__(self, text: str):
-        units = mir_text.Parser(list(mir_text.tokens(text))).units()
+        parser = mir_text.Parser(list(mir_text.tokens(text)))
+        shared = [name for name, _ in parser.globals()]
+        units = parser.units()
         numbers = {unit.name: number for number, unit in enumerate(units)}
-        self.code = [coded(unit, numbers) for unit in units]
+        self.code = [coded(unit, shared, numbers) for unit in units]
+        self.shared = len(shared)
 
     def inputs(self) -> int:
         """How many inputs a run takes."""
@@ -125,7 +131,7 @@ class Machine:
     def run(self, inputs: list[int], most: int) -> Report:
         """The run of the first unit on these inputs, for at most so many steps."""
         code, printed, evaluations, stack, at = self.code[0], [], 0, [], 0
-        values = entered(code, inputs)
+        values = entered(code, [0] * self.shared, inputs)
         for _ in range(most):
             kind, function, reads, to = code.steps[at]
             at += 1
@@ -137,9 +143,11 @@ class Machine:
                     values[to] = function(*[values[place] for place in reads])
                 except Trap:
                     return Report('trapped', None, printed, evaluations)
-            elif kind == 'if':
-                if function(*[values[place] for place in reads]) if function else values[reads[0]]:
-                    at = to
+            elif kind in ('if', 'trap'):
+                holds = function(*[values[place] for place in reads]) if function else values[reads[0]]
+                if holds and kind == 'trap':
+                    return Report('trapped', to, printed, evaluations)
+                at = to if holds else at
             elif kind == 'goto':
                 at = to
             elif kind == 'print':
@@ -147,20 +155,21 @@ class Machine:
             elif kind == 'call':
                 stack.append((code, values, at, to))
                 code, at = self.code[function], 0
-                values = entered(code, [stack[-1][1][place] for place in reads])
+                values = entered(code, values[:self.shared], [values[place] for place in reads])
             elif kind == 'return':
                 result = values[reads[0]]
                 if not stack:
                     return Report('ended', result, printed, evaluations)
-                code, values, at, to = stack.pop()
+                shared, (code, values, at, to) = values[:self.shared], stack.pop()
+                values[:self.shared] = shared
                 if to is not None:
                     values[to] = result
         return Report('running', None, printed, evaluations)
 
 
-def entered(code: Code, arguments: list[int]) -> list[int]:
-    """The values of a unit that begins with these arguments."""
-    values = list(code.first)
+def entered(code: Code, shared: list[int], arguments: list[int]) -> list[int]:
+    """The values of a unit that begins with these globals and arguments."""
+    values = shared + code.first[len(shared):]
     for place, argument in zip(code.received, arguments):
         values[place] = argument
     return values

@@ -21,10 +21,10 @@ from pathlib import Path
 from typing import Callable, NamedTuple, Optional
 
 from interpret import Machine
-from texts import (LOOP, dense, diamonds, doubling, edges_into_one_join, gotos_in_a_chain, joins_used_at_end,
-                   joins_used_in_arms, joins_with_copies, loops_in_a_row, loops_laid_out, many_names, many_units,
-                   nested_loops, self_tail_calls, small_leaves, straight, sums_in_a_line, tests_over_one, twins,
-                   with_divisions)
+from texts import (LOOP, LOOP_OF_CALLS, LOOP_OF_CALLS_GLOBAL, LOOP_OF_GLOBALS, dense, diamonds, doubling,
+                   edges_into_one_join, gotos_in_a_chain, joins_used_at_end, joins_used_in_arms, joins_with_copies,
+                   loops_in_a_row, loops_laid_out, many_names, many_units, nested_loops, self_tail_calls, small_leaves,
+                   straight, sums_in_a_line, sums_of_one, tests_over_one, twins, with_divisions)
 
 TOP = Path(__file__).resolve().parent.parent
 MIR, PROGRAM = str(TOP / 'mir'), TOP / 'crates' / 'mir_main' / 'out' / 'mir_main'
@@ -107,9 +107,14 @@ def names() -> list[Case]:
     ]
 
 
-def loop_of(steps: int) -> Case:
-    """So many steps of the loop, a multiple of 4; two in four are evaluations."""
-    return Case(steps, ['run', str(steps)], LOOP, RUNNING, f'running\nevals {steps // 2}\n')
+def loop_of(steps: int, text: str = LOOP) -> Case:
+    """So many steps of a loop, a multiple of 4; two in four are evaluations."""
+    return Case(steps, ['run', str(steps)], text, RUNNING, f'running\nevals {steps // 2}\n')
+
+
+def calls_of(steps: int, text: str) -> Case:
+    """So many steps of a loop of calls, a multiple of 6; two in six are evaluations."""
+    return Case(steps, ['run', str(steps)], text, RUNNING, f'running\nevals {steps // 3}\n')
 
 
 # What source instructions, source evaluations and printed numbers the trial of number 0 has with so many units: they were
@@ -132,8 +137,8 @@ def trial() -> list[Case]:
     ]
 
 
-# The numbers of instructions of a unit: a quarter, a half and the whole of what a unit may have.
-INSTRUCTIONS = (1024, 2048, 4096)
+# The numbers of instructions of a unit: up to a quarter of what a unit may have, and from there to all of it.
+INSTRUCTIONS, LONG = (1024, 2048, 4096), (4096, 8192, 16_384)
 
 
 def graphs() -> list[Case]:
@@ -165,7 +170,7 @@ def line() -> list[Case]:
 
 
 def diamonds_by(word: str) -> list[Case]:
-    """A unit of a quarter, a half and all of the diamonds that it may have, under this command."""
+    """A unit of 250, 500 and 1,000 diamonds, under this command."""
     cases = []
     for count in (250, 500, 1000):
         text, moved = diamonds('main', count)
@@ -216,7 +221,7 @@ def judged(cases: list[Case]) -> list[Case]:
     return [case._replace(text=with_divisions(case.text)) for case in cases] if cases[0].words == ['divisions'] else cases
 
 
-# How many joins, tests, loops and sums: a quarter, a half and all that a unit has room for, or nearly so.
+# How many joins, tests, loops and sums: a quarter, a half and all that 4,096 instructions have room for, or nearly so.
 JOINS, TESTS, LOOPS, SUMS = (250, 500, 1000), (300, 600, 1200), (55, 110, 220), (1000, 2000, 4000)
 
 # What the passes before and after code motion are measured on.
@@ -239,6 +244,10 @@ VALUES = [
             lambda joins: joins_with_copies('main', joins),
         ),
         ('dense', 'loops up to six deep over 92 names', 'insts', INSTRUCTIONS, lambda insts: dense('main', insts)),
+        ('diamonds-long', 'as many diamonds as a unit may have', 'insts', LONG,
+         lambda insts: diamonds('main', (insts - 3) // 4)[0]),
+        ('sums-long', 'as many different sums as a unit may have, of which one is read', 'insts', LONG,
+         lambda insts: sums_of_one('main', insts)),
         ('straight', 'no jump, over 40 names', 'insts', INSTRUCTIONS, lambda insts: straight('main', insts)),
     )
 ]
@@ -302,8 +311,8 @@ MOTION = [
 
 
 def tails_by(word: str) -> list[Case]:
-    """A unit of a quarter, a half and all of the instructions that it may have, with as many self tail calls of 16
-    arguments in 4,096 as 200, under this command."""
+    """A unit of 1,024, 2,048 and 4,096 instructions with 50, 100 and 200 self tail calls of 16 arguments, under this
+    command."""
     cases = []
     for instructions in INSTRUCTIONS:
         text, looped = self_tail_calls(instructions, instructions * 200 // 4096)
@@ -372,6 +381,19 @@ WORKLOADS = [
         lambda: [loop_of(250_000), loop_of(500_000), loop_of(1_000_000)],
         lambda: [loop_of(100_000), loop_of(200_000)],
     ),
+    Workload(
+        'loop-globals',
+        'the same loop is run where its sum and its counter are globals',
+        'steps',
+        lambda: [loop_of(steps, LOOP_OF_GLOBALS) for steps in (250_000, 500_000, 1_000_000)],
+        lambda: [loop_of(steps, LOOP_OF_GLOBALS) for steps in (100_000, 200_000)],
+    ),
+    *(Workload(name, about, 'steps',
+               lambda text=text: [calls_of(steps, text) for steps in (240_000, 480_000, 960_000)],
+               lambda text=text: [calls_of(steps, text) for steps in (120_000, 240_000)])
+      for name, about, text in (('calls', 'a loop of calls is run', LOOP_OF_CALLS),
+                                ('calls-global', 'the same, and the called unit adds to a global',
+                                 LOOP_OF_CALLS_GLOBAL))),
     Workload(
         'trial',
         'a large program is drawn, optimised and run, and its target too',

@@ -106,6 +106,13 @@ def sums_in_a_line(unit: str, count: int) -> tuple[str, str]:
     return f'{unit}: begin\n{text}print {names[-1]}\nend\n', f'{unit}: begin\nprint {count - 1}\nreturn 0\nend\n'
 
 
+def sums_of_one(unit: str, instructions: int) -> str:
+    """A unit of so many instructions: different sums of the received variable, one after the other, of which the last is
+    returned."""
+    sums = ''.join(f'x <- a + {number}\n' for number in range(1, instructions - 1))
+    return f'{unit}: begin\nreceive a(val)\n{sums}return x\nend\n'
+
+
 def diamonds(unit: str, count: int) -> tuple[str, str]:
     """A unit of so many diamonds, one after the other, each of which evaluates a + b; and the unit with moved code, which
     evaluates it once, on the paths of which there are 2 to the power of the count."""
@@ -221,6 +228,26 @@ last <- i
 if i > 0 goto again
 end
 """
+
+# The same with its sum and its counter as globals.
+LOOP_OF_GLOBALS = f'global sum\nglobal i\n{LOOP}'
+
+# A loop of a call, whose unit adds what it is given to a variable of its own.
+LOOP_OF_CALLS = """\
+main: begin
+again: x <- add,(i,int)
+i <- i + 1
+if i > 0 goto again
+end
+add: begin
+receive n(val)
+sum <- sum + n
+return sum
+end
+"""
+
+# The same where this variable is a global.
+LOOP_OF_CALLS_GLOBAL = f'global sum\n{LOOP_OF_CALLS}'
 
 
 def dense(unit: str, instructions: int) -> str:

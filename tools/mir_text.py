@@ -12,7 +12,7 @@ RESERVED = set('begin end receive goto if call return print mod min max shl shr 
                'trap global sequence'.split())
 RELATIONS = ('=', '!=', '<', '<=', '>', '>=')
 OPERATORS = RELATIONS + ('+', '-', '*', '/', 'mod', 'min', 'max', 'shl', 'shr', 'shra', 'and', 'or', 'xor')
-BYTES, UNITS, INSTRUCTIONS, RECEIVES, NAME_BYTES = 1_048_576, 256, 4_096, 16, 64
+BYTES, UNITS, INSTRUCTIONS, RECEIVES, NAME_BYTES, GLOBALS = 1_048_576, 256, 16_384, 16, 64, 64
 
 TOKEN = re.compile(r'(?P<blank>[ \t\r]+|\|\|[^\n]*)|(?P<end>\n)|(?P<name>[A-Za-z][A-Za-z0-9_]*)'
                    r'|(?P<number>-?[0-9]+)|(?P<mark><-|\xe2\x86\x90|<=|>=|!=|[:,;()+\-*/=<>!])')
@@ -90,6 +90,13 @@ class If(NamedTuple):
     label: str
 
 
+class TrapIf(NamedTuple):
+    """`if test trap number`."""
+
+    test: Value
+    number: int
+
+
 class Print(NamedTuple):
     """`print a`."""
 
@@ -102,12 +109,12 @@ class Return(NamedTuple):
     value: Operand
 
 
-Instruction = Union[Receive, Assign, Call, Goto, If, Print, Return]
+Instruction = Union[Receive, Assign, Call, Goto, If, TrapIf, Print, Return]
 
 
 @dataclass
 class Unit:
-    """A unit: its instructions with the line of each, and the place of each label."""
+    """A unit: its instructions with the line of each, the place of each label, and the globals of its program."""
 
     name: str
     line: int
@@ -115,6 +122,7 @@ class Unit:
     lines: list[int] = field(default_factory=list)
     labels: dict[str, int] = field(default_factory=dict)
     label_lines: list[tuple[str, int, bool]] = field(default_factory=list)
+    globals: tuple[str, ...] = ()
 
     def receives(self) -> int:
         """How many inputs the unit takes."""
@@ -201,6 +209,15 @@ class Parser:
         """Takes the end of a line, if one is next."""
         if self.is_next('\n'):
             self.at += 1
+
+    def globals(self) -> list[tuple[str, int]]:
+        """Takes the lines of globals: their names, each with its line."""
+        read = []
+        while self.at < len(self.tokens) and self.is_next('global'):
+            self.take('global')
+            read.append((self.name(), self.tokens[self.at - 1].line))
+            self.take('\n')
+        return read
 
     def units(self) -> list[Unit]:
         """Takes all units."""
@@ -291,16 +308,19 @@ class Parser:
         self.take(')')
         return Call(name, unit, tuple(arguments))
 
-    def jump(self) -> If:
-        """Takes the test and the label of an `if`."""
+    def jump(self) -> Union[If, TrapIf]:
+        """Takes the test of an `if`, and its label or the number of its trap."""
         if self.is_next('!'):
             self.take('!')
             test: Value = Unary('!', self.operand())
         else:
             left = self.operand()
             test = Binary(self.take(*RELATIONS), left, self.operand()) if self.is_next(*RELATIONS) else Plain(left)
-        self.take('goto')
-        return If(test, self.name())
+        if self.take('goto', 'trap') == 'goto':
+            return If(test, self.name())
+        if self.next().kind != 'number':
+            raise self.unexpected()
+        return TrapIf(test, int(self.operand()))
 
 
 def least(lines: list[int], message: str) -> None:
@@ -309,8 +329,8 @@ def least(lines: list[int], message: str) -> None:
         raise Fault(f'line {min(lines)}: {message}')
 
 
-def check(units: list[Unit]) -> None:
-    """Raises the first fault of a program, in the order of the language page."""
+def check(named: list[tuple[str, int]], units: list[Unit]) -> None:
+    """Raises the first fault of a program with these globals, in the order of the language page."""
     if not units:
         raise Fault('no unit')
     if len(units) > UNITS:
@@ -327,14 +347,24 @@ def check(units: list[Unit]) -> None:
     least([line for one, line in calls if one.unit not in names], 'no such unit')
     takes = {unit.name: unit.receives() for unit in units}
     least([line for one, line in calls if len(one.arguments) != takes[one.unit]], 'wrong number of arguments')
+    shared = [name for name, _ in named]
+    least([line for at, (name, line) in enumerate(named) if name in shared[:at]], 'global named twice')
+    least([line for _, line in named[GLOBALS:]], 'too many globals')
+    least([line for _, one, line in each if isinstance(one, Receive) and one.name in shared], 'global received')
+    least([line for _, one, line in each if isinstance(one, TrapIf) and not 0 <= one.number <= 255],
+          'bad trap number')
 
 
 def program(text: str) -> list[Unit]:
     """The units of a valid text, whose characters are its bytes."""
     if len(text) > BYTES:
         raise Fault('text longer than 1048576 bytes')
-    units = Parser(list(tokens(text))).units()
-    check(units)
+    parser = Parser(list(tokens(text)))
+    named = parser.globals()
+    units = parser.units()
+    check(named, units)
+    for unit in units:
+        unit.globals = tuple(name for name, _ in named)
     return units
 
 
@@ -407,6 +437,8 @@ def instruction_text(instruction: Instruction) -> str:
         return f'goto {instruction.label}'
     if isinstance(instruction, If):
         return f'if {value_text(instruction.test)} goto {instruction.label}'
+    if isinstance(instruction, TrapIf):
+        return f'if {value_text(instruction.test)} trap {instruction.number}'
     if isinstance(instruction, Print):
         return f'print {spelled(instruction.value)}'
     return f'return {spelled(instruction.value)}'
@@ -427,7 +459,7 @@ def variables_in(instruction: Instruction) -> tuple[set[str], set[str]]:
         read, written = operands_of(instruction.value), {instruction.name}
     elif isinstance(instruction, Call):
         read, written = instruction.arguments, {instruction.name} if instruction.name else set()
-    elif isinstance(instruction, If):
+    elif isinstance(instruction, (If, TrapIf)):
         read = operands_of(instruction.test)
     elif isinstance(instruction, (Print, Return)):
         read = (instruction.value,)

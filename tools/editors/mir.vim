@@ -3,9 +3,9 @@ if exists('b:current_syntax')
   finish
 endif
 syn case match
-syn keyword mirWord begin end receive goto if call return print
+syn keyword mirWord begin end receive goto if call return print trap global
 syn keyword mirOperator mod min max shl shr shra and or xor
-syn keyword mirReserved trap global sequence
+syn keyword mirReserved sequence
 syn match mirComment "||.*$"
 syn match mirNumber "\<\d\+\>"
 syn match mirNumber "\%(\%(^\|[^A-Za-z0-9_ \t]\|\<\%(mod\|min\|max\|shl\|shr\|shra\|and\|or\|xor\|print\|return\|if\)\)\s*\)\@<=-\d\+\>"
