@@ -13,12 +13,14 @@ pub mod EnteringLaws
 pub mod EdgeLaws
 pub mod PredLaws
 pub mod Lowered
+pub mod LoweringLaws
 pub mod Calls
 pub mod NodeLaws
 pub mod CallLaws
 pub mod Plans
 pub mod Numbering
 pub mod NumberingLaws
+pub mod MemberLaws
 pub mod Layouts
 pub mod Keeps
 pub mod Passes

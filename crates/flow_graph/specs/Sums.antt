@@ -15,7 +15,8 @@ sum_on f (n ∷ path) = f n + sum_on f path
 -- a count is a sum of ones
 pub count_sums : (test : ℕ → Bool) (path : List ℕ) → count_by test path ≡ sum_on (λ n. one_if (test n)) path
 count_sums test [] = refl
-count_sums test (n ∷ path) = sum_by-cons (λ m. one_if (test m)) n path ∙ ap (λ k. one_if (test n) + k) (count_sums test path)
+count_sums test (n ∷ path) =
+    sum_by-cons (λ m. one_if (test m)) n path ∙ ap (λ k. one_if (test n) + k) (count_sums test path)
 
 -- a sum over joined lists
 pub sum_append : (f : ℕ → ℕ) (xs ys : List ℕ) → sum_on f (xs ++ ys) ≡ sum_on f xs + sum_on f ys
@@ -26,7 +27,8 @@ sum_append f (x ∷ xs) ys = let ih = sum_append f xs ys in omega (arith, ih)
 pub sum_reverse : (f : ℕ → ℕ) (xs : List ℕ) → sum_on f (reverse xs) ≡ sum_on f xs
 sum_reverse f [] = refl
 sum_reverse f (x ∷ xs) =
-    let split : sum_on f (reverse (x ∷ xs)) ≡ sum_on f (reverse xs ++ x ∷ []) = ap (sum_on f) (reverse-append (x ∷ []) xs) in
+    let split : sum_on f (reverse (x ∷ xs)) ≡ sum_on f (reverse xs ++ x ∷ []) =
+    ap (sum_on f) (reverse-append (x ∷ []) xs) in
     omega (arith, split, sum_append f (reverse xs) (x ∷ []), sum_reverse f xs)
 
 -- a sum of sums

@@ -79,14 +79,19 @@ pub fn redirect(node: Node, to: &[usize]) -> Node
     requires { SuccsBelow (length to.now) node }
     ensures { result ≡ redirected_by to.now node }
 {
-    match node {
-        Node::Start(next) => Node::Start(to[next]),
-        Node::Skip(next) => Node::Skip(to[next]),
-        Node::Assign(x, rhs, next) => Node::Assign(x, rhs, to[next]),
-        Node::Print(a, next) => Node::Print(a, to[next]),
-        Node::Guard(test, number, next) => Node::Guard(test, number, to[next]),
-        Node::Call(into, unit, args, next) => Node::Call(into, unit, args, to[next]),
-        Node::Test(test, taken, other) => Node::Test(test, to[taken], to[other]),
-        Node::Return(a) => Node::Return(a),
+    let mut redirected = node;
+    match &mut redirected {
+        Node::Start(next) => *next = to[*next],
+        Node::Skip(next) => *next = to[*next],
+        Node::Assign(_, _, next) => *next = to[*next],
+        Node::Print(_, next) => *next = to[*next],
+        Node::Guard(_, _, next) => *next = to[*next],
+        Node::Call(_, _, _, next) => *next = to[*next],
+        Node::Test(_, taken, other) => {
+            *taken = to[*taken];
+            *other = to[*other];
+        }
+        Node::Return(_) => {}
     }
+    redirected
 }

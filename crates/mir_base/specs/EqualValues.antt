@@ -1,5 +1,5 @@
 -- What is read has the same value on two sides where the variables that are read have, and what an assignment changes.
--- For proofs only, of the crates above too.
+-- `EqualOn` is cited by a contract; the laws are for proofs only, of the crates above too.
 use Rattle.std.proofs.Common.{◌≡◌, ℕ, ℤ, ◌<◌, not, if◌then◌else◌, List, [], ◌∷◌, ◌++◌, map, flat_map, pos, refl, sym, ap, subst, ◌∙◌}
 use Rattle.std.specs.Ordering.{int_eq}
 use Rattle.std.proofs.lemmas.Bool.{eq-eqb, ne_eqb}

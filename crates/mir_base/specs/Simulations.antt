@@ -1,6 +1,6 @@
 -- The rule by which a rewriting is shown to keep what a unit or a graph does: one relation between the frames of the
--- two sides, which holds at the start, and which the second side keeps up at each transition of the first. For
--- proofs only, of the crates above too.
+-- two sides, which holds at the start, and which the second side keeps up at each transition of the first. `Silently`
+-- is cited by a contract; the rest is for proofs only, of the crates above too.
 use Rattle.std.specs.Prelude.{◌≡◌, ℕ, zero, suc, ◌+◌, ◌≤◌, ◌<◌, ◌⊎◌, length, ℤ, Option}
 use Rattle.mir_base.specs.declared.operators.Trap.{Trap}
 use Rattle.mir_base.specs.Frames.{CallEntry, Answer, Frame, first_frame, resumed, Transition, Continues, Prints, Calls, Returns, Traps, Code}

@@ -73,18 +73,21 @@ rhs_text naming (Binary op a b) = operand_text naming a ++ codes " " ++ op_text 
 
 -- `a < b`, `a` or `! a`
 abbrev pub test_text : Naming → Test → List ℕ
-test_text naming (Rel op a b) = operand_text naming a ++ codes " " ++ rel_op_text op ++ codes " " ++ operand_text naming b
+test_text naming (Rel op a b) =
+    operand_text naming a ++ codes " " ++ rel_op_text op ++ codes " " ++ operand_text naming b
 test_text naming (Holds a) = operand_text naming a
 test_text naming (Fails a) = codes "! " ++ operand_text naming a
 
 -- `(a,int;b,int)`; 59 is the semicolon
 abbrev pub args_text : Naming → List Operand → List ℕ
-args_text naming operands = codes "(" ++ join_with_byte 59 (map (λ a. operand_text naming a ++ codes ",int") operands) ++ codes ")"
+args_text naming operands =
+    codes "(" ++ join_with_byte 59 (map (λ a. operand_text naming a ++ codes ",int") operands) ++ codes ")"
 
 -- `call f,(a,int)` or `x <- f,(a,int)`
 abbrev pub call_text : Naming → Option ℕ → ℕ → List Operand → List ℕ
 call_text naming None unit operands = codes "call " ++ called_text naming unit ++ codes "," ++ args_text naming operands
-call_text naming (Some x) unit operands = var_text naming x ++ codes " <- " ++ called_text naming unit ++ codes "," ++ args_text naming operands
+call_text naming (Some x) unit operands =
+    var_text naming x ++ codes " <- " ++ called_text naming unit ++ codes "," ++ args_text naming operands
 
 -- the line of an instruction, without its label
 abbrev pub inst_text : Naming → Inst → List ℕ
@@ -102,13 +105,15 @@ inst_text naming (Return a) = codes "return " ++ operand_text naming a
 -- the lines of instructions, of which the first is at this place
 abbrev pub lines_text : Naming → ℕ → List Inst → List ℕ
 lines_text naming place [] = []
-lines_text naming place (inst ∷ insts) = label_before naming.body place ++ inst_text naming inst ++ codes "\n" ++ lines_text naming (suc place) insts
+lines_text naming place (inst ∷ insts) =
+    label_before naming.body place ++ inst_text naming inst ++ codes "\n" ++ lines_text naming (suc place) insts
 
 -- a unit, among units of these names
 abbrev pub unit_text : List (List ℕ) → UnitShape → List ℕ
 unit_text units unit =
     let naming : Naming = record { units = units; vars = unit.vars; body = unit.body } in
-    unit.name ++ codes ": begin\n" ++ lines_text naming 0 unit.body ++ label_before unit.body (length unit.body) ++ codes "end\n"
+    let last : List ℕ = label_before unit.body (length unit.body) ++ codes "end\n" in
+    unit.name ++ codes ": begin\n" ++ lines_text naming 0 unit.body ++ last
 
 -- `global g`
 abbrev pub global_text : List ℕ → List ℕ

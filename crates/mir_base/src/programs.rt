@@ -1,6 +1,6 @@
 // Units and programs, whose parts are known to fit together.
 ghost use Rattle.std.specs.Prelude.{◌≡◌, ◌+◌, ◌<◌, ◌^◌, [], ◌∷◌, length, slice_get, Some, None, IfNone, IfOk, IfSome, All};
-ghost use Rattle.mir_base.specs.Shapes.{BodyFits, IsTidy, AllBelow, SharesGlobals, inst_vars, receives_in};
+ghost use Rattle.mir_base.specs.Shapes.{BodyFits, IsProgram, IsTidy, AllBelow, SharesGlobals, inst_vars, receives_in};
 ghost use Rattle.mir_base.specs.Runs.{inputs_of};
 
 use crate::{Inst, Items, Memory, Name};
@@ -117,6 +117,26 @@ impl Program {
             globals: Items::new(alloc),
             units: Items::of(units),
         })
+    }
+
+    /// The program of these units with the globals of this one, where they fit together. It fails only with `Memory`.
+    pub fn with_units(&self, units: Vec<Unit>) -> Result<Program, Memory>
+        requires { IsProgram self.now.globals units.items }
+        ensures { IfOk result (λ program. program
+            ≡ record { globals = self.now.globals; units = units.items }) }
+    {
+        let globals = self.globals.clone()?;
+        Ok(Program {
+            globals,
+            units: Items::of(units),
+        })
+    }
+
+    /// Has no effect; carries the theorem that the units of a program fit together, which is its invariant.
+    pub fn fits_together(&self)
+        ensures { IsProgram self.now.globals self.now.units }
+    {
+        let _ = &self.units;
     }
 
     /// The unit of this number. It does not allocate.

@@ -4,4 +4,3 @@ pub mod Best
 pub mod Divisions
 pub mod Made
 pub mod OneLaws
-pub mod LoweringLaws

@@ -91,17 +91,7 @@ fn program_of_units(source: &Program, targets: Vec<MirUnit>) -> Result<Program, 
         ≡ record { globals = source.now.globals; units = targets.items }) }
     ensures fits { IsProgram source.now.globals source.now.units }
 {
-    fits_together(source);
-    let globals = source.globals.clone()?;
-    Ok(Program {
-        globals,
-        units: Items::of(targets),
-    })
-}
-
-/// Has no effect; carries the theorem that the units of a program fit together, which is its invariant.
-fn fits_together(program: &Program)
-    ensures { IsProgram program.now.globals program.now.units }
-{
-    let _ = &program.units;
+    source.fits_together();
+    let program = source.with_units(targets)?;
+    Ok(program)
 }

@@ -204,7 +204,7 @@ unit_read units unit text front line before after spelled was split =
           (append_assoc front head rest ∙ ap (λ (t : List ℕ). front ++ t) written) (regrouped before h body.ts body.tail) body.read;
     }
   where
-    whole : (head lines label close : List ℕ) → head ++ (lines ++ label ++ close) ≡ head ++ lines ++ label ++ close
+    whole : (head lines label close : List ℕ) → head ++ (lines ++ label ++ close) ≡ head ++ lines ++ (label ++ close)
     whole head lines label close = simp append_assoc
 
 -- ---- programs

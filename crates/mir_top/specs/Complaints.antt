@@ -39,7 +39,11 @@ pub record ArePartsOf (complaint : Complaint) (parts : ComplaintParts) : Type 0 
 
 -- the words are those of no command
 abbrev pub usage : Complaint
-usage = record { status = 1; line = codes "usage: mir optimise | stages | move | ranges | divisions | tails | join | run STEPS [N ..] | trial NUMBER UNITS\n" }
+usage = record {
+  status = 1;
+  line = codes "usage: mir optimise | stages | move | ranges | divisions | tails | join"
+      ++ codes " | run STEPS [N ..] | trial NUMBER UNITS\n";
+}
 
 -- a run has more or fewer inputs than the program receives
 abbrev pub wrong_inputs : ℕ → Complaint

@@ -20,7 +20,8 @@ use Rattle.mir_trial.specs.Draws.{next, drawn}
 
 -- the variables, by the numbers that they have here: `a` and `b` are 0 and 1, `v0` to `v5` are 2 to 7, and `c` is 8
 abbrev pub variables : List (List ℕ)
-variables = codes "a" ∷ codes "b" ∷ codes "v0" ∷ codes "v1" ∷ codes "v2" ∷ codes "v3" ∷ codes "v4" ∷ codes "v5" ∷ codes "c" ∷ []
+variables =
+    codes "a" ∷ codes "b" ∷ codes "v0" ∷ codes "v1" ∷ codes "v2" ∷ codes "v3" ∷ codes "v4" ∷ codes "v5" ∷ codes "c" ∷ []
 
 -- `v0` to `v5`, by the state that the draw makes
 abbrev pub variable : ℕ → ℕ

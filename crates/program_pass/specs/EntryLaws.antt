@@ -8,7 +8,7 @@ use Rattle.mir_base.specs.NumberLaws.{zero_fits}
 use Rattle.mir_base.specs.Numbers.{wrapped}
 use Rattle.flow_graph.specs.Machines.{received_from}
 use Rattle.flow_graph.specs.Numbering.{is_in}
-use Rattle.program_pass.specs.MemberLaws.{not_in}
+use Rattle.flow_graph.specs.MemberLaws.{not_in}
 use mir.Syntax.{w64}
 
 -- variables that are not received stay

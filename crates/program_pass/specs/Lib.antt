@@ -3,7 +3,6 @@ pub mod ChainLaws
 pub mod Puts
 pub mod PutLaws
 pub mod Marks
-pub mod MemberLaws
 pub mod EntryLaws
 pub mod StoodLaws
 pub mod GraphPrograms

@@ -15,4 +15,4 @@ mod units;
 pub use marks::marks_of;
 pub use nodes::{copied_nodes, start_succ};
 pub use standing::{Put, plain_put, stand};
-pub use units::{Front, fits_together, laid_out, lowered_clean, program_with};
+pub use units::{Front, laid_out, lowered_clean};

@@ -1,12 +1,11 @@
 // Units as graphs, and graphs as units.
-ghost use Rattle.std.specs.Prelude.{◌≡◌, IfOk};
-ghost use Rattle.mir_base.specs.Shapes.{IsProgram};
+ghost use Rattle.std.specs.Prelude.{IfOk};
 ghost use Rattle.flow_graph.specs.Lowered.{CanLower};
 ghost use Rattle.program_pass.specs.PassPrograms.{CleanedLaid, LoweredClean};
 
 use flow_graph::{Graph, layout, lower};
 use jump_clean::clean;
-use mir_base::{Items, Memory, Program, Unit as MirUnit};
+use mir_base::{Memory, Unit as MirUnit};
 use std::alloc::Global;
 
 /// The graph of a unit, and the same with clean jumps.
@@ -39,24 +38,4 @@ pub fn laid_out(alloc: Global, graph: &Graph) -> Result<MirUnit, Memory>
     let unit = layout(alloc, &swept)?;
     let _nodes = graph.nodes();
     Ok(unit)
-}
-
-/// The program of these units with the globals of a program, where they fit together. It fails only with `Memory`.
-pub fn program_with(source: &Program, units: Vec<MirUnit>) -> Result<Program, Memory>
-    requires { IsProgram source.now.globals units.items }
-    ensures { IfOk result (λ program. program
-        ≡ record { globals = source.now.globals; units = units.items }) }
-{
-    let globals = source.globals.clone()?;
-    Ok(Program {
-        globals,
-        units: Items::of(units),
-    })
-}
-
-/// Has no effect; carries the theorem that the units of a program fit together, which is its invariant.
-pub fn fits_together(program: &Program)
-    ensures { IsProgram program.now.globals program.now.units }
-{
-    let _ = &program.units;
 }

@@ -14,7 +14,7 @@ use Rattle.jump_clean.specs.ChainLaws.{one_leads_on}
 use Rattle.tail_loop.specs.declared.calls.Answered.{Answered}
 use Rattle.tail_loop.specs.Answered.{answered_at, answered_call, returned_at, returned_var}
 use Rattle.tail_loop.specs.Tails.{AreTailCalls, HasTailCall, ReturnsNext}
-use Rattle.program_pass.specs.MemberLaws.{AreFoundBelow}
+use Rattle.flow_graph.specs.MemberLaws.{AreFoundBelow}
 
 -- all of them
 pub found_all : (shared : ℕ) (nodes : List Node) (unit n : ℕ) (calls : List ℕ) → AreFoundBelow (HasTailCall shared nodes unit) n calls → length nodes ≤ n → AreTailCalls shared nodes unit calls

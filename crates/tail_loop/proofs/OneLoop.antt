@@ -10,7 +10,7 @@ use Rattle.flow_graph.specs.Plans.{start_succ}
 use Rattle.program_pass.specs.ChainLaws.{stood_long}
 use Rattle.program_pass.specs.Chains.{stood}
 use Rattle.tail_loop.specs.Tails.{AreLooped, AreTailCalls, HasTailCall, loop_assignments}
-use Rattle.program_pass.specs.MemberLaws.{in_at}
+use Rattle.flow_graph.specs.MemberLaws.{in_at}
 use Rattle.tail_loop.specs.Answered.{operands_at}
 
 -- each of the calls is one

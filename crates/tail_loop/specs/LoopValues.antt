@@ -21,7 +21,7 @@ use Rattle.program_pass.specs.ChainLaws.{ArePlain, plain_append, put_or_not, val
 use Rattle.tail_loop.specs.Tails.{cleared, loop_assignments, moved, saved}
 use mir.Syntax.{w64}
 use Rattle.program_pass.specs.EntryLaws.{received_out, with_shared, wrapped_zero}
-use Rattle.program_pass.specs.MemberLaws.{above, apart_or_not, in_first, not_in}
+use Rattle.flow_graph.specs.MemberLaws.{above, apart_or_not, in_first, not_in}
 
 -- ---- the temporaries get the arguments
 

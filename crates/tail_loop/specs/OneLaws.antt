@@ -20,7 +20,7 @@ use Rattle.jump_clean.specs.CleanLaws.{clean_is_one}
 use Rattle.program_pass.specs.Chains.{stood}
 use Rattle.program_pass.specs.PassPrograms.{AllPassed, IsPassedProgram, IsPassedUnit, PassRelation, UnitPassed}
 use Rattle.tail_loop.specs.Tails.{AreLooped, AreTailCalls, IsTailed, Tailed, loop_assignments, temporaries}
-use Rattle.program_pass.specs.MemberLaws.{members_same}
+use Rattle.flow_graph.specs.MemberLaws.{members_same}
 
 -- ---- one graph
 

@@ -30,7 +30,7 @@ use Rattle.program_pass.specs.GraphProgramLaws.{Agree, answers_long, called_exis
 use Rattle.tail_loop.specs.LoopValues.{loop_plain, loop_values}
 use Rattle.program_pass.specs.StepLaws.{OneStepEach, steps_meet}
 use Rattle.tail_loop.specs.Tails.{AreLooped, IsTailCall, Loops, ReturnsNext, loop_assignments}
-use Rattle.program_pass.specs.MemberLaws.{in_or_not, place_in}
+use Rattle.flow_graph.specs.MemberLaws.{in_or_not, place_in}
 
 -- ---- the nodes with loops
 

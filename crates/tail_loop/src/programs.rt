@@ -5,7 +5,7 @@ ghost use Rattle.tail_loop.specs.Tails.{Looped, Tailed};
 
 use crate::tails::tail;
 use mir_base::{Memory, Program, Unit as MirUnit};
-use program_pass::{fits_together, laid_out, lowered_clean, program_with};
+use program_pass::{laid_out, lowered_clean};
 use std::alloc::Global;
 
 /// The program whose units are those of this one with self tail calls as loops: each unit is lowered, cleaned, put
@@ -17,8 +17,8 @@ pub fn tail_program(alloc: Global, program: &Program) -> Result<Program, Memory>
     ensures keeps { IfOk result (KeepsRuns program.now) }
 {
     let units = tailed_units(alloc, program)?;
-    fits_together(program);
-    let target = program_with(program, units)?;
+    program.fits_together();
+    let target = program.with_units(units)?;
     Ok(target)
 }
 
@@ -38,7 +38,7 @@ fn tailed_unit(alloc: Global, program: &Program, number: usize) -> Result<MirUni
     requires { number < length program.now.units }
     ensures { IfOk result (PassedAt Tailed Looped program.now.units number) }
 {
-    fits_together(program);
+    program.fits_together();
     let front = lowered_clean(alloc, program.unit(number))?;
     let tailed = tail(alloc, &front.cleaned, number)?;
     let target = laid_out(alloc, &tailed)?;

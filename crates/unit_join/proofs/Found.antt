@@ -6,7 +6,7 @@ use Rattle.flow_graph.specs.declared.nodes.Node.{Node}
 use Rattle.flow_graph.specs.declared.nodes.Node.TheVariants.{Start, Skip, Assign, Print, Guard, Call, Test, Return}
 use Rattle.flow_graph.specs.Graphs.{GraphShape}
 use Rattle.unit_join.specs.Joins.{AreLeafCalls, IsLeafCall, if_leaf, leaf_at, leaf_called}
-use Rattle.program_pass.specs.MemberLaws.{AreFoundBelow}
+use Rattle.flow_graph.specs.MemberLaws.{AreFoundBelow}
 
 -- all of them
 pub found_all : (leaves : List (Option GraphShape)) (nodes : List Node) (n : ℕ) (calls : List ℕ) → AreFoundBelow (IsLeafCall leaves nodes) n calls → length nodes ≤ n → AreLeafCalls leaves nodes calls

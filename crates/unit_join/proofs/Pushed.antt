@@ -19,7 +19,7 @@ use Rattle.program_pass.specs.Puts.{insertions}
 use Rattle.unit_join.specs.JoinPrograms.{calls_none, is_call}
 use Rattle.unit_join.specs.JoinedNodes.{with_leaf_long}
 use Rattle.unit_join.specs.Joins.{LeavesAreJoined, AreLeafCalls, IsLeafCall, copy_in, copy_number, entered, first_copy, nodes_with_leaf, joined_by, leaf_at, zeroed}
-use Rattle.program_pass.specs.MemberLaws.{in_at}
+use Rattle.flow_graph.specs.MemberLaws.{in_at}
 use Rattle.program_pass.specs.PutLaws.{insertion}
 
 -- ---- assignments

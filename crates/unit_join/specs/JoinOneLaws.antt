@@ -16,7 +16,7 @@ use Rattle.jump_clean.specs.CleanLaws.{clean_is_one}
 use Rattle.program_pass.specs.PassPrograms.{AllPassed, IsPassedProgram}
 use Rattle.unit_join.specs.JoinPrograms.{AreLeavesMade, IsJoinedProgram, LeafMade}
 use Rattle.unit_join.specs.Joins.{AreLeafCalls, AreLeavesOf, IsJoined, IsLeafCall, IsLeafOf, JoinedBetween, LeavesAreJoined, LeavesJoined, called_leaves, copies, copy_in, joined_by, leaf_at, nodes_with_leaf}
-use Rattle.program_pass.specs.MemberLaws.{members_same}
+use Rattle.flow_graph.specs.MemberLaws.{members_same}
 use Rattle.program_pass.specs.PassOneLaws.{places_same, program_one}
 
 -- ---- one graph

@@ -40,7 +40,7 @@ use Rattle.unit_join.specs.JoinedNodes.{LeafStands, copy, copy_above, copy_one, 
 use Rattle.unit_join.specs.JoinValues.{CopiesHold, entry_copies, entry_keeps, entry_plain, operand_copied, own_list, rhs_copied, set_copied, test_copied, traps_copied}
 use Rattle.unit_join.specs.Joins.{AreLeaves, IsLeafCall, JoinsLeaves, entry_assignments, leaf_node, leaf_place, returned_node}
 use Rattle.program_pass.specs.StepLaws.{OneStepEach, steps_meet}
-use Rattle.program_pass.specs.MemberLaws.{in_or_not}
+use Rattle.flow_graph.specs.MemberLaws.{in_or_not}
 
 module _ (graphs joined : List GraphShape) (leaves : List (Option GraphShape)) (program : IsGraphProgram graphs) (are_leaves : AreLeaves graphs leaves) (joins : (u : ℕ) → u < length graphs → JoinsLeaves leaves (graph_numbered graphs u) (graph_numbered joined u)) where
   abbrev codes : ℕ → Code

@@ -23,7 +23,7 @@ use Rattle.flow_graph.specs.Numbering.{is_in, renamed_operand, renamed_rhs, rena
 use Rattle.program_pass.specs.ChainLaws.{ArePlain, plain_append, put_or_not, values_append}
 use Rattle.unit_join.specs.Joins.{copy_number, entered, zeroed}
 use Rattle.program_pass.specs.EntryLaws.{received_out, with_shared, wrapped_zero}
-use Rattle.program_pass.specs.MemberLaws.{above, apart_or_not, in_first, not_in}
+use Rattle.flow_graph.specs.MemberLaws.{above, apart_or_not, in_first, not_in}
 
 -- ---- values under copies
 

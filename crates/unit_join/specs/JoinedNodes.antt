@@ -14,7 +14,7 @@ use Rattle.program_pass.specs.Chains.{stood}
 use Rattle.program_pass.specs.ChainLaws.{StandsAt, chain_long, stands_moves, stood_kept, stood_long, stood_stands}
 use Rattle.unit_join.specs.JoinValues.{copy_global, copy_of_one, copy_other}
 use Rattle.unit_join.specs.Joins.{LeavesAreJoined, IsLeafCall, copy_in, entry_assignments, first_copy, first_place, nodes_with_leaf, leaf_at, leaf_node, leaf_place, leaf_vars}
-use Rattle.program_pass.specs.MemberLaws.{place_in}
+use Rattle.flow_graph.specs.MemberLaws.{place_in}
 
 -- ---- the nodes with leaves
 

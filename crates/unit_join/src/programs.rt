@@ -6,7 +6,7 @@ ghost use Rattle.unit_join.specs.JoinPrograms.{AreLeavesMade, IsJoinedProgram, J
 use crate::Leaves;
 use crate::joins::join;
 use mir_base::{Memory, Program, Unit as MirUnit};
-use program_pass::{fits_together, laid_out, lowered_clean, program_with};
+use program_pass::{laid_out, lowered_clean};
 use std::alloc::Global;
 
 /// The program whose units are those of this one with its leaves joined into them: each unit is lowered, cleaned,
@@ -19,8 +19,8 @@ pub fn join_program(alloc: Global, program: &Program) -> Result<Program, Memory>
 {
     let leaves = Leaves::of(alloc, program)?;
     let units = joined_units(alloc, program, &leaves)?;
-    fits_together(program);
-    let target = program_with(program, units)?;
+    program.fits_together();
+    let target = program.with_units(units)?;
     Ok(target)
 }
 
@@ -48,7 +48,7 @@ fn joined_unit(
     requires number { number < length program.now.units }
     ensures { IfOk result (JoinedUnit leaves.now.units program.now.units number) }
 {
-    fits_together(program);
+    program.fits_together();
     let front = lowered_clean(alloc, program.unit(number))?;
     let joined = join(alloc, &front.cleaned, leaves)?;
     let target = laid_out(alloc, &joined)?;

@@ -1,5 +1,5 @@
 use Rattle.mir_opt.specs.Made.{UnitMade}
-use Rattle.mir_opt.specs.LoweringLaws.{fits_lower}
+use Rattle.flow_graph.specs.LoweringLaws.{fits_lower}
 use Rattle.mir_opt.proofs.Zips.{next_zip}
 use Rattle.mir_opt.proofs.over_units.all_steps.Goals as goal
 

@@ -1,7 +1,7 @@
 use Rattle.std.proofs.Common.{◌∙◌, ap, sym, true≢false}
 use Rattle.tail_loop.specs.Tails.{HasTailCall}
 use Rattle.tail_loop.proofs.Found.{found_all}
-use Rattle.program_pass.specs.MemberLaws.{found_more, found_passed, same_found}
+use Rattle.flow_graph.specs.MemberLaws.{found_more, found_passed, same_found}
 use Rattle.tail_loop.proofs.calls.tail_calls.Goals as goal
 use Rattle.tail_loop.proofs.calls.tail_calls.Goals.{then-is_tail_call+in_ok-push, else-is_tail_call}
 

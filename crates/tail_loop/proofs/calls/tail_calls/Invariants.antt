@@ -1,4 +1,4 @@
-use Rattle.program_pass.specs.MemberLaws.{AreFoundBelow}
+use Rattle.flow_graph.specs.MemberLaws.{AreFoundBelow}
 use Rattle.tail_loop.specs.Tails.{HasTailCall}
 use Rattle.tail_loop.proofs.calls.tail_calls.Given as goal
 

@@ -1,5 +1,5 @@
 use Rattle.std.proofs.Common.{◌++◌, ◌+◌, ◌-◌, ◌∙◌, ap, sym}
-use Rattle.program_pass.specs.MemberLaws.{mark_told}
+use Rattle.program_pass.specs.Marks.{mark_told}
 use Rattle.program_pass.specs.PutLaws.{pushed}
 use Rattle.program_pass.specs.Puts.{insertions}
 use Rattle.tail_loop.specs.Tails.{cleared}

@@ -19,8 +19,8 @@ keeps source target program globals all = passes_keep Tailed Looped source targe
 abbrev target : (c : In_ok-target) → ProgramShape
 target c = record { globals = c.args.program.now.globals; units = c.in_ok-units.units.items }
 
-pub program_with-requires : goal.program_with-requires
-program_with-requires c = passed_program Tailed Looped c.args.program.now (record { globals = c.args.program.now.globals; units = c.in_ok-units.units.items }) c.fits_together.ensures refl c.in_ok-units.ensures
+pub with_units-requires : goal.with_units-requires
+with_units-requires c = passed_program Tailed Looped c.args.program.now (record { globals = c.args.program.now.globals; units = c.in_ok-units.units.items }) c.fits_together.ensures refl c.in_ok-units.ensures
 
 pub returns-clause-tailed : goal.returns-clause-tailed
 returns-clause-tailed c =

@@ -1,5 +1,6 @@
 use Rattle.tail_loop.specs.Tails.{Looped, Tailed}
-use Rattle.program_pass.specs.UnitMakes.{fits_lower, passed_at}
+use Rattle.flow_graph.specs.LoweringLaws.{fits_lower}
+use Rattle.program_pass.specs.UnitMakes.{passed_at}
 use Rattle.tail_loop.proofs.Makes.{self_calls_fit}
 use Rattle.tail_loop.proofs.programs.tailed_unit.Goals as goal
 

@@ -1,7 +1,7 @@
 use Rattle.std.proofs.Common.{◌∙◌, ap, sym, true≢false}
 use Rattle.unit_join.specs.Joins.{IsLeafCall}
 use Rattle.unit_join.proofs.Found.{found_all}
-use Rattle.program_pass.specs.MemberLaws.{found_more, found_passed, same_found}
+use Rattle.flow_graph.specs.MemberLaws.{found_more, found_passed, same_found}
 use Rattle.unit_join.proofs.calls.leaf_calls.Goals as goal
 use Rattle.unit_join.proofs.calls.leaf_calls.Goals.{then-calls_leaf+in_ok-push, else-calls_leaf}
 

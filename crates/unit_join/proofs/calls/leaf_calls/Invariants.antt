@@ -1,4 +1,4 @@
-use Rattle.program_pass.specs.MemberLaws.{AreFoundBelow}
+use Rattle.flow_graph.specs.MemberLaws.{AreFoundBelow}
 use Rattle.unit_join.specs.Joins.{IsLeafCall}
 use Rattle.unit_join.proofs.calls.leaf_calls.Given as goal
 

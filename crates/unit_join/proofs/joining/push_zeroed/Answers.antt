@@ -1,7 +1,7 @@
 use Rattle.std.proofs.Common.{ℕ, ◌++◌, ◌+◌, ◌-◌, ◌∙◌, pos, ap, sym}
 use Rattle.mir_base.specs.declared.instructions.Operand.TheVariants.{Const}
 use Rattle.mir_base.specs.declared.instructions.Rhs.TheVariants.{Plain}
-use Rattle.program_pass.specs.MemberLaws.{mark_told}
+use Rattle.program_pass.specs.Marks.{mark_told}
 use Rattle.program_pass.specs.PutLaws.{pushed}
 use Rattle.program_pass.specs.Puts.{insertions}
 use Rattle.unit_join.specs.Joins.{copy_number, zeroed}

@@ -1,5 +1,5 @@
 use Rattle.std.proofs.Common.{◌≡◌, ◌∙◌, length, ap, arith}
-use Rattle.program_pass.specs.UnitMakes.{fits_lower}
+use Rattle.flow_graph.specs.LoweringLaws.{fits_lower}
 use Rattle.unit_join.specs.JoinProgramLaws.{each_leaf, leaves_more}
 use Rattle.unit_join.proofs.leaves.all_leaves.Goals as goal
 

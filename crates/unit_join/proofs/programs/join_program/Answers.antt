@@ -14,8 +14,8 @@ use Rattle.unit_join.proofs.programs.join_program.Goals.{In_ok-target}
 abbrev target : (c : In_ok-target) → ProgramShape
 target c = record { globals = c.args.program.now.globals; units = c.in_ok-units.units.items }
 
-pub program_with-requires : goal.program_with-requires
-program_with-requires c =
+pub with_units-requires : goal.with_units-requires
+with_units-requires c =
     let leaves = c.in_ok-leaves.leaves.units in
     passed_program (LeavesJoined leaves) (JoinedBetween leaves) c.args.program.now (record { globals = c.args.program.now.globals; units = c.in_ok-units.units.items }) c.fits_together.ensures refl c.in_ok-units.ensures
 

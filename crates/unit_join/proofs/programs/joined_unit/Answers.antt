@@ -1,5 +1,6 @@
 use Rattle.std.proofs.Common.{◌∙◌, sym}
-use Rattle.program_pass.specs.UnitMakes.{fits_lower, passed_at}
+use Rattle.flow_graph.specs.LoweringLaws.{fits_lower}
+use Rattle.program_pass.specs.UnitMakes.{passed_at}
 use Rattle.unit_join.specs.JoinProgramLaws.{leaf_calls_fit, leaves_share, no_leaf_calls}
 use Rattle.unit_join.specs.Joins.{LeavesJoined, JoinedBetween}
 use Rattle.unit_join.proofs.programs.joined_unit.Goals as goal

@@ -1,4 +1,4 @@
-use Rattle.mir_opt.specs.LoweringLaws.{fits_lower}
+use Rattle.flow_graph.specs.LoweringLaws.{fits_lower}
 use Rattle.mir_tests.proofs.tests.support.first_graph.Goals as goal
 
 pub lower-requires : goal.lower-requires

@@ -1,11 +1,10 @@
 -- Laws of lists of numbers: what is in them, what is found by going over all numbers, and lists in ascending order. For
--- proofs only.
-use Rattle.std.proofs.Common.{◌≡◌, ◌⊎◌, inl, inr, ℕ, zero, suc, ◌+◌, ◌<◌, ◌≤◌, Bool, true, false, ◌||◌, nat_eq, List, [], ◌∷◌, ◌++◌, length, get_or, slice_get, Some, refl, sym, ap, ◌∙◌, subst, arith}
+-- proofs only, of the crates above.
+use Rattle.std.proofs.Common.{◌≡◌, ◌⊎◌, inl, inr, ℕ, zero, suc, ◌+◌, ◌<◌, ◌≤◌, Bool, true, false, ◌||◌, nat_eq, List, [], ◌∷◌, ◌++◌, slice_get, Some, refl, sym, ap, ◌∙◌, subst, arith}
 use Rattle.std.proofs.lemmas.Bool.{cases_eq, cases_lt, eq-eqb, eqb-true}
-use Rattle.std.proofs.lemmas.Option.{get_or_from_slice_get, slice_get_within}
+use Rattle.std.proofs.lemmas.Option.{slice_get_within}
 use Rattle.flow_graph.specs.ListLaws.{ascending_same, get_push}
 use Rattle.flow_graph.specs.Numbering.{IsIn, is_in}
-use Rattle.program_pass.specs.Marks.{AreMarksOf}
 
 -- ---- numbers
 
@@ -149,9 +148,3 @@ found_passed Is n found f none = record {
 -- equal lists
 pub same_found : (Is : ℕ → Type 0) (n : ℕ) (found found' : List ℕ) → found' ≡ found → AreFoundBelow Is (n + 1) found → AreFoundBelow Is (n + 1) found'
 same_found Is n found found' is f = subst (AreFoundBelow Is (n + 1)) (sym is) f
-
--- ---- marks
-
--- the mark of a number tells whether it is one of them
-pub mark_told : (numbers : List ℕ) (count : ℕ) (marks : List Bool) (x : ℕ) → AreMarksOf numbers count marks → x < count → get_or marks x false ≡ is_in x numbers
-mark_told numbers count marks x m lt = get_or_from_slice_get marks x (is_in x numbers) false (m.are x lt)

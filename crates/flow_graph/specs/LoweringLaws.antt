@@ -1,4 +1,4 @@
--- Law: the body of a unit of a program can be lowered. For proofs only, those of mir_tests too.
+-- Law: the body of a unit of a program can be lowered. For proofs only, of the crates above too.
 use Rattle.std.proofs.Common.{◌≡◌, ◌≤◌, ℕ, List, slice_get, Option, Some, None, refl, sym, subst}
 use Rattle.mir_base.specs.declared.instructions.Inst.{Inst}
 use Rattle.mir_base.specs.declared.instructions.Inst.TheVariants.{Receive, Assign, Goto, If, TrapIf, Call, Print, Return}
