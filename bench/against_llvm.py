@@ -5,9 +5,9 @@
 
 First the workloads of `run.py` under `optimise`, each beside `opt` on the same program as LLVM IR, in one run, as the
 ratio of the least processor times of some calls, which a busy machine changes little; both read a text and write one,
-but do not do the same work: a ratio says what a user pays and no more. Then programs that are drawn at random, each as it is, after `optimise`, and compiled from
-either (`tools/compile`): whatever ends or traps must print the same, and every difference is shown. Where `opt` or
-`clang` is not there it says so. It wants Python 3.9 and its standard library.
+but do not do the same work: a ratio says what a user pays and no more. Then programs that are drawn at random, each as
+it is, after `optimise`, and compiled from either (`tools/compile`): whatever ends or traps must print the same, and
+every difference is shown. Where `opt` or `clang` is not there it says so. It wants Python 3.9 and its standard library.
 """
 
 import argparse
@@ -19,7 +19,7 @@ import subprocess
 import sys
 import tempfile
 from pathlib import Path
-from typing import Callable
+from typing import Callable, Union
 
 TOP = Path(__file__).resolve().parent.parent
 PASSES = 'mem2reg,simplifycfg,sccp,gvn,sink,adce,simplifycfg'
@@ -58,10 +58,20 @@ def least_time(work: Callable[[], subprocess.CompletedProcess], repeat: int) -> 
     return min(times)
 
 
+def both_times(mir: str, case, repeat: int, folder: Path) -> Union[str, tuple[float, float]]:
+    """The processor seconds of `mir optimise` and of `opt` for a case, or why there is no LLVM IR of it."""
+    text, source = case.text.encode(), folder / 'source.ll'
+    made = ran([TOP / 'tools' / 'to_llvm'], text)
+    if made.returncode:
+        return made.stderr.decode().strip()
+    source.write_bytes(made.stdout)
+    opt = [shutil.which('opt'), '-S', f'-passes={PASSES}', source, '-o', '/dev/null']
+    return least_time(lambda: ran([mir, 'optimise'], text), repeat), least_time(lambda: ran(opt), repeat)
+
+
 def compare_times(mir: str, repeat: int, folder: Path) -> None:
     """Prints a line for the greatest case of each workload under `optimise`."""
-    opt = shutil.which('opt')
-    if opt is None:
+    if shutil.which('opt') is None:
         print('opt is not here: no times are compared')
         return
     print(f'{"workload":22} {"size":>9} {"mir s":>8} {"opt s":>8} {"mir / opt":>10}')
@@ -69,14 +79,11 @@ def compare_times(mir: str, repeat: int, folder: Path) -> None:
         case = workload.cases()[-1]
         if case.words != ['optimise']:
             continue
-        text, source = case.text.encode(), folder / 'source.ll'
-        made = ran([TOP / 'tools' / 'to_llvm'], text)
-        if made.returncode:
-            print(f'{workload.name:22} {made.stderr.decode().strip()}')
+        found = both_times(mir, case, repeat, folder)
+        if isinstance(found, str):
+            print(f'{workload.name:22} {found}')
             continue
-        source.write_bytes(made.stdout)
-        ours = least_time(lambda: ran([mir, 'optimise'], text), repeat)
-        theirs = least_time(lambda: ran([opt, '-S', f'-passes={PASSES}', source, '-o', '/dev/null']), repeat)
+        ours, theirs = found
         print(f'{workload.name:22} {case.size:9} {ours:8.3f} {theirs:8.3f} {ours / theirs:10.2f}', flush=True)
 
 

@@ -1,0 +1,125 @@
+#!/usr/bin/env python3
+"""Measures the seconds and the memory that README.md beside this file shows, and puts them into its tables.
+
+    bench/fill.py [--mir PATH] [--repeat N] [--show]
+
+A cell is filled by the head of its column and the workload and size of its row: `Time s`, `Memory MB`, `A second`,
+`x time` and `x memory`; `move: s` and `move: MB`, and the same of `optimise`, of the workload with this command behind
+its name; `mir s`, `opt s` and `mir / opt`, where `opt` is here. All other cells stay. With `--show` the new page is
+printed and not written. The program is the one that the gate built where no other is named; of each call the least time
+of N is taken, and the greatest peak. It runs on Linux alone, with Python's standard library.
+"""
+
+import argparse
+import functools
+import re
+import shutil
+import sys
+import tempfile
+from pathlib import Path
+from typing import Callable, Optional
+
+sys.dont_write_bytecode = True
+
+import against_llvm  # noqa: E402
+import run  # noqa: E402
+
+PAGE = Path(__file__).resolve().parent / 'README.md'
+
+
+class Meter:
+    """Measures each call once."""
+
+    def __init__(self, mir: str, repeat: int, folder: Path):
+        """What is called, how often, and where the texts stand meanwhile."""
+        self.command, self.repeat, self.folder = [str(Path(mir).resolve())], repeat, folder
+        self.workloads = {workload.name: workload for workload in run.WORKLOADS}
+        self.start = run.measure(self.command, run.smallest(), folder, repeat)
+
+    @functools.lru_cache(maxsize=None)
+    def cases(self, name: str) -> dict[int, run.Case]:
+        """The cases of a workload by their sizes."""
+        return {case.size: case for case in self.workloads[name].cases()} if name in self.workloads else {}
+
+    @functools.lru_cache(maxsize=None)
+    def taken(self, name: str, size: int) -> run.Measure:
+        """What a case takes."""
+        print(f'bench/fill.py: {name} {size:,}', file=sys.stderr, flush=True)
+        return run.measure(self.command, self.cases(name)[size], self.folder, self.repeat)
+
+    def above(self, name: str, size: int) -> run.Measure:
+        """The same, less what the start takes."""
+        taken = self.taken(name, size)
+        return run.Measure(taken.seconds - self.start.seconds, taken.bytes - self.start.bytes)
+
+    @functools.lru_cache(maxsize=None)
+    def beside(self, name: str, size: int) -> Optional[tuple[float, float]]:
+        """The processor seconds of `mir` and of `opt`; none where `opt` is not here."""
+        times = against_llvm.both_times(self.command[0], self.cases(name)[size], self.repeat, self.folder)
+        return None if isinstance(times, str) else times
+
+    def cell(self, head: str, name: str, size: int, old: str) -> str:
+        """The cell of this head in the row of a workload and a size; the old one where it is nothing measured here."""
+        command = re.fullmatch(r'(move|optimise): (s|MB)', head)
+        if command:
+            name, head = f'{name}-{command[1]}', {'s': 'Time s', 'MB': 'Memory MB'}[command[2]]
+        if size not in self.cases(name):
+            return old
+        first = min(self.cases(name))
+        rows: dict[str, Callable[[], str]] = {
+            'Time s': lambda: f'{self.taken(name, size).seconds:.3f}',
+            'Memory MB': lambda: f'{self.taken(name, size).bytes / 1e6:.1f}',
+            'A second': lambda: re.sub(r'[\d,]+', f'{size / self.above(name, size).seconds:,.0f}', old),
+            'x time': lambda: run.ratio(self.above(name, size).seconds, self.above(name, first).seconds,
+                                        run.LEAST_SECONDS),
+            'x memory': lambda: run.ratio(self.above(name, size).bytes, self.above(name, first).bytes,
+                                          run.LEAST_BYTES),
+        }
+        if head in rows:
+            return rows[head]()
+        if head in ('mir s', 'opt s', 'mir / opt') and shutil.which('opt') and self.beside(name, size):
+            ours, theirs = self.beside(name, size)
+            return {'mir s': f'{ours:.3f}', 'opt s': f'{theirs:.3f}', 'mir / opt': f'{ours / theirs:.2f}'}[head]
+        return old
+
+
+def filled(text: str, meter: Meter) -> str:
+    """The page with the cells that are measured here."""
+    lines, heads, name = [], [], ''
+    for line in text.split('\n'):
+        cells = [cell.strip() for cell in line.split('|')[1:-1]] if line.startswith('|') else []
+        if not cells:
+            heads = []
+        elif not heads:
+            heads = [cell.replace('`', '') for cell in cells]
+        elif heads[:2] == ['Workload', 'Size'] and re.match(r'[\d,]+', cells[1]):
+            name, size = cells[0].strip('`') or name, int(re.match(r'[\d,]+', cells[1])[0].replace(',', ''))
+            cells = [meter.cell(head, name, size, cell) for head, cell in zip(heads, cells)]
+            line = '|' + '|'.join(f' {cell} ' if cell else ' ' for cell in cells) + '|'
+        lines.append(line)
+    start = f'Start: {meter.start.seconds:.3f} s, {meter.start.bytes / 1e6:.1f} MB.'
+    return re.sub(r'Start: [\d.]+ s, [\d.]+ MB\.', start, '\n'.join(lines))
+
+
+def main() -> int:
+    """Fills the page."""
+    words = argparse.ArgumentParser(description=__doc__.split('\n')[0])
+    words.add_argument('--mir', default=str(run.PROGRAM), metavar='PATH', help='the program that is measured')
+    words.add_argument('--repeat', type=int, default=11, metavar='N', help='take the least time of N calls (11)')
+    words.add_argument('--show', action='store_true', help='print the page, and do not write it')
+    given = words.parse_args()
+    run.adopt_orphans()
+    with tempfile.TemporaryDirectory(prefix='mir-bench-') as folder:
+        page = filled(PAGE.read_text(encoding='utf-8'), Meter(given.mir, given.repeat, Path(folder)))
+    if given.show:
+        print(page, end='')
+    else:
+        PAGE.write_text(page, encoding='utf-8')
+    return 0
+
+
+if __name__ == '__main__':
+    try:
+        sys.exit(main())
+    except (run.Failure, OSError) as failure:
+        sys.exit(f'bench/fill.py: {failure}')
