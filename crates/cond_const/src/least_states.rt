@@ -38,7 +38,7 @@ impl LeastStates {
     pub fn of(alloc: Global, graph: &Graph) -> Result<LeastStates, Memory>
         ensures { IfOk result (AreStatesOf graph.now) }
     {
-        let blocks = blocks(alloc, graph)?;
+        let blocks = blocks_of(alloc, graph)?;
         let values = least(alloc, graph, &blocks)?;
         Ok(LeastStates { blocks, values })
     }
@@ -86,7 +86,7 @@ pub fn states_hold(graph: &Graph)
 }
 
 /// The blocks of the graph.
-fn blocks(alloc: Global, graph: &Graph) -> Result<Blocks, Memory>
+fn blocks_of(alloc: Global, graph: &Graph) -> Result<Blocks, Memory>
     ensures { IfOk result (AreBlocksOf graph.now.nodes) }
 {
     let edges = Edges::of(alloc, graph)?;

@@ -1,7 +1,7 @@
 -- What holds while the nodes are put in order. Cited by contracts.
 use Rattle.std.specs.Prelude.{◌≡◌, ℕ, ◌<◌, Bool, List, length, All}
 use Rattle.fix_solve.specs.Net.{Net}
-use Rattle.fix_solve.specs.declared.order.Walk.{Walk}
+use Rattle.fix_solve.specs.declared.order.DepthFirst.{DepthFirst}
 
 -- each node is below the number of nodes
 abbrev pub AreNodes : ℕ → List ℕ → Type 0
@@ -16,5 +16,5 @@ pub record IsWalk (nodes edges : ℕ) (heads nexts : List ℕ) (seen : List Bool
   pub ordered : AreNodes nodes order
 
 -- the walk is one over this flow
-abbrev pub WalksOver : {V : Type 0} → Net V → Walk → Type 0
+abbrev pub WalksOver : {V : Type 0} → Net V → DepthFirst → Type 0
 WalksOver net walk = IsWalk net.nodes net.edges walk.heads.items walk.nexts.items walk.seen.items walk.stack.items walk.order.items

@@ -8,7 +8,7 @@ use std::alloc::Global;
 /// A walk over all edges, depth first. The edges that it takes from a node are chained in ascending order: `heads` has
 /// the next one of each node, and `nexts` the one after each edge; a chain ends with a number past the last edge.
 #[derive(Drop)]
-struct Walk {
+struct DepthFirst {
     heads: Vec<usize>,
     nexts: Vec<usize>,
     seen: Vec<bool>,
@@ -59,7 +59,7 @@ fn leads_down<F: Flow>(flow: &F) -> bool
 }
 
 /// A walk in which nothing is seen yet. The edges are walked from source to target, or reversed.
-fn walk_over<F: Flow>(alloc: Global, flow: &F, reversed: bool) -> Result<Walk, Memory>
+fn walk_over<F: Flow>(alloc: Global, flow: &F, reversed: bool) -> Result<DepthFirst, Memory>
     requires { F.valid flow.now }
     ensures { IfOk result (λ walk. WalksOver (F.net flow.now) walk) }
 {
@@ -74,7 +74,7 @@ fn walk_over<F: Flow>(alloc: Global, flow: &F, reversed: bool) -> Result<Walk, M
         nexts[number] = heads[from];
         heads[from] = number;
     }
-    Ok(Walk {
+    Ok(DepthFirst {
         heads,
         nexts,
         seen: vec![in alloc; false; nodes]?,
@@ -85,7 +85,12 @@ fn walk_over<F: Flow>(alloc: Global, flow: &F, reversed: bool) -> Result<Walk, M
 
 /// Goes on from the node at the top of the stack: along its next edge, to a node that was not seen, or else back from
 /// the node, which is put at the end of the order.
-fn go_on<F: Flow>(walk: &mut Walk, flow: &F, reversed: bool, node: usize) -> Result<(), Memory>
+fn go_on<F: Flow>(
+    walk: &mut DepthFirst,
+    flow: &F,
+    reversed: bool,
+    node: usize,
+) -> Result<(), Memory>
     requires valid { F.valid flow.now }
     requires in_range { node < (F.net flow.now).nodes }
     requires walk { WalksOver (F.net flow.now) walk.old }
@@ -130,7 +135,7 @@ fn end_of<F: Flow>(flow: &F, number: usize, reversed: bool) -> usize
 }
 
 /// Puts a node on the stack if it was not seen.
-fn see<F: Flow>(walk: &mut Walk, flow: &F, node: usize) -> Result<(), Memory>
+fn see<F: Flow>(walk: &mut DepthFirst, flow: &F, node: usize) -> Result<(), Memory>
     requires in_range { node < (F.net flow.now).nodes }
     requires walk { WalksOver (F.net flow.now) walk.old }
     ensures walk { OnOk result (WalksOver (F.net flow.now) walk.new) }

@@ -30,13 +30,13 @@ module _ (nodes : List Node) (within : AllWithin nodes) where
   pub flow_edges_are : (against : Bool) → AreFlowEdges (length nodes) (flow_edges against nodes) (first_out against nodes)
   flow_edges_are true =
       let all = edges_from 0 nodes in
-      let turn = reversed_from (by_target (length nodes) all) in
+      let reversed = reversed_from (by_target (length nodes) all) in
       record {
-        ends = λ e edge h. let k = by_target_from (length nodes) all e (reversed_edge edge) (turn e edge h) in let both = ends_in k.0 (reversed_edge edge) k.1 in (both.1, both.0);
+        ends = λ e edge h. let k = by_target_from (length nodes) all e (reversed_edge edge) (reversed e edge h) in let both = ends_in k.0 (reversed_edge edge) k.1 in (both.1, both.0);
         starts = λ n. rw (length-map (by_target (length nodes) all) reversed_edge, all_by_target (length nodes) all all_enter) (entering_few n all);
         stops = λ n. rw (length-map (by_target (length nodes) all) reversed_edge, all_by_target (length nodes) all all_enter) (entering_few (suc n) all);
-        only = λ e n edge h low high. enters_only (length nodes) all e n (reversed_edge edge) (turn e edge h) low high;
-        stands = λ e edge h. enters_within (length nodes) all e (reversed_edge edge) (turn e edge h);
+        only = λ e n edge h low high. enters_only (length nodes) all e n (reversed_edge edge) (reversed e edge h) low high;
+        stands = λ e edge h. enters_within (length nodes) all e (reversed_edge edge) (reversed e edge h);
       }
   flow_edges_are false =
       let all = edges_from 0 nodes in

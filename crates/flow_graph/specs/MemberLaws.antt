@@ -48,10 +48,10 @@ in_or_not n (x ∷ xs) = elim (cases_eq x n) [
 ]
 
 -- where it stands
-pub place_in : (n : ℕ) (xs : List ℕ) → IsIn n xs → (k : ℕ) × (slice_get xs k ≡ Some n)
-place_in n [] there = absurd there
-place_in n (x ∷ xs) (inl same) = (0, ap Some same)
-place_in n (x ∷ xs) (inr there) = let r = place_in n xs there in (suc r.0, r.1)
+pub place_of_member : (n : ℕ) (xs : List ℕ) → IsIn n xs → (k : ℕ) × (slice_get xs k ≡ Some n)
+place_of_member n [] there = absurd there
+place_of_member n (x ∷ xs) (inl same) = (0, ap Some same)
+place_of_member n (x ∷ xs) (inr there) = let r = place_of_member n xs there in (suc r.0, r.1)
 
 -- what is in a list with one more is in the list, or is the one
 in_push : (m y : ℕ) (xs : List ℕ) → IsIn m (xs ++ y ∷ []) → IsIn m xs ⊎ (y ≡ m)
@@ -86,7 +86,7 @@ Ascend xs = (i j m n : ℕ) → i < j → slice_get xs i ≡ Some m → slice_ge
 -- lists in ascending order with the same members are equal
 pub members_same : (a b : List ℕ) → Ascend a → Ascend b → ((n : ℕ) → IsIn n a → IsIn n b) → ((n : ℕ) → IsIn n b → IsIn n a) → a ≡ b
 members_same a b up up' to from =
-    ascending_same (λ n. n) a b up up' (λ i x e. place_in x b (to x (in_at a i x e))) (λ i x e. place_in x a (from x (in_at b i x e)))
+    ascending_same (λ n. n) a b up up' (λ i x e. place_of_member x b (to x (in_at a i x e))) (λ i x e. place_of_member x a (from x (in_at b i x e)))
 
 -- ---- which of the first n numbers are so
 

@@ -86,7 +86,8 @@ pub(crate) fn emit(
     ensures { IfOk result (λ body.
         body.items ≡ plain_body received.now nodes.now (reverse items.now)) }
 {
-    let mut body = Vec::with_capacity(alloc, items.len())?;
+    let room = items.len().saturating_add(received.len());
+    let mut body = Vec::with_capacity(alloc, room)?;
     for x in received {
         body.push(Inst::Receive(*x))?;
     }

@@ -28,7 +28,7 @@ pub(crate) fn plan(alloc: Global, nodes: &[Node], first: usize) -> Result<Vec<It
         next_item nodes.now first (reverse items.items) ≡ None) }
     ensures within { IfOk result (λ items. ItemsWithin (length nodes.now) items.items) }
 {
-    let mut items = Vec::new(alloc);
+    let mut items = Vec::with_capacity(alloc, nodes.len())?;
     let mut placed = no_marks(alloc, nodes.len())?;
     let mut closed = 0;
     while let Some(item) = next(nodes, first, items.as_slice(), placed.as_slice(), closed) {

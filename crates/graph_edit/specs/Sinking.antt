@@ -178,11 +178,12 @@ module _ (r : Rewriting) (extra : List (List ℕ)) (graph : GraphShape) (late : 
       | inr stays ↦ both.first_keeps x stays ∙ sym (put_equal x (sinks.lost n s x edge none)) ∙ sym
           (both.second_keeps x stays)
     ]
-    unchanged_each s node is edge unchanged v1 w1 both x (Some rhs) some = elim (sinks.back n s x rhs node is edge some) [
-      | inl occurs ↦ (let never = sym unchanged ∙ occurs.0 in absurd (cc))
-      | inr on ↦ both.first_keeps x on.0 ∙ delayed_equal x rhs on.1.1.0 on.1.1.1 ∙ sym
-          (rhs_equal w1 w' rhs (set_equal node v1 w1 both.second_keeps (rhs_vars rhs) on.1.0))
-    ]
+    unchanged_each s node is edge unchanged v1 w1 both x (Some rhs) some =
+        elim (sinks.back n s x rhs node is edge some) [
+          | inl occurs ↦ (let never = sym unchanged ∙ occurs.0 in absurd (cc))
+          | inr on ↦ both.first_keeps x on.0 ∙ delayed_equal x rhs on.1.1.0 on.1.1.1 ∙ sym
+              (rhs_equal w1 w' rhs (set_equal node v1 w1 both.second_keeps (rhs_vars rhs) on.1.0))
+        ]
 
     removed_each : (s y : ℕ) (t : Rhs) → slice_get graph.nodes n ≡ Some (Assign y t s) → HasEdge graph.nodes n s
         → r.changes n ≡ Removed → (x : ℕ) (o : Option Rhs) → late s x ≡ o

@@ -8,19 +8,8 @@ use Rattle.flow_graph.specs.Edges.{edges_from, preds_among}
 use Rattle.flow_graph.specs.EdgeLaws.{pred_has, pred_is}
 use Rattle.jump_clean.proofs.Follow.{in_rest, in_place}
 use Rattle.jump_clean.proofs.Moves.{in_either, in_left, in_right}
+use Rattle.flow_graph.specs.MemberLaws.{in_at, place_of_member}
 use Rattle.flow_graph.specs.Numbering.{IsIn}
-
--- an element that has a place is in the list
-in_at : (xs : List ℕ) (i n : ℕ) → slice_get xs i ≡ Some n → IsIn n xs
-in_at [] i n e = cc
-in_at (x ∷ xs) zero n e = let same : x ≡ n = cc in inl same
-in_at (x ∷ xs) (suc i) n e = inr (in_at xs i n e)
-
--- and one in the list has a place
-at_in : (xs : List ℕ) (n : ℕ) → IsIn n xs → (i : ℕ) × (slice_get xs i ≡ Some n)
-at_in [] n h = absurd h
-at_in (x ∷ xs) n (inl e) = (0, ap Some e)
-at_in (x ∷ xs) n (inr h) = let r = at_in xs n h in (suc r.0, r.1)
 
 -- a node that leads to node s is one of the sources
 pub in_preds : (nodes : List Node) (m s slot : ℕ) → slice_get (succs_of (slice_get nodes m)) slot ≡ Some s → IsIn m (preds_among s (edges_from 0 nodes))
@@ -29,7 +18,7 @@ in_preds nodes m s slot e = let r = pred_has nodes m s (slot, e) in in_at (preds
 -- and each source is a node
 pub pred_within : (nodes : List Node) (s m : ℕ) → IsIn m (preds_among s (edges_from 0 nodes)) → m < length nodes
 pred_within nodes s m h =
-    let p = at_in (preds_among s (edges_from 0 nodes)) m h in
+    let p = place_of_member m (preds_among s (edges_from 0 nodes)) h in
     edge_within nodes m s (pred_is nodes s p.0 m p.1)
 
 -- ---- the sources for several nodes

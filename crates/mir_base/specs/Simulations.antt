@@ -9,7 +9,9 @@ use Rattle.mir_base.specs.UnitRuns.{Machine, IsEntry, IsCallAnswer}
 -- so many steps lead from the one frame to the other, show nothing, and count so many evaluations
 abbrev pub Silently : Code → ℕ → Frame → Frame → ℕ → Type 0
 Silently code zero from to counted = (from ≡ to) × (counted ≡ 0)
-Silently code (suc steps) from to counted = (next : Frame) × (first : ℕ) × (rest : ℕ) × (code from ≡ Continues first next) × Silently code steps next to rest × (counted ≡ first + rest)
+Silently code (suc steps) from to counted =
+    (next : Frame) × (first : ℕ) × (rest : ℕ) × (code from ≡ Continues first next)
+    × Silently code steps next to rest × (counted ≡ first + rest)
 
 -- A relation of a frame of the first side and a frame of the second, at a measure and at what each side has counted so
 -- far: `R measure counted counted' frame frame'`

@@ -30,7 +30,7 @@ use Rattle.program_pass.specs.GraphProgramLaws.{Agree, answers_long, called_exis
 use Rattle.tail_loop.specs.LoopValues.{loop_plain, loop_values}
 use Rattle.program_pass.specs.StepLaws.{OneStepEach, steps_meet}
 use Rattle.tail_loop.specs.Tails.{AreLooped, IsTailCall, Loops, ReturnsNext, loop_assignments}
-use Rattle.flow_graph.specs.MemberLaws.{in_or_not, place_in}
+use Rattle.flow_graph.specs.MemberLaws.{in_or_not, place_of_member}
 
 -- ---- the nodes with loops
 
@@ -82,7 +82,7 @@ module _ (graph : GraphShape) (unit : ℕ) where
   ordered_apart : (calls : List ℕ) → ((i j m n : ℕ) → i < j → slice_get calls i ≡ Some m → slice_get calls j ≡ Some n → m < n) → Apart calls
   ordered_apart [] ordered = tt
   ordered_apart (x ∷ calls) ordered = (
-    λ there. let r = place_in x calls there in let lt = ordered 0 (suc r.0) x x (omega arith) refl r.1 in absurd (omega (arith, lt)),
+    λ there. let r = place_of_member x calls there in let lt = ordered 0 (suc r.0) x x (omega arith) refl r.1 in absurd (omega (arith, lt)),
     ordered_apart calls (λ i j m n lt. ordered (suc i) (suc j) m n (omega (arith, lt))),
   )
 

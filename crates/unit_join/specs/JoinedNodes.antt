@@ -14,7 +14,7 @@ use Rattle.program_pass.specs.Chains.{stood}
 use Rattle.program_pass.specs.ChainLaws.{StandsAt, chain_long, stands_moves, stood_kept, stood_long, stood_stands}
 use Rattle.unit_join.specs.JoinValues.{copy_global, copy_of_one, copy_other}
 use Rattle.unit_join.specs.Joins.{LeavesAreJoined, IsLeafCall, copy_in, entry_assignments, first_copy, first_place, nodes_with_leaf, leaf_at, leaf_node, leaf_place, leaf_vars}
-use Rattle.flow_graph.specs.MemberLaws.{place_in}
+use Rattle.flow_graph.specs.MemberLaws.{place_of_member}
 
 -- ---- the nodes with leaves
 
@@ -133,7 +133,7 @@ module _ (leaves : List (Option GraphShape)) (units : List ℕ) (graph : GraphSh
   pub ordered_apart : (calls : List ℕ) → ((i j m n : ℕ) → i < j → slice_get calls i ≡ Some m → slice_get calls j ≡ Some n → m < n) → Apart calls
   ordered_apart [] ordered = tt
   ordered_apart (x ∷ calls) ordered = (
-    λ there. let r = place_in x calls there in let lt = ordered 0 (suc r.0) x x (omega arith) refl r.1 in absurd (omega (arith, lt)),
+    λ there. let r = place_of_member x calls there in let lt = ordered 0 (suc r.0) x x (omega arith) refl r.1 in absurd (omega (arith, lt)),
     ordered_apart calls (λ i j m n lt. ordered (suc i) (suc j) m n (omega (arith, lt))),
   )
 

@@ -6,11 +6,11 @@ use Rattle.flow_graph.proofs.plan.plan.Goals as goal
 
 pub loop-item-init : goal.loop-item-init
 loop-item-init c = record {
-  is_plan = subst (λ l. IsPlan c.args.nodes.now c.args.first (reverse l)) (sym c.new-items.ensures.items) tt;
-  within = subst (ItemsWithin (length c.args.nodes.now)) (sym c.new-items.ensures.items) tt;
-  placed = plan_begins c.args.nodes.now c.in_ok-placed.placed.items c.new-items.result.items c.in_ok-placed.ensures c.new-items.ensures.items;
-  closed = subst (λ l. AreClosed c.args.nodes.now l 0) (sym c.new-items.ensures.items) (record { few = omega arith; none = refl });
-  open_ = subst (λ l. FirstOpenIsAt c.args.nodes.now l 0) (sym c.new-items.ensures.items) refl;
+  is_plan = subst (λ l. IsPlan c.args.nodes.now c.args.first (reverse l)) (sym c.in_ok-items.ensures.items) tt;
+  within = subst (ItemsWithin (length c.args.nodes.now)) (sym c.in_ok-items.ensures.items) tt;
+  placed = plan_begins c.args.nodes.now c.in_ok-placed.placed.items c.in_ok-items.items.items c.in_ok-placed.ensures c.in_ok-items.ensures.items;
+  closed = subst (λ l. AreClosed c.args.nodes.now l 0) (sym c.in_ok-items.ensures.items) (record { few = omega arith; none = refl });
+  open_ = subst (λ l. FirstOpenIsAt c.args.nodes.now l 0) (sym c.in_ok-items.ensures.items) refl;
 }
 
 pub add-requires : goal.add-requires
