@@ -29,8 +29,7 @@ use Rattle.mir_parse.specs.RawUnit.{RawUnitShape}
 use Rattle.mir_parse.specs.declared.so_far.Hole.{Hole}
 use Rattle.mir_parse.specs.declared.so_far.Hole.TheVariants.{Unary as OfUnary, Binary as OfBinary, Arg as OfArg, Fails as OfFails, Rel as OfRel, Print as OfPrint}
 use Rattle.mir_parse.specs.declared.so_far.Part.TheVariants.{Fresh, Named, Arrowed, Wants, Opening, FirstArg, Given, Typed, If as PIf, IfOperand}
-use Rattle.mir_parse.specs.declared.so_far.Next.{Next}
-use Rattle.mir_parse.specs.declared.so_far.Next.TheVariants.{No, Go, Done, Label}
+use Rattle.mir_parse.specs.Reader.{Next, No, Go, Done, Label}
 use Rattle.mir_parse.specs.declared.so_far.Spot.TheVariants.{Named as UnitNamed, Headed, Begun, Inside, Mid, AfterEnd}
 use Rattle.mir_parse.specs.declared.so_far.Reading.{Reading}
 use Rattle.mir_parse.specs.declared.so_far.ReadSoFar.{ReadSoFar}

@@ -20,8 +20,7 @@ use Rattle.mir_parse.specs.declared.so_far.Hole.{Hole}
 use Rattle.mir_parse.specs.declared.so_far.Hole.TheVariants.{Unary as OfUnary, Binary as OfBinary, Arg as OfArg, Fails as OfFails, Rel as OfRel, Print as OfPrint}
 use Rattle.mir_parse.specs.declared.so_far.Part.{Part}
 use Rattle.mir_parse.specs.declared.so_far.Part.TheVariants.{Fresh, Receive as PReceive, ReceiveName, ReceiveOpen, ReceiveVal, Named, Arrowed, PlainName, PlainNumber, Wants, Call as PCall, Callee, Opening, FirstArg, Given, Typing, Typed, Goto as PGoto, If as PIf, IfOperand, Tested, IfGoto, IfTrap, Return as PReturn, Full}
-use Rattle.mir_parse.specs.declared.so_far.Next.{Next}
-use Rattle.mir_parse.specs.declared.so_far.Next.TheVariants.{No, Go, Done, Label}
+use Rattle.mir_parse.specs.Reader.{Next, No, Go, Done, Label}
 use Rattle.mir_parse.specs.declared.so_far.Spot.{Spot}
 use Rattle.mir_parse.specs.declared.so_far.Spot.TheVariants.{Named as UnitNamed, Headed, Begun, Inside, Mid, AfterEnd}
 use Rattle.mir_parse.specs.declared.so_far.Reading.{Reading}

@@ -21,8 +21,7 @@ use Rattle.mir_parse.specs.declared.so_far.Hole.{Hole}
 use Rattle.mir_parse.specs.declared.so_far.Hole.TheVariants.{Unary as OfUnary, Binary as OfBinary, Arg as OfArg, Fails as OfFails, Rel as OfRel, Print as OfPrint}
 use Rattle.mir_parse.specs.declared.so_far.Part.{Part}
 use Rattle.mir_parse.specs.declared.so_far.Part.TheVariants.{Fresh, Receive as PReceive, ReceiveName, ReceiveOpen, ReceiveVal, Named, Arrowed, PlainName, PlainNumber, Wants, Call as PCall, Callee, Opening, FirstArg, Given, Typing, Typed, Goto as PGoto, If as PIf, IfOperand, Tested, IfGoto, IfTrap, Return as PReturn, Full}
-use Rattle.mir_parse.specs.declared.so_far.Next.{Next}
-use Rattle.mir_parse.specs.declared.so_far.Next.TheVariants.{No, Go, Done, Label}
+use Rattle.mir_parse.specs.Reader.{Next, No, Go, Done, Label}
 use Rattle.mir_parse.specs.Grammar.{operand_symbol, relop_symbol, binop_symbol, unop_symbol, test_symbols, more_symbols, open_args, IsCallStart, IsForm}
 use Rattle.mir_parse.specs.Reader.{relop_of_mark, op_of_mark, op_of_word, filled, wants, mark_then, name_then, fresh, receive_word, named, arrowed, binary_with, plain_name, plain_number, call_word, first_arg, typed, goto_word, if_word, rel_with, if_operand, tested, if_goto, if_trap, return_word, full, part_step}
 

@@ -14,8 +14,7 @@ use Rattle.mir_parse.specs.declared.raw.Raw.{Raw}
 use Rattle.mir_parse.specs.RawParts.{globals_alone}
 use Rattle.mir_parse.specs.RawUnit.{RawUnitShape}
 use Rattle.mir_parse.specs.declared.so_far.Part.{Part}
-use Rattle.mir_parse.specs.declared.so_far.Next.{Next}
-use Rattle.mir_parse.specs.declared.so_far.Next.TheVariants.{No, Go, Done, Label}
+use Rattle.mir_parse.specs.Reader.{Next, No, Go, Done, Label}
 use Rattle.mir_parse.specs.declared.so_far.Spot.{Spot}
 use Rattle.mir_parse.specs.declared.so_far.Spot.TheVariants.{Named as UnitNamed, Headed, Begun, Inside, Mid, AfterEnd}
 use Rattle.mir_parse.specs.declared.so_far.Reading.{Reading}

@@ -30,8 +30,6 @@ use Rattle.mir_parse.specs.declared.so_far.Hole.{Hole}
 use Rattle.mir_parse.specs.declared.so_far.Hole.TheVariants.{Unary as OfUnary, Binary as OfBinary, Arg as OfArg, Fails as OfFails, Rel as OfRel, Print as OfPrint}
 use Rattle.mir_parse.specs.declared.so_far.Part.{Part}
 use Rattle.mir_parse.specs.declared.so_far.Part.TheVariants.{Fresh, Receive as PReceive, ReceiveName, ReceiveOpen, ReceiveVal, Named, Arrowed, PlainName, PlainNumber, Wants, Call as PCall, Callee, Opening, FirstArg, Given, Typing, Typed, Goto as PGoto, If as PIf, IfOperand, Tested, IfGoto, IfTrap, Return as PReturn, Full}
-use Rattle.mir_parse.specs.declared.so_far.Next.{Next}
-use Rattle.mir_parse.specs.declared.so_far.Next.TheVariants.{No, Go, Done, Label}
 use Rattle.mir_parse.specs.declared.so_far.Spot.{Spot}
 use Rattle.mir_parse.specs.declared.so_far.Spot.TheVariants.{Named as UnitNamed, Headed, Begun, Inside, Mid, AfterEnd}
 use Rattle.mir_parse.specs.declared.so_far.Reading.{Reading}
@@ -39,6 +37,34 @@ use Rattle.mir_parse.specs.declared.so_far.ReadSoFar.{ReadSoFar}
 use Rattle.mir_parse.specs.declared.so_far.Progress.{Progress}
 use Rattle.mir_parse.specs.declared.so_far.Progress.TheVariants.{Goes, Ends, Stops}
 use Rattle.mir_parse.specs.declared.so_far.ReadSoFar.TheVariants.{Outside, Global as InGlobal, In, Stopped}
+
+-- what a token makes of a part of an instruction
+pub data Next : Type 0 where
+  -- it cannot stand there
+  No : Next
+  -- a longer part
+  Go : (part : Part) → Next
+  -- the whole instruction
+  Done : (form : RawForm) → Next
+  -- the part was a name and is a label
+  Label : (name : List ℕ) → Next
+
+-- the same of a part that is changed where it stands, by its progress
+abbrev pub next_by : Progress → Part → Next
+next_by Goes part = Go part
+next_by Ends (Full form) = Done form
+next_by Ends (Named name) = Label name
+next_by Ends part = No
+next_by Stops part = No
+
+-- a token by which the part progressed made this of it
+abbrev pub PartBecomes : Part → Next → Progress → Type 0
+PartBecomes part next progress = next_by progress part ≡ next
+
+-- the part that the first token of an instruction makes
+abbrev pub first_part : Option Part → Next
+first_part None = No
+first_part (Some part) = Go part
 
 -- the relation that a mark names in a test
 abbrev pub relop_of_mark : Mark → Option RelOp
@@ -217,7 +243,7 @@ abbrev pub full : RawForm → Symbol → Next
 full f NL = Done f
 full f symbol = No
 
--- what a token makes of a part of an instruction
+-- what a token makes of each part of an instruction
 abbrev pub part_step : Part → Symbol → Next
 part_step Fresh symbol = fresh symbol
 part_step PReceive symbol = receive_word symbol
@@ -330,6 +356,12 @@ Progresses state reading spot at result = IfOk result (λ progress. unit_progres
 -- the same for a token that leaves what was read as it is
 abbrev pub ProgressesEach : (Reading → ℕ → ReadSoFar) → Spot → Progress → Type 0
 ProgressesEach step spot progress = (reading : Reading) → (at : ℕ) → unit_progressed progress reading spot at ≡ step reading at
+
+-- what the progress of an instruction that began on a line made of its unit
+abbrev pub AfterPart : {E : Type 0} → Progress → Reading → Spot → Reading → Spot → Result Progress E → Type 0
+AfterPart progress reading (Mid line part) reading' spot' result =
+    (at : ℕ) → Progresses (reading_after reading line at (next_by progress part)) reading' spot' at result
+AfterPart progress reading spot reading' spot' result = Unit {0}
 
 -- the second state is what a token made of the first one, in a unit
 abbrev pub state_progressed : Progress → ReadSoFar → ℕ → ReadSoFar → Type 0

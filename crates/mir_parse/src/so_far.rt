@@ -74,19 +74,6 @@ pub enum Part {
     Full(RawForm),
 }
 
-/// What a token makes of a part of an instruction.
-#[derive(Drop)]
-pub enum Next {
-    /// It cannot stand there.
-    No,
-    /// A longer part.
-    Go(Part),
-    /// The whole instruction.
-    Done(RawForm),
-    /// The part was a name and is a label.
-    Label(Name),
-}
-
 /// Where the reader is in a unit.
 #[derive(Drop)]
 pub enum Spot {
@@ -124,12 +111,12 @@ pub enum ReadSoFar {
     Stopped(usize),
 }
 
-/// What a token makes of the unit that is read.
+/// What a token makes of the unit or of the part of an instruction that is read, which it changes where it stands.
 #[derive(Clone, Copy, Debug, PartialEq, Eq)]
 pub enum Progress {
     /// It goes on.
     Goes,
-    /// It is whole.
+    /// It is whole: of a part, `Full` is an instruction and `Named` a label.
     Ends,
     /// The token cannot stand there.
     Stops,

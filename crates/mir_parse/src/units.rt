@@ -2,10 +2,10 @@
 // and `line` that of an instruction that began before it.
 ghost use Rattle.std.specs.Prelude.{◌≡◌, [], IfOk, OnOk};
 ghost use Rattle.mir_parse.specs.RawParts.{globals_alone};
-ghost use Rattle.mir_parse.specs.Reader.{Progresses, ProgressesEach, state_progressed, reading_after, global_word, outside, in_global, unit_named, headed, begun, inside, after_end, spot_step, read_step};
+ghost use Rattle.mir_parse.specs.Reader.{AfterPart, Progresses, ProgressesEach, state_progressed, unit_progressed, global_word, outside, in_global, unit_named, headed, begun, inside, after_end, spot_step, read_step};
 
 use crate::parts::{fresh, part_step};
-use crate::so_far::{Next, Progress, ReadSoFar, Reading, Spot};
+use crate::so_far::{Part, Progress, ReadSoFar, Reading, Spot};
 use crate::{Memory, Raw, RawGlobal, RawUnit};
 use mir_base::{Items, Name, Word};
 use mir_lex::{Mark, Symbol, Terminal};
@@ -156,14 +156,20 @@ fn spot_step(
 ) -> Result<Progress, Memory>
     ensures { Progresses (spot_step reading.old spot.old symbol at) reading.new spot.new at result }
 {
-    match mem::replace(spot, Spot::AfterEnd) {
+    match spot {
         Spot::Named => Ok(unit_named(spot, symbol)),
-        Spot::Headed(after_colon) => Ok(headed(spot, after_colon, symbol)),
+        Spot::Headed(after_colon) => {
+            let after_colon = *after_colon;
+            Ok(headed(spot, after_colon, symbol))
+        }
         Spot::Begun => Ok(begun(spot, symbol)),
-        Spot::Inside(after_colon) => inside(reading, spot, after_colon, symbol, at),
-        Spot::Mid(line, part) => {
-            let next = part_step(alloc, part, symbol)?;
-            after(reading, spot, line, at, next)
+        Spot::Inside(after_colon) => {
+            let after_colon = *after_colon;
+            Ok(inside(spot, after_colon, symbol, at))
+        }
+        Spot::Mid(_, part) => {
+            let progress = part_step(alloc, part, symbol)?;
+            after(reading, spot, progress)
         }
         Spot::AfterEnd => Ok(after_end(symbol)),
     }
@@ -210,46 +216,53 @@ fn begun(spot: &mut Spot, symbol: Symbol) -> Progress
 }
 
 // A token between two instructions: `end`, a line end after the colon of a label, or the first token of an instruction.
-fn inside(
-    reading: &mut Reading,
-    spot: &mut Spot,
-    after_colon: bool,
-    symbol: Symbol,
-    at: usize,
-) -> Result<Progress, Memory>
-    ensures { Progresses (inside reading.old after_colon symbol at) reading.new spot.new at result }
+fn inside(spot: &mut Spot, after_colon: bool, symbol: Symbol, at: usize) -> Progress
+    ensures { (reading : Reading) → unit_progressed result reading spot.new at
+        ≡ inside reading after_colon symbol at }
 {
     match symbol {
-        Symbol::Word(Word::End) => Ok(go_to(spot, Spot::AfterEnd)),
-        Symbol::LineEnd => Ok(if after_colon {
-            go_to(spot, Spot::Inside(false))
-        } else {
-            Progress::Stops
-        }),
-        symbol => after(reading, spot, at, at, fresh(symbol)),
+        Symbol::Word(Word::End) => go_to(spot, Spot::AfterEnd),
+        Symbol::LineEnd => {
+            if after_colon {
+                go_to(spot, Spot::Inside(false))
+            } else {
+                Progress::Stops
+            }
+        }
+        symbol => match fresh(symbol) {
+            Some(part) => go_to(spot, Spot::Mid(at, part)),
+            None => Progress::Stops,
+        },
     }
 }
 
-// Adds what a token made of an instruction that began on `line`: the instruction is whole, goes on, or was a label.
-fn after(
-    reading: &mut Reading,
-    spot: &mut Spot,
-    line: usize,
-    at: usize,
-    next: Next,
-) -> Result<Progress, Memory>
-    ensures { Progresses (reading_after reading.old line at next) reading.new spot.new at result }
+// What the progress of the instruction makes of the unit: one that is whole, or a label, is added to it.
+fn after(reading: &mut Reading, spot: &mut Spot, progress: Progress) -> Result<Progress, Memory>
+    ensures { AfterPart progress reading.old spot.old reading.new spot.new result }
 {
-    match next {
-        Next::No => Ok(Progress::Stops),
-        Next::Go(part) => Ok(go_to(spot, Spot::Mid(line, part))),
-        Next::Done(form) => {
+    match progress {
+        Progress::Goes => Ok(Progress::Goes),
+        Progress::Ends => add(reading, spot),
+        Progress::Stops => Ok(Progress::Stops),
+    }
+}
+
+// Adds the instruction or the label that was read to the unit.
+fn add(reading: &mut Reading, spot: &mut Spot) -> Result<Progress, Memory>
+    ensures { AfterPart Progress.Ends reading.old spot.old reading.new spot.new result }
+{
+    match mem::replace(spot, Spot::Inside(false)) {
+        Spot::Mid(line, Part::Full(form)) => {
             reading.unit.push_inst(line, form)?;
-            Ok(go_to(spot, Spot::Inside(false)))
+            Ok(Progress::Goes)
         }
-        Next::Label(name) => {
+        Spot::Mid(line, Part::Named(name)) => {
             reading.unit.push_label(line, name)?;
             Ok(go_to(spot, Spot::Inside(true)))
+        }
+        other => {
+            mem::drop(other);
+            Ok(Progress::Stops)
         }
     }
 }
