@@ -7,11 +7,12 @@ ghost use Rattle.latest_place.specs.Lazy.{AreLateRows, AreLazy};
 
 use crate::Late;
 use crate::nodes::{Uses, delayed_rows, isolated_rows, latest_rows, placement_of};
-use down_safe::{DownRule, busy};
+use down_safe::{Busy, DownRule, busy};
 use flow_graph::{Edges, Graph};
 use mir_base::Memory;
 use motion_rewrite::{ExprTable, Placement};
 use std::alloc::Global;
+use std::mem;
 
 /// At which nodes each expression of the table is used, delayed, latest and isolated, each as rows with one row for
 /// each node and one bit for each expression. The graph is split, and `edges` are those of `graph`. It fails only with
@@ -28,17 +29,26 @@ pub fn late<R: DownRule>(
     requires edges { edges.now ≡ edges_of graph.now.nodes }
     ensures { IfOk result (AreLateRows graph.now table.now (R.is_down rule.now graph.now)) }
 {
-    let busy = busy(alloc, rule, graph, edges, table)?;
+    let Busy {
+        uses: used,
+        up,
+        down,
+        early,
+    } = busy(alloc, rule, graph, edges, table)?;
+    // Rows that are not asked again are dropped at once: where they are wide each set of them is large.
+    mem::drop(up);
+    mem::drop(down);
     let uses = Uses {
         graph,
         edges,
-        rows: &busy.uses,
+        rows: &used,
     };
-    let delayed = delayed_rows(alloc, &uses, &busy.early)?;
+    let delayed = delayed_rows(alloc, &uses, &early)?;
+    mem::drop(early);
     let latest = latest_rows(alloc, &uses, &delayed)?;
     let isolated = isolated_rows(alloc, &uses, &latest)?;
     Ok(Late {
-        uses: busy.uses,
+        uses: used,
         delayed,
         latest,
         isolated,
