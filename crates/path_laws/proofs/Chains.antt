@@ -1,44 +1,10 @@
 -- A bit through blocks is a bit through their nodes.
-use Rattle.std.proofs.Common.{◌≡◌, ℕ, zero, suc, ◌<◌, ◌↔◌, inl, inr, Bool, true, false, not, ◌||◌, ◌&&◌, List, [], ◌∷◌, ◌++◌, length, take, slice_get, Some, refl, sym, ap, subst, arith, ◌∙◌}
-use Rattle.flow_graph.specs.ListLaws.{take_next}
+use Rattle.std.proofs.Common.{◌≡◌, ℕ, zero, suc, ◌<◌, ◌↔◌, inl, inr, Bool, true, false, not, ◌||◌, ◌&&◌, List, [], ◌∷◌, length, take, slice_get, Some, refl, sym, ap, subst, arith, ◌∙◌}
 use Rattle.std.proofs.lemmas.List.{take_all}
-use Rattle.std.proofs.Math.Bool.{and-true}
 use Rattle.std.proofs.lemmas.Bool.{or_cases, or_left, or_right, and_parts, not-true, not_from_false}
-use Rattle.std.specs.List.{list_any}
 use Rattle.path_laws.specs.Leads.{Leads, at_seed, one_more}
 use Rattle.path_laws.specs.Blockwise.{passed, passed_all}
-
--- what a block does as a whole: its seeds, and what comes to it where none of its nodes bars that
-apart : (r s x k a : Bool) → (r || ((s || (x && not k)) && not a)) ≡ ((r || ((s || (false && not k)) && not a)) || (x && not (k || a)))
-apart true s x k a = refl
-apart false true x k true = and_not x k
-  where
-    and_not : (x k : Bool) → false ≡ (x && not (k || true))
-    and_not true true = refl
-    and_not true false = refl
-    and_not false k = refl
-apart false true x k false = refl
-apart false false true true a = refl
-apart false false true false true = refl
-apart false false true false false = refl
-apart false false false k a = refl
-
--- what comes out of a path: what it seeds itself, and what comes to it where none of its nodes bars that
-pub passed_apart : (seed bar : ℕ → Bool) (path : List ℕ) (x : Bool) → passed_all seed bar x path ≡ (passed_all seed bar false path || (x && not (list_any bar path)))
-passed_apart seed bar [] x = sym (and-true x)
-passed_apart seed bar (n ∷ path) x =
-    let first = passed_apart seed bar path (passed seed bar n x) in
-    let empty = passed_apart seed bar path (passed seed bar n false) in
-    first ∙ apart (passed_all seed bar false path) (seed n) x (bar n) (list_any bar path) ∙ ap (λ r. r || (x && not (bar n || list_any bar path))) (sym empty)
-
--- a path that goes on is passed in two steps
-pub passed_append : (seed bar : ℕ → Bool) (xs ys : List ℕ) (x : Bool) → passed_all seed bar x (xs ++ ys) ≡ passed_all seed bar (passed_all seed bar x xs) ys
-passed_append seed bar [] ys x = refl
-passed_append seed bar (n ∷ xs) ys x = passed_append seed bar xs ys (passed seed bar n x)
-
--- and one that goes on by one node
-pub passed_next : (seed bar : ℕ → Bool) (xs : List ℕ) (i n : ℕ) (x : Bool) → slice_get xs i ≡ Some n → passed_all seed bar x (take (suc i) xs) ≡ passed seed bar n (passed_all seed bar x (take i xs))
-passed_next seed bar xs i n x e = ap (passed_all seed bar x) (take_next xs i n e) ∙ passed_append seed bar (take i xs) (n ∷ []) x
+use Rattle.path_laws.specs.BlockwiseLaws.{passed_next}
 
 -- each node but the first has the one before it as its only step back
 abbrev pub IsRun : (ℕ → ℕ → Type 0) → List ℕ → Type 0
@@ -84,41 +50,43 @@ module _ (steps : ℕ → ℕ → Type 0) (seed bar : ℕ → Bool) where
   run_back (p ∷ q ∷ path) zero m is e = let same : q ≡ m = cc in (p, refl, subst (λ j. steps j p) same is.0, subst (λ j. (k : ℕ) → steps j k → k ≡ p) same is.1)
   run_back (p ∷ q ∷ path) (suc i) m is e = run_back (q ∷ path) i m is.2 e
 
-  module _ (nodes count : ℕ) (paths : ℕ → List ℕ) (between : ℕ → ℕ → Type 0) (are : AreRuns nodes count steps paths between) where
-    abbrev block_seed : ℕ → Bool
-    block_seed c = passed_all seed bar false (paths c)
-
-    abbrev block_stop : ℕ → Bool
-    block_stop c = list_any bar (paths c)
-
+  -- a block does to the bit what its nodes do, one after the other, where an edge leads from it
+  module _ (nodes count : ℕ) (paths : ℕ → List ℕ) (between : ℕ → ℕ → Type 0) (are : AreRuns nodes count steps paths between) (block_seed block_stop : ℕ → Bool)
+      (does : (c d : ℕ) (x : Bool) → between c d → passed_all seed bar x (paths d) ≡ (block_seed d || (x && not (block_stop d)))) where
     -- the last node of a block in the order of the flow
     abbrev Ahead : ℕ → ℕ → Type 0
     Ahead d k = (i : ℕ) × (slice_get (paths d) i ≡ Some k) × (suc i ≡ length (paths d))
 
     -- a block that leads to a seed: so does the node from which the flow leaves it
-    pub last_leads : (d : ℕ) → d < count → Leads between block_seed block_stop d → (k : ℕ) → Ahead d k → Led k
-    last_leads d h (at_seed c on) k (i, at, end) = run_sound (paths d) false i k (are.runs d h) (λ m first bad free. absurd (cc)) at (ap (passed_all seed bar false) (take_all (suc i) (paths d) (omega (arith, end))) ∙ on)
-    last_leads d h (one_more c e step free rest) k (i, at, end) =
+    pub last_leads : (c d : ℕ) → between c d → Leads between block_seed block_stop d → (k : ℕ) → Ahead d k → Led k
+    last_leads c d from (at_seed b on) k (i, at, end) =
+        let h = (are.sound c d from).1 in
+        let whole : passed_all seed bar false (paths d) ≡ true = does c d false from ∙ or_left (block_seed d) (false && not (block_stop d)) on in
+        run_sound (paths d) false i k (are.runs d h) (λ m first bad free. absurd (cc)) at (ap (passed_all seed bar false) (take_all (suc i) (paths d) (omega (arith, end))) ∙ whole)
+    last_leads c d from (one_more b e step free rest) k (i, at, end) =
+        let h = (are.sound c d from).1 in
         let s = are.sound d e step in
-        let whole : passed_all seed bar true (paths d) ≡ true = passed_apart seed bar (paths d) true ∙ or_right (passed_all seed bar false (paths d)) (not (list_any bar (paths d))) (not_from_false (list_any bar (paths d)) free) in
+        let whole : passed_all seed bar true (paths d) ≡ true = does c d true from ∙ or_right (block_seed d) (not (block_stop d)) (not_from_false (block_stop d) free) in
         run_sound (paths d) true i k (are.runs d h)
         (λ m first on m_free.
         let both : Some s.2.0 ≡ Some m = sym s.2.3 ∙ first in
         let same : s.2.0 ≡ m = cc in
-        one_more m s.2.1 (subst (λ j. steps j s.2.1) same s.2.6) m_free (last_leads e s.1 rest s.2.1 (s.2.2, s.2.4, s.2.5)))
+        one_more m s.2.1 (subst (λ j. steps j s.2.1) same s.2.6) m_free (last_leads d e step rest s.2.1 (s.2.2, s.2.4, s.2.5)))
         at (ap (passed_all seed bar true) (take_all (suc i) (paths d) (omega (arith, end))) ∙ whole)
 
     -- the bits of blocks, and what comes to each
     module _ (w x : ℕ → Bool) (w_is : (c : ℕ) → c < count → (w c ≡ true) ↔ Leads between block_seed block_stop c) (x_sound : (c : ℕ) → c < count → x c ≡ true → (d : ℕ) × between c d × (w d ≡ true)) (x_complete : (c d : ℕ) → c < count → between c d → w d ≡ true → x c ≡ true) where
       -- what comes out of a block's nodes comes out of the block
-      pub last_on : (d : ℕ) → d < count → passed_all seed bar (x d) (paths d) ≡ true → w d ≡ true
-      last_on d h on = elim (or_cases (block_seed d) (x d && not (block_stop d)) (sym (passed_apart seed bar (paths d) (x d)) ∙ on)) as (λ _. w d ≡ true) [
-        | inl here ↦ (w_is d h).1 (at_seed d here)
-        | inr came ↦
-            let parts = and_parts (x d) (not (block_stop d)) came in
-            let from = x_sound d h parts.0 in
-            (w_is d h).1 (one_more d from.0 from.1 (not-true (block_stop d) parts.1) ((w_is from.0 (are.sound d from.0 from.1).1).0 from.2))
-      ]
+      pub last_on : (c d : ℕ) → between c d → passed_all seed bar (x d) (paths d) ≡ true → w d ≡ true
+      last_on c d way on =
+          let h = (are.sound c d way).1 in
+          elim (or_cases (block_seed d) (x d && not (block_stop d)) (sym (does c d (x d) way) ∙ on)) as (λ _. w d ≡ true) [
+            | inl here ↦ (w_is d h).1 (at_seed d here)
+            | inr came ↦
+                let parts = and_parts (x d) (not (block_stop d)) came in
+                let from = x_sound d h parts.0 in
+                (w_is d h).1 (one_more d from.0 from.1 (not-true (block_stop d) parts.1) ((w_is from.0 (are.sound d from.0 from.1).1).0 from.2))
+          ]
 
       pub after_complete : (n : ℕ) → Led n → (c i : ℕ) → c < count → slice_get (paths c) i ≡ Some n → passed_all seed bar (x c) (take (suc i) (paths c)) ≡ true
       after_complete n (at_seed m on) c i h at = passed_next seed bar (paths c) i n (x c) at ∙ or_left (seed n) (passed_all seed bar (x c) (take i (paths c)) && not (bar n)) on
@@ -126,7 +94,7 @@ module _ (steps : ℕ → ℕ → Type 0) (seed bar : ℕ → Bool) where
           let out = are.complete c n k h at step in
           let d_in = (are.sound c out.0 out.2).1 in
           let on = after_complete k rest out.0 out.1 d_in out.3 in
-          let w_on = last_on out.0 d_in (ap (passed_all seed bar (x out.0)) (sym (take_all (suc out.1) (paths out.0) (omega (arith, out.4)))) ∙ on) in
+          let w_on = last_on c out.0 out.2 (ap (passed_all seed bar (x out.0)) (sym (take_all (suc out.1) (paths out.0) (omega (arith, out.4)))) ∙ on) in
           let x_on = x_complete c out.0 h out.2 w_on in
           passed_next seed bar (paths c) zero n (x c) at ∙ or_right (seed n) (x c && not (bar n)) (rw (x_on, free) refl)
       after_complete n (one_more m k step free rest) c (suc i) h at =

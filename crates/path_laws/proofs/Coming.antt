@@ -8,6 +8,7 @@ use Rattle.flow_graph.specs.declared.edges.Edge.{Edge}
 use Rattle.flow_graph.specs.declared.nodes.Node.{Node}
 use Rattle.flow_graph.specs.Blocks.{IsBlocks}
 use Rattle.flow_graph.specs.Graphs.{AllWithin}
+use Rattle.path_laws.specs.AtBlocks.{comes_over}
 use Rattle.path_laws.specs.Between.{AreBetween}
 use Rattle.node_list.specs.Lists.{list_at}
 use Rattle.path_laws.specs.Blockwise.{HasAnswer, AreGrowing, AreBarredByPaths, initial_bit, brought, flow_order, handed_on, passed_all}
@@ -26,12 +27,7 @@ leads_same count steps seed other stop bar within seeds stops n h (one_more m k 
 
 -- ---- what comes to a block
 
--- whether some edge of a list brings a bit to the block of this number, from these that it comes out of
-abbrev comes_over : List Edge → (ℕ → Bool) → ℕ → Bool
-comes_over [] out c = false
-comes_over (e ∷ edges) out c = (nat_eq e.target c && out e.source) || comes_over edges out c
-
--- then there is such an edge
+-- where an edge of a list brings a bit to a block there is such an edge
 comes_from : (edges : List Edge) (out : ℕ → Bool) (c : ℕ) → comes_over edges out c ≡ true → (d : ℕ) × StepAlong edges c d × (out d ≡ true)
 comes_from [] out c on = absurd (cc)
 comes_from (e ∷ edges) out c on = elim (or_cases (nat_eq e.target c && out e.source) (comes_over edges out c) on) as (λ _. (d : ℕ) × StepAlong (e ∷ edges) c d × (out d ≡ true)) [
@@ -55,15 +51,17 @@ module _ (against : Bool) (nodes : List Node) (lists : List (List ℕ)) (edges :
 
   -- ---- at the first nodes of blocks
 
-  module _ (work : List (List Bool))
-      (leads : (c b : ℕ) → c < length lists → b < bits → (has_bit work b c ≡ true) ↔ Leads (StepAlong edges) (λ k. passed_all (seed b) (stop b) false (path k)) (λ k. list_any (stop b) (path k)) c) (b : ℕ) (b_in : b < bits) where
+  -- what a block does to each bit is what its nodes do, one after the other
+  module _ (work : List (List Bool)) (block_seed block_stop : ℕ → ℕ → Bool)
+      (leads : (c b : ℕ) → c < length lists → b < bits → (has_bit work b c ≡ true) ↔ Leads (StepAlong edges) (block_seed b) (block_stop b) c) (b : ℕ) (b_in : b < bits)
+      (does : (c d : ℕ) (x : Bool) → StepAlong edges c d → passed_all (seed b) (stop b) x (path d) ≡ (block_seed b d || (x && not (block_stop b d)))) where
     abbrev w : ℕ → Bool
     w c = has_bit work b c
 
     abbrev x : ℕ → Bool
     x c = comes_over edges w c
 
-    w_is : (c : ℕ) → c < length lists → (w c ≡ true) ↔ Leads (StepAlong edges) (λ k. passed_all (seed b) (stop b) false (path k)) (λ k. list_any (stop b) (path k)) c
+    w_is : (c : ℕ) → c < length lists → (w c ≡ true) ↔ Leads (StepAlong edges) (block_seed b) (block_stop b) c
     w_is c h = leads c b h b_in
 
     x_sound : (c : ℕ) → c < length lists → x c ≡ true → (d : ℕ) × StepAlong edges c d × (w d ≡ true)
@@ -73,13 +71,27 @@ module _ (against : Bool) (nodes : List Node) (lists : List (List ℕ)) (edges :
     x_complete c d h step on = comes_to edges w c d step.0 step.1 step.2 step.3 on
 
     -- a bit comes out of a block exactly where it comes out of the node from which the flow leaves the block
-    out_sound : (d i k : ℕ) → d < length lists → slice_get (path d) i ≡ Some k → suc i ≡ length (path d) → w d ≡ true → Leads (steps_of against nodes) (seed b) (stop b) k
-    out_sound d i k h at end on = last_leads (steps_of against nodes) (seed b) (stop b) (length nodes) (length lists) path (StepAlong edges) runs d h ((w_is d h).0 on) k (i, at, end)
+    out_sound : (c d i k : ℕ) → StepAlong edges c d → slice_get (path d) i ≡ Some k → suc i ≡ length (path d) → w d ≡ true → Leads (steps_of against nodes) (seed b) (stop b) k
+    out_sound c d i k way at end on = last_leads (steps_of against nodes) (seed b) (stop b) (length nodes) (length lists) path (StepAlong edges) runs (block_seed b) (block_stop b) does c d way ((w_is d (runs.sound c d way).1).0 on) k (i, at, end)
 
-    out_complete : (d i k : ℕ) → d < length lists → slice_get (path d) i ≡ Some k → suc i ≡ length (path d) → Leads (steps_of against nodes) (seed b) (stop b) k → w d ≡ true
-    out_complete d i k h at end led = last_on (steps_of against nodes) (seed b) (stop b) (length nodes) (length lists) path (StepAlong edges) runs w x w_is x_sound x_complete d h
+    out_complete : (c d i k : ℕ) → StepAlong edges c d → slice_get (path d) i ≡ Some k → suc i ≡ length (path d) → Leads (steps_of against nodes) (seed b) (stop b) k → w d ≡ true
+    out_complete c d i k way at end led = last_on (steps_of against nodes) (seed b) (stop b) (length nodes) (length lists) path (StepAlong edges) runs (block_seed b) (block_stop b) does w x w_is x_sound x_complete c d way
         (ap (passed_all (seed b) (stop b) (x d)) (sym (take_all (suc i) (path d) (omega (arith, end))))
-        ∙ after_complete (steps_of against nodes) (seed b) (stop b) (length nodes) (length lists) path (StepAlong edges) runs w x w_is x_sound x_complete k led d i h at)
+        ∙ after_complete (steps_of against nodes) (seed b) (stop b) (length nodes) (length lists) path (StepAlong edges) runs (block_seed b) (block_stop b) does w x w_is x_sound x_complete k led d i (runs.sound c d way).1 at)
+
+    -- what comes to a block over its edges is what comes to its first node
+    pub over_sound : (c n : ℕ) → c < length lists → slice_get (path c) 0 ≡ Some n → x c ≡ true → (m : ℕ) × steps_of against nodes n m × Leads (steps_of against nodes) (seed b) (stop b) m
+    over_sound c n h first on =
+        let from = x_sound c h on in
+        let s = runs.sound c from.0 from.1 in
+        let both : Some s.2.0 ≡ Some n = sym s.2.3 ∙ first in
+        let same : s.2.0 ≡ n = cc in
+        (s.2.1, subst (λ j. steps_of against nodes j s.2.1) same s.2.6, out_sound c from.0 s.2.2 s.2.1 from.1 s.2.4 s.2.5 from.2)
+
+    pub over_complete : (c n m : ℕ) → c < length lists → slice_get (path c) 0 ≡ Some n → steps_of against nodes n m → Leads (steps_of against nodes) (seed b) (stop b) m → x c ≡ true
+    over_complete c n m h first step led =
+        let out = runs.complete c n m h first step in
+        x_complete c out.0 h out.2 (out_complete c out.0 out.1 m out.2 out.3 out.4 led)
 
     -- what an edge brings belongs to the answer
     pub brought_sound : (e n : ℕ) → e < length edges → slice_get (path (edge_at edges e).target) 0 ≡ Some n → brought against (stop b) n (w (edge_at edges e).source) ≡ true → HasAnswer against nodes (seed b) (stop b) n
@@ -87,7 +99,7 @@ module _ (against : Bool) (nodes : List Node) (lists : List (List ℕ)) (edges :
         let s = runs.sound (edge_at edges e).target (edge_at edges e).source (e, h, refl, refl) in
         let both : Some s.2.0 ≡ Some n = sym s.2.3 ∙ first in
         let same : s.2.0 ≡ n = cc in
-        answer against on (subst (λ j. steps_of against nodes j s.2.1) same s.2.6) (λ o. out_sound (edge_at edges e).source s.2.2 s.2.1 s.1 s.2.4 s.2.5 o)
+        answer against on (subst (λ j. steps_of against nodes j s.2.1) same s.2.6) (λ o. out_sound (edge_at edges e).target (edge_at edges e).source s.2.2 s.2.1 (e, h, refl, refl) s.2.4 s.2.5 o)
       where
         answer : (way : Bool) → brought way (stop b) n (w (edge_at edges e).source) ≡ true → {k : ℕ} → steps_of way nodes n k → (w (edge_at edges e).source ≡ true → Leads (steps_of way nodes) (seed b) (stop b) k) → HasAnswer way nodes (seed b) (stop b) n
         answer true o {k} step led = let parts = and_parts (w (edge_at edges e).source) (not (stop b n)) o in one_more n k step (not-true (stop b n) parts.1) (led parts.0)
@@ -102,8 +114,7 @@ module _ (against : Bool) (nodes : List Node) (lists : List (List ℕ)) (edges :
         from k step led =
             let out = runs.complete c n k h first step in
             let edge = out.2 in
-            let d_in = (runs.sound c out.0 edge).1 in
-            (edge.0, edge.1, edge.3, ap w edge.2 ∙ out_complete out.0 out.1 k d_in out.3 out.4 led)
+            (edge.0, edge.1, edge.3, ap w edge.2 ∙ out_complete c out.0 out.1 k edge out.3 out.4 led)
 
         answer : (way : Bool) → (initial_bit way (seed b) n ≡ true → on ≡ true)
             → ((e : ℕ) → e < length edges → (edge_at edges e).target ≡ c → brought way (stop b) n (w (edge_at edges e).source) ≡ true → on ≡ true)

@@ -10,7 +10,7 @@ use Rattle.flow_graph.specs.Blocks.{StandsIn}
 use Rattle.flow_graph.specs.Graphs.{AllWithin}
 use Rattle.flow_graph.specs.Paths.{Ends}
 use Rattle.flow_graph.specs.Edges.{edges_from}
-use Rattle.path_laws.specs.Between.{AreBetween, AreOut, AreOutTo, IsAhead, IsAheadOf, IsBetween, ahead_of, count_at, out_below}
+use Rattle.path_laws.specs.Between.{AreBetween, AreOutFrom, AreOutTo, IsAhead, IsAheadOf, IsBetween, ahead_of, count_at, out_below}
 use Rattle.node_list.specs.Lists.{list_at}
 use Rattle.path_laws.specs.Leads.{steps_of}
 use Rattle.flow_graph.specs.FlowEdges.{AreFlowEdges, edge_at, first_out, flow_edges}
@@ -71,7 +71,7 @@ module _ (against : Bool) (nodes : List Node) (lists : List (List ℕ)) (block f
       one_source edge x j e is = ap (λ (y : Edge). y.source) (sym (one_item edge x j e)) ∙ is
 
   pub out_all : (within : AllWithin nodes) (number : ℕ) (list : List Edge) → AreOutTo against nodes lists block from (first_out against nodes from) number before list → first_out against nodes (suc from) ≤ number
-      → (out : List Edge) × (list ≡ before ++ out) × AreOut against nodes lists block from out
+      → (out : List Edge) × (list ≡ before ++ out) × AreOutFrom against nodes lists block from out
   out_all within number list so_far late = (
     so_far.out,
     so_far.list_is,
@@ -110,7 +110,7 @@ module _ (against : Bool) (nodes : List Node) (lists : List (List ℕ)) where
       all_zero zero = omega arith
       all_zero (suc n) = omega arith
 
-  module _ (block from : ℕ) (edges more out : List Edge) (firsts longer : List ℕ) (are : AreBetween against nodes lists block edges firsts) (ahead : IsAheadOf against lists block from) (leave : AreOut against nodes lists block from out) (more_is : more ≡ edges ++ out) (longer_is : longer ≡ firsts ++ length more ∷ []) where
+  module _ (block from : ℕ) (edges more out : List Edge) (firsts longer : List ℕ) (are : AreBetween against nodes lists block edges firsts) (ahead : IsAheadOf against lists block from) (leave : AreOutFrom against nodes lists block from out) (more_is : more ≡ edges ++ out) (longer_is : longer ≡ firsts ++ length more ∷ []) where
     long_more : length more ≡ length edges + length out
     long_more = ap length more_is ∙ length-append edges out
 

@@ -13,3 +13,4 @@ pub mod Growing
 pub mod Handed
 pub mod Counting
 pub mod Told
+pub mod Arriving

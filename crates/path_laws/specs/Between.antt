@@ -57,7 +57,7 @@ pub record IsBetween (against : Bool) (nodes : List Node) (lists : List (List �
   pub step : steps_of against nodes to from
 
 -- the edges that leave this block
-pub record AreOut (against : Bool) (nodes : List Node) (lists : List (List ℕ)) (block from : ℕ) (out : List Edge) : Type 0 where
+pub record AreOutFrom (against : Bool) (nodes : List Node) (lists : List (List ℕ)) (block from : ℕ) (out : List Edge) : Type 0 where
   pub few : length out ≤ count_at against from (edges_from 0 nodes)
   pub source : (e : ℕ) (edge : Edge) → slice_get out e ≡ Some edge → edge.source ≡ block
   pub sound : (e : ℕ) (edge : Edge) → slice_get out e ≡ Some edge → IsBetween against nodes lists edge
@@ -81,7 +81,7 @@ AreBlockEdges against nodes lists made = AreBetween against nodes lists (length 
 
 -- to a list of edges those are added that leave this block, whose last node in the order of the flow is `from`
 abbrev pub AddsOut : Bool → GraphShape → BlocksShape → ℕ → ℕ → List Edge → List Edge → Type 0
-AddsOut against graph blocks block from old new = (out : List Edge) × (new ≡ old ++ out) × AreOut against graph.nodes blocks.lists block from out
+AddsOut against graph blocks block from old new = (out : List Edge) × (new ≡ old ++ out) × AreOutFrom against graph.nodes blocks.lists block from out
 
 -- those of them whose numbers in the flow go from this one up to that one, at the end of a list
 pub record AreOutTo (against : Bool) (nodes : List Node) (lists : List (List ℕ)) (block from first number : ℕ) (before list : List Edge) : Type 0 where

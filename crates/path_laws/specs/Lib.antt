@@ -10,7 +10,9 @@ pub mod Flow
 pub mod Seeds
 pub mod SeedsLaws
 pub mod Blockwise
+pub mod BlockwiseLaws
 pub mod Between
+pub mod AtBlocks
 pub mod Crossings
 pub mod Problem
 pub mod Statements

@@ -6,7 +6,7 @@ ghost use Rattle.flow_graph.specs.Edges.{edges_of};
 ghost use Rattle.path_laws.specs.Problem.{AreLed, AreSolved, HasBetween, HasGraph, HaveBlockShape, HaveBornShape, IsProblem, born_room, room_along};
 
 use crate::between::{BlockEdges, between};
-use crate::bits::{BitFlow, Bits, least};
+use crate::bits::{Bits, Seeds, out_of_blocks};
 use crate::filling::{fill_all, initial_rows};
 use crate::problems::Problem;
 use crate::summaries::barred_by_blocks;
@@ -14,11 +14,9 @@ use bit_rows::Rows;
 use fix_solve::{Steps, Work};
 use mir_base::Memory;
 use std::alloc::Global;
-use std::marker::PhantomData;
 use std::sync::ledger::Ledger;
 
-/// The answers at all nodes, for as many bits as the rows of births have. All that may be refused is made before the
-/// counter rises.
+/// The answers at all nodes, for as many bits as the rows of births have. Where it fails the counter has not risen.
 pub(crate) fn answers<L: Ledger>(
     alloc: Global,
     problem: &Problem<'_>,
@@ -66,15 +64,8 @@ fn led<L: Ledger>(
     ensures err { OnErr result (steps.new ≡ steps.old) }
 {
     let stops = barred_by_blocks(alloc, problem)?;
-    let flow = BitFlow {
-        nodes: problem.blocks.len(),
-        edges: between.edges.as_slice(),
-        firsts: between.firsts.as_slice(),
-        bits: problem.bits,
-        problem,
-        stops: &stops,
-        ledger: PhantomData::<L>,
-    };
-    let work = least(alloc, &flow, steps)?;
+    let count = problem.blocks.len();
+    let seeds = Seeds::OfProblem(problem);
+    let work = out_of_blocks(alloc, count, between, &seeds, &stops, problem.bits, steps)?;
     Ok(work)
 }

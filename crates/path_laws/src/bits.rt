@@ -1,11 +1,12 @@
 // Rows of bits as values of a flow over a list of edges.
-ghost use Rattle.std.specs.Prelude.{◌≡◌, ◌+◌, ◌≤◌, length, IfOk, OnErr, OnOk};
-ghost use Rattle.fix_solve.specs.Net.{most_pushes};
-ghost use Rattle.path_laws.specs.Flow.{AreLedBy, IsInOrder, flow_laws, net_of};
+ghost use Rattle.std.specs.Prelude.{◌≡◌, ◌+◌, ◌*◌, ◌≤◌, length, IfOk, OnErr, OnOk};
+ghost use Rattle.bit_rows.specs.Bits.{row_of};
+ghost use Rattle.path_laws.specs.Flow.{AreOut, HasSeed, IsInOrder, IsSeeded, flow_laws, net_of, seed_rows};
 ghost use Rattle.path_laws.specs.Order.{BelowBits, trues};
 ghost use Rattle.path_laws.specs.OrderLaws.{bits_laws};
 ghost use Rattle.path_laws.specs.Paths.{AreRows};
 
+use crate::between::BlockEdges;
 use crate::problems::Problem;
 use crate::summaries::seed_of;
 use bit_rows::{Row, RowView, Rows};
@@ -53,17 +54,35 @@ impl Lattice for Bits {
     ghost laws = { bits_laws };
 }
 
-/// Bits flow along edges that are in order of their sources, from what the blocks of a problem seed. What is true at a
-/// node comes on to the next, where that one does not stop it. `firsts` has the number of the first edge of each node,
-/// and the number of edges.
+/// What comes out of each block where nothing comes to it.
+#[derive(Clone, Copy)]
+pub enum Seeds<'a> {
+    /// What a problem says of its blocks, which is worked out for each block when it is asked.
+    OfProblem(&'a Problem<'a>),
+    /// A row for each block.
+    OfRows(&'a Rows),
+}
+
+/// The seeds of one block.
+fn seed_row(alloc: Global, seeds: &Seeds<'_>, block: usize) -> Result<Row, Memory>
+    requires { HasSeed seeds.now block }
+    ensures { IfOk result (λ row. row ≡ row_of (seed_rows seeds.now) block) }
+{
+    match seeds {
+        Seeds::OfProblem(problem) => seed_of(alloc, problem, block),
+        Seeds::OfRows(rows) => Row::of(alloc, &rows.row(block)),
+    }
+}
+
+/// Bits flow along the edges between so many blocks, from those that seed them. What is true after a block comes on to
+/// the next, where that one does not stop it.
 #[derive(Drop)]
 pub struct BitFlow<'a, L: Ledger> {
-    pub(crate) nodes: usize,
-    pub(crate) edges: &'a [Edge],
-    pub(crate) firsts: &'a [usize],
-    pub(crate) bits: usize,
-    pub(crate) problem: &'a Problem<'a>,
+    pub(crate) count: usize,
+    pub(crate) between: &'a BlockEdges,
+    pub(crate) seeds: Seeds<'a>,
     pub(crate) stops: &'a Rows,
+    pub(crate) bits: usize,
     pub(crate) ledger: PhantomData<L>,
 }
 
@@ -77,20 +96,20 @@ impl<'a, L: Ledger> Flow for BitFlow<'a, L> {
     ghost net = { net_of };
 
     fn nodes(&self) -> usize {
-        self.nodes
+        self.count
     }
 
     fn edges(&self) -> usize {
-        self.edges.len()
+        self.between.edges.len()
     }
 
     fn edge(&self, number: usize) -> (usize, usize) {
-        let edge = self.edges[number];
+        let edge = self.between.edges[number];
         (edge.source, edge.target)
     }
 
     fn out(&self, node: usize) -> (usize, usize) {
-        (self.firsts[node], self.firsts[node + 1])
+        (self.between.firsts[node], self.between.firsts[node + 1])
     }
 
     fn height(&self) -> u64 {
@@ -98,7 +117,7 @@ impl<'a, L: Ledger> Flow for BitFlow<'a, L> {
     }
 
     fn first(&self, alloc: Global, node: usize) -> Result<Bits, Memory> {
-        let row = seed_of(alloc, self.problem, node)?;
+        let row = seed_row(alloc, &self.seeds, node)?;
         Ok(Bits { row })
     }
 
@@ -123,20 +142,34 @@ impl<'a, L: Ledger> Flow for BitFlow<'a, L> {
     ghost laws = { flow_laws };
 }
 
-/// The least rows: where each bit comes from a seed. The counter rises by the pushes.
-pub(crate) fn least<L: Ledger>(
+/// Which bits come out of each of so many blocks: from a seed, over blocks of which none stops them. There are so many
+/// bits, and the counter rises by the pushes.
+pub(crate) fn out_of_blocks<L: Ledger>(
     alloc: Global,
-    flow: &BitFlow<'_, L>,
+    count: usize,
+    between: &BlockEdges,
+    seeds: &Seeds<'_>,
+    stops: &Rows,
+    bits: usize,
     steps: &mut Steps<L>,
 ) -> Result<Work<Bits>, Memory>
-    requires { IsInOrder flow.now }
-    ensures shape { IfOk result (AreRows flow.now.nodes flow.now.bits) }
-    ensures leads { IfOk result (AreLedBy flow.now) }
-    ensures pushes { steps.new ≤ steps.old + most_pushes (net_of flow.now) }
+    requires { IsSeeded count between.now seeds.now stops.now bits }
+    ensures shape { IfOk result (AreRows count bits) }
+    ensures out { IfOk result
+        (AreOut between.now.edges.items (seed_rows seeds.now) stops.now bits) }
+    ensures pushes { steps.new ≤ steps.old + length between.now.edges.items * (bits + 1) }
     ensures counts { steps.old ≤ steps.new }
     ensures err { OnErr result (steps.new ≡ steps.old) }
 {
-    let mut work = Work::new(alloc, flow)?;
-    solve(&mut work, flow, steps);
+    let flow = BitFlow {
+        count,
+        between,
+        seeds: *seeds,
+        stops,
+        bits,
+        ledger: PhantomData::<L>,
+    };
+    let mut work = Work::new(alloc, &flow)?;
+    solve(&mut work, &flow, steps);
     Ok(work)
 }

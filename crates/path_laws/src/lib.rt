@@ -6,6 +6,9 @@
 //!
 //! The rows that go in are made here too: the table of the keys that nodes have (`node_keys`), which key of a table
 //! each node has (`key_rows`), and what is said of the variable that a node assigns (`assigned_rows`).
+//!
+//! Where rows by blocks are at hand, two calls answer for blocks alone: at their first nodes (`forward_all_heads`), and
+//! after their last (`backward_some_ends`).
 #![tactic(auto)]
 
 mod answers;
@@ -16,6 +19,7 @@ mod calls;
 mod filling;
 mod gathering;
 mod graph_edges;
+mod heads;
 mod joins;
 mod keyed;
 mod passing;
@@ -28,5 +32,6 @@ pub use calls::{
     backward_all, backward_all_in, backward_some, backward_some_in, forward_all, forward_all_in,
 };
 pub use gathering::node_keys;
+pub use heads::{backward_some_ends, forward_all_heads};
 pub use joins::{some_predecessor, some_successor};
 pub use keyed::{KeyOf, key_rows};

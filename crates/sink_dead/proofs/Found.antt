@@ -94,7 +94,7 @@ found_none graph vars nodes keys is = record {
 }
 
 -- a pattern that occurs at a node does not divide, and its variables are those of the node
-node_sinkable : (vars : ℕ) (node : Node) (p : Pattern) → AllBelow vars (node_vars node) → pattern_of node ≡ Some p → (divides p.rhs ≡ false) × ((p.var < vars) × AllBelow vars (rhs_vars p.rhs))
+pub node_sinkable : (vars : ℕ) (node : Node) (p : Pattern) → AllBelow vars (node_vars node) → pattern_of node ≡ Some p → (divides p.rhs ≡ false) × ((p.var < vars) × AllBelow vars (rhs_vars p.rhs))
 node_sinkable vars (Start next) p below h = cc
 node_sinkable vars (Skip next) p below h = cc
 node_sinkable vars (Assign x rhs next) p below h = by (divides rhs) refl h

@@ -7,7 +7,6 @@ use Rattle.std.specs.List.{filter}
 use Rattle.std.specs.List.Sorted.{IsStableByKey, ties}
 use Rattle.std.specs.Ordering.{is_lt, nat_cmp}
 use Rattle.std.specs.declared.cmp.Ordering.TheVariants.{Equal}
-use Rattle.sink_dead.specs.declared.patterns.Pattern.{Pattern}
 
 -- p stands at some place of the list, and q at a later one
 abbrev pub StandsBefore : {X : Type 0} → List X → X → X → Type 0
@@ -73,19 +72,20 @@ module _ {X : Type 0} (t : X → Bool) (q : X) where
         by past true (suc k) (suc l) lt e f = let w = past k l (omega (arith, lt)) e f in (suc w.0, suc w.1, omega (arith, w.2), w.3, w.4)
         by past false k l lt e f = let w = past k l lt e f in (suc w.0, suc w.1, omega (arith, w.2), w.3, w.4)
 
--- ---- of patterns
+-- ---- of items with a key
 
 -- no number is below an equal one
 not_below : (x y : ℕ) → x ≡ y → is_lt (nat_cmp x y) ≡ false
 not_below x y same = sym (ap is_lt (nat_cmp_is x y Equal same))
 
--- patterns of one variable tie
-tied : (p q : Pattern) → p.var ≡ q.var → ties (λ (x y : Pattern). is_lt (nat_cmp x.var y.var)) p q ≡ true
-tied p q same = ap (λ b. not b && not (is_lt (nat_cmp q.var p.var))) (not_below p.var q.var same) ∙ ap not (not_below q.var p.var (sym same))
+module _ {X : Type 0} (key : X → ℕ) where
+  -- items with one key tie
+  tied : (p q : X) → key p ≡ key q → ties (λ x y. is_lt (nat_cmp (key x) (key y))) p q ≡ true
+  tied p q same = ap (λ b. not b && not (is_lt (nat_cmp (key q) (key p)))) (not_below (key p) (key q) same) ∙ ap not (not_below (key q) (key p) (sym same))
 
--- so in a list that is sorted by variable, and stably, they stand as they stood before
-pub ties_kept : (old new : List Pattern) → IsStableByKey (λ (p : Pattern). p.var) nat_cmp old new → (i j : ℕ) (p q : Pattern) → i < j → slice_get new i ≡ Some p → slice_get new j ≡ Some q → p.var ≡ q.var → StandsBefore old p q
-ties_kept old new stable i j p q less at_i at_j same =
-    let test : Pattern → Bool = ties (λ (x y : Pattern). is_lt (nat_cmp x.var y.var)) p in
-    let kept = subst (λ l. StandsBefore l p q) (stable p) (before_kept test q p (tied p p refl) (tied p q same) new i j less at_i at_j) in
-    before_all test q p old kept.0 kept.1 kept.2 kept.3 kept.4
+  -- so in a list that is sorted by the key, and stably, they stand as they stood before
+  pub ties_kept : (old new : List X) → IsStableByKey key nat_cmp old new → (i j : ℕ) (p q : X) → i < j → slice_get new i ≡ Some p → slice_get new j ≡ Some q → key p ≡ key q → StandsBefore old p q
+  ties_kept old new stable i j p q less at_i at_j same =
+      let test : X → Bool = ties (λ x y. is_lt (nat_cmp (key x) (key y))) p in
+      let kept = subst (λ l. StandsBefore l p q) (stable p) (before_kept test q p (tied p p refl) (tied p q same) new i j less at_i at_j) in
+      before_all test q p old kept.0 kept.1 kept.2 kept.3 kept.4

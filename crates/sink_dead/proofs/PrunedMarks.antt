@@ -1,6 +1,6 @@
 -- Rows of what nodes read and assign: marks of one node, and of the nodes as far as a loop has come.
-use Rattle.std.proofs.Common.{◌≡◌, ◌≢◌, ℕ, zero, suc, ◌+◌, ◌<◌, ◌≤◌, ◌||◌, ◌&&◌, Bool, true, false, nat_eq, List, [], ◌∷◌, ◌++◌, length, get_or, replicate, set, take, slice_get, Option, Some, None, inl, inr, refl, sym, ap, ◌∙◌, subst, arith, get_or-set_same, get_or-set_other}
-use Rattle.std.proofs.Math.Bool.{and-false, or-false, or-true}
+use Rattle.std.proofs.Common.{◌≡◌, ◌≢◌, ℕ, zero, suc, ◌+◌, ◌<◌, ◌≤◌, ◌||◌, ◌&&◌, not, if◌then◌else◌, Bool, true, false, nat_eq, List, [], ◌∷◌, ◌++◌, length, get_or, replicate, set, take, slice_get, Option, Some, None, inl, inr, refl, sym, ap, ◌∙◌, subst, arith, get_or-set_same, get_or-set_other}
+use Rattle.std.proofs.Math.Bool.{and-false, or-false}
 use Rattle.std.proofs.Math.Path.{fun_ext}
 use Rattle.std.proofs.lemmas.Bool.{cases_eq, cases_lt, eq-eqb, ne_eqb}
 use Rattle.std.proofs.lemmas.List.{get_or-replicate, length-replicate, length-set, length-take}
@@ -13,72 +13,100 @@ use Rattle.flow_graph.specs.ListLaws.{get_take}
 use Rattle.flow_graph.specs.Numbering.{is_in}
 use Rattle.path_laws.specs.KeyRowLaws.{false_bit}
 use Rattle.path_laws.specs.Paths.{AreRows, has_bit}
+use Rattle.sink_dead.specs.Dead.{PassesBack}
 use Rattle.sink_dead.specs.Accesses.{assigns_at, assigns_var, reads_at, reads_var}
 use Rattle.sink_dead.specs.LiveRows.{AreMarked, IsMarkedAt, assigned_vars, vars_of}
 use Rattle.sink_dead.specs.VarLaws.{assigned_is_in, is_in_append, shared_more}
-use Rattle.path_laws.specs.KeyRowLaws.{false_bit}
 
 -- ---- truth values
 
--- one bit set by two lists one after the other
-set_twice : (old here one two : Bool) → ((old || (here && one)) || (here && two)) ≡ (old || (here && (one || two)))
-set_twice true here one two = refl
-set_twice false true true two = refl
-set_twice false true false two = refl
-set_twice false false one two = refl
+-- one bit written by two lists one after the other
+write_twice : (value old here one two : Bool) → (if here && two then value else (if here && one then value else old)) ≡ (if here && (one || two) then value else old)
+write_twice value old true true true = refl
+write_twice value old true true false = refl
+write_twice value old true false two = refl
+write_twice value old false one two = refl
+
+-- a bit that is set where it is asked
+set_is_or : (old asked : Bool) → (if asked then true else old) ≡ (old || asked)
+set_is_or true true = refl
+set_is_or true false = refl
+set_is_or false true = refl
+set_is_or false false = refl
 
 -- ---- marks of one node
 
--- no variable
-pub marked_none : (n : ℕ) (rows : List (List Bool)) → IsMarkedAt n [] rows rows
-marked_none n rows = record {
-  len = refl;
-  each = λ m. refl;
-  bits = λ m x. sym (or-false (has_bit rows x m)) ∙ ap (λ b. has_bit rows x m || b) (sym (and-false (nat_eq n m)));
-}
+module _ (value : Bool) (n : ℕ) where
+  -- no variable
+  pub marked_none : (rows : List (List Bool)) → IsMarkedAt value n [] rows rows
+  marked_none rows = record {
+    len = refl;
+    each = λ m. refl;
+    bits = λ m x. ap (λ b. if b then value else has_bit rows x m) (sym (and-false (nat_eq n m)));
+  }
 
--- two lists one after the other
-pub marked_both : (n : ℕ) (xs ys : List ℕ) (old mid new : List (List Bool)) → IsMarkedAt n xs old mid → IsMarkedAt n ys mid new → IsMarkedAt n (xs ++ ys) old new
-marked_both n xs ys old mid new p q = record {
-  len = q.len ∙ p.len;
-  each = λ m. q.each m ∙ p.each m;
-  bits = λ m x. q.bits m x ∙ ap (λ b. b || (nat_eq n m && is_in x ys)) (p.bits m x) ∙ set_twice (has_bit old x m) (nat_eq n m) (is_in x xs) (is_in x ys) ∙ ap (λ b. has_bit old x m || (nat_eq n m && b)) (sym (is_in_append x xs ys));
-}
+  -- two lists one after the other
+  pub marked_both : (xs ys : List ℕ) (old mid new : List (List Bool)) → IsMarkedAt value n xs old mid → IsMarkedAt value n ys mid new → IsMarkedAt value n (xs ++ ys) old new
+  marked_both xs ys old mid new p q = record {
+    len = q.len ∙ p.len;
+    each = λ m. q.each m ∙ p.each m;
+    bits = λ m x. q.bits m x ∙ ap (λ b. if nat_eq n m && is_in x ys then value else b) (p.bits m x) ∙ write_twice value (has_bit old x m) (nat_eq n m) (is_in x xs) (is_in x ys) ∙ ap (λ b. if nat_eq n m && b then value else has_bit old x m) (sym (is_in_append x xs ys));
+  }
 
--- one variable
-pub marked_one : (n x : ℕ) (rows new : List (List Bool)) → n < length rows → x < length (row_of rows n) → new ≡ set rows n (set (row_of rows n) x true) → IsMarkedAt n (x ∷ []) rows new
-marked_one n x rows new n_in x_in is = subst (IsMarkedAt n (x ∷ []) rows) (sym is) (record { len = length-set rows n row; each = each; bits = bits })
+  -- one variable
+  pub marked_one : (x : ℕ) (rows new : List (List Bool)) → n < length rows → x < length (row_of rows n) → new ≡ set rows n (set (row_of rows n) x value) → IsMarkedAt value n (x ∷ []) rows new
+  marked_one x rows new n_in x_in is = subst (IsMarkedAt value n (x ∷ []) rows) (sym is) (record { len = length-set rows n row; each = each; bits = bits })
+    where
+      row : List Bool
+      row = set (row_of rows n) x value
+
+      at_n : row_of (set rows n row) n ≡ row
+      at_n = get_or-set_same rows n row [] n_in
+
+      at_other : (m : ℕ) → m ≢ n → row_of (set rows n row) m ≡ row_of rows m
+      at_other m differ = get_or-set_other rows n m row [] differ
+
+      each : (m : ℕ) → length (row_of (set rows n row) m) ≡ length (row_of rows m)
+      each m = elim (cases_eq m n) as (λ _. length (row_of (set rows n row) m) ≡ length (row_of rows m)) [
+        | inl same ↦ rw (same, at_n) (length-set (row_of rows n) x value)
+        | inr differ ↦ rw (at_other m differ) refl
+      ]
+
+      bit : (y : ℕ) → get_or row y false ≡ (if nat_eq x y || false then value else has_bit rows y n)
+      bit y = elim (cases_eq y x) [
+        | inl same ↦ ap (λ z. get_or row z false) same ∙ get_or-set_same (row_of rows n) x value false x_in ∙ sym (ap (λ b. if b || false then value else has_bit rows y n) (eq-eqb x y (sym same)))
+        | inr differ ↦ get_or-set_other (row_of rows n) x y value false differ ∙ sym (ap (λ b. if b || false then value else has_bit rows y n) (ne_eqb x y (λ e. differ (sym e))))
+      ]
+
+      bits : (m y : ℕ) → has_bit (set rows n row) y m ≡ (if nat_eq n m && is_in y (x ∷ []) then value else has_bit rows y m)
+      bits m y = elim (cases_eq m n) [
+        | inl same ↦ ap (λ k. has_bit (set rows n row) y k) same ∙ ap (λ r. get_or r y false) at_n ∙ bit y ∙ sym (ap (λ b. if b && (nat_eq x y || false) then value else has_bit rows y m) (eq-eqb n m (sym same)) ∙ ap (λ k. if nat_eq x y || false then value else has_bit rows y k) same)
+        | inr differ ↦ ap (λ r. get_or r y false) (at_other m differ) ∙ sym (ap (λ b. if b && (nat_eq x y || false) then value else has_bit rows y m) (ne_eqb n m (λ e. differ (sym e))))
+      ]
+
+  -- one global more
+  pub marked_global : (x : ℕ) (old mid new : List (List Bool)) → n < length mid → x < length (row_of mid n) → IsMarkedAt value n (shared_vars x) old mid → new ≡ set mid n (set (row_of mid n) x value) → IsMarkedAt value n (shared_vars (x + 1)) old new
+  marked_global x old mid new n_in x_in before is = subst (λ xs. IsMarkedAt value n xs old new) (sym (shared_more x)) (marked_both (shared_vars x) (x ∷ []) old mid new before (marked_one x mid new n_in x_in is))
+
+-- set bits
+pub marked_or : (n : ℕ) (vars : List ℕ) (old new : List (List Bool)) → IsMarkedAt true n vars old new → (m x : ℕ) → has_bit new x m ≡ (has_bit old x m || (nat_eq n m && is_in x vars))
+marked_or n vars old new marked m x = marked.bits m x ∙ set_is_or (has_bit old x m) (nat_eq n m && is_in x vars)
+
+-- what a node assigns is not live before it, and what it reads is
+pub passes_back : (graph : GraphShape) (node : Node) (n : ℕ) (old mid new : List (List Bool)) → IsMarkedAt false n (assigned_vars graph node) old mid → IsMarkedAt true n (node_reads graph node) mid new → PassesBack graph node n old new
+passes_back graph node n old mid new assigned read = record {
+  len = read.len ∙ assigned.len;
+  each = λ m. read.each m ∙ assigned.each m;
+  bits = λ m x. read.bits m x ∙ ap (λ b. if nat_eq n m && is_in x (node_reads graph node) then true else b) (assigned.bits m x) ∙ back (nat_eq n m) (is_in x (node_reads graph node)) (is_in x (assigned_vars graph node)) (has_bit old x m);
+}
   where
-    row : List Bool
-    row = set (row_of rows n) x true
-
-    at_n : row_of (set rows n row) n ≡ row
-    at_n = get_or-set_same rows n row [] n_in
-
-    at_other : (m : ℕ) → m ≢ n → row_of (set rows n row) m ≡ row_of rows m
-    at_other m differ = get_or-set_other rows n m row [] differ
-
-    each : (m : ℕ) → length (row_of (set rows n row) m) ≡ length (row_of rows m)
-    each m = elim (cases_eq m n) as (λ _. length (row_of (set rows n row) m) ≡ length (row_of rows m)) [
-      | inl same ↦ rw (same, at_n) (length-set (row_of rows n) x true)
-      | inr differ ↦ rw (at_other m differ) refl
-    ]
-
-    bit : (y : ℕ) → get_or row y false ≡ (has_bit rows y n || (nat_eq x y || false))
-    bit y = elim (cases_eq y x) [
-      | inl same ↦ ap (λ z. get_or row z false) same ∙ get_or-set_same (row_of rows n) x true false x_in ∙ sym (ap (λ b. has_bit rows y n || (b || false)) (eq-eqb x y (sym same)) ∙ or-true (has_bit rows y n))
-      | inr differ ↦ get_or-set_other (row_of rows n) x y true false differ ∙ sym (ap (λ b. has_bit rows y n || (b || false)) (ne_eqb x y (λ e. differ (sym e))) ∙ or-false (has_bit rows y n))
-    ]
-
-    bits : (m y : ℕ) → has_bit (set rows n row) y m ≡ (has_bit rows y m || (nat_eq n m && is_in y (x ∷ [])))
-    bits m y = elim (cases_eq m n) [
-      | inl same ↦ ap (λ k. has_bit (set rows n row) y k) same ∙ ap (λ r. get_or r y false) at_n ∙ bit y ∙ sym (ap (λ b. has_bit rows y m || (b && (nat_eq x y || false))) (eq-eqb n m (sym same)) ∙ ap (λ k. has_bit rows y k || (nat_eq x y || false)) same)
-      | inr differ ↦ ap (λ r. get_or r y false) (at_other m differ) ∙ sym (ap (λ b. has_bit rows y m || (b && (nat_eq x y || false))) (ne_eqb n m (λ e. differ (sym e))) ∙ or-false (has_bit rows y m))
-    ]
-
--- one global more
-pub marked_global : (n x : ℕ) (old mid new : List (List Bool)) → n < length mid → x < length (row_of mid n) → IsMarkedAt n (shared_vars x) old mid → new ≡ set mid n (set (row_of mid n) x true) → IsMarkedAt n (shared_vars (x + 1)) old new
-marked_global n x old mid new n_in x_in before is = subst (λ xs. IsMarkedAt n xs old new) (sym (shared_more x)) (marked_both n (shared_vars x) (x ∷ []) old mid new before (marked_one n x mid new n_in x_in is))
+    back : (here read assigned old : Bool) → (if here && read then true else (if here && assigned then false else old)) ≡ (if here then read || (old && not assigned) else old)
+    back true true assigned old = refl
+    back true false true true = refl
+    back true false true false = refl
+    back true false false true = refl
+    back true false false false = refl
+    back false read assigned old = refl
 
 -- ---- the nodes as far as a loop has come
 
@@ -89,19 +117,20 @@ false_rows nodes bits = record {
   each = λ m m_in. ap length (get_or-replicate nodes m (replicate bits false) [] m_in) ∙ length-replicate bits false;
 }
 
--- and mark no node
+-- and have no bit
+pub no_bits : (nodes bits n x : ℕ) → has_bit (replicate nodes (replicate bits false)) x n ≡ false
+no_bits zero bits n x = refl
+no_bits (suc nodes) bits zero x = false_bit bits x
+no_bits (suc nodes) bits (suc n) x = no_bits nodes bits n x
+
+-- so they mark no node
 pub none_marked : (vars : Node → List ℕ) (all : List Node) (nodes bits : ℕ) → AreMarked vars (take 0 all) (replicate nodes (replicate bits false))
-none_marked vars all nodes bits = λ m x. in_rows nodes m x
-  where
-    in_rows : (n m x : ℕ) → has_bit (replicate n (replicate bits false)) x m ≡ false
-    in_rows zero m x = refl
-    in_rows (suc n) zero x = false_bit bits x
-    in_rows (suc n) (suc m) x = in_rows n m x
+none_marked vars all nodes bits = λ n x. no_bits nodes bits n x
 
 -- one node more
-pub marked_more : (vars : Node → List ℕ) (nodes : List Node) (n : ℕ) (node : Node) (old new : List (List Bool)) → slice_get nodes n ≡ Some node → AreMarked vars (take n nodes) old → IsMarkedAt n (vars node) old new → AreMarked vars (take (n + 1) nodes) new
+pub marked_more : (vars : Node → List ℕ) (nodes : List Node) (n : ℕ) (node : Node) (old new : List (List Bool)) → slice_get nodes n ≡ Some node → AreMarked vars (take n nodes) old → IsMarkedAt true n (vars node) old new → AreMarked vars (take (n + 1) nodes) new
 marked_more vars nodes n node old new at before marked m x =
-    marked.bits m x ∙ ap (λ b. b || (nat_eq n m && is_in x (vars node))) (before m x) ∙ elim (cases_eq m n) [
+    marked_or n (vars node) old new marked m x ∙ ap (λ b. b || (nat_eq n m && is_in x (vars node))) (before m x) ∙ elim (cases_eq m n) [
       | inl same ↦
           ap (λ o. is_in x (vars_of vars o) || (nat_eq n m && is_in x (vars node))) (slice_get_past (take n nodes) m (omega (arith, same, long)))
           ∙ ap (λ b. b && is_in x (vars node)) (eq-eqb n m (sym same))
@@ -122,8 +151,8 @@ marked_more vars nodes n node old new at before marked m x =
     longer = omega (arith, length-take (n + 1) nodes)
 
 -- the shape stays
-pub still_rows : (nodes bits n : ℕ) (vars : List ℕ) (old new : List (List Bool)) → AreRows nodes bits old → IsMarkedAt n vars old new → AreRows nodes bits new
-still_rows nodes bits n vars old new are marked = record { len = marked.len ∙ are.len; each = λ m m_in. marked.each m ∙ are.each m m_in }
+pub still_rows : (value : Bool) (nodes bits n : ℕ) (vars : List ℕ) (old new : List (List Bool)) → AreRows nodes bits old → IsMarkedAt value n vars old new → AreRows nodes bits new
+still_rows value nodes bits n vars old new are marked = record { len = marked.len ∙ are.len; each = λ m m_in. marked.each m ∙ are.each m m_in }
 
 -- ---- what the rows say
 

@@ -12,7 +12,7 @@ use Rattle.sink_dead.specs.NoMore.{HasNoMore}
 use Rattle.sink_dead.specs.NoMoreLaws.{no_more_in_place}
 use Rattle.sink_dead.specs.Pruned.{IsPruned, removed_if}
 use Rattle.sink_dead.specs.PrunedLaws.{pruned_get, pruned_succs}
-use Rattle.sink_dead.proofs.PrunedBy.{pruned_length}
+use Rattle.sink_dead.proofs.Flagged.{pruned_length}
 
 -- a node stays a Return, removed or not
 return_stays : (gone : Bool) (o : Option Node) → is_return (option_map (changed (removed_if gone)) o) ≡ is_return o

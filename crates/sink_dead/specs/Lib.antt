@@ -8,7 +8,6 @@ pub mod PatternRows
 pub mod Puts
 pub mod Skips
 pub mod Moving
-pub mod Settled
 pub mod NoMore
 pub mod NoMoreLaws
 pub mod Liveness
@@ -24,3 +23,11 @@ pub mod RoundLaws
 pub mod PatternGraphs
 pub mod FoundPatterns
 pub mod SamePatterns
+pub mod Places
+pub mod Inside
+pub mod BlockRows
+pub mod FoundPuts
+pub mod Over
+pub mod Heads
+pub mod Moved
+pub mod Dead

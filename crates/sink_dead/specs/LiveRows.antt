@@ -1,7 +1,6 @@
 -- Rows of bits by nodes and variables: what nodes read and assign, and which variables are live before them. Cited by
 -- contracts.
-use Rattle.std.specs.Prelude.{◌≡◌, ℕ, ◌<◌, ◌||◌, ◌&&◌, not, Bool, false, nat_eq, List, [], ◌∷◌, ◌++◌, length, slice_get, Option, Some, None}
-use Rattle.mir_base.specs.Expressions.{divides}
+use Rattle.std.specs.Prelude.{◌≡◌, ℕ, ◌&&◌, if◌then◌else◌, Bool, nat_eq, List, [], ◌∷◌, ◌++◌, length, slice_get, Option, Some, None}
 use Rattle.mir_base.specs.Frames.{shared_vars}
 use Rattle.mir_base.specs.Shapes.{into_vars}
 use Rattle.bit_rows.specs.Bits.{row_of}
@@ -12,15 +11,14 @@ use Rattle.flow_graph.specs.Numbering.{is_in}
 use Rattle.path_laws.specs.Paths.{HaveShape, Tell, has_bit}
 use Rattle.sink_dead.specs.declared.liveness.AccessRows.{AccessRows}
 use Rattle.sink_dead.specs.Liveness.{IsLiveBefore}
-use Rattle.sink_dead.specs.Pruned.{pruned_from}
 
 -- ---- rows of what nodes read and assign
 
--- the bits of these variables are set in row n, and all else stays
-pub record IsMarkedAt (n : ℕ) (vars : List ℕ) (old new : List (List Bool)) : Type 0 where
+-- the bits of these variables in row n are this value, and all else stays
+pub record IsMarkedAt (value : Bool) (n : ℕ) (vars : List ℕ) (old new : List (List Bool)) : Type 0 where
   pub len : length new ≡ length old
   pub each : (m : ℕ) → length (row_of new m) ≡ length (row_of old m)
-  pub bits : (m x : ℕ) → has_bit new x m ≡ (has_bit old x m || (nat_eq n m && is_in x vars))
+  pub bits : (m x : ℕ) → has_bit new x m ≡ (if nat_eq n m && is_in x vars then value else has_bit old x m)
 
 -- the variables that a node has, where there is a node
 abbrev pub vars_of : (Node → List ℕ) → Option Node → List ℕ
@@ -54,42 +52,3 @@ pub record AreAccessRows (graph : GraphShape) (accesses : AccessRows) : Type 0 w
 -- the rows tell which variables are live before each node
 abbrev pub TellLive : GraphShape → List (List Bool) → Type 0
 TellLive graph rows = Tell graph (length graph.vars) rows (λ x n. IsLiveBefore graph x n)
-
--- by these rows the node, where there is one, is a dead assignment
-abbrev pub is_dead_node : List (List Bool) → Option Node → Bool
-is_dead_node live None = false
-is_dead_node live (Some (Start next)) = false
-is_dead_node live (Some (Skip next)) = false
-is_dead_node live (Some (Assign x rhs next)) = not (divides rhs) && not (has_bit live x next)
-is_dead_node live (Some (Print a next)) = false
-is_dead_node live (Some (Guard test number next)) = false
-is_dead_node live (Some (Call into unit operands next)) = false
-is_dead_node live (Some (Test test taken other)) = false
-is_dead_node live (Some (Return a)) = false
-
--- the same of node n
-abbrev pub is_dead_at : List (List Bool) → List Node → ℕ → Bool
-is_dead_at live nodes n = is_dead_node live (slice_get nodes n)
-
--- no node is dead
-abbrev pub NoneDead : List (List Bool) → List Node → Type 0
-NoneDead live nodes = (n : ℕ) → n < length nodes → is_dead_at live nodes n ≡ false
-
--- where the node is an assignment, the rows have the bit of its variable at its successor
-abbrev pub HasBitAfter : List (List Bool) → Node → Type 0
-HasBitAfter live (Start next) = Unit {0}
-HasBitAfter live (Skip next) = Unit {0}
-HasBitAfter live (Assign x rhs next) = (next < length live) × (x < length (row_of live next))
-HasBitAfter live (Print a next) = Unit {0}
-HasBitAfter live (Guard test number next) = Unit {0}
-HasBitAfter live (Call into unit operands next) = Unit {0}
-HasBitAfter live (Test test taken other) = Unit {0}
-HasBitAfter live (Return a) = Unit {0}
-
--- so it is of each of the nodes
-abbrev pub HaveBitsAfter : List (List Bool) → List Node → Type 0
-HaveBitsAfter live nodes = (n : ℕ) (node : Node) → slice_get nodes n ≡ Some node → HasBitAfter live node
-
--- the graph in which each node that is dead by these rows is a Skip
-abbrev pub graph_pruned : List (List Bool) → GraphShape → GraphShape
-graph_pruned live graph = record graph { nodes = pruned_from (is_dead_at live graph.nodes) 0 graph.nodes }

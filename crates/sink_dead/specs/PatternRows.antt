@@ -12,6 +12,7 @@ use Rattle.flow_graph.specs.Numbering.{is_in}
 use Rattle.path_laws.specs.KeyRows.{AreKeyRows, AreKeyRowsWhere}
 use Rattle.path_laws.specs.Paths.{AreRows, has_bit}
 use Rattle.sink_dead.specs.declared.patterns.Pattern.{Pattern}
+use Rattle.sink_dead.specs.declared.pattern_rows.ByVariable.{ByVariable}
 
 -- one row for each node and one bit for each pattern: whether the test holds of the pattern at the node
 abbrev pub ArePatternRows : GraphShape → List Pattern → (ℕ → Rhs → ℕ → Bool) → List (List Bool) → Type 0
@@ -67,3 +68,38 @@ blocked_row assigning naming bits shared (Return a) = row_joined assigning (shar
 -- each row is that of what its node blocks
 abbrev pub AreBlockedRows : List (List Bool) → List (List Bool) → ℕ → ℕ → List Node → List (List Bool) → Type 0
 AreBlockedRows assigning naming bits shared nodes rows = (n : ℕ) (node : Node) → slice_get nodes n ≡ Some node → row_of rows n ≡ blocked_row assigning naming bits shared node
+
+-- the rows by variable of the patterns of a table: those that assign the variable, and those that name it
+pub record AreVariableRows (vars : ℕ) (table : List Pattern) (made : ByVariable) : Type 0 where
+  pub assigning_shape : AreRows vars (length table) made.assigning
+  pub naming_shape : AreRows vars (length table) made.naming
+  pub assigning : AreBitsByVariable vars table (λ p. p.var ∷ []) made.assigning
+  pub naming : AreBitsByVariable vars table pattern_vars made.naming
+
+-- the variables whose reading by a node blocks patterns, where so many are globals: a call assigns the globals, too
+abbrev pub reads_in : ℕ → Node → List ℕ
+reads_in shared (Start next) = []
+reads_in shared (Skip next) = []
+reads_in shared (Assign x rhs next) = rhs_vars rhs
+reads_in shared (Print a next) = operand_vars a
+reads_in shared (Guard test number next) = test_vars test
+reads_in shared (Call into unit operands next) = flat_map operand_vars operands
+reads_in shared (Test test taken other) = test_vars test
+reads_in shared (Return a) = shared_vars shared ++ operand_vars a
+
+-- and those whose assignment does
+abbrev pub assigns_of : ℕ → Node → List ℕ
+assigns_of shared (Start next) = []
+assigns_of shared (Skip next) = []
+assigns_of shared (Assign x rhs next) = x ∷ []
+assigns_of shared (Print a next) = []
+assigns_of shared (Guard test number next) = []
+assigns_of shared (Call into unit operands next) = shared_vars shared ++ into_vars into
+assigns_of shared (Test test taken other) = []
+assigns_of shared (Return a) = []
+
+-- to one row what a node blocks was joined, and the others are as they were
+pub record JoinsBlocked (assigning naming : List (List Bool)) (shared : ℕ) (node : Node) (row : ℕ) (old new : List (List Bool)) : Type 0 where
+  pub rows : new ≡ joined_at naming (assigns_of shared node) row (joined_at assigning (reads_in shared node) row old)
+  pub len : length new ≡ length old
+  pub long : length (row_of new row) ≡ length (row_of old row)

@@ -9,16 +9,23 @@
 #![tactic(auto)]
 
 mod answers;
+mod between;
+mod dead;
 mod delaying;
+mod heads;
 mod inserting;
+mod inside;
 mod keys;
 mod layouts;
 mod liveness;
+mod moving;
+mod ordering;
+mod over;
 mod pattern_rows;
 mod patterns;
+mod places;
 mod pruning;
 mod rounds;
-mod settling;
 mod sinking;
 mod skips;
 
@@ -27,3 +34,4 @@ pub use delaying::{DelayedPatterns, inserted_apart, inserted_at_skips};
 pub use liveness::live_rows;
 pub use patterns::Pattern;
 pub use rounds::{MOST_ROUNDS, round, sink};
+pub use sinking::sunk;

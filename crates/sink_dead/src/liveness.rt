@@ -1,5 +1,5 @@
 // Which variables are live before each node.
-ghost use Rattle.std.specs.Prelude.{◌≡◌, ◌<◌, ◌≤◌, ◌++◌, flat_map, length, IfOk};
+ghost use Rattle.std.specs.Prelude.{◌≡◌, ◌<◌, ◌≤◌, ◌++◌, true, flat_map, length, IfOk};
 ghost use Rattle.mir_base.specs.Frames.{shared_vars};
 ghost use Rattle.mir_base.specs.Shapes.{AllBelow, into_vars, operand_vars, rhs_vars, test_vars};
 ghost use Rattle.bit_rows.specs.Bits.{row_of};
@@ -45,7 +45,7 @@ fn access_rows(alloc: Global, graph: &Graph) -> Result<AccessRows, Memory>
     let shared = graph.shared();
     for n in 0..nodes.len() {
         mark_read(graph, &mut reads, n, &nodes[n], shared);
-        mark_assigned(graph, &mut assigns, n, &nodes[n], shared);
+        mark_assigned(graph, &mut assigns, n, &nodes[n], shared, true);
     }
     Ok(AccessRows { reads, assigns })
 }
@@ -53,12 +53,12 @@ fn access_rows(alloc: Global, graph: &Graph) -> Result<AccessRows, Memory>
 // ---- what nodes read
 
 /// Sets the bits of the variables that a node reads in its row. `shared` is the number of the globals of the graph.
-fn mark_read(graph: &Graph, rows: &mut Rows, n: usize, node: &Node, shared: usize)
+pub(crate) fn mark_read(graph: &Graph, rows: &mut Rows, n: usize, node: &Node, shared: usize)
     requires shared { shared ≡ graph.now.shared }
     requires globals { shared ≤ length (row_of rows.old n) }
     requires row { n < length rows.old }
     requires vars { AllBelow (length (row_of rows.old n)) (node_vars node.now) }
-    ensures { IsMarkedAt n (node_reads graph.now node.now) rows.old rows.new }
+    ensures { IsMarkedAt true n (node_reads graph.now node.now) rows.old rows.new }
 {
     match node {
         Node::Start(_) => {}
@@ -67,25 +67,25 @@ fn mark_read(graph: &Graph, rows: &mut Rows, n: usize, node: &Node, shared: usiz
         Node::Print(a, _) => mark_operand(rows, n, *a),
         Node::Guard(test, _, _) => mark_test(rows, n, test),
         Node::Call(_, _, args, _) => {
-            mark_globals(rows, n, shared);
+            mark_globals(rows, n, shared, true);
             mark_operands(rows, n, args.items());
         }
         Node::Test(test, _, _) => mark_test(rows, n, test),
         Node::Return(a) => {
-            mark_globals(rows, n, shared);
+            mark_globals(rows, n, shared, true);
             mark_operand(rows, n, *a);
         }
     }
 }
 
-/// Sets the bits of the globals, which are the first `shared` variables.
-fn mark_globals(rows: &mut Rows, n: usize, shared: usize)
+/// Writes a value into the bits of the globals, which are the first `shared` variables.
+fn mark_globals(rows: &mut Rows, n: usize, shared: usize, value: bool)
     requires row { n < length rows.old }
     requires globals { shared ≤ length (row_of rows.old n) }
-    ensures { IsMarkedAt n (shared_vars shared) rows.old rows.new }
+    ensures { IsMarkedAt value n (shared_vars shared) rows.old rows.new }
 {
     for x in 0..shared {
-        rows.set(n, x, true);
+        rows.set(n, x, value);
     }
 }
 
@@ -93,7 +93,7 @@ fn mark_globals(rows: &mut Rows, n: usize, shared: usize)
 fn mark_rhs(rows: &mut Rows, n: usize, rhs: &Rhs)
     requires row { n < length rows.old }
     requires vars { AllBelow (length (row_of rows.old n)) (rhs_vars rhs.now) }
-    ensures { IsMarkedAt n (rhs_vars rhs.now) rows.old rows.new }
+    ensures { IsMarkedAt true n (rhs_vars rhs.now) rows.old rows.new }
 {
     match rhs {
         Rhs::Plain(a) => mark_operand(rows, n, *a),
@@ -106,7 +106,7 @@ fn mark_rhs(rows: &mut Rows, n: usize, rhs: &Rhs)
 fn mark_test(rows: &mut Rows, n: usize, test: &Test)
     requires row { n < length rows.old }
     requires vars { AllBelow (length (row_of rows.old n)) (test_vars test.now) }
-    ensures { IsMarkedAt n (test_vars test.now) rows.old rows.new }
+    ensures { IsMarkedAt true n (test_vars test.now) rows.old rows.new }
 {
     match test {
         Test::Rel(_, a, b) => mark_both(rows, n, *a, *b),
@@ -119,7 +119,7 @@ fn mark_test(rows: &mut Rows, n: usize, test: &Test)
 fn mark_both(rows: &mut Rows, n: usize, a: Operand, b: Operand)
     requires row { n < length rows.old }
     requires vars { AllBelow (length (row_of rows.old n)) (operand_vars a ++ operand_vars b) }
-    ensures { IsMarkedAt n (operand_vars a ++ operand_vars b) rows.old rows.new }
+    ensures { IsMarkedAt true n (operand_vars a ++ operand_vars b) rows.old rows.new }
 {
     mark_operand(rows, n, a);
     mark_operand(rows, n, b);
@@ -129,7 +129,7 @@ fn mark_both(rows: &mut Rows, n: usize, a: Operand, b: Operand)
 fn mark_operands(rows: &mut Rows, n: usize, operands: &[Operand])
     requires row { n < length rows.old }
     requires vars { AllBelow (length (row_of rows.old n)) (flat_map operand_vars operands.now) }
-    ensures { IsMarkedAt n (flat_map operand_vars operands.now) rows.old rows.new }
+    ensures { IsMarkedAt true n (flat_map operand_vars operands.now) rows.old rows.new }
 {
     for operand in operands {
         mark_operand(rows, n, *operand);
@@ -140,7 +140,7 @@ fn mark_operands(rows: &mut Rows, n: usize, operands: &[Operand])
 fn mark_operand(rows: &mut Rows, n: usize, operand: Operand)
     requires row { n < length rows.old }
     requires vars { AllBelow (length (row_of rows.old n)) (operand_vars operand) }
-    ensures { IsMarkedAt n (operand_vars operand) rows.old rows.new }
+    ensures { IsMarkedAt true n (operand_vars operand) rows.old rows.new }
 {
     match operand {
         Operand::Var(x) => rows.set(n, x, true),
@@ -150,37 +150,45 @@ fn mark_operand(rows: &mut Rows, n: usize, operand: Operand)
 
 // ---- what nodes assign
 
-/// Sets the bits of the variables that a node assigns in its row. `shared` is the number of the globals of the graph.
-fn mark_assigned(graph: &Graph, rows: &mut Rows, n: usize, node: &Node, shared: usize)
+/// Writes a value into the bits of the variables that a node assigns, in one row. `shared` is the number of the globals
+/// of the graph.
+pub(crate) fn mark_assigned(
+    graph: &Graph,
+    rows: &mut Rows,
+    n: usize,
+    node: &Node,
+    shared: usize,
+    value: bool,
+)
     requires shared { shared ≡ graph.now.shared }
     requires globals { shared ≤ length (row_of rows.old n) }
     requires row { n < length rows.old }
     requires vars { AllBelow (length (row_of rows.old n)) (node_vars node.now) }
-    ensures { IsMarkedAt n (assigned_vars graph.now node.now) rows.old rows.new }
+    ensures { IsMarkedAt value n (assigned_vars graph.now node.now) rows.old rows.new }
 {
     match node {
         Node::Start(_) => {}
         Node::Skip(_) => {}
-        Node::Assign(x, _, _) => rows.set(n, *x, true),
+        Node::Assign(x, _, _) => rows.set(n, *x, value),
         Node::Print(_, _) => {}
         Node::Guard(_, _, _) => {}
         Node::Call(into, _, _, _) => {
-            mark_globals(rows, n, shared);
-            mark_into(rows, n, *into);
+            mark_globals(rows, n, shared, value);
+            mark_into(rows, n, *into, value);
         }
         Node::Test(_, _, _) => {}
         Node::Return(_) => {}
     }
 }
 
-/// Sets the bit of the variable to which the result of a call goes, where there is one.
-fn mark_into(rows: &mut Rows, n: usize, into: Option<usize>)
+/// Writes a value into the bit of the variable to which the result of a call goes, where there is one.
+fn mark_into(rows: &mut Rows, n: usize, into: Option<usize>, value: bool)
     requires row { n < length rows.old }
     requires vars { AllBelow (length (row_of rows.old n)) (into_vars into) }
-    ensures { IsMarkedAt n (into_vars into) rows.old rows.new }
+    ensures { IsMarkedAt value n (into_vars into) rows.old rows.new }
 {
     match into {
-        Some(x) => rows.set(n, x, true),
+        Some(x) => rows.set(n, x, value),
         None => {}
     }
 }

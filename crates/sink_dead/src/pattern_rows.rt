@@ -7,10 +7,10 @@ ghost use Rattle.flow_graph.specs.Graphs.{HaveVarsBelow, node_vars};
 ghost use Rattle.path_laws.specs.KeyRows.{SetsBitAt};
 ghost use Rattle.path_laws.specs.Paths.{AreRows};
 ghost use Rattle.sink_dead.specs.Accesses.{blocks_at, occurs_at};
-ghost use Rattle.sink_dead.specs.PatternRows.{AreBitsByVariable, AreBlockedRows, ArePatternRows, FitsRowsOf, JoinsRows, blocked_row, pattern_vars};
+ghost use Rattle.sink_dead.specs.PatternRows.{AreBitsByVariable, AreBlockedRows, ArePatternRows, FitsRowsOf, JoinsBlocked, JoinsRows, blocked_row, pattern_vars};
 ghost use Rattle.sink_dead.specs.PatternTables.{AreSinkableBelow, pattern_of};
 
-use crate::patterns::{Pattern, Patterns, pattern_at};
+use crate::patterns::{Pattern, Patterns, is_start, pattern_at};
 use bit_rows::Rows;
 use flow_graph::{Graph, Node};
 use mir_base::{Memory, Operand, Rhs, Test};
@@ -48,7 +48,7 @@ pub(crate) fn occurrence_rows(
 
 /// For each variable the patterns that it has to do with.
 #[derive(Drop)]
-struct ByVariable {
+pub(crate) struct ByVariable {
     /// Those that assign the variable: a node that reads it blocks them.
     assigning: Rows,
     /// Those that assign or read it: a node that assigns it blocks them.
@@ -67,7 +67,11 @@ pub(crate) fn blocking_rows(alloc: Global, graph: &Graph, table: &Patterns) -> R
 }
 
 /// For each variable below this number, the patterns that it has to do with.
-fn by_variable(alloc: Global, vars: usize, table: &Patterns) -> Result<ByVariable, Memory>
+pub(crate) fn by_variable(
+    alloc: Global,
+    vars: usize,
+    table: &Patterns,
+) -> Result<ByVariable, Memory>
     requires { AreSinkableBelow vars table.now }
     ensures assigning_shape { IfOk result (λ made. AreRows vars (length table.now) made.assigning) }
     ensures naming_shape { IfOk result (λ made. AreRows vars (length table.now) made.naming) }
@@ -142,13 +146,34 @@ fn push_blocked(
     ensures { OnOk result (rows.new ≡ rows.old ++
         blocked_row by_variable.now.assigning by_variable.now.naming bits shared node.now ∷ []) }
 {
-    if let Node::Start(_) = node {
+    if is_start(node) {
         return push_true(rows, bits);
     }
     let last = rows.len();
     rows.push_false(bits)?;
+    join_blocked(rows, last, node, by_variable, shared);
+    Ok(())
+}
+
+/// Joins to a row that of what a node blocks; Start joins nothing.
+pub(crate) fn join_blocked(
+    rows: &mut Rows,
+    last: usize,
+    node: &Node,
+    by_variable: &ByVariable,
+    shared: usize,
+)
+    requires assigning { FitsRowsOf by_variable.now.assigning last rows.old }
+    requires naming { FitsRowsOf by_variable.now.naming last rows.old }
+    requires alike { length by_variable.now.naming ≡ length by_variable.now.assigning }
+    requires shared { shared ≤ length by_variable.now.assigning }
+    requires below { AllBelow (length by_variable.now.assigning) (node_vars node.now) }
+    ensures { JoinsBlocked by_variable.now.assigning by_variable.now.naming shared node.now last
+        rows.old rows.new }
+{
     match node {
-        Node::Start(_) | Node::Skip(_) => {}
+        Node::Start(_) => {}
+        Node::Skip(_) => {}
         Node::Assign(x, rhs, _) => {
             join_rhs(rows, last, rhs, &by_variable.assigning);
             join_var(rows, last, *x, &by_variable.naming);
@@ -166,7 +191,6 @@ fn push_blocked(
             join_operand(rows, last, *a, &by_variable.assigning);
         }
     }
-    Ok(())
 }
 
 /// Joins the row of a variable to the last row.

@@ -149,7 +149,7 @@ fn either(a: bool, b: bool) -> bool
 }
 
 /// Whether a node is Start.
-fn is_start(node: &Node) -> bool
+pub(crate) fn is_start(node: &Node) -> bool
     ensures { result ≡ is_start node.now }
 {
     match node {

@@ -6,10 +6,10 @@ ghost use Rattle.sink_dead.specs.Puts.{ArePutsOf};
 ghost use Rattle.sink_dead.specs.RoundsKept.{RoundKeeps};
 ghost use Rattle.sink_dead.specs.SunkGraphs.{IsSunk};
 
-use crate::delaying::DelayedPatterns;
-use crate::inserting::{Put, empty_occurrences, put_each, puts_of};
-use crate::settling::settled;
-use flow_graph::{Edges, Graph};
+use crate::inserting::{Put, empty_occurrences, put_each};
+use crate::moving::found_puts;
+use crate::ordering::in_order;
+use flow_graph::{Blocks, Edges, Graph};
 use graph_edit::Editor;
 use mir_base::Memory;
 use std::alloc::Global;
@@ -17,8 +17,8 @@ use std::alloc::Global;
 /// The graph in which the plain and movable assignments have sunk. Each occurrence of a pattern becomes a Skip, and
 /// before each node, in order of the nodes, stand the patterns that are inserted there, in order of their variables:
 /// those that are delayed at the node, and that it blocks or that are not delayed at some successor. The graph is
-/// split. It fails only with `Memory`.
-pub(crate) fn sunk(alloc: Global, graph: &Graph) -> Result<Graph, Memory>
+/// split. It is the first half of a round, whose second half removes the dead ones. It fails only with `Memory`.
+pub fn sunk(alloc: Global, graph: &Graph) -> Result<Graph, Memory>
     requires { IsSplit graph.now.nodes }
     ensures exact { IfOk result (IsSunk graph.now) }
     ensures keeps { IfOk result (RoundKeeps graph.now) }
@@ -44,23 +44,17 @@ fn sunk_graph(alloc: Global, graph: &Graph) -> Result<Graph, Memory>
     Ok(sunk)
 }
 
-/// What is inserted before the nodes of a graph. Rows have a bit for each pattern that can still move; the others are
-/// put before the node that blocks them.
+/// What is inserted before the nodes of a graph. It is found block by block: rows have a bit for each pattern that
+/// leaves a block.
 fn insertions(alloc: Global, graph: &Graph) -> Result<Vec<Put>, Memory>
     requires { IsSplit graph.now.nodes }
     ensures graph { OnOk result (IsGraph graph.now.vars graph.now.received graph.now.nodes) }
     ensures puts { IfOk result (λ puts. ArePutsOf graph.now puts.items) }
 {
     let edges = Edges::of(alloc, graph)?;
-    let found = DelayedPatterns::of(alloc, graph, &edges)?;
-    let nodes = graph.nodes();
-    let settled = settled(alloc, nodes, &edges, &found.table)?;
-    let puts = puts_of(
-        alloc,
-        nodes,
-        &found.table,
-        settled.as_slice(),
-        &found.inserted,
-    )?;
+    let blocks = Blocks::of(alloc, graph, &edges)?;
+    let _nodes = graph.nodes();
+    let found = found_puts(alloc, graph, &edges, &blocks)?;
+    let puts = in_order(alloc, found)?;
     Ok(puts)
 }

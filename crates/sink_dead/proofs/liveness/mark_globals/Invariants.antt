@@ -3,4 +3,4 @@ use Rattle.sink_dead.specs.LiveRows.{IsMarkedAt}
 use Rattle.sink_dead.proofs.liveness.mark_globals.Given as goal
 
 abbrev pub invariant-loop-x : goal.invariant-loop-x
-invariant-loop-x l = IsMarkedAt l.n (shared_vars l.x) l.initial.rows l.rows
+invariant-loop-x l = IsMarkedAt l.value l.n (shared_vars l.x) l.initial.rows l.rows

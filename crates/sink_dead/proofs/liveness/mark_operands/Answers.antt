@@ -1,4 +1,4 @@
-use Rattle.std.proofs.Common.{◌∙◌, [], flat_map, get_or, length, take, ap, sym, subst}
+use Rattle.std.proofs.Common.{◌∙◌, true, [], flat_map, get_or, length, take, ap, sym, subst}
 use Rattle.std.proofs.lemmas.List.{flat_map_more}
 use Rattle.std.proofs.lemmas.Option.{slice_get-get_or}
 use Rattle.mir_base.specs.declared.instructions.Operand.TheVariants.{Var}
@@ -25,5 +25,5 @@ loop-operand-preserved c =
     let operand = get_or operands i (Var 0) in
     let at = slice_get-get_or operands i (Var 0) c.loop-operand-test.true in
     let flat = flat_map_more operand_vars [] (take i operands) operand ∙ ap (flat_map operand_vars) (sym (take_one operands i operand at)) in
-    subst (λ xs. IsMarkedAt c.args.n xs c.args.rows.now c.mark_operand.new.rows) flat
-    (marked_both c.args.n (flat_map operand_vars (take i operands)) (operand_vars operand) c.args.rows.now c.loop-operand.rows c.mark_operand.new.rows c.loop-operand.invariant c.mark_operand.ensures)
+    subst (λ xs. IsMarkedAt true c.args.n xs c.args.rows.now c.mark_operand.new.rows) flat
+    (marked_both true c.args.n (flat_map operand_vars (take i operands)) (operand_vars operand) c.args.rows.now c.loop-operand.rows c.mark_operand.new.rows c.loop-operand.invariant c.mark_operand.ensures)

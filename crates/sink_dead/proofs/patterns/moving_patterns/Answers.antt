@@ -52,7 +52,7 @@ returns c =
     record {
       ordered = sorted.ordered;
       ties = λ i j p q less at_i at_j one m moves.
-          let stood = ties_kept old new sorted.stable i j p q less at_i at_j one in
+          let stood = ties_kept (λ (r : Pattern). r.var) old new sorted.stable i j p q less at_i at_j one in
           let first = c.loop-node.invariant.in_turn stood.0 stood.1 p q stood.2 stood.3 stood.4 m (subst (λ (l : List Node). MovesAt c.args.graph.now l q m) (sym same) moves) in
           (first.0, first.1, subst (λ (l : List Node). MovesAt c.args.graph.now l p first.0) same first.2);
       all = λ n next p at is.

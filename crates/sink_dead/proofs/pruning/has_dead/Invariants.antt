@@ -1,6 +1,5 @@
-use Rattle.std.proofs.Common.{◌≡◌, ◌<◌, ℕ, false}
-use Rattle.sink_dead.specs.LiveRows.{is_dead_at}
+use Rattle.std.proofs.Common.{◌≡◌, ◌<◌, ℕ, false, get_or}
 use Rattle.sink_dead.proofs.pruning.has_dead.Given as goal
 
-abbrev pub invariant-loop-node : goal.invariant-loop-node
-invariant-loop-node l = (n : ℕ) → n < l.node-index → is_dead_at l.live l.nodes n ≡ false
+abbrev pub invariant-loop-flag : goal.invariant-loop-flag
+invariant-loop-flag l = (n : ℕ) → n < l.flag-index → get_or l.dead n false ≡ false

@@ -1,11 +1,11 @@
 -- Each clause follows from clause `exact` by the laws of the removal.
-use Rattle.std.proofs.Common.{◌≡◌, ◌<◌, List, false, length, subst, sym}
+use Rattle.std.proofs.Common.{◌≡◌, List, subst, sym}
 use Rattle.flow_graph.specs.declared.nodes.Node.{Node}
 use Rattle.flow_graph.specs.Graphs.{GraphShape, IsGraph}
-use Rattle.sink_dead.specs.LiveRows.{HaveBitsAfter, is_dead_at}
+use Rattle.sink_dead.specs.Dead.{TellDead}
 use Rattle.sink_dead.specs.Pruned.{IsPruned}
 use Rattle.sink_dead.specs.PrunedLaws.{pruned_divides, pruned_keeps, pruned_splits}
-use Rattle.sink_dead.proofs.PrunedBy.{bits_after, pruned_by, pruned_itself}
+use Rattle.sink_dead.proofs.Flagged.{flagged_itself, flagged_prunes}
 use Rattle.sink_dead.proofs.PrunedPaths.{pruned_no_more}
 use Rattle.sink_dead.proofs.pruning.pruned.Goals as goal
 use Rattle.sink_dead.proofs.pruning.pruned.Goals.{In_ok-pruned, Else-has_dead}
@@ -14,21 +14,16 @@ use Rattle.sink_dead.proofs.pruning.pruned.Goals.{In_ok-pruned, Else-has_dead}
 graph_of : (graph : GraphShape) (nodes : List Node) → nodes ≡ graph.nodes → IsGraph graph.vars graph.received nodes → IsGraph graph.vars graph.received graph.nodes
 graph_of graph nodes same is = subst (λ (l : List Node). IsGraph graph.vars graph.received l) same is
 
-pub has_dead-requires : goal.has_dead-requires
-has_dead-requires c =
-    subst (HaveBitsAfter c.in_ok-live.live) (sym c.nodes.ensures.value)
-    (bits_after c.args.graph c.in_ok-live.live (graph_of c.args.graph c.nodes.result.now c.nodes.ensures.value c.nodes.ensures.graph) c.in_ok-live.ensures.shape)
-
 pub without_dead-requires : goal.without_dead-requires
-without_dead-requires c = bits_after c.args.graph c.in_ok-live.live (graph_of c.args.graph c.nodes.result.now c.nodes.ensures.value c.nodes.ensures.graph) c.in_ok-live.ensures.shape
+without_dead-requires c = subst (TellDead c.args.graph) (sym c.as_slice-flags.ensures.value) c.in_ok-dead.ensures
 
 -- ---- where some node is dead
 
 graph_then : (c : In_ok-pruned) → IsGraph c.args.graph.vars c.args.graph.received c.args.graph.nodes
-graph_then c = graph_of c.args.graph c.nodes.result.now c.nodes.ensures.value c.nodes.ensures.graph
+graph_then c = graph_of c.args.graph c.nodes-nodes.result.now c.nodes-nodes.ensures.value c.nodes-nodes.ensures.graph
 
 exact_then : (c : In_ok-pruned) → IsPruned c.args.graph c.in_ok-pruned.pruned
-exact_then c = subst (IsPruned c.args.graph) (sym c.in_ok-pruned.ensures) (pruned_by c.args.graph c.in_ok-live.live (graph_then c) c.in_ok-live.ensures.live)
+exact_then c = subst (IsPruned c.args.graph) (sym c.in_ok-pruned.ensures) (flagged_prunes c.args.graph c.as_slice-flags.result.now (subst (TellDead c.args.graph) (sym c.as_slice-flags.ensures.value) c.in_ok-dead.ensures))
 
 pub returns-in_ok-pruned-clause-exact : goal.returns-in_ok-pruned-clause-exact
 returns-in_ok-pruned-clause-exact c = exact_then (goal.at.returns-in_ok-pruned-clause-exact c).In_ok-pruned
@@ -48,12 +43,10 @@ returns-in_ok-pruned-clause-no_more c = let here = (goal.at.returns-in_ok-pruned
 -- ---- where none is
 
 graph_else : (c : Else-has_dead) → IsGraph c.args.graph.vars c.args.graph.received c.args.graph.nodes
-graph_else c = graph_of c.args.graph c.nodes.result.now c.nodes.ensures.value c.nodes.ensures.graph
+graph_else c = graph_of c.args.graph c.nodes-nodes.result.now c.nodes-nodes.ensures.value c.nodes-nodes.ensures.graph
 
 exact_else : (c : Else-has_dead) → IsPruned c.args.graph c.args.graph
-exact_else c =
-    pruned_itself c.args.graph c.in_ok-live.live (graph_else c) c.in_ok-live.ensures.live
-    (λ n lt. subst (λ (l : List Node). is_dead_at c.in_ok-live.live l n ≡ false) c.nodes.ensures.value (c.has_dead.ensures.0 c.if-has_dead.false n (subst (λ (l : List Node). n < length l) (sym c.nodes.ensures.value) lt)))
+exact_else c = flagged_itself c.args.graph c.as_slice-flags.result.now (subst (TellDead c.args.graph) (sym c.as_slice-flags.ensures.value) c.in_ok-dead.ensures) (c.has_dead.ensures.0 c.if-has_dead.false)
 
 pub returns-else-has_dead-clause-exact : goal.returns-else-has_dead-clause-exact
 returns-else-has_dead-clause-exact c = exact_else (goal.at.returns-else-has_dead-clause-exact c).Else-has_dead

@@ -1,40 +1,44 @@
-use Rattle.std.proofs.Common.{◌≡◌, ◌∙◌, ◌+◌, ◌++◌, suc, List, Some, drop, drop-cons, length, slice_get, take, ap, sym, arith}
+use Rattle.std.proofs.Common.{◌≡◌, ◌∙◌, ◌+◌, ◌++◌, ◌<◌, suc, List, Some, IsTrue, true, drop, length, refl, slice_get, take, ap, subst, sym, arith}
 use Rattle.std.proofs.lemmas.List.{length-take-le}
 use Rattle.std.proofs.lemmas.Option.{slice_get-get_or}
 use Rattle.flow_graph.specs.declared.nodes.Node.{Node}
-use Rattle.graph_edit.specs.Editing.{change_at}
 use Rattle.flow_graph.specs.Graphs.{GraphShape}
-use Rattle.flow_graph.specs.ListLaws.{get_right_at}
-use Rattle.sink_dead.specs.LiveRows.{is_dead_at, is_dead_node}
+use Rattle.flow_graph.specs.ListLaws.{drop_next, get_right_at, some_at}
+use Rattle.graph_edit.specs.Editing.{change_at, is_assignment}
+use Rattle.sink_dead.specs.Dead.{flag_at}
 use Rattle.sink_dead.specs.Pruned.{pruned_from, removed_if}
-use Rattle.sink_dead.proofs.PrunedBy.{pruned_length, removed_next}
 use Rattle.sink_dead.proofs.Edited.{only_nodes_on}
+use Rattle.sink_dead.proofs.Flagged.{pruned_length, removed_next}
 use Rattle.sink_dead.proofs.pruning.remove_dead.Goals as goal
 
-pub remove_if_dead-requires-clause-node : goal.remove_if_dead-requires-clause-node
-remove_if_dead-requires-clause-node c =
-    let nodes = c.args.nodes.now in
+pub remove_if-requires : goal.remove_if-requires
+remove_if-requires c = λ on.
+    let nodes = c.args.editor.now.graph.nodes in
+    let dead = c.args.dead.now in
     let n = c.loop-n.n in
-    let node = c.index-nodes-n.result in
-    let front = pruned_from (is_dead_at c.args.live.now nodes) 0 (take n nodes) in
-    let long : n ≡ length front + 0 = omega (arith, pruned_length (is_dead_at c.args.live.now nodes) 0 (take n nodes), length-take-le n nodes (omega (arith, c.loop-n-test.true))) in
-    ap (λ (l : List Node). slice_get l n) c.loop-n.invariant.nodes ∙ get_right_at front (drop n nodes) n 0 long
-    ∙ ap (λ (l : List Node). slice_get l 0) (drop-cons nodes n node c.loop-n-test.true) ∙ ap Some (sym c.index-nodes-n.is)
+    let tells = c.requires in
+    let d = (tells.are n true (slice_get-get_or dead n _ c.loop-n-test.true ∙ ap Some on)).0 refl in
+    let within : n < length nodes = (let long = tells.long in omega (arith, long, c.loop-n-test.true)) in
+    let front = pruned_from (flag_at dead) 0 (take n nodes) in
+    let long : n ≡ length front + 0 = omega (arith, pruned_length (flag_at dead) 0 (take n nodes), length-take-le n nodes (omega (arith, within))) in
+    let node = some_at nodes n within in
+    let here = get_right_at front (drop n nodes) n 0 long ∙ ap (λ (l : List Node). slice_get l 0) (drop_next nodes n node.0 node.1) ∙ sym node.1 in
+    subst (λ o. IsTrue (is_assignment o)) (sym (ap (λ (l : List Node). slice_get l n) c.loop-n.invariant.nodes ∙ here ∙ d.is)) refl
 
 pub loop-n-preserved : goal.loop-n-preserved
 loop-n-preserved c =
-    let live = c.args.live.now in
-    let nodes = c.args.nodes.now in
+    let dead = c.args.dead.now in
+    let nodes = c.args.editor.now.graph.nodes in
     let n = c.loop-n.n in
-    let node = c.index-nodes-n.result in
-    let at = slice_get-get_or nodes n node c.loop-n-test.true ∙ ap Some (sym c.index-nodes-n.is) in
+    let long = c.requires.long in
+    let node = some_at nodes n (omega (arith, long, c.loop-n-test.true)) in
     let inv = c.loop-n.invariant in
-    let graph = c.remove_if_dead.ensures in
+    let graph = c.remove_if.ensures in
     let one : suc n ≡ n + 1 = omega arith in
     record {
-      only = only_nodes_on c.args.editor.now.graph c.loop-n.editor.graph c.remove_if_dead.new.editor.graph _ graph inv.only;
+      only = only_nodes_on c.args.editor.now.graph c.loop-n.editor.graph c.remove_if.new.editor.graph _ graph inv.only;
       nodes = ap (λ (g : GraphShape). g.nodes) graph
-          ∙ ap (change_at n (removed_if (is_dead_node live (Some node)))) inv.nodes
-          ∙ removed_next (is_dead_at live nodes) 0 nodes n node (is_dead_node live (Some node)) at (ap (is_dead_node live) (sym at) ∙ ap (is_dead_at live nodes) (omega arith))
-          ∙ ap (λ k. pruned_from (is_dead_at live nodes) 0 (take k nodes) ++ drop k nodes) one;
+          ∙ ap (change_at n (removed_if (flag_at dead n))) inv.nodes
+          ∙ removed_next (flag_at dead) 0 nodes n node.0 (flag_at dead n) node.1 (ap (flag_at dead) (omega arith))
+          ∙ ap (λ k. pruned_from (flag_at dead) 0 (take k nodes) ++ drop k nodes) one;
     }

@@ -1,0 +1,16 @@
+use Rattle.std.proofs.Common.{◌≡◌, ◌-◌, ◌≤◌, List, Bool, length, suc}
+use Rattle.bit_rows.specs.Bits.{row_of}
+use Rattle.sink_dead.specs.declared.inserting.Put.{Put}
+use Rattle.sink_dead.specs.Heads.{AreHeadDone, AreHeadsDone}
+use Rattle.sink_dead.specs.Over.{HaveShapeOver}
+use Rattle.sink_dead.proofs.heads.settle_all.Given as goal
+
+abbrev pub invariant-loop-from : goal.invariant-loop-from
+invariant-loop-from l = record {
+  within : l.from ≤ length l.row;
+  shape : HaveShapeOver l.over l.leaves;
+  done : (into rows : List (List Bool)) (begun : List Put) → row_of into l.block ≡ l.row → AreHeadsDone l.over into rows begun (suc l.block) l.initial.leaves l.initial.puts.items → AreHeadDone l.over into rows begun l.block l.from l.leaves l.puts.items;
+}
+
+abbrev pub decreases-loop-from : goal.decreases-loop-from
+decreases-loop-from l = length l.row - l.from
