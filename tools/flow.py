@@ -1,8 +1,13 @@
 """The control flow of a unit, by instructions and by basic blocks, and its picture in Graphviz's language."""
 
+import html
 from typing import Iterator, NamedTuple
 
 from mir_text import Goto, If, Receive, Return, Unit, instruction_text, variables_in
+
+
+# The ground of a marked line, in Graphviz's language.
+MARK = ' BGCOLOR="#ffe9a8"'
 
 
 class Edge(NamedTuple):
@@ -114,25 +119,33 @@ def quoted(text: str) -> str:
     return '"' + text.replace('\\', '\\\\').replace('"', '\\"') + '"'
 
 
-def label_of(unit: Unit, block: Block) -> str:
-    """The lines of a block, each set to the left, as a string of Graphviz's language."""
+def lines_of(unit: Unit, block: Block) -> list[str]:
+    """The lines of a block, with their labels."""
     names = {place: name for name, place in reversed(list(unit.labels.items()))}
-    lines = [f'{names[place]}: {text_at(unit, place)}' if place in names else text_at(unit, place)
-             for place in range(block.first, block.end)]
-    return quoted('\n'.join(lines) + '\n').replace('\n', '\\l')
+    return [f'{names[place]}: {text_at(unit, place)}' if place in names else text_at(unit, place)
+            for place in range(block.first, block.end)]
+
+
+def label_of(unit: Unit, block: Block, marked: frozenset) -> str:
+    """The lines of a block, each set to the left, in Graphviz's language; those of marked places on a ground of their
+    own."""
+    lines = lines_of(unit, block)
+    if not marked & set(range(block.first, block.end)):
+        return quoted('\n'.join(lines) + '\n').replace('\n', '\\l')
+    rows = ''.join(f'<TR><TD ALIGN="LEFT"{MARK if place in marked else ""}>{html.escape(line)}</TD></TR>'
+                   for place, line in enumerate(lines, block.first))
+    return f'<<TABLE BORDER="0" CELLBORDER="0" CELLSPACING="0" CELLPADDING="1">{rows}</TABLE>>'
 
 
 def picture(unit: Unit, parts: list[Block], marked: frozenset = frozenset(), names: frozenset = frozenset()) -> str:
     """The control-flow graph of a unit in Graphviz's language.
 
-    Marked blocks have the class `changed`, and edges on which some of the named variables live the class `held`, with
-    the names.
+    The lines of marked places have a ground of their own, and edges on which some of the named variables live the class
+    `held`, with the names.
     """
     lines = [f'digraph {quoted(unit.name)} {{', '  node [shape=box, fontname="monospace", margin="0.12,0.06"];',
              '  edge [fontname="monospace"];']
-    for at, block in enumerate(parts):
-        kind = ', class="changed", style=filled, fillcolor="#ffe9a8"' if at in marked else ''
-        lines.append(f'  b{at} [label={label_of(unit, block)}{kind}];')
+    lines += [f'  b{at} [label={label_of(unit, block, marked)}];' for at, block in enumerate(parts)]
     for edge, held in zip(block_edges(unit, parts), live_edges(unit, parts, names)):
         words = [edge.label] * bool(edge.label) + sorted(held)
         kind = ', class="held", penwidth=2.5' if held else ''

@@ -38,3 +38,12 @@ pub fn copies(alloc: Global, graph: &Graph) -> Result<Graph, Memory>
     let copied = graph.with_nodes(alloc, nodes)?;
     Ok(copied)
 }
+
+/// Has no effect; carries the theorem that the copied graph of a split graph, whoever made it, is split.
+pub fn copied_splits(graph: &Graph, copied: &Graph)
+    requires { IsCopied graph.now copied.now }
+    ensures { StaysSplit graph.now copied.now }
+{
+    let _ = graph;
+    let _ = copied;
+}

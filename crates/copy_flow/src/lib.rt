@@ -18,6 +18,6 @@ mod rereading;
 mod rows;
 mod table;
 
-pub use copying::copies;
+pub use copying::{copied_splits, copies};
 pub use held::HeldCopies;
 pub use table::VarCopy;

@@ -10,37 +10,15 @@ ghost use Rattle.std.specs.Prelude.{◌≡◌, ◌≢◌, ◌≤◌, None};
 ghost use Rattle.mir_top.specs.Commands.{command_of, word_bytes};
 ghost use Rattle.mir_top.specs.Promises.{IsStatusOfCall};
 
-use mir_outside::{StdSink, StdSource};
+use mir_outside::{StdSink, StdSource, status_without_words, words};
 use mir_top::top;
-use std::io::ErrorKind;
 use std::process::ExitCode;
-use std::{env, io};
 
 /// Ends with the status of the call with the words of the command line.
 fn main(rt: HostRuntime) -> ExitCode {
     match words(&rt) {
         Ok(words) => ExitCode::from(status(&rt, &words)),
         Err(refused) => ExitCode::from(status_without_words(refused.kind())),
-    }
-}
-
-/// The words after the program's name.
-fn words(rt: &HostRuntime) -> io::Result<Vec<String>> {
-    let mut words = Vec::new(rt.alloc());
-    for word in env::args(rt)?.skip(1) {
-        words.push(word)?;
-    }
-    Ok(words)
-}
-
-/// The status where the words cannot be got: 8 if memory ran out, and otherwise 1.
-fn status_without_words(kind: ErrorKind) -> u8
-    ensures memory { kind ≡ ErrorKind.OutOfMemory → result ≡ 8 }
-    ensures other { kind ≢ ErrorKind.OutOfMemory → result ≡ 1 }
-{
-    match kind {
-        ErrorKind::OutOfMemory => 8,
-        _ => 1,
     }
 }
 

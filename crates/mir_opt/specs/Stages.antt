@@ -1,6 +1,6 @@
 -- The graphs of the stages of a unit, and that each of them keeps the unit; and what a program keeps of another. Cited
 -- by contracts.
-use Rattle.std.specs.Prelude.{ℕ, zero, suc, max, List, [], ◌∷◌, ◌++◌, fold, length}
+use Rattle.std.specs.Prelude.{ℕ, zero, suc, max, List, [], ◌∷◌, ◌++◌, codes, decimal, fold, length}
 use Rattle.std.specs.List.{AllZip}
 use Rattle.mir_base.specs.Runs.{Cheaper, Same}
 use Rattle.mir_base.specs.Shapes.{ProgramShape, UnitShape}
@@ -35,6 +35,19 @@ graph_at unit Motion = unit.moved
 graph_at unit CopiesAfterMotion = unit.recopied
 graph_at unit (Round count) = after_rounds unit.recopied unit.sunk.rounds count
 graph_at unit Result = unit.swept
+
+-- the name of a stage
+abbrev pub stage_name : Stage → List ℕ
+stage_name Lower = codes "lower"
+stage_name Clean = codes "clean"
+stage_name Fold = codes "fold"
+stage_name Number = codes "number"
+stage_name Copies = codes "copies"
+stage_name Split = codes "split"
+stage_name Motion = codes "motion"
+stage_name CopiesAfterMotion = codes "copies after motion"
+stage_name (Round count) = codes "round " ++ decimal count
+stage_name Result = codes "result"
 
 -- the greatest number of rounds that any of these units had
 abbrev pub longest_rounds : List UnitTrail → ℕ

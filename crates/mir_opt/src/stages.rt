@@ -1,10 +1,12 @@
 // The stages of the passes, and the graph of a unit at each.
 ghost use Rattle.std.specs.Prelude.{◌≡◌, ◌++◌, IfOk, OnOk};
+ghost use Rattle.mir_base.specs.Appending.{AppendsOnOk};
 ghost use Rattle.sink_dead.specs.RoundGraphs.{last_round};
-ghost use Rattle.mir_opt.specs.Stages.{after_rounds, first_rounds, graph_at, longest_rounds, move_graph_at, stages_in};
+ghost use Rattle.mir_opt.specs.Stages.{after_rounds, first_rounds, graph_at, longest_rounds, move_graph_at, stage_name, stages_in};
 
 use crate::{MoveUnit, Trail, UnitTrail};
 use flow_graph::Graph;
+use itoa::Buffer;
 use mir_base::Memory;
 use std::alloc::Global;
 
@@ -89,6 +91,30 @@ pub enum MoveStage {
     Motion,
     /// Its jumps are cleaned again.
     Result,
+}
+
+impl Stage {
+    /// Appends the name of the stage. It fails only with `Memory`.
+    pub fn put_name(self, text: &mut Vec<u8>) -> Result<(), Memory>
+        ensures { AppendsOnOk result text.old text.new (stage_name self) }
+    {
+        match self {
+            Stage::Lower => text.extend_from_slice(b"lower"),
+            Stage::Clean => text.extend_from_slice(b"clean"),
+            Stage::Fold => text.extend_from_slice(b"fold"),
+            Stage::Number => text.extend_from_slice(b"number"),
+            Stage::Copies => text.extend_from_slice(b"copies"),
+            Stage::Split => text.extend_from_slice(b"split"),
+            Stage::Motion => text.extend_from_slice(b"motion"),
+            Stage::CopiesAfterMotion => text.extend_from_slice(b"copies after motion"),
+            Stage::Round(count) => {
+                let mut buffer = Buffer::new();
+                text.extend_from_slice(b"round ")?;
+                text.extend_from_slice(buffer.format(count).as_bytes())
+            }
+            Stage::Result => text.extend_from_slice(b"result"),
+        }
+    }
 }
 
 impl UnitTrail {

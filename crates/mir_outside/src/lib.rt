@@ -1,4 +1,4 @@
-//! The outside of the program: where its bytes come from, and where they go.
+//! The outside of the program: where its bytes and words come from, and where its bytes go.
 //!
 //! Bytes come in by a `Source` and go out by a `Sink`. A device outside may fail at any call, so each keeps a count of
 //! its faults: `Failed` is returned only where that count rose in the call, or has saturated. `StdSource` and `StdSink`
@@ -11,12 +11,14 @@
 //! a prefix of those that there were, and no more than one byte beyond the limit is taken.
 #![tactic(auto)]
 
+mod command_line;
 mod faultless;
 mod memory;
 mod sink;
 mod source;
 mod transfer;
 
+pub use command_line::{status_without_words, words};
 pub use faultless::{FaultlessSink, FaultlessSource};
 pub use memory::{MemSink, MemSource};
 pub use sink::{Sink, StdSink};

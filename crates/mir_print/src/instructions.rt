@@ -77,7 +77,7 @@ pub fn put_inst(text: &mut Vec<u8>, scope: &Scope, inst: &Inst) -> Result<(), Me
 }
 
 /// A call, with the variable for its result where there is one.
-fn put_call(
+pub fn put_call(
     text: &mut Vec<u8>,
     scope: &Scope,
     into: &Option<usize>,

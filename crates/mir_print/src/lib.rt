@@ -17,9 +17,10 @@ mod scope;
 mod sides;
 mod well_typed;
 
+pub use operands::put_number;
 pub use printing::print;
 pub use reading_back::text_is_read_back;
-pub use sides::put_side;
+pub use sides::{put_call_among, put_side, put_test_with};
 
 /// There is not enough memory: the allocator refused.
 pub type Memory = std::alloc::AllocError;

@@ -10,8 +10,8 @@ use Rattle.mir_opt.specs.declared.stages.Stage.{Stage}
 use Rattle.mir_opt.specs.declared.trails.Trail.{Trail}
 use Rattle.mir_opt.specs.declared.trails.UnitTrail.{UnitTrail}
 use Rattle.mir_opt.specs.OneLaws.{zip_is_one}
-use Rattle.mir_opt.specs.Stages.{graph_at, stages_in}
-use Rattle.mir_top.specs.StageTexts.{IsProgramAt, ShowsInTurn, ShowsStages, stage_name, title}
+use Rattle.mir_opt.specs.Stages.{graph_at, stage_name, stages_in}
+use Rattle.mir_top.specs.StageTexts.{IsProgramAt, ShowsInTurn, ShowsStages, title}
 
 -- ---- one text
 

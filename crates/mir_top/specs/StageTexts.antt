@@ -1,28 +1,14 @@
 -- The texts of the stages of a trail. Cited by contracts.
-use Rattle.std.specs.Prelude.{ℕ, ◌≡◌, List, [], ◌∷◌, ◌++◌, codes, decimal, Vec}
+use Rattle.std.specs.Prelude.{ℕ, ◌≡◌, List, [], ◌∷◌, ◌++◌, codes, Vec}
 use Rattle.mir_base.specs.Shapes.{IsProgram, ProgramShape}
 use Rattle.mir_base.specs.Text.{canonical_text}
 use Rattle.mir_opt.specs.declared.stages.Stage.{Stage}
-use Rattle.mir_opt.specs.declared.stages.Stage.TheVariants.{Lower, Clean, Fold, Number, Copies, Split, Motion, CopiesAfterMotion, Round, Result}
 use Rattle.mir_opt.specs.declared.trails.Trail.{Trail}
-use Rattle.mir_opt.specs.Stages.{AreLaid, KeepsProgram, graph_at, stages_in}
+use Rattle.mir_opt.specs.Stages.{AreLaid, KeepsProgram, graph_at, stage_name, stages_in}
 
 -- the line with this name, a comment of the language
 abbrev pub title : List ℕ → List ℕ
 title name = codes "|| " ++ name ++ codes "\n"
-
--- the name of a stage
-abbrev pub stage_name : Stage → List ℕ
-stage_name Lower = codes "lower"
-stage_name Clean = codes "clean"
-stage_name Fold = codes "fold"
-stage_name Number = codes "number"
-stage_name Copies = codes "copies"
-stage_name Split = codes "split"
-stage_name Motion = codes "motion"
-stage_name CopiesAfterMotion = codes "copies after motion"
-stage_name (Round count) = codes "round " ++ decimal count
-stage_name Result = codes "result"
 
 -- the program with the globals of the source whose units are the layouts of the graphs of a stage: it is a program, and
 -- keeps what the source is and does

@@ -1,5 +1,6 @@
--- What a call did to a source or a sink. Cited by contracts.
+-- What a call did to a source or a sink. Cited by contracts. The last one is a law, cited by proofs alone.
 use Rattle.std.specs.Prelude.{ℕ, ◌≡◌, ◌⊎◌, List, Option}
+use Rattle.std.proofs.Common.{inl, inr, arith}
 use Rattle.std.specs.Io.KnownBytes.{Appends, Consumes, IsAtEnd}
 use Rattle.mir_outside.specs.Causes.{Rose}
 use Rattle.mir_outside.specs.Transfer.{AppendsPart}
@@ -51,3 +52,10 @@ GavePart stream bytes = HasFailed stream × AppendsPart stream.old stream.new by
 -- these bytes were appended to a sink, or a proper prefix of them where it failed
 abbrev pub Tried : Stream → List ℕ → Type 0
 Tried stream bytes = Gave stream bytes ⊎ GavePart stream bytes
+
+-- ---- faults
+
+-- a stream in which no fault occurs has not failed: a count that is always 0 neither rises nor is saturated
+pub never_failed : (old new : Option (List ℕ)) → HasFailed (without_fault old new) → ⊥
+never_failed old new (inl above) = omega arith
+never_failed old new (inr last) = omega arith

@@ -14,9 +14,10 @@ use mir_outside::{Sink, Source, write_all};
 use std::alloc::Global;
 
 /// Does what the words ask: `optimise` writes the canonical text of the target of the program that is read, `stages`
-/// that of the program at each stage, `move` that of the target of code motion alone, `run STEPS [N ..]` the report of
-/// its run, and `trial NUMBER UNITS` the summary of a program that the numbers draw. The text comes from the source,
-/// the output goes to `out`, and where this fails one line goes to `err`.
+/// that of the program at each stage, `move`, `divisions`, `tails` and `join` that of the target of code motion, of the
+/// motion of divisions, of tails as loops and of joined leaves, `ranges` where the temporaries of `move` live,
+/// `run STEPS [N ..]` the report of its run, and `trial NUMBER UNITS` the summary of a program that the numbers draw.
+/// The text comes from the source, the output goes to `out`, and where this fails one line goes to `err`.
 ///
 /// The words are judged before anything is read, the text before anything is made of its program, and all of the output
 /// is made before anything is written. What is read and made does not see `out` and `err`, and what writes is given the

@@ -35,11 +35,21 @@ pub(crate) fn complain<E: Sink>(cause: &Cause, err: &mut E) -> u8
 }
 
 /// Writes the line that says that a write failed, and returns the status. It does not allocate.
-pub(crate) fn complain_of_write<E: Sink>(err: &mut E) -> u8
+pub fn complain_of_write<E: Sink>(err: &mut E) -> u8
     ensures status { result ≡ write_fault.status }
     ensures told { Tried (stream_of E.written E.faults err.old err.new) write_fault.line }
 {
     let complaint = plain(7, b"write fault\n");
+    write_line(complaint, err);
+    complaint.status
+}
+
+/// Writes the line that says that memory ran out, and returns the status. It does not allocate.
+pub fn complain_of_memory<E: Sink>(err: &mut E) -> u8
+    ensures status { result ≡ out_of_memory.status }
+    ensures told { Tried (stream_of E.written E.faults err.old err.new) out_of_memory.line }
+{
+    let complaint = out_of_memory();
     write_line(complaint, err);
     complaint.status
 }

@@ -45,6 +45,7 @@ mod work;
 pub use call::top;
 pub use cause::Cause;
 pub use command::Command;
+pub use complaint::{complain_of_memory, complain_of_write};
 pub use ending::Ending;
 pub use faultless::faultless_top;
 pub use laws::{one_thing_is_due, text_has_one_reading};

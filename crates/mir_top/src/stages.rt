@@ -2,10 +2,9 @@
 ghost use Rattle.std.specs.Prelude.{◌++◌, codes, IfOk, OnOk};
 ghost use Rattle.mir_base.specs.Appending.{AppendsOnOk};
 ghost use Rattle.mir_base.specs.Text.{canonical_text};
-ghost use Rattle.mir_opt.specs.Stages.{AllKeep, graph_at};
-ghost use Rattle.mir_top.specs.StageTexts.{AppendsStage, AppendsStages, ShowsStages, stage_name, title};
+ghost use Rattle.mir_opt.specs.Stages.{AllKeep, graph_at, stage_name};
+ghost use Rattle.mir_top.specs.StageTexts.{AppendsStage, AppendsStages, ShowsStages, title};
 
-use itoa::Buffer;
 use mir_base::{Memory, Program};
 use mir_opt::{Stage, Trail, stage_program, stages_of};
 use mir_print::print;
@@ -67,30 +66,8 @@ fn put_title(text: &mut Vec<u8>, stage: Stage) -> Result<(), Memory>
     ensures { AppendsOnOk result text.old text.new (title (stage_name stage)) }
 {
     text.extend_from_slice(b"|| ")?;
-    put_name(text, stage)?;
+    stage.put_name(text)?;
     text.extend_from_slice(b"\n")
-}
-
-/// Appends the name of a stage.
-fn put_name(text: &mut Vec<u8>, stage: Stage) -> Result<(), Memory>
-    ensures { AppendsOnOk result text.old text.new (stage_name stage) }
-{
-    match stage {
-        Stage::Lower => text.extend_from_slice(b"lower"),
-        Stage::Clean => text.extend_from_slice(b"clean"),
-        Stage::Fold => text.extend_from_slice(b"fold"),
-        Stage::Number => text.extend_from_slice(b"number"),
-        Stage::Copies => text.extend_from_slice(b"copies"),
-        Stage::Split => text.extend_from_slice(b"split"),
-        Stage::Motion => text.extend_from_slice(b"motion"),
-        Stage::CopiesAfterMotion => text.extend_from_slice(b"copies after motion"),
-        Stage::Round(count) => {
-            let mut buffer = Buffer::new();
-            text.extend_from_slice(b"round ")?;
-            text.extend_from_slice(buffer.format(count).as_bytes())
-        }
-        Stage::Result => text.extend_from_slice(b"result"),
-    }
 }
 
 /// Appends the canonical text of a program.

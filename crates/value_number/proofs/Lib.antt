@@ -6,6 +6,8 @@ pub mod Covers
 pub mod Holders
 pub mod TermWalks
 pub mod Unvisited
+pub mod KeptTerms
+pub mod TrueNumbers
 pub mod Weights
 pub mod Undoing
 pub mod Pushes

@@ -4,8 +4,10 @@ pub mod Numbered
 pub mod Table
 pub mod NodeTerms
 pub mod OneValue
+pub mod AllTerms
 pub mod SameTerms
 pub mod Candidates
 pub mod TermWalks
+pub mod KeptTerms
 pub mod RootLaws
 pub mod NumberedLaws

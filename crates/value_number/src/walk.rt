@@ -6,6 +6,7 @@ ghost use Rattle.flow_graph.specs.Graphs.{node_vars};
 ghost use Rattle.value_number.specs.declared.walk.Step.TheVariants.{Visit};
 ghost use Rattle.value_number.specs.NodeTerms.{AreTermsBefore};
 ghost use Rattle.value_number.specs.Roots.{is_root};
+ghost use Rattle.value_number.specs.Table.{Stay};
 ghost use Rattle.value_number.specs.TermWalks.{AreHolders, AreRoots, NewTermWithin, Passes, Renews, RenewsGlobals, RenewsOne, VisitRoots, GoesOver, IsNoVisit, IsUnvisited, LeavesUnvisited, changed_numbers, listed_after, steps_after, undoing, weight_left, where_any, with_root};
 
 use crate::finding::{NewTerm, find};
@@ -170,7 +171,7 @@ impl Walk {
     }
 
     /// Takes a step, which was the last.
-    fn take(&mut self, graph: &Graph, step: Step) -> Result<(), Memory>
+    pub(crate) fn take(&mut self, graph: &Graph, step: Step) -> Result<(), Memory>
         requires walks { GoesOver graph.now self.old (self.old.steps.items ++ step ∷ []) }
         ensures walks { OnOk result (GoesOver graph.now self.new self.new.steps.items) }
         ensures lighter { OnOk result
@@ -179,6 +180,7 @@ impl Walk {
             (self.old.steps.items ++ step ∷ [])) }
         ensures unvisited { OnOk result (LeavesUnvisited step self.old.listed.items
             self.old.steps.items self.new.listed.items self.new.steps.items) }
+        ensures stay { OnOk result (Stay self.old.table self.new.table) }
     {
         match step {
             Step::Visit(node, root) => self.visit(graph, node, root),
@@ -199,6 +201,7 @@ impl Walk {
             (self.old.steps.items ++ Visit n root ∷ [])) }
         ensures unvisited { OnOk result (LeavesUnvisited (Visit n root) self.old.listed.items
             self.old.steps.items self.new.listed.items self.new.steps.items) }
+        ensures stay { OnOk result (Stay self.old.table self.new.table) }
     {
         let _nodes = graph.nodes();
         let node = graph.node(n);

@@ -2,7 +2,8 @@ use Rattle.std.proofs.Common.{◌++◌, get_or, ◌∙◌, ap, append_assoc, Lis
 use Rattle.std.proofs.lemmas.Option.{slice_get-get_or}
 use Rattle.mir_base.specs.Text.{canonical_text}
 use Rattle.mir_opt.specs.declared.stages.Stage.TheVariants.{Lower}
-use Rattle.mir_top.specs.StageTexts.{stage_name, title}
+use Rattle.mir_opt.specs.Stages.{stage_name}
+use Rattle.mir_top.specs.StageTexts.{title}
 use Rattle.mir_top.proofs.ShownLaws.{next_shown}
 use Rattle.mir_top.proofs.stages.put_stages.Goals as goal
 

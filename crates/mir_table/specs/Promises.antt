@@ -1,0 +1,103 @@
+-- What `tables` promises of every call. Cited by contracts.
+use Rattle.std.specs.Prelude.{◌≡◌, ◌≢◌, ◌+◌, ◌≤◌, ℕ, List, [], ◌∷◌, codes, Contains, Some}
+use Rattle.mir_base.specs.Limits.{most_bytes}
+use Rattle.mir_base.specs.Shapes.{ProgramShape}
+use Rattle.mir_outside.specs.Transfer.{TakesAtMost}
+use Rattle.mir_opt.specs.declared.trails.Trail.{Trail}
+use Rattle.mir_top.specs.declared.command.Command.TheVariants.{Optimise}
+use Rattle.mir_top.specs.Commands.{command_of}
+use Rattle.mir_top.specs.Complaints.{Complaint, out_of_memory, read_fault, write_fault}
+use Rattle.mir_top.specs.Due.{IsRefused, IsShortTextOf}
+use Rattle.mir_top.specs.Outputs.{Optimises}
+use Rattle.mir_top.specs.Streams.{Gave, GavePart, HasFailed, Stream, Took, TookAll, Tried, Untouched}
+use Rattle.pass_table.specs.Trails.{ShowsTables}
+
+-- what a call did to its source and its outputs, and its status
+pub record TableCall : Type 0 where
+  pub source : Stream
+  pub out : Stream
+  pub err : Stream
+  pub status : ℕ
+
+-- these words ask `mir` for the target of all passes
+abbrev pub AsksOptimise : List (List ℕ) → Type 0
+AsksOptimise words = command_of words ≡ Some Optimise
+
+-- ---- complaints
+
+-- how the program is called
+abbrev pub table_usage : Complaint
+table_usage = record { status = 1; line = codes "usage: mir_tables\n" }
+
+-- the call ended with this complaint
+pub record EndedBy (status : ℕ) (err : Stream) (complaint : Complaint) : Type 0 where
+  pub status_is : status ≡ complaint.status
+  pub told : Tried err complaint.line
+
+-- ---- what was written
+
+-- of a trail the text of the tables was written, whole and nothing else; or a write of it failed, and so it was told;
+-- or memory ran out before anything was written, and so it was told
+pub data HasWritten (trail : Trail) (out err : Stream) (status : ℕ) : Type 0 where
+  written_whole : (text : List ℕ) → ShowsTables trail text → Gave out text → Untouched err → status ≡ 0
+      → HasWritten trail out err status
+  written_in_part : (text : List ℕ) → ShowsTables trail text → GavePart out text → EndedBy status err write_fault
+      → HasWritten trail out err status
+  not_written : Untouched out → EndedBy status err out_of_memory → HasWritten trail out err status
+
+-- the source was read to its end, what was read is the text of a program, this trail is the linked one of it, and of it
+-- this was written
+pub record HasTables (call : TableCall) : Type 0 where
+  pub text : List ℕ
+  pub trail : Trail
+  pub read : TookAll call.source text
+  pub is_text : IsShortTextOf text trail.source
+  pub optimises : Optimises trail
+  pub written : HasWritten trail call.out call.err call.status
+
+-- a part of the source was read, or all of it, which is the text of no program, and so it was told
+pub record HasRefusedText (call : TableCall) : Type 0 where
+  pub text : List ℕ
+  pub complaint : Complaint
+  pub read : Took call.source text
+  pub refused : IsRefused text complaint
+  pub ended : EndedBy call.status call.err complaint
+
+-- ---- the promises
+
+-- what happened in a call that asks for the tables of the text: they were written or could not be, or the text is of no
+-- program, or the source failed, or memory ran out
+pub data CallEnded (call : TableCall) : Type 0 where
+  tables_written : HasTables call → CallEnded call
+  text_refused : HasRefusedText call → Untouched call.out → CallEnded call
+  source_failed : HasFailed call.source → EndedBy call.status call.err read_fault → Untouched call.out → CallEnded call
+  memory_failed : EndedBy call.status call.err out_of_memory → Untouched call.out → CallEnded call
+
+-- the text is the whole of the source, whose bytes can be observed
+abbrev pub SourceHas : TableCall → List ℕ → Type 0
+SourceHas call text = call.source.old ≡ Some text
+
+-- all that holds of a call that asks for the tables of the text
+pub record TextPromises (call : TableCall) : Type 0 where
+  pub most : TakesAtMost call.source.old call.source.new (most_bytes + 1)
+  pub ended : CallEnded call
+  -- Where the text is that of a program, its tables are written, unless a device fails or memory runs out.
+  pub complete : (text : List ℕ) (program : ProgramShape) → SourceHas call text → IsShortTextOf text program
+      → Contains (0 ∷ 6 ∷ 7 ∷ 8 ∷ []) call.status
+  -- Where it is of no program, it is refused, unless the device fails or memory runs out.
+  pub refuses : (text : List ℕ) (complaint : Complaint) → SourceHas call text → IsRefused text complaint
+      → Contains (complaint.status ∷ 6 ∷ 8 ∷ []) call.status
+  pub statuses : call.status ≤ 8
+
+-- all that holds of a call with these words, whatever its source and sinks
+pub record TablePromises (words : List (List ℕ)) (call : TableCall) : Type 0 where
+  pub text : words ≡ [] → TextPromises call
+  -- With words nothing is read and nothing written but how the program is called.
+  pub usage : words ≢ [] → EndedBy call.status call.err table_usage × Untouched call.source
+      × Untouched call.out
+  pub statuses : call.status ≤ 8
+
+-- a call with these words, of which all this holds, ended with this status
+abbrev pub IsStatusOfTables : List (List ℕ) → ℕ → Type 0
+IsStatusOfTables words status =
+    (call : TableCall) × TablePromises words call × (call.status ≡ status)

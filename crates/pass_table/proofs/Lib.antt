@@ -1,0 +1,6 @@
+mod BitLaws
+mod InsertionLaws
+mod MotionBits
+mod RoundLaws
+mod TrailLaws
+mod TurnLaws

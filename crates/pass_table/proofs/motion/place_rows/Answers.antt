@@ -1,0 +1,4 @@
+use Rattle.pass_table.proofs.motion.place_rows.Goals as goal
+
+pub returns : goal.returns
+returns c = record { busy_are = c.in_ok-busy.ensures; late_are = c.in_ok-late.ensures }

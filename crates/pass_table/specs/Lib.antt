@@ -1,0 +1,9 @@
+pub mod Copies
+pub mod Motion
+pub mod Patterns
+pub mod Rounds
+pub mod Stages
+pub mod States
+pub mod Terms
+pub mod Trails
+pub mod Units

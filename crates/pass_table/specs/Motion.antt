@@ -1,0 +1,134 @@
+-- The lines of what code motion finds out. Cited by contracts.
+use Rattle.std.specs.Prelude.{◌≡◌, ℕ, zero, suc, Bool, if◌then◌else◌, List, [], ◌++◌, codes, decimal, length, slice_get, slice_index_or, Option, Some, None}
+use Rattle.mir_base.specs.declared.instructions.Expr.{Expr}
+use Rattle.mir_base.specs.ExpressionVars.{rhs_of}
+use Rattle.mir_base.specs.Text.{rhs_text}
+use Rattle.mir_print.specs.Sides.{naming_with}
+use Rattle.motion_rewrite.specs.declared.placement.Placement.{Placement}
+use Rattle.motion_rewrite.specs.Expressions.{kills}
+use Rattle.motion_rewrite.specs.Placements.{IsAnticipatable}
+use Rattle.motion_rewrite.specs.Rows.{AreRowsOf}
+use Rattle.motion_rewrite.specs.Temporaries.{has_insertion, temporary}
+use Rattle.down_safe.specs.declared.safety.Busy.{Busy}
+use Rattle.down_safe.specs.Busy.{AreBusyRows}
+use Rattle.latest_place.specs.declared.delays.Late.{Late}
+use Rattle.latest_place.specs.Lazy.{AreLateRows}
+use Rattle.live_range.specs.Held.{AreHeldEdges}
+use Rattle.mir_opt.specs.declared.trails.UnitTrail.{UnitTrail}
+use Rattle.pass_table.specs.declared.motion.BoundRows.{BoundRows}
+use Rattle.pass_table.specs.declared.motion.MotionRows.{MotionRows}
+use Rattle.pass_table.specs.declared.motion.PlaceRows.{PlaceRows}
+use Rattle.table_text.specs.Lines.{field}
+use Rattle.table_text.specs.Rows.{HaveBit, bits_line, edge_bits_line}
+
+-- ---- temporaries
+
+-- the number of the temporary of expression i of a unit, if it has one
+abbrev pub unit_temporary : UnitTrail → ℕ → ℕ
+unit_temporary unit i = temporary (length unit.split.vars) unit.placement.insert i
+
+-- the name of a temporary behind a blank, or `-` where nothing is inserted
+abbrev pub temporary_text : UnitTrail → Bool → ℕ → List ℕ
+temporary_text unit inserted number =
+    if inserted then field (slice_index_or unit.moved.vars number []) else field (codes "-")
+
+-- ---- expressions
+
+-- the number of an expression, its temporary and the expression
+abbrev pub expression_head : UnitTrail → ℕ → Expr → List ℕ
+expression_head unit i e =
+    codes "expression" ++ field (decimal i)
+    ++ temporary_text unit (has_insertion unit.placement.insert i) (unit_temporary unit i)
+    ++ codes " " ++ rhs_text (naming_with unit.split.vars) (rhs_of e) ++ codes "\n"
+
+-- where it is used and killed, and where it is safe
+abbrev pub safe_lines : MotionRows → ℕ → List ℕ
+safe_lines rows i =
+    bits_line rows.places.busy.uses i (codes "used")
+    ++ bits_line rows.bounds.kills i (codes "killed")
+    ++ bits_line rows.places.busy.up i (codes "available")
+    ++ bits_line rows.places.busy.down i (codes "anticipatable")
+    ++ bits_line rows.places.busy.early i (codes "earliest")
+
+-- how far its evaluations can be delayed
+abbrev pub late_lines : Late → ℕ → List ℕ
+late_lines late i =
+    bits_line late.delayed i (codes "delayed")
+    ++ bits_line late.latest i (codes "latest")
+    ++ bits_line late.isolated i (codes "isolated")
+
+-- the busy placement of it, which inserts where it is earliest and replaces every use
+abbrev pub busy_lines : Busy → ℕ → List ℕ
+busy_lines busy i =
+    bits_line busy.early i (codes "busy inserted") ++ bits_line busy.uses i (codes "busy replaced")
+
+-- the lazy placement of it, and the edges on which its temporary lives
+abbrev pub lazy_lines : Placement → MotionRows → ℕ → List ℕ
+lazy_lines placement rows i =
+    bits_line placement.insert i (codes "inserted")
+    ++ bits_line placement.replace i (codes "replaced")
+    ++ edge_bits_line rows.bounds.held.edges i (codes "held")
+
+-- all of its rows
+abbrev pub motion_lines : Placement → MotionRows → ℕ → List ℕ
+motion_lines placement rows i =
+    safe_lines rows i ++ late_lines rows.places.late i ++ busy_lines rows.places.busy i ++ lazy_lines placement rows i
+
+-- the lines of expression i, where there is one
+abbrev pub expression_lines : UnitTrail → MotionRows → ℕ → Option Expr → List ℕ
+expression_lines unit rows i None = []
+expression_lines unit rows i (Some e) = expression_head unit i e ++ motion_lines unit.placement rows i
+
+-- the lines of the first expressions, of which there are so many
+abbrev pub expressions_below : UnitTrail → MotionRows → ℕ → List ℕ
+expressions_below unit rows zero = []
+expressions_below unit rows (suc n) =
+    expressions_below unit rows n ++ expression_lines unit rows n (slice_get unit.table n)
+
+-- ---- what is found out
+
+-- the rows say of each expression of the split graph where it is used, available, anticipatable, earliest, delayed,
+-- latest and isolated
+pub record ArePlaceRows (unit : UnitTrail) (rows : PlaceRows) : Type 0 where
+  pub busy_are : AreBusyRows unit.split unit.table (IsAnticipatable unit.split) rows.busy
+  pub late_are : AreLateRows unit.split unit.table (IsAnticipatable unit.split) rows.late
+
+-- where it is killed, and on which edges the placement holds its temporary
+pub record AreBoundRows (unit : UnitTrail) (rows : BoundRows) : Type 0 where
+  pub kills_are : AreRowsOf unit.split unit.table (kills unit.split) rows.kills
+  pub held_are : AreHeldEdges unit.split unit.table unit.placement rows.held.edges
+
+-- and all of this
+pub record AreMotionRows (unit : UnitTrail) (rows : MotionRows) : Type 0 where
+  pub places_are : ArePlaceRows unit rows.places
+  pub bounds_are : AreBoundRows unit rows.bounds
+
+-- the text is that of the expressions of the unit, by the rows that say this
+pub record IsMotionText (unit : UnitTrail) (text : List ℕ) : Type 0 where
+  pub rows : MotionRows
+  pub are : AreMotionRows unit rows
+  pub text_is : text ≡ expressions_below unit rows (length unit.table)
+
+-- ---- for the functions that write them
+
+-- each row of these has a bit of this number
+pub record HaveBusyBit (busy : Busy) (bit : ℕ) : Type 0 where
+  pub uses : HaveBit busy.uses bit
+  pub up : HaveBit busy.up bit
+  pub down : HaveBit busy.down bit
+  pub early : HaveBit busy.early bit
+
+-- so it is of these
+pub record HaveLateBit (late : Late) (bit : ℕ) : Type 0 where
+  pub delayed : HaveBit late.delayed bit
+  pub latest : HaveBit late.latest bit
+  pub isolated : HaveBit late.isolated bit
+
+-- and of all that code motion finds out, and of the placement
+pub record HaveMotionBit (placement : Placement) (rows : MotionRows) (bit : ℕ) : Type 0 where
+  pub busy : HaveBusyBit rows.places.busy bit
+  pub late : HaveLateBit rows.places.late bit
+  pub kills : HaveBit rows.bounds.kills bit
+  pub held : HaveBit rows.bounds.held.edges bit
+  pub insert : HaveBit placement.insert bit
+  pub replace : HaveBit placement.replace bit

@@ -1,0 +1,301 @@
+// What code motion finds out of a split graph. Each function fails only with `Memory`.
+ghost use Rattle.std.specs.Prelude.{◌≡◌, ◌<◌, ◌+◌, if◌then◌else◌, length, slice_get, IfOk, OnOk};
+ghost use Rattle.mir_base.specs.Appending.{AppendsOnOk};
+ghost use Rattle.mir_base.specs.ExpressionVars.{rhs_of};
+ghost use Rattle.flow_graph.specs.Edges.{IsSplit, edges_of};
+ghost use Rattle.motion_rewrite.specs.Temporaries.{has_insertion};
+ghost use Rattle.live_range.specs.Held.{AreHeldEdges};
+ghost use Rattle.table_text.specs.Rows.{HaveBit};
+ghost use Rattle.table_text.specs.Turns.{AppendsSome};
+ghost use Rattle.pass_table.specs.Motion.{AreBoundRows, AreMotionRows, ArePlaceRows, HaveBusyBit, HaveLateBit, HaveMotionBit, IsMotionText, busy_lines, expression_head, expression_lines, expressions_below, late_lines, lazy_lines, motion_lines, safe_lines, unit_temporary, temporary_text};
+ghost use Rattle.pass_table.specs.Units.{IsUnitMotion};
+
+use bit_rows::Rows;
+use down_safe::{Busy, EveryPath, busy};
+use edge_split::split_splits;
+use flow_graph::Edges;
+use latest_place::{Late, late};
+use live_range::{Held, ranges};
+use mir_base::{Expr, Memory, Rhs};
+use mir_opt::UnitTrail;
+use motion_rewrite::kill_rows;
+use std::alloc::{AllocError, Global};
+use table_text::{put_bits, put_count, put_edge_bits, put_field, put_name, put_right};
+
+/// What code motion finds out of the expressions of a unit: each has one row for each node, or for each edge, and one
+/// bit for each expression.
+#[derive(Drop)]
+pub(crate) struct MotionRows {
+    /// Where expressions are safe, and how far they can be delayed.
+    pub(crate) places: PlaceRows,
+    /// Where they are killed, and on which edges their temporaries live.
+    pub(crate) bounds: BoundRows,
+}
+
+/// Where expressions are safe, and how far they can be delayed.
+#[derive(Drop)]
+pub(crate) struct PlaceRows {
+    /// Where an expression is used, available, anticipatable and earliest.
+    pub(crate) busy: Busy,
+    /// Where it is delayed, latest and isolated.
+    pub(crate) late: Late,
+}
+
+/// Where expressions are killed, and on which edges their temporaries live.
+#[derive(Drop)]
+pub(crate) struct BoundRows {
+    /// Where an expression is killed.
+    pub(crate) kills: Rows,
+    /// On which edges its temporary lives.
+    pub(crate) held: Held,
+}
+
+/// Appends the expressions of a unit, each with what code motion finds out of it.
+pub(crate) fn put_motion(alloc: Global, text: &mut Vec<u8>, unit: &UnitTrail) -> Result<(), Memory>
+    requires { IsUnitMotion unit.now }
+    ensures { OnOk result (AppendsSome (IsMotionText unit.now) text.old text.new) }
+{
+    let rows = motion_rows(alloc, unit)?;
+    put_expressions(text, unit, &rows)?;
+    Ok(())
+}
+
+/// What code motion finds out of a unit.
+fn motion_rows(alloc: Global, unit: &UnitTrail) -> Result<MotionRows, Memory>
+    requires { IsUnitMotion unit.now }
+    ensures { IfOk result (AreMotionRows unit.now) }
+{
+    split_splits(&unit.copied, &unit.split);
+    let edges = Edges::of(alloc, &unit.split)?;
+    let places = place_rows(alloc, unit, &edges)?;
+    let bounds = bound_rows(alloc, unit, &edges)?;
+    Ok(MotionRows { places, bounds })
+}
+
+/// Where the expressions of a unit are safe, and how far they can be delayed. The edges are those of the split graph.
+fn place_rows(alloc: Global, unit: &UnitTrail, edges: &Edges) -> Result<PlaceRows, Memory>
+    requires split { IsSplit unit.now.split.nodes }
+    requires edges { edges.now ≡ edges_of unit.now.split.nodes }
+    ensures { IfOk result (ArePlaceRows unit.now) }
+{
+    let busy = busy(alloc, &EveryPath, &unit.split, edges, &unit.table)?;
+    let late = late(alloc, &EveryPath, &unit.split, edges, &unit.table)?;
+    Ok(PlaceRows { busy, late })
+}
+
+/// Where the expressions of a unit are killed, and on which edges their temporaries live. The edges are those of the
+/// split graph.
+fn bound_rows(alloc: Global, unit: &UnitTrail, edges: &Edges) -> Result<BoundRows, Memory>
+    requires motion { IsUnitMotion unit.now }
+    requires split { IsSplit unit.now.split.nodes }
+    requires edges { edges.now ≡ edges_of unit.now.split.nodes }
+    ensures { IfOk result (AreBoundRows unit.now) }
+{
+    let kills = kill_rows(alloc, &unit.split, &unit.table)?;
+    let held = held_edges(alloc, unit, edges)?;
+    Ok(BoundRows { kills, held })
+}
+
+/// On which edges the temporaries of a unit live. The edges are those of the split graph.
+fn held_edges(alloc: Global, unit: &UnitTrail, edges: &Edges) -> Result<Held, Memory>
+    requires motion { IsUnitMotion unit.now }
+    requires split { IsSplit unit.now.split.nodes }
+    requires edges { edges.now ≡ edges_of unit.now.split.nodes }
+    ensures { IfOk result (λ held. AreHeldEdges unit.now.split unit.now.table
+        unit.now.placement held.edges) }
+{
+    let held = ranges(
+        alloc,
+        &EveryPath,
+        &unit.split,
+        edges,
+        &unit.table,
+        &unit.placement,
+    )?;
+    Ok(held)
+}
+
+/// Appends the lines of all expressions.
+fn put_expressions(text: &mut Vec<u8>, unit: &UnitTrail, rows: &MotionRows) -> Result<(), Memory>
+    requires motion { IsUnitMotion unit.now }
+    requires rows { AreMotionRows unit.now rows.now }
+    ensures { AppendsOnOk result text.old text.new
+        (expressions_below unit.now rows.now (length unit.now.table)) }
+{
+    let mut temporary = unit.split.vars().len();
+    for number in 0..unit.table.len() {
+        temporary = put_expression(text, unit, rows, number, temporary)?;
+    }
+    Ok(())
+}
+
+/// Appends the lines of the expression of this number, and answers the number of the temporary of the next one;
+/// `temporary` is that of this one, if it has one.
+fn put_expression(
+    text: &mut Vec<u8>,
+    unit: &UnitTrail,
+    rows: &MotionRows,
+    number: usize,
+    temporary: usize,
+) -> Result<usize, Memory>
+    requires motion { IsUnitMotion unit.now }
+    requires rows { AreMotionRows unit.now rows.now }
+    requires number { number < length unit.now.table }
+    requires temporary { temporary ≡ unit_temporary unit.now number }
+    ensures text { AppendsOnOk result text.old text.new
+        (expression_lines unit.now rows.now number (slice_get unit.now.table number)) }
+    ensures next { IfOk result (λ next. next ≡ unit_temporary unit.now (number + 1)) }
+{
+    let inserted = is_inserted(&unit.placement.insert, number);
+    let next = next_temporary(temporary, inserted)?;
+    put_head(
+        text,
+        unit,
+        number,
+        unit.table.get(number),
+        inserted,
+        temporary,
+    )?;
+    put_rows(text, unit, rows, number)?;
+    Ok(next)
+}
+
+/// Whether some row has the bit.
+fn is_inserted(rows: &Rows, bit: usize) -> bool
+    requires { HaveBit rows.now bit }
+    ensures { result ≡ has_insertion rows.now bit }
+{
+    for row in 0..rows.len() {
+        if rows.get(row, bit) {
+            return true;
+        }
+    }
+    false
+}
+
+/// The number of the next temporary.
+fn next_temporary(temporary: usize, inserted: bool) -> Result<usize, Memory>
+    ensures { IfOk result (λ next. next ≡ temporary + (if inserted then 1 else 0)) }
+{
+    if inserted {
+        temporary.checked_add(1).ok_or(AllocError)
+    } else {
+        Ok(temporary)
+    }
+}
+
+/// Appends the number of an expression, its temporary where it has one, and the expression.
+fn put_head(
+    text: &mut Vec<u8>,
+    unit: &UnitTrail,
+    number: usize,
+    expr: &Expr,
+    inserted: bool,
+    temporary: usize,
+) -> Result<(), Memory>
+    requires inserted { inserted ≡ has_insertion unit.now.placement.insert number }
+    requires temporary { temporary ≡ unit_temporary unit.now number }
+    ensures { AppendsOnOk result text.old text.new
+        (expression_head unit.now number expr.now) }
+{
+    text.extend_from_slice(b"expression")?;
+    put_count(text, number)?;
+    put_temporary(text, unit, inserted, temporary)?;
+    text.extend_from_slice(b" ")?;
+    put_right(text, unit.split.vars(), &rhs_of(expr))?;
+    text.extend_from_slice(b"\n")
+}
+
+/// Appends the name of a temporary, or `-` where nothing is inserted.
+fn put_temporary(
+    text: &mut Vec<u8>,
+    unit: &UnitTrail,
+    inserted: bool,
+    temporary: usize,
+) -> Result<(), Memory>
+    ensures { AppendsOnOk result text.old text.new (temporary_text unit.now inserted temporary) }
+{
+    if inserted {
+        text.extend_from_slice(b" ")?;
+        put_name(text, unit.moved.vars(), temporary)
+    } else {
+        put_field(text, b"-")
+    }
+}
+
+/// The right side that is the expression.
+fn rhs_of(expr: &Expr) -> Rhs
+    ensures { result ≡ rhs_of expr.now }
+{
+    match expr {
+        Expr::Un(op, a) => Rhs::Unary(*op, *a),
+        Expr::Bin(op, a, b) => Rhs::Binary(*op, *a, *b),
+    }
+}
+
+/// Appends the rows of an expression.
+fn put_rows(
+    text: &mut Vec<u8>,
+    unit: &UnitTrail,
+    rows: &MotionRows,
+    number: usize,
+) -> Result<(), Memory>
+    requires { HaveMotionBit unit.now.placement rows.now number }
+    ensures { AppendsOnOk result text.old text.new
+        (motion_lines unit.now.placement rows.now number) }
+{
+    put_safe(text, rows, number)?;
+    put_late(text, &rows.places.late, number)?;
+    put_busy(text, &rows.places.busy, number)?;
+    put_lazy(text, unit, rows, number)
+}
+
+/// Appends where an expression is used and killed, and where it is safe.
+fn put_safe(text: &mut Vec<u8>, rows: &MotionRows, number: usize) -> Result<(), Memory>
+    requires kills { HaveBit rows.now.bounds.kills number }
+    requires busy { HaveBusyBit rows.now.places.busy number }
+    ensures { AppendsOnOk result text.old text.new (safe_lines rows.now number) }
+{
+    let busy = &rows.places.busy;
+    put_bits(text, &busy.uses, number, b"used")?;
+    put_bits(text, &rows.bounds.kills, number, b"killed")?;
+    put_bits(text, &busy.up, number, b"available")?;
+    put_bits(text, &busy.down, number, b"anticipatable")?;
+    put_bits(text, &busy.early, number, b"earliest")?;
+    Ok(())
+}
+
+/// Appends how far its evaluations can be delayed.
+fn put_late(text: &mut Vec<u8>, late: &Late, number: usize) -> Result<(), Memory>
+    requires { HaveLateBit late.now number }
+    ensures { AppendsOnOk result text.old text.new (late_lines late.now number) }
+{
+    put_bits(text, &late.delayed, number, b"delayed")?;
+    put_bits(text, &late.latest, number, b"latest")?;
+    put_bits(text, &late.isolated, number, b"isolated")
+}
+
+/// Appends the busy placement of it.
+fn put_busy(text: &mut Vec<u8>, busy: &Busy, number: usize) -> Result<(), Memory>
+    requires { HaveBusyBit busy.now number }
+    ensures { AppendsOnOk result text.old text.new (busy_lines busy.now number) }
+{
+    put_bits(text, &busy.early, number, b"busy inserted")?;
+    put_bits(text, &busy.uses, number, b"busy replaced")
+}
+
+/// Appends the lazy placement of it, and on which edges its temporary lives.
+fn put_lazy(
+    text: &mut Vec<u8>,
+    unit: &UnitTrail,
+    rows: &MotionRows,
+    number: usize,
+) -> Result<(), Memory>
+    requires { HaveMotionBit unit.now.placement rows.now number }
+    ensures { AppendsOnOk result text.old text.new
+        (lazy_lines unit.now.placement rows.now number) }
+{
+    put_bits(text, &unit.placement.insert, number, b"inserted")?;
+    put_bits(text, &unit.placement.replace, number, b"replaced")?;
+    put_edge_bits(text, &rows.bounds.held.edges, number, b"held")
+}

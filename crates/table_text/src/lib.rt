@@ -1,0 +1,19 @@
+//! The text of tables: what is written of a graph, and of rows by nodes.
+//!
+//! In go a graph, or rows of truth values with the place of a bit; out come lines, which docs/TABLES.md defines for a
+//! reader and `specs/` for contracts. What the passes find out is asked by the crates above: this one only writes.
+//!
+//! The theorem that this crate carries is the contract of each of its functions: the bytes that it appends are the text
+//! of what it is given, and no others.
+#![tactic(auto)]
+
+mod fields;
+mod graphs;
+mod nodes;
+mod operands;
+mod rows;
+
+pub use fields::{put_count, put_field};
+pub use graphs::{put_graph, put_unit};
+pub use operands::{put_assigned, put_name, put_right};
+pub use rows::{put_bits, put_edge_bits};

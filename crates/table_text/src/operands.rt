@@ -1,0 +1,48 @@
+// The text of names, operands and right sides over the variables of a graph. Each function fails only with
+// `Memory`.
+ghost use Rattle.std.specs.Prelude.{[], slice_index_or};
+ghost use Rattle.mir_base.specs.Appending.{AppendsOnOk};
+ghost use Rattle.mir_base.specs.Text.{operand_text, rhs_text};
+ghost use Rattle.mir_print.specs.Sides.{naming_with};
+ghost use Rattle.table_text.specs.Lines.{assigned_text};
+
+use mir_base::{Memory, Name, Operand, Rhs};
+use mir_print::put_side;
+
+/// The name of this number, and nothing where there is none.
+pub fn put_name(text: &mut Vec<u8>, names: &[Name], number: usize) -> Result<(), Memory>
+    ensures { AppendsOnOk result text.old text.new (slice_index_or names.now number []) }
+{
+    match names.get(number) {
+        Some(name) => text.extend_from_slice(name.bytes()),
+        None => Ok(()),
+    }
+}
+
+/// A right side.
+pub fn put_right(text: &mut Vec<u8>, vars: &[Name], rhs: &Rhs) -> Result<(), Memory>
+    ensures { AppendsOnOk result text.old text.new (rhs_text (naming_with vars.now) rhs.now) }
+{
+    put_side(text, vars, rhs)
+}
+
+/// An assignment: `x <- a + b`.
+pub fn put_assigned(
+    text: &mut Vec<u8>,
+    vars: &[Name],
+    target: usize,
+    rhs: &Rhs,
+) -> Result<(), Memory>
+    ensures { AppendsOnOk result text.old text.new (assigned_text vars.now target rhs.now) }
+{
+    put_name(text, vars, target)?;
+    text.extend_from_slice(b" <- ")?;
+    put_side(text, vars, rhs)
+}
+
+/// An operand.
+pub(crate) fn put_operand(text: &mut Vec<u8>, vars: &[Name], a: Operand) -> Result<(), Memory>
+    ensures { AppendsOnOk result text.old text.new (operand_text (naming_with vars.now) a) }
+{
+    put_side(text, vars, &Rhs::Plain(a))
+}

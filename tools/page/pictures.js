@@ -1,0 +1,91 @@
+// ---- the picture of a graph
+
+const MARKERS = ['plain', 'hot', 'live',
+  'walk'].map(name => `<marker id="m-${name}" viewBox="0 0 10 10" refX="9" refY="5" markerWidth="9" markerHeight="9" markerUnits="userSpaceOnUse" orient="auto"><path d="M0 0.6 10 5 0 9.4z" class="m-${name}"/></marker>`)
+  .join('');
+const edgeKey = (a, b) => `${a}>${b}`;
+
+// A graph of many nodes is drawn by blocks, unless the reader wants it otherwise.
+const byBlocks = () => state.blocks ?? [passNow().before,
+  passNow().after].some(stage => DATA.pictures[stage.pictures[0]].h * 0.7 > Math.max(window.innerHeight - 200, 300));
+
+// Draws a stage. `tell` says of each node: classes, style, pills before it, a mark behind it, its key and its text.
+function draw(stage, tell, options = {}) {
+  const picture = DATA.pictures[stage.pictures[byBlocks() ? 1 : 0]],
+    hot = new Set((options.hot || []).map(edge => edgeKey(...edge))),
+    live = new Set((options.live || []).map(edge => edgeKey(...edge)));
+  const walked = new Set((options.walked || []).map(edge => edgeKey(...edge)));
+  const parts = [];
+  const seams = [], over = [];
+  for (const [n, slot, path, inner] of picture.edges) {
+    const node = stage.nodes[n], key = edgeKey(n, node[1][slot]);
+    const kind = hot.has(key) ? 'hot' : live.has(key) ? 'live' : walked.has(key) ? 'walk' : 'plain';
+    if (inner) { if (kind !== 'plain') seams.push(`<path class="edge seam ${kind}" d="${path}"/>`); continue; }
+    parts.push(`<path class="edge ${kind}" d="${path}" marker-end="url(#m-${kind})"/>`);
+    if (node[0] === 'test') {
+      const [x0, y0, x1, y1, x2, y2, x3] = path.match(/-?[\d.]+/g).map(Number), t = 0.3, u = 1 - t;
+      const x = u * u * x0 + 2 * u * t * x1 + t * t * x2,
+        y = Math.min(y0 + 12, Math.max(y0 + 6, u * u * y0 + 2 * u * t * y1 + t * t * y2));
+      const other = picture.edges.find(edge => edge[0] === n && edge[1] !== slot),
+        [ox] = other[2].match(/-?[\d.]+/g).map(Number);
+      const left = Math.abs(ox - x0) > 4 ? x0 < ox : x3 < x0 - 3 || (Math.abs(x3 - x0) <= 3 && slot === 0);
+      parts.push(`<text class="way" x="${x + (left ? -7 : 7)}" y="${y}" text-anchor="${left ? 'end' : 'start'}" dominant-baseline="central">${slot ? 'no' : 'yes'}</text>`);
+    }
+  }
+  stage.nodes.forEach((node, n) => {
+    const [x, y, w, h] = picture.boxes[n], own = tell(n), left = x - w / 2, top = y - h / 2, inside = h < 30;
+    const words = own.text ?? { skip: 'skip', start: 'Start' }[node[0]] ?? node[3];
+    // what is put before the node; inside a block there is room for the variable alone
+    const pills = (own.pills || []).map((pill, k) => {
+      const told = '+ ' + (inside ? pill.split(' ')[0] : pill), wide = 8.4 * told.length + (inside ? 8 : 12);
+      const [px, py] = inside ? [left + w - wide + 22 - k * (wide + 4), top - 9] : [x - wide / 2, top - 20 - 22 * k];
+      return `<g class="pill"><title>${esc(pill)}, put before node ${n}</title><rect x="${px}" y="${py}" width="${wide}" height="${inside ? 18 : 20}" rx="9"/><text x="${px + wide / 2}" y="${py + (inside ? 9 : 10)}" text-anchor="middle" dominant-baseline="central">${esc(told)}</text></g>`;
+    }).join('');
+    parts.push(`<g class="node ${node[0]} ${inside ? 'inside' : ''} ${own.cls || ''}" data-k="${own.key}" data-n="${n}" ${own.style ? `style="${own.style}"` : ''} role="button" tabindex="-1" aria-label="node ${n}: ${esc(words)}${own.aria ? ', ' + esc(own.aria) : ''}">`
+      + `<rect class="box" x="${left}" y="${top}" width="${w}" height="${h}" rx="${inside ? 2 : node[0] === 'skip' ? h / 2 : node[0] === 'start' || node[0] === 'return' ? 12 : 3}"/>`
+      + `<text class="num" x="${left + 9}" y="${y}" dominant-baseline="central">${n}</text><text class="words" x="${left + 17 + 8 * String(n).length}" y="${y}" dominant-baseline="central">${esc(words)}</text>`
+      + (own.mark ? `<g class="tag"><rect x="${left + w - 6}" y="${top - 8}" width="${8 * own.mark.length + 12}" height="19" rx="4"/><text x="${left + w + 4 * own.mark.length}" y="${top + 1.5}" text-anchor="middle" dominant-baseline="central">${esc(own.mark)}</text></g>`
+        : '')
+      + (own.count ? `<g class="count"><circle cx="${left - (inside ? 12 : 0)}" cy="${inside ? y : top + h}" r="11"/><text x="${left - (inside ? 12 : 0)}" y="${inside ? y : top + h}" text-anchor="middle" dominant-baseline="central">${own.count}</text></g>`
+        : '') + '</g>');
+    over.push(pills);
+  });
+  const legend = [options.hot?.length && ['hot', 'why'], options.live?.length && ['live', 'the temporary lives'],
+    options.walked?.length && ['walk', 'the run so far']].filter(Boolean)
+    .map(([kind, what]) => `<span><svg width="30" height="8" aria-hidden="true"><path class="edge ${kind}" d="M0 4h30"/></svg> ${what}</span>`)
+    .join('');
+  return `<figure class="graph">${options.title ? `<figcaption>${options.title}</figcaption>` : ''}<div class="scroll" tabindex="0" aria-label="graph"><svg viewBox="${-26} -26 ${picture.w + 52} ${picture.h + 40}" data-w="${picture.w + 52}" data-h="${picture.h + 40}" width="${Math.round((picture.w + 52) * fitScale)}" height="${Math.round((picture.h + 40) * fitScale)}" role="group" aria-label="control-flow graph"><defs>${MARKERS}</defs>${parts.join('')}${picture.frames.map(([x, y, w, h]) => `<rect class="frame" x="${x}" y="${y}" width="${w}" height="${h}" rx="4"/>`).join('')}${seams.join('')}${over.join('')}</svg></div>${legend ? `<div class="legend">${legend}</div>` : ''}</figure>`;
+}
+
+// ---- the text of a stage, laid out; each line has its node, and labels are node numbers, so that no label is renamed
+
+function textOf(stage, key, mark) {
+  const targets = new Set(stage.lines.flatMap(line => line[2] === null ? [] : [line[2]])), labelled = new Set();
+  return stage.lines.map(([n, words, to]) => {
+    const label = n !== 0 && targets.has(n) && !labelled.has(n) ? `n${n}: ` : '';
+    labelled.add(n);
+    if (words === null && n === 0) return '';
+    const own = words === null ? `<i>skip</i>` : esc(words + (to === null ? '' : ` n${to}`));
+    const cls = mark(n, words), here = key(n) === 'b' + state.node ? 'here' : '';
+    const tag = cls === 'old' ? 'del' : cls === 'new' || cls === 'chg' ? 'ins' : 'span';
+    return `<div class="line ${cls} ${here}" data-k="${key(n)}"><span class="gut" aria-hidden="true">${n}</span><${tag}>${label ? `<b>${label}</b>` : ''}${own}</${tag}></div>`;
+  }).join('');
+}
+
+function texts(pass) {
+  const left = textOf(pass.before, n => 'b' + n,
+    (n, words) => pass.change[n] === 'same' || /^(receive|goto)/.test(words) ? (words === null ? 'quiet' : '') : 'old');
+  if (pass.first) return `<div class="texts"><section><h3>program</h3><pre>${left}</pre></section></div>`;
+  const fresh = new Set(pass.fresh);
+  const right = textOf(pass.after, n => keyOf(pass, n), (n, words) => {
+    const old = pass.old[n];
+    if (fresh.has(n)) return 'new';
+    if (old < 0) return 'quiet';
+    return words !== null && !/^(receive|goto)/.test(words) &&
+      pass.change[old] === 'changed' ? 'chg' : words === null ? 'quiet' : '';
+  });
+  return `<div class="texts"><section><h3>before</h3><pre>${left}</pre></section><section><h3>after</h3><pre>${right}</pre></section></div>`;
+}
+
+// One key for a node before and after a pass.
+const keyOf = (pass, m) => pass.old[m] === null || pass.old[m] < 0 ? 'a' + m : 'b' + pass.old[m];

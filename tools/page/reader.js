@@ -1,0 +1,227 @@
+// ---- the clicker of a lecturer: column by column, pass by pass, each at a node that tells something
+
+function tellingNode(pass, one) {
+  if (!one) return state.node;
+  if (!one.bits) {
+    const at = pass.change.findIndex((what, n) => one.marks ? what !== 'same' ||
+      pass.puts[n].length : one.values[n] !== '' && n > 0 && one.values[n] !== one.values[n - 1]);
+    return at < 0 ? state.node : at;
+  }
+  const bits = name => pass.name === 'motion' ||
+    pass.name === 'sink' ? bitsOf(itemsOf(pass)[state.item].rows, name) : [];
+  const skip = n => pass.before.nodes[n][0] === 'skip', used = bits('used'), latest = bits('latest'),
+    yes = where(one.bits);
+  const wish = { killed: n => n > 0, anticipatable: n => !used[n], latest: skip, inserted: skip,
+    isolated: n => latest[n], available: n => !used[n], delayed: n => !bits('earliest')[n] && !used[n],
+    blocked: n => n > 0 && bits('delayed')[n] }[one.id] || (() => true);
+  const found = yes.find(wish) ?? yes[0] ?? (latest.includes(true) &&
+    ['isolated', 'inserted', 'replaced'].includes(one.id) ? latest.indexOf(true) : used.includes(true)
+    ? used.indexOf(true) : state.node);
+  return one.id === 'isolated' && !yes.some(wish) && latest.includes(true) ? latest.indexOf(true) : found;
+}
+
+function click(by) {
+  const to = state.col + by;
+  if (to >= 0 && to < columnsNow().length) state.col = to;
+  else {
+    const was = state.pass;
+    stepPass(by, true);
+    if (state.pass === was) return;
+    state.col = by > 0 ? 0 : Math.max(columnsNow().length - 1, 0);
+  }
+  state.node = tellingNode(passNow(), columnNow());
+  show(true);
+}
+
+// What was and becomes of a node, from the source to the result.
+function story(pass, n) {
+  const passes = passesOf(unitNow()), parts = [];
+  let at = pass.first ? 0 : pass.at - 1, m = n;
+  while (at > 0 && passes[at].old[m] !== null && passes[at].old[m] >= 0) { m = passes[at].old[m]; at--; }
+  const born = passes[at].after.nodes[m];
+  if (at === 0) parts.push(m ? `node ${m} of the source` : 'Start');
+  else parts.push(passes[at].old[m] === null ||
+    passes[at].old[m] >= 0 ? `new in ${passes[at].title}` : `what ${passes[at].title} left of an assignment`);
+  for (let next = at + 1; next < passes.length; next++) {
+    const on = passes[next].became[m], what = passes[next].change[m];
+    if (on === null) { parts.push(`gone in ${passes[next].title}`); break; }
+    if (what === 'changed') parts.push(`${code(passes[next].after.nodes[on][3])} in ${passes[next].title}`);
+    m = on;
+    if (next === passes.length - 1) parts.push(`node ${m} of the result`);
+  }
+  return parts.join('; ');
+}
+
+// ---- what is remembered in the address
+
+function remember() {
+  const pass = passNow(), parts = new URLSearchParams({ unit: label(unitNow()), pass: pass.after.name });
+  if (state.item) parts.set('item', state.item);
+  if (columnNow()) parts.set('col', columnNow().id);
+  parts.set('node', state.node);
+  if (state.view !== 'graph') parts.set('view', state.view);
+  if (state.quiz) parts.set('quiz', 1);
+  if (state.run) { parts.set('run', state.run.join(',')); parts.set('at', state.at); }
+  if (state.theme) parts.set('theme', state.theme);
+  if (state.blocks !== null) parts.set('blocks', Number(state.blocks));
+  const hash = '#' + parts.toString();
+  if (location.hash !== hash) try { history.replaceState(null, '', hash); } catch { /* a page without an address */ }
+}
+
+function recall() {
+  const parts = new URLSearchParams(location.hash.slice(1));
+  const at = UNITS.findIndex(unit => label(unit) === parts.get('unit'));
+  state.unit = Math.max(at, 0);
+  const passes = passesOf(unitNow()), pass = passes.findIndex(one => one.after.name === parts.get('pass'));
+  state.pass = pass >= 0 ? pass : Math.max(passes.findIndex(one => one.name === 'motion'), 0);
+  state.item = parts.has('item') ? Number(parts.get('item')) || 0 : bestItem(passNow());
+  state.node = Number(parts.get('node') ?? 1) || 0;
+  clamp();
+  state.col = Math.max(columnsNow().findIndex(one => one.id === parts.get('col')), 0);
+  state.view = parts.get('view') || 'graph';
+  state.quiz = parts.get('quiz') === '1';
+  state.theme = parts.get('theme');
+  state.blocks = parts.has('blocks') ? parts.get('blocks') === '1' : null;
+  fillInputs();
+  if (parts.has('run')) {
+    try { state.run = parts.get('run') ? parts.get('run').split(',').map(one => BigInt(one)) : [];
+      } catch { state.run = null; }
+    state.at = Number(parts.get('at')) || 0;
+    (state.run || []).forEach((value, k) => { const box = $(`#run [name=in${k}]`); if (box) box.value = value; });
+  }
+}
+
+// ---- what the reader does
+
+function guessAt(n) {
+  const guess = guesses.get(guessKey()) || {};
+  guess[n] = !guess[n];
+  guesses.set(guessKey(), guess);
+  state.node = n;
+  show(true);
+}
+
+function check() {
+  if (!columnNow()?.bits) return;
+  checked.add(guessKey());
+  const guess = guesses.get(guessKey()) || {}, wrong = columnNow()
+    .bits.findIndex((bit, n) => bit !== Boolean(guess[n]));
+  if (wrong >= 0) state.node = wrong;
+  show(true);
+}
+
+function toggleQuiz() {
+  state.quiz = !state.quiz;
+  if (state.quiz) { checked.clear(); guesses.clear(); }
+  show();
+}
+
+function toggleTheme() {
+  const dark = state.theme ? state.theme === 'dark' : matchMedia('(prefers-color-scheme: dark)').matches;
+  state.theme = dark ? 'light' : 'dark';
+  show();
+}
+
+function toggleBlocks() { state.blocks = !byBlocks(); show(); }
+
+function toggleRun() {
+  if (state.run) { state.run = null; show(); return; }
+  const known = unitNow().first && unitNow().program.runs[0];
+  startRun(known ? known.words.slice(1).map(one => BigInt(one)) : readRun());
+}
+
+document.addEventListener('click', event => {
+  const at = event.target.closest('[data-go], [data-pass], [data-item], [data-col], [data-view], [data-zoom], [data-unit], [data-report], g.node, button');
+  if (!at) return;
+  if (at.dataset.go !== undefined) { state.node = Number(at.dataset.go); show(); }
+  else if (at.dataset.pass !== undefined) goPass(Number(at.dataset.pass));
+  else if (at.dataset.item !== undefined) { state.item = Number(at.dataset.item); show(); }
+  else if (at.tagName === 'TD') {
+    const n = Number(at.parentElement.dataset.n), col = Number(at.dataset.col);
+    const asked = state.quiz && col === state.col && hidden(col) && columnsNow()[col].bits;
+    state.node = n;
+    if (asked) { guessAt(n); return; }
+    if (!(state.quiz && hidden(col))) state.col = col;
+    show(true);
+  } else if (at.dataset.col !== undefined) { state.col = Number(at.dataset.col); show(); }
+  else if (at.dataset.view !== undefined) { state.view = at.dataset.view; show();
+    $('#views [aria-selected=true]').focus(); }
+  else if (at.dataset.zoom !== undefined) { state.zoom = at.dataset.zoom === '0' ? 0
+    : state.zoom + Number(at.dataset.zoom); fit(); }
+  else if (at.dataset.report !== undefined) startRun(unitNow()
+    .program.runs[Number(at.dataset.report)].words.slice(1).map(one => BigInt(one)));
+  else if (at.dataset.unit !== undefined) { $('#index').close(); goUnit(Number(at.dataset.unit));
+    goPass(Number(at.dataset.to)); }
+  else if (at.classList.contains('node')) {
+    const key = at.dataset.k;
+    if (key[0] === 'b') {
+      const n = Number(key.slice(1));
+      if (state.quiz && hidden(state.col) && columnNow()?.bits) guessAt(n); else { state.node = n; show(); }
+    }
+  } else ({ 'b-index': openIndex, 'b-quiz': toggleQuiz, 'b-run': toggleRun, 'b-theme': toggleTheme,
+    'b-keys': openKeys, blocks: toggleBlocks, check, again() { checked.delete(guessKey()); show(); },
+    'b-left': ACTIONS.ArrowLeft, 'b-right': ACTIONS.ArrowRight, back() { state.at--; show(); },
+      on() { state.at++; show(); } })[at.id]?.();
+});
+
+$('#unit').addEventListener('change', event => goUnit(Number(event.target.value)));
+$('#run').addEventListener('submit', event => { event.preventDefault(); startRun(readRun()); });
+$('#run').addEventListener('input', event => { if (event.target.id === 'at') { state.at = Number(event.target.value);
+      show(); } });
+
+// A node under the pointer or with the focus is lit wherever it stands.
+function light(event) {
+  const key = event.target.closest?.('[data-k]')?.dataset.k;
+  for (const one of document.querySelectorAll('.lit')) one.classList.remove('lit');
+  const go = event.target.closest?.('[data-go]')?.dataset.go;
+  const lit = key || (go !== undefined && 'b' + go);
+  if (lit) for (const one of document.querySelectorAll(`[data-k="${lit}"]`)) one.classList.add('lit');
+}
+document.addEventListener('pointerover', light);
+document.addEventListener('focusin', light);
+
+function stepPass(by, skip) {
+  const passes = passesOf(unitNow());
+  let to = state.pass + by;
+  while (skip && to > 0 && to < passes.length - 1 && !passes[to].count) to += by;
+  goPass(to);
+}
+
+function stepItem(by) {
+  const count = itemsOf(passNow()).length;
+  if (!KIND_OF_ITEM[passNow().name] || !count) return;
+  state.item = (state.item + by + count) % count;
+  show(true);
+}
+
+const view = id => () => { state.view = state.view === id ? 'graph' : id; show(); };
+const ACTIONS = {
+  ArrowRight: () => { state.col++; show(true); }, ArrowLeft: () => { state.col--; show(true); },
+  ArrowDown: () => { state.node++; show(true); }, ArrowUp: () => { state.node--; show(true); },
+  Home: () => { state.node = 0; show(true); }, End: () => { state.node = 1e9; show(true); },
+  ']': () => stepPass(1), '[': () => stepPass(-1), '}': () => stepPass(1, true), '{': () => stepPass(-1, true),
+    PageDown: () => click(1), PageUp: () => click(-1),
+  e: () => stepItem(1), E: () => stepItem(-1), n: () => goUnit(state.unit + 1), p: () => goUnit(state.unit - 1),
+  c: toggleBlocks, g: view('graph'), x: view('text'), a: view('both'), b: view('busy'), r: toggleRun, q: toggleQuiz,
+    t: toggleTheme, i: openIndex, '?': openKeys,
+  '.': () => { state.at++; show(); }, ',': () => { state.at--; show(); }, '+': () => { state.zoom++; fit(); },
+    '-': () => { state.zoom--; fit(); }, 0: () => { state.zoom = 0; fit(); },
+  ' ': () => { if (state.quiz && hidden(state.col) && columnNow()?.bits) guessAt(state.node); else return false; },
+  Enter: () => { if (state.quiz && hidden(state.col)) check(); else return false; },
+};
+Object.assign(ACTIONS, { l: ACTIONS.ArrowRight, h: ACTIONS.ArrowLeft, j: ACTIONS.ArrowDown, k: ACTIONS.ArrowUp });
+document.addEventListener('keydown', event => {
+  if (event.ctrlKey || event.altKey || event.metaKey || $('dialog[open]')) return;
+  const at = event.target;
+  if (['INPUT', 'SELECT', 'TEXTAREA'].includes(at.tagName)) return;
+  if ((event.key === ' ' || event.key === 'Enter') && at.tagName === 'BUTTON') return;
+  const action = ACTIONS[event.key];
+  if (action && action() !== false) event.preventDefault();
+});
+window.addEventListener('resize', fit);
+window.addEventListener('hashchange', () => { recall(); show(); });
+
+$('#program').textContent = DATA.programs.length > 1 ? 'program' : DATA.programs[0].name;
+$('#unit').innerHTML = UNITS.map((unit, at) => `<option value="${at}">${esc(label(unit))}</option>`).join('');
+recall();
+show();
