@@ -1,12 +1,14 @@
 #!/usr/bin/env python3
 """Measures the seconds and the memory that README.md beside this file shows, and puts them into its tables.
 
-    bench/fill.py [--mir PATH] [--repeat N] [--show]
+    bench/fill.py [--mir PATH] [--repeat N] [--show] [--counts]
 
 A cell is filled by the head of its column and the workload and size of its row: `Time s`, `Memory MB`, `A second`,
 `x time` and `x memory`; `move: s` and `move: MB`, and the same of `optimise`, of the workload with this command behind
-its name; `mir s`, `opt s` and `mir / opt`, where `opt` is here. All other cells stay. With `--show` the new page is
-printed and not written. The program is the one that the gate built where no other is named; of each call the least time
+its name; `mir s`, `opt s` and `mir / opt`, where `opt` is here. All other cells stay. With `--counts` it measures no
+time and counts instructions by callgrind: `Instructions`, `x at half`, `move: millions` and the like, the columns of
+the commands beside `move`, and the sentence on the other workloads. With `--show` the new page is printed and not
+written. The program is the one that the gate built where no other is named; of each call the least time
 of N is taken, and the greatest peak. It runs on Linux alone, with Python's standard library.
 """
 
@@ -30,11 +32,12 @@ PAGE = Path(__file__).resolve().parent / 'README.md'
 class Meter:
     """Measures each call once."""
 
-    def __init__(self, mir: str, repeat: int, folder: Path):
-        """What is called, how often, and where the texts stand meanwhile."""
+    def __init__(self, mir: str, repeat: int, folder: Path, counts: bool):
+        """What is called, how often, where the texts stand meanwhile, and whether instructions are counted."""
         self.command, self.repeat, self.folder = [str(Path(mir).resolve())], repeat, folder
         self.workloads = {workload.name: workload for workload in run.WORKLOADS}
-        self.start = run.measure(self.command, run.smallest(), folder, repeat)
+        self.counts = counts
+        self.start = None if counts else run.measure(self.command, run.smallest(), folder, repeat)
 
     @functools.lru_cache(maxsize=None)
     def cases(self, name: str) -> dict[int, run.Case]:
@@ -57,6 +60,36 @@ class Meter:
         """The processor seconds of `mir` and of `opt`; none where `opt` is not here."""
         times = against_llvm.both_times(self.command[0], self.cases(name)[size], self.repeat, self.folder)
         return None if isinstance(times, str) else times
+
+    @functools.lru_cache(maxsize=None)
+    def millions(self, name: str, size: int) -> float:
+        """How many millions of instructions a case takes; of a name that ends in `, move`, under `move`."""
+        print(f'bench/fill.py: {name} {size:,}', file=sys.stderr, flush=True)
+        plain = name.removesuffix(', move')
+        cases = self.cases(name) if plain == name else {case.size: case for case in self.workloads[plain].beside()}
+        return run.instructions(self.command[0], cases[size], self.folder) / 1e6
+
+    def against_half(self, name: str, size: int) -> str:
+        """How many times as many a case takes as at half its size, where that is a case too."""
+        return f'{self.millions(name, size) / self.millions(name, size // 2):.2f}' if size // 2 in self.cases(name) else ''
+
+    def counted(self, heads: list[str], place: int, name: str, size: int, old: str) -> str:
+        """The cell of instructions in this column of a row; the old one where it has none."""
+        head, before = heads[place], heads[place - 1]
+        command = re.fullmatch(r'(move|optimise): millions', head)
+        if command:
+            return f'{self.millions(f"{name}-{command[1]}", size):,.1f}'
+        if head == 'x' and before == 'optimise: millions':
+            return self.against_half(f'{name}-optimise', size)
+        if heads[2:4] == ['move', 'ranges']:
+            of = f'{name}-{head or before}'
+            number = self.millions(of, size)
+            return f'{number:,.1f}' if head else f'{number / self.millions(f"{name}-move", size):.2f}'
+        if head == 'Instructions':
+            return f'{self.millions(name, size):,.1f}'
+        if head == 'x at half':
+            return self.against_half(name, size)
+        return f'{self.millions(f"{name}, move", size):,.1f}' if head == 'move' else old
 
     def cell(self, head: str, name: str, size: int, old: str) -> str:
         """The cell of this head in the row of a workload and a size; the old one where it is nothing measured here."""
@@ -94,11 +127,28 @@ def filled(text: str, meter: Meter) -> str:
             heads = [cell.replace('`', '') for cell in cells]
         elif heads[:2] == ['Workload', 'Size'] and re.match(r'[\d,]+', cells[1]):
             name, size = cells[0].strip('`') or name, int(re.match(r'[\d,]+', cells[1])[0].replace(',', ''))
-            cells = [meter.cell(head, name, size, cell) for head, cell in zip(heads, cells)]
+            if meter.counts:
+                cells[2:] = [meter.counted(heads, place, name, size, cells[place]) for place in range(2, len(cells))]
+            else:
+                cells = [meter.cell(head, name, size, cell) for head, cell in zip(heads, cells)]
             line = '|' + '|'.join(f' {cell} ' if cell else ' ' for cell in cells) + '|'
         lines.append(line)
+    if meter.counts:
+        return told('\n'.join(lines), meter)
     start = f'Start: {meter.start.seconds:.3f} s, {meter.start.bytes / 1e6:.1f} MB.'
     return re.sub(r'Start: [\d.]+ s, [\d.]+ MB\.', start, '\n'.join(lines))
+
+
+def told(text: str, meter: Meter) -> str:
+    """The page with the sentence on the instructions of the workloads that stand in no table of them."""
+    begin = text.index('Instructions of the other workloads under')
+    end = text.index('`trial 0 256`', begin)
+
+    def of(found: re.Match) -> str:
+        size = max(meter.cases(found[1]))
+        return f'`{found[1]}` {meter.millions(found[1], size):,.1f},{found[2]}{meter.against_half(found[1], size)}'
+
+    return text[:begin] + re.sub(r'`([\w-]+)` [\d,.]+\d,(\s)[\d.]+\d', of, text[begin:end]) + text[end:]
 
 
 def main() -> int:
@@ -107,10 +157,11 @@ def main() -> int:
     words.add_argument('--mir', default=str(run.PROGRAM), metavar='PATH', help='the program that is measured')
     words.add_argument('--repeat', type=int, default=11, metavar='N', help='take the least time of N calls (11)')
     words.add_argument('--show', action='store_true', help='print the page, and do not write it')
+    words.add_argument('--counts', action='store_true', help='count instructions, by callgrind, and measure no time')
     given = words.parse_args()
     run.adopt_orphans()
     with tempfile.TemporaryDirectory(prefix='mir-bench-') as folder:
-        page = filled(PAGE.read_text(encoding='utf-8'), Meter(given.mir, given.repeat, Path(folder)))
+        page = filled(PAGE.read_text(encoding='utf-8'), Meter(given.mir, given.repeat, Path(folder), given.counts))
     if given.show:
         print(page, end='')
     else:

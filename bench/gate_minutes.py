@@ -9,6 +9,7 @@ longest chain of crates of which each waits for the one before, and the minutes 
 What an earlier run on this machine has passed is not proved again and costs nothing, but with `--anew`. It looks at the
 processes of the run ten times a second; what a process took that lived shorter than that is counted with the one that
 started it. What `.ci/run` does besides `rt ci` takes a minute or two."""
+import argparse
 import glob
 import os
 import re
@@ -100,8 +101,12 @@ def show(table):
 
 
 def main():
+    parser = argparse.ArgumentParser(description="Runs rt ci and prints the processor seconds that it took, by crate.")
+    parser.add_argument("--anew", action="store_true", help="prove all from nothing")
+    parser.add_argument("crates", nargs="*", metavar="CRATE", help="prove these and those below them; all with none")
+    given = parser.parse_args()
     begin, runs = time.time(), {}
-    gate = subprocess.Popen(["rt", "ci", *sys.argv[1:]])
+    gate = subprocess.Popen(["rt", "ci", *(["--anew"] if given.anew else []), *given.crates])
     while gate.poll() is None:
         sample(gate.pid, runs)
         time.sleep(0.1)

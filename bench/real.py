@@ -136,12 +136,11 @@ def ran(words: list, text: bytes = b'', seconds: int = 600, folder: Optional[Pat
 
 
 class Bench:
-    """The tools, the program that is tried, and what programs it takes."""
+    """The tools, and the program that is tried."""
 
     def __init__(self, mir: str, folder: Path):
         self.mir, self.folder = mir, folder
         self.from_c, self.from_llvm = tool('from_c'), tool('from_llvm')
-        self.language = self.from_llvm.language(mir)
         usage = ran([mir]).stderr.decode()
         self.support = folder / 'native.o'
         if ran(['clang', '-O1', '-c', TOP / 'tools' / 'native.c', '-o', self.support]).returncode:
@@ -200,7 +199,7 @@ class Bench:
         texts, outcomes = {}, []
         for name, entry in source.entries.items():
             try:
-                texts[name] = self.from_llvm.program_text(read, entry, self.language)
+                texts[name] = self.from_llvm.program_text(read, entry)
             except mir_text.Fault as fault:
                 outcomes.append(Outcome(name, f'refused: {reason(str(fault))}', [str(fault)]))
         if texts and not self.is_native(source, program):
@@ -257,7 +256,7 @@ class Bench:
     def count_llvm(self, outcome: Outcome, wanted: Report, kind: str, read, entry: str) -> None:
         """Adds the operators of what LLVM leaves, where it comes through and does the same."""
         try:
-            made = self.from_llvm.program_text(read, entry, self.language)
+            made = self.from_llvm.program_text(read, entry)
         except mir_text.Fault as fault:
             outcome.shown.append(f'{kind}: {fault}')
             return
@@ -276,23 +275,20 @@ def reason(fault: str) -> str:
     return re.sub(r' \([^)]*\)$', '', plain)
 
 
-def drawn(numbers: list[int], folder: Path, has_globals: bool) -> Source:
-    """Programs that csmith draws, in one file, so that clang is called once. Where there are no globals all of a
-    program is put into its entry; of the checked arithmetic that is done in every second file, so that both are tried.
-    """
+def drawn(numbers: list[int], folder: Path) -> Source:
+    """Programs that csmith draws, in one file, so that clang is called once. The checked arithmetic is put into its
+    callers in every second file, so that both are tried."""
     parts, entries = ['#include "csmith.h"'], {}
     for number in numbers:
         text = ran(['csmith', *CSMITH, '--seed', number], folder=folder).stdout.decode()
         text = text.replace('#include "csmith.h"', '')
-        text = re.sub(r'\b(func_\d+|g_\d+|main|__undefined)\b', rf'p{number}_\1', text)
-        parts.append(re.sub(r'^(static [^=;{]*func_\d+\()', r'FUNCTION \1', text, flags=re.MULTILINE))
+        parts.append(re.sub(r'\b(func_\d+|g_\d+|main|__undefined)\b', rf'p{number}_\1', text))
         entries[f'csmith_{number}'] = f'p{number}_main'
     tests = ''.join(f'    if (strcmp(words[1], "{entry}") == 0) return {entry}();\n' for entry in entries.values())
     parts.append(f'#include <string.h>\nint main(int count, char **words) {{\n{tests}    return 99;\n}}\n')
     path = folder / f'csmith_{numbers[0]}.c'
     path.write_text('\n'.join(parts))
-    flags = ['-I', str(folder), f'-DFUNCTION={"" if has_globals else INLINE}',
-             f'-DWRAPPER={INLINE if numbers[0] // DRAWN % 2 == 0 else ""}']
+    flags = ['-I', str(folder), f'-DWRAPPER={INLINE if numbers[0] // DRAWN % 2 == 0 else ""}']
     return Source(path, flags, entries)
 
 
@@ -348,7 +344,7 @@ def main() -> int:
         bench = Bench(given.mir, folder)
         numbers = list(range(given.seed, given.seed + given.csmith))
         with ThreadPoolExecutor(given.jobs) as pool:
-            tasks = [pool.submit(lambda some=some: bench.judge(drawn(some, folder, bench.language.globals > 0)))
+            tasks = [pool.submit(lambda some=some: bench.judge(drawn(some, folder)))
                      for some in (numbers[at:at + DRAWN] for at in range(0, len(numbers), DRAWN))]
             tasks += [pool.submit(bench.judge, source) for source in named(given.files)]
             outcomes = []

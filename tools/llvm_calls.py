@@ -106,11 +106,11 @@ def abort(maker, one: Instruction) -> None:
 
 
 def leave(maker, one: Instruction) -> None:
-    """An `exit`: a return where nothing calls the entry, and elsewhere a trap with the status, where traps have one."""
+    """An `exit`: a return where nothing calls the entry, elsewhere a trap with the status, where this is a constant."""
     status = maker.operand(one, 1, maker.bits(one, one.types[0]))
     if maker.ends_run:
         maker.body.emit(Return(status))
-    elif maker.body.language.has_traps and isinstance(status, int):
+    elif isinstance(status, int):
         maker.body.trap(status & 255)
     else:
         raise maker.refusal(one, 'an exit outside of the entry')

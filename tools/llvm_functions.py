@@ -4,7 +4,7 @@ from typing import Callable, NamedTuple, Optional
 
 import llvm_calls
 from llvm_text import BINARY, Block, Function, Global, Instruction, Local, Module, Refusal, width
-from llvm_units import (DIVIDED, ILLEGAL, LEAST, REASONS, SAME_OPERATOR, SIGNED, UNSIGNED, Body, Language, Values,
+from llvm_units import (DIVIDED, ILLEGAL, LEAST, REASONS, SAME_OPERATOR, SIGNED, UNSIGNED, Body, Values,
                         bounds, narrowed, negated, reason_of)
 from mir_text import RECEIVES, Binary, Call, Goto, If, Operand, Plain, Receive, Return, Unary
 from mir_text import Value as Right
@@ -26,11 +26,10 @@ class Maker:
     """Makes one unit: `names` has what it may name; `is_entry` says that inputs come to it, `ends_run` that its return
     is the end."""
 
-    def __init__(self, module: Module, function: Function, language: Language, names: Names, is_entry: bool,
-                 ends_run: bool):
+    def __init__(self, module: Module, function: Function, names: Names, is_entry: bool, ends_run: bool):
         self.module, self.function, self.names = module, function, names
         self.is_entry, self.ends_run = is_entry, ends_run
-        self.body = Body(language, set(names.shared.values()))
+        self.body = Body(set(names.shared.values()))
         self.values = Values(function, self.body)
         self.blocks = reached(function)
         self.block_of: dict[str, Block] = {block.label: block for block in self.blocks}
@@ -190,7 +189,7 @@ class Maker:
             past = self.body.marks.fresh('divide')
             if right != -1:
                 self.body.emit(If(Binary('!=', right, -1), past))
-            self.body.trap(DIVIDED, Binary('=', left, least), past)
+            self.body.trap(DIVIDED, Binary('=', left, least))
             self.body.mark(past)
         value = Binary('/' if one.kind == 'sdiv' else 'mod', left, right)
         self.body.narrow(self.result(one), value, bits, bits in LEGAL or self.values.fits(one, bits))

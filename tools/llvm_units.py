@@ -37,14 +37,6 @@ KINDS = {
 REASONS = {kind: reason for reason, kinds in KINDS.items() for kind in kinds.split()}
 
 
-class Language(NamedTuple):
-    """What programs may have: whether there are globals and traps with numbers, and how long a unit may be."""
-
-    globals: int
-    has_traps: bool
-    instructions: int
-
-
 class TrapIf(NamedTuple):
     """`if test trap number`."""
 
@@ -116,8 +108,8 @@ class Names:
 class Body:
     """The lines of a unit as they come, with their labels and names."""
 
-    def __init__(self, language: Language, taken: set[str]):
-        self.language, self.names, self.marks = language, Names(taken), Names(set())
+    def __init__(self, taken: set[str]):
+        self.names, self.marks = Names(taken), Names(set())
         self.lines: list[Line] = []
         self.waiting: list[str] = []
 
@@ -153,15 +145,9 @@ class Body:
             high = self.made(name, 'shl', self.assign(self.names.fresh(name), value), places)
         self.assign(name, Binary('shra', high, places))
 
-    def trap(self, number: int, test: Right = Plain(1), past: str = '') -> None:
-        """Traps where a test holds: with its number, or where the language has no such traps by a division. `past` is a
-        label behind it, which a test that may fail needs."""
-        if self.language.has_traps:
-            self.emit(TrapIf(test, number))
-            return
-        if past:
-            self.emit(If(negated(test), past))
-        self.made('trap', '/', 1, 0)
+    def trap(self, number: int, test: Right = Plain(1)) -> None:
+        """Traps with a number where a test holds."""
+        self.emit(TrapIf(test, number))
 
     def copy(self, pairs: list[tuple[str, Operand]]) -> None:
         """Assigns operands to variables, all at once."""
