@@ -53,11 +53,11 @@ pub enum Test {
     Fails(Operand),
 }
 
-/// The arguments of a call, in order. Contracts see them as the list of the operands. Up to four do not allocate of
-/// their own.
+/// The arguments of a call, in order. Contracts see them as the list of the operands. One alone does not allocate of its
+/// own: room for more would make every instruction and every node larger.
 #[derive(Drop)]
 pub struct Args {
-    operands: SmallVec<Operand, 4>,
+    operands: SmallVec<Operand, 1>,
 }
 
 impl Model for Args {
