@@ -96,13 +96,30 @@ fn add(
     ensures { OnOk result
         (AreStored graph.now.nodes (head + 1) order.new.items starts.new.items block_of.new) }
 {
-    if !is_first(graph, edges, head) {
+    if !begins(graph, edges, head, block_of) {
         return Ok(());
     }
     let block = starts.len() - 1;
     follow(graph, edges, head, block, order, block_of)?;
     starts.push(order.len())?;
     Ok(())
+}
+
+/// Whether a node is the first of its block. One that has its block already is not, since blocks are made in order of
+/// their first nodes, and so its edges are not looked at.
+fn begins(graph: &Graph, edges: &Edges, node: usize, block_of: &[usize]) -> bool
+    requires edges { edges.now ≡ edges_of graph.now.nodes }
+    requires there { node < length graph.now.nodes }
+    requires long { length block_of.now ≡ length graph.now.nodes }
+    requires unplaced { IsFirst graph.now.nodes node →
+        IsUnplaced (length graph.now.nodes) block_of.now node }
+    ensures { result ≡ is_first graph.now.nodes node }
+{
+    if block_of[node] == graph.len() {
+        is_first(graph, edges, node)
+    } else {
+        false
+    }
 }
 
 /// Adds the block that begins at this node, and puts its number at its nodes.

@@ -20,7 +20,7 @@ pub struct Graph {
     pub(crate) shared: usize,
     pub(crate) vars: Names,
     pub(crate) received: Items<usize>,
-    pub(crate) nodes: Items<Node>,
+    pub(crate) nodes: Vec<Node>,
     pub(crate) alloc: Global,
 }
 
@@ -34,11 +34,11 @@ impl Model for Graph {
       shared = graph.shared;
       vars = graph.vars;
       received = graph.received;
-      nodes = graph.nodes;
+      nodes = graph.nodes.items;
     } };
 
     ghost invariant = { λ graph.
-        IsGraph graph.vars graph.received graph.nodes
+        IsGraph graph.vars graph.received graph.nodes.items
         × SharesVars graph.shared graph.vars graph.received };
 }
 
@@ -47,7 +47,7 @@ impl Graph {
     pub fn len(&self) -> usize
         ensures { result ≡ length self.now.nodes }
     {
-        self.nodes.items().len()
+        self.nodes.len()
     }
 
     /// The node of this number. It does not allocate.
@@ -55,7 +55,7 @@ impl Graph {
         requires { node < length self.now.nodes }
         ensures { slice_get self.now.nodes node ≡ Some result.now }
     {
-        &self.nodes.items()[node]
+        &self.nodes[node]
     }
 
     /// The successors of the node of this number, in order: of a Test `taken` and then `other`, of a Return none. It
@@ -64,7 +64,7 @@ impl Graph {
         requires { node < length self.now.nodes }
         ensures { result.items ≡ succs_at self.now.nodes node }
     {
-        let node = &self.nodes.items()[node];
+        let node = &self.nodes[node];
         succs_of(self.alloc, node)
     }
 
@@ -73,7 +73,7 @@ impl Graph {
         ensures value { result.now ≡ self.now.nodes }
         ensures graph { IsGraph self.now.vars self.now.received result.now }
     {
-        self.nodes.items()
+        self.nodes.as_slice()
     }
 
     /// The name of the unit. It does not allocate.

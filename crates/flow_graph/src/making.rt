@@ -64,10 +64,45 @@ impl Graph {
             shared,
             vars,
             received,
-            nodes: Items::of(nodes),
+            nodes,
             alloc,
         }
     }
+
+    /// The parts of this graph. Other crates edit the nodes of a graph in place by this call and `of_parts`. It does
+    /// not allocate.
+    pub fn into_parts(self) -> Parts
+        ensures name { result.name ≡ self.name }
+        ensures shared { result.shared ≡ self.shared }
+        ensures vars { result.vars ≡ self.vars }
+        ensures received { result.received ≡ self.received }
+        ensures nodes { result.nodes.items ≡ self.nodes }
+        ensures graph { IsGraph result.vars result.received result.nodes.items }
+        ensures shares { SharesVars result.shared result.vars result.received }
+    {
+        Parts {
+            name: self.name,
+            shared: self.shared,
+            vars: self.vars,
+            received: self.received,
+            nodes: self.nodes,
+        }
+    }
+}
+
+/// The parts of a graph, of which `Graph::of_parts` makes one.
+#[derive(Drop)]
+pub struct Parts {
+    /// The name of the unit.
+    pub name: Name,
+    /// How many of the variables are globals: the first ones.
+    pub shared: usize,
+    /// The names of the variables, by number.
+    pub vars: Names,
+    /// The received variables, in the order of the arguments.
+    pub received: Items<usize>,
+    /// The nodes, by number.
+    pub nodes: Vec<Node>,
 }
 
 /// The graph of those of `nodes` that are reached, with all else of `graph`.

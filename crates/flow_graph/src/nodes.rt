@@ -80,7 +80,16 @@ pub fn redirect(node: Node, to: &[usize]) -> Node
     ensures { result ≡ redirected_by to.now node }
 {
     let mut redirected = node;
-    match &mut redirected {
+    redirect_in_place(&mut redirected, to);
+    redirected
+}
+
+/// Gives the node other successors, as `redirect` does, where it stands. It does not allocate.
+pub fn redirect_in_place(node: &mut Node, to: &[usize])
+    requires { SuccsBelow (length to.now) node.old }
+    ensures { node.new ≡ redirected_by to.now node.old }
+{
+    match node {
         Node::Start(next) => *next = to[*next],
         Node::Skip(next) => *next = to[*next],
         Node::Assign(_, _, next) => *next = to[*next],
@@ -93,5 +102,4 @@ pub fn redirect(node: Node, to: &[usize]) -> Node
         }
         Node::Return(_) => {}
     }
-    redirected
 }

@@ -31,7 +31,7 @@ pub(crate) fn make(
         shared,
         vars,
         received: Items::of(received),
-        nodes: Items::of(retained),
+        nodes: retained,
         alloc,
     })
 }

@@ -1,15 +1,15 @@
 -- The nodes of an editor, with their edges: what each of its edits makes of them.
-use Rattle.std.proofs.Common.{◌≡◌, ℕ, zero, suc, ◌+◌, ◌<◌, ◌≤◌, Bool, true, false, ◌||◌, cond, eqb, ltb, nat_lt, List, [], ◌∷◌, ◌++◌, map, length, take, set, slice_get, replicate, Option, Some, None, option_map, ◌⊎◌, inl, inr, refl, sym, ap, ◌∙◌, subst, arith, eq-eqb, append_assoc}
+use Rattle.std.proofs.Common.{◌≡◌, ℕ, zero, suc, ◌+◌, ◌<◌, ◌≤◌, Bool, true, false, ◌||◌, cond, eqb, ltb, nat_lt, List, [], ◌∷◌, ◌++◌, map, length, take, drop, set, slice_get, Option, Some, None, option_map, ◌⊎◌, inl, inr, refl, sym, ap, ◌∙◌, subst, arith, eq-eqb, append_assoc}
 use Rattle.std.proofs.lemmas.Bool.{cases_eq, cases_lt, ne_eqb, lt-ltb, le-ltb}
-use Rattle.std.proofs.lemmas.List.{length-map, length-set, length-take-le, set-set}
+use Rattle.std.proofs.lemmas.List.{append-nil, drop_all, take_all, length-map, length-set, length-take-le, set-set}
 use Rattle.std.specs.Option.{option_or}
-use Rattle.std.proofs.Math.Seq.{take-suc-set}
+use Rattle.std.proofs.Math.Seq.{drop-length, take-length, take-suc-set}
 use Rattle.flow_graph.specs.ListLaws.{get_take, set_here, set_elsewhere}
 use Rattle.std.proofs.lemmas.Option.{slice_get_within, same_Some}
 use Rattle.mir_base.specs.declared.instructions.Rhs.{Rhs}
 use Rattle.mir_base.specs.Shapes.{AllBelow, rhs_vars}
 use Rattle.node_list.specs.Lists.{Lists, inserted_before, list_at, times_in, times, is_listed, after_in, node_after}
-use Rattle.node_list.specs.ListedLaws.{none_listed, some_listed, times_none}
+use Rattle.node_list.specs.ListedLaws.{none_listed, some_listed}
 use Rattle.flow_graph.specs.declared.nodes.Node.{Node}
 use Rattle.flow_graph.specs.declared.nodes.Node.TheVariants.{Assign}
 use Rattle.graph_edit.specs.Edited.{number_or_none, leads, edited_from, HoldsEdits}
@@ -127,7 +127,7 @@ module _ (node new : ℕ) where
       chosen rest false = more x (put (y ∷ xs)) rest
 
 -- a list that ends has a first item
-ends_head : (s : ℕ) (xs : List ℕ) → Ends s xs → (k : ℕ) × (slice_get xs 0 ≡ Some k)
+pub ends_head : (s : ℕ) (xs : List ℕ) → Ends s xs → (k : ℕ) × (slice_get xs 0 ≡ Some k)
 ends_head s [] ends = absurd ends
 ends_head s (x ∷ xs) ends = (x, refl)
 
@@ -185,15 +185,38 @@ edge_taken nodes used m slot s lt edge = ap (λ o. slice_get (succs_of o) slot) 
 
 -- ---- one by one
 
+-- a vector's items after a write to all of them
+pub all_written : (len : ℕ) (xs ws : List Node) → len ≡ length xs → length ws ≡ length xs → take len (ws ++ drop (length ws) xs) ≡ ws
+all_written len xs ws e same = rw (drop_all (length ws) xs (omega (arith, same)), append-nil ws) (take_all len ws (omega (arith, e, same)))
+
+-- the nodes of which those below number n have their edges
+abbrev pub led_below : List (List ℕ) → ℕ → ℕ → List Node → List Node
+led_below l m n nodes = edited_from l m (take n nodes) ++ drop n nodes
+
 -- one more node has its edges
-pub one_led : (l : List (List ℕ)) (m : ℕ) (led rest rest' whole : List Node) (node found : Node) → rest ≡ node ∷ rest' → found ≡ redirected (leads l m) node → led ++ edited_from l m rest ≡ whole → (led ++ found ∷ []) ++ edited_from l (m + 1) rest' ≡ whole
-one_led l m led rest rest' whole node found is led_is all =
-    let next : m + 1 ≡ suc m = omega arith in
-    append_assoc led (found ∷ []) (edited_from l (m + 1) rest')
-    ∙ ap (λ k. led ++ found ∷ edited_from l k rest') next
-    ∙ ap (λ n. led ++ n ∷ edited_from l (suc m) rest') led_is
-    ∙ ap (λ ns. led ++ edited_from l m ns) (sym is)
-    ∙ all
+pub led_next : (l : List (List ℕ)) (m n : ℕ) (nodes : List Node) (node : Node) → slice_get nodes n ≡ Some node
+    → set (led_below l m n nodes) n (redirected (leads l (m + n)) node) ≡ led_below l m (suc n) nodes
+led_next l m n [] node at = cc
+led_next l m zero (first ∷ nodes) node at =
+    let same : m + 0 ≡ m = omega arith in
+    ap (λ k. redirected (leads l k) node ∷ nodes) same ∙ ap (λ q. redirected (leads l m) q ∷ nodes) (sym (same_Some first node at))
+led_next l m (suc n) (first ∷ nodes) node at =
+    let same : m + suc n ≡ suc m + n = omega arith in
+    ap (λ rest. redirected (leads l m) first ∷ rest) (ap (λ k. set (led_below l (suc m) n nodes) n (redirected (leads l k) node)) same ∙ led_next l (suc m) n nodes node at)
+
+-- a node that has not got them yet
+pub led_get : (l : List (List ℕ)) (m n : ℕ) (nodes : List Node) → slice_get (led_below l m n nodes) n ≡ slice_get nodes n
+led_get l m zero [] = refl
+led_get l m (suc n) [] = refl
+led_get l m zero (first ∷ nodes) = refl
+led_get l m (suc n) (first ∷ nodes) = led_get l (suc m) n nodes
+
+-- all have them
+pub led_whole : (l : List (List ℕ)) (nodes : List Node) → led_below l 0 (length nodes) nodes ≡ edited_from l 0 nodes
+led_whole l nodes =
+    ap (λ rest. edited_from l 0 (take (length nodes) nodes) ++ rest) (drop-length nodes)
+    ∙ append-nil (edited_from l 0 (take (length nodes) nodes))
+    ∙ ap (edited_from l 0) (take-length nodes)
 
 -- ---- one put
 
@@ -319,16 +342,6 @@ module _ (vars : List (List ℕ)) (received : List ℕ) (nodes : List Node) (old
         })
 
 -- ---- the beginning
-
--- lists of nothing are empty
-pub empty_list : (count s : ℕ) → list_at (replicate count []) s ≡ []
-empty_list zero s = refl
-empty_list (suc count) zero = refl
-empty_list (suc count) (suc s) = empty_list count s
-
--- and list no number
-pub none_in_empty : (count n : ℕ) → is_listed (replicate count []) n ≡ nat_lt n 0
-none_in_empty count n = ap (ltb 0) (times_none count n) ∙ sym (le-ltb n 0 (omega arith))
 
 -- where each list has its own number alone, every edge leads where it led
 pub edited_open : (nodes : List Node) (l : List (List ℕ)) → AllWithin nodes → length l ≡ length nodes → ((s : ℕ) → s < length nodes → list_at l s ≡ s ∷ []) → edited_from l 0 nodes ≡ nodes

@@ -15,6 +15,7 @@ pub mod Editing
 pub mod EditingLaws
 pub mod EditingOrder
 pub mod Edited
+pub mod Flagged
 pub mod Removal
 pub mod Sinking
 pub mod Credits

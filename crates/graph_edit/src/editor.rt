@@ -1,15 +1,14 @@
-// Edits of a graph: new assignments before nodes, and changed assignments, with no memory but at the beginning and the
-// end.
-ghost use Rattle.std.specs.Prelude.{◌≡◌, [], ◌∷◌, ◌++◌, ◌+◌, ◌<◌, ◌≤◌, ℕ, nat_lt, length, slice_get, take, IfOk, IsTrue, Some};
+// Edits of a graph: new assignments before nodes, and changed assignments, with no memory but at the beginning.
+ghost use Rattle.std.specs.Prelude.{◌≡◌, ◌++◌, ◌+◌, ◌<◌, ◌≤◌, ℕ, length, slice_get, take, IfOk, IsTrue};
 ghost use Rattle.mir_base.specs.Shapes.{AllBelow, AllDiffer, rhs_vars};
-ghost use Rattle.node_list.specs.Lists.{is_listed, list_at};
-ghost use Rattle.graph_edit.specs.Edited.{edited_from, leads, AreFirsts, OldsLeadToOlds};
+ghost use Rattle.node_list.specs.Lists.{is_listed};
+ghost use Rattle.graph_edit.specs.Edited.{edited_from, leads, AreFirsts, EachHasFirst, OldsLeadToOlds};
 ghost use Rattle.graph_edit.specs.Editing.{change_to, graph_changed, graph_extended, graph_put, is_assignment, rhs_below};
 ghost use Rattle.flow_graph.specs.Graphs.{SuccsBelow};
 ghost use Rattle.graph_edit.specs.Insertions.{changed};
 ghost use Rattle.flow_graph.specs.Retained.{redirected};
 
-use flow_graph::{Graph, Names, Node, redirect};
+use flow_graph::{Graph, Names, Node, redirect_in_place};
 use mir_base::{Items, Memory, Name, Rhs};
 use node_list::Links;
 use std::alloc::{AllocError, Global};
@@ -81,7 +80,7 @@ impl Editor {
         let vars = graph.shared_names().with(alloc, extra)?;
         let received = Vec::from_slice(alloc, graph.received())?;
         let nodes = with_room(alloc, graph.nodes(), room)?;
-        let links = one_each(alloc, total, graph.len())?;
+        let links = Links::one_each(alloc, total, graph.len())?;
         Ok(Editor {
             name,
             shared: graph.shared(),
@@ -131,8 +130,7 @@ impl Editor {
     {
         let mut nodes = self.nodes;
         nodes.truncate(self.used);
-        let firsts = first_nodes(self.alloc, &self.links, self.olds)?;
-        let nodes = led_nodes(self.alloc, nodes, firsts.as_slice(), &self.links)?;
+        lead_nodes(&mut nodes, self.olds, &self.links);
         Ok(Graph::of_parts(
             self.alloc,
             self.name,
@@ -159,23 +157,8 @@ fn with_room(alloc: Global, nodes: &[Node], room: usize) -> Result<Vec<Node>, Me
     Ok(all)
 }
 
-/// `lists` lists, each of which has its own number alone, for nodes numbered below `total`.
-fn one_each(alloc: Global, total: usize, lists: usize) -> Result<Links, Memory>
-    requires { lists ≤ total }
-    ensures nodes { IfOk result (λ links. links.nodes ≡ total) }
-    ensures count { IfOk result (λ links. length links.lists ≡ lists) }
-    ensures each { IfOk result (λ links. (s : ℕ) → s < lists → list_at links.lists s ≡ s ∷ []) }
-    ensures listed { IfOk result (λ links. (n : ℕ) → is_listed links.lists n ≡ nat_lt n lists) }
-{
-    let mut links = Links::new(alloc, total, lists)?;
-    for list in 0..lists {
-        links.push_back(list, list);
-    }
-    Ok(links)
-}
-
 /// The assignment with another right side, or a Skip in its place; any other node as it is.
-fn changed(node: Node, rhs: Option<Rhs>) -> Node
+pub(crate) fn changed(node: Node, rhs: Option<Rhs>) -> Node
     ensures { result ≡ changed (change_to rhs) node }
 {
     match node {
@@ -193,68 +176,51 @@ fn changed(node: Node, rhs: Option<Rhs>) -> Node
     }
 }
 
-/// The first node of each list.
-fn first_nodes(alloc: Global, links: &Links, lists: usize) -> Result<Vec<usize>, Memory>
-    requires { length links.now.lists ≡ lists }
-    ensures long { IfOk result (λ firsts. length firsts.items ≡ lists) }
-    ensures each { IfOk result (λ firsts. AreFirsts lists links.now.lists firsts.items) }
+/// Leads each edge to where it ends. So many nodes, the first ones, are old, and each of them has a list.
+fn lead_nodes(nodes: &mut [Node], olds: usize, links: &Links)
+    requires count { length links.now.lists ≡ olds }
+    requires firsts { EachHasFirst links.now.lists }
+    requires listed { (n : ℕ) → n < length nodes.old → IsTrue (is_listed links.now.lists n) }
+    requires below { OldsLeadToOlds olds nodes.old }
+    ensures { nodes.new ≡ edited_from links.now.lists 0 nodes.old }
 {
-    let mut firsts = Vec::with_capacity(alloc, lists)?;
-    for list in 0..lists {
-        firsts.push(links.first(list).unwrap_or(0))?;
+    let firsts = links.firsts();
+    for number in 0..nodes.len() {
+        lead_node(number, &mut nodes[number], olds, firsts, links);
     }
-    Ok(firsts)
 }
 
-/// The nodes with their edges: the first `firsts.len()` of them are the old ones.
-fn led_nodes(
-    alloc: Global,
-    nodes: Vec<Node>,
-    firsts: &[usize],
-    links: &Links,
-) -> Result<Vec<Node>, Memory>
-    requires count { length links.now.lists ≡ length firsts.now }
-    requires firsts { AreFirsts (length firsts.now) links.now.lists firsts.now }
-    requires listed { (n : ℕ) → n < length nodes.items → IsTrue (is_listed links.now.lists n) }
-    requires below { OldsLeadToOlds (length firsts.now) nodes.items }
-    ensures { IfOk result (λ led. led.items ≡ edited_from links.now.lists 0 nodes.items) }
-{
-    let mut led = Vec::with_capacity(alloc, nodes.len())?;
-    let mut number = 0;
-    for node in nodes {
-        led.push(led_node(number, node, firsts, links))?;
-        number += 1;
-    }
-    Ok(led)
-}
-
-/// The node of this number with its edges.
-fn led_node(number: usize, node: Node, firsts: &[usize], links: &Links) -> Node
-    requires count { length links.now.lists ≡ length firsts.now }
-    requires firsts { AreFirsts (length firsts.now) links.now.lists firsts.now }
+/// Leads the edges of the node of this number to where they end.
+fn lead_node(number: usize, node: &mut Node, olds: usize, firsts: &[usize], links: &Links)
+    requires count { length links.now.lists ≡ olds }
+    requires long { length firsts.now ≡ olds }
+    requires firsts { AreFirsts olds links.now.lists firsts.now }
     requires listed { IsTrue (is_listed links.now.lists number) }
-    requires below { number < length firsts.now → SuccsBelow (length firsts.now) node }
-    ensures { result ≡ redirected (leads links.now.lists number) node }
+    requires below { number < olds → SuccsBelow olds node.old }
+    ensures { node.new ≡ redirected (leads links.now.lists number) node.old }
 {
-    if number < firsts.len() {
-        redirect(node, firsts)
+    if number < olds {
+        redirect_in_place(node, firsts);
     } else {
-        aimed(node, links.next(number).unwrap_or(0))
+        aim(node, links.next(number).unwrap_or(0));
     }
 }
 
-/// The node with one number for all its successors.
-fn aimed(node: Node, to: usize) -> Node
-    ensures { result ≡ redirected (λ n. to) node }
+/// Gives the node one number for all its successors.
+fn aim(node: &mut Node, to: usize)
+    ensures { node.new ≡ redirected (λ n. to) node.old }
 {
     match node {
-        Node::Start(_) => Node::Start(to),
-        Node::Skip(_) => Node::Skip(to),
-        Node::Assign(x, rhs, _) => Node::Assign(x, rhs, to),
-        Node::Print(a, _) => Node::Print(a, to),
-        Node::Guard(test, number, _) => Node::Guard(test, number, to),
-        Node::Call(into, unit, args, _) => Node::Call(into, unit, args, to),
-        Node::Test(test, _, _) => Node::Test(test, to, to),
-        Node::Return(a) => Node::Return(a),
+        Node::Start(next) => *next = to,
+        Node::Skip(next) => *next = to,
+        Node::Assign(_, _, next) => *next = to,
+        Node::Print(_, next) => *next = to,
+        Node::Guard(_, _, next) => *next = to,
+        Node::Call(_, _, _, next) => *next = to,
+        Node::Test(_, taken, other) => {
+            *taken = to;
+            *other = to;
+        }
+        Node::Return(_) => {}
     }
 }

@@ -1,12 +1,14 @@
 -- Where the link of a node in a list leads.
-use Rattle.std.proofs.Common.{◌≡◌, ℕ, zero, suc, ◌+◌, ◌<◌, ◌≤◌, cond, eqb, List, [], ◌∷◌, ◌++◌, length, get_or, slice_get, Option, Some, None, MatchOption, ◌⊎◌, inl, inr, refl, sym, ap, ◌∙◌, arith, eq-eqb}
-use Rattle.std.proofs.lemmas.Bool.{cases_eq, ne_eqb}
+use Rattle.std.proofs.Common.{◌≡◌, ℕ, zero, suc, ◌+◌, ◌-◌, ◌<◌, ◌≤◌, cond, eqb, List, [], ◌∷◌, ◌++◌, length, take, drop, get_or, slice_get, Option, Some, None, MatchOption, ◌⊎◌, inl, inr, refl, sym, ap, ◌∙◌, arith, eq-eqb}
+use Rattle.std.proofs.lemmas.Bool.{cases_eq, cases_lt, ne_eqb}
+use Rattle.std.proofs.lemmas.List.{get_or-drop, get_or-take, get_or_past, length-drop, length-take}
+use Rattle.std.proofs.lemmas.Option.{slice_get-get_or}
 use Rattle.std.specs.Option.{option_or}
 use Rattle.node_list.specs.Lists.{list_at, times_in, times, after_in, node_after}
 use Rattle.node_list.specs.Rings.{Along, HoldLinks}
 use Rattle.node_list.proofs.Counts.{times_in_cons_same, times_in_cons_other, times_in_le}
 use Rattle.node_list.proofs.Keeps.{find_list}
-use Rattle.node_list.proofs.Writes.{lists_of, leads_first, leads_none}
+use Rattle.node_list.proofs.Writes.{all_len, lists_of, leads_first, leads_none}
 
 -- the link of a node leads to the number after it, or out of the list
 after_along : (next prev : ℕ → ℕ) (from : ℕ) (xs : List ℕ) (stop node : ℕ) → Along next prev from (xs ++ stop ∷ []) → 0 < times_in node xs → ((after_in node xs ≡ Some (next node)) × (0 < times_in (next node) xs)) ⊎ ((after_in node xs ≡ None) × (next node ≡ stop))
@@ -97,6 +99,29 @@ module _ (nodes count : ℕ) (next prev : List ℕ) (held : HoldLinks nodes coun
 
   pub begins_not : (list : ℕ) → list < count → nodes ≤ link (nodes + list) → slice_get (list_at lists list) 0 ≡ None
   begins_not list within le = ap (λ l. slice_get l 0) (leads_none nodes count next prev held list within le)
+
+  -- the links of the rings, read as one slice, are as many as there are lists
+  pub firsts_length : length (take (length next - nodes) (drop nodes next)) ≡ count
+  firsts_length = omega (arith, length-take {A = ℕ}, length-drop nodes next, length-take (length next - nodes) (drop nodes next), held.next_len)
+
+  -- and give the first node of each list that has one
+  pub firsts_get : (list node : ℕ) → slice_get (list_at lists list) 0 ≡ Some node → slice_get (take (length next - nodes) (drop nodes next)) list ≡ Some node
+  firsts_get list node first = elim (cases_lt list count) [
+    | inl within ↦ elim (cases_lt (link (nodes + list)) nodes) [
+      | inl lt ↦
+          let slice = take (length next - nodes) (drop nodes next) in
+          let inside : list < length next - nodes = omega (arith, within, held.next_len) in
+          slice_get-get_or slice list 0 (omega (arith, within, firsts_length))
+          ∙ ap Some (get_or-take (length next - nodes) (drop nodes next) list 0 inside ∙ get_or-drop nodes next list 0)
+          ∙ sym (begins_with list within lt)
+          ∙ first
+      | inr le ↦ let none = sym (begins_not list within le) ∙ first in absurd (cc)
+    ]
+    | inr past ↦
+        let empty : list_at lists list ≡ [] = get_or_past lists list [] (omega (arith, past, all_len nodes count next prev held)) in
+        let none : None ≡ Some node = sym (ap (λ (l : List ℕ). slice_get l 0) empty) ∙ first in
+        absurd (cc)
+  ]
 
 -- what a link says is the node, where it leads to one
 pub read_is : (o : Option ℕ) (nodes link : ℕ) (target : Option ℕ) → MatchOption o (nodes ≤ link) (λ node. (node ≡ link) × (node < nodes)) → (link < nodes → target ≡ Some link) → (nodes ≤ link → target ≡ None) → o ≡ target

@@ -3,3 +3,4 @@ pub mod Along
 pub mod Keeps
 pub mod Writes
 pub mod Ahead
+pub mod Own

@@ -43,3 +43,11 @@ pub record HoldLinks (nodes count : ℕ) (next prev : List ℕ) : Type 0 where
   pub next_len : length next ≡ nodes + count
   pub prev_len : length prev ≡ nodes + count
   pub linked : AreRings nodes (lists_along nodes count (slice_index next)) (slice_index next) (slice_index prev)
+
+-- each of so many lists has its own number alone: a list and the number of its ring are linked to each other, and all
+-- other nodes to themselves
+pub record AreOwnLinks (nodes count : ℕ) (links : List ℕ) : Type 0 where
+  pub len : length links ≡ nodes + count
+  pub rings : (list : ℕ) → list < count → slice_index links list ≡ nodes + list
+  pub loose : (node : ℕ) → count ≤ node → node < nodes → slice_index links node ≡ node
+  pub lists : (list : ℕ) → list < count → slice_index links (nodes + list) ≡ list

@@ -1,5 +1,6 @@
 // The lists and their calls.
-ghost use Rattle.std.specs.Prelude.{◌≡◌, ℕ, ◌<◌, ◌≤◌, false, [], ◌∷◌, length, map, slice_get, IfOk, IfSome, IsTrue, MatchOption};
+ghost use Rattle.std.specs.Prelude.{◌≡◌, ℕ, ◌<◌, ◌≤◌, false, [], ◌∷◌, length, map, slice_get, nat_lt, IfOk, IfSome, IsTrue, MatchOption, Some};
+ghost use Rattle.node_list.specs.Rings.{AreOwnLinks};
 ghost use Rattle.node_list.specs.Lists.{AlsoLists, Lists, NoLongerLists, OtherListsStay, empty_lists, list_at, is_listed, node_after, inserted_before, times, with_last, without};
 
 use crate::Memory;
@@ -45,6 +46,25 @@ impl Links {
             next.push(number)?;
             prev.push(number)?;
         }
+        Ok(Links {
+            nodes,
+            lists,
+            next,
+            prev,
+        })
+    }
+
+    /// So many lists, each of which has its own number alone, for nodes numbered from 0, of which there are no fewer.
+    /// It fails only with `Memory`.
+    pub fn one_each(alloc: Global, nodes: usize, lists: usize) -> Result<Links, Memory>
+        requires { lists ≤ nodes }
+        ensures nodes { IfOk result (λ links. links.nodes ≡ nodes) }
+        ensures count { IfOk result (λ links. length links.lists ≡ lists) }
+        ensures each { IfOk result (λ links. (s : ℕ) → s < lists → list_at links.lists s ≡ s ∷ []) }
+        ensures listed { IfOk result (λ links. (n : ℕ) → is_listed links.lists n ≡ nat_lt n lists) }
+    {
+        let next = own_links(alloc, nodes, lists)?;
+        let prev = Vec::from_slice(alloc, next.as_slice())?;
         Ok(Links {
             nodes,
             lists,
@@ -128,6 +148,15 @@ impl Links {
         node_at(&self.next, ring, self.nodes)
     }
 
+    /// For each list that has a first node the number of this node. It does not allocate.
+    pub fn firsts(&self) -> &[usize]
+        ensures long { length result.now ≡ length self.now.lists }
+        ensures each { (list node : ℕ) → slice_get (list_at self.now.lists list) 0 ≡ Some node
+            → slice_get result.now list ≡ Some node }
+    {
+        &self.next[self.nodes..]
+    }
+
     /// The node after one that is in a list, and `None` exactly where that is the last of its list. It does not
     /// allocate.
     pub fn next(&self, node: usize) -> Option<usize>
@@ -136,4 +165,23 @@ impl Links {
     {
         node_at(&self.next, node, self.nodes)
     }
+}
+
+/// The links of lists, each of which has its own number alone. They are the same forward and back.
+fn own_links(alloc: Global, nodes: usize, lists: usize) -> Result<Vec<usize>, Memory>
+    requires { lists ≤ nodes }
+    ensures { IfOk result (λ links. AreOwnLinks nodes lists links.items) }
+{
+    let Some(count) = nodes.checked_add(lists) else {
+        return Err(AllocError);
+    };
+    let mut links = vec![in alloc; 0; count]?;
+    for node in lists..nodes {
+        links[node] = node;
+    }
+    for list in 0..lists {
+        links[list] = nodes + list;
+        links[nodes + list] = list;
+    }
+    Ok(links)
 }

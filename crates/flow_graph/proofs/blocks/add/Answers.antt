@@ -2,10 +2,10 @@ use Rattle.std.proofs.Common.{◌≡◌, ◌-◌, ◌++◌, [], ◌∷◌, lengt
 use Rattle.flow_graph.proofs.Blocking.{kept_more, kept_on, length_cut}
 use Rattle.flow_graph.proofs.blocks.add.Goals as goal
 
-pub returns-then-not-is_first : goal.returns-then-not-is_first
-returns-then-not-is_first c =
-    let inner : c.is_first.result ≡ false = c.if-not-is_first.true in
-    kept_on c.args.graph.now.nodes c.args.head c.args.order.now.items c.args.starts.now.items c.args.block_of.now c.requires.before (sym c.is_first.ensures ∙ inner)
+pub returns-then-not-begins : goal.returns-then-not-begins
+returns-then-not-begins c =
+    let inner : c.begins.result ≡ false = c.if-not-begins.true in
+    kept_on c.args.graph.now.nodes c.args.head c.args.order.now.items c.args.starts.now.items c.args.block_of.now c.requires.before (sym c.begins.ensures ∙ inner)
 
 pub follow-requires-clause-block : goal.follow-requires-clause-block
 follow-requires-clause-block c =
@@ -14,11 +14,11 @@ follow-requires-clause-block c =
 
 pub returns : goal.returns
 returns c =
-    let first : c.is_first.result ≡ true = c.if-not-is_first.false in
+    let first : c.begins.result ≡ true = c.if-not-begins.false in
     let long = length_cut (length c.args.order.now.items) c.args.order.now.items c.args.starts.now.items c.requires.before.starts_are in
     let f = c.in_ok-follow.ensures in
     let read : c.len.result ≡ c.follow.new.order.len = c.len.ensures in
     let kept = c.follow.new.order.ok.0 in
     let all : c.len.result ≡ length c.follow.new.order.items = omega arith in
     kept_more c.args.graph.now.nodes c.args.head f.0 (c.len-block.result - 1) c.args.order.now.items c.follow.new.order.items c.args.starts.now.items c.push.new.self.items c.args.block_of.now c.follow.new.block_of c.requires.before
-    (omega (arith, long, c.len-block.ensures)) c.requires.there (sym c.is_first.ensures ∙ first) f.1 f.2 (c.in_ok-push.ensures.items ∙ ap (λ n. c.args.starts.now.items ++ n ∷ []) all)
+    (omega (arith, long, c.len-block.ensures)) c.requires.there (sym c.begins.ensures ∙ first) f.1 f.2 (c.in_ok-push.ensures.items ∙ ap (λ n. c.args.starts.now.items ++ n ∷ []) all)
