@@ -1,13 +1,12 @@
 -- The graph in which each flagged node is a Skip.
-use Rattle.std.proofs.Common.{◌≡◌, ℕ, zero, suc, ◌+◌, ◌++◌, Bool, false, List, [], ◌∷◌, drop, length, slice_get, take, Some, refl, ap, subst, ◌∙◌, arith}
+use Rattle.std.proofs.Common.{◌≡◌, ℕ, suc, Bool, false, List, [], ◌∷◌, length, refl, ap, subst, ◌∙◌, arith}
 use Rattle.std.proofs.lemmas.Option.{slice_get-get_or}
 use Rattle.flow_graph.specs.declared.nodes.Node.{Node}
 use Rattle.flow_graph.specs.Graphs.{GraphShape}
 use Rattle.graph_edit.specs.ChangeLaws.{changed_not}
-use Rattle.graph_edit.specs.Editing.{change_at}
-use Rattle.graph_edit.specs.Insertions.{changed}
-use Rattle.sink_dead.specs.Dead.{NoneFlagged, TellDead, flag_at, graph_flagged}
-use Rattle.sink_dead.specs.Pruned.{IsPruned, pruned_from, removed_if}
+use Rattle.graph_edit.specs.Flagged.{flag_at, graph_flagged, pruned_from}
+use Rattle.sink_dead.specs.Dead.{NoneFlagged, TellDead}
+use Rattle.sink_dead.specs.Pruned.{IsPruned}
 use Rattle.sink_dead.specs.PrunedLaws.{pruned_alike}
 
 -- is the graph without its dead assignments
@@ -26,18 +25,7 @@ flagged_itself graph dead tells none = subst (IsPruned graph) (ap (λ (l : List 
     none_pruned k [] = refl
     none_pruned k (node ∷ nodes) = ap (λ l. l ∷ pruned_from (λ n. false) (suc k) nodes) (changed_not node) ∙ ap (λ l. node ∷ l) (none_pruned (suc k) nodes)
 
--- ---- the nodes as far as a loop has come
-
--- one node more becomes a Skip or stays
-pub removed_next : (dead : ℕ → Bool) (k : ℕ) (nodes : List Node) (n : ℕ) (node : Node) (b : Bool) → slice_get nodes n ≡ Some node → b ≡ dead (k + n)
-    → change_at n (removed_if b) (pruned_from dead k (take n nodes) ++ drop n nodes) ≡ pruned_from dead k (take (suc n) nodes) ++ drop (suc n) nodes
-removed_next dead k [] n node b at is = cc
-removed_next dead k (first ∷ nodes) zero node b at is = let same : k + 0 ≡ k = omega arith in ap (λ d. changed (removed_if d) first ∷ nodes) (is ∙ ap dead same)
-removed_next dead k (first ∷ nodes) (suc n) node b at is =
-    let same : k + suc n ≡ suc k + n = omega arith in
-    ap (λ l. changed (removed_if (dead k)) first ∷ l) (removed_next dead (suc k) nodes n node b at (is ∙ ap dead same))
-
--- there are as many as before
+-- there are as many nodes as before
 pub pruned_length : (dead : ℕ → Bool) (k : ℕ) (nodes : List Node) → length (pruned_from dead k nodes) ≡ length nodes
 pruned_length dead k [] = refl
 pruned_length dead k (node ∷ nodes) = ap suc (pruned_length dead (suc k) nodes)

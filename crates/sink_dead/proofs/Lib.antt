@@ -5,7 +5,7 @@ pub mod Ordered
 pub mod Delays
 pub mod Credit
 pub mod SunkKeeps
-pub mod Listing
+pub mod Linked
 pub mod PatternBits
 pub mod KeptTies
 pub mod Found
@@ -22,7 +22,6 @@ pub mod PrunedPaths
 pub mod RoundsSoFar
 pub mod Skipping
 pub mod HeldUp
-pub mod Edited
 pub mod Noted
 pub mod Passing
 pub mod Carried

@@ -20,7 +20,7 @@ use Rattle.sink_dead.specs.declared.places.Place.{Place}
 use Rattle.sink_dead.specs.declared.places.Places.{Places}
 use Rattle.sink_dead.specs.Accesses.{assigns_at, assigns_var, reads_var}
 use Rattle.sink_dead.specs.LiveRows.{assigned_vars}
-use Rattle.sink_dead.specs.Places.{AreBlockPlaces, AreFrom, AreTakenIn, TakesInNode, TellFirst, accesses_at, first_where, index_in, index_or, nearest, noted, stop_by, stops_at}
+use Rattle.sink_dead.specs.Places.{AreBlockPlaces, AreFrom, AreTakenIn, TakesInNode, TellFirst, accesses_at, first_where, index_in, index_or, nearest, noted, stop_by, stops_at, touches_none}
 use Rattle.sink_dead.specs.VarLaws.{assigned_is_in, is_in_append}
 
 -- ---- lists of places
@@ -34,6 +34,17 @@ noted_length place (x ∷ xs) places = noted_length place xs (slice_set places x
 pub noted_append : (place : Place) (xs ys : List ℕ) (places : List Place) → noted place (xs ++ ys) places ≡ noted place ys (noted place xs places)
 noted_append place [] ys places = refl
 noted_append place (x ∷ xs) ys places = noted_append place xs ys (slice_set places x place)
+
+-- nothing is noted of a node that touches nothing
+pub takes_none : (graph : GraphShape) (node : Node) (place : Place) (places : Places) → touches_none node ≡ true → TakesInNode graph node place places places
+takes_none graph (Start next) place places e = record { access = refl; assign = refl }
+takes_none graph (Skip next) place places e = record { access = refl; assign = refl }
+takes_none graph (Assign x rhs next) place places e = absurd (cc)
+takes_none graph (Print a next) place places e = absurd (cc)
+takes_none graph (Guard test number next) place places e = absurd (cc)
+takes_none graph (Call into unit operands next) place places e = absurd (cc)
+takes_none graph (Test test taken other) place places e = absurd (cc)
+takes_none graph (Return a) place places e = absurd (cc)
 
 -- two choices of one thing are one choice
 chosen_twice : {A : Type 0} (a b : Bool) (x y : A) → (if a then x else (if b then x else y)) ≡ (if b || a then x else y)

@@ -2,33 +2,42 @@
 use Rattle.std.proofs.Common.{◌≡◌, ℕ, suc, ◌+◌, ◌-◌, ◌<◌, ◌≤◌, ◌++◌, Bool, true, false, nat_eq, if◌then◌else◌, List, [], ◌∷◌, get_or, length, slice_get, Option, Some, None, refl, sym, ap, inl, inr, ◌∙◌, subst, arith, eqb-true, true≢false}
 use Rattle.std.proofs.lemmas.Bool.{and_from, and_parts, cases_eq, cases_lt, eq-eqb}
 use Rattle.std.proofs.lemmas.Option.{get_or_from_slice_get, none-some, slice_get_within}
-use Rattle.std.specs.List.Sorted.{IsNonDecreasingBy, IsStableByKey}
-use Rattle.std.specs.Ordering.{nat_cmp}
+use Rattle.std.proofs.lemmas.Cmp.{nat_cmp_total, on_total, then_total}
+use Rattle.std.proofs.lemmas.List.Sorted.{ranks_by, sorted_far}
+use Rattle.std.specs.Cmp.{IsStrictWeakOrder, nat_cmp_is}
+use Rattle.std.specs.declared.cmp.Ordering.{Ordering}
+use Rattle.std.specs.declared.cmp.Ordering.TheVariants.{Equal, Less}
+use Rattle.std.specs.List.Sorted.{IsSortedByKey}
+use Rattle.std.specs.Ordering.{is_lt, nat_cmp, ordering_then}
 use Rattle.mir_base.specs.ItemLaws.{contained_at}
 use Rattle.flow_graph.specs.ListLaws.{get_left_some, get_push, get_seam}
 use Rattle.sink_dead.specs.declared.inserting.Put.{Put}
 use Rattle.sink_dead.specs.FoundPuts.{AreOnce, AreSorted, PutsAscend, ComesBefore, ends_at_site, have_one_site, is_at_site, with_new}
-use Rattle.sink_dead.proofs.KeptTies.{ties_kept}
 
 -- ---- in order
 
--- a key does not fall along a list
-rises_on : (key : Put → ℕ) (puts : List Put) (i j : ℕ) (a b : Put) → IsNonDecreasingBy key puts → i < j → slice_get puts i ≡ Some a → slice_get puts j ≡ Some b → key a ≤ key b
-rises_on key puts i j a b up lt at_i at_j =
+-- where an insertion stands: its node and its variable
+abbrev pub site : Put → ℕ × ℕ
+site put = (put.node, put.var)
+
+-- by node, and of one node by variable
+abbrev pub site_cmp : ℕ × ℕ → ℕ × ℕ → Ordering
+site_cmp x y = ordering_then (nat_cmp x.0 y.0) (nat_cmp x.1 y.1)
+
+-- what comes before another is less
+comes_less : (a b : Put) → ComesBefore a b → is_lt (site_cmp (site a) (site b)) ≡ true
+comes_less a b (inl less) = ap (λ o. is_lt (ordering_then o (nat_cmp a.var b.var))) (sym (nat_cmp_is a.node b.node Less less))
+comes_less a b (inr same) =
+    ap (λ o. is_lt (ordering_then o (nat_cmp a.var b.var))) (sym (nat_cmp_is a.node b.node Equal same.0)) ∙ ap is_lt (sym (nat_cmp_is a.var b.var Less same.1))
+
+-- sorted by node and variable
+pub sites_sorted : (puts : List Put) → IsSortedByKey site site_cmp puts → AreSorted puts
+sites_sorted puts up i j a b lt at_i at_j before =
+    let order : IsStrictWeakOrder (λ (x y : Put). is_lt (site_cmp (site x) (site y))) = ranks_by (then_total (on_total (λ (t : ℕ × ℕ). t.0) nat_cmp_total) (on_total (λ (t : ℕ × ℕ). t.1) nat_cmp_total)) site in
+    let far = sorted_far (λ (x y : Put). is_lt (site_cmp (site x) (site y))) order puts up i j a (omega (arith, lt)) (slice_get_within puts j b at_j) in
     let first : get_or puts i a ≡ a = get_or_from_slice_get puts i a a at_i in
     let second : get_or puts j a ≡ b = get_or_from_slice_get puts j b a at_j in
-    subst (λ p. key p ≤ key b) first (subst (λ p. key (get_or puts i a) ≤ key p) second (up i j a (omega (arith, lt)) (slice_get_within puts j b at_j)))
-
--- sorted by variable, and then stably by node
-pub both_sorted : (by_var puts : List Put) → IsNonDecreasingBy (λ (p : Put). p.var) by_var → IsNonDecreasingBy (λ (p : Put). p.node) puts → IsStableByKey (λ (p : Put). p.node) nat_cmp by_var puts → AreSorted puts
-both_sorted by_var puts vars nodes stable i j a b lt at_i at_j before = elim before [
-  | inl less ↦ (let up = rises_on (λ (p : Put). p.node) puts i j a b nodes lt at_i at_j in omega (arith, less, up))
-  | inr same ↦
-      let stood = ties_kept (λ (p : Put). p.node) by_var puts stable i j a b lt at_i at_j (sym same.0) in
-      let up = rises_on (λ (p : Put). p.var) by_var stood.0 stood.1 a b vars stood.2 stood.3 stood.4 in
-      let less = same.1 in
-      omega (arith, less, up)
-]
+    true≢false (sym (comes_less b a before) ∙ ap (λ p. is_lt (site_cmp (site p) (site a))) (sym second) ∙ ap (λ p. is_lt (site_cmp (site (get_or puts j a)) (site p))) (sym first) ∙ far)
 
 -- ---- without repeats
 

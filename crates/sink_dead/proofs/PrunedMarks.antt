@@ -8,6 +8,7 @@ use Rattle.std.proofs.lemmas.Option.{slice_get_past}
 use Rattle.mir_base.specs.Frames.{shared_vars}
 use Rattle.bit_rows.specs.Bits.{row_of}
 use Rattle.flow_graph.specs.declared.nodes.Node.{Node}
+use Rattle.flow_graph.specs.declared.nodes.Node.TheVariants.{Start, Skip, Assign, Print, Guard, Call, Test, Return}
 use Rattle.flow_graph.specs.Graphs.{GraphShape, node_reads}
 use Rattle.flow_graph.specs.ListLaws.{get_take}
 use Rattle.flow_graph.specs.Numbering.{is_in}
@@ -16,6 +17,7 @@ use Rattle.path_laws.specs.Paths.{AreRows, has_bit}
 use Rattle.sink_dead.specs.Dead.{PassesBack}
 use Rattle.sink_dead.specs.Accesses.{assigns_at, assigns_var, reads_at, reads_var}
 use Rattle.sink_dead.specs.LiveRows.{AreMarked, IsMarkedAt, assigned_vars, vars_of}
+use Rattle.sink_dead.specs.Places.{touches_none}
 use Rattle.sink_dead.specs.VarLaws.{assigned_is_in, is_in_append, shared_more}
 
 -- ---- truth values
@@ -107,6 +109,25 @@ passes_back graph node n old mid new assigned read = record {
     back true false false true = refl
     back true false false false = refl
     back false read assigned old = refl
+
+-- a node that touches nothing has no variable
+touched_none : (graph : GraphShape) (node : Node) → touches_none node ≡ true → (node_reads graph node ≡ []) × (assigned_vars graph node ≡ [])
+touched_none graph (Start next) e = (refl, refl)
+touched_none graph (Skip next) e = (refl, refl)
+touched_none graph (Assign x rhs next) e = absurd (cc)
+touched_none graph (Print a next) e = absurd (cc)
+touched_none graph (Guard test number next) e = absurd (cc)
+touched_none graph (Call into unit operands next) e = absurd (cc)
+touched_none graph (Test test taken other) e = absurd (cc)
+touched_none graph (Return a) e = absurd (cc)
+
+-- so the rows of what is assigned are as they are
+pub marks_none : (value : Bool) (graph : GraphShape) (node : Node) (n : ℕ) (rows : List (List Bool)) → touches_none node ≡ true → IsMarkedAt value n (assigned_vars graph node) rows rows
+marks_none value graph node n rows e = subst (λ xs. IsMarkedAt value n xs rows rows) (sym (touched_none graph node e).1) (marked_none value n rows)
+
+-- and those of what is live
+pub passes_none : (graph : GraphShape) (node : Node) (n : ℕ) (rows : List (List Bool)) → touches_none node ≡ true → PassesBack graph node n rows rows
+passes_none graph node n rows e = passes_back graph node n rows rows rows (marks_none false graph node n rows e) (subst (λ xs. IsMarkedAt true n xs rows rows) (sym (touched_none graph node e).0) (marked_none true n rows))
 
 -- ---- the nodes as far as a loop has come
 

@@ -9,6 +9,7 @@ use Rattle.flow_graph.specs.Blocks.{StandsIn}
 use Rattle.flow_graph.specs.Graphs.{GraphShape, node_reads}
 use Rattle.flow_graph.specs.Numbering.{is_in}
 use Rattle.flow_graph.specs.Paths.{Ends}
+pub use Rattle.graph_edit.specs.Flagged.{flag_at, graph_flagged}
 use Rattle.path_laws.specs.Blockwise.{passed_all}
 use Rattle.path_laws.specs.Paths.{AreRows, has_bit}
 use Rattle.bit_rows.specs.Bits.{row_of}
@@ -16,7 +17,7 @@ use Rattle.sink_dead.specs.declared.dead.BlockAccesses.{BlockAccesses}
 use Rattle.sink_dead.specs.Accesses.{assigns_at, reads_at}
 use Rattle.sink_dead.specs.LiveRows.{assigned_vars}
 use Rattle.sink_dead.specs.Liveness.{IsLiveAfter}
-use Rattle.sink_dead.specs.Pruned.{IsDeadAt, pruned_from}
+use Rattle.sink_dead.specs.Pruned.{IsDeadAt}
 
 -- ---- one node
 
@@ -81,14 +82,6 @@ pub record AreFlaggedTo (graph : GraphShape) (lists : List (List ℕ)) (below : 
 pub record TellDead (graph : GraphShape) (dead : List Bool) : Type 0 where
   pub long : length dead ≡ length graph.nodes
   pub are : (n : ℕ) (flag : Bool) → slice_get dead n ≡ Some flag → (flag ≡ true) ↔ IsDeadAt graph n
-
--- a flag of the list, and past it none
-abbrev pub flag_at : List Bool → ℕ → Bool
-flag_at dead n = slice_index_or dead n false
-
--- the graph in which each flagged node is a Skip
-abbrev pub graph_flagged : List Bool → GraphShape → GraphShape
-graph_flagged dead graph = record graph { nodes = pruned_from (flag_at dead) 0 graph.nodes }
 
 -- no node is flagged
 abbrev pub NoneFlagged : List Bool → Type 0

@@ -1,6 +1,6 @@
 -- What comes into a block and is put there or leaves it, pattern by pattern. Cited by contracts of private functions.
-use Rattle.std.specs.Prelude.{◌≡◌, ◌⊎◌, ℕ, ◌<◌, ◌≤◌, ◌++◌, Bool, true, List, [], ◌∷◌, length, slice_get, slice_set, Option, Some, None}
-use Rattle.bit_rows.specs.Bits.{row_of}
+use Rattle.std.specs.Prelude.{◌≡◌, ◌⊎◌, ℕ, ◌<◌, ◌≤◌, ◌++◌, Bool, true, false, List, [], ◌∷◌, length, slice_get, slice_set, Option, Some, None}
+use Rattle.bit_rows.specs.Bits.{row_bit, row_of}
 use Rattle.flow_graph.specs.declared.nodes.Node.{Node}
 use Rattle.flow_graph.specs.declared.nodes.Node.TheVariants.{Start, Skip, Assign, Print, Guard, Call, Test, Return}
 use Rattle.sink_dead.specs.declared.inserting.Put.{Put}
@@ -32,9 +32,9 @@ pub record IsSettled (over : OverBlocks) (block number : ℕ) (leaves : List (Li
 abbrev pub AreHeadsDone : OverBlocks → List (List Bool) → List (List Bool) → List Put → ℕ → List (List Bool) → List Put → Type 0
 AreHeadsDone over into leaves puts block rows now = AreFromHeadsOver over into leaves puts (λ b k. block ≤ b) rows now
 
--- of the later blocks, and of this one those below a number
-abbrev pub AreHeadDone : OverBlocks → List (List Bool) → List (List Bool) → List Put → ℕ → ℕ → List (List Bool) → List Put → Type 0
-AreHeadDone over into leaves puts block number rows now = AreFromHeadsOver over into leaves puts (λ b k. (block < b) ⊎ ((b ≡ block) × (k < number))) rows now
+-- of the later blocks, and of this one those below a number and those whose bits are not set in this row
+abbrev pub AreHeadDone : OverBlocks → List (List Bool) → List Bool → List (List Bool) → List Put → ℕ → ℕ → List (List Bool) → List Put → Type 0
+AreHeadDone over into row leaves puts block number rows now = AreFromHeadsOver over into leaves puts (λ b k. (block < b) ⊎ ((b ≡ block) × ((k < number) ⊎ (row_bit row k ≡ false)))) rows now
 
 -- the successor of a Skip
 abbrev pub skip_to : Node → Option ℕ

@@ -6,6 +6,7 @@ pub mod SunkLaws
 pub mod PatternTables
 pub mod PatternRows
 pub mod Puts
+pub mod Written
 pub mod Skips
 pub mod Moving
 pub mod NoMore
@@ -17,6 +18,7 @@ pub mod Pruned
 pub mod RoundGraphs
 pub mod LiveRows
 pub mod PrunedLaws
+pub mod GraphFlows
 pub mod RoundsKept
 pub mod RoundsMade
 pub mod RoundLaws
@@ -28,6 +30,7 @@ pub mod Inside
 pub mod BlockRows
 pub mod FoundPuts
 pub mod Over
+pub mod Coming
 pub mod Heads
 pub mod Moved
 pub mod Dead

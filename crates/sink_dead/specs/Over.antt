@@ -6,7 +6,7 @@ use Rattle.flow_graph.specs.Edges.{edges_of}
 use Rattle.path_laws.specs.Paths.{AreRows}
 use Rattle.sink_dead.specs.declared.inserting.Put.{Put}
 use Rattle.sink_dead.specs.declared.over.OverBlocks.{OverBlocks}
-use Rattle.sink_dead.specs.BlockRows.{AreBlockRows, AreInto, is_blocked_in, is_lost_in, leaves_own}
+use Rattle.sink_dead.specs.BlockRows.{AreBlockRows, AreInto, is_blocked_in, leaves_own}
 use Rattle.sink_dead.specs.FoundPuts.{AreFromHeads, ArePutAtEnds}
 use Rattle.sink_dead.specs.PatternTables.{AreSinkableBelow}
 
@@ -31,10 +31,6 @@ AreBlockedOver over rows = AreBlockRows (lists_of over) over.table.now (is_block
 -- which leave a block in which they occur
 abbrev pub AreLeavingOver : OverBlocks → List (List Bool) → Type 0
 AreLeavingOver over rows = AreBlockRows (lists_of over) over.table.now (leaves_own over.graph.now) rows
-
--- which are lost in it
-abbrev pub AreLostOver : OverBlocks → List (List Bool) → Type 0
-AreLostOver over rows = AreBlockRows (lists_of over) over.table.now (is_lost_in over.graph.now) rows
 
 -- and which come into it: they are delayed at its first node
 abbrev pub AreIntoOver : OverBlocks → List (List Bool) → Type 0

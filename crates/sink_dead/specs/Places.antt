@@ -1,10 +1,11 @@
 -- The nearest nodes of a block, from a place on, that read or assign each variable, and the nearest that blocks a
 -- pattern. Cited by contracts of private functions.
-use Rattle.std.specs.Prelude.{◌≡◌, ℕ, suc, ◌<◌, ◌≤◌, ◌||◌, ◌++◌, Bool, nat_eq, if◌then◌else◌, min, List, [], ◌∷◌, drop, length, slice_get, slice_set, Option, Some, None}
+use Rattle.std.specs.Prelude.{◌≡◌, ℕ, suc, ◌<◌, ◌≤◌, ◌||◌, ◌++◌, Bool, true, false, nat_eq, if◌then◌else◌, min, List, [], ◌∷◌, drop, length, slice_get, slice_set, Option, Some, None}
 use Rattle.std.specs.List.{list_any}
 use Rattle.mir_base.specs.declared.instructions.Rhs.{Rhs}
 use Rattle.mir_base.specs.Shapes.{rhs_vars}
 use Rattle.flow_graph.specs.declared.nodes.Node.{Node}
+use Rattle.flow_graph.specs.declared.nodes.Node.TheVariants.{Start, Skip, Assign, Print, Guard, Call, Test, Return}
 use Rattle.flow_graph.specs.Graphs.{GraphShape, node_reads}
 use Rattle.sink_dead.specs.declared.patterns.Pattern.{Pattern}
 use Rattle.sink_dead.specs.declared.places.Place.{Place}
@@ -13,6 +14,17 @@ use Rattle.sink_dead.specs.Accesses.{assigns_at, reads_at}
 use Rattle.sink_dead.specs.LiveRows.{assigned_vars}
 
 -- ---- what is noted
+
+-- the node is of a kind that reads and assigns nothing
+abbrev pub touches_none : Node → Bool
+touches_none (Start next) = true
+touches_none (Skip next) = true
+touches_none (Assign x rhs next) = false
+touches_none (Print a next) = false
+touches_none (Guard test number next) = false
+touches_none (Call into unit operands next) = false
+touches_none (Test test taken other) = false
+touches_none (Return a) = false
 
 -- the places with this one for each of these variables
 abbrev pub noted : Place → List ℕ → List Place → List Place

@@ -5,7 +5,7 @@ use Rattle.mir_base.specs.Expressions.{divides}
 use Rattle.flow_graph.specs.declared.nodes.Node.{Node}
 use Rattle.flow_graph.specs.declared.nodes.Node.TheVariants.{Assign}
 use Rattle.flow_graph.specs.Graphs.{GraphShape}
-use Rattle.graph_edit.specs.Insertions.{Change, Unchanged, Removed, changed}
+pub use Rattle.graph_edit.specs.Flagged.{pruned_from, removed_if}
 use Rattle.sink_dead.specs.Liveness.{IsHandedOn, IsLiveAfter}
 
 -- node n assigns a variable that is not live after it, and its right side does not divide: it is plain or movable
@@ -16,16 +16,6 @@ pub record IsDeadAt (graph : GraphShape) (n : ℕ) : Type 0 where
   pub is : slice_get graph.nodes n ≡ Some (Assign var rhs next)
   pub sinkable : divides rhs ≡ false
   pub unread : ¬ (IsLiveAfter graph var n)
-
--- what becomes of a node that is dead, or is not
-abbrev pub removed_if : Bool → Change
-removed_if true = Removed
-removed_if false = Unchanged
-
--- the nodes from number n on, of which each dead one is a Skip with the same successor
-abbrev pub pruned_from : (ℕ → Bool) → ℕ → List Node → List Node
-pruned_from dead n [] = []
-pruned_from dead n (node ∷ nodes) = changed (removed_if (dead n)) node ∷ pruned_from dead (suc n) nodes
 
 -- the graph in which exactly the dead assignments became Skips with their successors; all else is as it was
 pub record IsPruned (graph pruned : GraphShape) : Type 0 where

@@ -1,16 +1,12 @@
 -- What is inserted before each node, as the rows of insertions say, and as one list for all nodes. Cited by contracts.
-use Rattle.std.specs.Prelude.{◌≡◌, ◌<◌, ◌≤◌, ℕ, zero, suc, Bool, if◌then◌else◌, List, [], ◌∷◌, ◌++◌, length, slice_get, Option}
+use Rattle.std.specs.Prelude.{◌≡◌, ℕ, zero, suc, Bool, if◌then◌else◌, List, [], ◌∷◌, ◌++◌, length, Option}
 use Rattle.mir_base.specs.declared.instructions.Rhs.{Rhs}
-use Rattle.mir_base.specs.Shapes.{AllBelow, rhs_vars}
 use Rattle.bit_rows.specs.Bits.{row_of}
-use Rattle.flow_graph.specs.declared.nodes.Node.{Node}
-use Rattle.graph_edit.specs.Editing.{graph_change_each, put_before}
 use Rattle.flow_graph.specs.Graphs.{GraphShape}
 use Rattle.graph_edit.specs.Insertions.{Insertion}
 use Rattle.sink_dead.specs.declared.inserting.Put.{Put}
 use Rattle.sink_dead.specs.declared.patterns.Pattern.{Pattern}
-use Rattle.sink_dead.specs.Accesses.{is_sinkable}
-use Rattle.sink_dead.specs.SunkGraphs.{AreInsertions, emptied}
+use Rattle.sink_dead.specs.SunkGraphs.{AreInsertions}
 
 -- the pattern as an insertion
 abbrev pub insertion_of_pattern : Pattern → Insertion
@@ -39,26 +35,6 @@ puts_at n (put ∷ puts) = record { node = n; var = put.var; rhs = put.rhs } ∷
 abbrev pub all_puts : (ℕ → List Insertion) → ℕ → ℕ → List Put
 all_puts inserts zero n = []
 all_puts inserts (suc count) n = puts_at n (inserts n) ++ all_puts inserts count (suc n)
-
--- ---- edits
-
--- the nodes with these put before theirs, in order
-abbrev pub nodes_with : List Put → List Node → List Node
-nodes_with [] nodes = nodes
-nodes_with (put ∷ puts) nodes = nodes_with puts (put_before put.node put.var put.rhs nodes)
-
--- the graph with them
-abbrev pub graph_with : List Put → GraphShape → GraphShape
-graph_with puts graph = record graph { nodes = nodes_with puts graph.nodes }
-
--- each stands before a node of the graph that is not Start, and its variables are those of the graph
-abbrev pub CanPut : GraphShape → List Put → Type 0
-CanPut graph [] = Unit {0}
-CanPut graph (put ∷ puts) = (((1 ≤ put.node) × (put.node < length graph.nodes)) × ((put.var < length graph.vars) × AllBelow (length graph.vars) (rhs_vars put.rhs))) × CanPut graph puts
-
--- the graph in which each of these nodes that is an occurrence of a pattern became Skip
-abbrev pub graph_emptied : List Node → GraphShape → GraphShape
-graph_emptied nodes graph = graph_change_each (λ n. emptied (is_sinkable (slice_get nodes n))) (length nodes) graph
 
 -- the list has the insertions of the graph, in order of the nodes
 pub record ArePutsOf (graph : GraphShape) (puts : List Put) : Type 0 where

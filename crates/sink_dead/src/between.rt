@@ -1,7 +1,8 @@
-// Which patterns come into each block, on every path.
+// Which patterns come into each block, on every path, and which of them are blocked there.
 ghost use Rattle.std.specs.Prelude.{◌<◌, ◌+◌, length, IfOk, OnOk};
 ghost use Rattle.sink_dead.specs.BlockRows.{AreRowsTo, IsApartFromStart, is_blocked_in};
-ghost use Rattle.sink_dead.specs.Over.{AreBlockedOver, AreIntoOver, AreLeavingOver, AreLostOver, IsOverBlocks, lists_of};
+ghost use Rattle.sink_dead.specs.Coming.{AreComing};
+ghost use Rattle.sink_dead.specs.Over.{AreBlockedOver, AreIntoOver, AreLeavingOver, IsOverBlocks, lists_of};
 ghost use Rattle.sink_dead.specs.PatternRows.{AreVariableRows};
 
 use crate::over::OverBlocks;
@@ -11,30 +12,52 @@ use mir_base::Memory;
 use path_laws::{forward_all_heads, push_true};
 use std::alloc::Global;
 
-/// Which patterns come into each block: one row for each block, one bit for each pattern. `leaves` says which leave a
-/// block in which they occur. It fails only with `Memory`.
-pub(crate) fn into_rows(alloc: Global, over: &OverBlocks<'_>, leaves: &Rows) -> Result<Rows, Memory>
+/// The patterns that come into blocks: one row for each block, one bit for each pattern.
+#[derive(Drop)]
+pub(crate) struct Coming {
+    /// Which come into a block.
+    pub(crate) into: Rows,
+    /// Which of these some node of the block blocks.
+    pub(crate) stopped: Rows,
+}
+
+/// Which patterns come into each block, and which of them it blocks. `leaves` says which leave a block in which they
+/// occur. It fails only with `Memory`.
+pub(crate) fn coming_rows(
+    alloc: Global,
+    over: &OverBlocks<'_>,
+    leaves: &Rows,
+) -> Result<Coming, Memory>
     requires over { IsOverBlocks over.now }
+    requires leaves { AreLeavingOver over.now leaves.now }
+    ensures { IfOk result (AreComing over.now) }
+{
+    let mut stopped = blocked_rows(alloc, over)?;
+    let into = into_rows(alloc, over, &stopped, leaves)?;
+    stopped.and_rows(&into);
+    Ok(Coming { into, stopped })
+}
+
+/// Which patterns come into each block, by rows of those that are blocked in it. What is blocked in a block and does not
+/// leave it is lost there.
+fn into_rows(
+    alloc: Global,
+    over: &OverBlocks<'_>,
+    blocked: &Rows,
+    leaves: &Rows,
+) -> Result<Rows, Memory>
+    requires over { IsOverBlocks over.now }
+    requires blocked { AreBlockedOver over.now blocked.now }
     requires leaves { AreLeavingOver over.now leaves.now }
     ensures { IfOk result (AreIntoOver over.now) }
 {
     let _nodes = over.graph.nodes();
-    let lost = lost_rows(alloc, over, leaves)?;
+    let mut lost = blocked.copied(alloc)?;
+    lost.minus_rows(leaves);
     let (graph, edges, blocks) = (over.graph, over.edges, over.blocks);
     let bits = over.table.len();
     let into = forward_all_heads(alloc, graph, edges, blocks, &lost, leaves, bits)?;
     Ok(into)
-}
-
-/// Which patterns are lost in each block: some node of it blocks them, and they do not leave it.
-fn lost_rows(alloc: Global, over: &OverBlocks<'_>, leaves: &Rows) -> Result<Rows, Memory>
-    requires over { IsOverBlocks over.now }
-    requires leaves { AreLeavingOver over.now leaves.now }
-    ensures { IfOk result (AreLostOver over.now) }
-{
-    let mut rows = blocked_rows(alloc, over)?;
-    rows.minus_rows(leaves);
-    Ok(rows)
 }
 
 /// Which patterns some node of each block blocks; Start blocks all.

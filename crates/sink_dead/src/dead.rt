@@ -6,8 +6,11 @@ ghost use Rattle.flow_graph.specs.Blocks.{AreBlocksOf};
 ghost use Rattle.flow_graph.specs.Edges.{edges_of};
 ghost use Rattle.flow_graph.specs.Graphs.{node_vars};
 ghost use Rattle.sink_dead.specs.Dead.{AreAccessesTo, AreBlockAccesses, AreFlaggedTo, AreLiveAfter, AreLiveAfterFrom, PassesBack, TellDead, is_dead_by};
+ghost use Rattle.sink_dead.specs.GraphFlows.{IsFlowOf};
 
+use crate::flow::GraphFlow;
 use crate::liveness::{mark_assigned, mark_read};
+use crate::places::touches_none;
 use bit_rows::Rows;
 use flow_graph::{Blocks, Edges, Graph, Node};
 use mir_base::{Memory, divides};
@@ -15,13 +18,16 @@ use path_laws::backward_some_ends;
 use std::alloc::Global;
 
 /// For each node whether it is a dead assignment: its right side does not divide, and its variable is not live after
-/// it. It fails only with `Memory`.
-pub(crate) fn dead_nodes(alloc: Global, graph: &Graph) -> Result<Vec<bool>, Memory>
+/// it. `flow` has the graph's edges and blocks. It fails only with `Memory`.
+pub(crate) fn dead_nodes(
+    alloc: Global,
+    graph: &Graph,
+    flow: &GraphFlow,
+) -> Result<Vec<bool>, Memory>
+    requires { IsFlowOf graph.now.nodes flow.now }
     ensures { IfOk result (λ dead. TellDead graph.now dead.items) }
 {
-    let edges = Edges::of(alloc, graph)?;
-    let blocks = Blocks::of(alloc, graph, &edges)?;
-    let dead = flagged(alloc, graph, &edges, &blocks)?;
+    let dead = flagged(alloc, graph, &flow.edges, &flow.blocks)?;
     Ok(dead)
 }
 
@@ -61,6 +67,9 @@ fn access(graph: &Graph, blocks: &Blocks, block: usize, reads: &mut Rows, assign
     let list = blocks.nodes(block);
     for back in 0..list.len() {
         let node = &nodes[list[list.len() - 1 - back]];
+        if touches_none(node) {
+            continue;
+        }
         mark_assigned(graph, assigns, block, node, shared, true);
         pass_back(graph, reads, block, node, shared);
     }
@@ -121,6 +130,9 @@ fn flag(graph: &Graph, blocks: &Blocks, block: usize, live: &mut Rows, dead: &mu
         let n = list[list.len() - 1 - back];
         let node = &nodes[n];
         dead[n] = is_dead(node, live, block);
+        if touches_none(node) {
+            continue;
+        }
         pass_back(graph, live, block, node, shared);
     }
 }

@@ -1,12 +1,13 @@
 // What is inserted in the blocks into which it comes, and at the ends of those that it leaves.
 ghost use Rattle.std.specs.Prelude.{◌≡◌, ℕ, ◌<◌, ◌++◌, suc, Bool, List, length, slice_get, Some, OnOk};
-ghost use Rattle.bit_rows.specs.Bits.{row_of};
 ghost use Rattle.sink_dead.specs.declared.inserting.Put.{Put};
-ghost use Rattle.sink_dead.specs.Heads.{AreHeadsDone, IsHeadTaken, IsSettled, skip_to};
+ghost use Rattle.sink_dead.specs.Coming.{ComeInto, HasStopped};
+ghost use Rattle.sink_dead.specs.Heads.{AreHeadDone, AreHeadsDone, IsHeadTaken, IsSettled, skip_to};
 ghost use Rattle.sink_dead.specs.Over.{AreFromHeadsOver, ArePutAtEndsOver, HaveShapeOver, IsOverBlocks, lists_of};
 ghost use Rattle.sink_dead.specs.Places.{AreBlockPlaces, AreTakenIn};
 ghost use Rattle.sink_dead.specs.Puts.{chosen, puts_at};
 
+use crate::between::Coming;
 use crate::inserting::{Put, put_of};
 use crate::over::OverBlocks;
 use crate::patterns::Patterns;
@@ -21,50 +22,52 @@ use std::alloc::Global;
 pub(crate) fn from_heads(
     alloc: Global,
     over: &OverBlocks<'_>,
-    into: &Rows,
+    coming: &Coming,
     leaves: &mut Rows,
     puts: &mut Vec<Put>,
 ) -> Result<(), Memory>
     requires over { IsOverBlocks over.now }
-    requires into { HaveShapeOver over.now into.now }
+    requires coming { HasStopped over.now coming.now }
     requires leaves { HaveShapeOver over.now leaves.old }
-    ensures { OnOk result (AreFromHeadsOver over.now into.now leaves.old puts.old.items
+    ensures { OnOk result (AreFromHeadsOver over.now coming.now.into leaves.old puts.old.items
         (λ b k. Unit {0}) leaves.new puts.new.items) }
 {
     let count = over.blocks.len();
     let mut places = Places::new(alloc, over.graph, count)?;
     for later in 0..count {
         let block = count - 1 - later;
-        from_head(over, block, into, &mut places, leaves, puts)?;
+        from_head(over, block, coming, &mut places, leaves, puts)?;
     }
     Ok(())
 }
 
-/// The same of the patterns that come into one block, once those of the later blocks are put. Where none comes into it,
-/// its nodes are not looked at.
+/// The same of the patterns that come into one block, once those of the later blocks are put. Those that nothing blocks
+/// there leave it, all at once; where there are no others, its nodes are not looked at.
 fn from_head(
     over: &OverBlocks<'_>,
     block: usize,
-    into: &Rows,
+    coming: &Coming,
     places: &mut Places,
     leaves: &mut Rows,
     puts: &mut Vec<Put>,
 ) -> Result<(), Memory>
     requires over { IsOverBlocks over.now }
     requires block { block < length (lists_of over.now) }
-    requires into { HaveShapeOver over.now into.now }
+    requires coming { HasStopped over.now coming.now }
     requires leaves { HaveShapeOver over.now leaves.old }
     requires places { AreBlockPlaces over.now.graph.now (suc block) places.old }
     ensures places { OnOk result (AreBlockPlaces over.now.graph.now block places.new) }
     ensures done { (rows : List (List Bool)) (begun : List Put) →
-        AreHeadsDone over.now into.now rows begun (suc block) leaves.old puts.old.items →
-        OnOk result (AreHeadsDone over.now into.now rows begun block leaves.new puts.new.items) }
+        AreHeadsDone over.now coming.now.into rows begun (suc block) leaves.old puts.old.items →
+        OnOk result (AreHeadsDone over.now coming.now.into rows begun block leaves.new
+        puts.new.items) }
 {
-    let row = into.row(block);
-    match row.next_true(0) {
+    let stopped = coming.stopped.row(block);
+    leaves.or_minus_from(block, &coming.into.row(block), &stopped);
+    match stopped.next_true(0) {
         Some(_) => {
             take_in_all(over, block, places);
-            settle_all(over, block, &row, places, leaves, puts)
+            settle_all(over, block, &stopped, places, leaves, puts)
         }
         None => Ok(()),
     }
@@ -97,7 +100,8 @@ fn take_in(over: &OverBlocks<'_>, block: usize, list: &[usize], index: usize, pl
     places.take_in(over.graph, &nodes[list[index]], block, index);
 }
 
-/// Puts the patterns of a row that come into a block, or lets them leave it. Its nodes are taken in.
+/// Puts the patterns of a row, which come into a block and are blocked there, or lets them leave it. Its nodes are taken
+/// in, and the others that come into it are settled.
 fn settle_all(
     over: &OverBlocks<'_>,
     block: usize,
@@ -111,8 +115,8 @@ fn settle_all(
     requires row { length row.now ≡ length over.now.table.now }
     requires leaves { HaveShapeOver over.now leaves.old }
     ensures { (into : List (List Bool)) (rows : List (List Bool)) (begun : List Put) →
-        row_of into block ≡ row.now →
-        AreHeadsDone over.now into rows begun (suc block) leaves.old puts.old.items →
+        ComeInto into block row.now →
+        AreHeadDone over.now into row.now rows begun block 0 leaves.old puts.old.items →
         OnOk result (AreHeadsDone over.now into rows begun block leaves.new puts.new.items) }
 {
     let mut from = 0;

@@ -12,6 +12,7 @@ mod answers;
 mod between;
 mod dead;
 mod delaying;
+mod flow;
 mod heads;
 mod inserting;
 mod inside;
@@ -28,6 +29,7 @@ mod pruning;
 mod rounds;
 mod sinking;
 mod skips;
+mod writing;
 
 pub use answers::{Round, Sunk};
 pub use delaying::{DelayedPatterns, inserted_apart, inserted_at_skips};

@@ -8,7 +8,7 @@ ghost use Rattle.sink_dead.specs.Inside.{AreInside};
 ghost use Rattle.sink_dead.specs.Over.{IsOverBlocks};
 ghost use Rattle.sink_dead.specs.Moved.{AreInsideOver, AreListedRows, AreWithin};
 
-use crate::between::into_rows;
+use crate::between::coming_rows;
 use crate::heads::{at_ends, from_heads};
 use crate::inserting::Put;
 use crate::inside::{Inside, Leaving, found_inside};
@@ -85,9 +85,9 @@ fn put_over(
 {
     let _nodes = over.graph.nodes();
     let mut leaves = leaving_rows(alloc, over, leaving)?;
-    let into = into_rows(alloc, over, &leaves)?;
-    from_heads(alloc, over, &into, &mut leaves, puts)?;
-    at_ends(alloc, over, &into, &leaves, puts)
+    let coming = coming_rows(alloc, over, &leaves)?;
+    from_heads(alloc, over, &coming, &mut leaves, puts)?;
+    at_ends(alloc, over, &coming.into, &leaves, puts)
 }
 
 /// Which patterns leave which blocks in which they occur, as this list says. The patterns are distinct.

@@ -22,8 +22,7 @@ fn sorted(puts: Vec<Put>) -> Result<Vec<Put>, Memory>
     ensures sorted { IfOk result (λ sorted. AreSorted sorted.items) }
 {
     let mut puts = puts;
-    puts.sort_by_key(|put| put.var)?;
-    puts.sort_by_key(|put| put.node)?;
+    puts.sort_by_key(|put| (put.node, put.var))?;
     Ok(puts)
 }
 

@@ -4,7 +4,7 @@ ghost use Rattle.mir_base.specs.Frames.{shared_vars};
 ghost use Rattle.mir_base.specs.Shapes.{AllBelow, into_vars, operand_vars, rhs_vars, test_vars};
 ghost use Rattle.flow_graph.specs.Graphs.{node_reads, node_vars};
 ghost use Rattle.sink_dead.specs.LiveRows.{assigned_vars};
-ghost use Rattle.sink_dead.specs.Places.{AreBlockPlaces, TakesInNode, index_in, nearest, noted, stop_by};
+ghost use Rattle.sink_dead.specs.Places.{AreBlockPlaces, TakesInNode, index_in, nearest, noted, stop_by, touches_none};
 
 use crate::patterns::Pattern;
 use flow_graph::{Graph, Node};
@@ -51,6 +51,9 @@ impl Places {
         ensures { TakesInNode graph.now node.now (record { block = block; index = index })
             self.old self.new }
     {
+        if touches_none(node) {
+            return;
+        }
         let place = Place { block, index };
         let access = self.access.as_mut_slice();
         note_read(access, graph, node, place);
@@ -106,6 +109,22 @@ fn nearer(places: &[Place], operand: Operand, index: usize, block: usize, len: u
     match operand {
         Operand::Var(y) => index_in(places, y, block, len).min(index),
         Operand::Const(_) => index,
+    }
+}
+
+/// Whether a node is of a kind that reads and assigns nothing, so that it is passed over at once.
+pub(crate) fn touches_none(node: &Node) -> bool
+    ensures { result ≡ touches_none node.now }
+{
+    match node {
+        Node::Start(_) => true,
+        Node::Skip(_) => true,
+        Node::Assign(_, _, _) => false,
+        Node::Print(_, _) => false,
+        Node::Guard(_, _, _) => false,
+        Node::Call(_, _, _, _) => false,
+        Node::Test(_, _, _) => false,
+        Node::Return(_) => false,
     }
 }
 

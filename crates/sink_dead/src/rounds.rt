@@ -2,14 +2,16 @@
 ghost use Rattle.std.specs.Prelude.{IfOk};
 ghost use Rattle.flow_graph.specs.Edges.{IsSplit};
 ghost use Rattle.flow_graph.specs.Layouts.{IsLayout};
+ghost use Rattle.sink_dead.specs.GraphFlows.{IsFlowOf};
 ghost use Rattle.sink_dead.specs.RoundGraphs.{AreOnlyRounds, AreRounds, IsOnlyRound, IsRound, KeepsGlobals, SaysChanged, last_round};
 ghost use Rattle.sink_dead.specs.RoundsKept.{RoundKeeps, RoundsKeep};
-ghost use Rattle.sink_dead.specs.RoundsMade.{IsMadeRound};
+ghost use Rattle.sink_dead.specs.RoundsMade.{IsMadeRound, IsPrunedRound};
 
 use crate::answers::{Round, Sunk};
+use crate::flow::GraphFlow;
 use crate::layouts::same_unit;
 use crate::pruning::pruned;
-use crate::sinking::sunk;
+use crate::sinking::sunk_by;
 use flow_graph::{Graph, layout};
 use mir_base::{Items, Memory, Unit as MirUnit};
 use std::alloc::Global;
@@ -32,8 +34,7 @@ pub fn round(alloc: Global, graph: &Graph) -> Result<Round, Memory>
     // no last assignment of a global before a call or a return is removed
     ensures globals { IfOk result (λ round. KeepsGlobals graph.now round.graph) }
 {
-    let unit = layout(alloc, graph)?;
-    let made = next_round(alloc, graph, &unit)?;
+    let made = first_round(alloc, graph)?;
     Ok(Round {
         graph: made.graph,
         changed: made.changed,
@@ -54,11 +55,10 @@ pub fn sink(alloc: Global, graph: &Graph) -> Result<Sunk, Memory>
     // the last of them keeps of the graph what one round does
     ensures last { IfOk result (λ sunk. RoundKeeps graph.now (last_round graph.now sunk.rounds)) }
 {
-    let unit = layout(alloc, graph)?;
-    let mut last = next_round(alloc, graph, &unit)?;
+    let mut last = first_round(alloc, graph)?;
     let mut rounds = Vec::new(alloc);
     'rounds: while last.changed && rounds.len() < MOST_ROUNDS - 1 {
-        let next = next_round(alloc, &last.graph, &last.unit)?;
+        let next = next_round(alloc, &last.graph, &last.flow, &last.unit)?;
         rounds.push(mem::replace(&mut last, next).graph)?;
     }
     rounds.push(last.graph)?;
@@ -67,38 +67,69 @@ pub fn sink(alloc: Global, graph: &Graph) -> Result<Sunk, Memory>
     })
 }
 
-/// A round with its layout.
+/// A round with its edges, its blocks and its layout.
 #[derive(Drop)]
 struct MadeRound {
     graph: Graph,
+    flow: GraphFlow,
     unit: MirUnit,
     changed: bool,
 }
 
-/// One round on a graph, whose layout is `unit`.
-fn next_round(alloc: Global, graph: &Graph, unit: &MirUnit) -> Result<MadeRound, Memory>
+/// The first round of a graph.
+fn first_round(alloc: Global, graph: &Graph) -> Result<MadeRound, Memory>
+    requires { IsSplit graph.now.nodes }
+    ensures { IfOk result (IsMadeRound graph.now) }
+{
+    let unit = layout(alloc, graph)?;
+    let flow = GraphFlow::of(alloc, graph)?;
+    let made = next_round(alloc, graph, &flow, &unit)?;
+    Ok(made)
+}
+
+/// One round on a graph, whose edges and blocks are `flow`, and whose layout is `unit`.
+fn next_round(
+    alloc: Global,
+    graph: &Graph,
+    flow: &GraphFlow,
+    unit: &MirUnit,
+) -> Result<MadeRound, Memory>
     requires split { IsSplit graph.now.nodes }
+    requires flow { IsFlowOf graph.now.nodes flow.now }
     requires unit { IsLayout graph.now unit.now }
     ensures { IfOk result (IsMadeRound graph.now) }
 {
-    let graph = sunk_and_pruned(alloc, graph)?;
-    let laid = layout(alloc, &graph)?;
+    let made = sunk_and_pruned(alloc, graph, flow)?;
+    let laid = layout(alloc, &made.graph)?;
     let changed = !same_unit(unit, &laid);
+    let PrunedRound { graph, flow } = made;
     Ok(MadeRound {
         graph,
+        flow,
         unit: laid,
         changed,
     })
 }
 
-/// The graph whose assignments have sunk, without the dead ones.
-fn sunk_and_pruned(alloc: Global, graph: &Graph) -> Result<Graph, Memory>
-    requires { IsSplit graph.now.nodes }
-    ensures exact { IfOk result (IsRound graph.now) }
-    ensures keeps { IfOk result (RoundKeeps graph.now) }
+/// A round with its edges and its blocks.
+#[derive(Drop)]
+struct PrunedRound {
+    graph: Graph,
+    flow: GraphFlow,
+}
+
+/// The graph whose assignments have sunk, without the dead ones. These leave its edges and blocks as they are.
+fn sunk_and_pruned(alloc: Global, graph: &Graph, flow: &GraphFlow) -> Result<PrunedRound, Memory>
+    requires split { IsSplit graph.now.nodes }
+    requires flow { IsFlowOf graph.now.nodes flow.now }
+    ensures { IfOk result (IsPrunedRound graph.now) }
 {
-    let sunk = sunk(alloc, graph)?;
-    let pruned = pruned(alloc, sunk)?;
+    let sunk = sunk_by(alloc, graph, flow)?;
+    let flow = GraphFlow::of(alloc, &sunk)?;
+    let pruned = pruned(alloc, sunk, &flow)?;
     let _nodes = pruned.nodes();
-    Ok(pruned)
+    Ok(PrunedRound {
+        graph: pruned,
+        flow,
+    })
 }

@@ -2,15 +2,17 @@
 ghost use Rattle.std.specs.Prelude.{IfOk, OnOk};
 ghost use Rattle.flow_graph.specs.Edges.{IsSplit};
 ghost use Rattle.flow_graph.specs.Graphs.{IsGraph};
+ghost use Rattle.sink_dead.specs.GraphFlows.{IsFlowOf};
 ghost use Rattle.sink_dead.specs.Puts.{ArePutsOf};
 ghost use Rattle.sink_dead.specs.RoundsKept.{RoundKeeps};
 ghost use Rattle.sink_dead.specs.SunkGraphs.{IsSunk};
 
-use crate::inserting::{Put, empty_occurrences, put_each};
+use crate::flow::GraphFlow;
+use crate::inserting::Put;
 use crate::moving::found_puts;
 use crate::ordering::in_order;
-use flow_graph::{Blocks, Edges, Graph};
-use graph_edit::Editor;
+use crate::writing::written;
+use flow_graph::Graph;
 use mir_base::Memory;
 use std::alloc::Global;
 
@@ -23,38 +25,45 @@ pub fn sunk(alloc: Global, graph: &Graph) -> Result<Graph, Memory>
     ensures exact { IfOk result (IsSunk graph.now) }
     ensures keeps { IfOk result (RoundKeeps graph.now) }
 {
-    let sunk = sunk_graph(alloc, graph)?;
+    let flow = GraphFlow::of(alloc, graph)?;
+    let sunk = sunk_by(alloc, graph, &flow)?;
+    Ok(sunk)
+}
+
+/// The same, by the edges and the blocks of the graph.
+pub(crate) fn sunk_by(alloc: Global, graph: &Graph, flow: &GraphFlow) -> Result<Graph, Memory>
+    requires split { IsSplit graph.now.nodes }
+    requires flow { IsFlowOf graph.now.nodes flow.now }
+    ensures exact { IfOk result (IsSunk graph.now) }
+    ensures keeps { IfOk result (RoundKeeps graph.now) }
+{
+    let sunk = sunk_graph(alloc, graph, flow)?;
     let _nodes = sunk.nodes();
     Ok(sunk)
 }
 
 /// The graph in which the assignments have sunk, of which `sunk` says what follows.
-fn sunk_graph(alloc: Global, graph: &Graph) -> Result<Graph, Memory>
-    requires { IsSplit graph.now.nodes }
+fn sunk_graph(alloc: Global, graph: &Graph, flow: &GraphFlow) -> Result<Graph, Memory>
+    requires split { IsSplit graph.now.nodes }
+    requires flow { IsFlowOf graph.now.nodes flow.now }
     ensures graph { OnOk result (IsGraph graph.now.vars graph.now.received graph.now.nodes) }
     ensures exact { IfOk result (IsSunk graph.now) }
 {
-    let puts = insertions(alloc, graph)?;
-    let extra = Vec::new(alloc);
-    let nodes = graph.nodes();
-    let mut editor = Editor::open(alloc, graph, extra, puts.len())?;
-    empty_occurrences(&mut editor, nodes);
-    put_each(&mut editor, puts.as_slice());
-    let sunk = editor.close()?;
+    let puts = insertions(alloc, graph, flow)?;
+    let sunk = written(alloc, graph, puts.as_slice())?;
     Ok(sunk)
 }
 
 /// What is inserted before the nodes of a graph. It is found block by block: rows have a bit for each pattern that
 /// leaves a block.
-fn insertions(alloc: Global, graph: &Graph) -> Result<Vec<Put>, Memory>
-    requires { IsSplit graph.now.nodes }
+fn insertions(alloc: Global, graph: &Graph, flow: &GraphFlow) -> Result<Vec<Put>, Memory>
+    requires split { IsSplit graph.now.nodes }
+    requires flow { IsFlowOf graph.now.nodes flow.now }
     ensures graph { OnOk result (IsGraph graph.now.vars graph.now.received graph.now.nodes) }
     ensures puts { IfOk result (λ puts. ArePutsOf graph.now puts.items) }
 {
-    let edges = Edges::of(alloc, graph)?;
-    let blocks = Blocks::of(alloc, graph, &edges)?;
     let _nodes = graph.nodes();
-    let found = found_puts(alloc, graph, &edges, &blocks)?;
+    let found = found_puts(alloc, graph, &flow.edges, &flow.blocks)?;
     let puts = in_order(alloc, found)?;
     Ok(puts)
 }

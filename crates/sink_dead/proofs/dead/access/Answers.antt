@@ -1,5 +1,6 @@
-use Rattle.std.proofs.Common.{◌-◌, ◌<◌, length, slice_index_or, rules, arith}
+use Rattle.std.proofs.Common.{◌-◌, ◌<◌, ◌∙◌, sym, true, length, slice_index_or, rules, arith}
 use Rattle.sink_dead.proofs.Flagging.{accessed_all, accessed_more, turn_at, turn_below, turn_graph, turn_node, turn_within}
+use Rattle.sink_dead.proofs.PrunedMarks.{marks_none, passes_none}
 use Rattle.sink_dead.proofs.dead.access.Goals as goal
 
 pub offset_bounds-nodes-list : goal.offset_bounds-nodes-list
@@ -32,6 +33,21 @@ loop-back-preserved c =
     (turn_at c.args.graph.now c.nodes-nodes.result.now c.nodes-nodes.ensures.value c.nodes-nodes.ensures.graph c.args.blocks.now.lists c.requires.blocks.are c.args.block c.nodes-list.result.now c.nodes-list.ensures c.loop-back.back c.loop-back-test.true)
     (turn_node c.args.graph.now c.nodes-nodes.result.now c.nodes-nodes.ensures.value c.nodes-nodes.ensures.graph c.args.blocks.now.lists c.requires.blocks.are c.args.block c.nodes-list.result.now c.nodes-list.ensures c.loop-back.back c.loop-back-test.true c.index-nodes-list.result c.index-nodes-list.is)
     c.mark_assigned.ensures c.pass_back.ensures
+
+-- nothing is marked for a node that touches nothing
+pub loop-back-preserved-then-touches_none : goal.loop-back-preserved-then-touches_none
+loop-back-preserved-then-touches_none c =
+    let list = c.nodes-list.result.now in
+    let place = length list - 1 - c.loop-back.back in
+    let node = c.index-nodes-list.result in
+    let none = sym c.touches_none.ensures ∙ c.if-touches_none.true in
+    accessed_more c.args.graph.now c.args.blocks.now.lists c.args.block list
+    (turn_graph c.args.graph.now c.nodes-nodes.result.now c.nodes-nodes.ensures.value c.nodes-nodes.ensures.graph c.args.blocks.now.lists c.requires.blocks.are c.args.block c.nodes-list.result.now c.nodes-list.ensures) c.requires.blocks.are c.nodes-list.ensures
+    c.loop-back.back place (slice_index_or list place 0) node c.loop-back.reads c.loop-back.assigns c.loop-back.reads c.loop-back.assigns
+    c.loop-back.invariant (omega (arith, c.loop-back-test.true))
+    (turn_at c.args.graph.now c.nodes-nodes.result.now c.nodes-nodes.ensures.value c.nodes-nodes.ensures.graph c.args.blocks.now.lists c.requires.blocks.are c.args.block c.nodes-list.result.now c.nodes-list.ensures c.loop-back.back c.loop-back-test.true)
+    (turn_node c.args.graph.now c.nodes-nodes.result.now c.nodes-nodes.ensures.value c.nodes-nodes.ensures.graph c.args.blocks.now.lists c.requires.blocks.are c.args.block c.nodes-list.result.now c.nodes-list.ensures c.loop-back.back c.loop-back-test.true node c.index-nodes-list.is)
+    (marks_none true c.args.graph.now node c.args.block c.loop-back.assigns none) (passes_none c.args.graph.now node c.args.block c.loop-back.reads none)
 
 pub returns : goal.returns
 returns c =

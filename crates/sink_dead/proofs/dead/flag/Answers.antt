@@ -1,5 +1,6 @@
-use Rattle.std.proofs.Common.{◌-◌, ◌<◌, length, slice_index_or, slice_set, ap, rules, arith}
+use Rattle.std.proofs.Common.{◌-◌, ◌<◌, ◌∙◌, sym, length, slice_index_or, slice_set, ap, rules, arith}
 use Rattle.sink_dead.proofs.Flagging.{flagged_dead, flagged_more, flagged_none, turn_at, turn_below, turn_graph, turn_node, turn_within}
+use Rattle.sink_dead.proofs.PrunedMarks.{passes_none}
 use Rattle.sink_dead.proofs.dead.flag.Goals as goal
 
 pub loop-back-init : goal.loop-back-init
@@ -46,6 +47,21 @@ loop-back-preserved c =
     (turn_at c.args.graph.now c.nodes-nodes.result.now c.nodes-nodes.ensures.value c.nodes-nodes.ensures.graph c.args.blocks.now.lists c.requires.blocks.are c.args.block c.nodes-list.result.now c.nodes-list.ensures c.loop-back.back c.loop-back-test.true)
     (turn_node c.args.graph.now c.nodes-nodes.result.now c.nodes-nodes.ensures.value c.nodes-nodes.ensures.graph c.args.blocks.now.lists c.requires.blocks.are c.args.block c.nodes-list.result.now c.nodes-list.ensures c.loop-back.back c.loop-back-test.true c.index-nodes-n.result c.index-nodes-n.is)
     (ap (slice_set c.loop-back.dead n) c.is_dead.ensures) c.pass_back.ensures
+
+-- what is live stays where a node touches nothing
+pub loop-back-preserved-then-touches_none : goal.loop-back-preserved-then-touches_none
+loop-back-preserved-then-touches_none c =
+    let list = c.nodes-list.result.now in
+    let place = length list - 1 - c.loop-back.back in
+    let n = slice_index_or list place 0 in
+    let node = c.index-nodes-n.result in
+    flagged_more c.args.graph.now c.args.blocks.now.lists c.args.block list
+    (turn_graph c.args.graph.now c.nodes-nodes.result.now c.nodes-nodes.ensures.value c.nodes-nodes.ensures.graph c.args.blocks.now.lists c.requires.blocks.are c.args.block c.nodes-list.result.now c.nodes-list.ensures) c.requires.blocks.are c.nodes-list.ensures
+    c.loop-back.back place n node c.loop-back.live c.loop-back.live c.loop-back.dead (slice_set c.loop-back.dead n c.is_dead.result)
+    c.loop-back.invariant (omega (arith, c.loop-back-test.true))
+    (turn_at c.args.graph.now c.nodes-nodes.result.now c.nodes-nodes.ensures.value c.nodes-nodes.ensures.graph c.args.blocks.now.lists c.requires.blocks.are c.args.block c.nodes-list.result.now c.nodes-list.ensures c.loop-back.back c.loop-back-test.true)
+    (turn_node c.args.graph.now c.nodes-nodes.result.now c.nodes-nodes.ensures.value c.nodes-nodes.ensures.graph c.args.blocks.now.lists c.requires.blocks.are c.args.block c.nodes-list.result.now c.nodes-list.ensures c.loop-back.back c.loop-back-test.true node c.index-nodes-n.is)
+    (ap (slice_set c.loop-back.dead n) c.is_dead.ensures) (passes_none c.args.graph.now node c.args.block c.loop-back.live (sym c.touches_none.ensures ∙ c.if-touches_none.true))
 
 pub returns-clause-dead : goal.returns-clause-dead
 returns-clause-dead c =

@@ -6,5 +6,5 @@ use Rattle.sink_dead.proofs.heads.from_heads.Given as goal
 abbrev pub invariant-loop-later : goal.invariant-loop-later
 invariant-loop-later l = record {
   places : AreBlockPlaces l.over.graph.now (length l.over.blocks.now.lists - l.later) l.places;
-  done : AreHeadsDone l.over l.into l.initial.leaves l.initial.puts.items (length l.over.blocks.now.lists - l.later) l.leaves l.puts.items;
+  done : AreHeadsDone l.over l.coming.into l.initial.leaves l.initial.puts.items (length l.over.blocks.now.lists - l.later) l.leaves l.puts.items;
 }

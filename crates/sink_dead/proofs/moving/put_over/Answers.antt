@@ -41,9 +41,9 @@ leaves_are c is_graph =
           b k list p is_block (ap (λ (l : List Pattern). slice_get l k) inside.3 ∙ numbered);
     }
 
-pub into_rows-requires-clause-leaves : goal.into_rows-requires-clause-leaves
-into_rows-requires-clause-leaves c =
-    let known = goal.at.into_rows-requires-clause-leaves c in
+pub coming_rows-requires-clause-leaves : goal.coming_rows-requires-clause-leaves
+coming_rows-requires-clause-leaves c =
+    let known = goal.at.coming_rows-requires-clause-leaves c in
     leaves_are known.In_ok-leaves (is_graph known.After-nodes-nodes)
 
 pub returns : goal.returns
@@ -53,5 +53,5 @@ returns c =
     let inside = c.requires.inside in
     on_ok_weaker c.at_ends.result
     (λ ends. all_puts_found over.graph.now (is_graph known.After-nodes-nodes) c.requires.split over.blocks.now.lists c.requires.over.blocks.are inside.0 inside.1 over.table.now inside.3 c.args.puts.now.items inside.2
-    c.in_ok-into.into c.in_ok-leaves.leaves c.from_heads.new.leaves c.from_heads.new.puts.items c.at_ends.new.puts.items c.in_ok-into.ensures (leaves_are known.In_ok-leaves (is_graph known.After-nodes-nodes)) c.in_ok-from_heads.ensures ends)
+    c.in_ok-coming.coming.into c.in_ok-leaves.leaves c.from_heads.new.leaves c.from_heads.new.puts.items c.at_ends.new.puts.items c.in_ok-coming.ensures.into (leaves_are known.In_ok-leaves (is_graph known.After-nodes-nodes)) c.in_ok-from_heads.ensures ends)
     c.at_ends.ensures

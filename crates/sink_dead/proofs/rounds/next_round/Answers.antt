@@ -9,11 +9,12 @@ not_not false h = cc
 
 pub returns : goal.returns
 returns c = record {
-  round = c.in_ok-graph.ensures.exact;
+  round = c.in_ok-made.ensures.round;
+  flow = c.in_ok-made.ensures.flow;
   laid = c.in_ok-laid.ensures.layout;
   changed = (
-    λ same. is_one_layout c.args.graph.now c.in_ok-graph.graph c.args.unit.now c.in_ok-laid.laid c.requires.unit c.in_ok-laid.ensures.layout (c.same_unit-changed.ensures.0 (not_not c.same_unit-changed.result same)),
-    λ one. ap not (c.same_unit-changed.ensures.1 (one_layout_is c.args.graph.now c.in_ok-graph.graph c.args.unit.now c.in_ok-laid.laid c.requires.unit c.in_ok-laid.ensures.layout one)),
+    λ same. is_one_layout c.args.graph.now c.in_ok-made.made.graph c.args.unit.now c.in_ok-laid.laid c.requires.unit c.in_ok-laid.ensures.layout (c.same_unit-changed.ensures.0 (not_not c.same_unit-changed.result same)),
+    λ one. ap not (c.same_unit-changed.ensures.1 (one_layout_is c.args.graph.now c.in_ok-made.made.graph c.args.unit.now c.in_ok-laid.laid c.requires.unit c.in_ok-laid.ensures.layout one)),
   );
-  keeps = c.in_ok-graph.ensures.keeps;
+  keeps = c.in_ok-made.ensures.keeps;
 }

@@ -4,7 +4,7 @@ use Rattle.flow_graph.specs.Graphs.{node_reads}
 use Rattle.sink_dead.specs.declared.places.Place.{Place}
 use Rattle.sink_dead.specs.LiveRows.{assigned_vars}
 use Rattle.sink_dead.specs.Places.{noted}
-use Rattle.sink_dead.proofs.Noted.{noted_append, noted_length}
+use Rattle.sink_dead.proofs.Noted.{noted_append, noted_length, takes_none}
 use Rattle.sink_dead.proofs.places.Places.take_in.Goals as goal
 
 pub returns : goal.returns
@@ -26,3 +26,6 @@ returns c =
       access = with_items_is access c.note_assigned.new.places access_long ∙ access_is;
       assign = with_items_is assign c.note_assigned-2.new.places assign_long ∙ assign_is;
     }
+
+pub returns-then-touches_none : goal.returns-then-touches_none
+returns-then-touches_none c = takes_none c.args.graph.now c.args.node.now (record { block = c.args.block; index = c.args.index }) c.args.self.now (sym c.touches_none.ensures ∙ c.if-touches_none.true)

@@ -1,0 +1,26 @@
+// The edges and the blocks of a graph, kept from round to round.
+ghost use Rattle.std.specs.Prelude.{IfOk};
+ghost use Rattle.sink_dead.specs.GraphFlows.{IsFlowOf};
+
+use flow_graph::{Blocks, Edges, Graph};
+use mir_base::Memory;
+use std::alloc::Global;
+
+/// What the successors of a graph's nodes alone decide: its edges and its blocks. Graphs whose nodes have the same
+/// successors share them.
+#[derive(Drop)]
+pub(crate) struct GraphFlow {
+    pub(crate) edges: Edges,
+    pub(crate) blocks: Blocks,
+}
+
+impl GraphFlow {
+    /// The edges and the blocks of a graph. It fails only with `Memory`.
+    pub(crate) fn of(alloc: Global, graph: &Graph) -> Result<GraphFlow, Memory>
+        ensures { IfOk result (IsFlowOf graph.now.nodes) }
+    {
+        let edges = Edges::of(alloc, graph)?;
+        let blocks = Blocks::of(alloc, graph, &edges)?;
+        Ok(GraphFlow { edges, blocks })
+    }
+}
