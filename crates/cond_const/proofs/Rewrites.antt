@@ -1,5 +1,5 @@
 -- The nodes of the blocks, rewritten one after the other, and what is known before a node.
-use Rattle.std.proofs.Common.{◌≡◌, ℕ, ◌+◌, ◌<◌, ◌⊎◌, inl, inr, List, length, take, slice_get, slice_set, Bool, true, false, Option, Some, option_map, refl, sym, ap, ◌∙◌, subst, arith}
+use Rattle.std.proofs.Common.{◌≡◌, ℕ, ◌+◌, ◌<◌, ◌⊎◌, inl, inr, List, length, take, slice_get, slice_set, Bool, true, false, Option, Some, Vec, option_map, refl, sym, ap, ◌∙◌, subst, arith}
 use Rattle.std.proofs.lemmas.Bool.{cases_eq, cases_lt}
 use Rattle.std.proofs.lemmas.List.{length-set, get_or_default}
 use Rattle.std.proofs.lemmas.Option.{same_Some, slice_get_past, slice_get_within}
@@ -13,9 +13,10 @@ use Rattle.cond_const.specs.declared.known.Known.{Known}
 use Rattle.cond_const.specs.States.{NodeState, Unreached, size_of, state_where}
 use Rattle.cond_const.specs.Folding.{folded_at, folded_nodes}
 use Rattle.cond_const.specs.Folded.{AreFolded, HasLeastStates}
-use Rattle.cond_const.specs.KnownBefore.{IsKnownBefore, PassesTo, state_of_known}
+use Rattle.cond_const.specs.KnownBefore.{AreKnownBefore, IsKnownBefore, PassesTo, state_of_known}
 use Rattle.cond_const.specs.Blockwise.{AreLeastOver, net_in, through_nodes}
 use Rattle.cond_const.specs.Rewriting.{AreThrough, AreThroughBlocks, FoldsBlock, FoldsBlocks, IsAmong, IsFoldedAt, value_of}
+use Rattle.cond_const.specs.Telling.{IsTold, IsToldAt, IsToldOf, TellsBlock, TellsBlocks}
 use Rattle.cond_const.proofs.Folds.{folded_get}
 use Rattle.cond_const.proofs.Shapes.{length_folded}
 use Rattle.cond_const.proofs.Nodewise.{are_least, state_at, state_of}
@@ -48,6 +49,28 @@ module _ (shared : ℕ) (received : List ℕ) (nodes : List Node) (list : List �
             | inr d ↦ let lt : among.0 < i + 1 = among.1 in inr (among.0, omega (arith, lt, d), among.2)
           ]
 
+-- what is told of the next node
+module _ {A : Type 0} (shared : ℕ) (received : List ℕ) (nodes : List Node) (list : List ℕ) (s : NodeState) (old : List (Option (Vec Known A))) where
+  pub tells_more : (i n : ℕ) (t : NodeState) (all new : List (Option (Vec Known A))) → TellsBlock shared received nodes list s i old all → slice_get list i ≡ Some n → t ≡ through_nodes shared received nodes (take i list) s → n < length all → IsToldOf n t all new → TellsBlock shared received nodes list s (i + 1) old new
+  tells_more i n t all new so_far at state_is lt put = record {
+    long = ap length put.2 ∙ length-set all n put.0 ∙ so_far.long;
+    tells = λ states are m known. elim (cases_eq m n) as (λ _. IsToldAt states new m) [
+      | inl same ↦ λ told there.
+          let its_state : t ≡ states m = state_is ∙ sym (are i n at) ∙ ap states (sym same) in
+          let here : slice_get new m ≡ Some put.0 = ap (slice_get new) same ∙ ap (λ l. slice_get l n) put.2 ∙ set_here all n put.0 lt in
+          subst (IsTold (states m)) (same_Some put.0 told (sym here ∙ there)) (subst (λ x. IsTold x put.0) its_state put.1)
+      | inr apart ↦ λ told there.
+          so_far.tells states are m (earlier states m apart known) told (sym (ap (λ l. slice_get l m) put.2 ∙ set_elsewhere all n m put.0 apart) ∙ there)
+    ];
+  }
+    where
+      earlier : (states : ℕ → NodeState) (m : ℕ) → (m ≡ n → ⊥) → IsToldAt states old m ⊎ IsAmong list (i + 1) m → IsToldAt states old m ⊎ IsAmong list i m
+      earlier states m apart (inl before) = inl before
+      earlier states m apart (inr among) = elim (cases_eq among.0 i) as (λ _. IsToldAt states old m ⊎ IsAmong list i m) [
+        | inl e ↦ absurd (apart (same_Some m n (sym among.2 ∙ ap (slice_get list) e ∙ at)))
+        | inr d ↦ let lt : among.0 < i + 1 = among.1 in inr (among.0, omega (arith, lt, d), among.2)
+      ]
+
 -- ---- the nodes of all blocks
 
 module _ (shared : ℕ) (received : List ℕ) (nodes : List Node) (lists : List (List ℕ)) (values : List NodeState) where
@@ -63,6 +86,21 @@ module _ (shared : ℕ) (received : List ℕ) (nodes : List Node) (lists : List 
               let at' : slice_get list i ≡ Some n = subst (λ l. slice_get l i ≡ Some n) is_list at in
               block.folds states through_block n (inr (i, slice_get_within list i n at', at'))
           | inr apart ↦ block.folds states through_block n (inl (so_far.folds states are c i n other (omega (arith, lt, apart)) listed' at))
+        ];
+  }
+
+  -- the next block of which is told
+  pub tell_blocks_more : {A : Type 0} (b : ℕ) (list : List ℕ) (s : NodeState) (all new : List (Option (Vec Known A))) → TellsBlocks shared received nodes lists values b all → slice_get lists b ≡ Some list → s ≡ value_of values b → TellsBlock shared received nodes list s (length list) all new → TellsBlocks shared received nodes lists values (b + 1) new
+  tell_blocks_more b list s all new so_far listed state_is block = record {
+    long = block.long ∙ so_far.long;
+    tells = λ states are c i n other lt listed' at.
+        let through_block : AreThrough shared received nodes list s states = subst (λ x. AreThrough shared received nodes list x states) (sym state_is) (are b list listed) in
+        elim (cases_eq c b) as (λ _. IsToldAt states new n) [
+          | inl same ↦
+              let is_list : other ≡ list = same_Some other list (sym listed' ∙ ap (slice_get lists) same ∙ listed) in
+              let at' : slice_get list i ≡ Some n = subst (λ l. slice_get l i ≡ Some n) is_list at in
+              block.tells states through_block n (inr (i, slice_get_within list i n at', at'))
+          | inr apart ↦ block.tells states through_block n (inl (so_far.tells states are c i n other (omega (arith, lt, apart)) listed' at))
         ];
   }
 
@@ -99,6 +137,18 @@ module _ (graph : GraphShape) (blocks : BlocksShape) (values : List NodeState) (
         states = states;
         least = least_states;
         here = here ∙ sym told_is ∙ ap (λ n. state_of_known n told) long;
+      }
+
+  -- once all blocks are told of, so are all nodes
+  pub all_told : {A : Type 0} (all : List (Option (Vec Known A))) → TellsBlocks graph.shared graph.received graph.nodes blocks.lists values (length blocks.lists) all → AreKnownBefore graph all
+  all_told all tells = λ n known there.
+      let lt : n < length graph.nodes = omega (arith, slice_get_within all n known there, tells.long) in
+      let stands = are.is_net.blocks.every n lt in
+      let told = tells.tells states all_through stands.0 stands.1.place n stands.1.list (slice_get_within blocks.lists stands.0 stands.1.list stands.1.listed) stands.1.listed stands.1.is known there in
+      record {
+        states = states;
+        least = least_states;
+        here = told ∙ ap (λ size. state_of_known size (option_map (λ list. list.items) known)) (least_states.are.sizes n lt);
       }
 
   module _ (made : List Node) (folds : FoldsBlocks graph.shared graph.received graph.nodes blocks.lists values (length blocks.lists) made) where

@@ -1,5 +1,6 @@
 -- The least states of a graph as `LeastStates` has them, and what is known before a node. Cited by contracts.
-use Rattle.std.specs.Prelude.{◌≡◌, ℕ, List, length, slice_get, take, Option, Some, None}
+use Rattle.std.specs.Prelude.{◌≡◌, ℕ, List, length, slice_get, take, Option, Some, None, Vec}
+use Rattle.std.specs.Option.{option_map}
 use Rattle.flow_graph.specs.Blocks.{AreBlocksOf, BlocksShape}
 use Rattle.flow_graph.specs.Graphs.{GraphShape}
 use Rattle.cond_const.specs.declared.known.Known.{Known}
@@ -41,3 +42,8 @@ pub record PassesTo (graph : GraphShape) (list : List ℕ) (node : ℕ) (s t : N
   pub place : ℕ
   pub stands : slice_get list place ≡ Some node
   pub passes : t ≡ through_nodes graph.shared graph.received graph.nodes (take place list) s
+
+-- of each of these nodes, by their numbers, the least states of the graph say this
+abbrev pub AreKnownBefore : {A : Type 0} → GraphShape → List (Option (Vec Known A)) → Type 0
+AreKnownBefore {A = A} graph all = (n : ℕ) (known : Option (Vec Known A)) → slice_get all n ≡ Some known
+    → IsKnownBefore graph n (option_map (λ list. list.items) known)

@@ -4,6 +4,7 @@ pub mod Folding
 pub mod Folded
 pub mod Blockwise
 pub mod Rewriting
+pub mod Telling
 pub mod KnownBefore
 pub mod Holding
 pub mod IdentityLaws

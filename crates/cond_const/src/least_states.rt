@@ -3,13 +3,14 @@ ghost use Rattle.std.specs.Prelude.{◌≡◌, ◌<◌, length, IfOk};
 ghost use Rattle.std.specs.Option.{option_map};
 ghost use Rattle.flow_graph.specs.Blocks.{AreBlocksOf, IsChain};
 ghost use Rattle.cond_const.specs.Holding.{HoldsBefore, StatesHold};
-ghost use Rattle.cond_const.specs.KnownBefore.{AreStatesOf, IsKnownBefore, IsOnlyKnownBefore, PassesTo, state_of_known};
+ghost use Rattle.cond_const.specs.KnownBefore.{AreKnownBefore, AreStatesOf, IsKnownBefore, IsOnlyKnownBefore, PassesTo, state_of_known};
 ghost use Rattle.cond_const.specs.Rewriting.{IsAmong};
 ghost use Rattle.cond_const.specs.States.{state_where};
 
 use crate::known::{Known, copied};
 use crate::solving::least;
 use crate::states::BlockState;
+use crate::telling::tell_blocks;
 use crate::transfer::step;
 use fix_solve::Work;
 use flow_graph::{Blocks, Edges, Graph};
@@ -73,6 +74,21 @@ impl LeastStates {
         let reaches = pass_to(graph, list, node, state.is_reached(), known.as_mut_slice());
         let known = where_reached(reaches, known);
         Ok(known)
+    }
+
+    /// What `before` tells of each node, by the numbers of the nodes. Each block is walked once, and what is known is
+    /// copied for each node. The states are those of `graph`. It fails only with `Memory`.
+    pub fn before_each(
+        &self,
+        alloc: Global,
+        graph: &Graph,
+    ) -> Result<Vec<Option<Vec<Known>>>, Memory>
+        requires { AreStatesOf graph.now self.now }
+        ensures long { IfOk result (λ all. length all.items ≡ length graph.now.nodes) }
+        ensures known { IfOk result (λ all. AreKnownBefore graph.now all.items) }
+    {
+        let all = tell_blocks(alloc, graph, &self.blocks, &self.values)?;
+        Ok(all)
     }
 }
 

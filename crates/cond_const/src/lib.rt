@@ -6,8 +6,8 @@
 //! The theorem that this crate carries is the contract of `fold`: the answer is the exact graph, made from the least
 //! states of the nodes, it does the same as the graph that goes in, and it evaluates no more operators.
 //!
-//! `LeastStates::of` answers what it finds out first: the least states, and so what is known before each node. What
-//! they say is true of each run of the graph (`states_hold`).
+//! `LeastStates::of` answers what it finds out first: the least states, and so what is known before each node
+//! (`before`, and `before_each` for all of them). What they say is true of each run of the graph (`states_hold`).
 #![tactic(auto)]
 
 mod flow;
@@ -18,6 +18,7 @@ mod least_states;
 mod rewriting;
 mod solving;
 mod states;
+mod telling;
 mod transfer;
 
 pub use folding::fold;

@@ -14,4 +14,4 @@ mod nodes;
 mod placement;
 
 pub use delays::Late;
-pub use placement::{late, lazy};
+pub use placement::{late, late_of_busy, lazy};

@@ -2,11 +2,15 @@
 ghost use Rattle.std.specs.Prelude.{◌≡◌, length, IfOk};
 ghost use Rattle.flow_graph.specs.Edges.{IsSplit, edges_of};
 ghost use Rattle.path_laws.specs.Paths.{HaveShape};
+ghost use Rattle.motion_rewrite.specs.Expressions.{uses};
 ghost use Rattle.motion_rewrite.specs.Placements.{AreOptimal, CanFlattenBy};
+ghost use Rattle.motion_rewrite.specs.Rows.{AreRowsOf, AreRowsWhere};
+ghost use Rattle.down_safe.specs.Busy.{AreBusyRows, IsEarliest};
 ghost use Rattle.latest_place.specs.Lazy.{AreLateRows, AreLazy};
 
 use crate::Late;
 use crate::nodes::{Uses, delayed_rows, isolated_rows, latest_rows, placement_of};
+use bit_rows::Rows;
 use down_safe::{Busy, DownRule, busy};
 use flow_graph::{Edges, Graph};
 use mir_base::Memory;
@@ -38,6 +42,50 @@ pub fn late<R: DownRule>(
     // Rows that are not asked again are dropped at once: where they are wide each set of them is large.
     mem::drop(up);
     mem::drop(down);
+    let late = delays(alloc, rule, graph, edges, table, used, early)?;
+    Ok(late)
+}
+
+/// The same where the rows of the busy placement are known, of which two are copied. They are those of the rule, the
+/// graph and the table. It fails only with `Memory`.
+pub fn late_of_busy<R: DownRule>(
+    alloc: Global,
+    rule: &R,
+    graph: &Graph,
+    edges: &Edges,
+    table: &ExprTable,
+    busy: &Busy,
+) -> Result<Late, Memory>
+    requires split { IsSplit graph.now.nodes }
+    requires edges { edges.now ≡ edges_of graph.now.nodes }
+    requires busy { AreBusyRows graph.now table.now (R.is_down rule.now graph.now) busy.now }
+    ensures { IfOk result (AreLateRows graph.now table.now (R.is_down rule.now graph.now)) }
+{
+    let used = busy.uses.copied(alloc)?;
+    let early = busy.early.copied(alloc)?;
+    let late = delays(alloc, rule, graph, edges, table, used, early)?;
+    Ok(late)
+}
+
+/// The same by the rows of the nodes where each expression is used, and where it is earliest.
+fn delays<R: DownRule>(
+    alloc: Global,
+    rule: &R,
+    graph: &Graph,
+    edges: &Edges,
+    table: &ExprTable,
+    used: Rows,
+    early: Rows,
+) -> Result<Late, Memory>
+    requires split { IsSplit graph.now.nodes }
+    requires edges { edges.now ≡ edges_of graph.now.nodes }
+    requires used_are { AreRowsOf graph.now table.now (uses graph.now) used }
+    requires early_are { AreRowsWhere graph.now table.now
+        (λ e. IsEarliest graph.now e (R.is_down rule.now graph.now e)) early }
+    ensures { IfOk result (AreLateRows graph.now table.now (R.is_down rule.now graph.now)) }
+{
+    let _ = rule;
+    let _ = table;
     let uses = Uses {
         graph,
         edges,

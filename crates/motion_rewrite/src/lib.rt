@@ -21,3 +21,4 @@ pub use flattening::{flatten, flatten_dividing};
 pub use placement::Placement;
 pub use rows::{kill_rows, use_rows};
 pub use table::{ExprTable, dividing_exprs, exprs};
+pub use temporaries::inserted_somewhere;

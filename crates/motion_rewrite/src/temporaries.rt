@@ -49,8 +49,9 @@ fn number_after(vars: usize, count: usize) -> Result<usize, Memory>
     vars.checked_add(count).ok_or(AllocError)
 }
 
-/// Which expressions have an insertion.
-fn inserted_somewhere(alloc: Global, exprs: usize, insert: &Rows) -> Result<Row, Memory>
+/// Which of so many expressions have an insertion, by the rows of all nodes: a bit for each. It fails only with
+/// `Memory`.
+pub fn inserted_somewhere(alloc: Global, exprs: usize, insert: &Rows) -> Result<Row, Memory>
     requires { AreRows (length insert.now) exprs insert.now }
     ensures long { IfOk result (λ row. length row ≡ exprs) }
     ensures inserted { IfOk result (IsInsertionRow insert.now) }

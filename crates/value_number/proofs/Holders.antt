@@ -4,7 +4,6 @@ use Rattle.std.proofs.Common.{◌≡◌, ◌≢◌, ℕ, ◌<◌, ◌≤◌, Boo
 use Rattle.std.proofs.lemmas.Bool.{false≢true}
 use Rattle.std.specs.Option.{IfSome, IfNone}
 use Rattle.std.proofs.lemmas.List.{get_or-set_same, get_or-set_other, length-set}
-use Rattle.std.proofs.lemmas.Option.{slice_get_within}
 use Rattle.mir_base.specs.declared.instructions.Operand.{Operand}
 use Rattle.mir_base.specs.declared.instructions.Rhs.{Rhs}
 use Rattle.mir_base.specs.declared.instructions.Rhs.TheVariants.{Plain, Unary, Binary}
@@ -18,11 +17,13 @@ use Rattle.value_number.specs.declared.finding.NewTerm.{NewTerm}
 use Rattle.value_number.specs.declared.finding.AtNode.{AtNode}
 use Rattle.value_number.specs.declared.terms.TermKey.{TermKey}
 use Rattle.value_number.specs.declared.terms.TermKey.TheVariants as keys
-use Rattle.value_number.specs.Terms.{Term, Terms, Initial, Opaque, Number, UnaryOf, BinaryOf, with_term, assigned_term, rhs_term, movable_rhs_term}
+use Rattle.value_number.specs.Entries.{IsTermOf}
+use Rattle.value_number.specs.Terms.{Term, Terms, Initial, Opaque, Number, UnaryOf, BinaryOf, with_term, assigned_term, node_terms, rhs_term, movable_rhs_term}
 use Rattle.value_number.specs.Numbered.{IsHolder}
 use Rattle.value_number.specs.Table.{StandOn, Stands, Stay, Represent, RepresentsAt, variable_number}
-use Rattle.value_number.specs.TermWalks.{Finds}
-use Rattle.value_number.proofs.Stands.{all_with, one_term, one_number, represent_on}
+use Rattle.value_number.specs.TermWalks.{Finds, GrowsAfter}
+use Rattle.value_number.proofs.Entries.{opaque_after, put_grows}
+use Rattle.value_number.proofs.Stands.{all_with, one_term, one_number, represent_on, stands_within}
 
 -- ---- the holder of a term
 
@@ -80,14 +81,6 @@ binary_holds numbers number r op a b undivided f table root terms differ represe
 
 -- ---- a term that is new
 
--- a number that stands for a term is that of an entry
-stands_within : (table : List TermKey) (n : ℕ) (t : Term) → Stands table n t → n < length table
-stands_within table n (Initial v root) s = slice_get_within table n _ s
-stands_within table n (Opaque k x) s = slice_get_within table n _ s
-stands_within table n (Number c) s = slice_get_within table n _ s
-stands_within table n (UnaryOf op t) s = slice_get_within table n _ s.1
-stands_within table n (BinaryOf op t u) s = slice_get_within table n _ s.2
-
 module _ (old new : List TermKey) (stay : Stay old new) (differ : AllDiffer new) (numbers : List (Option ℕ)) (root : ℕ) (terms : Terms) (represent : Represent old numbers root terms) (number : ℕ) (late : length old ≤ number) where
   -- no variable has a computed term whose number is that of a new entry
   none_has : (t : Term) → IsComputed t → Stands new number t → IsHolder (length numbers) terms (Some t) None
@@ -136,19 +129,23 @@ finds_call old new numbers root n x unit next number operands found stay put lt 
   change = λ terms represent other. represent_changed new numbers root terms x number (Opaque n x) (represent_on old new numbers root terms stay represent) lt here;
   start = λ is. cc;
   all = λ terms represent. all_with old (keys.Opaque n x) new (Opaque n x) put (λ k at. at);
+  grows = λ shared nodes terms root_lt n_lt represent.
+      put_grows (length numbers) nodes (IsTermOf new (length numbers) (node_terms shared n (Call (Some x) unit operands next) terms)) old (keys.Opaque n x) new put (n_lt, lt)
+      (opaque_after new (length numbers) shared n x unit next operands terms lt);
 })
 
 -- an assignment whose right side has this term
-pub finds_assigned : (old new : List TermKey) (numbers : List (Option ℕ)) (root n x next number : ℕ) (rhs : Rhs) (holder : Option ℕ) (found : AtNode) → Stay old new → StandOn old numbers root new → x < length numbers
+pub finds_assigned : (old new : List TermKey) (numbers : List (Option ℕ)) (root n x next number : ℕ) (rhs : Rhs) (holder : Option ℕ) (found : AtNode) → Stay old new → StandOn old numbers root new → GrowsAfter numbers root n (Assign x rhs next) old new → x < length numbers
     → ((terms : Terms) → Represent old numbers root terms → Stands new number (assigned_term n x terms rhs)) → ((terms : Terms) → Represent old numbers root terms → IsHolder (length numbers) terms (movable_rhs_term terms rhs) holder)
     → found.holder ≡ holder → found.change ≡ to_number x number → Finds old new numbers root n (Assign x rhs next) found
-finds_assigned old new numbers root n x next number rhs holder found stay all lt stands holds is_holder change = subst (Finds old new numbers root n (Assign x rhs next)) (same_found found holder (to_number x number) is_holder change) (record {
+finds_assigned old new numbers root n x next number rhs holder found stay all grows lt stands holds is_holder change = subst (Finds old new numbers root n (Assign x rhs next)) (same_found found holder (to_number x number) is_holder change) (record {
   stay = stay;
   within = lt;
   holder = holds;
   change = λ terms represent other. represent_changed new numbers root terms x number (assigned_term n x terms rhs) (represent_on old new numbers root terms stay represent) lt (stands terms represent);
   start = λ is. cc;
   all = all;
+  grows = grows;
 })
 
 -- a right side that divides has no holder

@@ -2,6 +2,7 @@ pub mod Values
 pub mod Lockstep
 pub mod Whole
 pub mod Stands
+pub mod Entries
 pub mod Covers
 pub mod Holders
 pub mod TermWalks

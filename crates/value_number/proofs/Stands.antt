@@ -1,6 +1,7 @@
 -- A number stands for one term, and a term has one number; numbers of operands, right sides and variables.
-use Rattle.std.proofs.Common.{◌≡◌, inl, inr, ℕ, List, [], ◌∷◌, length, length-append, slice_get, Option, Some, None, Result, Ok, Err, IfOk, OnOk, sym, ap, ◌∙◌, subst, arith}
+use Rattle.std.proofs.Common.{◌≡◌, inl, inr, ℕ, ◌<◌, List, [], ◌∷◌, length, length-append, slice_get, Option, Some, None, Result, Ok, Err, IfOk, OnOk, sym, ap, ◌∙◌, subst, arith}
 use Rattle.std.proofs.lemmas.Bool.{cases_lt}
+use Rattle.std.proofs.lemmas.Option.{slice_get_within}
 use Rattle.mir_base.specs.declared.operators.Op.{Op}
 use Rattle.mir_base.specs.declared.operators.UnOp.{UnOp}
 use Rattle.mir_base.specs.declared.instructions.Operand.{Operand}
@@ -70,7 +71,20 @@ one_number table d (BinaryOf op t s) n m p q =
     let at_n : slice_get table n ≡ Some (keys.Binary op q.0 q.1) = p.2 ∙ ap (λ k. Some (keys.Binary op k p.1)) a ∙ ap (λ k. Some (keys.Binary op q.0 k)) b in
     one_place table d n m (keys.Binary op q.0 q.1) at_n q.2
 
+-- a number that stands for a term is that of an entry
+pub stands_within : (table : List TermKey) (n : ℕ) (t : Term) → Stands table n t → n < length table
+stands_within table n (Initial v root) s = slice_get_within table n _ s
+stands_within table n (Opaque k x) s = slice_get_within table n _ s
+stands_within table n (Number c) s = slice_get_within table n _ s
+stands_within table n (UnaryOf op t) s = slice_get_within table n _ s.1
+stands_within table n (BinaryOf op t u) s = slice_get_within table n _ s.2
+
 -- ---- more entries
+
+-- more entries, and then more
+pub stay_both : {E : Type 0} (old mid new : List TermKey) (r : Result ℕ E) → Stay old mid → OnOk r (Stay mid new) → OnOk r (Stay old new)
+stay_both old mid new (Ok n) first second = λ i key at. second i key (first i key at)
+stay_both old mid new (Err e) first second = tt
 
 -- more entries leave it so
 pub stands_on : (old new : List TermKey) → Stay old new → (t : Term) (n : ℕ) → Stands old n t → Stands new n t

@@ -14,6 +14,7 @@ use Rattle.flow_graph.specs.Paths.{HasEdge}
 use Rattle.value_number.specs.declared.terms.TermKey.{TermKey}
 use Rattle.value_number.specs.declared.walk.Step.{Step}
 use Rattle.value_number.specs.declared.walk.Step.TheVariants.{Visit, Restore}
+use Rattle.value_number.specs.Entries.{GainsEntries, IsTermOf}
 use Rattle.value_number.specs.Terms.{Terms, initial_terms, node_terms, terms_after, movable_term}
 use Rattle.value_number.specs.Roots.{FromRoot, is_root, terms_before}
 use Rattle.value_number.specs.RootLaws.{only_enters, root_or_not}
@@ -21,6 +22,7 @@ use Rattle.value_number.specs.NodeTerms.{AreTermsBefore}
 use Rattle.value_number.specs.Numbered.{IsHolder, IsHolderAt}
 use Rattle.value_number.specs.Table.{Represent, RepresentsAt, Stay}
 use Rattle.value_number.specs.TermWalks.{AreRoots, VisitRoots, Passes, restored, IsReady, AreReady, IsToVisit, holder_at, IsVisited, IsUnderWay, listed_after, steps_after, weight_left, AreHolders}
+use Rattle.value_number.proofs.Entries.{entries_on, no_entries, root_there}
 use Rattle.value_number.proofs.Stands.{none_stand, represent_on}
 use Rattle.value_number.proofs.Weights.{visit_light}
 
@@ -192,6 +194,9 @@ module _ (graph : GraphShape) where
       roots = walk.roots;
       ready = passes.undoes.ready graph.shared graph.nodes table' (ready_on graph.shared graph.nodes table table' numbers steps passes.stay (ready_visit graph.shared graph.nodes table steps n root numbers walk.ready).0);
       stand = passes.all terms ready.represent walk.stand;
+      entries = entries_on graph table table' n root ready.before node here ready.path passes.stay walk.entries
+          (subst (λ c. GainsEntries c (length graph.nodes) (IsTermOf table' c (node_terms graph.shared n node terms)) table table') walk.numbers_long
+          (passes.grows (length graph.nodes) terms (root_there graph.nodes n root ready.before ready.path ready.within) ready.within ready.represent));
       all = all;
     }
       where
@@ -235,6 +240,7 @@ module _ (graph : GraphShape) where
       roots = λ k k_lt is. set_keeps listed s k (walk.roots k k_lt is);
       ready = put_visit graph.shared graph.nodes table steps s root numbers walk.ready (record { within = within; before = n ∷ before; path = (no_root, only_enters graph.nodes n s no_root edge, path); represent = represent });
       stand = walk.stand;
+      entries = walk.entries;
       all = all;
     }
       where
@@ -294,6 +300,7 @@ visit_walks graph is_graph table table' numbers numbers' listed steps changed ho
   roots = at_hand.roots;
   ready = at_hand.ready;
   stand = at_hand.stand;
+  entries = at_hand.entries;
   all = all;
 }
   where
@@ -392,6 +399,7 @@ restore_walks graph table numbers listed steps holders v old walk =
         roots = walk.roots;
         ready = rest.1;
         stand = walk.stand;
+        entries = walk.entries;
         all = all;
       },
     )
@@ -454,6 +462,7 @@ begins graph table numbers holders roots steps none unheld no_keys are visits = 
   roots = λ n lt is. are.are n lt ∙ ap Some is;
   ready = roots_ready graph.shared graph.nodes table numbers (length graph.vars) roots none are steps visits.only;
   stand = none_stand table no_keys;
+  entries = no_entries graph table no_keys;
   all = λ n at. let v = visits.has n at in inl (v.0, n, v.1);
 }
 

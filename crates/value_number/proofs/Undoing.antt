@@ -1,7 +1,8 @@
 -- Numbers that are changed, and the steps that undo it: one change, changes one after the other, and those of a call.
-use Rattle.std.proofs.Common.{◌≡◌, ℕ, suc, ◌+◌, ◌<◌, ◌≤◌, Bool, true, false, if◌then◌else◌, nat_eq, nat_lt, eq-eqb, eqb-true, List, [], ◌∷◌, ◌++◌, length, slice_get, slice_index_or, slice_set, Option, Some, None, refl, sym, ap, ◌∙◌, subst, arith, append-nil}
+use Rattle.std.proofs.Common.{◌≡◌, ℕ, suc, ◌+◌, ◌<◌, ◌≤◌, Bool, true, false, if◌then◌else◌, nat_eq, nat_lt, eq-eqb, eqb-true, List, [], ◌∷◌, ◌++◌, length, slice_get, slice_index_or, slice_set, Option, Some, None, Result, Ok, Err, OnOk, inl, inr, refl, sym, ap, ◌∙◌, subst, arith, append-nil}
 use Rattle.std.proofs.lemmas.Bool.{false≢true, ltb-false, ltb-true}
 use Rattle.std.proofs.lemmas.List.{length-set, set-get_or, set-set}
+use Rattle.mir_base.specs.declared.instructions.Operand.{Operand}
 use Rattle.flow_graph.specs.declared.nodes.Node.{Node}
 use Rattle.flow_graph.specs.declared.nodes.Node.TheVariants as kinds
 use Rattle.flow_graph.specs.Graphs.{is_start}
@@ -11,11 +12,13 @@ use Rattle.value_number.specs.declared.finding.AtNode.{AtNode}
 use Rattle.value_number.specs.declared.terms.TermKey.{TermKey}
 use Rattle.value_number.specs.declared.terms.TermKey.TheVariants as keys
 use Rattle.value_number.specs.declared.walk.Step.{Step}
-use Rattle.value_number.specs.Terms.{Terms, Opaque, with_term, renewed_terms, own_terms, with_globals}
+use Rattle.value_number.specs.Entries.{GainsEntries, IsTermOf}
+use Rattle.value_number.specs.Terms.{Terms, Opaque, with_term, renewed_terms, node_terms, own_terms, with_globals}
 use Rattle.value_number.specs.Table.{Represent, RepresentsAt, Stay, variable_number}
-use Rattle.value_number.specs.TermWalks.{AreReady, Finds, NewTermWithin, Passes, Renews, RenewsGlobals, RenewsOne, Undoes, changed_numbers, undoing}
+use Rattle.value_number.specs.TermWalks.{AreReady, Finds, IsLeafBelow, NewTermWithin, Passes, Renews, RenewsGlobals, RenewsOne, Undoes, changed_numbers, undoing}
+use Rattle.value_number.proofs.Entries.{grows_both, grows_more, leaf_renewed, put_grows}
 use Rattle.value_number.proofs.Holders.{represent_changed}
-use Rattle.value_number.proofs.Stands.{all_with, represent_on}
+use Rattle.value_number.proofs.Stands.{all_with, represent_on, stands_on}
 use Rattle.value_number.proofs.TermWalks.{put_restore, visit_stays}
 use Rattle.value_number.proofs.Weights.{undoing_light, weight_append}
 
@@ -95,11 +98,12 @@ renews_one n x number old new numbers numbers' steps steps' change is lt stay pu
   terms = λ root terms r. subst (λ l. Represent new l root (with_term x (Opaque n x) terms)) (sym (numbers_are ∙ ap (λ (k : NewTerm). slice_set numbers k.variable (Some k.number)) is))
       (represent_changed new numbers root terms x number (Opaque n x) (represent_on old new numbers root terms stay r) lt here);
   all = all_with old (keys.Opaque n x) new (Opaque n x) put (λ k at. at);
+  grows = λ nodes n_lt. put_grows (length numbers) nodes (IsLeafBelow new n (suc x)) old (keys.Opaque n x) new put (n_lt, lt) (λ k at. (x, omega arith, at));
 }
 
 -- no variable does
 pub renews_none : (n : ℕ) (table : List TermKey) (numbers : List (Option ℕ)) (steps : List Step) → Renews n 0 table table numbers numbers steps steps
-renews_none n table numbers steps = record { stay = λ i key at. at; undoes = undo_none 0 numbers steps; terms = λ root terms r. represent_same table numbers root terms (renewed_terms n 0 terms) (renewed_none n terms) r; all = λ all. all }
+renews_none n table numbers steps = record { stay = λ i key at. at; undoes = undo_none 0 numbers steps; terms = λ root terms r. represent_same table numbers root terms (renewed_terms n 0 terms) (renewed_none n terms) r; all = λ all. all; grows = λ nodes n_lt k key at. inl at }
 
 -- one more does
 pub renews_more : (n x : ℕ) (old mid new : List TermKey) (numbers between numbers' : List (Option ℕ)) (steps put steps' : List Step) → Renews n x old mid numbers between steps put → RenewsOne n x mid new between numbers' put steps' → Renews n (x + 1) old new numbers numbers' steps steps'
@@ -108,11 +112,27 @@ renews_more n x old mid new numbers between numbers' steps put steps' p q = reco
   undoes = subst (λ k. Undoes k numbers steps numbers' steps') (let e : 1 + x ≡ x + 1 = omega arith in e) (undo_both x 1 numbers steps between put numbers' steps' p.undoes q.undoes);
   terms = λ root terms r. represent_same new numbers' root (with_term x (Opaque n x) (renewed_terms n x terms)) (renewed_terms n (x + 1) terms) (renewed_more n x terms) (q.terms root (renewed_terms n x terms) (p.terms root terms r));
   all = λ all. q.all (p.all all);
+  grows = λ nodes n_lt. grows_both (length numbers) nodes (IsLeafBelow mid n x) (IsLeafBelow new n (x + 1)) old mid new q.stay
+      (λ k leaf. inr (leaf.0, omega (arith, leaf.1), q.stay k (keys.Opaque n leaf.0) leaf.2)) (p.grows nodes n_lt)
+      (subst (λ c. GainsEntries c nodes (IsLeafBelow new n (x + 1)) mid new) p.undoes.long
+      (grows_more (length between) nodes (IsLeafBelow new n (suc x)) (IsLeafBelow new n (x + 1)) mid new (λ k leaf. (leaf.0, omega (arith, leaf.1), leaf.2)) (q.grows nodes n_lt)));
 }
 
 -- where the terms of the globals stay, nothing changes
 pub globals_stay : (shared n : ℕ) (node : Node) (table : List TermKey) (numbers : List (Option ℕ)) (steps : List Step) → ((terms : Terms) → with_globals shared n node terms ≡ terms) → RenewsGlobals shared n node table table numbers numbers steps steps
-globals_stay shared n node table numbers steps same = record { stay = λ i key at. at; undoes = undo_none shared numbers steps; terms = λ root terms r. subst (Represent table numbers root) (sym (same terms)) r; all = λ all. all }
+globals_stay shared n node table numbers steps same = record { stay = λ i key at. at; undoes = undo_none shared numbers steps; terms = λ root terms r. subst (Represent table numbers root) (sym (same terms)) r; all = λ all. all; grows = λ nodes terms n_lt k key at. inl at }
+
+-- and after a call they are renewed
+pub globals_renewed : {E : Type 0} (shared n : ℕ) (into : Option ℕ) (unit : ℕ) (operands : List Operand) (next : ℕ) (old new : List TermKey) (numbers numbers' : List (Option ℕ)) (steps steps' : List Step) (r : Result (Unit {0}) E) → shared ≤ length numbers
+    → OnOk r (Renews n shared old new numbers numbers' steps steps') → OnOk r (RenewsGlobals shared n (kinds.Call into unit operands next) old new numbers numbers' steps steps')
+globals_renewed shared n into unit operands next old new numbers numbers' steps steps' (Ok done) few renews = record {
+  stay = renews.stay;
+  undoes = renews.undoes;
+  terms = renews.terms;
+  all = renews.all;
+  grows = λ nodes terms n_lt. grows_more (length numbers) nodes (IsLeafBelow new n shared) (IsTermOf new (length numbers) (renewed_terms n shared terms)) old new (leaf_renewed new n shared (length numbers) terms few) (renews.grows nodes n_lt);
+}
+globals_renewed shared n into unit operands next old new numbers numbers' steps steps' (Err e) few renews = tt
 
 -- ---- a node
 
@@ -142,4 +162,8 @@ node_passes shared root n node old mid new numbers between numbers' steps put st
   start = λ terms represent is. subst (Represent new numbers' root) (start_keeps shared n node terms is)
       (r.terms root terms (subst (λ l. Represent mid l root terms) (sym (between_are ∙ ap (changed_numbers numbers) (f.start is))) (represent_on old mid numbers root terms f.stay represent)));
   all = λ terms represent all. r.all (f.all terms represent all);
+  grows = λ nodes terms root_lt n_lt represent.
+      grows_both (length numbers) nodes (IsTermOf mid (length numbers) (node_terms shared n node terms)) (IsTermOf new (length numbers) (node_terms shared n node terms)) old mid new r.stay
+      (λ k t. inr (t.0, t.1, stands_on mid new r.stay (node_terms shared n node terms t.0) k t.2)) (f.grows shared nodes terms root_lt n_lt represent)
+      (subst (λ c. GainsEntries c nodes (IsTermOf new c (node_terms shared n node terms)) mid new) (ap length between_are ∙ changed_long numbers found.change) (r.grows nodes (own_terms n node terms) n_lt));
 }

@@ -2,6 +2,7 @@ pub mod Terms
 pub mod Roots
 pub mod Numbered
 pub mod Table
+pub mod Entries
 pub mod NodeTerms
 pub mod OneValue
 pub mod AllTerms

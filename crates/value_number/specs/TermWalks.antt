@@ -11,10 +11,11 @@ use Rattle.value_number.specs.declared.terms.TermKey.{TermKey}
 use Rattle.value_number.specs.declared.walk.Step.{Step}
 use Rattle.value_number.specs.declared.walk.Step.TheVariants.{Visit, Restore}
 use Rattle.value_number.specs.declared.walk.Walk.{Walk}
+use Rattle.value_number.specs.Entries.{AreEntries, GainsEntries, IsTermOf}
 use Rattle.value_number.specs.Terms.{Opaque, Terms, with_term, movable_term, node_terms, own_terms, renewed_terms, with_globals}
 use Rattle.value_number.specs.Roots.{FromRoot, is_root, terms_before}
 use Rattle.value_number.specs.Numbered.{IsHolder, IsHolderAt}
-use Rattle.value_number.specs.Table.{AllStand, Represent, StandOn, Stay, variable_number}
+use Rattle.value_number.specs.Table.{AllStand, Represent, StandOn, Stands, Stay, variable_number}
 
 -- ---- roots
 
@@ -56,6 +57,13 @@ abbrev pub NewTermWithin : ℕ → Option NewTerm → Type 0
 NewTermWithin count None = Unit {0}
 NewTermWithin count (Some change) = change.variable < count
 
+-- where these numbers stand for the terms before node n, which is this one, each new entry is needed for the term of
+-- some variable after it
+abbrev pub GrowsAfter : List (Option ℕ) → (root n : ℕ) → Node → (old new : List TermKey) → Type 0
+GrowsAfter numbers root n node old new = (shared nodes : ℕ) (terms : Terms) → root < nodes → n < nodes
+    → Represent old numbers root terms
+    → GainsEntries (length numbers) nodes (IsTermOf new (length numbers) (node_terms shared n node terms)) old new
+
 -- what was found at node n, where the numbers stood for the terms before it: the holder of its term, and numbers that
 -- stand for the terms after it, but for the globals. A Start changes none
 pub record Finds (old new : List TermKey) (numbers : List (Option ℕ)) (root n : ℕ) (node : Node)
@@ -68,6 +76,7 @@ pub record Finds (old new : List TermKey) (numbers : List (Option ℕ)) (root n 
       → Represent new (changed_numbers numbers found.change) root (own_terms n node terms)
   pub start : is_start node ≡ true → found.change ≡ None
   pub all : StandOn old numbers root new
+  pub grows : GrowsAfter numbers root n node old new
 
 -- ---- steps
 
@@ -131,6 +140,7 @@ pub record IsUnderWay (graph : GraphShape) (table : List TermKey) (numbers : Lis
   pub roots : (n : ℕ) → n < length graph.nodes → is_root graph.nodes n ≡ true → slice_get listed n ≡ Some true
   pub ready : AreReady graph.shared graph.nodes table numbers steps
   pub stand : AllStand table
+  pub entries : AreEntries graph table
   pub all : (n : ℕ) → slice_get listed n ≡ Some true
       → IsToVisit n steps ⊎ (at_hand ≡ Some n) ⊎ IsVisited graph listed holders n
 
@@ -180,6 +190,10 @@ pub record Undoes (count : ℕ) (numbers : List (Option ℕ)) (steps : List Step
   pub visits : (n : ℕ) → IsToVisit n steps → IsToVisit n steps'
   pub light : (shared : ℕ) → steps_weight shared steps' ≤ count + steps_weight shared steps
 
+-- number k stands for the leaf that node n gives one of the first so many variables
+abbrev pub IsLeafBelow : List TermKey → (n count k : ℕ) → Type 0
+IsLeafBelow table n count k = (x : ℕ) × (x < count) × Stands table k (Opaque n x)
+
 -- variable x got a leaf of node n
 pub record RenewsOne (n x : ℕ) (old new : List TermKey) (numbers numbers' : List (Option ℕ))
     (steps steps' : List Step) : Type 0 where
@@ -188,6 +202,7 @@ pub record RenewsOne (n x : ℕ) (old new : List TermKey) (numbers numbers' : Li
   pub terms : (root : ℕ) (terms : Terms) → Represent old numbers root terms
       → Represent new numbers' root (with_term x (Opaque n x) terms)
   pub all : AllStand old → AllStand new
+  pub grows : (nodes : ℕ) → n < nodes → GainsEntries (length numbers) nodes (IsLeafBelow new n (suc x)) old new
 
 -- the numbers of the first so many variables became those of leaves of node n
 pub record Renews (n count : ℕ) (old new : List TermKey) (numbers numbers' : List (Option ℕ))
@@ -197,6 +212,7 @@ pub record Renews (n count : ℕ) (old new : List TermKey) (numbers numbers' : L
   pub terms : (root : ℕ) (terms : Terms) → Represent old numbers root terms
       → Represent new numbers' root (renewed_terms n count terms)
   pub all : AllStand old → AllStand new
+  pub grows : (nodes : ℕ) → n < nodes → GainsEntries (length numbers) nodes (IsLeafBelow new n count) old new
 
 -- the same of the globals after node n, which is this one
 pub record RenewsGlobals (shared n : ℕ) (node : Node) (old new : List TermKey) (numbers numbers' : List (Option ℕ))
@@ -206,6 +222,8 @@ pub record RenewsGlobals (shared n : ℕ) (node : Node) (old new : List TermKey)
   pub terms : (root : ℕ) (terms : Terms) → Represent old numbers root terms
       → Represent new numbers' root (with_globals shared n node terms)
   pub all : AllStand old → AllStand new
+  pub grows : (nodes : ℕ) (terms : Terms) → n < nodes
+      → GainsEntries (length numbers) nodes (IsTermOf new (length numbers) (with_globals shared n node terms)) old new
 
 -- node n was passed: its holder is known, and where the numbers stood for the terms before it, they stand for those
 -- after it. A Start leaves them
@@ -220,6 +238,8 @@ pub record Passes (shared root n : ℕ) (node : Node) (old new : List TermKey) (
   pub start : (terms : Terms) → Represent old numbers root terms → is_start node ≡ true
       → Represent new numbers' root terms
   pub all : StandOn old numbers root new
+  pub grows : (nodes : ℕ) (terms : Terms) → root < nodes → n < nodes → Represent old numbers root terms
+      → GainsEntries (length numbers) nodes (IsTermOf new (length numbers) (node_terms shared n node terms)) old new
 
 -- ---- all nodes
 

@@ -1,6 +1,7 @@
 // The terms that the variables have before each node, by one table.
 ghost use Rattle.std.specs.Prelude.{◌≡◌, ◌<◌, ◌++◌, [], ◌∷◌, IfOk, OnOk, length, slice_set};
 ghost use Rattle.value_number.specs.AllTerms.{AreAllTerms, AreNumbersTrue, AreTermsOfAll};
+ghost use Rattle.value_number.specs.Entries.{AreEntries};
 ghost use Rattle.value_number.specs.KeptTerms.{AreNoneVisited, KeepsAt};
 ghost use Rattle.value_number.specs.TermWalks.{GoesOver};
 
@@ -24,7 +25,8 @@ pub struct TermsAt {
 /// two variables have numbers, before one node or two, these are equal exactly where the terms are.
 #[derive(Drop)]
 pub struct AllTerms {
-    /// The keys of terms, by their numbers. Some are of terms that no variable has.
+    /// The keys of terms, by their numbers. Each is that of a term that some variable has behind some node, or of an
+    /// operand of a later one.
     pub table: KeyTable<TermKey>,
     /// What the variables have before each node, by the number of the node.
     pub nodes: Vec<TermsAt>,
@@ -34,8 +36,8 @@ impl AllTerms {
     /// The terms of the variables before each node. The graph is walked once; besides, a number is copied for each node
     /// and variable. It fails only with `Memory`.
     pub fn of(alloc: Global, graph: &Graph) -> Result<AllTerms, Memory>
-        // each number is that of the term that the variable has on the way from the root, there is no other root, and
-        // each term of the table has one number
+        // each number is that of the term that the variable has on the way from the root, there is no other root, each
+        // term of the table has one number, and each stands behind its operands and is needed
         ensures terms { IfOk result (λ all. AreAllTerms graph.now all.table all.nodes.items) }
 
         // in each run that comes to a node, variables with one number before it have one value
@@ -78,6 +80,7 @@ fn walk_over(
     requires long { length nodes.old.items ≡ length graph.now.nodes }
     ensures long { OnOk result (length nodes.new.items ≡ length graph.now.nodes) }
     ensures terms { OnOk result (AreTermsOfAll graph.now walk.new.table nodes.new.items) }
+    ensures entries { OnOk result (AreEntries graph.now walk.new.table) }
 {
     let _nodes = graph.nodes();
     while let Some(step) = walk.steps.pop() {

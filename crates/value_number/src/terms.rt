@@ -1,7 +1,8 @@
 // Terms in a table: a term is a number, and no tree is built.
-ghost use Rattle.std.specs.Prelude.{◌≡◌, ◌<◌, length, slice_get, IfOk, OnOk, Some};
+ghost use Rattle.std.specs.Prelude.{◌≡◌, ℕ, ◌<◌, length, slice_get, IfOk, OnOk, Some};
 ghost use Rattle.mir_base.specs.Shapes.{AllBelow, operand_vars, rhs_vars};
 ghost use Rattle.key_table.specs.Keys.{IsWithKey};
+ghost use Rattle.value_number.specs.Entries.{GainsEntriesFor};
 ghost use Rattle.value_number.specs.Table.{Represent, StandOn, Stands, Stay};
 ghost use Rattle.value_number.specs.Terms.{Terms, operand_term, rhs_term};
 
@@ -28,8 +29,10 @@ pub(crate) fn term_number(table: &mut KeyTable<TermKey>, key: TermKey) -> Result
     ensures here { IfOk result (λ n. slice_get table.new n ≡ Some key) }
     ensures stay { OnOk result (Stay table.old table.new) }
     ensures with_key { OnOk result (IsWithKey table.old key table.new) }
+    ensures only { IfOk result (λ n. (k : ℕ) → slice_get table.new k ≡ Some key → k ≡ n) }
 {
     let number = table.number(key)?;
+    let _distinct = table.len();
     Ok(number)
 }
 
@@ -47,6 +50,7 @@ pub(crate) fn rhs_number(
         → Stands table.new n (rhs_term terms rhs)) }
     ensures stay { OnOk result (Stay table.old table.new) }
     ensures all { OnOk result (StandOn table.old numbers.now root table.new) }
+    ensures grows { IfOk result (λ n. GainsEntriesFor numbers.now root n table.old table.new) }
 {
     match rhs {
         Rhs::Plain(a) => operand_number(table, numbers, root, a),
@@ -75,6 +79,7 @@ fn operand_number(
         → Stands table.new n (operand_term terms a)) }
     ensures stay { OnOk result (Stay table.old table.new) }
     ensures all { OnOk result (StandOn table.old numbers.now root table.new) }
+    ensures grows { IfOk result (λ n. GainsEntriesFor numbers.now root n table.old table.new) }
 {
     match a {
         Operand::Var(x) => match numbers[x] {

@@ -28,3 +28,6 @@ returns-clause-terms c =
     all_kept graph (subst (λ l. IsGraph graph.vars graph.received l) c.nodes-nodes.ensures.value c.nodes-nodes.ensures.graph) walk.table walk.numbers walk.listed.items walk.holders.items c.loop-step.nodes.items
     (subst (λ l. IsUnderWay graph walk.table walk.numbers walk.listed.items l walk.holders.items None) none c.loop-step.invariant.0) c.loop-step.invariant.1
     (subst (λ l. AreKeptOrLeft graph walk.table walk.listed.items l c.loop-step.nodes.items) none c.loop-step.invariant.2)
+
+pub returns-clause-entries : goal.returns-clause-entries
+returns-clause-entries c = c.loop-step.invariant.0.entries

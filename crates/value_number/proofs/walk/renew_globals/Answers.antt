@@ -1,6 +1,6 @@
 use Rattle.std.proofs.Common.{refl}
 use Rattle.flow_graph.specs.declared.nodes.Node.TheVariants.{Start, Skip, Assign, Print, Guard, Test, Return}
-use Rattle.value_number.proofs.Undoing.{globals_stay}
+use Rattle.value_number.proofs.Undoing.{globals_renewed, globals_stay}
 use Rattle.value_number.proofs.walk.renew_globals.Goals as goal
 
 pub returns-in-Start : goal.returns-in-Start
@@ -23,3 +23,8 @@ returns-in-Test c = rw c.in-Test.is (globals_stay c.args.shared c.args.n (Test c
 
 pub returns-in-Return : goal.returns-in-Return
 returns-in-Return c = rw c.in-Return.is (globals_stay c.args.shared c.args.n (Return c.in-Return.field-0) c.args.table.now c.args.numbers.now c.args.steps.now.items (λ terms. refl))
+
+pub returns-in-Call : goal.returns-in-Call
+returns-in-Call c =
+    rw c.in-Call.is
+    (globals_renewed c.args.shared c.args.n c.in-Call.field-0 c.in-Call.field-1 c.in-Call.field-2 c.in-Call.field-3 c.args.table.now c.renew.new.table c.args.numbers.now c.renew.new.numbers c.args.steps.now.items c.renew.new.steps.items c.renew.result c.requires c.renew.ensures)

@@ -11,6 +11,7 @@ returns-clause-terms c =
       terms = e.terms;
       roots = λ n at there. only_root graph n at.root table at.numbers.items (e.terms n at there);
       numbers = one_to_one table c.len-distinct.ensures.differ;
+      entries = e.entries;
     }
 
 pub returns-clause-holds : goal.returns-clause-holds

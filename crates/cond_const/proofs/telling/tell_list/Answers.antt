@@ -1,0 +1,35 @@
+use Rattle.std.proofs.Common.{◌≡◌, ◌+◌, ◌<◌, length, subst, arith}
+use Rattle.std.proofs.lemmas.Option.{slice_get-get_or}
+use Rattle.cond_const.specs.States.{state_where}
+use Rattle.cond_const.specs.Telling.{TellsBlock}
+use Rattle.cond_const.specs.Folding.{passed_along}
+use Rattle.cond_const.proofs.Steps.{chain_at, passed_on}
+use Rattle.cond_const.proofs.Rewrites.{tells_more}
+use Rattle.cond_const.proofs.telling.tell_list.Goals as goal
+
+pub node-requires : goal.node-requires
+node-requires c = chain_at c.args.graph.now.nodes c.args.list.now c.loop-i.i c.requires.chain (omega (arith, c.loop-i-test.true))
+
+pub put-requires : goal.put-requires
+put-requires c =
+    let low = chain_at c.args.graph.now.nodes c.args.list.now c.loop-i.i c.requires.chain (omega (arith, c.loop-i-test.true)) in
+    omega (arith, low, c.loop-i.invariant.tells.long, c.requires.long)
+
+pub loop-i-preserved : goal.loop-i-preserved
+loop-i-preserved c =
+    let graph = c.args.graph.now in
+    let list = c.args.list.now in
+    let lt : c.loop-i.i < length list = omega (arith, c.loop-i-test.true) in
+    let low = chain_at graph.nodes list c.loop-i.i c.requires.chain lt in
+    record {
+      passes = passed_on graph.shared graph.received graph.nodes list c.loop-i.i (c.loop-i.i + 1) c.node.result.now (state_where c.args.reached c.args.known.now) (state_where c.loop-i.reaches c.loop-i.known)
+          (state_where c.step-reaches.result c.step-reaches.new.known) lt (omega arith) c.node.ensures c.loop-i.invariant.passes
+          (subst (λ r. state_where c.step-reaches.result c.step-reaches.new.known ≡ passed_along c.args.graph.now.shared r c.node.result.now 0 (state_where c.loop-i.reaches c.loop-i.known)) c.received.ensures (subst (λ n. state_where c.step-reaches.result c.step-reaches.new.known ≡ passed_along n c.received.result.now c.node.result.now 0 (state_where c.loop-i.reaches c.loop-i.known)) c.shared.ensures.value c.step-reaches.ensures.passes));
+      tells = tells_more graph.shared graph.received graph.nodes list (state_where c.args.reached c.args.known.now) c.args.all.now.items c.loop-i.i _ (state_where c.loop-i.reaches c.loop-i.known) c.loop-i.all.items c.put.new.all.items
+          c.loop-i.invariant.tells (slice_get-get_or list c.loop-i.i 0 lt) c.loop-i.invariant.passes (omega (arith, low, c.loop-i.invariant.tells.long, c.requires.long)) c.in_ok-put.ensures;
+    }
+
+pub returns : goal.returns
+returns c =
+    let end : c.loop-i.i ≡ length c.args.list.now = omega (arith, c.loop-i-test.false, c.loop-i.auto.i-end) in
+    subst (λ k. TellsBlock c.args.graph.now.shared c.args.graph.now.received c.args.graph.now.nodes c.args.list.now (state_where c.args.reached c.args.known.now) k c.args.all.now.items c.loop-i.all.items) end c.loop-i.invariant.tells
