@@ -1,5 +1,4 @@
 mod BitLaws
-mod InsertionLaws
 mod MotionBits
 mod RoundLaws
 mod TrailLaws

@@ -55,7 +55,8 @@ nodes_below nodes (suc n) = nodes_below nodes n ++ terms_line n (slice_get nodes
 
 -- ---- the whole
 
--- the text is that of the table, and of the numbers before each node
+-- the text is that of the table, in which no term stands that nothing needs and each stands behind its operands, and of
+-- the numbers before each node
 pub record IsTermsText (graph : GraphShape) (text : List ℕ) : Type 0 where
   pub table : List TermKey
   pub nodes : List TermsAt

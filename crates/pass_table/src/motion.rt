@@ -3,22 +3,22 @@ ghost use Rattle.std.specs.Prelude.{◌≡◌, ◌<◌, ◌+◌, if◌then◌els
 ghost use Rattle.mir_base.specs.Appending.{AppendsOnOk};
 ghost use Rattle.mir_base.specs.ExpressionVars.{rhs_of};
 ghost use Rattle.flow_graph.specs.Edges.{IsSplit, edges_of};
-ghost use Rattle.motion_rewrite.specs.Temporaries.{has_insertion};
+ghost use Rattle.motion_rewrite.specs.Temporaries.{IsInsertionRow, has_insertion};
 ghost use Rattle.live_range.specs.Held.{AreHeldEdges};
 ghost use Rattle.table_text.specs.Rows.{HaveBit};
 ghost use Rattle.table_text.specs.Turns.{AppendsSome};
 ghost use Rattle.pass_table.specs.Motion.{AreBoundRows, AreMotionRows, ArePlaceRows, HaveBusyBit, HaveLateBit, HaveMotionBit, IsMotionText, busy_lines, expression_head, expression_lines, expressions_below, late_lines, lazy_lines, motion_lines, safe_lines, unit_temporary, temporary_text};
 ghost use Rattle.pass_table.specs.Units.{IsUnitMotion};
 
-use bit_rows::Rows;
+use bit_rows::{Row, Rows};
 use down_safe::{Busy, EveryPath, busy};
 use edge_split::split_splits;
 use flow_graph::Edges;
-use latest_place::{Late, late};
+use latest_place::{Late, late_of_busy};
 use live_range::{Held, ranges};
 use mir_base::{Expr, Memory, Rhs};
 use mir_opt::UnitTrail;
-use motion_rewrite::kill_rows;
+use motion_rewrite::{inserted_somewhere, kill_rows};
 use std::alloc::{AllocError, Global};
 use table_text::{put_bits, put_count, put_edge_bits, put_field, put_name, put_right};
 
@@ -56,7 +56,9 @@ pub(crate) fn put_motion(alloc: Global, text: &mut Vec<u8>, unit: &UnitTrail) ->
     ensures { OnOk result (AppendsSome (IsMotionText unit.now) text.old text.new) }
 {
     let rows = motion_rows(alloc, unit)?;
-    put_expressions(text, unit, &rows)?;
+    let exprs = unit.table.len();
+    let inserted = inserted_somewhere(alloc, exprs, &unit.placement.insert)?;
+    put_expressions(text, unit, &rows, &inserted)?;
     Ok(())
 }
 
@@ -79,7 +81,7 @@ fn place_rows(alloc: Global, unit: &UnitTrail, edges: &Edges) -> Result<PlaceRow
     ensures { IfOk result (ArePlaceRows unit.now) }
 {
     let busy = busy(alloc, &EveryPath, &unit.split, edges, &unit.table)?;
-    let late = late(alloc, &EveryPath, &unit.split, edges, &unit.table)?;
+    let late = late_of_busy(alloc, &EveryPath, &unit.split, edges, &unit.table, &busy)?;
     Ok(PlaceRows { busy, late })
 }
 
@@ -115,38 +117,47 @@ fn held_edges(alloc: Global, unit: &UnitTrail, edges: &Edges) -> Result<Held, Me
     Ok(held)
 }
 
-/// Appends the lines of all expressions.
-fn put_expressions(text: &mut Vec<u8>, unit: &UnitTrail, rows: &MotionRows) -> Result<(), Memory>
+/// Appends the lines of all expressions, of which `inserted` says which are inserted somewhere.
+fn put_expressions(
+    text: &mut Vec<u8>,
+    unit: &UnitTrail,
+    rows: &MotionRows,
+    inserted: &Row,
+) -> Result<(), Memory>
     requires motion { IsUnitMotion unit.now }
     requires rows { AreMotionRows unit.now rows.now }
+    requires long { length inserted.now ≡ length unit.now.table }
+    requires inserted { IsInsertionRow unit.now.placement.insert inserted.now }
     ensures { AppendsOnOk result text.old text.new
         (expressions_below unit.now rows.now (length unit.now.table)) }
 {
     let mut temporary = unit.split.vars().len();
     for number in 0..unit.table.len() {
-        temporary = put_expression(text, unit, rows, number, temporary)?;
+        let has_temporary = inserted.get(number);
+        temporary = put_expression(text, unit, rows, number, has_temporary, temporary)?;
     }
     Ok(())
 }
 
 /// Appends the lines of the expression of this number, and answers the number of the temporary of the next one;
-/// `temporary` is that of this one, if it has one.
+/// `inserted` says whether this one has a temporary, and `temporary` is the number of it then.
 fn put_expression(
     text: &mut Vec<u8>,
     unit: &UnitTrail,
     rows: &MotionRows,
     number: usize,
+    inserted: bool,
     temporary: usize,
 ) -> Result<usize, Memory>
     requires motion { IsUnitMotion unit.now }
     requires rows { AreMotionRows unit.now rows.now }
     requires number { number < length unit.now.table }
+    requires inserted { inserted ≡ has_insertion unit.now.placement.insert number }
     requires temporary { temporary ≡ unit_temporary unit.now number }
     ensures text { AppendsOnOk result text.old text.new
         (expression_lines unit.now rows.now number (slice_get unit.now.table number)) }
     ensures next { IfOk result (λ next. next ≡ unit_temporary unit.now (number + 1)) }
 {
-    let inserted = is_inserted(&unit.placement.insert, number);
     let next = next_temporary(temporary, inserted)?;
     put_head(
         text,
@@ -158,19 +169,6 @@ fn put_expression(
     )?;
     put_rows(text, unit, rows, number)?;
     Ok(next)
-}
-
-/// Whether some row has the bit.
-fn is_inserted(rows: &Rows, bit: usize) -> bool
-    requires { HaveBit rows.now bit }
-    ensures { result ≡ has_insertion rows.now bit }
-{
-    for row in 0..rows.len() {
-        if rows.get(row, bit) {
-            return true;
-        }
-    }
-    false
 }
 
 /// The number of the next temporary.

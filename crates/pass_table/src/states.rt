@@ -1,8 +1,8 @@
 // What is known before each node of a graph. Each function fails only with `Memory`.
-ghost use Rattle.std.specs.Prelude.{◌<◌, flat_map, length, OnOk};
+ghost use Rattle.std.specs.Prelude.{flat_map, length, OnOk};
 ghost use Rattle.std.specs.Option.{option_map};
 ghost use Rattle.mir_base.specs.Appending.{AppendsOnOk};
-ghost use Rattle.cond_const.specs.KnownBefore.{AreStatesOf};
+ghost use Rattle.cond_const.specs.KnownBefore.{AreKnownBefore};
 ghost use Rattle.table_text.specs.Turns.{AppendsSome, InTurn};
 ghost use Rattle.pass_table.specs.States.{IsStateLine, known_text, state_line, state_text};
 
@@ -19,26 +19,22 @@ pub(crate) fn put_states(alloc: Global, text: &mut Vec<u8>, graph: &Graph) -> Re
         text.old text.new) }
 {
     let states = LeastStates::of(alloc, graph)?;
-    for node in 0..graph.len() {
-        put_state(alloc, text, graph, &states, node)?;
-    }
+    let known = states.before_each(alloc, graph)?;
+    put_each(text, graph, known.as_slice())?;
     Ok(())
 }
 
-/// Appends the line of a node.
-fn put_state(
-    alloc: Global,
-    text: &mut Vec<u8>,
-    graph: &Graph,
-    states: &LeastStates,
-    node: usize,
-) -> Result<(), Memory>
-    requires states { AreStatesOf graph.now states.now }
-    requires there { node < length graph.now.nodes }
-    ensures { OnOk result (AppendsSome (IsStateLine graph.now node) text.old text.new) }
+/// Appends the lines of these nodes, before each of which this is known.
+fn put_each(text: &mut Vec<u8>, graph: &Graph, known: &[Option<Vec<Known>>]) -> Result<(), Memory>
+    requires { AreKnownBefore graph.now known.now }
+    ensures { OnOk result (AppendsSome (InTurn (IsStateLine graph.now) (length known.now))
+        text.old text.new) }
 {
-    let known = states.before(alloc, graph, node)?;
-    put_line(text, node, &known)?;
+    let _ = graph;
+    for node in 0..known.len() {
+        let one = &known[node];
+        put_line(text, node, one)?;
+    }
     Ok(())
 }
 

@@ -12,9 +12,6 @@ next_is : (unit : UnitTrail) (i : ℕ) → unit_temporary unit (i + 1) ≡ unit_
 next_is unit i =
     ap (unit_temporary unit) (add-one i) ∙ sym (add_assoc (length unit.split.vars) (temporaries_before unit.placement.insert i) (if has_insertion unit.placement.insert i then 1 else 0))
 
-pub is_inserted-inserted-requires : goal.is_inserted-inserted-requires
-is_inserted-inserted-requires c = (motion_bits c.args.unit.now c.args.rows.now c.args.number c.requires.motion c.requires.rows c.requires.number).insert
-
 pub put_rows-requires : goal.put_rows-requires
 put_rows-requires c = motion_bits c.args.unit.now c.args.rows.now c.args.number c.requires.motion c.requires.rows c.requires.number
 
@@ -31,6 +28,6 @@ returns-clause-text c =
 
 pub returns-clause-next : goal.returns-clause-next
 returns-clause-next c =
-    c.in_ok-next.ensures ∙ ap (λ (b : Bool). c.args.temporary + (if b then 1 else 0)) c.is_inserted-inserted.ensures
+    c.in_ok-next.ensures ∙ ap (λ (b : Bool). c.args.temporary + (if b then 1 else 0)) c.requires.inserted
     ∙ ap (λ (t : ℕ). t + (if has_insertion c.args.unit.now.placement.insert c.args.number then 1 else 0)) c.requires.temporary
     ∙ sym (next_is c.args.unit.now c.args.number)

@@ -1,6 +1,13 @@
+use Rattle.std.proofs.Common.{◌∙◌, ap, length, subst, sym}
+use Rattle.cond_const.specs.KnownBefore.{AreKnownBefore}
+use Rattle.table_text.specs.Turns.{AppendsSome, InTurn}
 use Rattle.pass_table.specs.States.{IsStateLine}
-use Rattle.pass_table.proofs.TurnLaws.{next_turn}
 use Rattle.pass_table.proofs.states.put_states.Goals as goal
 
-pub loop-node-preserved : goal.loop-node-preserved
-loop-node-preserved c = next_turn (IsStateLine c.args.graph.now) c.loop-node.node c.args.text.now c.loop-node.text c.put_state.new.text c.loop-node.invariant c.in_ok-put_state.ensures
+pub put_each-requires : goal.put_each-requires
+put_each-requires c = subst (AreKnownBefore c.args.graph.now) (sym c.as_slice.ensures.value) c.in_ok-known.ensures.known
+
+-- there is a line for each node
+pub returns : goal.returns
+returns c =
+    subst (λ k. AppendsSome (InTurn (IsStateLine c.args.graph.now) k) c.args.text.now c.put_each.new.text) (ap length c.as_slice.ensures.value ∙ c.in_ok-known.ensures.long) c.in_ok-put_each.ensures
