@@ -1,13 +1,8 @@
 """The control flow of a unit, by instructions and by basic blocks, and its picture in Graphviz's language."""
 
-import html
 from typing import Iterator, NamedTuple
 
 from mir_text import Goto, If, Receive, Return, Unit, instruction_text, variables_in
-
-
-# The ground of a marked line, in Graphviz's language.
-MARK = ' BGCOLOR="#ffe9a8"'
 
 
 class Edge(NamedTuple):
@@ -126,29 +121,14 @@ def lines_of(unit: Unit, block: Block) -> list[str]:
             for place in range(block.first, block.end)]
 
 
-def label_of(unit: Unit, block: Block, marked: frozenset) -> str:
-    """The lines of a block, each set to the left, in Graphviz's language; those of marked places on a ground of their
-    own."""
-    lines = lines_of(unit, block)
-    if not marked & set(range(block.first, block.end)):
-        return quoted('\n'.join(lines) + '\n').replace('\n', '\\l')
-    rows = ''.join(f'<TR><TD ALIGN="LEFT"{MARK if place in marked else ""}>{html.escape(line)}</TD></TR>'
-                   for place, line in enumerate(lines, block.first))
-    return f'<<TABLE BORDER="0" CELLBORDER="0" CELLSPACING="0" CELLPADDING="1">{rows}</TABLE>>'
-
-
-def picture(unit: Unit, parts: list[Block], marked: frozenset = frozenset(), names: frozenset = frozenset()) -> str:
-    """The control-flow graph of a unit in Graphviz's language.
-
-    The lines of marked places have a ground of their own, and edges on which some of the named variables live the class
-    `held`, with the names.
-    """
+def picture(unit: Unit, parts: list[Block]) -> str:
+    """The control-flow graph of a unit in Graphviz's language; the lines of a block are set to the left."""
     lines = [f'digraph {quoted(unit.name)} {{', '  node [shape=box, fontname="monospace", margin="0.12,0.06"];',
              '  edge [fontname="monospace"];']
-    lines += [f'  b{at} [label={label_of(unit, block, marked)}];' for at, block in enumerate(parts)]
-    for edge, held in zip(block_edges(unit, parts), live_edges(unit, parts, names)):
-        words = [edge.label] * bool(edge.label) + sorted(held)
-        kind = ', class="held", penwidth=2.5' if held else ''
-        label = f' [label={quoted(" ".join(words))}{kind}]' if words else ''
+    for at, block in enumerate(parts):
+        label = quoted('\n'.join(lines_of(unit, block)) + '\n').replace('\n', '\\l')
+        lines.append(f'  b{at} [label={label}];')
+    for edge in block_edges(unit, parts):
+        label = f' [label={quoted(edge.label)}]' if edge.label else ''
         lines.append(f'  b{edge.source} -> b{edge.target}{label};')
     return '\n'.join(lines + ['}', ''])

@@ -40,27 +40,33 @@ function passesOf(unit) {
   return made;
 }
 
-// An assignment that only passes Skips is put before the node to which they lead: it is the same one, and stays. The Skip
-// that it leaves is then of no node before, and its old number is -1.
+// An assignment that keeps its place among the others is the same one, and stays. Nodes that stay and joins part the
+// graph into stretches, before and after alike, and in each of them as many assignments as can be keep their order. The
+// Skip that such a one leaves is then of no node before, and its old number is -1.
 function keepUnmoved(pass) {
   if (pass.name !== 'sink') return;
-  const { nodes } = pass.before, { into } = edgesOf(pass.before), taken = new Set();
-  nodes.forEach((node, n) => {
-    if (node[0] !== 'assign' || pass.after.nodes[n][0] !== 'skip') return;
-    let to = node[1][0];
-    for (let steps = 0; steps <= nodes.length; steps++) {
-      const m = pass.puts[to].find(one => pass.after.nodes[one][3] === node[3] && !taken.has(one));
-      if (m !== undefined && into[to].length === 1) {
-        taken.add(m);
-        pass.old[m] = n;
-        pass.old[n] = -1;
-        pass.puts[to] = pass.puts[to].filter(one => one !== m);
-        return;
-      }
-      if (nodes[to][0] !== 'skip' || into[nodes[to][1][0]].length !== 1) return;
-      to = nodes[to][1][0];
-    }
+  const { nodes } = pass.before, { into } = edgesOf(pass.before), after = pass.after.nodes;
+  const stays = n => after[n][0] !== 'skip', begins = n => into[n].length !== 1 || stays(into[n][0]);
+  nodes.forEach((_, first) => {
+    if (!begins(first)) return;
+    const stretch = [first], next = () => nodes[stretch.at(-1)][1][0];
+    while (!stays(stretch.at(-1)) && !begins(next())) stretch.push(next());
+    const was = stretch.filter(n => nodes[n][0] === 'assign' && !stays(n)), now = stretch.flatMap(n => pass.puts[n]);
+    for (const [n, m] of inOrder(was, now, (n, m) => nodes[n][3] === after[m][3])) [pass.old[m], pass.old[n]] = [n, -1];
+    for (const n of stretch) pass.puts[n] = pass.puts[n].filter(m => pass.old[m] === null);
   });
+}
+
+// As many pairs of two lists as can be, in the order of both. Where there is a choice, what stands first has gone on.
+function inOrder(left, right, same) {
+  const most = [...left, null].map(() => new Uint32Array(right.length + 1)), pairs = [];
+  for (let a = left.length - 1; a >= 0; a--) for (let b = right.length - 1; b >= 0; b--)
+    most[a][b] = same(left[a], right[b]) ? most[a + 1][b + 1] + 1 : Math.max(most[a + 1][b], most[a][b + 1]);
+  for (let a = 0, b = 0; a < left.length && b < right.length;)
+    if (same(left[a], right[b])) pairs.push([left[a++], right[b++]]);
+    else if (most[a + 1][b] >= most[a][b + 1]) a++;
+    else b++;
+  return pairs;
 }
 
 const bitsOf = (rows, name) => [...(rows[name] || '')].map(bit => bit === '1');
@@ -238,7 +244,7 @@ const COLUMNS = {
             ? `${N(p)} assigns ${code(parsed(nodes[p]).setsOf(rightVars(item.text)).join(', '))}, and nothing evaluates ${e} after it`
             : `nothing evaluates ${e} on it` })),
       column('anticipatable', P.anticipatable,
-        `${e} is <b>anticipatable</b> where every path from the node evaluates it before an operand changes and before a Return: it will be needed anyway.`,
+        `${e} is <b>anticipatable</b> where every path from the node that comes to a change of an operand, or to a Return, has evaluated it by then.`,
         n => P.everyPathFrom(n)),
       column('earliest', P.earliest,
         `<b>Earliest</b>: anticipatable here, but on some edge into the node it could not stand higher up. The busy placement inserts here.`,
@@ -307,8 +313,11 @@ const COLUMNS = {
         const serves = where(P.inserted).filter(m => P.readsOf(m).includes(n));
         return { yes: true,
           html: `It reads ${temp}, which every path has from an insertion: ${list(serves)}.`,
-          edges: serves.flatMap(m => P.servedEdges(m, n)), good: serves };
+          edges: serves.flatMap(m => P.servedEdges(m)), good: serves };
       }),
+      values('held', nodes.map((node, n) => [...new Set(node[1])].filter(s => P.isHeld(n, s)).map(s => '→' + s).join(' ')),
+        `<b>Held</b>: ${temp} lives on an edge where a path leads on to a use that reads it, with no insertion before, and then to a Return. Of all placements that evaluate as little, the lazy one has the fewest such edges.`,
+        n => P.whyHeld(n)),
       ...Object.keys(item.rows).filter(name => !(name in HUES) && !name.startsWith('busy '))
         .map(name => column(name, bitsOf(item.rows, name), `The row ${code(name)} of the tables.`,
           () => ({ html: '' }))),
@@ -380,7 +389,7 @@ const COLUMNS = {
         : ask(n, sets[n] ? null : behind(n), before[n])),
       column('live after', after, `It is live after a node where it is live before some successor.`,
         n => ask(n, behind(n), after[n])),
-      column('dead', dead.map((bit, n) => bit && sets[n]),
+      column('dead', dead.map((bit, n) => bit && (sets[n] || !parsed(nodes[n]).sets.length)),
         `An assignment of ${x} is <b>dead</b> where it is not live after it and its right side does not divide.`, n => {
         const one = parsed(nodes[n]), path = behind(n);
         if (!sets[n]) return { yes: false, html: `${N(n)} does not assign ${x}.` };
@@ -472,28 +481,58 @@ function problem(pass, item) {
     }
     return [...found].sort((a, b) => a - b);
   };
-  P.servedEdges = (n, to) => {
-    const live = livesOn(pass.before, P.inserted, P.replaced), edges = [];
-    const seen = new Set([n]), waiting = [n];
+  // on which edges the temporary lives, as the row of the tables says
+  P.held = heldEdges(pass.before, item);
+  const held = new Set(P.held.map(edge => edge.join('>')));
+  P.isHeld = (n, s) => held.has(`${n}>${s}`);
+  P.servedEdges = n => {
+    const edges = [], seen = new Set([n]), waiting = [n];
     while (waiting.length) {
       const m = waiting.pop();
-      for (const s of out[m]) if (live.before[s]) { edges.push([m, s]);
+      for (const s of out[m]) if (P.isHeld(m, s)) { edges.push([m, s]);
         if (!seen.has(s)) { seen.add(s); waiting.push(s); } }
     }
     return edges;
   };
+  P.whyHeld = n => {
+    if (!out[n].length) return { html: `No edge leaves ${N(n)}.` };
+    const returns = comesToReturn(pass.before), edges = [], good = [];
+    const told = out[n].map(s => {
+      const path = P.inserted[s] ? null : pathTo(out, s, m => P.replaced[m] && returns[m], m => !P.inserted[m]);
+      if (!P.isHeld(n, s)) return `On ${N(n)} → ${N(s)} it does not live: ${P.inserted[s] ? `it is set before ${N(s)}`
+        : 'no path from there reads it before it is set, and then returns'}.`;
+      if (!path) return 'The row says so, but no path comes to a use that reads it.';
+      edges.push(...[n, ...path].slice(1).map((to, k) => [[n, ...path][k], to]));
+      good.push(path.at(-1));
+      return `On ${N(n)} → ${N(s)} it lives: it is read on ${arrows([n, ...path])}, at ${N(path.at(-1))}.`;
+    });
+    return { html: told.join(' '), edges, good };
+  };
   return P;
 }
 
-// Where a temporary lives, for insertions and replaced uses: before which nodes some path reads it before it is set.
+// The edges of a stage, in order of the node that they leave; of a test the one that is taken stands first.
+const allEdges = stage => stage.nodes.flatMap((node, n) => node[1].map(s => [n, s]));
+
+// The edges on which the temporary of an expression lives, by the row of the tables.
+const heldEdges = (stage, item) => allEdges(stage).filter((_, at) => item.edges?.held?.[at] === '1');
+
+// From which nodes of a stage some path comes to a Return.
+function comesToReturn(stage) {
+  const { into } = edgesOf(stage), found = stage.nodes.map(node => node[0] === 'return'), waiting = where(found);
+  while (waiting.length) for (const p of into[waiting.pop()]) if (!found[p]) { found[p] = true; waiting.push(p); }
+  return found;
+}
+
+// Where a temporary lives, for insertions and replaced uses: on the edges from which some path reads it before it is set,
+// and then comes to a Return. The tables say it of the lazy placement; of the busy one the page works it out.
 function livesOn(stage, inserted, replaced) {
-  const { into } = edgesOf(stage);
+  const { into } = edgesOf(stage), returns = comesToReturn(stage);
   const before = stage.nodes.map(() => false), waiting = [];
   const mark = n => { if (!before[n] && !inserted[n]) { before[n] = true; waiting.push(n); } };
-  where(replaced).forEach(mark);
+  where(replaced).filter(n => returns[n]).forEach(mark);
   while (waiting.length) for (const p of into[waiting.pop()]) mark(p);
-  const edges = stage.nodes.flatMap((node, n) => node[1].filter(s => before[s]).map(s => [n, s]));
-  return { before, edges };
+  return allEdges(stage).filter(([, s]) => before[s]);
 }
 
 // The bits of a choice that no path shows: where there is one, the rows and the rules differ. Large graphs are not tried.
@@ -509,6 +548,12 @@ function disagreeing(pass, number) {
         same] of [['busy inserted', 'earliest'], ['busy replaced', 'used']])
       bitsOf(item.rows, name).forEach((bit, n) => { bits++;
           if (bit !== (item.rows[same][n] === '1')) found.push([name, n]); });
+    if (pass.name === 'motion' && item && pass.before.nodes.length <= 160) {
+      const own = new Set(livesOn(pass.before, bitsOf(item.rows, 'inserted'), bitsOf(item.rows, 'replaced'))
+        .map(edge => edge.join('>')));
+      allEdges(pass.before).forEach((edge, at) => { bits++;
+          if ((item.edges?.held?.[at] === '1') !== own.has(edge.join('>'))) found.push(['held', edge[0]]); });
+    }
     columns.checked = { bits, found };
   }
   return columns.checked;
@@ -536,7 +581,8 @@ function did(pass) {
       const occurs = where(bitsOf(item.rows, 'occurs')), inserted = where(bitsOf(item.rows, 'inserted'));
       parts.push(`${code(item.text)} goes from ${list(occurs)} to ${inserted.length ? 'before ' + list(inserted) : 'nowhere: nobody reads it'}`);
     });
-    return parts.length ? parts.join('; ') + '.' : 'No assignment moves past another node.';
+    if (!parts.length) return 'No assignment moves past another node.';
+    return parts.join('; ') + (pass.count ? '.' : '. They keep their order.');
   }
   if (!pass.count) return 'Nothing changes.';
   if (pass.name === 'prune') return `Dead, and gone: ${list(changed)}.`;

@@ -5,7 +5,11 @@ const MARKERS = ['plain', 'hot', 'live',
   .join('');
 const edgeKey = (a, b) => `${a}>${b}`;
 
-// A graph of many nodes is drawn by blocks, unless the reader wants it otherwise.
+// No picture is drawn smaller than this by itself, so that its letters can be read.
+const LEAST = 0.72;
+
+// A graph of many nodes, which had to be made much smaller to be seen as a whole, is drawn by blocks, unless the reader
+// wants it otherwise.
 const byBlocks = () => state.blocks ?? [passNow().before,
   passNow().after].some(stage => DATA.pictures[stage.pictures[0]].h * 0.7 > Math.max(window.innerHeight - 200, 300));
 
@@ -25,7 +29,8 @@ function draw(stage, tell, options = {}) {
     if (node[0] === 'test') {
       const [x0, y0, x1, y1, x2, y2, x3] = path.match(/-?[\d.]+/g).map(Number), t = 0.3, u = 1 - t;
       const x = u * u * x0 + 2 * u * t * x1 + t * t * x2,
-        y = Math.min(y0 + 12, Math.max(y0 + 6, u * u * y0 + 2 * u * t * y1 + t * t * y2));
+        up = y1 < y0 - 1, far = Math.abs(u * u * y0 + 2 * u * t * y1 + t * t * y2 - y0),
+        y = y0 + (up ? -1 : 1) * Math.min(12, Math.max(6, far));
       const other = picture.edges.find(edge => edge[0] === n && edge[1] !== slot),
         [ox] = other[2].match(/-?[\d.]+/g).map(Number);
       const left = Math.abs(ox - x0) > 4 ? x0 < ox : x3 < x0 - 3 || (Math.abs(x3 - x0) <= 3 && slot === 0);

@@ -218,7 +218,7 @@ document.addEventListener('keydown', event => {
   const action = ACTIONS[event.key];
   if (action && action() !== false) event.preventDefault();
 });
-window.addEventListener('resize', fit);
+window.addEventListener('resize', () => { fit(); inView(); });
 window.addEventListener('hashchange', () => { recall(); show(); });
 
 $('#program').textContent = DATA.programs.length > 1 ? 'program' : DATA.programs[0].name;

@@ -72,13 +72,14 @@ function walks(unit, args) {
   return unit.walked[key];
 }
 
-// For each step before a pass, how far the run after it has come: the same old nodes come in the same order.
+// For each step before a pass, how far the run after it has come: the same old nodes come in the same order, but for the
+// Skips that an assignment passes where it sinks.
 function together(pass, before, after) {
   const found = before.steps.map(() => 0);
   let at = 0;
   after.steps.forEach((step, j) => {
     const old = pass.old[step.n];
-    if (old === null || old < 0) return;
+    if (old === null || old < 0 || (pass.name === 'sink' && pass.after.nodes[step.n][0] === 'skip')) return;
     let next = at;
     while (next < before.steps.length && before.steps[next].n !== old) next++;
     if (next < before.steps.length) { at = next; found[at] = j; at++; }

@@ -71,11 +71,12 @@ function show(focus = false) {
   showWhy(pass);
   remember();
   if (focus) $('td.cursor, th.cursor')?.focus({ preventScroll: true });
-  inView($('#table .scroll'), $('tr.here'), $('th.now') || $('th.corner'));
+  inView();
 }
 
-// Scrolls the table so that a row and a column of it can be seen.
-function inView(box, row, head) {
+// Scrolls the table so that the row and the column of now can be seen.
+function inView() {
+  const box = $('#table .scroll'), row = $('tr.here'), head = $('th.now') || $('th.corner');
   if (!row) return;
   const top = row.offsetTop, low = top + row.offsetHeight, headHeight = head.offsetHeight;
   if (top < box.scrollTop + headHeight) box.scrollTop = top - headHeight;
@@ -216,16 +217,16 @@ function showViews(pass) {
 function tellBefore(pass, one, witness) {
   const good = new Set(witness?.good || []), items = itemsOf(pass), item = items[state.item];
   const inserted = pass.name === 'motion' && item && !state.quiz &&
-    ['inserted', 'replaced'].includes(one?.id) ? bitsOf(item.rows, 'inserted') : [];
+    ['inserted', 'replaced', 'held'].includes(one?.id) ? bitsOf(item.rows, 'inserted') : [];
   const sunk = pass.name === 'sink' && item && !state.quiz &&
     one?.id === 'inserted' ? bitsOf(item.rows, 'inserted') : [];
   const replaced = pass.name === 'motion' && item && !state.quiz &&
-    one?.id === 'replaced' ? bitsOf(item.rows, 'replaced') : [];
+    ['replaced', 'held'].includes(one?.id) ? bitsOf(item.rows, 'replaced') : [];
   const counts = countsOf(false);
   return n => {
     const yes = one?.bits && !hidden(state.col) ? one.bits[n] : false;
     const guess = hidden(state.col) && (guesses.get(guessKey()) || {})[n];
-    const value = one?.values && !one.marks && !one.wide && one.values[n];
+    const value = one?.values && !one.marks && !one.wide && one.id !== 'held' && one.values[n];
     return { key: 'b' + n, cls: [yes ? 'yes' : '', guess ? 'guess' : '', n === state.node ? 'here' : '',
         good.has(n) ? 'good' : '', witness?.bad === n ? 'bad' : '', counts.now === n ? 'walked' : ''].join(' '),
       style: one ? `--h:${one.hue}` : '', aria: yes ? one.label : '',
@@ -274,23 +275,21 @@ function showGraphs(pass) {
     html = `<div class="pair">${draw(pass.before, tellBefore(pass, one?.id === 'after' ? null : one, null), { title: 'before', walked: countsOf(false).edges })}${draw(pass.after, tellAfter(pass), { title: 'after', walked: countsOf(true).edges })}</div>`;
   } else if (state.view === 'busy') {
     const e = item.text, temp = item.temp || 'h';
-    const side = (title, inserted, replaced, words) => {
-      const lives = livesOn(pass.before, inserted, replaced);
-      return { lives, html: draw(pass.before,
-          n => ({ key: 'b' + n, cls: [inserted[n] ? 'yes' : '', n === state.node ? 'here' : ''].join(' '),
-            style: `--h:${HUES.inserted}`, pills: inserted[n] ? [`${temp} <- ${e}`] : [],
+    const side = (title, words, inserted, replaced, live) => draw(pass.before,
+      n => ({ key: 'b' + n, cls: [inserted[n] ? 'yes' : '', n === state.node ? 'here' : ''].join(' '),
+        style: `--h:${HUES.inserted}`, pills: inserted[n] ? [`${temp} <- ${e}`] : [],
         text: replaced[n] ? `${parsed(pass.before.nodes[n]).into} <- ${temp}` : null,
-          aria: inserted[n] ? 'inserted before' : '' }), { live: lives.edges,
-        title: `<b>${title}</b> ${words}: inserts at ${list(where(inserted))}, replaces ${list(where(replaced))}; ${code(temp)} lives on <b>${many(lives.edges.length, 'edge')}</b>` }) };
-    };
-    const busy = side('Busy', bitsOf(item.rows, 'busy inserted'), bitsOf(item.rows, 'busy replaced'),
-      '(as early as it can)');
-    const lazy = side('Lazy', bitsOf(item.rows, 'inserted'), bitsOf(item.rows, 'replaced'),
-      '(as late as it can; taken)');
-    html = `<div class="pair">${busy.html}${lazy.html}</div>`;
+        aria: inserted[n] ? 'inserted before' : '' }),
+      { live, title: `<b>${title}</b> ${words}: inserts at ${list(where(inserted))}, replaces ${list(where(replaced))}; ${code(temp)} lives on <b>${many(live.length, 'edge')}</b>` });
+    const rows = ['busy inserted', 'busy replaced', 'inserted', 'replaced'].map(name => bitsOf(item.rows, name));
+    const busy = side('Busy', '(as early as it can)', rows[0], rows[1], livesOn(pass.before, rows[0], rows[1]));
+    const lazy = side('Lazy', '(as late as it can; taken)', rows[2], rows[3], heldEdges(pass.before, item));
+    html = `<div class="pair">${busy}${lazy}</div>`;
   } else {
     const last = one?.id === 'after';
-    html = `<div class="beside">${last ? draw(pass.after, tellAfter(pass), { walked: countsOf(true).edges }) : draw(pass.before, tellBefore(pass, one, witness), { hot, walked: countsOf(false).edges })}<div class="wideonly">${texts(pass)}</div></div>`;
+    const live = pass.name === 'motion' && item && ['inserted', 'replaced', 'held'].includes(one?.id) &&
+      !hidden(state.col) ? heldEdges(pass.before, item) : [];
+    html = `<div class="beside">${last ? draw(pass.after, tellAfter(pass), { walked: countsOf(true).edges }) : draw(pass.before, tellBefore(pass, one, witness), { hot, live, walked: countsOf(false).edges })}<div class="wideonly">${texts(pass)}</div></div>`;
   }
   stage.innerHTML = html;
   fit();
@@ -307,7 +306,7 @@ function fit() {
     return { box, svg, w, h, room, scale: Math.min(box.clientWidth / w, room / h, 1.35) };
   });
   if (!boxes.length) return;
-  const scale = Math.max(0.7, Math.min(...boxes.map(one => one.scale))) * 1.18 ** state.zoom;
+  const scale = Math.max(LEAST, Math.min(...boxes.map(one => one.scale))) * 1.18 ** state.zoom;
   for (const { box, svg, w, h, room } of boxes) {
     if (scale !== fitScale) {
       svg.setAttribute('width', Math.round(w * scale));
