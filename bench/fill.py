@@ -63,7 +63,8 @@ class Meter:
 
     @functools.lru_cache(maxsize=None)
     def millions(self, name: str, size: int) -> float:
-        """How many millions of instructions a case takes; of a name that ends in `, move`, under `move`."""
+        """How many millions of instructions a case takes; of a name that ends in `, move`, those of the
+        command beside it."""
         print(f'bench/fill.py: {name} {size:,}', file=sys.stderr, flush=True)
         plain = name.removesuffix(', move')
         cases = self.cases(name) if plain == name else {case.size: case for case in self.workloads[plain].beside()}
@@ -81,6 +82,8 @@ class Meter:
             return f'{self.millions(f"{name}-{command[1]}", size):,.1f}'
         if head == 'x' and before == 'optimise: millions':
             return self.against_half(f'{name}-optimise', size)
+        if 'stages' in heads and size not in [case.size for case in self.workloads[name].counted()]:
+            return old
         if heads[2:4] == ['move', 'ranges']:
             of = f'{name}-{head or before}'
             number = self.millions(of, size)
@@ -89,7 +92,9 @@ class Meter:
             return f'{self.millions(name, size):,.1f}'
         if head == 'x at half':
             return self.against_half(name, size)
-        return f'{self.millions(f"{name}, move", size):,.1f}' if head == 'move' else old
+        if head == 'x' and before == 'stages':
+            return f'{self.millions(name, size) / self.millions(f"{name}, move", size):.2f}'
+        return f'{self.millions(f"{name}, move", size):,.1f}' if head in ('move', 'stages') else old
 
     def cell(self, head: str, name: str, size: int, old: str) -> str:
         """The cell of this head in the row of a workload and a size; the old one where it is nothing measured here."""

@@ -29,6 +29,11 @@ from texts import (LOOP, LOOP_OF_CALLS, LOOP_OF_CALLS_GLOBAL, LOOP_OF_GLOBALS, d
 TOP = Path(__file__).resolve().parent.parent
 MIR, PROGRAM = str(TOP / 'mir'), TOP / 'crates' / 'mir_main' / 'out' / 'mir_main'
 
+# The program that writes the tables, which takes no words: what is called where the word of a case is `tables`. Its
+# functions that write rows and graphs, of which the instructions are not counted.
+TABLES = TOP / 'crates' / 'mir_tables' / 'out' / 'mir_tables'
+WRITERS = r'table_text::rows::put_(?:edge_)?bits|table_text::graphs::put_graph'
+
 # The lengths of texts: a quarter, a half and the whole of what a text may have.
 LENGTHS = (262_144, 524_288, 1_048_576)
 
@@ -67,7 +72,8 @@ class Workload(NamedTuple):
     cases: Callable[[], list[Case]]
     # Cases whose instructions are counted under `--callgrind`, where that is of use.
     counted: Optional[Callable[[], list[Case]]] = None
-    # Cases of `move` of the same sizes, beside whose instructions these are shown, and how many times as many are aimed at.
+    # Cases of another command of the same sizes, beside whose instructions these are shown, and how many times as many are
+    # aimed at.
     beside: Optional[Callable[[], list[Case]]] = None
     most: float = 0
 
@@ -342,6 +348,29 @@ UNITS = [
                                  ('join-leaves', 'leaves are joined, each of them 16 times', LEAVES))),
 ]
 
+
+
+def tabled_by(word: str, sizes: tuple[int, ...], texts: Callable[[int], str]) -> list[Case]:
+    """The cases of this word, `tables` or `stages`, on the texts of these sizes."""
+    return [Case(size, [word], texts(size), ENDED, None) for size in sizes]
+
+
+# What tables are measured on. Their passes are asked once more for what they find out, so twice what `stages` takes is
+# aimed at beside the bytes that are written. Instructions are counted for the lesser two sizes.
+TABLED = [
+    Workload(f'{name}-tables', f'the tables of {about}', unit,
+             lambda sizes=sizes, texts=texts: tabled_by('tables', sizes, texts),
+             lambda sizes=sizes, texts=texts: tabled_by('tables', sizes[:2], texts),
+             lambda sizes=sizes, texts=texts: tabled_by('stages', sizes[:2], texts), 2)
+    for name, about, unit, sizes, texts in (
+        ('diamonds', 'a chain of diamonds', 'diamonds', (250, 500, 1000), lambda count: diamonds('main', count)[0]),
+        ('nested', 'nested loops full of sums', 'insts', INSTRUCTIONS, lambda insts: nested_loops('main', insts, 32)[0]),
+        ('tests', 'tests that jump over one sum', 'tests', TESTS, lambda tests: tests_over_one('main', tests)),
+        ('loops-row', 'loops in a row', 'loops', LOOPS, lambda loops: loops_in_a_row('main', loops, 15)[0]),
+        ('twins', 'a line that computes again', 'insts', INSTRUCTIONS, lambda insts: twins('main', insts)),
+    )
+]
+
 WORKLOADS = [
     Workload(
         'reading',
@@ -404,6 +433,7 @@ WORKLOADS = [
     *VALUES,
     *MOTION,
     *UNITS,
+    *TABLED,
 ]
 
 
@@ -462,8 +492,16 @@ def program_of(command: list[str]) -> list[str]:
     return command[-1:]
 
 
+def called(command: list[str], case: Case) -> list[str]:
+    """The command with the words of a case; that of `tables` is a program of its own."""
+    return [*command[:-1], str(TABLES)] if case.words == ['tables'] else [*command, *case.words]
+
+
 def is_right(command: list[str], case: Case, output: str) -> bool:
-    """Whether the output is that of the case, or fits its pattern, or is a program that runs as the text does."""
+    """Whether the output is that of the case, or fits its pattern, or is a program that runs as the text does. Tables and
+    stages are right where they come to the last graph."""
+    if case.words in (['tables'], ['stages']):
+        return output.startswith({'tables': 'tables 1\n', 'stages': '|| source\n'}[case.words[0]]) and 'result\n' in output
     if case.output is None and case.words == ['ranges']:
         return counts_ranges(command, case.text, output)
     if case.output is None:
@@ -477,7 +515,7 @@ def judge(command: list[str], case: Case, status: int, output: str, errors: str)
     """Accepts the status and the output that are right for the case alone."""
     if status != case.status or not is_right(command, case, output):
         said = f'{output[:200]}{errors[-400:]}'.strip()
-        raise Failure(f'{" ".join(command + case.words)}, at size {case.size}: status {status}: {said}')
+        raise Failure(f'{" ".join(called(command, case))}, at size {case.size}: status {status}: {said}')
 
 
 def warm_up(command: list[str]) -> None:
@@ -507,7 +545,7 @@ def call(command: list[str], case: Case, folder: Path) -> Measure:
         (os.POSIX_SPAWN_OPEN, 1, output, write, 0o600),
         (os.POSIX_SPAWN_OPEN, 2, errors, write, 0o600),
     ]
-    words = ['sh', '-c', START, 'sh', *command, *case.words]
+    words = ['sh', '-c', START, 'sh', *called(command, case)]
     begin = time.perf_counter()
     shell = os.posix_spawn('/bin/sh', words, os.environ, file_actions=streams)
     os.waitpid(shell, 0)
@@ -523,14 +561,23 @@ def measure(command: list[str], case: Case, folder: Path, repeat: int) -> Measur
     return Measure(min(m.seconds for m in measures), max(m.bytes for m in measures))
 
 
+def of_writers(counts: Path) -> int:
+    """How many instructions the functions take that write tables, with all that they call."""
+    annotate = ['callgrind_annotate', '--inclusive=yes', '--threshold=100', '--show-percs=no', str(counts)]
+    lines = subprocess.run(annotate, stdout=subprocess.PIPE, text=True, check=True).stdout.splitlines()
+    rows = [re.match(rf'\s*([\d,]+)\s+\S*:(?:{WRITERS})\b', line) for line in lines]
+    return sum(int(row[1].replace(',', '')) for row in rows if row)
+
+
 def instructions(program: str, case: Case, folder: Path) -> int:
-    """How many instructions of the processor the program takes for the case, by callgrind."""
+    """How many instructions of the processor the program takes for the case, by callgrind; of tables all but those of the
+    functions that write them."""
     counts = folder / 'counts'
     valgrind = ['valgrind', '--quiet', '--tool=callgrind', f'--callgrind-out-file={counts}', program]
     call(valgrind, case, folder)
     for line in counts.read_text().splitlines():
         if line.startswith('totals:'):
-            return int(line.split()[1])
+            return int(line.split()[1]) - (of_writers(counts) if case.words == ['tables'] else 0)
     raise Failure('callgrind wrote no line "totals:"')
 
 
@@ -559,16 +606,16 @@ def show(workload: Workload, measures: list[tuple[int, Measure]], start: Measure
         )
 
 
-def show_instructions(workload: Workload, counts: list[tuple[int, int]], beside: list[int]) -> None:
-    """Prints the instructions of each case, beside those of `move` where there are any, and those for each byte, step or
-    join: the difference of the last case and the first over the difference of their sizes."""
+def show_instructions(workload: Workload, counts: list[tuple[int, int]], word: str, beside: list[int]) -> None:
+    """Prints the instructions of each case, beside those of another command where there are any, and those for each byte,
+    step or join: the difference of the last case and the first over the difference of their sizes."""
     first_size, first = counts[0]
     last_size, last = counts[-1]
     for (size, count), other in itertools.zip_longest(counts, beside):
-        moving = f', move {other:>15,}, {count / other:.2f} times as many' if other else ''
+        moving = f', {word} {other:>15,}, {count / other:.2f} times as many' if other else ''
         print(f'{size:>12,}{count:>21,} instructions{ratio(count, first, 1):>9}{moving}')
     if workload.most:
-        print(f'aimed at: at most {workload.most} times as many as move')
+        print(f'aimed at: at most {workload.most} times as many as {word}')
     each = (last - first) / (last_size - first_size)
     print(f'{each:,.1f} instructions for each of the {workload.unit}, from {first_size:,} to {last_size:,}')
 
@@ -608,8 +655,9 @@ def main() -> int:
             show(workload, measures, start)
             if asked.callgrind and workload.counted:
                 counts = [(case.size, instructions(program, case, folder)) for case in workload.counted()]
-                moving = workload.beside() if workload.beside else []
-                show_instructions(workload, counts, [instructions(program, case, folder) for case in moving])
+                others = workload.beside() if workload.beside else []
+                word = others[0].words[0] if others else ''
+                show_instructions(workload, counts, word, [instructions(program, case, folder) for case in others])
     return 0
 
 
