@@ -1,6 +1,7 @@
 -- The blocks of a graph: longest lists of nodes that are always passed one after the other. Cited by contracts, those
 -- of path_laws too; what is kept while blocks are made only by those of src/blocks.rt.
-use Rattle.std.specs.Prelude.{◌≡◌, ◌≢◌, ℕ, ◌<◌, ◌≤◌, ◌⊎◌, Bool, true, not, is_some, if◌then◌else◌, List, [], ◌∷◌, ◌++◌, length, slice_get, slice_index_or, slice_range, Option, Some, None}
+use Rattle.std.specs.Prelude.{◌≡◌, ◌≢◌, ℕ, ◌+◌, ◌<◌, ◌≤◌, ◌⊎◌, Bool, true, not, is_some, if◌then◌else◌, List, [], ◌∷◌, ◌++◌, length, slice_get, slice_index_or, slice_range, vec_len, Option, Some, None, Vec}
+use Rattle.std.specs.Vec.{vec_capacity}
 use Rattle.flow_graph.specs.declared.nodes.Node.{Node}
 use Rattle.flow_graph.specs.Edges.{preds_of}
 use Rattle.flow_graph.specs.Graphs.{succs_at}
@@ -157,3 +158,7 @@ IsFollowedBlock nodes head block order longer block_of after = (node : ℕ) × I
 -- how many have no block yet
 abbrev pub unplaced : ℕ → List ℕ → ℕ
 unplaced = times_in
+
+-- a list has room for the nodes that have no block yet
+abbrev pub HasRoom : {A : Type 0} → ℕ → Vec ℕ A → List ℕ → Type 0
+HasRoom none order block_of = vec_len order + unplaced none block_of ≤ vec_capacity order

@@ -85,10 +85,15 @@ AreEnteringStarts nodes edges entries = IsTable nodes (λ n. first_entering n ed
 abbrev pub source_of : Edge → ℕ
 source_of edge = edge.source
 
--- what `Edges` keeps beside the edges: the edges by target, their sources, and where the edges of each node begin
-pub record AreIndexed (nodes : ℕ) (edges targeted : List Edge) (preds starts entries : List ℕ) : Type 0 where
-  pub by_targets : targeted ≡ by_target nodes edges
-  pub preds_are : preds ≡ map source_of targeted
+-- the number of the node that an edge enters
+abbrev pub entered_by : Edge → ℕ
+entered_by edge = edge.target
+
+-- what `Edges` keeps beside the edges: the sources and the targets of the edges by target, and where the edges of each
+-- node begin
+pub record AreIndexed (nodes : ℕ) (edges : List Edge) (preds targets starts entries : List ℕ) : Type 0 where
+  pub preds_are : preds ≡ map source_of (by_target nodes edges)
+  pub targets_are : targets ≡ map entered_by (by_target nodes edges)
   pub starts_are : AreLeavingStarts nodes edges starts
   pub entries_are : AreEnteringStarts nodes edges entries
 

@@ -1,6 +1,7 @@
 // The blocks of a graph.
-ghost use Rattle.std.specs.Prelude.{◌≡◌, ◌+◌, ◌<◌, ◌++◌, [], ◌∷◌, length, slice_get, slice_set, Some, IfOk, OnOk};
-ghost use Rattle.flow_graph.specs.Blocks.{AreBlocksOf, AreOnlyBlocks, AreStored, IsFirst, StandsIn, is_first, next_of, only, IsUnplaced, GluedToPlaced, IsFollowedBlock};
+ghost use Rattle.std.specs.Prelude.{◌≡◌, ◌+◌, ◌<◌, ◌++◌, [], ◌∷◌, length, slice_get, slice_set, vec_len, Some, IfOk, OnOk};
+ghost use Rattle.std.specs.Vec.{vec_capacity};
+ghost use Rattle.flow_graph.specs.Blocks.{AreBlocksOf, AreOnlyBlocks, AreStored, IsFirst, StandsIn, is_first, next_of, only, IsUnplaced, GluedToPlaced, HasRoom, IsFollowedBlock};
 ghost use Rattle.flow_graph.specs.Edges.{edges_of};
 ghost use Rattle.flow_graph.specs.Graphs.{succs_at};
 
@@ -93,14 +94,16 @@ fn add(
     requires edges { edges.now ≡ edges_of graph.now.nodes }
     requires there { head < length graph.now.nodes }
     requires before { AreStored graph.now.nodes head order.old.items starts.old.items block_of.old }
-    ensures { OnOk result
+    requires room { HasRoom (length graph.now.nodes) order.old block_of.old }
+    ensures after { OnOk result
         (AreStored graph.now.nodes (head + 1) order.new.items starts.new.items block_of.new) }
+    ensures room { HasRoom (length graph.now.nodes) order.new block_of.new }
 {
     if !begins(graph, edges, head, block_of) {
         return Ok(());
     }
     let block = starts.len() - 1;
-    follow(graph, edges, head, block, order, block_of)?;
+    follow(graph, edges, head, block, order, block_of);
     starts.push(order.len())?;
     Ok(())
 }
@@ -130,7 +133,7 @@ fn follow(
     block: usize,
     order: &mut Vec<usize>,
     block_of: &mut [usize],
-) -> Result<(), Memory>
+)
     requires edges { edges.now ≡ edges_of graph.now.nodes }
     requires there { head < length graph.now.nodes }
     requires block { block < length graph.now.nodes }
@@ -138,34 +141,31 @@ fn follow(
     requires long { length block_of.old ≡ length graph.now.nodes }
     requires unplaced { IsUnplaced (length graph.now.nodes) block_of.old head }
     requires closed { GluedToPlaced graph.now.nodes block_of.old }
-    ensures { OnOk result
-        (IsFollowedBlock graph.now.nodes head block order.old.items order.new.items
-        block_of.old block_of.new) }
+    requires room { HasRoom (length graph.now.nodes) order.old block_of.old }
+    ensures block { IsFollowedBlock graph.now.nodes head block order.old.items order.new.items
+        block_of.old block_of.new }
+    ensures room { HasRoom (length graph.now.nodes) order.new block_of.new }
 {
     let _nodes = graph.nodes();
     let mut node = head;
-    put(node, block, order, block_of)?;
+    put(node, block, order, block_of);
     while let Some(next) = next(graph, edges, node) {
-        put(next, block, order, block_of)?;
+        put(next, block, order, block_of);
         node = next;
     }
-    Ok(())
 }
 
-/// Adds a node to the block of this number.
-fn put(
-    node: usize,
-    block: usize,
-    order: &mut Vec<usize>,
-    block_of: &mut [usize],
-) -> Result<(), Memory>
-    requires { node < length block_of.old }
-    ensures order { OnOk result (order.new.items ≡ order.old.items ++ node ∷ []) }
-    ensures block_of { OnOk result (block_of.new ≡ slice_set block_of.old node block) }
+/// Adds a node to the block of this number. There is room for all nodes, and each has one block.
+fn put(node: usize, block: usize, order: &mut Vec<usize>, block_of: &mut [usize])
+    requires there { node < length block_of.old }
+    requires room { vec_len order.old < vec_capacity order.old }
+    ensures order { order.new.items ≡ order.old.items ++ node ∷ [] }
+    ensures block_of { block_of.new ≡ slice_set block_of.old node block }
+    ensures len { vec_len order.new ≡ vec_len order.old + 1 }
+    ensures capacity { vec_capacity order.new ≡ vec_capacity order.old }
 {
-    order.push(node)?;
+    order.push_reserved(node);
     block_of[node] = block;
-    Ok(())
 }
 
 /// The node after `node` in its block, where there is one.
@@ -177,10 +177,13 @@ fn next(graph: &Graph, edges: &Edges, node: usize) -> Option<usize>
     let _nodes = graph.nodes();
     match only_succ(graph, node) {
         None => None,
-        Some(next) => match only(edges.preds(next)) {
-            None => None,
-            Some(_) => Some(next),
-        },
+        Some(next) => {
+            if edges.is_entered_once(next) {
+                Some(next)
+            } else {
+                None
+            }
+        }
     }
 }
 

@@ -1,9 +1,10 @@
 // The edges of a graph, by source and by target.
-ghost use Rattle.std.specs.Prelude.{◌≡◌, ◌<◌, length, slice_get, suc, IfOk, Some};
+ghost use Rattle.std.specs.Prelude.{◌≡◌, ◌<◌, length, is_some, slice_get, suc, IfOk, Some};
+ghost use Rattle.flow_graph.specs.Blocks.{only};
 ghost use Rattle.flow_graph.specs.Edges.{by_target, edges_of, first_entering, first_leaving, preds_among};
 
 use crate::Graph;
-use crate::edge_lists::{entries, list, sort, sources};
+use crate::edge_lists::{counts, list, sort};
 use crate::tables::{bounds, part};
 use mir_base::{Items, Memory};
 use std::alloc::Global;
@@ -25,8 +26,8 @@ pub struct Edge {
 pub struct Edges {
     nodes: usize,
     edges: Items<Edge>,
-    entering: Items<Edge>,
     sources: Items<usize>,
+    targets: Items<usize>,
     starts: Items<usize>,
     entries: Items<usize>,
 }
@@ -38,7 +39,7 @@ impl Model for Edges {
 
     ghost view = { λ e. record { nodes = e.nodes; edges = e.edges } };
 
-    ghost invariant = { λ e. AreIndexed e.nodes e.edges e.entering e.sources e.starts e.entries };
+    ghost invariant = { λ e. AreIndexed e.nodes e.edges e.sources e.targets e.starts e.entries };
 }
 
 impl Edges {
@@ -48,21 +49,15 @@ impl Edges {
     {
         let nodes = graph.nodes();
         let listed = list(alloc, nodes)?;
-        let entries = entries(alloc, nodes.len(), listed.edges.as_slice())?;
-        let entering = sort(
-            alloc,
-            nodes.len(),
-            entries.as_slice(),
-            listed.edges.as_slice(),
-        )?;
-        let sources = sources(alloc, entering.as_slice())?;
+        let counts = counts(alloc, nodes.len(), listed.edges.as_slice())?;
+        let sorted = sort(alloc, nodes.len(), counts, listed.edges.as_slice())?;
         Ok(Edges {
             nodes: nodes.len(),
             edges: Items::of(listed.edges),
-            entering: Items::of(entering),
-            sources: Items::of(sources),
+            sources: Items::of(sorted.sources),
+            targets: Items::of(sorted.targets),
             starts: Items::of(listed.starts),
-            entries: Items::of(entries),
+            entries: Items::of(sorted.entries),
         })
     }
 
@@ -96,7 +91,10 @@ impl Edges {
         requires { number < length (by_target self.now.nodes self.now.edges) }
         ensures { slice_get (by_target self.now.nodes self.now.edges) number ≡ Some result }
     {
-        self.entering.items()[number]
+        Edge {
+            source: self.sources.items()[number],
+            target: self.targets.items()[number],
+        }
     }
 
     /// The numbers by target of the edges that enter a node: from the first answer up to, and not including, the
@@ -107,6 +105,15 @@ impl Edges {
         ensures end { result.1 ≡ first_entering (suc node) self.now.edges }
     {
         bounds(self.entries.items(), node)
+    }
+
+    /// Whether one edge alone enters a node. It does not allocate.
+    pub(crate) fn is_entered_once(&self, node: usize) -> bool
+        requires { node < self.now.nodes }
+        ensures { result ≡ is_some (only (preds_among node self.now.edges)) }
+    {
+        let numbers = self.entering(node);
+        numbers.1 - numbers.0 == 1
     }
 
     /// The sources of the edges that enter a node, one entry for each edge. It does not allocate.

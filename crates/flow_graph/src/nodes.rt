@@ -47,6 +47,7 @@ impl Clone for Node {
 
 impl Node {
     /// The first successor: the only one, or `taken`; none of a Return.
+    #[inline(always)]
     pub(crate) fn first_succ(&self) -> Option<usize>
         ensures { result ≡ slice_get (node_succs self.now) 0 }
     {
@@ -63,6 +64,7 @@ impl Node {
     }
 
     /// The second successor: the `other` of a Test.
+    #[inline(always)]
     pub(crate) fn second_succ(&self) -> Option<usize>
         ensures { result ≡ slice_get (node_succs self.now) 1 }
     {

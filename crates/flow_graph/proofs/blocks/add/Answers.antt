@@ -2,8 +2,8 @@ use Rattle.std.proofs.Common.{◌≡◌, ◌-◌, ◌++◌, [], ◌∷◌, lengt
 use Rattle.flow_graph.proofs.Blocking.{kept_more, kept_on, length_cut}
 use Rattle.flow_graph.proofs.blocks.add.Goals as goal
 
-pub returns-then-not-begins : goal.returns-then-not-begins
-returns-then-not-begins c =
+pub returns-then-not-begins-clause-after : goal.returns-then-not-begins-clause-after
+returns-then-not-begins-clause-after c =
     let inner : c.begins.result ≡ false = c.if-not-begins.true in
     kept_on c.args.graph.now.nodes c.args.head c.args.order.now.items c.args.starts.now.items c.args.block_of.now c.requires.before (sym c.begins.ensures ∙ inner)
 
@@ -12,11 +12,11 @@ follow-requires-clause-block c =
     let long = length_cut (length c.args.order.now.items) c.args.order.now.items c.args.starts.now.items c.requires.before.starts_are in
     omega (arith, long, c.len-block.ensures, c.requires.before.made.few, c.requires.there)
 
-pub returns : goal.returns
-returns c =
+pub returns-clause-after : goal.returns-clause-after
+returns-clause-after c =
     let first : c.begins.result ≡ true = c.if-not-begins.false in
     let long = length_cut (length c.args.order.now.items) c.args.order.now.items c.args.starts.now.items c.requires.before.starts_are in
-    let f = c.in_ok-follow.ensures in
+    let f = c.follow.ensures.block in
     let read : c.len.result ≡ c.follow.new.order.len = c.len.ensures in
     let kept = c.follow.new.order.ok.0 in
     let all : c.len.result ≡ length c.follow.new.order.items = omega arith in

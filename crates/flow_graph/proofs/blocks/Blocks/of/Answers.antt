@@ -2,14 +2,18 @@ use Rattle.std.proofs.Common.{◌≡◌, ◌≤◌, length, replicate, ap, subst
 use Rattle.flow_graph.specs.Graphs.{IsGraph}
 use Rattle.flow_graph.specs.Blocks.{AreBlocksOf, AreStored, parts_at}
 use Rattle.flow_graph.specs.BlockLaws.{blocks_same}
-use Rattle.flow_graph.proofs.Blocking.{blocks_made, kept_none, parts_made}
+use Rattle.flow_graph.proofs.Blocking.{blocks_made, kept_none, parts_made, room_none}
 use Rattle.flow_graph.proofs.blocks.Blocks.of.Goals as goal
 use Rattle.flow_graph.proofs.blocks.Blocks.of.Goals.{After-of-3}
 
 pub loop-head-init : goal.loop-head-init
 loop-head-init c =
     let count = ap length c.nodes-nodes.ensures.value in
-    kept_none c.args.graph.now.nodes c.in_ok-order.order.items c.in_ok-starts.starts.items c.in_ok-block_of.block_of.items c.in_ok-order.ensures.items c.in_ok-starts.ensures (c.in_ok-block_of.ensures ∙ ap (λ n. replicate n n) count)
+    let unplaced = c.in_ok-block_of.ensures ∙ ap (λ n. replicate n n) count in
+    record {
+      stored = kept_none c.args.graph.now.nodes c.in_ok-order.order.items c.in_ok-starts.starts.items c.in_ok-block_of.block_of.items c.in_ok-order.ensures.items c.in_ok-starts.ensures unplaced;
+      room = room_none (length c.args.graph.now.nodes) c.in_ok-order.order c.in_ok-block_of.block_of.items c.in_ok-order.ensures.len (c.in_ok-order.ensures.exact ∙ count) unplaced;
+    }
 
 graph : (c : After-of-3) → IsGraph c.args.graph.now.vars c.args.graph.now.received c.args.graph.now.nodes
 graph c = subst (IsGraph c.args.graph.now.vars c.args.graph.now.received) c.nodes-nodes.ensures.value c.nodes-nodes.ensures.graph
@@ -20,7 +24,7 @@ kept c =
     let most : c.loop-head.head ≤ length c.nodes-nodes.result.now = c.loop-head.auto.head-end in
     let count : length c.nodes-nodes.result.now ≡ length c.args.graph.now.nodes = ap length c.nodes-nodes.ensures.value in
     let e : c.loop-head.head ≡ length c.args.graph.now.nodes = omega arith in
-    subst (λ n. AreStored c.args.graph.now.nodes n c.loop-head.order.items c.loop-head.starts.items c.loop-head.block_of.items) e c.loop-head.invariant
+    subst (λ n. AreStored c.args.graph.now.nodes n c.loop-head.order.items c.loop-head.starts.items c.loop-head.block_of.items) e c.loop-head.invariant.stored
 
 pub invariant_of-result : goal.invariant_of-result
 invariant_of-result c =
