@@ -3,7 +3,7 @@ use Rattle.std.proofs.Common.{◌≡◌, ℕ, zero, suc, ◌<◌, true, List, []
 use Rattle.flow_graph.specs.declared.nodes.Node.{Node}
 use Rattle.flow_graph.specs.Graphs.{AllWithin, Reached, SuccsBelow}
 use Rattle.flow_graph.specs.declared.nodes.Node.TheVariants.{Start, Skip, Assign, Print, Guard, Call, Test, Return}
-use Rattle.flow_graph.specs.Retained.{AreRetained, marked, marked_below, redirected}
+use Rattle.flow_graph.specs.Retained.{AreAllSet, AreRetained, marked, marked_below, redirected, retained_nodes}
 use Rattle.std.specs.Prelude.{Bool, false}
 use Rattle.flow_graph.specs.BoundLaws.{succs_below}
 
@@ -38,11 +38,14 @@ module _ (size : ℕ) (to : ℕ → ℕ) (same : (n : ℕ) → n < size → to n
   all_unmoved [] below = refl
   all_unmoved (node ∷ nodes) below = ap (λ l. redirected to node ∷ l) (all_unmoved nodes (λ n. below (suc n))) ∙ ap (λ m. m ∷ nodes) (unmoved node (below 0 node refl))
 
--- where every node is reached, all nodes are retained, with their numbers
+-- where every node is marked, all nodes are retained, with their numbers
+pub all_retained : (raw : List Node) (marks : List Bool) → AllWithin raw → length marks ≡ length raw → AreAllSet marks → retained_nodes marks raw ≡ raw
+all_retained raw marks within long all =
+    ap (map (redirected (marked_below marks))) (all_marked marks raw long (λ n lt. all n (omega (arith, lt, long))))
+    ∙ all_unmoved (length raw) (marked_below marks) (λ n lt. full_rank marks n all (omega (arith, lt, long))) raw (λ n node here. succs_below raw n node within here)
+
+-- so they are where every node is reached
 pub whole_retained : (raw nodes : List Node) → AllWithin raw → AreRetained raw nodes → ((n : ℕ) → n < length raw → Reached raw n) → nodes ≡ raw
 whole_retained raw nodes within retained reached =
-    let all : (n : ℕ) → n < length raw → slice_get retained.marks n ≡ Some true = λ n lt. (retained.are_marks.exact n lt).1 (reached n lt) in
     let long = retained.are_marks.long in
-    retained.are
-    ∙ ap (map (redirected (marked_below retained.marks))) (all_marked retained.marks raw long all)
-    ∙ all_unmoved (length raw) (marked_below retained.marks) (λ n lt. full_rank retained.marks n (λ k h. all k (omega (arith, h, long))) (omega (arith, lt, long))) raw (λ n node here. succs_below raw n node within here)
+    retained.are ∙ all_retained raw retained.marks within long (λ n lt. let below : n < length raw = omega (arith, lt, long) in (retained.are_marks.exact n below).1 (reached n below))

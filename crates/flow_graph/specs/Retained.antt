@@ -36,6 +36,10 @@ marked (false ∷ marks) [] = []
 marked (true ∷ marks) (x ∷ xs) = x ∷ marked marks xs
 marked (false ∷ marks) (x ∷ xs) = marked marks xs
 
+-- every mark is set
+abbrev pub AreAllSet : List Bool → Type 0
+AreAllSet marks = (n : ℕ) → n < length marks → slice_get marks n ≡ Some true
+
 -- the marks of the nodes that are reached
 pub record MarkReached (raw : List Node) (marks : List Bool) : Type 0 where
   pub long : length marks ≡ length raw

@@ -1,7 +1,7 @@
 // Graphs from lists of nodes: the nodes that are reached are retained and renumbered.
-ghost use Rattle.std.specs.Prelude.{◌≡◌, ◌<◌, [], ◌∷◌, ◌++◌, length, IfOk, OnOk, if◌then◌else◌};
+ghost use Rattle.std.specs.Prelude.{◌≡◌, ◌<◌, [], ◌∷◌, ◌++◌, ◌↔◌, length, IfOk, IsTrue, OnOk, if◌then◌else◌};
 ghost use Rattle.flow_graph.specs.Graphs.{AllWithin, CanMake, SharesVars};
-ghost use Rattle.flow_graph.specs.Retained.{marked, AreRanks, IsMade, retained_nodes};
+ghost use Rattle.flow_graph.specs.Retained.{marked, AreAllSet, AreRanks, IsMade, retained_nodes};
 
 use crate::nodes::redirect;
 use crate::reach::reach;
@@ -24,8 +24,7 @@ pub(crate) fn make(
     ensures { IfOk result (λ graph. IsMade name shared vars received.items nodes.items graph) }
 {
     let marks = reach(alloc, nodes.as_slice())?;
-    let ranks = ranks(alloc, marks.as_slice())?;
-    let retained = retain(alloc, nodes, marks.as_slice(), ranks.as_slice())?;
+    let retained = only_marked(alloc, nodes, marks.as_slice())?;
     Ok(Graph {
         name,
         shared,
@@ -34,6 +33,31 @@ pub(crate) fn make(
         nodes: retained,
         alloc,
     })
+}
+
+/// The marked nodes, renumbered: where each is marked, all as they stand.
+fn only_marked(alloc: Global, nodes: Vec<Node>, marks: &[bool]) -> Result<Vec<Node>, Memory>
+    requires long { length marks.now ≡ length nodes.items }
+    requires within { AllWithin nodes.items }
+    ensures { IfOk result (λ retained. retained.items ≡ retained_nodes marks.now nodes.items) }
+{
+    if are_all_set(marks) {
+        return Ok(nodes);
+    }
+    let ranks = ranks(alloc, marks)?;
+    retain(alloc, nodes, marks, ranks.as_slice())
+}
+
+/// Whether each mark is set.
+fn are_all_set(marks: &[bool]) -> bool
+    ensures { IsTrue result ↔ AreAllSet marks.now }
+{
+    for mark in marks {
+        if !*mark {
+            return false;
+        }
+    }
+    true
 }
 
 /// For each node, the number of marked nodes before it: the number that it gets.

@@ -16,6 +16,6 @@ pub invariant_of-result : goal.invariant_of-result
 invariant_of-result c =
     let raw = c.args.nodes.items in
     let made = c.in_ok-retained.retained.items in
-    let retained = retained_with raw c.as_slice.result.now made c.in_ok-marks.marks.items c.as_slice-3.result.now c.as_slice.ensures.value c.as_slice-3.ensures.value c.in_ok-marks.ensures c.in_ok-retained.ensures in
+    let retained = retained_with raw c.as_slice.result.now made c.in_ok-marks.marks.items c.as_slice-2.result.now c.as_slice.ensures.value c.as_slice-2.ensures.value c.in_ok-marks.ensures c.in_ok-retained.ensures in
     let g = make_graph c.args.vars c.args.received.items raw made c.requires.can retained in
     subst (λ r. IsGraph c.args.vars r made × SharesVars c.args.shared c.args.vars r) (sym c.of.ensures) (g, c.requires.shares)
