@@ -1,6 +1,6 @@
 // The instructions that a plan emits.
-ghost use Rattle.std.specs.Prelude.{◌≡◌, ◌+◌, ◌^◌, ◌<◌, ◌≤◌, [], ◌∷◌, ◌++◌, length, reverse, IfOk, OnOk, Some};
-ghost use Rattle.std.specs.Option.{option_to_list};
+ghost use Rattle.std.specs.Prelude.{◌≡◌, ◌+◌, ◌^◌, ◌<◌, ◌≤◌, [], ◌∷◌, ◌++◌, length, reverse, vec_len, IfOk, OnOk, Some};
+ghost use Rattle.std.specs.Vec.{vec_capacity};
 ghost use Rattle.flow_graph.specs.Graphs.{AllWithin, IsBelow};
 ghost use Rattle.flow_graph.specs.Layouts.{emitted_by, item_insts, item_size, plain_body};
 ghost use Rattle.flow_graph.specs.Placing.{ArePlaces, ItemsWithin, places_after, taken_of};
@@ -86,56 +86,62 @@ pub(crate) fn emit(
     ensures { IfOk result (λ body.
         body.items ≡ plain_body received.now nodes.now (reverse items.now)) }
 {
-    let room = items.len().saturating_add(received.len());
-    let mut body = Vec::with_capacity(alloc, room)?;
+    let mut body = Vec::with_capacity(alloc, received.len() + items.len())?;
     for x in received {
-        body.push(Inst::Receive(*x))?;
+        body.push_reserved(Inst::Receive(*x));
     }
     for item in items {
-        let inst = emit_item(nodes, places, *item)?;
-        push_some(&mut body, inst)?;
+        emit_item(&mut body, nodes, places, *item)?;
     }
     Ok(body)
 }
 
-/// Pushes the instruction, if there is one.
-fn push_some(body: &mut Vec<Inst>, inst: Option<Inst>) -> Result<(), Memory>
-    ensures { OnOk result (body.new.items ≡ body.old.items ++ option_to_list inst) }
-{
-    if let Some(inst) = inst {
-        body.push(inst)?;
-    }
-    Ok(())
-}
-
-/// The instruction that an item emits.
-fn emit_item(nodes: &[Node], places: &[usize], item: Item) -> Result<Option<Inst>, Memory>
+/// Adds the instruction that an item emits, if there is one. There is room for it.
+fn emit_item(
+    body: &mut Vec<Inst>,
+    nodes: &[Node],
+    places: &[usize],
+    item: Item,
+) -> Result<(), Memory>
     requires within { AllWithin nodes.now }
     requires long { length places.now ≡ length nodes.now }
     requires item { ItemsWithin (length nodes.now) (item ∷ []) }
-    ensures { IfOk result (λ inst.
-        option_to_list inst ≡ item_insts nodes.now (number_at places.now) item) }
+    requires room { vec_len body.old < vec_capacity body.old }
+    ensures body { OnOk result
+        (body.new.items ≡ body.old.items ++ item_insts nodes.now (number_at places.now) item) }
+    ensures few { vec_len body.new ≤ vec_len body.old + 1 }
+    ensures capacity { vec_capacity body.new ≡ vec_capacity body.old }
 {
     match item {
-        Item::Placed(node) => emit_node(places, &nodes[node]),
-        Item::Jump(node) => Ok(Some(Inst::Goto(places[node]))),
+        Item::Placed(node) => emit_node(body, places, &nodes[node]),
+        Item::Jump(node) => {
+            body.push_reserved(Inst::Goto(places[node]));
+            Ok(())
+        }
     }
 }
 
-/// The instruction that a node emits.
-fn emit_node(places: &[usize], node: &Node) -> Result<Option<Inst>, Memory>
-    requires { IsBelow (length places.now) (taken_of (Some node.now)) }
-    ensures { IfOk result (λ inst.
-        option_to_list inst ≡ emitted_by (number_at places.now) (Some node.now)) }
+/// Adds the instruction that a node emits, if there is one. There is room for it.
+fn emit_node(body: &mut Vec<Inst>, places: &[usize], node: &Node) -> Result<(), Memory>
+    requires taken { IsBelow (length places.now) (taken_of (Some node.now)) }
+    requires room { vec_len body.old < vec_capacity body.old }
+    ensures body { OnOk result
+        (body.new.items ≡ body.old.items ++ emitted_by (number_at places.now) (Some node.now)) }
+    ensures few { vec_len body.new ≤ vec_len body.old + 1 }
+    ensures capacity { vec_capacity body.new ≡ vec_capacity body.old }
 {
-    Ok(match node {
-        Node::Start(_) => None,
-        Node::Skip(_) => None,
-        Node::Assign(x, rhs, _) => Some(Inst::Assign(*x, *rhs)),
-        Node::Print(a, _) => Some(Inst::Print(*a)),
-        Node::Guard(test, number, _) => Some(Inst::TrapIf(*test, *number)),
-        Node::Call(into, unit, args, _) => Some(Inst::Call(*into, *unit, args.clone()?)),
-        Node::Test(test, taken, _) => Some(Inst::If(*test, places[*taken])),
-        Node::Return(a) => Some(Inst::Return(*a)),
-    })
+    match node {
+        Node::Start(_) => {}
+        Node::Skip(_) => {}
+        Node::Assign(x, rhs, _) => body.push_reserved(Inst::Assign(*x, *rhs)),
+        Node::Print(a, _) => body.push_reserved(Inst::Print(*a)),
+        Node::Guard(test, number, _) => body.push_reserved(Inst::TrapIf(*test, *number)),
+        Node::Call(into, unit, args, _) => {
+            let args = args.clone()?;
+            body.push_reserved(Inst::Call(*into, *unit, args));
+        }
+        Node::Test(test, taken, _) => body.push_reserved(Inst::If(*test, places[*taken])),
+        Node::Return(a) => body.push_reserved(Inst::Return(*a)),
+    }
+    Ok(())
 }

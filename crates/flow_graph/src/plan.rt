@@ -31,9 +31,14 @@ pub(crate) fn plan(alloc: Global, nodes: &[Node], first: usize) -> Result<Vec<It
     let mut items = Vec::with_capacity(alloc, nodes.len())?;
     let mut placed = no_marks(alloc, nodes.len())?;
     let mut closed = 0;
-    while let Some(item) = next(nodes, first, items.as_slice(), placed.as_slice(), closed) {
+    while let Some(item) = next(
+        nodes,
+        first,
+        items.as_slice(),
+        placed.as_slice(),
+        &mut closed,
+    ) {
         add(&mut items, &mut placed, item)?;
-        closed = pass_closed(nodes, items.as_slice(), placed.as_slice(), closed);
     }
     Ok(items)
 }
@@ -51,25 +56,29 @@ fn add(items: &mut Vec<Item>, placed: &mut Vec<bool>, item: Item) -> Result<(), 
     Ok(())
 }
 
-/// What comes after these items. The item of number `closed` is the first that is a Test with an open `taken`.
+/// What comes after these items. None of the first `closed` items is a Test with an open `taken`.
 fn next(
     nodes: &[Node],
     first: usize,
     items: &[Item],
     placed: &[bool],
-    closed: usize,
+    closed: &mut usize,
 ) -> Option<Item>
     requires within { AllWithin nodes.now }
     requires items { ItemsWithin (length nodes.now) items.now }
     requires placed { ArePlaced nodes.now placed.now (reverse items.now) }
-    requires open { FirstOpenIsAt nodes.now items.now closed }
-    ensures { result ≡ next_item nodes.now first (reverse items.now) }
+    requires closed { AreClosed nodes.now items.now closed.old }
+    ensures item { result ≡ next_item nodes.now first (reverse items.now) }
+    ensures closed { AreClosed nodes.now items.now closed.new }
 {
     match items.last() {
         None => Some(Item::Placed(first)),
         Some(item) => match follower(nodes, *item) {
             Some(node) => Some(go_on(node, placed)),
-            None => begin_stretch(nodes, items, placed, closed),
+            None => {
+                *closed = pass_closed(nodes, items, placed, *closed);
+                begin_stretch(nodes, items, placed, *closed)
+            }
         },
     }
 }

@@ -13,8 +13,8 @@ go_on-requires c =
     let lt : IsBelow (length c.args.nodes.now) (Some c.in-Some-follower.node) = subst (IsBelow (length c.args.nodes.now)) (sym c.in-Some-follower.ensures) (follower_within c.args.nodes.now c.in-Some.item.now c.requires.within) in
     omega (arith, lt, c.requires.placed.long)
 
-pub returns-in-Some-follower : goal.returns-in-Some-follower
-returns-in-Some-follower c =
+pub returns-in-Some-follower-clause-item : goal.returns-in-Some-follower-clause-item
+returns-in-Some-follower-clause-item c =
     let n = c.in-Some-follower.node in
     let plan = reverse c.args.items.now in
     let lt : IsBelow (length c.args.nodes.now) (Some n) = subst (IsBelow (length c.args.nodes.now)) (sym c.in-Some-follower.ensures) (follower_within c.args.nodes.now c.in-Some.item.now c.requires.within) in
