@@ -11,6 +11,7 @@ pub mod Scans
 pub mod Emits
 pub mod Places
 pub mod Globals
+pub mod Mapping
 pub mod Renames
 pub mod SeenLists
 pub mod Laid

@@ -76,9 +76,9 @@ fn lay(
 {
     let items = plan(alloc, nodes, start_succ(nodes))?;
     let places = places(alloc, nodes, items.as_slice(), received.len())?;
-    let plain = emit(alloc, received, nodes, items.as_slice(), places.as_slice())?;
-    let seen = SeenVars::of(alloc, vars.len(), shared, plain.as_slice())?;
-    let body = rename(alloc, &seen, plain.as_slice())?;
+    let mut body = emit(alloc, received, nodes, items.as_slice(), places.as_slice())?;
+    let seen = SeenVars::of(alloc, vars.len(), shared, body.as_slice())?;
+    rename(alloc, &seen, &mut body)?;
     let names = names(alloc, vars, seen.seen())?;
     Ok(Laid { names, body })
 }

@@ -1,40 +1,45 @@
 // Instructions with the variables numbered by their first occurrence.
-ghost use Rattle.std.specs.Prelude.{◌≡◌, ◌<◌, ◌++◌, [], flat_map, length, map, option_map, slice_index_or, IfOk};
+ghost use Rattle.std.specs.Prelude.{◌≡◌, ◌<◌, ◌++◌, [], flat_map, length, map, option_map, slice_index_or, IfOk, OnOk};
 ghost use Rattle.mir_base.specs.Shapes.{AllBelow, inst_vars, into_vars, operand_vars, rhs_vars, test_vars};
-ghost use Rattle.mir_base.specs.declared.instructions.Inst.TheVariants.{Call};
 ghost use Rattle.flow_graph.specs.Numbering.{first_index, renamed, renamed_operand, renamed_rhs, renamed_test};
 
 use crate::seen::SeenVars;
 use mir_base::{Args, Inst, Memory, Name, Operand, Rhs, Test};
 use std::alloc::Global;
 
-/// The body with each variable numbered by its place among those seen.
-pub(crate) fn rename(alloc: Global, seen: &SeenVars, body: &[Inst]) -> Result<Vec<Inst>, Memory>
-    requires { AllBelow seen.now.vars (flat_map inst_vars body.now) }
-    ensures { IfOk result (λ new. new.items ≡ map (renamed (first_index seen.now.seen)) body.now) }
+/// Numbers each variable of a body by its place among those seen. The instructions are changed where they stand.
+pub(crate) fn rename(alloc: Global, seen: &SeenVars, body: &mut [Inst]) -> Result<(), Memory>
+    requires { AllBelow seen.now.vars (flat_map inst_vars body.old) }
+    ensures { OnOk result (body.new ≡ map (renamed (first_index seen.now.seen)) body.old) }
 {
-    let mut renamed = Vec::with_capacity(alloc, body.len())?;
-    for inst in body {
-        renamed.push(rename_inst(alloc, seen, inst)?)?;
+    for number in 0..body.len() {
+        rename_inst(alloc, seen, &mut body[number])?;
     }
-    Ok(renamed)
+    Ok(())
 }
 
-/// The instruction with its variables renumbered.
-fn rename_inst(alloc: Global, seen: &SeenVars, inst: &Inst) -> Result<Inst, Memory>
-    requires { AllBelow seen.now.vars (inst_vars inst.now) }
-    ensures { IfOk result (λ new. new ≡ renamed (first_index seen.now.seen) inst.now) }
+/// Renumbers the variables of an instruction.
+fn rename_inst(alloc: Global, seen: &SeenVars, inst: &mut Inst) -> Result<(), Memory>
+    requires { AllBelow seen.now.vars (inst_vars inst.old) }
+    ensures { OnOk result (inst.new ≡ renamed (first_index seen.now.seen) inst.old) }
 {
-    Ok(match inst {
-        Inst::Receive(x) => Inst::Receive(seen.first_index(*x)),
-        Inst::Assign(x, rhs) => Inst::Assign(seen.first_index(*x), rename_rhs(seen, *rhs)),
-        Inst::Goto(place) => Inst::Goto(*place),
-        Inst::If(test, place) => Inst::If(rename_test(seen, *test), *place),
-        Inst::Call(into, unit, args) => rename_call(alloc, seen, *into, *unit, args.items())?,
-        Inst::Print(a) => Inst::Print(rename_operand(seen, *a)),
-        Inst::TrapIf(test, number) => Inst::TrapIf(rename_test(seen, *test), *number),
-        Inst::Return(a) => Inst::Return(rename_operand(seen, *a)),
-    })
+    match inst {
+        Inst::Receive(x) => *x = seen.first_index(*x),
+        Inst::Assign(x, rhs) => {
+            *x = seen.first_index(*x);
+            *rhs = rename_rhs(seen, *rhs);
+        }
+        Inst::Goto(_) => {}
+        Inst::If(test, _) => *test = rename_test(seen, *test),
+        Inst::Call(into, _, args) => {
+            *args = rename_args(alloc, seen, args.items())?;
+            *into = rename_into(seen, *into);
+        }
+        Inst::Print(a) => *a = rename_operand(seen, *a),
+        Inst::TrapIf(test, _) => *test = rename_test(seen, *test),
+        Inst::Return(a) => *a = rename_operand(seen, *a),
+    }
+    Ok(())
 }
 
 /// The operand with its variable, if it is one, renumbered.
@@ -70,22 +75,6 @@ fn rename_test(seen: &SeenVars, test: Test) -> Test
         Test::Holds(a) => Test::Holds(rename_operand(seen, a)),
         Test::Fails(a) => Test::Fails(rename_operand(seen, a)),
     }
-}
-
-/// The call with its variables renumbered.
-fn rename_call(
-    alloc: Global,
-    seen: &SeenVars,
-    into: Option<usize>,
-    unit: usize,
-    operands: &[Operand],
-) -> Result<Inst, Memory>
-    requires { AllBelow seen.now.vars (into_vars into ++ flat_map operand_vars operands.now) }
-    ensures { IfOk result (λ new.
-        new ≡ renamed (first_index seen.now.seen) (Call into unit operands.now)) }
-{
-    let args = rename_args(alloc, seen, operands)?;
-    Ok(Inst::Call(rename_into(seen, into), unit, args))
 }
 
 /// The arguments with their variables renumbered.

@@ -16,7 +16,8 @@ pub fn tidied(alloc: Global, name: Name, vars: &[Name], body: &[Inst]) -> Result
     ensures { IfOk result (λ unit. unit ≡ tidied_unit name vars.now body.now) }
 {
     let seen = SeenVars::of(alloc, vars.len(), 0, body)?;
-    let insts = rename(alloc, &seen, body)?;
+    let mut insts = copied(alloc, body)?;
+    rename(alloc, &seen, &mut insts)?;
     let names = names(alloc, vars, seen.seen())?;
     Ok(MirUnit {
         name,
@@ -24,4 +25,15 @@ pub fn tidied(alloc: Global, name: Name, vars: &[Name], body: &[Inst]) -> Result
         vars: Items::of(names),
         body: Items::of(insts),
     })
+}
+
+/// Copies of these instructions.
+fn copied(alloc: Global, insts: &[Inst]) -> Result<Vec<Inst>, Memory>
+    ensures { IfOk result (λ copied. copied.items ≡ insts.now) }
+{
+    let mut copied = Vec::with_capacity(alloc, insts.len())?;
+    for inst in insts {
+        copied.push(inst.clone()?)?;
+    }
+    Ok(copied)
 }
