@@ -1,5 +1,5 @@
 // The blocks of a graph.
-ghost use Rattle.std.specs.Prelude.{◌≡◌, ◌+◌, ◌<◌, ◌++◌, [], ◌∷◌, length, slice_get, slice_set, vec_len, Some, IfOk, OnOk};
+ghost use Rattle.std.specs.Prelude.{◌≡◌, ◌+◌, ◌<◌, ◌++◌, [], ◌∷◌, length, slice_get, slice_set, vec_len, Some, IfOk};
 ghost use Rattle.std.specs.Vec.{vec_capacity};
 ghost use Rattle.flow_graph.specs.Blocks.{AreBlocksOf, AreOnlyBlocks, AreStored, IsFirst, StandsIn, is_first, next_of, only, IsUnplaced, GluedToPlaced, HasRoom, IsFollowedBlock};
 ghost use Rattle.flow_graph.specs.Edges.{edges_of};
@@ -45,10 +45,11 @@ impl Blocks {
     {
         let nodes = graph.nodes().len();
         let mut order = Vec::with_capacity(alloc, nodes)?;
-        let mut starts = filled(alloc, 0, 1)?;
+        let mut starts = Vec::with_capacity(alloc, nodes + 1)?;
+        starts.push_reserved(0);
         let mut block_of = filled(alloc, nodes, nodes)?;
         for head in 0..nodes {
-            add(graph, edges, head, &mut order, &mut starts, &mut block_of)?;
+            add(graph, edges, head, &mut order, &mut starts, &mut block_of);
         }
         Ok(Blocks {
             order: Items::of(order),
@@ -90,22 +91,23 @@ fn add(
     order: &mut Vec<usize>,
     starts: &mut Vec<usize>,
     block_of: &mut [usize],
-) -> Result<(), Memory>
+)
     requires edges { edges.now ≡ edges_of graph.now.nodes }
     requires there { head < length graph.now.nodes }
     requires before { AreStored graph.now.nodes head order.old.items starts.old.items block_of.old }
     requires room { HasRoom (length graph.now.nodes) order.old block_of.old }
-    ensures after { OnOk result
-        (AreStored graph.now.nodes (head + 1) order.new.items starts.new.items block_of.new) }
+    requires starts { vec_capacity starts.old ≡ length graph.now.nodes + 1 }
+    ensures after { AreStored graph.now.nodes (head + 1)
+        order.new.items starts.new.items block_of.new }
     ensures room { HasRoom (length graph.now.nodes) order.new block_of.new }
+    ensures starts { vec_capacity starts.new ≡ vec_capacity starts.old }
 {
     if !begins(graph, edges, head, block_of) {
-        return Ok(());
+        return;
     }
     let block = starts.len() - 1;
     follow(graph, edges, head, block, order, block_of);
-    starts.push(order.len())?;
-    Ok(())
+    starts.push_reserved(order.len());
 }
 
 /// Whether a node is the first of its block. One that has its block already is not, since blocks are made in order of
@@ -177,13 +179,10 @@ fn next(graph: &Graph, edges: &Edges, node: usize) -> Option<usize>
     let _nodes = graph.nodes();
     match only_succ(graph, node) {
         None => None,
-        Some(next) => {
-            if edges.is_entered_once(next) {
-                Some(next)
-            } else {
-                None
-            }
-        }
+        Some(next) => match edges.only_pred(next) {
+            None => None,
+            Some(_) => Some(next),
+        },
     }
 }
 
@@ -193,7 +192,7 @@ fn is_first(graph: &Graph, edges: &Edges, node: usize) -> bool
     requires there { node < length graph.now.nodes }
     ensures { result ≡ is_first graph.now.nodes node }
 {
-    match only(edges.preds(node)) {
+    match edges.only_pred(node) {
         None => true,
         Some(before) => match only_succ(graph, before) {
             None => true,
@@ -212,11 +211,4 @@ fn only_succ(graph: &Graph, node: usize) -> Option<usize>
         None => here.first_succ(),
         Some(_) => None,
     }
-}
-
-/// The only item of a list.
-fn only(list: &[usize]) -> Option<usize>
-    ensures { result ≡ only list.now }
-{
-    if list.len() == 1 { Some(list[0]) } else { None }
 }

@@ -1,11 +1,11 @@
 // The edges of a graph, by source and by target.
-ghost use Rattle.std.specs.Prelude.{◌≡◌, ◌<◌, length, is_some, slice_get, suc, IfOk, Some};
+ghost use Rattle.std.specs.Prelude.{◌≡◌, ◌<◌, length, slice_get, suc, IfOk, Some};
 ghost use Rattle.flow_graph.specs.Blocks.{only};
 ghost use Rattle.flow_graph.specs.Edges.{by_target, edges_of, first_entering, first_leaving, preds_among};
 
 use crate::Graph;
 use crate::edge_lists::{counts, list, sort};
-use crate::tables::{bounds, part};
+use crate::tables::{bounds, entry, part};
 use mir_base::{Items, Memory};
 use std::alloc::Global;
 use std::marker::Model;
@@ -107,13 +107,17 @@ impl Edges {
         bounds(self.entries.items(), node)
     }
 
-    /// Whether one edge alone enters a node. It does not allocate.
-    pub(crate) fn is_entered_once(&self, node: usize) -> bool
+    /// The source of the edge that enters a node, where one alone does. It does not allocate.
+    pub(crate) fn only_pred(&self, node: usize) -> Option<usize>
         requires { node < self.now.nodes }
-        ensures { result ≡ is_some (only (preds_among node self.now.edges)) }
+        ensures { result ≡ only (preds_among node self.now.edges) }
     {
         let numbers = self.entering(node);
-        numbers.1 - numbers.0 == 1
+        if numbers.1 - numbers.0 == 1 {
+            Some(entry(self.sources.items(), numbers.0))
+        } else {
+            None
+        }
     }
 
     /// The sources of the edges that enter a node, one entry for each edge. It does not allocate.

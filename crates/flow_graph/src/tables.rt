@@ -21,6 +21,14 @@ pub(crate) fn part(numbers: &[usize], first: usize, end: usize) -> &[usize]
     &numbers[first..end]
 }
 
+/// The number at an index of a table.
+pub(crate) fn entry(table: &[usize], index: usize) -> usize
+    requires { index < length table.now }
+    ensures { result ≡ number_at table.now index }
+{
+    table[index]
+}
+
 /// The number at an index of a table and the one after it: where what belongs to the index begins and ends.
 pub(crate) fn bounds(starts: &[usize], index: usize) -> (usize, usize)
     requires { index + 1 < length starts.now }

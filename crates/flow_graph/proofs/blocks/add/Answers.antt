@@ -20,5 +20,11 @@ returns-clause-after c =
     let read : c.len.result ≡ c.follow.new.order.len = c.len.ensures in
     let kept = c.follow.new.order.ok.0 in
     let all : c.len.result ≡ length c.follow.new.order.items = omega arith in
-    kept_more c.args.graph.now.nodes c.args.head f.0 (c.len-block.result - 1) c.args.order.now.items c.follow.new.order.items c.args.starts.now.items c.push.new.self.items c.args.block_of.now c.follow.new.block_of c.requires.before
-    (omega (arith, long, c.len-block.ensures)) c.requires.there (sym c.begins.ensures ∙ first) f.1 f.2 (c.in_ok-push.ensures.items ∙ ap (λ n. c.args.starts.now.items ++ n ∷ []) all)
+    kept_more c.args.graph.now.nodes c.args.head f.0 (c.len-block.result - 1) c.args.order.now.items c.follow.new.order.items c.args.starts.now.items c.push_reserved.new.self.items c.args.block_of.now c.follow.new.block_of c.requires.before
+    (omega (arith, long, c.len-block.ensures)) c.requires.there (sym c.begins.ensures ∙ first) f.1 f.2 (c.push_reserved.ensures.items ∙ ap (λ n. c.args.starts.now.items ++ n ∷ []) all)
+
+pub push_reserved-requires : goal.push_reserved-requires
+push_reserved-requires c =
+    let long = length_cut (length c.args.order.now.items) c.args.order.now.items c.args.starts.now.items c.requires.before.starts_are in
+    let kept = c.args.starts.now.ok.0 in
+    omega (arith, long, kept, c.requires.before.made.few, c.requires.there, c.requires.starts)

@@ -4,8 +4,8 @@ use Rattle.flow_graph.specs.Graphs.{IsGraph, succs_at}
 use Rattle.flow_graph.specs.BlockLaws.{only_is}
 use Rattle.flow_graph.proofs.blocks.next.Goals as goal
 
-pub is_entered_once-requires : goal.is_entered_once-requires
-is_entered_once-requires c =
+pub only_pred-requires : goal.only_pred-requires
+only_pred-requires c =
     let leaves = only_is (succs_at c.args.graph.now.nodes c.args.node) c.in-Some.next (sym c.only_succ.ensures ∙ c.in-Some.is) in
     let graph = subst (IsGraph c.args.graph.now.vars c.args.graph.now.received) c.nodes-nodes.ensures.value c.nodes-nodes.ensures.graph in
     let within = (graph.can.succs c.args.node 0 c.in-Some.next (ap (λ l. slice_get l 0) leaves)).1 in

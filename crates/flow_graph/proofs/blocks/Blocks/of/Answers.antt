@@ -1,4 +1,4 @@
-use Rattle.std.proofs.Common.{◌≡◌, ◌≤◌, length, replicate, ap, subst, arith, ◌∙◌}
+use Rattle.std.proofs.Common.{◌≡◌, ◌≤◌, ◌+◌, ◌++◌, ◌∷◌, [], length, replicate, ap, subst, arith, ◌∙◌}
 use Rattle.flow_graph.specs.Graphs.{IsGraph}
 use Rattle.flow_graph.specs.Blocks.{AreBlocksOf, AreStored, parts_at}
 use Rattle.flow_graph.specs.BlockLaws.{blocks_same}
@@ -11,8 +11,9 @@ loop-head-init c =
     let count = ap length c.nodes-nodes.ensures.value in
     let unplaced = c.in_ok-block_of.ensures ∙ ap (λ n. replicate n n) count in
     record {
-      stored = kept_none c.args.graph.now.nodes c.in_ok-order.order.items c.in_ok-starts.starts.items c.in_ok-block_of.block_of.items c.in_ok-order.ensures.items c.in_ok-starts.ensures unplaced;
+      stored = kept_none c.args.graph.now.nodes c.in_ok-order.order.items c.push_reserved.new.self.items c.in_ok-block_of.block_of.items c.in_ok-order.ensures.items (c.push_reserved.ensures.items ∙ ap (λ l. l ++ 0 ∷ []) c.in_ok-starts.ensures.items) unplaced;
       room = room_none (length c.args.graph.now.nodes) c.in_ok-order.order c.in_ok-block_of.block_of.items c.in_ok-order.ensures.len (c.in_ok-order.ensures.exact ∙ count) unplaced;
+      starts = c.push_reserved.ensures.capacity ∙ c.in_ok-starts.ensures.exact ∙ ap (λ n. n + 1) count;
     }
 
 graph : (c : After-of-3) → IsGraph c.args.graph.now.vars c.args.graph.now.received c.args.graph.now.nodes
