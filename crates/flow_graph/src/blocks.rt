@@ -1,9 +1,8 @@
 // The blocks of a graph.
 ghost use Rattle.std.specs.Prelude.{◌≡◌, ◌+◌, ◌<◌, ◌++◌, [], ◌∷◌, length, slice_get, slice_set, vec_len, Some, IfOk};
 ghost use Rattle.std.specs.Vec.{vec_capacity};
-ghost use Rattle.flow_graph.specs.Blocks.{AreBlocksOf, AreOnlyBlocks, AreStored, IsFirst, StandsIn, is_first, next_of, only, IsUnplaced, GluedToPlaced, HasRoom, IsFollowedBlock};
+ghost use Rattle.flow_graph.specs.Blocks.{AreBlocksOf, AreOnlyBlocks, AreStored, IsFirst, StandsIn, is_first, next_of, IsUnplaced, GluedToPlaced, HasRoom, IsFollowedBlock};
 ghost use Rattle.flow_graph.specs.Edges.{edges_of};
-ghost use Rattle.flow_graph.specs.Graphs.{succs_at};
 
 use crate::tables::{bounds, filled, part};
 use crate::{Edges, Graph};
@@ -177,7 +176,7 @@ fn next(graph: &Graph, edges: &Edges, node: usize) -> Option<usize>
     ensures { result ≡ next_of graph.now.nodes node }
 {
     let _nodes = graph.nodes();
-    match only_succ(graph, node) {
+    match edges.only_succ(node) {
         None => None,
         Some(next) => match edges.only_pred(next) {
             None => None,
@@ -194,21 +193,9 @@ fn is_first(graph: &Graph, edges: &Edges, node: usize) -> bool
 {
     match edges.only_pred(node) {
         None => true,
-        Some(before) => match only_succ(graph, before) {
+        Some(before) => match edges.only_succ(before) {
             None => true,
             Some(_) => false,
         },
-    }
-}
-
-/// The only successor of a node.
-fn only_succ(graph: &Graph, node: usize) -> Option<usize>
-    requires { node < length graph.now.nodes }
-    ensures { result ≡ only (succs_at graph.now.nodes node) }
-{
-    let here = &graph.nodes()[node];
-    match here.second_succ() {
-        None => here.first_succ(),
-        Some(_) => None,
     }
 }

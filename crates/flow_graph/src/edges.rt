@@ -1,6 +1,8 @@
 // The edges of a graph, by source and by target.
-ghost use Rattle.std.specs.Prelude.{◌≡◌, ◌<◌, length, slice_get, suc, IfOk, Some};
+ghost use Rattle.std.specs.Prelude.{◌≡◌, ◌<◌, length, List, slice_get, suc, IfOk, Some};
 ghost use Rattle.flow_graph.specs.Blocks.{only};
+ghost use Rattle.flow_graph.specs.Graphs.{succs_at};
+ghost use Rattle.flow_graph.specs.declared.nodes.Node.{Node};
 ghost use Rattle.flow_graph.specs.Edges.{by_target, edges_of, first_entering, first_leaving, preds_among};
 
 use crate::Graph;
@@ -84,6 +86,20 @@ impl Edges {
         ensures end { result.1 ≡ first_leaving (suc node) self.now.edges }
     {
         bounds(self.starts.items(), node)
+    }
+
+    /// The only successor of a node, where it has one alone. It does not allocate.
+    pub(crate) fn only_succ(&self, node: usize) -> Option<usize>
+        requires { node < self.now.nodes }
+        ensures { (nodes : List Node) → self.now ≡ edges_of nodes →
+            result ≡ only (succs_at nodes node) }
+    {
+        let leaving = self.leaving(node);
+        if leaving.1 - leaving.0 == 1 {
+            Some(self.edge(leaving.0).target)
+        } else {
+            None
+        }
     }
 
     /// The edge of this number by target. It does not allocate.
