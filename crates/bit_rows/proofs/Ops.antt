@@ -2,7 +2,7 @@
 use Rattle.std.proofs.Common.{◌≡◌, ◌↔◌, ℕ, ◌<◌, Bool, false, List, ◌++◌, length, take, drop, get_or, sym, ap, ◌∙◌, bit_or}
 use Rattle.bit_rows.specs.Bits.{zip_with, or_bits, minus_bits}
 use Rattle.bit_rows.specs.Words.{bits_of, minus_word, FitsWords}
-use Rattle.bit_rows.proofs.Views.{Holds, IsBitwise, length_bits_of, rewritten_whole, joined_hold, or_minus_hold, same_words, unchanged_row}
+use Rattle.bit_rows.proofs.Views.{Holds, IsBitwise, length_bits_of, rewritten_whole, joined_hold, or_minus_hold, same_words, two_hold, unchanged_row}
 
 -- how many bits a row has
 pub row_len : (n : ℕ) (xs : List ℕ) (row : List Bool) → bits_of n xs ≡ row → length row ≡ n
@@ -51,6 +51,16 @@ module _ (n len : ℕ) (xs zs : List ℕ) (row : List Bool) (fx : FitsWords n xs
         let held : Holds n ys other = as_wide n xs row fx view m ys other fy view' long in
         let held2 : Holds n ws less = as_wide n xs row fx view m2 ws less fw view2 long2 in
         rw (rewritten_whole len xs zs len_is same) (rw (← view, ← held.view, ← held2.view) (or_minus_hold n xs ys ws zs fx held.fits held2.fits same each))
+
+    -- by one operator after another
+    pub joined_by_two : (m2 : ℕ) (ws : List ℕ) (third : List Bool) → FitsWords m2 ws → bits_of m2 ws ≡ third → length row ≡ length third
+        → (op : ℕ → ℕ → ℕ) (f : Bool → Bool → Bool) → IsBitwise op f → (next : ℕ → ℕ → ℕ) (g : Bool → Bool → Bool) → IsBitwise next g
+        → ((k : ℕ) → k < length xs → get_or zs k 0 ≡ next (op (get_or xs k 0) (get_or ys k 0)) (get_or ws k 0))
+        → Holds n (take len (zs ++ drop (length zs) xs)) (zip_with g (zip_with f row other) third)
+    joined_by_two m2 ws third fw view2 long2 op f is next g is2 each =
+        let held : Holds n ys other = as_wide n xs row fx view m ys other fy view' long in
+        let held2 : Holds n ws third = as_wide n xs row fx view m2 ws third fw view2 long2 in
+        rw (rewritten_whole len xs zs len_is same) (rw (← view, ← held.view, ← held2.view) (two_hold op f is next g is2 n xs ys ws zs fx held.fits held2.fits same each))
 
   -- whether the words changed tells whether the row did
   pub changed_row : (row' : List Bool) (b : Bool) → Holds n (take len (zs ++ drop (length zs) xs)) row' → ((b ≡ false) ↔ (zs ≡ xs)) → (b ≡ false) ↔ (bits_of n (take len (zs ++ drop (length zs) xs)) ≡ row)

@@ -5,7 +5,7 @@ use Rattle.std.proofs.lemmas.Bool.{cases_eq, cases_lt}
 use Rattle.std.proofs.lemmas.List.{ext_get_or, get_or-drop, get_or-set_other, get_or-set_same, get_or-take}
 use Rattle.std.proofs.lemmas.Slice.{between-put_mid, between_is, drop-put_mid, take-put_mid_below}
 use borrow.Rule.Slice.PartMut.{put_mid}
-use Rattle.bit_rows.specs.Words.{Rewritten, minus_word, words_at}
+use Rattle.bit_rows.specs.Words.{AddsWithout, Rewritten, minus_word, words_at}
 
 -- a row before another ends where that one begins, or earlier
 pub rows_apart : (stride r row : ℕ) → r < row → stride * r + stride ≤ stride * row
@@ -58,12 +58,12 @@ rewrites_within stride row xs ys long rest = record {
       word_at stride r k ys h ∙ rest (stride * r + k) (beside stride row r k d h) ∙ sym (word_at stride r k xs h));
 }
 
--- one word more of a row is made of the old one, of that of a second row, which may be the same, and of others
-module _ (stride row from i : ℕ) (less old words : List ℕ) (i_in : i < stride) (within : stride * row + stride ≤ length words)
-    (done : (k : ℕ) → k < i → get_or words (stride * row + k) 0 ≡ bit_or (get_or old (stride * row + k) 0) (minus_word (get_or old (stride * from + k) 0) (get_or less k 0)))
+-- one word more of a row is made of the old one, and of what becomes of that of a second row, which may be the same
+module _ (part : ℕ → ℕ → ℕ) (stride row from i : ℕ) (old words : List ℕ) (i_in : i < stride) (within : stride * row + stride ≤ length words)
+    (done : (k : ℕ) → k < i → get_or words (stride * row + k) 0 ≡ bit_or (get_or old (stride * row + k) 0) (part k (get_or old (stride * from + k) 0)))
     (rest : (j : ℕ) → (j < stride * row) ⊎ (stride * row + i ≤ j) → get_or words j 0 ≡ get_or old j 0) where
   abbrev made : ℕ
-  made = bit_or (get_or words (stride * row + i) 0) (minus_word (get_or words (stride * from + i) 0) (get_or less i 0))
+  made = bit_or (get_or words (stride * row + i) 0) (part i (get_or words (stride * from + i) 0))
 
   from_kept : get_or words (stride * from + i) 0 ≡ get_or old (stride * from + i) 0
   from_kept = rest (stride * from + i) (elim (cases_lt from row) as (λ _. (stride * from + i < stride * row) ⊎ (stride * row + i ≤ stride * from + i)) [
@@ -71,8 +71,8 @@ module _ (stride row from i : ℕ) (less old words : List ℕ) (i_in : i < strid
     | inr above ↦ let late : stride * row ≤ stride * from = mul-le-mul_left stride above in inr (omega arith)
   ])
 
-  pub done_more : (k : ℕ) → k < i + 1 → get_or (set words (stride * row + i) made) (stride * row + k) 0 ≡ bit_or (get_or old (stride * row + k) 0) (minus_word (get_or old (stride * from + k) 0) (get_or less k 0))
-  done_more k h = elim (cases_eq k i) as (λ _. get_or (set words (stride * row + i) made) (stride * row + k) 0 ≡ bit_or (get_or old (stride * row + k) 0) (minus_word (get_or old (stride * from + k) 0) (get_or less k 0))) [
+  pub done_more : (k : ℕ) → k < i + 1 → get_or (set words (stride * row + i) made) (stride * row + k) 0 ≡ bit_or (get_or old (stride * row + k) 0) (part k (get_or old (stride * from + k) 0))
+  done_more k h = elim (cases_eq k i) as (λ _. get_or (set words (stride * row + i) made) (stride * row + k) 0 ≡ bit_or (get_or old (stride * row + k) 0) (part k (get_or old (stride * from + k) 0))) [
     | inl last ↦ rw last (get_or-set_same words (stride * row + i) made 0 (omega arith) ∙ rw (from_kept, rest (stride * row + i) (inr (omega arith))) refl)
     | inr d ↦ get_or-set_other words (stride * row + i) (stride * row + k) made 0 (λ e. d (omega (arith, e))) ∙ done k (omega arith)
   ]
@@ -80,3 +80,27 @@ module _ (stride row from i : ℕ) (less old words : List ℕ) (i_in : i < strid
   pub rest_more : (j : ℕ) → (j < stride * row) ⊎ (stride * row + (i + 1) ≤ j) → get_or (set words (stride * row + i) made) j 0 ≡ get_or old j 0
   rest_more j (inl before) = get_or-set_other words (stride * row + i) j made 0 (λ e. absurd (omega (arith, e))) ∙ rest j (inl before)
   rest_more j (inr after) = get_or-set_other words (stride * row + i) j made 0 (λ e. absurd (omega (arith, e))) ∙ rest j (inr (omega arith))
+
+-- ---- words put at the end
+
+-- a part of the words
+part_at : (words : List ℕ) (at n k : ℕ) → k < at + n - at → get_or (take (at + n - at) (drop at words)) k 0 ≡ get_or words (at + k) 0
+part_at words at n k h = get_or-take {A = ℕ} (at + n - at) (drop at words) k 0 h ∙ get_or-drop {A = ℕ} at words k 0
+
+-- a part of words without the bits of others stands after the part before it
+module _ (words less old new : List ℕ) (at n : ℕ) (within : at + n ≤ length words) (long : length old ≡ at) (adds : AddsWithout old (take (at + n - at) (drop at words)) (take (at + n - at) (drop at less)) new) where
+  part_long : length (take (at + n - at) (drop at words)) ≡ n
+  part_long = grind (arith, length-drop, length-take)
+
+  pub more_long : length new ≡ at + n
+  more_long = adds.len ∙ rw (part_long, long) refl
+
+  pub more_without : ((k : ℕ) → k < at → get_or old k 0 ≡ minus_word (get_or words k 0) (get_or less k 0)) → (k : ℕ) → k < at + n → get_or new k 0 ≡ minus_word (get_or words k 0) (get_or less k 0)
+  more_without done k h = elim (cases_lt k at) as (λ _. get_or new k 0 ≡ minus_word (get_or words k 0) (get_or less k 0)) [
+    | inl before ↦ adds.before k (rw long before) ∙ done k before
+    | inr after ↦
+        let place : length old + (k - at) ≡ k = omega arith in
+        let back : at + (k - at) ≡ k = omega arith in
+        let added = rw place at (adds.added (k - at) (rw part_long (omega arith))) in
+        added ∙ rw (part_at words at n (k - at) (omega arith), part_at less at n (k - at) (omega arith), back) refl
+  ]

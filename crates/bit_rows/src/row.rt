@@ -3,7 +3,10 @@ ghost use Rattle.std.specs.Prelude.{◌≡◌, ◌<◌, ◌↔◌, false, IfOk, 
 ghost use Rattle.bit_rows.specs.Bits.{or_bits, minus_bits, not_bits};
 
 use crate::joining::Joining;
-use crate::words::{flip_words, join_words, or_minus_words, or_words, word_bit};
+use crate::words::{
+    flip_words, join_words, minus_then_or_words, or_minus_words, or_then_minus_words, or_words,
+    word_bit,
+};
 use crate::{Memory, RowView};
 use smallvec::SmallVec;
 use std::alloc::Global;
@@ -89,6 +92,26 @@ impl Row {
         ensures unchanged { (result ≡ false) ↔ (self.new ≡ self.old) }
     {
         or_minus_words(self.words.as_mut_slice(), other.words, less.words)
+    }
+
+    /// Gets what another has, and then loses what a third has, in one pass. It does not allocate.
+    pub fn or_then_minus(&mut self, more: &RowView<'_>, less: &RowView<'_>)
+        requires more { length self.old ≡ length more.now }
+        requires less { length self.old ≡ length less.now }
+        ensures made { self.new ≡ minus_bits (or_bits self.old more.now) less.now }
+        ensures len { length self.new ≡ length self.old }
+    {
+        or_then_minus_words(self.words.as_mut_slice(), more.words, less.words);
+    }
+
+    /// Loses what another has, and then gets what a third has, in one pass. It does not allocate.
+    pub fn minus_then_or(&mut self, less: &RowView<'_>, more: &RowView<'_>)
+        requires less { length self.old ≡ length less.now }
+        requires more { length self.old ≡ length more.now }
+        ensures made { self.new ≡ or_bits (minus_bits self.old less.now) more.now }
+        ensures len { length self.new ≡ length self.old }
+    {
+        minus_then_or_words(self.words.as_mut_slice(), less.words, more.words);
     }
 
     /// Keeps what is not in the other. It does not allocate.

@@ -4,8 +4,11 @@ ghost use Rattle.bit_rows.specs.Bits.{AreAlike, AreEquallyLong, EachBit, EachBit
 ghost use Rattle.bit_rows.specs.Joinings.{bit_join};
 
 use crate::joining::Joining;
-use crate::packed::{flip_row, join_row, or_minus_row, or_minus_rows, row_words, set_row_bit};
-use crate::words::join_words;
+use crate::packed::{
+    flip_row, join_row, or_minus_passed_row, or_minus_row, or_minus_rows, or_passed_rows,
+    row_words, set_row_bit,
+};
+use crate::words::{join_words, words_without};
 use crate::{Memory, RowView};
 use std::alloc::{AllocError, Global};
 use std::marker::Model;
@@ -185,6 +188,31 @@ impl Rows {
         or_minus_row(&mut self.words, self.stride, row, from.words, less.words);
     }
 
+    /// The row becomes its disjunction with what a second row has but where a third or a fourth has it and a fifth has
+    /// not, in one pass. It does not allocate.
+    pub fn or_minus_passed(
+        &mut self,
+        row: usize,
+        from: &RowView<'_>,
+        but: &RowView<'_>,
+        more: &RowView<'_>,
+        less: &RowView<'_>,
+    )
+        requires row { row < length self.old }
+        requires from { length (row_of self.old row) ≡ length from.now }
+        requires but { length (row_of self.old row) ≡ length but.now }
+        requires more { length (row_of self.old row) ≡ length more.now }
+        requires less { length (row_of self.old row) ≡ length less.now }
+        ensures { self.new ≡ slice_set self.old row (or_bits (row_of self.old row)
+            (minus_bits from.now (minus_bits (or_bits but.now more.now) less.now))) }
+    {
+        let words = &mut self.words;
+        let stride = self.stride;
+        or_minus_passed_row(
+            words, stride, row, from.words, but.words, more.words, less.words,
+        );
+    }
+
     /// The row becomes its disjunction with what a second row of these has and another row has not, in one pass. It
     /// does not allocate.
     pub fn or_minus_within(&mut self, row: usize, from: usize, less: &RowView<'_>)
@@ -195,6 +223,32 @@ impl Rows {
             (or_bits (row_of self.old row) (minus_bits (row_of self.old from) less.now)) }
     {
         or_minus_rows(&mut self.words, self.stride, row, from, less.words);
+    }
+
+    /// The row becomes its disjunction with what a second row of these or another row has and a third has not, in one
+    /// pass. It does not allocate.
+    pub fn or_passed_within(
+        &mut self,
+        row: usize,
+        from: usize,
+        more: &RowView<'_>,
+        less: &RowView<'_>,
+    )
+        requires row { row < length self.old }
+        requires from { from < length self.old }
+        requires more { length (row_of self.old row) ≡ length more.now }
+        requires less { length (row_of self.old row) ≡ length less.now }
+        ensures { self.new ≡ slice_set self.old row (or_bits (row_of self.old row)
+            (minus_bits (or_bits (row_of self.old from) more.now) less.now)) }
+    {
+        or_passed_rows(
+            &mut self.words,
+            self.stride,
+            row,
+            from,
+            more.words,
+            less.words,
+        );
     }
 
     /// The row becomes its disjunction with a row of the other. It does not allocate.
@@ -254,6 +308,21 @@ impl Rows {
             bits: self.bits,
             stride: self.stride,
             words: Vec::from_slice(alloc, &self.words)?,
+        })
+    }
+
+    /// Rows that have what these have and those of the other have not. It fails only with `Memory`.
+    pub fn without(&self, alloc: Global, other: &Rows) -> Result<Rows, Memory>
+        requires { AreAlike self.now other.now }
+        ensures alike { IfOk result (AreAlike self.now) }
+        ensures rows { IfOk result (EachRow minus_bits self.now other.now) }
+        ensures bits { IfOk result (EachBit (λ x y. x && not y) self.now other.now) }
+    {
+        Ok(Rows {
+            rows: self.rows,
+            bits: self.bits,
+            stride: self.stride,
+            words: words_without(alloc, &self.words, &other.words)?,
         })
     }
 

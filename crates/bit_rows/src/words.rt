@@ -1,11 +1,13 @@
 // The passes over words. Each clause says what becomes of one word, or of one bit.
-ghost use Rattle.std.specs.Prelude.{◌≡◌, ℕ, ◌+◌, ◌*◌, ◌^◌, ◌<◌, ◌≤◌, ◌↔◌, false, IfNone, IfSome, length, bit_and, bit_or};
+ghost use Rattle.std.specs.Prelude.{◌≡◌, ℕ, ◌+◌, ◌*◌, ◌^◌, ◌<◌, ◌≤◌, ◌↔◌, false, IfNone, IfOk, IfSome, OnOk, length, bit_and, bit_or};
 ghost use Rattle.std.specs.Int.{bit_at};
 ghost use Rattle.bit_rows.specs.Bits.{IsTrueFrom, NoneTrue};
 ghost use Rattle.bit_rows.specs.Joinings.{word_join};
-ghost use Rattle.bit_rows.specs.Words.{AreFlipped, EachOrMinus, EachWord, bit_of, minus_word, used_bits, words_with_bit};
+ghost use Rattle.bit_rows.specs.Words.{AddsWithout, AreFlipped, EachByTwo, EachOrMinus, EachOrMinusPassed, EachWord, bit_of, minus_word, used_bits, words_with_bit};
 
+use crate::Memory;
 use crate::joining::Joining;
+use std::alloc::Global;
 
 /// Each word becomes its disjunction with the other's. It answers whether one changed.
 pub fn or_words(into: &mut [u64], from: &[u64]) -> bool
@@ -38,6 +40,53 @@ pub fn or_minus_words(into: &mut [u64], from: &[u64], less: &[u64]) -> bool
         into[i] = word;
     }
     changed
+}
+
+/// Each word becomes its disjunction with what another has but where a third or a fourth has it and a fifth has not.
+pub fn or_minus_passed_words(
+    into: &mut [u64],
+    from: &[u64],
+    but: &[u64],
+    more: &[u64],
+    less: &[u64],
+)
+    requires from { length into.old ≡ length from.now }
+    requires but { length into.old ≡ length but.now }
+    requires more { length into.old ≡ length more.now }
+    requires less { length into.old ≡ length less.now }
+    ensures len { length into.new ≡ length into.old }
+    ensures each { EachOrMinusPassed (length into.old) into.old from.now but.now more.now less.now
+        into.new }
+{
+    for i in 0..into.len() {
+        into[i] = into[i] | (from[i] & !((but[i] | more[i]) & !less[i]));
+    }
+}
+
+/// Each word gets the bits of another's, and then loses those of a third.
+pub fn or_then_minus_words(into: &mut [u64], more: &[u64], less: &[u64])
+    requires more { length into.old ≡ length more.now }
+    requires less { length into.old ≡ length less.now }
+    ensures len { length into.new ≡ length into.old }
+    ensures each { EachByTwo bit_or minus_word (length into.old) into.old more.now less.now
+        into.new }
+{
+    for i in 0..into.len() {
+        into[i] = (into[i] | more[i]) & !less[i];
+    }
+}
+
+/// Each word loses the bits of another's, and then gets those of a third.
+pub fn minus_then_or_words(into: &mut [u64], less: &[u64], more: &[u64])
+    requires less { length into.old ≡ length less.now }
+    requires more { length into.old ≡ length more.now }
+    ensures len { length into.new ≡ length into.old }
+    ensures each { EachByTwo minus_word bit_or (length into.old) into.old less.now more.now
+        into.new }
+{
+    for i in 0..into.len() {
+        into[i] = (into[i] & !less[i]) | more[i];
+    }
 }
 
 /// Each word becomes its conjunction with the other's.
@@ -77,6 +126,38 @@ pub fn join_words(how: Joining, into: &mut [u64], from: &[u64])
     }
 }
 
+/// Puts words without the bits of others at the end, as many as there are.
+fn push_without(made: &mut Vec<u64>, words: &[u64], less: &[u64]) -> Result<(), Memory>
+    requires { length words.now ≡ length less.now }
+    ensures { OnOk result (AddsWithout made.old.items words.now less.now made.new.items) }
+{
+    let at = made.len();
+    made.extend_from_slice(words)?;
+    minus_words(&mut made[at..], less);
+    Ok(())
+}
+
+/// How many words are put into a list at once, so that they are at hand when they are changed.
+const AT_ONCE: usize = 128;
+
+/// The words of the first without the bits of those of the second.
+pub fn words_without(alloc: Global, words: &[u64], less: &[u64]) -> Result<Vec<u64>, Memory>
+    requires { length words.now ≡ length less.now }
+    ensures len { IfOk result (λ made. length made.items ≡ length words.now) }
+    ensures minus { IfOk result
+        (λ made. EachWord minus_word (length words.now) words.now less.now made.items) }
+{
+    let count = words.len();
+    let mut made = Vec::with_capacity(alloc, count)?;
+    let mut at = 0;
+    while at < count {
+        let end = at + (count - at).min(AT_ONCE);
+        push_without(&mut made, &words[at..end], &less[at..end])?;
+        at = end;
+    }
+    Ok(made)
+}
+
 /// The bits of a word that stand below a number of bits, all set.
 fn used(bits: usize, word: usize) -> u64
     requires { 64 * word < bits }
@@ -92,8 +173,12 @@ pub fn flip_words(bits: usize, words: &mut [u64])
     ensures len { length words.new ≡ length words.old }
     ensures flipped { AreFlipped bits (length words.old) words.old words.new }
 {
-    for i in 0..words.len() {
-        words[i] = !words[i] & used(bits, i);
+    let whole = (bits / 64).min(words.len());
+    for i in 0..whole {
+        words[i] = !words[i];
+    }
+    if whole < words.len() {
+        words[whole] = !words[whole] & used(bits, whole);
     }
 }
 

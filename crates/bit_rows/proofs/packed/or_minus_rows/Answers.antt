@@ -1,5 +1,6 @@
-use Rattle.std.proofs.Common.{◌≡◌, ◌<◌, length, ◌∙◌, inl, inr, arith}
+use Rattle.std.proofs.Common.{◌≡◌, ◌<◌, get_or, length, ◌∙◌, inl, inr, arith}
 use Rattle.std.proofs.lemmas.List.{length-set}
+use Rattle.bit_rows.specs.Words.{minus_word}
 use Rattle.bit_rows.proofs.Splices.{done_more, rest_more, rewrites_within}
 use Rattle.bit_rows.proofs.packed.or_minus_rows.Goals as goal
 
@@ -10,8 +11,8 @@ loop-i-preserved c =
     let early : c.loop-i.i < c.args.stride = c.loop-i-test.true in
     record {
       len = length-set c.loop-i.words _ _ ∙ inv.len;
-      done = done_more c.args.stride c.args.row c.args.from c.loop-i.i c.args.less.now c.args.words.now c.loop-i.words early (omega (arith, c.requires.row)) inv.done inv.rest;
-      rest = rest_more c.args.stride c.args.row c.args.from c.loop-i.i c.args.less.now c.args.words.now c.loop-i.words early (omega (arith, c.requires.row)) inv.done inv.rest;
+      done = done_more (λ k x. minus_word x (get_or c.args.less.now k 0)) c.args.stride c.args.row c.args.from c.loop-i.i c.args.words.now c.loop-i.words early (omega (arith, c.requires.row)) inv.done inv.rest;
+      rest = rest_more (λ k x. minus_word x (get_or c.args.less.now k 0)) c.args.stride c.args.row c.args.from c.loop-i.i c.args.words.now c.loop-i.words early (omega (arith, c.requires.row)) inv.done inv.rest;
     }
 
 pub returns-clause-others : goal.returns-clause-others
