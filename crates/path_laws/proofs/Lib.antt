@@ -14,3 +14,4 @@ pub mod Handed
 pub mod Counting
 pub mod Told
 pub mod Arriving
+pub mod RowsHanded

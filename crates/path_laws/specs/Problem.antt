@@ -1,6 +1,6 @@
 -- A path problem as its functions see it: what holds of it, and what the rows on the way to its answers say. Cited by
 -- contracts.
-use Rattle.std.specs.Prelude.{◌≡◌, ℕ, ◌+◌, ◌*◌, ◌<◌, ◌↔◌, Bool, true, false, List, [], ◌∷◌, length, map, replicate, slice_get, Some}
+use Rattle.std.specs.Prelude.{◌≡◌, ℕ, ◌+◌, ◌*◌, ◌<◌, ◌↔◌, ◌&&◌, ◌||◌, not, Bool, true, false, List, [], ◌∷◌, length, map, replicate, slice_get, Some}
 use Rattle.std.specs.List.{list_any}
 use Rattle.flow_graph.specs.declared.edges.Edge.{Edge}
 use Rattle.flow_graph.specs.Graphs.{IsGraph}
@@ -99,6 +99,10 @@ TakesIn p edge work rows after = (n : ℕ) × (slice_get (orders p edge.target) 
 -- what the row of a node brings to that of the next of its block is joined to that one
 abbrev pub HandsOn : Problem → ℕ → ℕ → List (List Bool) → List (List Bool) → Type 0
 HandsOn p before n rows after = Joined p.bits rows after n (λ b. handed_on p.against (is_seed p b) (is_barred p b) before n (has_bit rows b before))
+
+-- what came to a node and it does not bar, and what it seeds, is joined to the row of the next of its block
+abbrev pub HandsAlong : Problem → ℕ → ℕ → List (List Bool) → List (List Bool) → Type 0
+HandsAlong p before n rows after = Joined p.bits rows after n (λ b. is_seed p b before || (has_bit rows b before && not (is_barred p b before)))
 
 -- the rows of all nodes are answers
 pub record HaveAnswers (p : Problem) (rows : List (List Bool)) : Type 0 where

@@ -29,10 +29,12 @@ pub(crate) fn between(
     requires blocks { AreBlocksOf graph.now.nodes blocks.now }
     ensures { IfOk result (AreBlockEdges against graph.now.nodes blocks.now.lists) }
 {
-    let mut list = Vec::new(alloc);
-    let mut firsts = Vec::new(alloc);
+    let count = blocks.len();
+    // Hardly more than two edges leave a block.
+    let mut list = Vec::with_capacity(alloc, count.saturating_mul(2))?;
+    let mut firsts = Vec::with_capacity(alloc, count.saturating_add(1))?;
     firsts.push(0)?;
-    for block in 0..blocks.len() {
+    for block in 0..count {
         let from = ahead(blocks.nodes(block), against);
         leave(graph, edges, blocks, against, block, from, &mut list)?;
         firsts.push(list.len())?;

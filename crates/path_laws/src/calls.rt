@@ -38,6 +38,25 @@ pub fn forward_all(
     told(alloc, graph, edges, born, stop, Statement::Before)
 }
 
+/// As `forward_all`, with the blocks of `graph` at hand. It fails only with `Memory`.
+pub fn forward_all_over(
+    alloc: Global,
+    graph: &Graph,
+    edges: &Edges,
+    blocks: &Blocks,
+    born: &Rows,
+    stop: &Rows,
+) -> Result<Rows, Memory>
+    requires edges { edges.now ≡ edges_of graph.now.nodes }
+    requires blocks { AreBlocksOf graph.now.nodes blocks.now }
+    requires born { HaveShape graph.now (width born.now) born.now }
+    requires stop { HaveShape graph.now (width born.now) stop.now }
+    ensures shape { IfOk result (HaveShape graph.now (width born.now)) }
+    ensures paths { IfOk result (AreBornBefore graph.now born.now stop.now) }
+{
+    told_over(alloc, graph, edges, blocks, born, stop, Statement::Before)
+}
+
 /// As `forward_all`, with the blocks of `graph` at hand, and counted: `steps` never falls, and rises by at most the
 /// number of edges from the last node of a block to the first of one, times one more than the number of bits. It fails
 /// only with `Memory`, and `steps` is then as it was.
@@ -86,6 +105,25 @@ pub fn backward_all(
     told(alloc, graph, edges, born, stop, Statement::After)
 }
 
+/// As `backward_all`, with the blocks of `graph` at hand. It fails only with `Memory`.
+pub fn backward_all_over(
+    alloc: Global,
+    graph: &Graph,
+    edges: &Edges,
+    blocks: &Blocks,
+    born: &Rows,
+    stop: &Rows,
+) -> Result<Rows, Memory>
+    requires edges { edges.now ≡ edges_of graph.now.nodes }
+    requires blocks { AreBlocksOf graph.now.nodes blocks.now }
+    requires born { HaveShape graph.now (width born.now) born.now }
+    requires stop { HaveShape graph.now (width born.now) stop.now }
+    ensures shape { IfOk result (HaveShape graph.now (width born.now)) }
+    ensures paths { IfOk result (AreBornAfter graph.now born.now stop.now) }
+{
+    told_over(alloc, graph, edges, blocks, born, stop, Statement::After)
+}
+
 /// As `backward_all`, with the blocks of `graph` at hand, and counted: `steps` never falls, and rises by at most the
 /// number of edges from the last node of a block to the first of one, times one more than the number of bits. It fails
 /// only with `Memory`, and `steps` is then as it was.
@@ -129,6 +167,25 @@ pub fn backward_some(
     ensures paths { IfOk result (AreBornAhead graph.now born.now stop.now) }
 {
     told(alloc, graph, edges, born, stop, Statement::Ahead)
+}
+
+/// As `backward_some`, with the blocks of `graph` at hand. It fails only with `Memory`.
+pub fn backward_some_over(
+    alloc: Global,
+    graph: &Graph,
+    edges: &Edges,
+    blocks: &Blocks,
+    born: &Rows,
+    stop: &Rows,
+) -> Result<Rows, Memory>
+    requires edges { edges.now ≡ edges_of graph.now.nodes }
+    requires blocks { AreBlocksOf graph.now.nodes blocks.now }
+    requires born { HaveShape graph.now (width born.now) born.now }
+    requires stop { HaveShape graph.now (width born.now) stop.now }
+    ensures shape { IfOk result (HaveShape graph.now (width born.now)) }
+    ensures paths { IfOk result (AreBornAhead graph.now born.now stop.now) }
+{
+    told_over(alloc, graph, edges, blocks, born, stop, Statement::Ahead)
 }
 
 /// As `backward_some`, with the blocks of `graph` at hand, and counted: `steps` never falls, and rises by at most the
@@ -181,8 +238,27 @@ fn told(
     ensures shape { IfOk result (HaveShape graph.now (width born.now)) }
     ensures told { IfOk result (AreTold statement graph.now born.now stop.now) }
 {
+    let blocks = Blocks::of(alloc, graph, edges)?;
+    told_over(alloc, graph, edges, &blocks, born, stop, statement)
+}
+
+/// The same, with the blocks at hand.
+fn told_over(
+    alloc: Global,
+    graph: &Graph,
+    edges: &Edges,
+    blocks: &Blocks,
+    born: &Rows,
+    stop: &Rows,
+    statement: Statement,
+) -> Result<Rows, Memory>
+    requires rows { AreFlowRows graph.now edges.now born.now stop.now }
+    requires blocks { AreBlocksOf graph.now.nodes blocks.now }
+    ensures shape { IfOk result (HaveShape graph.now (width born.now)) }
+    ensures told { IfOk result (AreTold statement graph.now born.now stop.now) }
+{
     let blank = Blank::new(1);
-    let rows = told_from::<Brand>(alloc, graph, edges, born, stop, blank, statement)?;
+    let rows = told_from::<Brand>(alloc, graph, edges, blocks, born, stop, blank, statement)?;
     Ok(rows)
 }
 
@@ -191,22 +267,23 @@ fn told_from<L: Ledger>(
     alloc: Global,
     graph: &Graph,
     edges: &Edges,
+    blocks: &Blocks,
     born: &Rows,
     stop: &Rows,
     blank: Blank,
     statement: Statement,
 ) -> Result<Rows, Memory>
     requires rows { AreFlowRows graph.now edges.now born.now stop.now }
+    requires blocks { AreBlocksOf graph.now.nodes blocks.now }
     requires name { blank.name ≡ L.name }
     requires parts { blank.parts ≡ L.parts }
     requires some { 0 < blank.parts }
     ensures shape { IfOk result (HaveShape graph.now (width born.now)) }
     ensures told { IfOk result (AreTold statement graph.now born.now stop.now) }
 {
-    let blocks = Blocks::of(alloc, graph, edges)?;
     let mut steps = Steps::<L>::new(blank);
     let steps = &mut steps;
-    told_in(alloc, graph, edges, &blocks, born, stop, steps, statement)
+    told_in(alloc, graph, edges, blocks, born, stop, steps, statement)
 }
 
 /// The same, with the blocks at hand, and counted. The answers of the statement's problem are flipped where it is

@@ -1,7 +1,7 @@
 // The rows of nodes, from what comes out of the blocks.
 ghost use Rattle.std.specs.Prelude.{◌≡◌, ◌+◌, ◌<◌, length, slice_get, IfOk, Some, true};
 ghost use Rattle.path_laws.specs.Paths.{HaveShape};
-ghost use Rattle.path_laws.specs.Problem.{AreAllBetween, AreInitial, AreLed, GrowTo, HandsOn, HaveAnswers, HaveBlockShape, HaveBlocks, HaveFirsts, IsProblem, TakesIn, orders};
+ghost use Rattle.path_laws.specs.Problem.{AreAllBetween, AreInitial, AreLed, GrowTo, HandsAlong, HandsOn, HaveAnswers, HaveBlockShape, HaveBlocks, HaveFirsts, IsProblem, TakesIn, orders};
 
 use crate::bits::Bits;
 use crate::passing::{barred_at, join_seeds, node_at};
@@ -51,8 +51,7 @@ fn seeds(alloc: Global, problem: &Problem<'_>) -> Result<Rows, Memory>
     requires every { problem.now.every ≡ true }
     ensures { IfOk result (AreInitial problem.now) }
 {
-    let mut rows = problem.stop.copied(alloc)?;
-    rows.minus_rows(problem.born);
+    let mut rows = problem.stop.without(alloc, problem.born)?;
     for node in 0..problem.graph.len() {
         if is_end(problem.graph, problem.against, node) {
             join_seeds(problem, &mut rows, node, node);
@@ -133,6 +132,23 @@ fn hand_on(problem: &Problem<'_>, before: usize, node: usize, rows: &mut Rows)
 {
     if problem.against {
         rows.or_minus_within(node, before, &barred_at(problem, node));
+    } else {
+        hand_along(problem, before, node, rows);
+    }
+}
+
+/// The same along the edges: what came to the node before it and is not barred there, and what is seeded there. For
+/// every path both are taken in one pass, but where paths end.
+fn hand_along(problem: &Problem<'_>, before: usize, node: usize, rows: &mut Rows)
+    requires problem { IsProblem problem.now }
+    requires before { before < length problem.now.graph.now.nodes }
+    requires node { node < length problem.now.graph.now.nodes }
+    requires rows { HaveShape problem.now.graph.now problem.now.bits rows.old }
+    ensures { HandsAlong problem.now before node rows.old rows.new }
+{
+    if problem.every && !is_end(problem.graph, problem.against, before) {
+        let stop = problem.stop.row(before);
+        rows.or_passed_within(node, before, &stop, &problem.born.row(before));
     } else {
         rows.or_minus_within(node, before, &barred_at(problem, before));
         join_seeds(problem, rows, node, before);

@@ -29,7 +29,8 @@ mod summaries;
 
 pub use assigned::{assigned_rows, mark_operand, mark_var, push_true};
 pub use calls::{
-    backward_all, backward_all_in, backward_some, backward_some_in, forward_all, forward_all_in,
+    backward_all, backward_all_in, backward_all_over, backward_some, backward_some_in,
+    backward_some_over, forward_all, forward_all_in, forward_all_over,
 };
 pub use gathering::node_keys;
 pub use heads::{backward_some_ends, forward_all_heads};

@@ -45,14 +45,12 @@ pub(crate) fn pass_row(problem: &Problem<'_>, row: &mut Row, node: usize)
     let born = problem.born.row(node);
     let stop = problem.stop.row(node);
     if !problem.every {
-        row.minus_from(&stop);
-        let _changed = row.or_from(&born);
+        row.minus_then_or(&stop, &born);
     } else if is_end(problem.graph, problem.against, node) {
         row.copy_from(&born);
         row.flip();
     } else {
-        let _changed = row.or_from(&stop);
-        row.minus_from(&born);
+        row.or_then_minus(&stop, &born);
     }
 }
 

@@ -1,4 +1,5 @@
-use Rattle.std.proofs.Common.{◌≡◌, ℕ, [], ◌∷◌, ◌++◌, length, ap, arith, ◌∙◌}
+use Rattle.std.proofs.Common.{◌≡◌, ℕ, ◌≤◌, [], ◌∷◌, ◌++◌, length, ap, subst, arith, ◌∙◌}
+use Rattle.path_laws.specs.Between.{AreBetween}
 use Rattle.path_laws.proofs.Leaving.{between_more}
 use Rattle.flow_graph.specs.BlockLaws.{chain_some}
 use Rattle.path_laws.proofs.Places.{flow_within}
@@ -19,3 +20,10 @@ loop-block-preserved c =
     let many : c.len.result ≡ length c.leave.new.list.items = omega (arith, c.len.ensures, c.leave.new.list.ok.0) in
     between_more c.args.against c.args.graph.now.nodes c.args.blocks.now.lists c.loop-block.block c.ahead-from.result c.loop-block.list.items c.leave.new.list.items left.0 c.loop-block.firsts.items c.push-in-loop-block.new.self.items
     c.loop-block.invariant (record { list = c.nodes.result.now; listed = c.nodes.ensures; ahead = c.ahead-from.ensures }) left.2 left.1 (c.in_ok-push-2.ensures.items ∙ ap (λ (k : ℕ). c.loop-block.firsts.items ++ k ∷ []) many)
+
+pub returns : goal.returns
+returns c =
+    let late : length c.args.blocks.now.lists ≤ c.loop-block.block = rw c.len-count.ensures at c.loop-block-test.false in
+    let most : c.loop-block.block ≤ length c.args.blocks.now.lists = rw c.len-count.ensures at c.loop-block.auto.block-end in
+    let all : c.loop-block.block ≡ length c.args.blocks.now.lists = omega (arith, late, most) in
+    subst (λ k. AreBetween c.args.against c.args.graph.now.nodes c.args.blocks.now.lists k c.loop-block.list.items c.loop-block.firsts.items) all c.loop-block.invariant
