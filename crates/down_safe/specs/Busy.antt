@@ -1,6 +1,7 @@
 -- The earliest nodes, and the busy placement, which inserts there. Cited by contracts.
 use Rattle.std.specs.Prelude.{◌≡◌, ◌⊎◌, ◌↔◌, ◌<◌, ℕ, true, List, length}
 use Rattle.mir_base.specs.declared.instructions.Expr.{Expr}
+use Rattle.flow_graph.specs.Blocks.{AreBlocksOf}
 use Rattle.flow_graph.specs.Edges.{IsSplit, edges_of}
 use Rattle.flow_graph.specs.Graphs.{GraphShape}
 use Rattle.flow_graph.specs.Paths.{HasEdge}
@@ -16,6 +17,7 @@ use Rattle.down_safe.specs.declared.safety.Sites.{Sites}
 pub record AreSitesOf (sites : Sites) (table : List Expr) : Type 0 where
   pub split : IsSplit sites.graph.now.nodes
   pub edges_are : sites.edges.now ≡ edges_of sites.graph.now.nodes
+  pub blocks_are : AreBlocksOf sites.graph.now.nodes sites.blocks.now
   pub uses_are : AreRowsOf sites.graph.now table (uses sites.graph.now) sites.uses.now
   pub kills_are : AreRowsOf sites.graph.now table (kills sites.graph.now) sites.kills.now
 

@@ -1,5 +1,6 @@
 // Rows that are made of others, row by row and along the edges.
 ghost use Rattle.std.specs.Prelude.{◌≡◌, length, IfOk};
+ghost use Rattle.flow_graph.specs.Blocks.{AreBlocksOf};
 ghost use Rattle.flow_graph.specs.Edges.{edges_of};
 ghost use Rattle.path_laws.specs.Paths.{AreRows, HaveShape, width};
 ghost use Rattle.down_safe.specs.Bits.{AreAvailableRows, AreFrontierRows, AreEarliestRows};
@@ -7,22 +8,23 @@ ghost use Rattle.down_safe.specs.Bits.{AreAvailableRows, AreFrontierRows, AreEar
 use crate::Sites;
 use bit_rows::Rows;
 use mir_base::Memory;
-use path_laws::{forward_all, some_predecessor};
+use path_laws::{forward_all_over, some_predecessor};
 use std::alloc::Global;
 
 /// At which nodes each bit is available: on every path from Start it was used, and killed neither by that node nor by a
 /// later one.
 pub(crate) fn available_rows(alloc: Global, sites: &Sites<'_>) -> Result<Rows, Memory>
     requires edges { sites.now.edges.now ≡ edges_of sites.now.graph.now.nodes }
+    requires blocks { AreBlocksOf sites.now.graph.now.nodes sites.now.blocks.now }
     requires uses { HaveShape sites.now.graph.now (width sites.now.kills.now) sites.now.uses.now }
     requires kills { HaveShape sites.now.graph.now (width sites.now.kills.now) sites.now.kills.now }
     ensures shape { IfOk result (HaveShape sites.now.graph.now (width sites.now.kills.now)) }
     ensures available { IfOk result
         (AreAvailableRows sites.now.graph.now sites.now.uses.now sites.now.kills.now) }
 {
-    let mut born = sites.uses.copied(alloc)?;
-    born.minus_rows(sites.kills);
-    let rows = forward_all(alloc, sites.graph, sites.edges, &born, sites.kills)?;
+    let born = sites.uses.without(alloc, sites.kills)?;
+    let blocks = sites.blocks;
+    let rows = forward_all_over(alloc, sites.graph, sites.edges, blocks, &born, sites.kills)?;
     Ok(rows)
 }
 

@@ -1,11 +1,12 @@
 // The nodes at which expressions are available, down and earliest.
 ghost use Rattle.std.specs.Prelude.{◌≡◌, IfOk};
+ghost use Rattle.flow_graph.specs.Blocks.{AreBlocksOf};
 ghost use Rattle.flow_graph.specs.Edges.{IsSplit, edges_of};
 ghost use Rattle.down_safe.specs.Busy.{AreBusyRows};
 
 use crate::bits::{available_rows, early_rows};
 use crate::{Busy, DownRule, Sites};
-use flow_graph::{Edges, Graph};
+use flow_graph::{Blocks, Edges, Graph};
 use mir_base::Memory;
 use motion_rewrite::{ExprTable, kill_rows, use_rows};
 use std::alloc::Global;
@@ -25,11 +26,30 @@ pub fn busy<R: DownRule>(
     requires edges { edges.now ≡ edges_of graph.now.nodes }
     ensures { IfOk result (AreBusyRows graph.now table.now (R.is_down rule.now graph.now)) }
 {
+    let blocks = Blocks::of(alloc, graph, edges)?;
+    busy_over(alloc, rule, graph, edges, &blocks, table)
+}
+
+/// The same, with the blocks of `graph` at hand. It fails only with `Memory`.
+pub fn busy_over<R: DownRule>(
+    alloc: Global,
+    rule: &R,
+    graph: &Graph,
+    edges: &Edges,
+    blocks: &Blocks,
+    table: &ExprTable,
+) -> Result<Busy, Memory>
+    requires split { IsSplit graph.now.nodes }
+    requires edges { edges.now ≡ edges_of graph.now.nodes }
+    requires blocks { AreBlocksOf graph.now.nodes blocks.now }
+    ensures { IfOk result (AreBusyRows graph.now table.now (R.is_down rule.now graph.now)) }
+{
     let uses = use_rows(alloc, graph, table)?;
     let kills = kill_rows(alloc, graph, table)?;
     let sites = Sites {
         graph,
         edges,
+        blocks,
         uses: &uses,
         kills: &kills,
     };

@@ -12,7 +12,7 @@ use crate::Sites;
 use bit_rows::Rows;
 use mir_base::Memory;
 use motion_rewrite::ExprTable;
-use path_laws::backward_all;
+use path_laws::backward_all_over;
 use std::alloc::Global;
 
 /// A down rule: at which nodes an expression may be evaluated since what follows uses it. Its meaning, `is_down`, says
@@ -40,7 +40,9 @@ impl DownRule for EveryPath {
     ghost is_down = { λ rule graph e n. IsAnticipatable graph e n };
 
     fn down(&self, alloc: Global, sites: &Sites<'_>, _table: &ExprTable) -> Result<Rows, Memory> {
-        let rows = backward_all(alloc, sites.graph, sites.edges, sites.uses, sites.kills)?;
+        let blocks = sites.blocks;
+        let uses = sites.uses;
+        let rows = backward_all_over(alloc, sites.graph, sites.edges, blocks, uses, sites.kills)?;
         Ok(rows)
     }
 

@@ -1,6 +1,6 @@
 // Where expressions may be evaluated.
 use bit_rows::Rows;
-use flow_graph::{Edges, Graph};
+use flow_graph::{Blocks, Edges, Graph};
 
 /// Where the nodes of a graph use and kill expressions: each has one row for each node, and one bit for each
 /// expression.
@@ -10,6 +10,8 @@ pub struct Sites<'a> {
     pub graph: &'a Graph,
     /// Its edges.
     pub edges: &'a Edges,
+    /// Its blocks.
+    pub blocks: &'a Blocks,
     /// Which expressions each node uses.
     pub uses: &'a Rows,
     /// Which expressions each node kills.

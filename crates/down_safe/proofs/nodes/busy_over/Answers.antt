@@ -8,8 +8,8 @@ use Rattle.motion_rewrite.specs.Placements.{IsAvailable}
 use Rattle.down_safe.specs.Busy.{IsEarliest}
 use Rattle.down_safe.proofs.Alike.{available_alike}
 use Rattle.down_safe.proofs.Earliest.{earliest_from_bit, bit_from_earliest}
-use Rattle.down_safe.proofs.nodes.busy.Goals as goal
-use Rattle.down_safe.proofs.nodes.busy.Goals.{In_ok-early, In_ok-up}
+use Rattle.down_safe.proofs.nodes.busy_over.Goals as goal
+use Rattle.down_safe.proofs.nodes.busy_over.Goals.{In_ok-early, In_ok-up}
 
 -- the rows of kills have a bit for each expression
 in_kills : (g : _) (c : In_ok-up g) (n i : ℕ) (e : Expr) → n < length c.args.graph.now.nodes → slice_get c.args.table.now i ≡ Some e → i < width c.in_ok-kills.kills
@@ -47,6 +47,7 @@ pub down-requires : goal.down-requires
 down-requires g c = record {
   split = c.requires.split;
   edges_are = c.requires.edges;
+  blocks_are = c.requires.blocks;
   uses_are = c.in_ok-uses.ensures;
   kills_are = c.in_ok-kills.ensures;
 }
