@@ -2,6 +2,7 @@
 -- and says by node where it is earliest, used, delayed, latest or isolated. Cited by contracts of private functions.
 use Rattle.std.specs.Prelude.{◌≡◌, ◌⊎◌, ◌&&◌, ℕ, Bool, true, false, not, List}
 use Rattle.flow_graph.specs.declared.nodes.Node.{Node}
+use Rattle.flow_graph.specs.Blocks.{AreBlocksOf}
 use Rattle.flow_graph.specs.Edges.{edges_of}
 use Rattle.flow_graph.specs.Graphs.{GraphShape}
 use Rattle.flow_graph.specs.Paths.{HasEdge}
@@ -24,9 +25,10 @@ IsNeededBit nodes latest uses n = (s : ℕ) × HasEdge nodes n s × BornAhead no
 
 -- ---- all bits
 
--- with the edges of the graph, one row for each node in both, and as many bits in the uses as in these rows
+-- with the edges and the blocks of the graph, one row for each node in both, and as many bits in the uses as in these rows
 pub record AreLikeUses (uses : Uses) (rows : List (List Bool)) : Type 0 where
   pub edges_are : uses.edges.now ≡ edges_of uses.graph.now.nodes
+  pub blocks_are : AreBlocksOf uses.graph.now.nodes uses.blocks.now
   pub rows_are : HaveShape uses.graph.now (width rows) rows
   pub uses_are : HaveShape uses.graph.now (width rows) uses.rows.now
 

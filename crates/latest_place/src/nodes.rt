@@ -6,10 +6,10 @@ ghost use Rattle.path_laws.specs.Paths.{HaveShape, width};
 ghost use Rattle.latest_place.specs.Rows.{AreDelayedRows, AreInsertedRows, AreIsolatedRows, AreLatestRows, AreLikeUses, AreNeededRows, AreReplacedRows};
 
 use bit_rows::Rows;
-use flow_graph::{Edges, Graph};
+use flow_graph::{Blocks, Edges, Graph};
 use mir_base::Memory;
 use motion_rewrite::Placement;
-use path_laws::{backward_some, forward_all, some_successor};
+use path_laws::{backward_some_over, forward_all_over, some_successor};
 use std::alloc::Global;
 
 /// Where the nodes of a graph use each bit.
@@ -17,6 +17,7 @@ use std::alloc::Global;
 pub(crate) struct Uses<'a> {
     pub(crate) graph: &'a Graph,
     pub(crate) edges: &'a Edges,
+    pub(crate) blocks: &'a Blocks,
     pub(crate) rows: &'a Rows,
 }
 
@@ -27,9 +28,9 @@ pub(crate) fn delayed_rows(alloc: Global, uses: &Uses<'_>, early: &Rows) -> Resu
     ensures shape { IfOk result (HaveShape uses.now.graph.now (width early.now)) }
     ensures bits { IfOk result (AreDelayedRows uses.now.graph.now early.now uses.now.rows.now) }
 {
-    let mut born = early.copied(alloc)?;
-    born.minus_rows(uses.rows);
-    let mut rows = forward_all(alloc, uses.graph, uses.edges, &born, uses.rows)?;
+    let born = early.without(alloc, uses.rows)?;
+    let blocks = uses.blocks;
+    let mut rows = forward_all_over(alloc, uses.graph, uses.edges, blocks, &born, uses.rows)?;
     rows.or_rows(early);
     Ok(rows)
 }
@@ -69,9 +70,8 @@ fn needed_rows(alloc: Global, uses: &Uses<'_>, latest: &Rows) -> Result<Rows, Me
     ensures shape { IfOk result (HaveShape uses.now.graph.now (width latest.now)) }
     ensures bits { IfOk result (AreNeededRows uses.now.graph.now latest.now uses.now.rows.now) }
 {
-    let mut born = uses.rows.copied(alloc)?;
-    born.minus_rows(latest);
-    let ahead = backward_some(alloc, uses.graph, uses.edges, &born, latest)?;
+    let born = uses.rows.without(alloc, latest)?;
+    let ahead = backward_some_over(alloc, uses.graph, uses.edges, uses.blocks, &born, latest)?;
     let needed = some_successor(alloc, uses.graph, uses.edges, &ahead)?;
     Ok(needed)
 }

@@ -1,5 +1,6 @@
 // How far the expressions of a table can be delayed, and their lazy placement.
 ghost use Rattle.std.specs.Prelude.{◌≡◌, length, IfOk};
+ghost use Rattle.flow_graph.specs.Blocks.{AreBlocksOf};
 ghost use Rattle.flow_graph.specs.Edges.{IsSplit, edges_of};
 ghost use Rattle.path_laws.specs.Paths.{HaveShape};
 ghost use Rattle.motion_rewrite.specs.Expressions.{uses};
@@ -11,8 +12,8 @@ ghost use Rattle.latest_place.specs.Lazy.{AreLateRows, AreLazy};
 use crate::Late;
 use crate::nodes::{Uses, delayed_rows, isolated_rows, latest_rows, placement_of};
 use bit_rows::Rows;
-use down_safe::{Busy, DownRule, busy};
-use flow_graph::{Edges, Graph};
+use down_safe::{Busy, DownRule, busy_over};
+use flow_graph::{Blocks, Edges, Graph};
 use mir_base::Memory;
 use motion_rewrite::{ExprTable, Placement};
 use std::alloc::Global;
@@ -33,16 +34,34 @@ pub fn late<R: DownRule>(
     requires edges { edges.now ≡ edges_of graph.now.nodes }
     ensures { IfOk result (AreLateRows graph.now table.now (R.is_down rule.now graph.now)) }
 {
+    let blocks = Blocks::of(alloc, graph, edges)?;
+    late_over(alloc, rule, graph, edges, &blocks, table)
+}
+
+/// The same, with the blocks of the graph at hand.
+fn late_over<R: DownRule>(
+    alloc: Global,
+    rule: &R,
+    graph: &Graph,
+    edges: &Edges,
+    blocks: &Blocks,
+    table: &ExprTable,
+) -> Result<Late, Memory>
+    requires split { IsSplit graph.now.nodes }
+    requires edges { edges.now ≡ edges_of graph.now.nodes }
+    requires blocks { AreBlocksOf graph.now.nodes blocks.now }
+    ensures { IfOk result (AreLateRows graph.now table.now (R.is_down rule.now graph.now)) }
+{
     let Busy {
         uses: used,
         up,
         down,
         early,
-    } = busy(alloc, rule, graph, edges, table)?;
+    } = busy_over(alloc, rule, graph, edges, blocks, table)?;
     // Rows that are not asked again are dropped at once: where they are wide each set of them is large.
     mem::drop(up);
     mem::drop(down);
-    let late = delays(alloc, rule, graph, edges, table, used, early)?;
+    let late = delays_over(alloc, rule, graph, edges, blocks, table, used, early)?;
     Ok(late)
 }
 
@@ -84,11 +103,35 @@ fn delays<R: DownRule>(
         (λ e. IsEarliest graph.now e (R.is_down rule.now graph.now e)) early }
     ensures { IfOk result (AreLateRows graph.now table.now (R.is_down rule.now graph.now)) }
 {
+    let blocks = Blocks::of(alloc, graph, edges)?;
+    delays_over(alloc, rule, graph, edges, &blocks, table, used, early)
+}
+
+/// The same, with the blocks of the graph at hand.
+fn delays_over<R: DownRule>(
+    alloc: Global,
+    rule: &R,
+    graph: &Graph,
+    edges: &Edges,
+    blocks: &Blocks,
+    table: &ExprTable,
+    used: Rows,
+    early: Rows,
+) -> Result<Late, Memory>
+    requires split { IsSplit graph.now.nodes }
+    requires edges { edges.now ≡ edges_of graph.now.nodes }
+    requires blocks { AreBlocksOf graph.now.nodes blocks.now }
+    requires used_are { AreRowsOf graph.now table.now (uses graph.now) used }
+    requires early_are { AreRowsWhere graph.now table.now
+        (λ e. IsEarliest graph.now e (R.is_down rule.now graph.now e)) early }
+    ensures { IfOk result (AreLateRows graph.now table.now (R.is_down rule.now graph.now)) }
+{
     let _ = rule;
     let _ = table;
     let uses = Uses {
         graph,
         edges,
+        blocks,
         rows: &used,
     };
     let delayed = delayed_rows(alloc, &uses, &early)?;

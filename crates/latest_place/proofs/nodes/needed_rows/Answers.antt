@@ -1,18 +1,23 @@
-use Rattle.std.proofs.Common.{◌≡◌, ◌<◌, ◌&&◌, not, ℕ, Bool, List, length, sym, ap, subst, arith, ◌∙◌}
+use Rattle.std.proofs.Common.{◌≡◌, ◌&&◌, not, ℕ, length, sym, subst}
 use Rattle.std.proofs.Math.Path.{fun_ext}
-use Rattle.path_laws.specs.Paths.{BornAhead, has_bit, width}
-use Rattle.latest_place.proofs.Combined.{copy_width}
+use Rattle.path_laws.specs.Paths.{AreRows, BornAhead, has_bit, width}
+use Rattle.path_laws.specs.RowLaws.{are_alike, like_rows, width_is}
 use Rattle.latest_place.proofs.nodes.needed_rows.Goals as goal
+use Rattle.latest_place.proofs.nodes.needed_rows.Goals.{In_ok-born}
+
+pub without-requires : goal.without-requires
+without-requires c = are_alike (length c.args.uses.now.graph.now.nodes) (width c.args.latest.now) c.args.uses.now.rows.now c.args.latest.now c.requires.uses_are c.requires.rows_are
+
+born_shape : (c : In_ok-born) → AreRows (length c.args.uses.now.graph.now.nodes) (width c.args.latest.now) c.in_ok-born.born
+born_shape c = like_rows (length c.args.uses.now.graph.now.nodes) (width c.args.latest.now) c.args.uses.now.rows.now c.in_ok-born.born c.requires.uses_are c.in_ok-born.ensures.alike
 
 pub returns-clause-bits : goal.returns-clause-bits
 returns-clause-bits c = λ n b h l.
     let nodes = c.args.uses.now.graph.now.nodes in
     let latest = has_bit c.args.latest.now b in
-    let born : has_bit c.minus_rows.new.self b ≡ (λ (m : ℕ). has_bit c.args.uses.now.rows.now b m && not (has_bit c.args.latest.now b m)) =
-    fun_ext (λ m. c.minus_rows.ensures.bits m b ∙ ap (λ (rows : List (List Bool)). has_bit rows b m && not (has_bit c.args.latest.now b m)) c.in_ok-born.ensures) in
-    let copy : width c.minus_rows.new.self ≡ width c.args.uses.now.rows.now = copy_width c.in_ok-born.born c.args.uses.now.rows.now c.minus_rows.new.self c.in_ok-born.ensures c.minus_rows.ensures.alike n (rw c.requires.uses_are.len h) in
-    let some : 0 < length c.args.uses.now.graph.now.nodes = omega arith in
-    let wide : width c.minus_rows.new.self ≡ width c.args.latest.now = copy ∙ c.requires.uses_are.each 0 some in
+    let known = (goal.at.returns-clause-bits c).In_ok-born in
+    let born : has_bit c.in_ok-born.born b ≡ (λ (m : ℕ). has_bit c.args.uses.now.rows.now b m && not (has_bit c.args.latest.now b m)) = fun_ext (λ m. c.in_ok-born.ensures.bits m b) in
+    let wide : width c.in_ok-born.born ≡ width c.args.latest.now = width_is (length nodes) (width c.args.latest.now) n c.in_ok-born.born (born_shape known) h in
     let joins = c.in_ok-needed.ensures.joins n b h in
     let graph = c.in_ok-needed.ensures.graph in (
       λ on.

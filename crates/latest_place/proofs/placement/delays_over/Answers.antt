@@ -6,8 +6,8 @@ use Rattle.path_laws.specs.RowLaws.{rows_as_many}
 use Rattle.latest_place.specs.SplitFacts.{split_facts}
 use Rattle.latest_place.proofs.Combined.{like_uses}
 use Rattle.latest_place.proofs.Reading.{AreLateBits, delayed_says, isolated_says, latest_says}
-use Rattle.latest_place.proofs.placement.delays.Goals as goal
-use Rattle.latest_place.proofs.placement.delays.Goals.{In_ok-delayed, In_ok-latest, In_ok-isolated}
+use Rattle.latest_place.proofs.placement.delays_over.Goals as goal
+use Rattle.latest_place.proofs.placement.delays_over.Goals.{In_ok-delayed, In_ok-latest, In_ok-isolated}
 
 -- one shape, from the earliest nodes on
 delayed_shape : (g : _) (c : In_ok-delayed g) → AreRows (length c.args.graph.now.nodes) (length c.args.table.now) c.in_ok-delayed.delayed
@@ -34,15 +34,15 @@ bits_are g c i e at =
     }
 
 pub delayed_rows-requires : goal.delayed_rows-requires
-delayed_rows-requires g c = like_uses _ (length c.args.table.now) c.args.early c.requires.edges c.requires.early_are.shape c.requires.used_are.shape
+delayed_rows-requires g c = like_uses _ (length c.args.table.now) c.args.early c.requires.edges c.requires.blocks c.requires.early_are.shape c.requires.used_are.shape
 
 pub latest_rows-requires : goal.latest_rows-requires
 latest_rows-requires g c =
-    like_uses _ (length c.args.table.now) c.in_ok-delayed.delayed c.requires.edges (delayed_shape g (goal.at.latest_rows-requires g c).In_ok-delayed) c.requires.used_are.shape
+    like_uses _ (length c.args.table.now) c.in_ok-delayed.delayed c.requires.edges c.requires.blocks (delayed_shape g (goal.at.latest_rows-requires g c).In_ok-delayed) c.requires.used_are.shape
 
 pub isolated_rows-requires : goal.isolated_rows-requires
 isolated_rows-requires g c =
-    like_uses _ (length c.args.table.now) c.in_ok-latest.latest c.requires.edges (latest_shape g (goal.at.isolated_rows-requires g c).In_ok-latest) c.requires.used_are.shape
+    like_uses _ (length c.args.table.now) c.in_ok-latest.latest c.requires.edges c.requires.blocks (latest_shape g (goal.at.isolated_rows-requires g c).In_ok-latest) c.requires.used_are.shape
 
 pub returns : goal.returns
 returns g c =
