@@ -43,7 +43,26 @@ pub(crate) fn early_rows(
     ensures early { IfOk result
         (AreEarliestRows sites.now.graph.now sites.now.kills.now up.now down.now) }
 {
-    let frontier = frontier_rows(alloc, sites.kills, up, down)?;
+    let frontier = up.copied(alloc)?;
+    early_rows_of(alloc, sites, frontier, down)
+}
+
+/// The same where the rows of bits that are up are not asked again, and become those of frontiers.
+pub(crate) fn early_rows_of(
+    alloc: Global,
+    sites: &Sites<'_>,
+    up: Rows,
+    down: &Rows,
+) -> Result<Rows, Memory>
+    requires edges { sites.now.edges.now ≡ edges_of sites.now.graph.now.nodes }
+    requires kills { HaveShape sites.now.graph.now (width sites.now.kills.now) sites.now.kills.now }
+    requires up { HaveShape sites.now.graph.now (width sites.now.kills.now) up }
+    requires down { HaveShape sites.now.graph.now (width sites.now.kills.now) down.now }
+    ensures shape { IfOk result (HaveShape sites.now.graph.now (width sites.now.kills.now)) }
+    ensures early { IfOk result
+        (AreEarliestRows sites.now.graph.now sites.now.kills.now up down.now) }
+{
+    let frontier = frontier_rows(sites.kills, up, down);
     let mut rows = some_predecessor(alloc, sites.graph, sites.edges, &frontier)?;
     rows.and_rows(down);
     Ok(rows)
@@ -51,16 +70,16 @@ pub(crate) fn early_rows(
 
 /// For which bits a node is a frontier, before which no evaluation of them moves up: those that it kills, and those
 /// that are neither up nor down there.
-fn frontier_rows(alloc: Global, kills: &Rows, up: &Rows, down: &Rows) -> Result<Rows, Memory>
+fn frontier_rows(kills: &Rows, up: Rows, down: &Rows) -> Rows
     requires kills { AreRows (length kills.now) (width kills.now) kills.now }
-    requires up { AreRows (length kills.now) (width kills.now) up.now }
+    requires up { AreRows (length kills.now) (width kills.now) up }
     requires down { AreRows (length kills.now) (width kills.now) down.now }
-    ensures shape { IfOk result (AreRows (length kills.now) (width kills.now)) }
-    ensures bits { IfOk result (AreFrontierRows kills.now up.now down.now) }
+    ensures shape { AreRows (length kills.now) (width kills.now) result }
+    ensures bits { AreFrontierRows kills.now up down.now result }
 {
-    let mut rows = up.copied(alloc)?;
+    let mut rows = up;
     rows.or_rows(down);
     rows.flip_rows(0);
     rows.or_rows(kills);
-    Ok(rows)
+    rows
 }

@@ -14,7 +14,7 @@ mod placement;
 mod rule;
 mod safety;
 
-pub use nodes::{busy, busy_over};
+pub use nodes::{busy, busy_over, earliest_over};
 pub use placement::busy_placement;
 pub use rule::{DownRule, EveryPath};
-pub use safety::{Busy, Sites};
+pub use safety::{Busy, EarlySites, Sites};

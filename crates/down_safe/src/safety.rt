@@ -30,3 +30,12 @@ pub struct Busy {
     /// Where it is earliest: down, with a predecessor that kills it or is not safe.
     pub early: Rows,
 }
+
+/// Where expressions are used and earliest: each has one row for each node of a graph, and one bit for each expression.
+#[derive(Drop)]
+pub struct EarlySites {
+    /// Where an expression is used.
+    pub uses: Rows,
+    /// Where it is earliest: down by the rule, with a predecessor that kills it or is not safe.
+    pub early: Rows,
+}

@@ -12,7 +12,7 @@ ghost use Rattle.latest_place.specs.Lazy.{AreLateRows, AreLazy};
 use crate::Late;
 use crate::nodes::{Uses, delayed_rows, isolated_rows, latest_rows, placement_of};
 use bit_rows::Rows;
-use down_safe::{Busy, DownRule, busy_over};
+use down_safe::{Busy, DownRule, EarlySites, earliest_over};
 use flow_graph::{Blocks, Edges, Graph};
 use mir_base::Memory;
 use motion_rewrite::{ExprTable, Placement};
@@ -52,15 +52,7 @@ fn late_over<R: DownRule>(
     requires blocks { AreBlocksOf graph.now.nodes blocks.now }
     ensures { IfOk result (AreLateRows graph.now table.now (R.is_down rule.now graph.now)) }
 {
-    let Busy {
-        uses: used,
-        up,
-        down,
-        early,
-    } = busy_over(alloc, rule, graph, edges, blocks, table)?;
-    // Rows that are not asked again are dropped at once: where they are wide each set of them is large.
-    mem::drop(up);
-    mem::drop(down);
+    let EarlySites { uses: used, early } = earliest_over(alloc, rule, graph, edges, blocks, table)?;
     let late = delays_over(alloc, rule, graph, edges, blocks, table, used, early)?;
     Ok(late)
 }

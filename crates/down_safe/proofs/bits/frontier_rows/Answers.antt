@@ -1,5 +1,5 @@
--- The rows are made of a copy by one operation on all rows after another.
-use Rattle.std.proofs.Common.{◌≡◌, ◌<◌, ◌||◌, not, Bool, List, length, ap, arith, ◌∙◌}
+-- The rows are made of those given by one operation on all rows after another.
+use Rattle.std.proofs.Common.{◌≡◌, ◌<◌, ◌||◌, not, length, ap, arith, ◌∙◌}
 use Rattle.std.proofs.Math.Bool.{or_comm}
 use Rattle.bit_rows.specs.Bits.{row_of}
 use Rattle.path_laws.specs.Paths.{has_bit, width}
@@ -7,10 +7,8 @@ use Rattle.down_safe.proofs.bits.frontier_rows.Goals as goal
 
 pub returns-clause-bits : goal.returns-clause-bits
 returns-clause-bits c = λ n b h l.
-    let copy : c.in_ok-rows.rows ≡ c.args.up.now = c.in_ok-rows.ensures in
-    let up_len : length c.in_ok-rows.rows ≡ length c.args.kills.now = rw copy c.requires.up.len in
-    let in_up : n < length c.in_ok-rows.rows = rw up_len h in
-    let up_row : length (row_of c.in_ok-rows.rows n) ≡ width c.args.kills.now = rw copy (c.requires.up.each n h) in
-    let up_or_down = c.or_rows.ensures.bits n b ∙ ap (λ (rows : List (List Bool)). has_bit rows b n || has_bit c.args.down.now b n) copy in
+    let in_up : n < length c.args.up = rw c.requires.up.len h in
+    let up_row : length (row_of c.args.up n) ≡ width c.args.kills.now = c.requires.up.each n h in
+    let up_or_down = c.or_rows.ensures.bits n b in
     let neither = c.flip_rows.ensures.bits n b (omega arith) (rw c.or_rows.ensures.alike.len in_up) (rw (c.or_rows.ensures.alike.each n in_up, up_row) l) ∙ ap not up_or_down in
-    c.or_rows-2.ensures.bits n b ∙ ap (λ x. x || has_bit c.args.kills.now b n) neither ∙ or_comm (not (has_bit c.args.up.now b n || has_bit c.args.down.now b n)) (has_bit c.args.kills.now b n)
+    c.or_rows-2.ensures.bits n b ∙ ap (λ x. x || has_bit c.args.kills.now b n) neither ∙ or_comm (not (has_bit c.args.up b n || has_bit c.args.down.now b n)) (has_bit c.args.kills.now b n)
