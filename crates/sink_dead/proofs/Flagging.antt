@@ -25,7 +25,7 @@ use Rattle.path_laws.specs.Paths.{AreRows, has_bit}
 use Rattle.sink_dead.specs.Accesses.{assigns_at, assigns_var, reads_at, reads_var}
 use Rattle.sink_dead.specs.Dead.{AreAccessesTo, AreFlaggedTo, AreLiveAfterFrom, PassesBack, TellDead, is_dead_by, live_past}
 use Rattle.sink_dead.specs.LiveRows.{IsMarkedAt, assigned_vars}
-use Rattle.sink_dead.specs.Liveness.{IsLiveAfter}
+use Rattle.sink_dead.specs.Liveness.{IsLiveAfter, IsLiveBefore}
 use Rattle.sink_dead.specs.Pruned.{IsDeadAt}
 use Rattle.sink_dead.specs.VarLaws.{assigned_is_in}
 use Rattle.sink_dead.proofs.LiveBlocks.{any_reverse, live_back, live_glued, past_first}
@@ -89,8 +89,14 @@ module _ (graph : GraphShape) (is_graph : IsGraph graph.vars graph.received grap
 -- ---- the nodes of a block, as far as a loop has come
 
 module _ (graph : GraphShape) (lists : List (List ℕ)) (block : ℕ) (list : List ℕ) where
-  -- the last nodes of the list are flagged, so many of them; the row of the block tells what is live after the one
-  -- before these
+  -- the row of the block is passed back over the last nodes of the list, so many of them: it tells what is live after the
+  -- one before these
+  pub record AreLiveBack (back : ℕ) (live : List (List Bool)) : Type 0 where
+    pub shape : AreRows (length lists) (length graph.vars) live
+    pub later : (b x last : ℕ) (other : List ℕ) → block < b → x < length graph.vars → slice_get lists b ≡ Some other → Ends last other → (has_bit live x b ≡ true) ↔ IsLiveAfter graph x last
+    pub here : (place n x : ℕ) → place + back + 1 ≡ length list → slice_get list place ≡ Some n → x < length graph.vars → (has_bit live x block ≡ true) ↔ IsLiveAfter graph x n
+
+  -- and these nodes are flagged
   pub record AreFlaggedBack (back : ℕ) (live : List (List Bool)) (dead : List Bool) : Type 0 where
     pub shape : AreRows (length lists) (length graph.vars) live
     pub later : (b x last : ℕ) (other : List ℕ) → block < b → x < length graph.vars → slice_get lists b ≡ Some other → Ends last other → (has_bit live x b ≡ true) ↔ IsLiveAfter graph x last
@@ -116,8 +122,8 @@ module _ (graph : GraphShape) (lists : List (List ℕ)) (block : ℕ) (list : Li
     node_within place n at = chain_within graph.nodes list place n (λ m k edge. edge_within graph.nodes m k edge) (are.blocks block list is_block).chain at
 
     -- what is not yet passed back over any node tells what is live after the last
-    pub flagged_none : (live : List (List Bool)) (dead : List Bool) → AreLiveAfterFrom graph lists block live → AreFlaggedTo graph lists block dead → AreFlaggedBack 0 live dead
-    flagged_none live dead after before = record {
+    pub live_none : (live : List (List Bool)) → AreLiveAfterFrom graph lists block live → AreLiveBack 0 live
+    live_none live after = record {
       shape = after.shape;
       later = λ b x last other lt x_in at ends. after.are b x last other (omega (arith, lt)) x_in at ends;
       here = λ place n x whole at x_in.
@@ -127,26 +133,55 @@ module _ (graph : GraphShape) (lists : List (List ℕ)) (block : ℕ) (list : Li
           let both : Some n ≡ Some ends.0 = sym at ∙ ap (slice_get list) same_place ∙ last in
           let same : ends.0 ≡ n = cc in
           subst (λ k. (has_bit live x block ≡ true) ↔ IsLiveAfter graph x k) same (after.are block x ends.0 list (omega arith) x_in is_block ends.1);
-      long = before.long;
-      early = before.are;
-      these = λ place n flag far at is. absurd (omega (arith, far, slice_get_within list place n at));
     }
+
+    module _ (back place n : ℕ) (node : Node) (live new : List (List Bool)) (before : AreLiveBack back live) (whole : place + back + 1 ≡ length list) (at : slice_get list place ≡ Some n) (node_is : slice_get graph.nodes n ≡ Some node) (passes : PassesBack graph node block live new) where
+      -- passed back over one node more it tells what is live before this one
+      pub live_told : (x : ℕ) → x < length graph.vars → (has_bit new x block ≡ true) ↔ IsLiveBefore graph x n
+      live_told x x_in =
+          let before_it = live_back graph x n (has_bit live x block) (node_within place n at) (before.here place n x whole at x_in) in
+          let bit = passed_bit graph node n block x live new node_is passes in
+          (λ h. before_it.0 (sym bit ∙ h), λ lives. bit ∙ before_it.1 lives)
+
+      -- and so what is live after the one before it
+      pub live_more : AreLiveBack (back + 1) new
+      live_more = record {
+        shape = record { len = passes.len ∙ before.shape.len; each = λ m m_in. passes.each m ∙ before.shape.each m m_in };
+        later = λ b x last other lt x_in listed ends. subst (λ h. (h ≡ true) ↔ IsLiveAfter graph x last) (sym (passed_other graph node block b x live new (λ e. absurd (omega (arith, lt, e))) passes)) (before.later b x last other lt x_in listed ends);
+        here = λ earlier m x whole' m_at x_in.
+            let next : suc earlier ≡ place = omega (arith, whole, whole') in
+            let inner = chain_inner graph.nodes list earlier n (are.blocks block list is_block).chain (ap (slice_get list) next ∙ at) in
+            let both : Some inner.0 ≡ Some m = sym inner.1 ∙ m_at in
+            let same : inner.0 ≡ m = cc in
+            let told = live_told x x_in in
+            let on = live_glued graph x inner.0 n inner.2 in
+            subst (λ k. (has_bit new x block ≡ true) ↔ IsLiveAfter graph x k) same (λ h. on.0 (told.0 h), λ lives. told.1 (on.1 lives));
+      }
+
+    -- once it is passed back over all the block is done
+    pub live_done : (back : ℕ) (live : List (List Bool)) → AreLiveBack back live → AreLiveAfterFrom graph lists (block + 1) live
+    live_done back live all = record { shape = all.shape; are = λ b x last other le x_in listed ends. all.later b x last other (omega (arith, le)) x_in listed ends }
+
+    -- no node is flagged yet
+    pub flagged_none : (live : List (List Bool)) (dead : List Bool) → AreLiveAfterFrom graph lists block live → AreFlaggedTo graph lists block dead → AreFlaggedBack 0 live dead
+    flagged_none live dead after before =
+        let none = live_none live after in
+        record {
+          shape = none.shape;
+          later = none.later;
+          here = none.here;
+          long = before.long;
+          early = before.are;
+          these = λ place n flag far at is. absurd (omega (arith, far, slice_get_within list place n at));
+        }
 
     -- one node more is flagged
     pub flagged_more : (back place n : ℕ) (node : Node) (live new : List (List Bool)) (dead more : List Bool) → AreFlaggedBack back live dead → place + back + 1 ≡ length list → slice_get list place ≡ Some n → slice_get graph.nodes n ≡ Some node
         → more ≡ slice_set dead n (is_dead_by live block node) → PassesBack graph node block live new → AreFlaggedBack (back + 1) new more
     flagged_more back place n node live new dead more before whole at node_is more_is passes = record {
-      shape = record { len = passes.len ∙ before.shape.len; each = λ m m_in. passes.each m ∙ before.shape.each m m_in };
-      later = λ b x last other lt x_in listed ends. subst (λ h. (h ≡ true) ↔ IsLiveAfter graph x last) (sym (passed_other graph node block b x live new (λ e. absurd (omega (arith, lt, e))) passes)) (before.later b x last other lt x_in listed ends);
-      here = λ earlier m x whole' m_at x_in.
-          let next : suc earlier ≡ place = omega (arith, whole, whole') in
-          let inner = chain_inner graph.nodes list earlier n (are.blocks block list is_block).chain (ap (slice_get list) next ∙ at) in
-          let both : Some inner.0 ≡ Some m = sym inner.1 ∙ m_at in
-          let same : inner.0 ≡ m = cc in
-          let before_it = live_back graph x n (has_bit live x block) (node_within place n at) (before.here place n x whole at x_in) in
-          let on = live_glued graph x inner.0 n inner.2 in
-          let bit = passed_bit graph node n block x live new node_is passes in
-          subst (λ k. (has_bit new x block ≡ true) ↔ IsLiveAfter graph x k) same (λ h. on.0 (before_it.0 (sym bit ∙ h)), λ lives. bit ∙ before_it.1 (on.1 lives));
+      shape = on.shape;
+      later = on.later;
+      here = on.here;
       long = ap length more_is ∙ length-set dead n (is_dead_by live block node) ∙ before.long;
       early = λ b m flag lt stands is. flag_told m flag is (λ old. before.early b m flag lt stands old);
       these = λ p m flag far m_at is. elim (cases_eq p place) as (λ _. (flag ≡ true) ↔ IsDeadAt graph m) [
@@ -155,6 +190,9 @@ module _ (graph : GraphShape) (lists : List (List ℕ)) (block : ℕ) (list : Li
       ];
     }
       where
+        on : AreLiveBack (back + 1) new
+        on = live_more back place n node live new (record { shape = before.shape; later = before.later; here = before.here }) whole at node_is passes
+
         told : (is_dead_by live block node ≡ true) ↔ IsDeadAt graph n
         told = dead_told graph is_graph live block n (λ x x_in. before.here place n x whole at x_in) node node_is
 
@@ -174,7 +212,7 @@ module _ (graph : GraphShape) (lists : List (List ℕ)) (block : ℕ) (list : Li
 
     -- once all are flagged the block is done
     pub flagged_live : (back : ℕ) (live : List (List Bool)) (dead : List Bool) → AreFlaggedBack back live dead → AreLiveAfterFrom graph lists (block + 1) live
-    flagged_live back live dead all = record { shape = all.shape; are = λ b x last other le x_in listed ends. all.later b x last other (omega (arith, le)) x_in listed ends }
+    flagged_live back live dead all = live_done back live (record { shape = all.shape; later = all.later; here = all.here })
 
     pub flagged_dead : (back : ℕ) (live : List (List Bool)) (dead : List Bool) → length list ≤ back → AreFlaggedBack back live dead → AreFlaggedTo graph lists (block + 1) dead
     flagged_dead back live dead late all = record {

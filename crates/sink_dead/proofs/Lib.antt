@@ -33,6 +33,7 @@ pub mod Chosen
 pub mod Flagged
 pub mod LiveBlocks
 pub mod Flagging
+pub mod LiveNodes
 pub mod Stops
 pub mod FoundAll
 pub mod GoesOn

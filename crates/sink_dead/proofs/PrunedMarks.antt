@@ -1,24 +1,20 @@
--- Rows of what nodes read and assign: marks of one node, and of the nodes as far as a loop has come.
-use Rattle.std.proofs.Common.{◌≡◌, ◌≢◌, ℕ, zero, suc, ◌+◌, ◌<◌, ◌≤◌, ◌||◌, ◌&&◌, not, if◌then◌else◌, Bool, true, false, nat_eq, List, [], ◌∷◌, ◌++◌, length, get_or, replicate, set, take, slice_get, Option, Some, None, inl, inr, refl, sym, ap, ◌∙◌, subst, arith, get_or-set_same, get_or-set_other}
-use Rattle.std.proofs.Math.Bool.{and-false, or-false}
-use Rattle.std.proofs.Math.Path.{fun_ext}
-use Rattle.std.proofs.lemmas.Bool.{cases_eq, cases_lt, eq-eqb, ne_eqb}
-use Rattle.std.proofs.lemmas.List.{get_or-replicate, length-replicate, length-set, length-take}
-use Rattle.std.proofs.lemmas.Option.{slice_get_past}
+-- Marks of what one node reads and assigns, in rows.
+use Rattle.std.proofs.Common.{◌≡◌, ◌≢◌, ℕ, zero, suc, ◌+◌, ◌<◌, ◌||◌, ◌&&◌, not, if◌then◌else◌, Bool, true, false, nat_eq, List, [], ◌∷◌, ◌++◌, length, get_or, replicate, set, inl, inr, refl, sym, ap, ◌∙◌, subst, get_or-set_same, get_or-set_other}
+use Rattle.std.proofs.Math.Bool.{and-false}
+use Rattle.std.proofs.lemmas.Bool.{cases_eq, eq-eqb, ne_eqb}
+use Rattle.std.proofs.lemmas.List.{get_or-replicate, length-replicate, length-set}
 use Rattle.mir_base.specs.Frames.{shared_vars}
 use Rattle.bit_rows.specs.Bits.{row_of}
 use Rattle.flow_graph.specs.declared.nodes.Node.{Node}
 use Rattle.flow_graph.specs.declared.nodes.Node.TheVariants.{Start, Skip, Assign, Print, Guard, Call, Test, Return}
 use Rattle.flow_graph.specs.Graphs.{GraphShape, node_reads}
-use Rattle.flow_graph.specs.ListLaws.{get_take}
 use Rattle.flow_graph.specs.Numbering.{is_in}
 use Rattle.path_laws.specs.KeyRowLaws.{false_bit}
 use Rattle.path_laws.specs.Paths.{AreRows, has_bit}
 use Rattle.sink_dead.specs.Dead.{PassesBack}
-use Rattle.sink_dead.specs.Accesses.{assigns_at, assigns_var, reads_at, reads_var}
-use Rattle.sink_dead.specs.LiveRows.{AreMarked, IsMarkedAt, assigned_vars, vars_of}
+use Rattle.sink_dead.specs.LiveRows.{IsMarkedAt, assigned_vars}
 use Rattle.sink_dead.specs.Places.{touches_none}
-use Rattle.sink_dead.specs.VarLaws.{assigned_is_in, is_in_append, shared_more}
+use Rattle.sink_dead.specs.VarLaws.{is_in_append, shared_more}
 
 -- ---- truth values
 
@@ -129,7 +125,7 @@ marks_none value graph node n rows e = subst (λ xs. IsMarkedAt value n xs rows 
 pub passes_none : (graph : GraphShape) (node : Node) (n : ℕ) (rows : List (List Bool)) → touches_none node ≡ true → PassesBack graph node n rows rows
 passes_none graph node n rows e = passes_back graph node n rows rows rows (marks_none false graph node n rows e) (subst (λ xs. IsMarkedAt true n xs rows rows) (sym (touched_none graph node e).0) (marked_none true n rows))
 
--- ---- the nodes as far as a loop has come
+-- ---- shapes
 
 -- rows of false bits have their shape
 pub false_rows : (nodes bits : ℕ) → AreRows nodes bits (replicate nodes (replicate bits false))
@@ -144,51 +140,6 @@ no_bits zero bits n x = refl
 no_bits (suc nodes) bits zero x = false_bit bits x
 no_bits (suc nodes) bits (suc n) x = no_bits nodes bits n x
 
--- so they mark no node
-pub none_marked : (vars : Node → List ℕ) (all : List Node) (nodes bits : ℕ) → AreMarked vars (take 0 all) (replicate nodes (replicate bits false))
-none_marked vars all nodes bits = λ n x. no_bits nodes bits n x
-
--- one node more
-pub marked_more : (vars : Node → List ℕ) (nodes : List Node) (n : ℕ) (node : Node) (old new : List (List Bool)) → slice_get nodes n ≡ Some node → AreMarked vars (take n nodes) old → IsMarkedAt true n (vars node) old new → AreMarked vars (take (n + 1) nodes) new
-marked_more vars nodes n node old new at before marked m x =
-    marked_or n (vars node) old new marked m x ∙ ap (λ b. b || (nat_eq n m && is_in x (vars node))) (before m x) ∙ elim (cases_eq m n) [
-      | inl same ↦
-          ap (λ o. is_in x (vars_of vars o) || (nat_eq n m && is_in x (vars node))) (slice_get_past (take n nodes) m (omega (arith, same, long)))
-          ∙ ap (λ b. b && is_in x (vars node)) (eq-eqb n m (sym same))
-          ∙ ap (λ o. is_in x (vars_of vars o)) (sym (ap (slice_get (take (n + 1) nodes)) same ∙ get_take nodes (n + 1) n (omega arith) ∙ at))
-      | inr differ ↦
-          ap (λ b. is_in x (vars_of vars (slice_get (take n nodes) m)) || (b && is_in x (vars node))) (ne_eqb n m (λ e. differ (sym e)))
-          ∙ or-false (is_in x (vars_of vars (slice_get (take n nodes) m)))
-          ∙ ap (λ o. is_in x (vars_of vars o)) (elim (cases_lt m n) [
-            | inl lt ↦ get_take nodes n m lt ∙ sym (get_take nodes (n + 1) m (omega (arith, lt)))
-            | inr ge ↦ slice_get_past (take n nodes) m (omega (arith, ge, long)) ∙ sym (slice_get_past (take (n + 1) nodes) m (omega (arith, ge, differ, longer)))
-          ])
-    ]
-  where
-    long : length (take n nodes) ≤ n
-    long = omega (arith, length-take n nodes)
-
-    longer : length (take (n + 1) nodes) ≤ n + 1
-    longer = omega (arith, length-take (n + 1) nodes)
-
 -- the shape stays
 pub still_rows : (value : Bool) (nodes bits n : ℕ) (vars : List ℕ) (old new : List (List Bool)) → AreRows nodes bits old → IsMarkedAt value n vars old new → AreRows nodes bits new
 still_rows value nodes bits n vars old new are marked = record { len = marked.len ∙ are.len; each = λ m m_in. marked.each m ∙ are.each m m_in }
-
--- ---- what the rows say
-
--- the bits of the rows of reads are what nodes read
-pub reads_are : (graph : GraphShape) (rows : List (List Bool)) (x : ℕ) → AreMarked (node_reads graph) graph.nodes rows → has_bit rows x ≡ reads_at graph x
-reads_are graph rows x marked = fun_ext (λ n. marked n x ∙ at (slice_get graph.nodes n))
-  where
-    at : (o : Option Node) → is_in x (vars_of (node_reads graph) o) ≡ reads_var graph x o
-    at None = refl
-    at (Some node) = refl
-
--- and those of the rows of assigned variables what nodes assign
-pub assigned_are : (graph : GraphShape) (rows : List (List Bool)) (x : ℕ) → AreMarked (assigned_vars graph) graph.nodes rows → has_bit rows x ≡ assigns_at graph x
-assigned_are graph rows x marked = fun_ext (λ n. marked n x ∙ at (slice_get graph.nodes n))
-  where
-    at : (o : Option Node) → is_in x (vars_of (assigned_vars graph) o) ≡ assigns_var graph x o
-    at None = refl
-    at (Some node) = assigned_is_in graph node x

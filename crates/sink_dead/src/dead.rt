@@ -76,7 +76,12 @@ fn access(graph: &Graph, blocks: &Blocks, block: usize, reads: &mut Rows, assign
 }
 
 /// Which variables are live after each block: before some node to which its last leads.
-fn live_after(alloc: Global, graph: &Graph, edges: &Edges, blocks: &Blocks) -> Result<Rows, Memory>
+pub(crate) fn live_after(
+    alloc: Global,
+    graph: &Graph,
+    edges: &Edges,
+    blocks: &Blocks,
+) -> Result<Rows, Memory>
     requires edges { edges.now ≡ edges_of graph.now.nodes }
     requires blocks { AreBlocksOf graph.now.nodes blocks.now }
     ensures { IfOk result (AreLiveAfter graph.now blocks.now.lists) }
@@ -157,7 +162,7 @@ fn is_dead(node: &Node, live: &Rows, row: usize) -> bool
 
 /// A row of what is live after a node becomes that of what is live before it. `shared` is the number of the globals of
 /// the graph.
-fn pass_back(graph: &Graph, rows: &mut Rows, row: usize, node: &Node, shared: usize)
+pub(crate) fn pass_back(graph: &Graph, rows: &mut Rows, row: usize, node: &Node, shared: usize)
     requires shared { shared ≡ graph.now.shared }
     requires globals { shared ≤ length (row_of rows.old row) }
     requires row { row < length rows.old }

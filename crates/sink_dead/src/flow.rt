@@ -9,14 +9,16 @@ use std::alloc::Global;
 /// What the successors of a graph's nodes alone decide: its edges and its blocks. Graphs whose nodes have the same
 /// successors share them.
 #[derive(Drop)]
-pub(crate) struct GraphFlow {
-    pub(crate) edges: Edges,
-    pub(crate) blocks: Blocks,
+pub struct GraphFlow {
+    /// The edges.
+    pub edges: Edges,
+    /// The blocks.
+    pub blocks: Blocks,
 }
 
 impl GraphFlow {
     /// The edges and the blocks of a graph. It fails only with `Memory`.
-    pub(crate) fn of(alloc: Global, graph: &Graph) -> Result<GraphFlow, Memory>
+    pub fn of(alloc: Global, graph: &Graph) -> Result<GraphFlow, Memory>
         ensures { IfOk result (IsFlowOf graph.now.nodes) }
     {
         let edges = Edges::of(alloc, graph)?;

@@ -1,5 +1,5 @@
 // What the occurrences of patterns come to in their blocks: insertions before nodes, or that a pattern leaves a block.
-ghost use Rattle.std.specs.Prelude.{◌≡◌, ◌<◌, suc, not, Some, length, IfOk, OnOk};
+ghost use Rattle.std.specs.Prelude.{◌≡◌, ◌<◌, suc, not, [], Some, length, IfOk, OnOk};
 ghost use Rattle.flow_graph.specs.Blocks.{AreBlocksOf};
 ghost use Rattle.sink_dead.specs.Inside.{AreFoundInBlock, AreInside, AreInsideFrom, AreTakenInBlock, IsInBlock, IsNodeAt, OccursAt};
 ghost use Rattle.sink_dead.specs.Places.{AreBlockPlaces};
@@ -39,16 +39,27 @@ pub(crate) fn found_inside(alloc: Global, graph: &Graph, blocks: &Blocks) -> Res
 {
     let count = blocks.len();
     let mut places = Places::new(alloc, graph, count)?;
-    let mut found = Inside {
-        puts: Vec::new(alloc),
-        table: KeyTable::new(alloc),
-        leaving: Vec::new(alloc),
-    };
+    let mut found = nothing_yet(alloc, graph.len())?;
     for later in 0..count {
         let block = count - 1 - later;
         inside_block(graph, blocks, block, &mut places, &mut found)?;
     }
     Ok(found)
+}
+
+/// Nothing found, with room for what occurrences at so many nodes come to.
+fn nothing_yet(alloc: Global, nodes: usize) -> Result<Inside, Memory>
+    ensures puts { IfOk result (λ found. found.puts.items ≡ []) }
+    ensures table { IfOk result (λ found. found.table ≡ []) }
+    ensures leaving { IfOk result (λ found. found.leaving.items ≡ []) }
+{
+    let puts = Vec::with_capacity(alloc, nodes)?;
+    let leaving = Vec::with_capacity(alloc, nodes)?;
+    Ok(Inside {
+        puts,
+        table: KeyTable::new(alloc),
+        leaving,
+    })
 }
 
 /// What the occurrences in one block come to, once those of the later blocks are found.

@@ -19,6 +19,7 @@ mod inside;
 mod keys;
 mod layouts;
 mod liveness;
+mod lives;
 mod moving;
 mod ordering;
 mod over;
@@ -33,7 +34,8 @@ mod writing;
 
 pub use answers::{Round, Sunk};
 pub use delaying::{DelayedPatterns, inserted_apart, inserted_at_skips};
-pub use liveness::live_rows;
+pub use flow::GraphFlow;
+pub use lives::{live_rows, live_rows_by};
 pub use patterns::Pattern;
 pub use rounds::{MOST_ROUNDS, round, sink};
-pub use sinking::sunk;
+pub use sinking::{sunk, sunk_by};

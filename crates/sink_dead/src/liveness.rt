@@ -1,54 +1,14 @@
-// Which variables are live before each node.
-ghost use Rattle.std.specs.Prelude.{◌≡◌, ◌<◌, ◌≤◌, ◌++◌, true, flat_map, length, IfOk};
+// What nodes read and assign, as marks in rows with one bit for each variable.
+ghost use Rattle.std.specs.Prelude.{◌≡◌, ◌<◌, ◌≤◌, ◌++◌, true, flat_map, length};
 ghost use Rattle.mir_base.specs.Frames.{shared_vars};
 ghost use Rattle.mir_base.specs.Shapes.{AllBelow, into_vars, operand_vars, rhs_vars, test_vars};
 ghost use Rattle.bit_rows.specs.Bits.{row_of};
 ghost use Rattle.flow_graph.specs.Graphs.{node_reads, node_vars};
-ghost use Rattle.path_laws.specs.Paths.{HaveShape};
-ghost use Rattle.sink_dead.specs.LiveRows.{AreAccessRows, IsMarkedAt, TellLive, assigned_vars};
+ghost use Rattle.sink_dead.specs.LiveRows.{IsMarkedAt, assigned_vars};
 
 use bit_rows::Rows;
-use flow_graph::{Edges, Graph, Node};
-use mir_base::{Memory, Operand, Rhs, Test};
-use path_laws::backward_some;
-use std::alloc::Global;
-
-/// Which variables are live before each node, as rows with one row for each node and one bit for each variable. It
-/// fails only with `Memory`. The rule is that of dead variables in Knoop, Ruething and Steffen, *Partial Dead Code
-/// Elimination*, PLDI 1994, for nodes of one instruction.
-pub fn live_rows(alloc: Global, graph: &Graph) -> Result<Rows, Memory>
-    ensures shape { IfOk result (HaveShape graph.now (length graph.now.vars)) }
-    ensures live { IfOk result (TellLive graph.now) }
-{
-    let edges = Edges::of(alloc, graph)?;
-    let accesses = access_rows(alloc, graph)?;
-    let live = backward_some(alloc, graph, &edges, &accesses.reads, &accesses.assigns)?;
-    Ok(live)
-}
-
-/// What the nodes of a graph do with its variables: one row for each node, one bit for each variable.
-#[derive(Drop)]
-struct AccessRows {
-    /// Which variables each node reads.
-    reads: Rows,
-    /// Which variables it assigns.
-    assigns: Rows,
-}
-
-/// Which variables each node reads, and which it assigns.
-fn access_rows(alloc: Global, graph: &Graph) -> Result<AccessRows, Memory>
-    ensures { IfOk result (AreAccessRows graph.now) }
-{
-    let nodes = graph.nodes();
-    let mut reads = Rows::new(alloc, nodes.len(), graph.vars().len())?;
-    let mut assigns = Rows::new(alloc, nodes.len(), graph.vars().len())?;
-    let shared = graph.shared();
-    for n in 0..nodes.len() {
-        mark_read(graph, &mut reads, n, &nodes[n], shared);
-        mark_assigned(graph, &mut assigns, n, &nodes[n], shared, true);
-    }
-    Ok(AccessRows { reads, assigns })
-}
+use flow_graph::{Graph, Node};
+use mir_base::{Operand, Rhs, Test};
 
 // ---- what nodes read
 

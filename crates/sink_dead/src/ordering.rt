@@ -31,7 +31,7 @@ fn without_repeats(alloc: Global, puts: &[Put]) -> Result<Vec<Put>, Memory>
     requires { AreSorted puts.now }
     ensures { IfOk result (λ once. AreOnce puts.now once.items) }
 {
-    let mut once = Vec::new(alloc);
+    let mut once = Vec::with_capacity(alloc, puts.len())?;
     for put in puts {
         push_new(&mut once, put)?;
     }

@@ -30,8 +30,8 @@ pub fn sunk(alloc: Global, graph: &Graph) -> Result<Graph, Memory>
     Ok(sunk)
 }
 
-/// The same, by the edges and the blocks of the graph.
-pub(crate) fn sunk_by(alloc: Global, graph: &Graph, flow: &GraphFlow) -> Result<Graph, Memory>
+/// As `sunk`, with the edges and the blocks of the graph at hand. It fails only with `Memory`.
+pub fn sunk_by(alloc: Global, graph: &Graph, flow: &GraphFlow) -> Result<Graph, Memory>
     requires split { IsSplit graph.now.nodes }
     requires flow { IsFlowOf graph.now.nodes flow.now }
     ensures exact { IfOk result (IsSunk graph.now) }

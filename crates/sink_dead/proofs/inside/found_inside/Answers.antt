@@ -11,7 +11,7 @@ loop-later-init c =
     let same : c.len-count.result ≡ length c.args.blocks.now.lists - 0 = omega (arith, c.len-count.ensures) in
     record {
       places = subst (λ b. AreBlockPlaces c.args.graph.now b c.in_ok-places.places) same c.in_ok-places.ensures;
-      found = nothing_found c.args.graph.now lists (length lists - 0) _ (omega arith) c.new-2.ensures.items c.new-3.ensures c.new-4.ensures.items;
+      found = nothing_found c.args.graph.now lists (length lists - 0) _ (omega arith) c.in_ok-found.ensures.puts c.in_ok-found.ensures.table c.in_ok-found.ensures.leaving;
     }
 
 pub inside_block-requires-clause-places : goal.inside_block-requires-clause-places

@@ -7,7 +7,7 @@ use Rattle.sink_dead.proofs.OnceSorted.{once_all, once_more, once_none}
 use Rattle.sink_dead.proofs.ordering.without_repeats.Goals as goal
 
 pub loop-put-init : goal.loop-put-init
-loop-put-init c = once_none c.args.puts.now c.new-once.result.items c.new-once.ensures.items
+loop-put-init c = once_none c.args.puts.now c.in_ok-once.once.items c.in_ok-once.ensures.items
 
 pub loop-put-preserved : goal.loop-put-preserved
 loop-put-preserved c =
