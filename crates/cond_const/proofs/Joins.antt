@@ -8,7 +8,7 @@ use Rattle.cond_const.specs.States.{joined_known, joined_each}
 use Rattle.cond_const.specs.Folding.{known_at}
 
 -- the join, place by place
-length_joined : (xs ys : List Known) → length xs ≡ length ys → length (joined_each xs ys) ≡ length xs
+pub length_joined : (xs ys : List Known) → length xs ≡ length ys → length (joined_each xs ys) ≡ length xs
 length_joined [] ys e = refl
 length_joined (x ∷ xs) [] e = absurd (omega (arith, e))
 length_joined (x ∷ xs) (y ∷ ys) e = ap suc (length_joined xs ys (let e' : suc (length xs) ≡ suc (length ys) = e in omega arith))

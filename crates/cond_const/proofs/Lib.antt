@@ -1,5 +1,6 @@
 pub mod Sound
 pub mod Folds
+pub mod FactLaws
 pub mod Joins
 pub mod JoinCases
 pub mod Nodewise

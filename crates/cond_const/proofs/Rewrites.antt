@@ -105,7 +105,7 @@ module _ (shared : ℕ) (received : List ℕ) (nodes : List Node) (lists : List 
   }
 
 -- a state speaks of as many variables as its list has
-where_size : (reached : Bool) (known : List Known) → size_of (state_where reached known) ≡ length known
+pub where_size : (reached : Bool) (known : List Known) → size_of (state_where reached known) ≡ length known
 where_size true known = refl
 where_size false known = refl
 

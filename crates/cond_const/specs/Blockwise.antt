@@ -95,7 +95,7 @@ pub record AreLeastOver (graph : GraphShape) (blocks : BlocksShape) (states : Li
 pub record IsStateFlow {L : Type 0} (f : StateFlow L) : Type 0 where
   pub blocks : AreBlocksOf f.graph.now.nodes f.blocks.now
   pub is_net : IsStateNet f.graph.now.nodes f.blocks.now.lists f.entry f.targets.now
-  pub zeros : f.zeros.now ≡ first_known f.graph.now.shared (length f.graph.now.vars)
+  pub zeros : f.zeros.now.items ≡ first_known f.graph.now.shared (length f.graph.now.vars)
 
 -- the flow as the solver sees it
 abbrev pub fold_net : {L : Type 0} → StateFlow L → Net NodeState

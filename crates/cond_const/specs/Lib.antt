@@ -1,5 +1,6 @@
 pub mod Identities
 pub mod States
+pub mod FactLists
 pub mod Folding
 pub mod Folded
 pub mod Blockwise

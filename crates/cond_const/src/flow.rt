@@ -1,14 +1,16 @@
 // The states as a flow over blocks: they are kept only where blocks begin, and pass through a block on the way along an
 // edge of its last node.
-ghost use Rattle.std.specs.Prelude.{◌≡◌, ◌<◌, ◌-◌, length, take};
+ghost use Rattle.std.specs.Prelude.{◌≡◌, ◌↔◌, ◌<◌, ◌≤◌, ◌-◌, if◌then◌else◌, false, true, length, take};
 ghost use Rattle.flow_graph.specs.Blocks.{IsChain};
 ghost use Rattle.cond_const.specs.Blockwise.{IsStateFlow, last_of, fold_net, out_of, through_nodes};
-ghost use Rattle.cond_const.specs.States.{state_where};
+ghost use Rattle.fix_solve.specs.Order.{IsLeastUpper};
+ghost use Rattle.cond_const.specs.FactLists.{state_by};
+ghost use Rattle.cond_const.specs.States.{BelowState, joined_each, size_of, state_where};
 ghost use Rattle.cond_const.specs.FlowLaws.{flow_laws};
 
-use crate::known::Known;
-use crate::states::{BlockState, join_state};
-use crate::transfer::step;
+use crate::facts::Facts;
+use crate::states::BlockState;
+use crate::transfer::{may_pass, step};
 use fix_solve::{Flow, Steps};
 use flow_graph::{Blocks, Graph};
 use mir_base::Memory;
@@ -26,7 +28,7 @@ pub(crate) struct StateFlow<'a, L: Ledger> {
     pub(crate) blocks: &'a Blocks,
     pub(crate) entry: usize,
     pub(crate) targets: &'a [usize],
-    pub(crate) zeros: &'a [Known],
+    pub(crate) zeros: &'a Facts,
     pub(crate) ledger: PhantomData<L>,
 }
 
@@ -63,13 +65,11 @@ impl<'a, L: Ledger> Flow for StateFlow<'a, L> {
 
     #[tactic(auto, using(crate::specs::PassingLaws::length_first))]
     fn first(&self, alloc: Global, node: usize) -> Result<BlockState, Memory> {
-        let known = Vec::from_slice(alloc, self.zeros)?;
-        let room = Vec::from_slice(alloc, self.zeros)?;
-        Ok(BlockState {
-            reached: node == self.entry,
-            known,
-            room,
-        })
+        let mut state = BlockState::unreached(alloc, self.zeros.len())?;
+        if node == self.entry {
+            state.take(self.zeros);
+        }
+        Ok(state)
     }
 
     fn push(
@@ -81,47 +81,93 @@ impl<'a, L: Ledger> Flow for StateFlow<'a, L> {
         steps: &mut Steps<L>,
     ) -> bool {
         steps.tick();
-        let passes = self.pass(number, from.reached, &from.known, &mut into.room);
-        let changed = join_state(into.reached, &mut into.known, passes, &into.room);
-        into.reached = into.reached | passes;
-        changed
+        if from.reached {
+            self.push_known(number, &from.known, into)
+        } else {
+            false
+        }
     }
 
     fn push_self(&self, number: usize, value: &mut BlockState, steps: &mut Steps<L>) -> bool {
         steps.tick();
-        let passes = self.pass(number, value.reached, &value.known, &mut value.room);
-        let changed = join_state(value.reached, &mut value.known, passes, &value.room);
-        value.reached = value.reached | passes;
-        changed
+        if value.reached {
+            let passes = self.pass(number, &value.known, &mut value.room);
+            join_where(passes, &mut value.known, &value.room)
+        } else {
+            false
+        }
     }
 
     ghost laws = { flow_laws };
 }
 
 impl<'a, L: Ledger> StateFlow<'a, L> {
-    /// Leaves what passes along an edge, and answers whether anything does.
-    fn pass(&self, number: usize, reached: bool, known: &[Known], room: &mut [Known]) -> bool
+    /// Joins what passes along an edge of a block that is reached, before which this is known, and answers whether the
+    /// state has changed. Where a block is reached first, its own list is what passes.
+    fn push_known(&self, number: usize, known: &Facts, into: &mut BlockState) -> bool
         requires valid { IsStateFlow self.now }
         requires in_range { number < length self.now.targets.now }
-        requires long { length room.old ≡ length known.now }
-        ensures passes { state_where result room.new
-            ≡ (fold_net self.now).transfer number (state_where reached known.now) }
-        ensures long { length room.new ≡ length known.now }
+        requires long { length known.now.items ≡ size_of into.old }
+        ensures joined { IsLeastUpper BelowState into.old
+            ((fold_net self.now).transfer number (state_where true known.now.items)) into.new }
+        ensures unchanged { (result ≡ false) ↔ (into.new ≡ into.old) }
     {
-        room.copy_from_slice(known);
+        if into.reached {
+            let passes = self.pass(number, known, &mut into.room);
+            join_where(passes, &mut into.known, &into.room)
+        } else {
+            let passes = self.pass(number, known, &mut into.known);
+            into.reached = passes;
+            passes
+        }
+    }
+
+    /// Leaves in the room what passes along an edge of a block before which this is known, and answers whether anything
+    /// does.
+    fn pass(&self, number: usize, known: &Facts, room: &mut Facts) -> bool
+        requires valid { IsStateFlow self.now }
+        requires in_range { number < length self.now.targets.now }
+        requires fits { length known.now.items ≤ room.old.size }
+        ensures passes { state_by result (length known.now.items) room.new.items
+            ≡ (fold_net self.now).transfer number (state_where true known.now.items) }
+        ensures long { result ≡ true → length room.new.items ≡ length known.now.items }
+        ensures size { room.new.size ≡ room.old.size }
+    {
         let list = self.blocks.nodes(number / 2);
-        leave(self.graph, list, number % 2, reached, room)
+        if may_pass(self.graph.node(last(list)), number % 2) {
+            room.refill(known);
+            leave(self.graph, list, number % 2, true, room)
+        } else {
+            false
+        }
+    }
+}
+
+/// Leaves what is known where something passes to a block that is reached, and answers whether that changed.
+fn join_where(passes: bool, known: &mut Facts, passed: &Facts) -> bool
+    requires { passes ≡ true → length passed.now.items ≡ length known.old.items }
+    ensures joined { known.new.items
+        ≡ (if passes then joined_each known.old.items passed.now.items else known.old.items) }
+    ensures unchanged { (result ≡ false) ↔ (known.new.items ≡ known.old.items) }
+    ensures size { known.new.size ≡ known.old.size }
+    ensures long { length known.new.items ≡ length known.old.items }
+{
+    if passes {
+        known.join_from(passed)
+    } else {
+        false
     }
 }
 
 /// Leaves what passes through a block and along the edge at this slot of its last node, and answers whether anything
 /// does.
-fn leave(graph: &Graph, list: &[usize], slot: usize, reached: bool, known: &mut [Known]) -> bool
+fn leave(graph: &Graph, list: &[usize], slot: usize, reached: bool, known: &mut Facts) -> bool
     requires { IsChain graph.now.nodes list.now }
-    ensures passes { state_where result known.new
+    ensures passes { state_where result known.new.items
         ≡ out_of graph.now.shared graph.now.received graph.now.nodes list.now slot
-        (state_where reached known.old) }
-    ensures long { length known.new ≡ length known.old }
+        (state_where reached known.old.items) }
+    ensures long { length known.new.items ≡ length known.old.items }
+    ensures size { known.new.size ≡ known.old.size }
 {
     let last = last(list);
     let reaches = pass_inner(graph, list, reached, known);
@@ -136,13 +182,14 @@ fn leave(graph: &Graph, list: &[usize], slot: usize, reached: bool, known: &mut 
 }
 
 /// Leaves what passes from the first node of a block to the last, and answers whether anything does.
-fn pass_inner(graph: &Graph, list: &[usize], reached: bool, known: &mut [Known]) -> bool
+fn pass_inner(graph: &Graph, list: &[usize], reached: bool, known: &mut Facts) -> bool
     requires chain { IsChain graph.now.nodes list.now }
     requires some { 0 < length list.now }
-    ensures passes { state_where result known.new
+    ensures passes { state_where result known.new.items
         ≡ through_nodes graph.now.shared graph.now.received graph.now.nodes
-        (take (length list.now - 1) list.now) (state_where reached known.old) }
-    ensures long { length known.new ≡ length known.old }
+        (take (length list.now - 1) list.now) (state_where reached known.old.items) }
+    ensures long { length known.new.items ≡ length known.old.items }
+    ensures size { known.new.size ≡ known.old.size }
 {
     let mut reaches = reached;
     for i in 1..list.len() {

@@ -1,12 +1,11 @@
 // What is known of variables, and what operands, right sides and tests become by it.
-ghost use Rattle.std.specs.Prelude.{◌≡◌, ◌↔◌, false, IfOk};
+ghost use Rattle.std.specs.Prelude.{◌≡◌};
 ghost use Rattle.mir_base.specs.declared.instructions.Operand.TheVariants.{Const};
-ghost use Rattle.cond_const.specs.Folding.{by_identity, decided_relation, decided_test, folded_binary, folded_rhs, known_at, known_rhs, relates_itself, resolved, resolved_test};
-ghost use Rattle.cond_const.specs.States.{joined_known};
+ghost use Rattle.cond_const.specs.Folding.{by_identity, decided_relation, decided_test, folded_binary, folded_rhs, known_rhs, relates_itself, resolved, resolved_test};
 
+use crate::facts::Facts;
 use crate::identities::{Identity, identity_left, identity_right, identity_same};
-use mir_base::{Memory, Op, Operand, RelOp, Rhs, Test, eval, eval1, relates};
-use std::alloc::Global;
+use mir_base::{Op, Operand, RelOp, Rhs, Test, eval, eval1, relates};
 
 /// What is known of a variable before a node.
 #[derive(Clone, Copy, Debug, PartialEq, Eq)]
@@ -18,8 +17,8 @@ pub enum Known {
 }
 
 /// What is known of a right side: the constant that it becomes, if it becomes one.
-pub(crate) fn known_rhs(known: &[Known], rhs: Rhs) -> Known
-    ensures { result ≡ known_rhs known.now rhs }
+pub(crate) fn known_rhs(known: &Facts, rhs: Rhs) -> Known
+    ensures { result ≡ known_rhs known.now.items rhs }
 {
     match folded_rhs(known, rhs) {
         Rhs::Plain(Operand::Const(c)) => Known::Fixed(c),
@@ -30,8 +29,8 @@ pub(crate) fn known_rhs(known: &[Known], rhs: Rhs) -> Known
 }
 
 /// What a right side becomes: the analysis and the rewriting both ask here.
-pub(crate) fn folded_rhs(known: &[Known], rhs: Rhs) -> Rhs
-    ensures { result ≡ folded_rhs known.now rhs }
+pub(crate) fn folded_rhs(known: &Facts, rhs: Rhs) -> Rhs
+    ensures { result ≡ folded_rhs known.now.items rhs }
 {
     match rhs {
         Rhs::Plain(a) => Rhs::Plain(resolved(known, a)),
@@ -88,31 +87,21 @@ fn by_identity(identity: Identity, variable: Operand, rhs: Rhs) -> Rhs
 }
 
 /// The operand, or the constant that its variable is known to have.
-pub(crate) fn resolved(known: &[Known], a: Operand) -> Operand
-    ensures { result ≡ resolved known.now a }
+pub(crate) fn resolved(known: &Facts, a: Operand) -> Operand
+    ensures { result ≡ resolved known.now.items a }
 {
     match a {
         Operand::Const(c) => Operand::Const(c),
-        Operand::Var(x) => match known_at(known, x) {
+        Operand::Var(x) => match known.get(x) {
             Known::Fixed(c) => Operand::Const(c),
             Known::Varying => Operand::Var(x),
         },
     }
 }
 
-/// What is known of a variable.
-fn known_at(known: &[Known], x: usize) -> Known
-    ensures { result ≡ known_at known.now x }
-{
-    match known.get(x) {
-        None => Known::Varying,
-        Some(k) => *k,
-    }
-}
-
 /// The test with its operands resolved.
-pub(crate) fn resolved_test(known: &[Known], test: Test) -> Test
-    ensures { result ≡ resolved_test known.now test }
+pub(crate) fn resolved_test(known: &Facts, test: Test) -> Test
+    ensures { result ≡ resolved_test known.now.items test }
 {
     match test {
         Test::Rel(op, a, b) => Test::Rel(op, resolved(known, a), resolved(known, b)),
@@ -122,8 +111,8 @@ pub(crate) fn resolved_test(known: &[Known], test: Test) -> Test
 }
 
 /// Whether a test holds, where that is decided.
-pub(crate) fn decided_test(known: &[Known], test: Test) -> Option<bool>
-    ensures { result ≡ decided_test known.now test }
+pub(crate) fn decided_test(known: &Facts, test: Test) -> Option<bool>
+    ensures { result ≡ decided_test known.now.items test }
 {
     match test {
         Test::Rel(op, a, b) => decided_relation(op, resolved(known, a), resolved(known, b)),
@@ -165,47 +154,4 @@ fn relates_itself(op: RelOp) -> bool
     ensures { result ≡ relates_itself op }
 {
     relates(op, 0, 0)
-}
-
-/// What is known of a variable where two paths meet.
-pub(crate) fn joined_known(a: Known, b: Known) -> Known
-    ensures { result ≡ joined_known a b }
-{
-    match a {
-        Known::Varying => Known::Varying,
-        Known::Fixed(x) => match b {
-            Known::Varying => Known::Varying,
-            Known::Fixed(y) => {
-                if x == y {
-                    Known::Fixed(x)
-                } else {
-                    Known::Varying
-                }
-            }
-        },
-    }
-}
-
-/// Whether different things are known.
-pub(crate) fn differ(a: Known, b: Known) -> bool
-    ensures { (result ≡ false) ↔ (a ≡ b) }
-{
-    match a {
-        Known::Varying => match b {
-            Known::Varying => false,
-            Known::Fixed(_) => true,
-        },
-        Known::Fixed(x) => match b {
-            Known::Varying => true,
-            Known::Fixed(y) => x != y,
-        },
-    }
-}
-
-/// A copy of what is known.
-pub(crate) fn copied(alloc: Global, known: &[Known]) -> Result<Vec<Known>, Memory>
-    ensures { IfOk result (λ copy. copy.items ≡ known.now) }
-{
-    let copy = Vec::from_slice(alloc, known)?;
-    Ok(copy)
 }

@@ -7,10 +7,11 @@ ghost use Rattle.cond_const.specs.KnownBefore.{AreKnownBefore, AreStatesOf, IsKn
 ghost use Rattle.cond_const.specs.Rewriting.{IsAmong};
 ghost use Rattle.cond_const.specs.States.{state_where};
 
-use crate::known::{Known, copied};
+use crate::facts::Facts;
+use crate::known::Known;
 use crate::solving::least;
 use crate::states::BlockState;
-use crate::telling::tell_blocks;
+use crate::telling::{tell_blocks, told};
 use crate::transfer::step;
 use fix_solve::Work;
 use flow_graph::{Blocks, Edges, Graph};
@@ -70,10 +71,10 @@ impl LeastStates {
         let block = self.blocks.block_of(node);
         let list = self.blocks.nodes(block);
         let state = self.values.value(block);
-        let mut known = copied(alloc, state.known())?;
-        let reaches = pass_to(graph, list, node, state.is_reached(), known.as_mut_slice());
-        let known = where_reached(reaches, known);
-        Ok(known)
+        let mut known = state.known(alloc)?;
+        let reaches = pass_to(graph, list, node, state.is_reached(), &mut known);
+        let told = told(alloc, reaches, &known)?;
+        Ok(told)
     }
 
     /// What `before` tells of each node, by the numbers of the nodes. Each block is walked once, and what is known is
@@ -111,12 +112,12 @@ fn blocks_of(alloc: Global, graph: &Graph) -> Result<Blocks, Memory>
 }
 
 /// Leaves what passes to this node from the first node of its block, and answers whether anything does.
-fn pass_to(graph: &Graph, list: &[usize], node: usize, reached: bool, known: &mut [Known]) -> bool
+fn pass_to(graph: &Graph, list: &[usize], node: usize, reached: bool, known: &mut Facts) -> bool
     requires chain { IsChain graph.now.nodes list.now }
     requires stands { IsAmong list.now (length list.now) node }
-    ensures passes { PassesTo graph.now list.now node (state_where reached known.old)
-        (state_where result known.new) }
-    ensures long { length known.new ≡ length known.old }
+    ensures passes { PassesTo graph.now list.now node (state_where reached known.old.items)
+        (state_where result known.new.items) }
+    ensures long { length known.new.items ≡ length known.old.items }
 {
     let mut reaches = reached;
     let mut place = 0;
@@ -126,12 +127,4 @@ fn pass_to(graph: &Graph, list: &[usize], node: usize, reached: bool, known: &mu
         place += 1;
     }
     reaches
-}
-
-/// What is known, where the node is reached.
-fn where_reached(reached: bool, known: Vec<Known>) -> Option<Vec<Known>>
-    ensures { state_of_known (length known.items) (option_map (λ list. list.items) result)
-        ≡ state_where reached known.items }
-{
-    if reached { Some(known) } else { None }
 }

@@ -10,6 +10,7 @@
 //! (`before`, and `before_each` for all of them). What they say is true of each run of the graph (`states_hold`).
 #![tactic(auto)]
 
+mod facts;
 mod flow;
 mod folding;
 mod identities;

@@ -7,7 +7,8 @@ ghost use Rattle.cond_const.specs.Folding.{folded_at, folded_node, resolved};
 ghost use Rattle.cond_const.specs.Rewriting.{FoldsBlock};
 ghost use Rattle.cond_const.specs.States.{state_where};
 
-use crate::known::{Known, copied, decided_test, folded_rhs, resolved, resolved_test};
+use crate::facts::Facts;
+use crate::known::{decided_test, folded_rhs, resolved, resolved_test};
 use crate::states::BlockState;
 use crate::transfer::step;
 use fix_solve::Work;
@@ -64,15 +65,8 @@ fn rewrite_block(
     ensures { OnOk result (FoldsBlock graph.now.shared graph.now.received graph.now.nodes list.now
         state.now (length list.now) made.old.items made.new.items) }
 {
-    let mut known = copied(alloc, state.known())?;
-    rewrite_list(
-        alloc,
-        graph,
-        list,
-        state.is_reached(),
-        known.as_mut_slice(),
-        made,
-    )?;
+    let mut known = state.known(alloc)?;
+    rewrite_list(alloc, graph, list, state.is_reached(), &mut known, made)?;
     Ok(())
 }
 
@@ -83,13 +77,13 @@ fn rewrite_list(
     graph: &Graph,
     list: &[usize],
     reached: bool,
-    known: &mut [Known],
+    known: &mut Facts,
     made: &mut Vec<Node>,
 ) -> Result<(), Memory>
     requires chain { IsChain graph.now.nodes list.now }
     requires long { length made.old.items ≡ length graph.now.nodes }
     ensures { OnOk result (FoldsBlock graph.now.shared graph.now.received graph.now.nodes list.now
-        (state_where reached known.old) (length list.now) made.old.items made.new.items) }
+        (state_where reached known.old.items) (length list.now) made.old.items made.new.items) }
 {
     let mut reaches = reached;
     for i in 0..list.len() {
@@ -107,13 +101,13 @@ fn put(
     made: &mut Vec<Node>,
     n: usize,
     reached: bool,
-    known: &[Known],
+    known: &Facts,
     node: &Node,
 ) -> Result<(), Memory>
     requires { n < length made.old.items }
     ensures { OnOk result (
         made.new.items
-        ≡ slice_set made.old.items n (folded_at (state_where reached known.now) node.now)) }
+        ≡ slice_set made.old.items n (folded_at (state_where reached known.now.items) node.now)) }
 {
     let folded = folded_at(alloc, reached, known, node)?;
     made[n] = folded;
@@ -121,8 +115,8 @@ fn put(
 }
 
 /// What a node becomes, where `reached` says whether it is reached and `known` what is known before it.
-fn folded_at(alloc: Global, reached: bool, known: &[Known], node: &Node) -> Result<Node, Memory>
-    ensures { IfOk result (λ folded. folded ≡ folded_at (state_where reached known.now) node.now) }
+fn folded_at(alloc: Global, reached: bool, known: &Facts, node: &Node) -> Result<Node, Memory>
+    ensures { IfOk result (λ folded. folded ≡ folded_at (state_where reached known.now.items) node.now) }
 {
     if reached {
         let folded = folded_node(alloc, known, node)?;
@@ -134,8 +128,8 @@ fn folded_at(alloc: Global, reached: bool, known: &[Known], node: &Node) -> Resu
 }
 
 /// What a node becomes that is reached.
-fn folded_node(alloc: Global, known: &[Known], node: &Node) -> Result<Node, Memory>
-    ensures { IfOk result (λ folded. folded ≡ folded_node known.now node.now) }
+fn folded_node(alloc: Global, known: &Facts, node: &Node) -> Result<Node, Memory>
+    ensures { IfOk result (λ folded. folded ≡ folded_node known.now.items node.now) }
 {
     match node {
         Node::Start(next) => Ok(Node::Start(*next)),
@@ -161,12 +155,8 @@ fn folded_node(alloc: Global, known: &[Known], node: &Node) -> Result<Node, Memo
 }
 
 /// The operands, each resolved.
-fn resolved_all(
-    alloc: Global,
-    known: &[Known],
-    operands: &[Operand],
-) -> Result<Vec<Operand>, Memory>
-    ensures { IfOk result (λ all. all.items ≡ map (resolved known.now) operands.now) }
+fn resolved_all(alloc: Global, known: &Facts, operands: &[Operand]) -> Result<Vec<Operand>, Memory>
+    ensures { IfOk result (λ all. all.items ≡ map (resolved known.now.items) operands.now) }
 {
     let mut all = Vec::with_capacity(alloc, operands.len())?;
     for a in operands {

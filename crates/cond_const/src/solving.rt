@@ -2,11 +2,10 @@
 ghost use Rattle.cond_const.specs.Folding.{first_known};
 ghost use Rattle.std.specs.Prelude.{◌≡◌, ◌*◌, ◌<◌, length, pos, replicate, IfOk};
 ghost use Rattle.flow_graph.specs.Blocks.{AreBlocksOf};
-ghost use Rattle.cond_const.specs.declared.known.Known.TheVariants.{Fixed};
 ghost use Rattle.cond_const.specs.Blockwise.{AreLeastOver, AreTargets, IsTargetOf};
 
+use crate::facts::Facts;
 use crate::flow::{StateFlow, last};
-use crate::known::Known;
 use crate::states::BlockState;
 use crate::transfer::forget_globals;
 use fix_solve::{Steps, Work, solve};
@@ -32,18 +31,18 @@ pub(crate) fn least(
         graph,
         blocks,
         targets.as_slice(),
-        zeros.as_slice(),
+        &zeros,
         Blank::new(1),
     )?;
     Ok(work)
 }
 
 /// What is known before Start of so many variables: the constant 0 of each that is no global.
-fn zeros(alloc: Global, shared: usize, count: usize) -> Result<Vec<Known>, Memory>
+fn zeros(alloc: Global, shared: usize, count: usize) -> Result<Facts, Memory>
     ensures { IfOk result (λ zeros. zeros.items ≡ first_known shared count) }
 {
-    let mut zeros = vec![in alloc; Known::Fixed(0); count]?;
-    forget_globals(zeros.as_mut_slice(), shared);
+    let mut zeros = Facts::zeros(alloc, count)?;
+    forget_globals(&mut zeros, shared);
     Ok(zeros)
 }
 
@@ -53,7 +52,7 @@ fn least_from<L: Ledger>(
     graph: &Graph,
     blocks: &Blocks,
     targets: &[usize],
-    zeros: &[Known],
+    zeros: &Facts,
     blank: Blank,
 ) -> Result<Work<BlockState>, Memory>
     requires name { blank.name ≡ L.name }
@@ -61,7 +60,7 @@ fn least_from<L: Ledger>(
     requires some { 0 < blank.parts }
     requires blocks { AreBlocksOf graph.now.nodes blocks.now }
     requires targets { AreTargets graph.now.nodes blocks.now.lists targets.now }
-    requires zeros { zeros.now ≡ first_known graph.now.shared (length graph.now.vars) }
+    requires zeros { zeros.now.items ≡ first_known graph.now.shared (length graph.now.vars) }
     ensures { IfOk result (AreLeastOver graph.now blocks.now) }
 {
     let _nodes = graph.nodes();

@@ -1,34 +1,51 @@
 // States of nodes, as they are kept where blocks begin.
-ghost use Rattle.std.specs.Prelude.{◌≡◌, ◌↔◌, ◌||◌, false, true, length};
+ghost use Rattle.std.specs.Prelude.{◌≡◌, ◌↔◌, ◌<◌, ◌≤◌, ◌||◌, false, true, length, IfOk};
 ghost use Rattle.fix_solve.specs.Order.{IsLeastUpper};
-ghost use Rattle.cond_const.specs.States.{BelowState, joined_each, is_reached, state_rank, size_of, state_where};
+ghost use Rattle.cond_const.specs.States.{Unreached, BelowState, is_reached, state_rank, size_of, state_where};
 ghost use Rattle.cond_const.specs.StateLaws.{state_laws};
 
-use crate::known::{Known, differ, joined_known};
+use crate::facts::Facts;
 use fix_solve::Lattice;
+use mir_base::Memory;
+use std::alloc::Global;
 use std::marker::Model;
 
-/// Whether a block is reached, what is known of each variable before it, and room for as much, so that what passes
-/// along an edge needs no memory. Contracts see it as the state.
+/// Whether a block is reached, what is known of each variable before it where it is, and room for as much, so that what
+/// passes along an edge needs no memory. Contracts see it as the state.
 #[derive(Drop)]
 pub struct BlockState {
     pub(crate) reached: bool,
-    pub(crate) known: Vec<Known>,
-    pub(crate) room: Vec<Known>,
+    pub(crate) known: Facts,
+    pub(crate) room: Facts,
 }
 
 impl Model for BlockState {
-    ghost use Rattle.std.specs.Prelude.{◌≡◌, length};
-    ghost use Rattle.cond_const.specs.States.{NodeState, state_where};
+    ghost use Rattle.std.specs.Prelude.{◌≡◌, true, length};
+    ghost use Rattle.cond_const.specs.States.{NodeState};
+    ghost use Rattle.cond_const.specs.FactLists.{state_by};
 
     ghost Value = { NodeState };
 
-    ghost view = { λ s. state_where s.reached s.known.items };
+    ghost view = { λ s. state_by s.reached s.known.size s.known.items };
 
-    ghost invariant = { λ s. length s.room.items ≡ length s.known.items };
+    ghost invariant = { λ s. (s.reached ≡ true → length s.known.items ≡ s.known.size)
+        × (s.room.size ≡ s.known.size) };
 }
 
 impl BlockState {
+    /// The state of a block that is not reached, in a graph with so many variables. It fails only with `Memory`.
+    pub(crate) fn unreached(alloc: Global, size: usize) -> Result<BlockState, Memory>
+        ensures { IfOk result (λ state. state ≡ Unreached size) }
+    {
+        let known = Facts::with_room(alloc, size)?;
+        let room = Facts::with_room(alloc, size)?;
+        Ok(BlockState {
+            reached: false,
+            known,
+            room,
+        })
+    }
+
     /// Whether the block is reached. It does not allocate.
     pub(crate) fn is_reached(&self) -> bool
         ensures { result ≡ is_reached self.now }
@@ -36,11 +53,41 @@ impl BlockState {
         self.reached
     }
 
-    /// What is known of each variable, where the block is reached. It does not allocate.
-    pub(crate) fn known(&self) -> &[Known]
-        ensures { state_where (is_reached self.now) result.now ≡ self.now }
+    /// A copy of what is known of each variable, where the block is reached. It fails only with `Memory`.
+    pub(crate) fn known(&self, alloc: Global) -> Result<Facts, Memory>
+        ensures { IfOk result (λ known. state_where (is_reached self.now) known.items ≡ self.now) }
     {
-        self.known.as_slice()
+        if self.reached {
+            let known = self.known.copied(alloc)?;
+            Ok(known)
+        } else {
+            let known = Facts::zeros(alloc, self.known.size())?;
+            Ok(known)
+        }
+    }
+
+    /// Takes what is known where a path comes to the block. It does not allocate.
+    pub(crate) fn take(&mut self, known: &Facts)
+        requires { length known.now.items ≡ size_of self.old }
+        ensures { self.new ≡ state_where true known.now.items }
+    {
+        self.known.refill(known);
+        self.reached = true;
+    }
+
+    /// Joins what is known where a path meets this one, or takes it where the block was not reached, and answers whether
+    /// the state changed.
+    pub(crate) fn meet(&mut self, known: &Facts) -> bool
+        requires { length known.now.items ≡ size_of self.old }
+        ensures joined { IsLeastUpper BelowState self.old (state_where true known.now.items) self.new }
+        ensures unchanged { (result ≡ false) ↔ (self.new ≡ self.old) }
+    {
+        if self.reached {
+            self.known.join_from(known)
+        } else {
+            self.take(known);
+            true
+        }
     }
 }
 
@@ -52,52 +99,12 @@ impl Lattice for BlockState {
     ghost rank = { state_rank };
 
     fn join_from(&mut self, other: &Self) -> bool {
-        let changed = join_state(self.reached, &mut self.known, other.reached, &other.known);
-        self.reached = self.reached | other.reached;
-        changed
+        if other.reached {
+            self.meet(&other.known)
+        } else {
+            false
+        }
     }
 
     ghost laws = { state_laws };
-}
-
-/// Leaves the join of what is known of two states, of which `reached` and `other_reached` say whether they are reached,
-/// and answers whether the first has changed.
-pub(crate) fn join_state(
-    reached: bool,
-    known: &mut [Known],
-    other_reached: bool,
-    other: &[Known],
-) -> bool
-    requires { length known.old ≡ length other.now }
-    ensures joined { IsLeastUpper BelowState (state_where reached known.old)
-        (state_where other_reached other.now) (state_where (reached || other_reached) known.new) }
-    ensures unchanged { (result ≡ false)
-        ↔ (state_where (reached || other_reached) known.new ≡ state_where reached known.old) }
-    ensures long { length known.new ≡ length known.old }
-{
-    if other_reached {
-        if reached {
-            join_each(known, other)
-        } else {
-            known.copy_from_slice(other);
-            true
-        }
-    } else {
-        false
-    }
-}
-
-/// Leaves what is known where two paths meet, and answers whether it changed.
-fn join_each(known: &mut [Known], other: &[Known]) -> bool
-    requires { length known.old ≡ length other.now }
-    ensures joined { known.new ≡ joined_each known.old other.now }
-    ensures unchanged { (result ≡ false) ↔ (known.new ≡ known.old) }
-{
-    let mut changed = false;
-    for i in 0..known.len() {
-        let k = joined_known(known[i], other[i]);
-        changed = changed | differ(k, known[i]);
-        known[i] = k;
-    }
-    changed
 }

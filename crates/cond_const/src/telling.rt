@@ -6,7 +6,8 @@ ghost use Rattle.cond_const.specs.KnownBefore.{AreKnownBefore};
 ghost use Rattle.cond_const.specs.States.{state_where};
 ghost use Rattle.cond_const.specs.Telling.{IsTold, IsToldOf, TellsBlock};
 
-use crate::known::{Known, copied};
+use crate::facts::Facts;
+use crate::known::Known;
 use crate::states::BlockState;
 use crate::transfer::step;
 use fix_solve::Work;
@@ -65,15 +66,8 @@ fn tell_block(
     ensures { OnOk result (TellsBlock graph.now.shared graph.now.received graph.now.nodes list.now
         state.now (length list.now) all.old.items all.new.items) }
 {
-    let mut known = copied(alloc, state.known())?;
-    tell_list(
-        alloc,
-        graph,
-        list,
-        state.is_reached(),
-        known.as_mut_slice(),
-        all,
-    )?;
+    let mut known = state.known(alloc)?;
+    tell_list(alloc, graph, list, state.is_reached(), &mut known, all)?;
     Ok(())
 }
 
@@ -84,13 +78,13 @@ fn tell_list(
     graph: &Graph,
     list: &[usize],
     reached: bool,
-    known: &mut [Known],
+    known: &mut Facts,
     all: &mut Vec<Option<Vec<Known>>>,
 ) -> Result<(), Memory>
     requires chain { IsChain graph.now.nodes list.now }
     requires long { length all.old.items ≡ length graph.now.nodes }
     ensures { OnOk result (TellsBlock graph.now.shared graph.now.received graph.now.nodes list.now
-        (state_where reached known.old) (length list.now) all.old.items all.new.items) }
+        (state_where reached known.old.items) (length list.now) all.old.items all.new.items) }
 {
     let mut reaches = reached;
     for i in 0..list.len() {
@@ -114,10 +108,10 @@ fn put(
     all: &mut Vec<Option<Vec<Known>>>,
     n: usize,
     reached: bool,
-    known: &[Known],
+    known: &Facts,
 ) -> Result<(), Memory>
     requires { n < length all.old.items }
-    ensures { OnOk result (IsToldOf n (state_where reached known.now) all.old.items all.new.items) }
+    ensures { OnOk result (IsToldOf n (state_where reached known.now.items) all.old.items all.new.items) }
 {
     let told = told(alloc, reached, known)?;
     all[n] = told;
@@ -125,11 +119,15 @@ fn put(
 }
 
 /// A copy of what is known, where the node is reached.
-fn told(alloc: Global, reached: bool, known: &[Known]) -> Result<Option<Vec<Known>>, Memory>
-    ensures { IfOk result (IsTold (state_where reached known.now)) }
+pub(crate) fn told(
+    alloc: Global,
+    reached: bool,
+    known: &Facts,
+) -> Result<Option<Vec<Known>>, Memory>
+    ensures { IfOk result (IsTold (state_where reached known.now.items)) }
 {
     if reached {
-        let copy = copied(alloc, known)?;
+        let copy = known.listed(alloc)?;
         Ok(Some(copy))
     } else {
         Ok(None)

@@ -27,9 +27,9 @@ loop-place-preserved c =
     let place = c.loop-place.place in
     let ahead = c.loop-place.invariant.ahead in
     record {
-      passes = passed_on graph.shared graph.received graph.nodes list place (place + 1) c.node-here.result.now (state_where c.args.reached c.args.known.now) (state_where c.loop-place.reaches c.loop-place.known) (state_where c.step-reaches.result c.step-reaches.new.known)
+      passes = passed_on graph.shared graph.received graph.nodes list place (place + 1) c.node-here.result.now (state_where c.args.reached c.args.known.now.items) (state_where c.loop-place.reaches c.loop-place.known.items) (state_where c.step-reaches.result c.step-reaches.new.known.items)
           (place_low list place ahead.0 c.args.node ahead.1 ahead.2) (omega arith) c.node-here.ensures c.loop-place.invariant.passes
-          (subst (λ r. state_where c.step-reaches.result c.step-reaches.new.known ≡ passed_along c.args.graph.now.shared r c.node-here.result.now 0 (state_where c.loop-place.reaches c.loop-place.known)) c.received.ensures (subst (λ n. state_where c.step-reaches.result c.step-reaches.new.known ≡ passed_along n c.received.result.now c.node-here.result.now 0 (state_where c.loop-place.reaches c.loop-place.known)) c.shared.ensures.value c.step-reaches.ensures.passes));
+          (subst (λ r. state_where c.step-reaches.result c.step-reaches.new.known.items ≡ passed_along c.args.graph.now.shared r c.node-here.result.now 0 (state_where c.loop-place.reaches c.loop-place.known.items)) c.received.ensures (subst (λ n. state_where c.step-reaches.result c.step-reaches.new.known.items ≡ passed_along n c.received.result.now c.node-here.result.now 0 (state_where c.loop-place.reaches c.loop-place.known.items)) c.shared.ensures.value c.step-reaches.ensures.passes));
       long = c.step-reaches.ensures.long ∙ c.loop-place.invariant.long;
       ahead = (ahead.0, place_next list place ahead.0 c.args.node ahead.1 ahead.2 c.loop-place-test.true, ahead.2);
     }

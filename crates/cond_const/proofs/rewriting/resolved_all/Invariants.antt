@@ -3,4 +3,4 @@ use Rattle.cond_const.specs.Folding.{resolved}
 use Rattle.cond_const.proofs.rewriting.resolved_all.Given as goal
 
 abbrev pub invariant-loop-a : goal.invariant-loop-a
-invariant-loop-a l = l.all.items ≡ map (resolved l.known) (take l.a-index l.operands)
+invariant-loop-a l = l.all.items ≡ map (resolved l.known.items) (take l.a-index l.operands)

@@ -6,6 +6,6 @@ use Rattle.cond_const.proofs.rewriting.rewrite_list.Given as goal
 
 abbrev pub invariant-loop-i : goal.invariant-loop-i
 invariant-loop-i l = record {
-  passes : state_where l.reaches l.known ≡ through_nodes l.graph.shared l.graph.received l.graph.nodes (take l.i l.list) (state_where l.reached l.fn.known);
-  folds : FoldsBlock l.graph.shared l.graph.received l.graph.nodes l.list (state_where l.reached l.fn.known) l.i l.fn.made.items l.made.items;
+  passes : state_where l.reaches l.known.items ≡ through_nodes l.graph.shared l.graph.received l.graph.nodes (take l.i l.list) (state_where l.reached l.fn.known.items);
+  folds : FoldsBlock l.graph.shared l.graph.received l.graph.nodes l.list (state_where l.reached l.fn.known.items) l.i l.fn.made.items l.made.items;
 }

@@ -22,14 +22,14 @@ loop-i-preserved c =
     let lt : c.loop-i.i < length list = omega (arith, c.loop-i-test.true) in
     let low = chain_at graph.nodes list c.loop-i.i c.requires.chain lt in
     record {
-      passes = passed_on graph.shared graph.received graph.nodes list c.loop-i.i (c.loop-i.i + 1) c.node.result.now (state_where c.args.reached c.args.known.now) (state_where c.loop-i.reaches c.loop-i.known)
-          (state_where c.step-reaches.result c.step-reaches.new.known) lt (omega arith) c.node.ensures c.loop-i.invariant.passes
-          (subst (λ r. state_where c.step-reaches.result c.step-reaches.new.known ≡ passed_along c.args.graph.now.shared r c.node.result.now 0 (state_where c.loop-i.reaches c.loop-i.known)) c.received.ensures (subst (λ n. state_where c.step-reaches.result c.step-reaches.new.known ≡ passed_along n c.received.result.now c.node.result.now 0 (state_where c.loop-i.reaches c.loop-i.known)) c.shared.ensures.value c.step-reaches.ensures.passes));
-      tells = tells_more graph.shared graph.received graph.nodes list (state_where c.args.reached c.args.known.now) c.args.all.now.items c.loop-i.i _ (state_where c.loop-i.reaches c.loop-i.known) c.loop-i.all.items c.put.new.all.items
+      passes = passed_on graph.shared graph.received graph.nodes list c.loop-i.i (c.loop-i.i + 1) c.node.result.now (state_where c.args.reached c.args.known.now.items) (state_where c.loop-i.reaches c.loop-i.known.items)
+          (state_where c.step-reaches.result c.step-reaches.new.known.items) lt (omega arith) c.node.ensures c.loop-i.invariant.passes
+          (subst (λ r. state_where c.step-reaches.result c.step-reaches.new.known.items ≡ passed_along c.args.graph.now.shared r c.node.result.now 0 (state_where c.loop-i.reaches c.loop-i.known.items)) c.received.ensures (subst (λ n. state_where c.step-reaches.result c.step-reaches.new.known.items ≡ passed_along n c.received.result.now c.node.result.now 0 (state_where c.loop-i.reaches c.loop-i.known.items)) c.shared.ensures.value c.step-reaches.ensures.passes));
+      tells = tells_more graph.shared graph.received graph.nodes list (state_where c.args.reached c.args.known.now.items) c.args.all.now.items c.loop-i.i _ (state_where c.loop-i.reaches c.loop-i.known.items) c.loop-i.all.items c.put.new.all.items
           c.loop-i.invariant.tells (slice_get-get_or list c.loop-i.i 0 lt) c.loop-i.invariant.passes (omega (arith, low, c.loop-i.invariant.tells.long, c.requires.long)) c.in_ok-put.ensures;
     }
 
 pub returns : goal.returns
 returns c =
     let end : c.loop-i.i ≡ length c.args.list.now = omega (arith, c.loop-i-test.false, c.loop-i.auto.i-end) in
-    subst (λ k. TellsBlock c.args.graph.now.shared c.args.graph.now.received c.args.graph.now.nodes c.args.list.now (state_where c.args.reached c.args.known.now) k c.args.all.now.items c.loop-i.all.items) end c.loop-i.invariant.tells
+    subst (λ k. TellsBlock c.args.graph.now.shared c.args.graph.now.received c.args.graph.now.nodes c.args.list.now (state_where c.args.reached c.args.known.now.items) k c.args.all.now.items c.loop-i.all.items) end c.loop-i.invariant.tells

@@ -5,4 +5,7 @@ use Rattle.cond_const.specs.Folding.{all_varying}
 use Rattle.cond_const.proofs.transfer.forget_globals.Given as goal
 
 abbrev pub invariant-loop-x : goal.invariant-loop-x
-invariant-loop-x l = all_varying (range_with_len l.x (l.shared - l.x)) l.known ≡ all_varying (shared_vars l.shared) l.fn.known
+invariant-loop-x l = record {
+  items : all_varying (range_with_len l.x (l.shared - l.x)) l.known.items ≡ all_varying (shared_vars l.shared) l.fn.known.items;
+  size : l.known.size ≡ l.fn.known.size;
+}
