@@ -1,10 +1,9 @@
 -- What is known of variables, as it is kept in two lists, place by place.
-use Rattle.std.proofs.Common.{◌≡◌, ℕ, ℤ, zero, suc, ◌+◌, ◌<◌, ◌≤◌, ◌↔◌, not, Bool, true, false, slice_set, List, [], ◌∷◌, ◌++◌, length, take, replicate, get_or, refl, sym, ap, arith, ◌∙◌}
-use mathlib.Core.Bool.{beq}
+use Rattle.std.proofs.Common.{◌≡◌, ℕ, ℤ, zero, suc, ◌+◌, ◌<◌, ◌≤◌, ◌↔◌, Bool, true, false, slice_set, List, [], ◌∷◌, ◌++◌, length, take, replicate, get_or, refl, sym, ap, arith, ◌∙◌}
 use Rattle.std.proofs.lemmas.Option.{slice_get-get_or}
 use Rattle.flow_graph.specs.ListLaws.{take_next}
 use Rattle.cond_const.specs.declared.known.Known.{Known}
-use Rattle.cond_const.specs.declared.known.Known.TheVariants.{Varying}
+use Rattle.cond_const.specs.declared.known.Known.TheVariants.{Fixed, Varying}
 use Rattle.cond_const.specs.Folding.{known_at}
 use Rattle.cond_const.specs.FactLists.{known_by, facts_of}
 
@@ -60,9 +59,7 @@ listed_more ks list x k h so_far is =
     let more : take (x + 1) ks ≡ take x ks ++ known_at ks x ∷ [] = ap (λ n. take n ks) (let e : x + 1 ≡ suc x = omega arith in e) ∙ take_next ks x (known_at ks x) (slice_get-get_or ks x Varying h) in
     ap (λ l. l ++ k ∷ []) so_far ∙ ap (λ j. take x ks ++ j ∷ []) is ∙ sym more
 
--- what is known of one changes where it is no longer fixed
-pub stays_moves : (f r : Bool) (v : ℤ) (k : Known) → k ≡ known_by f v → (not (beq f r) ≡ false) ↔ (known_by r v ≡ k)
-stays_moves true true v k is = (λ _. sym is, λ _. refl)
-stays_moves true false v k is = (λ e. absurd (cc), λ e. absurd (let bad : known_by false v ≡ known_by true v = e ∙ is in cc))
-stays_moves false true v k is = (λ e. absurd (cc), λ e. absurd (let bad : known_by true v ≡ known_by false v = e ∙ is in cc))
-stays_moves false false v k is = (λ _. sym is, λ _. refl)
+-- what is known of one that is no longer fixed has changed
+pub parts_moves : (f : Bool) (v : ℤ) (j k : Known) (r : Bool) → r ≡ true → f ≡ true → j ≡ Varying → k ≡ known_by f v → (r ≡ false) ↔ (j ≡ k)
+parts_moves true v j k r on fixed varying is = (λ off. absurd (let bad : true ≡ false = sym on ∙ off in cc), λ e. absurd (let bad : Varying ≡ Fixed v = sym varying ∙ e ∙ is in cc))
+parts_moves false v j k r on fixed varying is = absurd (cc)

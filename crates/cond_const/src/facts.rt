@@ -1,10 +1,10 @@
 // What is known of each variable, as it is kept: in two lists, so that it takes little room and is joined in few steps.
-ghost use Rattle.std.specs.Prelude.{◌≡◌, ◌↔◌, ◌<◌, ◌≤◌, ◌^◌, [], false, length, pos, replicate, slice_set, IfOk};
+ghost use Rattle.std.specs.Prelude.{true, ◌≡◌, ◌↔◌, ◌<◌, ◌≤◌, ◌^◌, [], false, length, pos, replicate, slice_set, IfOk};
 ghost use Rattle.std.specs.Vec.{vec_capacity};
 ghost use Rattle.cond_const.specs.FactLists.{facts_of, known_by};
 ghost use Rattle.cond_const.specs.Folding.{known_at};
 ghost use Rattle.cond_const.specs.States.{joined_each, joined_known};
-ghost use Rattle.cond_const.specs.declared.known.Known.TheVariants.{Fixed};
+ghost use Rattle.cond_const.specs.declared.known.Known.TheVariants.{Fixed, Varying};
 
 use crate::known::Known;
 use mir_base::Memory;
@@ -209,11 +209,37 @@ fn join_lists(
 {
     let mut changed = false;
     for i in 0..fixed.len() {
-        let stays = stays_fixed(fixed[i], &values[i], other_fixed[i], &other_values[i]);
-        changed = changed | (fixed[i] != stays);
-        fixed[i] = stays;
+        changed = changed | join_at(fixed, i, values, other_fixed, other_values);
     }
     changed
+}
+
+/// The same of one variable.
+fn join_at(
+    fixed: &mut [bool],
+    i: usize,
+    values: &[i64],
+    other_fixed: &[bool],
+    other_values: &[i64],
+) -> bool
+    requires there { i < length fixed.old }
+    requires long { length values.now ≡ length fixed.old }
+    requires other { length other_fixed.now ≡ length fixed.old }
+    requires other_long { length other_values.now ≡ length fixed.old }
+    ensures joined { facts_of fixed.new values.now ≡ slice_set (facts_of fixed.old values.now) i
+        (joined_known (known_at (facts_of fixed.old values.now) i)
+        (known_at (facts_of other_fixed.now other_values.now) i)) }
+    ensures unchanged { (result ≡ false) ↔ (joined_known (known_at (facts_of fixed.old values.now) i)
+        (known_at (facts_of other_fixed.now other_values.now) i)
+        ≡ known_at (facts_of fixed.old values.now) i) }
+    ensures long { length fixed.new ≡ length fixed.old }
+{
+    if parts(fixed[i], &values[i], other_fixed[i], &other_values[i]) {
+        fixed[i] = false;
+        true
+    } else {
+        false
+    }
 }
 
 /// What is known of a variable that has this value or, if it is not `fixed`, may have different ones.
@@ -227,10 +253,13 @@ fn known_by(fixed: bool, value: &i64) -> Known
     }
 }
 
-/// Whether a variable has one value where two paths meet, by whether it has one on each, and which.
-fn stays_fixed(fixed: bool, value: &i64, other_fixed: bool, other: &i64) -> bool
-    ensures { known_by result value.now
-        ≡ joined_known (known_by fixed value.now) (known_by other_fixed other.now) }
+/// Whether a variable that has one value has no longer one where two paths meet.
+fn parts(fixed: bool, value: &i64, other_fixed: bool, other: &i64) -> bool
+    ensures parts { result ≡ true → (fixed ≡ true)
+        × (joined_known (known_by fixed value.now) (known_by other_fixed other.now) ≡ Varying) }
+    ensures stays { result ≡ false
+        → joined_known (known_by fixed value.now) (known_by other_fixed other.now)
+        ≡ known_by fixed value.now }
 {
-    fixed & other_fixed & (*value == *other)
+    fixed && !(other_fixed && *value == *other)
 }
