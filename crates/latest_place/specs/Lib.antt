@@ -8,3 +8,4 @@ pub mod Inequalities
 pub mod Admissible
 pub mod Counts
 pub mod Optimal
+pub mod Parts

@@ -11,6 +11,8 @@
 
 mod delays;
 mod nodes;
+mod once;
+mod parts;
 mod placement;
 
 pub use delays::Late;

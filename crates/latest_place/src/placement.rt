@@ -7,10 +7,11 @@ ghost use Rattle.motion_rewrite.specs.Expressions.{uses};
 ghost use Rattle.motion_rewrite.specs.Placements.{AreOptimal, CanFlattenBy};
 ghost use Rattle.motion_rewrite.specs.Rows.{AreRowsOf, AreRowsWhere};
 ghost use Rattle.down_safe.specs.Busy.{AreBusyRows, IsEarliest};
-ghost use Rattle.latest_place.specs.Lazy.{AreLateRows, AreLazy};
+ghost use Rattle.latest_place.specs.Lazy.{AreLateRows, AreLazy, IsLazyPlacement};
 
 use crate::Late;
 use crate::nodes::{Uses, delayed_rows, isolated_rows, latest_rows, placement_of};
+use crate::parts::placed_by_parts;
 use bit_rows::Rows;
 use down_safe::{Busy, DownRule, EarlySites, earliest_over};
 use flow_graph::{Blocks, Edges, Graph};
@@ -161,9 +162,25 @@ pub fn lazy<R: DownRule>(
     // so the graph can be flattened by it
     ensures flattens { IfOk result (CanFlattenBy graph.now table.now) }
 {
-    let late = late(alloc, rule, graph, edges, table)?;
+    let placement = placed_by_parts(alloc, rule, graph, edges, table)?;
     // The proof needs what holds of every graph: that each node is reached.
     let _ = graph.nodes();
+    Ok(placement)
+}
+
+/// The lazy placement of each expression of the table, all at once.
+pub(crate) fn placed<R: DownRule>(
+    alloc: Global,
+    rule: &R,
+    graph: &Graph,
+    edges: &Edges,
+    table: &ExprTable,
+) -> Result<Placement, Memory>
+    requires split { IsSplit graph.now.nodes }
+    requires edges { edges.now ≡ edges_of graph.now.nodes }
+    ensures { IfOk result (IsLazyPlacement (R.is_down rule.now) graph.now table.now) }
+{
+    let late = late(alloc, rule, graph, edges, table)?;
     let placement = placement_of(late.uses, late.latest, late.isolated);
     Ok(placement)
 }

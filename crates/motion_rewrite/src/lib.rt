@@ -19,6 +19,6 @@ mod temporaries;
 
 pub use flattening::{flatten, flatten_dividing};
 pub use placement::Placement;
-pub use rows::{kill_rows, use_rows};
+pub use rows::{kill_rows, use_rows, used_at};
 pub use table::{ExprTable, dividing_exprs, exprs};
 pub use temporaries::inserted_somewhere;

@@ -1,10 +1,11 @@
 // Which nodes use and kill which expressions.
-ghost use Rattle.std.specs.Prelude.{ℕ, ◌<◌, length, IfOk};
+ghost use Rattle.std.specs.Prelude.{◌≡◌, ◌↔◌, ℕ, ◌<◌, true, length, IfOk, IfSome, Some};
 ghost use Rattle.mir_base.specs.ExpressionVars.{expr_vars};
 ghost use Rattle.bit_rows.specs.Bits.{row_of};
 ghost use Rattle.path_laws.specs.KeyRows.{SetsBitAt};
 ghost use Rattle.path_laws.specs.Paths.{AreRows};
 ghost use Rattle.motion_rewrite.specs.Expressions.{kills, uses};
+ghost use Rattle.motion_rewrite.specs.ExprTables.{ForEachExpr};
 ghost use Rattle.motion_rewrite.specs.Rows.{AreOperandBits, AreRowsOf};
 
 use crate::ExprTable;
@@ -12,7 +13,7 @@ use crate::table::Written;
 use bit_rows::Rows;
 use flow_graph::Graph;
 use mir_base::{Expr, Memory};
-use path_laws::{assigned_rows, key_rows, mark_operand};
+use path_laws::{KeyOf, assigned_rows, key_rows, mark_operand};
 use std::alloc::Global;
 
 /// At which nodes each expression of the table is used: one row for each node, one bit for each expression. It fails
@@ -34,6 +35,17 @@ pub fn kill_rows(alloc: Global, graph: &Graph, table: &ExprTable) -> Result<Rows
     let operands = operand_rows(alloc, graph.vars().len(), table)?;
     let rows = assigned_rows(alloc, nodes, &operands, table.len(), graph.shared(), true)?;
     Ok(rows)
+}
+
+/// The number of the expression of the table that a node uses, and `None` exactly where it uses none of the table. It
+/// does not allocate.
+pub fn used_at(graph: &Graph, table: &ExprTable, node: usize) -> Option<usize>
+    requires { node < length graph.now.nodes }
+    ensures within { IfSome result (λ number. number < length table.now) }
+    ensures used { ForEachExpr table.now (λ i e. (uses graph.now e node ≡ true) ↔ (result ≡ Some i)) }
+{
+    let nodes = graph.nodes();
+    table.find_some(Written.key_of(&nodes[node]))
 }
 
 /// For each variable below this number, which expressions of the table have it as an operand.
