@@ -98,17 +98,17 @@ module _ (nodes : List Node) (within : AllWithin nodes) where
   pub first_within : (node : Node) (n slot : ℕ) → slice_get nodes n ≡ Some node → IsBelow (length nodes) (slice_get (node_succs node) slot)
   first_within node n slot e = succ_within (slice_get (node_succs node) slot) n slot (ap (λ o. slice_get (succs_of o) slot) e)
 
-  -- the whole visit of a node
+  -- the whole visit of a node: its second successor is marked, and then the first
   pub visited : (marks : List Bool) (stack : List ℕ) (n : ℕ) (node : Node) → slice_get nodes n ≡ Some node → slice_get marks n ≡ Some true → Walking nodes marks stack (Some n) →
-      Walking nodes (marks_after (marks_after marks (slice_get (node_succs node) 0)) (slice_get (node_succs node) 1)) (stack_after (marks_after marks (slice_get (node_succs node) 0)) (stack_after marks stack (slice_get (node_succs node) 0)) (slice_get (node_succs node) 1)) None
+      Walking nodes (marks_after (marks_after marks (slice_get (node_succs node) 1)) (slice_get (node_succs node) 0)) (stack_after (marks_after marks (slice_get (node_succs node) 1)) (stack_after marks stack (slice_get (node_succs node) 1)) (slice_get (node_succs node) 0)) None
   visited marks stack n node here is w =
-      let o = slice_get (node_succs node) 0 in
-      let o' = slice_get (node_succs node) 1 in
+      let o = slice_get (node_succs node) 1 in
+      let o' = slice_get (node_succs node) 0 in
       let r = w.sound n is in
-      let e : slice_get (succs_at nodes n) 0 ≡ o = ap (λ x. slice_get (succs_of x) 0) here in
-      let e' : slice_get (succs_at nodes n) 1 ≡ o' = ap (λ x. slice_get (succs_of x) 1) here in
-      let w1 = marks_one marks stack (Some n) o w (succ_reached o n 0 r e) (succ_within o n 0 e) in
-      let w2 = marks_one (marks_after marks o) (stack_after marks stack o) (Some n) o' w1 (succ_reached o' n 1 r e') (succ_within o' n 1 e') in
+      let e : slice_get (succs_at nodes n) 1 ≡ o = ap (λ x. slice_get (succs_of x) 1) here in
+      let e' : slice_get (succs_at nodes n) 0 ≡ o' = ap (λ x. slice_get (succs_of x) 0) here in
+      let w1 = marks_one marks stack (Some n) o w (succ_reached o n 1 r e) (succ_within o n 1 e) in
+      let w2 = marks_one (marks_after marks o) (stack_after marks stack o) (Some n) o' w1 (succ_reached o' n 0 r e') (succ_within o' n 0 e') in
       record {
         long = w2.long;
         sound = w2.sound;
@@ -121,24 +121,24 @@ module _ (nodes : List Node) (within : AllWithin nodes) where
         ];
       }
     where
-      done : (slot s : ℕ) → IsEdge nodes n slot s → slice_get (marks_after (marks_after marks (slice_get (node_succs node) 0)) (slice_get (node_succs node) 1)) s ≡ Some true
+      done : (slot s : ℕ) → IsEdge nodes n slot s → slice_get (marks_after (marks_after marks (slice_get (node_succs node) 1)) (slice_get (node_succs node) 0)) s ≡ Some true
       done slot s edge =
           let at_ : slice_get (node_succs node) slot ≡ Some s = sym (ap (λ x. slice_get (succs_of x) slot) here) ∙ edge in
           let lt = within n slot s edge in
-          let long = long_after marks (slice_get (node_succs node) 0) in
+          let long = long_after marks (slice_get (node_succs node) 1) in
           elim (two_slots node slot s at_) [
-            | inl z ↦ after_keeps (marks_after marks (slice_get (node_succs node) 0)) (slice_get (node_succs node) 1) s (marked_after marks (slice_get (node_succs node) 0) s (ap (slice_get (node_succs node)) (sym z) ∙ at_) (omega (arith, lt, w.long)))
-            | inr z ↦ marked_after (marks_after marks (slice_get (node_succs node) 0)) (slice_get (node_succs node) 1) s (ap (slice_get (node_succs node)) (sym z) ∙ at_) (omega (arith, lt, w.long, long))
+            | inl z ↦ marked_after (marks_after marks (slice_get (node_succs node) 1)) (slice_get (node_succs node) 0) s (ap (slice_get (node_succs node)) (sym z) ∙ at_) (omega (arith, lt, w.long, long))
+            | inr z ↦ after_keeps (marks_after marks (slice_get (node_succs node) 1)) (slice_get (node_succs node) 0) s (marked_after marks (slice_get (node_succs node) 1) s (ap (slice_get (node_succs node)) (sym z) ∙ at_) (omega (arith, lt, w.long)))
           ]
 
-  pub visit_walks : (marks marks' marks'' : List Bool) (stack stack' stack'' : List ℕ) (n : ℕ) (node : Node) (o o' : Option ℕ) → slice_get nodes n ≡ Some node → slice_get marks n ≡ Some true → Walking nodes marks stack (Some n) → o ≡ slice_get (node_succs node) 0 → o' ≡ slice_get (node_succs node) 1 → marks' ≡ marks_after marks o → stack' ≡ stack_after marks stack o → marks'' ≡ marks_after marks' o' → stack'' ≡ stack_after marks' stack' o' → Walking nodes marks'' stack'' None
+  pub visit_walks : (marks marks' marks'' : List Bool) (stack stack' stack'' : List ℕ) (n : ℕ) (node : Node) (o o' : Option ℕ) → slice_get nodes n ≡ Some node → slice_get marks n ≡ Some true → Walking nodes marks stack (Some n) → o ≡ slice_get (node_succs node) 1 → o' ≡ slice_get (node_succs node) 0 → marks' ≡ marks_after marks o → stack' ≡ stack_after marks stack o → marks'' ≡ marks_after marks' o' → stack'' ≡ stack_after marks' stack' o' → Walking nodes marks'' stack'' None
   visit_walks marks marks' marks'' stack stack' stack'' n node o o' here is w e e' a b a' b' =
       let v = visited marks stack n node here is w in
-      let m1 : marks' ≡ marks_after marks (slice_get (node_succs node) 0) = a ∙ ap (marks_after marks) e in
-      let s1 : stack' ≡ stack_after marks stack (slice_get (node_succs node) 0) = b ∙ ap (stack_after marks stack) e in
-      let m2 : marks'' ≡ marks_after (marks_after marks (slice_get (node_succs node) 0)) (slice_get (node_succs node) 1) = a' ∙ ap (λ l. marks_after l o') m1 ∙ ap (marks_after (marks_after marks (slice_get (node_succs node) 0))) e' in
-      let s2 : stack'' ≡ stack_after (marks_after marks (slice_get (node_succs node) 0)) (stack_after marks stack (slice_get (node_succs node) 0)) (slice_get (node_succs node) 1) = b' ∙ ap (λ l. stack_after l stack' o') m1 ∙ ap (λ l. stack_after (marks_after marks (slice_get (node_succs node) 0)) l o') s1 ∙ ap (stack_after (marks_after marks (slice_get (node_succs node) 0)) (stack_after marks stack (slice_get (node_succs node) 0))) e' in
-      subst (λ m. Walking nodes m stack'' None) (sym m2) (subst (λ s. Walking nodes (marks_after (marks_after marks (slice_get (node_succs node) 0)) (slice_get (node_succs node) 1)) s None) (sym s2) v)
+      let m1 : marks' ≡ marks_after marks (slice_get (node_succs node) 1) = a ∙ ap (marks_after marks) e in
+      let s1 : stack' ≡ stack_after marks stack (slice_get (node_succs node) 1) = b ∙ ap (stack_after marks stack) e in
+      let m2 : marks'' ≡ marks_after (marks_after marks (slice_get (node_succs node) 1)) (slice_get (node_succs node) 0) = a' ∙ ap (λ l. marks_after l o') m1 ∙ ap (marks_after (marks_after marks (slice_get (node_succs node) 1))) e' in
+      let s2 : stack'' ≡ stack_after (marks_after marks (slice_get (node_succs node) 1)) (stack_after marks stack (slice_get (node_succs node) 1)) (slice_get (node_succs node) 0) = b' ∙ ap (λ l. stack_after l stack' o') m1 ∙ ap (λ l. stack_after (marks_after marks (slice_get (node_succs node) 1)) l o') s1 ∙ ap (stack_after (marks_after marks (slice_get (node_succs node) 1)) (stack_after marks stack (slice_get (node_succs node) 1))) e' in
+      subst (λ m. Walking nodes m stack'' None) (sym m2) (subst (λ s. Walking nodes (marks_after (marks_after marks (slice_get (node_succs node) 1)) (slice_get (node_succs node) 0)) s None) (sym s2) v)
 
   -- with nothing on the stack the walk is over
   pub walk_marks : (marks : List Bool) → 0 < length nodes → Walking nodes marks [] None → MarkReached nodes marks
