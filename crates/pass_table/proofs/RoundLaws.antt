@@ -12,8 +12,10 @@ use Rattle.graph_edit.specs.InsertionSplit.{rewritten_split}
 use Rattle.motion_rewrite.specs.declared.placement.Placement.{Placement}
 use Rattle.motion_rewrite.specs.Flatten.{IsFlattened, by_placement}
 use Rattle.motion_rewrite.specs.Temporaries.{temporary}
+use Rattle.sink_dead.specs.declared.flow.GraphFlow.{GraphFlow}
+use Rattle.sink_dead.specs.GraphFlows.{IsFlowOf, same_flow}
 use Rattle.sink_dead.specs.Pruned.{IsDeadAt, IsPruned, pruned_from, removed_if}
-use Rattle.sink_dead.specs.PrunedLaws.{pruned_get, pruned_splits}
+use Rattle.sink_dead.specs.PrunedLaws.{pruned_get, pruned_splits, pruned_succs}
 use Rattle.sink_dead.specs.RoundGraphs.{AreRounds, AreRoundsFrom, IsRound}
 use Rattle.sink_dead.specs.SunkGraphs.{IsSunk}
 use Rattle.sink_dead.specs.SunkLaws.{sunk_is_one}
@@ -78,6 +80,14 @@ long_from dead k (node ∷ nodes) = ap suc (long_from dead (suc k) nodes)
 -- so it is of a graph and the one without its dead assignments
 pub pruned_long : (graph pruned : GraphShape) → IsPruned graph pruned → length pruned.nodes ≡ length graph.nodes
 pruned_long graph pruned p = ap (λ (g : GraphShape). length g.nodes) p.is ∙ long_from p.dead 0 graph.nodes
+
+-- and it has the same edges and blocks
+pub pruned_flow : (graph pruned : GraphShape) → IsGraph graph.vars graph.received graph.nodes → IsPruned graph pruned → (flow : GraphFlow)
+    → IsFlowOf graph.nodes flow → IsFlowOf pruned.nodes flow
+pruned_flow graph pruned is_graph exact flow is = same_flow graph.nodes pruned.nodes (record {
+  long = sym (pruned_long graph pruned exact);
+  succs = λ n. sym (pruned_succs graph pruned is_graph exact n);
+}) flow is
 
 -- a node that stays did not become a Skip
 stays : (o : Option Node) → (not (is_skip o) && is_skip (option_map (changed Unchanged) o)) ≡ false

@@ -2,6 +2,7 @@ pub mod Copies
 pub mod Motion
 pub mod Patterns
 pub mod Rounds
+pub mod Sinkings
 pub mod Stages
 pub mod States
 pub mod Terms

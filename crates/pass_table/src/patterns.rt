@@ -1,7 +1,8 @@
 // The patterns of a graph that can still move, and where they are delayed and inserted. Each function fails only with
 // `Memory`.
-ghost use Rattle.std.specs.Prelude.{length, OnOk, Some};
+ghost use Rattle.std.specs.Prelude.{◌≡◌, length, OnOk, Some};
 ghost use Rattle.mir_base.specs.Appending.{AppendsOnOk};
+ghost use Rattle.flow_graph.specs.Edges.{edges_of};
 ghost use Rattle.table_text.specs.Turns.{AppendsSome};
 ghost use Rattle.pass_table.specs.Patterns.{ArePatternsFound, HavePatternBit, IsPatternsText, pattern_head, pattern_lines, patterns_below};
 
@@ -17,7 +18,21 @@ pub(crate) fn put_patterns(alloc: Global, text: &mut Vec<u8>, graph: &Graph) -> 
     ensures { OnOk result (AppendsSome (IsPatternsText graph.now) text.old text.new) }
 {
     let edges = Edges::of(alloc, graph)?;
-    let found = DelayedPatterns::of(alloc, graph, &edges)?;
+    put_patterns_by(alloc, text, graph, &edges)?;
+    Ok(())
+}
+
+/// The same, by the edges of the graph.
+pub(crate) fn put_patterns_by(
+    alloc: Global,
+    text: &mut Vec<u8>,
+    graph: &Graph,
+    edges: &Edges,
+) -> Result<(), Memory>
+    requires { edges.now ≡ edges_of graph.now.nodes }
+    ensures { OnOk result (AppendsSome (IsPatternsText graph.now) text.old text.new) }
+{
+    let found = DelayedPatterns::of(alloc, graph, edges)?;
     put_each(text, graph, &found)?;
     Ok(())
 }

@@ -1,8 +1,9 @@
 // What each round of sinking finds out, and what it leaves. Each function fails only with `Memory`.
-ghost use Rattle.std.specs.Prelude.{◌≡◌, ◌<◌, ◌+◌, ◌&&◌, not, length, OnOk, Some};
+ghost use Rattle.std.specs.Prelude.{◌≡◌, ◌<◌, ◌+◌, ◌&&◌, not, length, IfOk, OnOk, Some};
 ghost use Rattle.mir_base.specs.Appending.{AppendsOnOk};
 ghost use Rattle.flow_graph.specs.Edges.{IsSplit};
 ghost use Rattle.path_laws.specs.Paths.{HaveShape};
+ghost use Rattle.sink_dead.specs.GraphFlows.{IsFlowOf};
 ghost use Rattle.sink_dead.specs.Pruned.{IsPruned};
 ghost use Rattle.mir_opt.specs.declared.stages.Stage.TheVariants.{Round};
 ghost use Rattle.mir_opt.specs.Stages.{graph_at};
@@ -10,16 +11,17 @@ ghost use Rattle.table_text.specs.Lines.{names_of_units};
 ghost use Rattle.table_text.specs.Rows.{bit_byte};
 ghost use Rattle.table_text.specs.Turns.{AppendsSome, InTurn};
 ghost use Rattle.pass_table.specs.Rounds.{IsDeadLine, IsLiveText, IsRoundAt, IsSunkText, became_skip, dead_line, flags_below, is_skip, sunk_line, variable_line, variables_below};
+ghost use Rattle.pass_table.specs.Sinkings.{IsSinkingOf};
 ghost use Rattle.pass_table.specs.Units.{IsUnitLinked};
 
-use crate::stages::{put_finding, put_shown};
+use crate::stages::{put_round_finding, put_shown};
 use bit_rows::Rows;
 use copy_flow::copied_splits;
 use edge_split::split_splits;
 use flow_graph::{Graph, Node};
 use mir_base::{Memory, Name, Unit as MirUnit};
 use mir_opt::{Stage, UnitTrail};
-use sink_dead::{live_rows, sunk};
+use sink_dead::{GraphFlow, live_rows_by, sunk_by};
 use std::alloc::Global;
 use table_text::{put_bits, put_count, put_graph, put_name};
 
@@ -36,8 +38,9 @@ pub(crate) fn put_rounds(
         text.old text.new) }
 {
     sunk_is_split(unit);
+    let mut flow = GraphFlow::of(alloc, unit.graph(Stage::Round(0)))?;
     for number in 0..unit.sunk.rounds.items().len() {
-        put_round(alloc, text, units, unit, number, number + 1)?;
+        flow = put_round(alloc, text, units, unit, number, number + 1, &flow)?;
     }
     Ok(())
 }
@@ -52,8 +55,8 @@ fn sunk_is_split(unit: &UnitTrail)
     copied_splits(&unit.moved, &unit.recopied);
 }
 
-/// Appends the round behind so many others, which has the next number. The graph before it is split, as that behind it
-/// is too.
+/// Appends the round behind so many others, which has the next number, and gives the edges and the blocks of the graph
+/// that it makes. The graph before it, whose edges and blocks are `flow`, is split, as that behind it is too.
 fn put_round(
     alloc: Global,
     text: &mut Vec<u8>,
@@ -61,28 +64,50 @@ fn put_round(
     unit: &UnitTrail,
     number: usize,
     next: usize,
-) -> Result<(), Memory>
+    flow: &GraphFlow,
+) -> Result<GraphFlow, Memory>
     requires linked { IsUnitLinked unit.now }
     requires number { number < length unit.now.sunk.rounds }
     requires next { next ≡ number + 1 }
     requires split { IsSplit (graph_at unit.now (Round number)).nodes }
+    requires flow { IsFlowOf (graph_at unit.now (Round number)).nodes flow.now }
     ensures text { OnOk result (AppendsSome (IsRoundAt (names_of_units units.now) unit.now number)
         text.old text.new) }
     ensures split { OnOk result (IsSplit (graph_at unit.now (Round (number + 1))).nodes) }
+    ensures flow { IfOk result (IsFlowOf (graph_at unit.now (Round (number + 1))).nodes) }
 {
-    put_finding(alloc, text, unit, Stage::Round(next))?;
-    let sunk = sunk(alloc, unit.graph(Stage::Round(number)))?;
-    let _nodes = sunk.nodes();
+    put_round_finding(alloc, text, unit, next, &flow.edges)?;
+    let sinking = sunk_with_flow(alloc, unit.graph(Stage::Round(number)), flow)?;
     put_sunk(
         alloc,
         text,
         units,
         next,
-        &sunk,
+        &sinking,
         unit.graph(Stage::Round(next)),
     )?;
     put_shown(text, units, unit, Stage::Round(next))?;
-    Ok(())
+    let Sinking { flow, .. } = sinking;
+    Ok(flow)
+}
+
+/// A graph whose assignments have sunk, with its edges and its blocks.
+#[derive(Drop)]
+struct Sinking {
+    graph: Graph,
+    flow: GraphFlow,
+}
+
+/// The graph in which the assignments of a graph have sunk, whose edges and blocks are `flow`, with its own.
+fn sunk_with_flow(alloc: Global, graph: &Graph, flow: &GraphFlow) -> Result<Sinking, Memory>
+    requires split { IsSplit graph.now.nodes }
+    requires flow { IsFlowOf graph.now.nodes flow.now }
+    ensures { IfOk result (IsSinkingOf graph.now) }
+{
+    let graph = sunk_by(alloc, graph, flow)?;
+    let flow = GraphFlow::of(alloc, &graph)?;
+    let _nodes = graph.nodes();
+    Ok(Sinking { graph, flow })
 }
 
 /// Appends the graph whose assignments have sunk in the round of this number, and what is dead and live in it, where
@@ -92,17 +117,20 @@ fn put_sunk(
     text: &mut Vec<u8>,
     units: &[MirUnit],
     number: usize,
-    sunk: &Graph,
+    sinking: &Sinking,
     pruned: &Graph,
 ) -> Result<(), Memory>
-    requires { IsPruned sunk.now pruned.now }
-    ensures { OnOk result (AppendsSome (IsSunkText (names_of_units units.now) number sunk.now)
+    requires pruned { IsPruned sinking.now.graph pruned.now }
+    requires flow { IsFlowOf sinking.now.graph.nodes sinking.now.flow }
+    ensures { OnOk result
+        (AppendsSome (IsSunkText (names_of_units units.now) number sinking.now.graph)
         text.old text.new) }
 {
+    let sunk = &sinking.graph;
     put_title(text, number)?;
     put_graph(text, units, sunk)?;
     put_dead(text, sunk, pruned)?;
-    put_live(alloc, text, sunk)?;
+    put_live(alloc, text, sunk, &sinking.flow)?;
     Ok(())
 }
 
@@ -179,11 +207,17 @@ fn is_skip(node: &Node) -> bool
 
 // ---- live variables
 
-/// Appends the variables of a graph, each with the nodes before which it is live.
-fn put_live(alloc: Global, text: &mut Vec<u8>, graph: &Graph) -> Result<(), Memory>
+/// Appends the variables of a graph, each with the nodes before which it is live, by its edges and its blocks.
+fn put_live(
+    alloc: Global,
+    text: &mut Vec<u8>,
+    graph: &Graph,
+    flow: &GraphFlow,
+) -> Result<(), Memory>
+    requires { IsFlowOf graph.now.nodes flow.now }
     ensures { OnOk result (AppendsSome (IsLiveText graph.now) text.old text.new) }
 {
-    let live = live_rows(alloc, graph)?;
+    let live = live_rows_by(alloc, graph, flow)?;
     put_variables(text, graph, &live)?;
     Ok(())
 }

@@ -2,6 +2,7 @@
 // only with `Memory`.
 ghost use Rattle.std.specs.Prelude.{◌≡◌, ◌-◌, OnOk};
 ghost use Rattle.mir_base.specs.Appending.{AppendsOnOk};
+ghost use Rattle.flow_graph.specs.Edges.{edges_of};
 ghost use Rattle.mir_opt.specs.declared.stages.Stage.TheVariants.{Round};
 ghost use Rattle.mir_opt.specs.Stages.{graph_at};
 ghost use Rattle.table_text.specs.Lines.{names_of_units};
@@ -11,10 +12,10 @@ ghost use Rattle.pass_table.specs.Units.{IsUnitMotion};
 
 use crate::copies::put_copies;
 use crate::motion::put_motion;
-use crate::patterns::put_patterns;
+use crate::patterns::{put_patterns, put_patterns_by};
 use crate::states::put_states;
 use crate::terms::put_terms;
-use flow_graph::Graph;
+use flow_graph::{Edges, Graph};
 use mir_base::{Memory, Unit as MirUnit};
 use mir_opt::{Stage, UnitTrail};
 use std::alloc::Global;
@@ -50,6 +51,22 @@ pub(crate) fn put_finding(
 {
     put_pass(text, stage)?;
     put_found(alloc, text, unit, stage)?;
+    Ok(())
+}
+
+/// The same of the round of this number, from 1 on, by the edges of the graph before it.
+pub(crate) fn put_round_finding(
+    alloc: Global,
+    text: &mut Vec<u8>,
+    unit: &UnitTrail,
+    number: usize,
+    edges: &Edges,
+) -> Result<(), Memory>
+    requires { edges.now ≡ edges_of (graph_at unit.now (Round (number - 1))).nodes }
+    ensures { OnOk result (AppendsSome (IsFoundText unit.now (Round number)) text.old text.new) }
+{
+    put_pass(text, Stage::Round(number))?;
+    put_patterns_by(alloc, text, before_round(unit, number), edges)?;
     Ok(())
 }
 

@@ -9,7 +9,7 @@ pub returns : goal.returns
 returns c =
     let text = c.args.text.now in
     let line = sunk_line c.args.number in
-    let graph = graph_text (names_of_units c.args.units.now) c.args.sunk.now in
+    let graph = graph_text (names_of_units c.args.units.now) c.args.sinking.now.graph in
     let dead = c.in_ok-put_dead.ensures in
     let live = c.in_ok-put_live.ensures in
     let first = two_pieces text c.put_title.new.text c.put_graph.new.text line graph c.in_ok-put_title.ensures c.in_ok-put_graph.ensures in

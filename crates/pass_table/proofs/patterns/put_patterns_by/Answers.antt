@@ -1,6 +1,6 @@
 use Rattle.std.proofs.Common.{length, refl}
 use Rattle.pass_table.specs.Patterns.{patterns_below}
-use Rattle.pass_table.proofs.patterns.put_patterns.Goals as goal
+use Rattle.pass_table.proofs.patterns.put_patterns_by.Goals as goal
 
 pub put_each-requires : goal.put_each-requires
 put_each-requires c = let e = c.in_ok-found.ensures in record { moving = e.moving; blocked = e.blocked; delayed = e.delayed; inserted = e.inserted }
