@@ -29,12 +29,14 @@ pub(crate) fn rewrite(
 {
     let nodes = graph.nodes();
     let mut made = skips(alloc, nodes.len())?;
+    let mut room = Facts::with_room(alloc, graph.vars().len())?;
     for block in 0..blocks.len() {
         rewrite_block(
             alloc,
             graph,
             blocks.nodes(block),
             states.value(block),
+            &mut room,
             &mut made,
         )?;
     }
@@ -52,12 +54,13 @@ fn skips(alloc: Global, count: usize) -> Result<Vec<Node>, Memory>
     Ok(skips)
 }
 
-/// Puts what the nodes of a block become in their places.
+/// Puts what the nodes of a block become in their places, with a room in which to walk through the block.
 fn rewrite_block(
     alloc: Global,
     graph: &Graph,
     list: &[usize],
     state: &BlockState,
+    room: &mut Facts,
     made: &mut Vec<Node>,
 ) -> Result<(), Memory>
     requires chain { IsChain graph.now.nodes list.now }
@@ -65,8 +68,8 @@ fn rewrite_block(
     ensures { OnOk result (FoldsBlock graph.now.shared graph.now.received graph.now.nodes list.now
         state.now (length list.now) made.old.items made.new.items) }
 {
-    let mut known = state.known(alloc)?;
-    rewrite_list(alloc, graph, list, state.is_reached(), &mut known, made)?;
+    state.put_in(alloc, room)?;
+    rewrite_list(alloc, graph, list, state.is_reached(), room, made)?;
     Ok(())
 }
 

@@ -1,5 +1,5 @@
 // States of nodes, as they are kept where blocks begin.
-ghost use Rattle.std.specs.Prelude.{◌≡◌, ◌↔◌, ◌<◌, ◌≤◌, ◌||◌, false, true, length, IfOk};
+ghost use Rattle.std.specs.Prelude.{◌≡◌, ◌↔◌, ◌<◌, ◌≤◌, ◌||◌, false, true, length, IfOk, OnOk};
 ghost use Rattle.fix_solve.specs.Order.{IsLeastUpper};
 ghost use Rattle.cond_const.specs.States.{Unreached, BelowState, is_reached, state_rank, size_of, state_where};
 ghost use Rattle.cond_const.specs.StateLaws.{state_laws};
@@ -63,6 +63,21 @@ impl BlockState {
         } else {
             let known = Facts::zeros(alloc, self.known.size())?;
             Ok(known)
+        }
+    }
+
+    /// Leaves in this room what is known of each variable, where the block is reached. It fails only with `Memory`, and
+    /// allocates where the room is too small.
+    pub(crate) fn put_in(&self, alloc: Global, room: &mut Facts) -> Result<(), Memory>
+        ensures { OnOk result (state_where (is_reached self.now) room.new.items ≡ self.now) }
+    {
+        if self.reached && self.known.len() <= room.size() {
+            room.refill(&self.known);
+            Ok(())
+        } else {
+            let known = self.known(alloc)?;
+            *room = known;
+            Ok(())
         }
     }
 
