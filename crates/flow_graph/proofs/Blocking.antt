@@ -11,7 +11,7 @@ use Rattle.flow_graph.specs.declared.nodes.Node.{Node}
 use Rattle.flow_graph.specs.Graphs.{IsGraph, Reached}
 use Rattle.flow_graph.specs.PathLaws.{end_stands, reached_trace, begins_first}
 use Rattle.flow_graph.specs.Paths.{Begins, Ends, HasEdge, Trace, from_start, goes_on}
-use Rattle.flow_graph.specs.Blocks.{AreBlocksOf, AreStored, AreMade, AreParts, AreStarts, IsBlock, IsBlocks, IsChain, IsFirst, IsBlockSoFar, IsGlued, IsLast, IsPlaced, StandsIn, HasRoom, parts_at, is_first, unplaced}
+use Rattle.flow_graph.specs.Blocks.{AreBlocksOf, AreStored, AreMade, AreParts, AreStarts, IsBlock, IsBlocks, IsChain, IsFirst, IsBlockSoFar, IsGlued, IsLast, IsPlaced, StandsIn, HasRoomForUnplaced, parts_at, is_first, unplaced}
 use Rattle.flow_graph.specs.BlockLaws.{begins_more, chain_first, chain_more, chain_on, ends_more, first_is, glued_edge, not_first, only_from, only_to}
 
 -- ---- the parts of a list
@@ -86,13 +86,13 @@ pub all_unplaced : (none n : ℕ) → unplaced none (replicate n none) ≡ n
 all_unplaced none zero = refl
 all_unplaced none (suc n) = omega (arith, ap {B = ℕ} (λ v. cond v 1 0) (eq-eqb none none refl), all_unplaced none n)
 
-module _ {A : Type 0} (none n block : ℕ) (order : Vec ℕ A) (block_of : List ℕ) (h : n < length block_of) (is : get_or block_of n none ≡ none) (other : block ≢ none) (room : HasRoom none order block_of) where
+module _ {A : Type 0} (none n block : ℕ) (order : Vec ℕ A) (block_of : List ℕ) (h : n < length block_of) (is : get_or block_of n none ≡ none) (other : block ≢ none) (room : HasRoomForUnplaced none order block_of) where
   -- a node that has no block has a place
   pub place_left : vec_len order < vec_capacity order
   place_left = omega (arith, room, unplaced_less none n block block_of h is other)
 
   -- and the others have theirs once it has its own
-  pub room_left : (longer : Vec ℕ A) (after : List ℕ) → vec_len longer ≡ vec_len order + 1 → vec_capacity longer ≡ vec_capacity order → after ≡ set block_of n block → HasRoom none longer after
+  pub room_left : (longer : Vec ℕ A) (after : List ℕ) → vec_len longer ≡ vec_len order + 1 → vec_capacity longer ≡ vec_capacity order → after ≡ set block_of n block → HasRoomForUnplaced none longer after
   room_left longer after len capacity after_is = omega (arith, room, len, capacity, ap (unplaced none) after_is, unplaced_less none n block block_of h is other)
 
 -- ---- a block that is followed
@@ -311,7 +311,7 @@ kept_none nodes order starts block_of order_is starts_are block_of_is =
     })
 
 -- and there is room for all nodes
-pub room_none : {A : Type 0} (n : ℕ) (order : Vec ℕ A) (block_of : List ℕ) → vec_len order ≡ 0 → vec_capacity order ≡ n → block_of ≡ replicate n n → HasRoom n order block_of
+pub room_none : {A : Type 0} (n : ℕ) (order : Vec ℕ A) (block_of : List ℕ) → vec_len order ≡ 0 → vec_capacity order ≡ n → block_of ≡ replicate n n → HasRoomForUnplaced n order block_of
 room_none n order block_of len capacity is = omega (arith, len, capacity, ap (unplaced n) is, all_unplaced n n)
 
 -- a node that is not the first of its block adds nothing

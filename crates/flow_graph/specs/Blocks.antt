@@ -160,5 +160,5 @@ abbrev pub unplaced : ℕ → List ℕ → ℕ
 unplaced = times_in
 
 -- a list has room for the nodes that have no block yet
-abbrev pub HasRoom : {A : Type 0} → ℕ → Vec ℕ A → List ℕ → Type 0
-HasRoom none order block_of = vec_len order + unplaced none block_of ≤ vec_capacity order
+abbrev pub HasRoomForUnplaced : {A : Type 0} → ℕ → Vec ℕ A → List ℕ → Type 0
+HasRoomForUnplaced none order block_of = vec_len order + unplaced none block_of ≤ vec_capacity order

@@ -1,7 +1,7 @@
 // The blocks of a graph.
 ghost use Rattle.std.specs.Prelude.{◌≡◌, ◌+◌, ◌<◌, ◌++◌, [], ◌∷◌, length, slice_get, slice_set, vec_len, Some, IfOk};
 ghost use Rattle.std.specs.Vec.{vec_capacity};
-ghost use Rattle.flow_graph.specs.Blocks.{AreBlocksOf, AreOnlyBlocks, AreStored, IsFirst, StandsIn, is_first, next_of, IsUnplaced, GluedToPlaced, HasRoom, IsFollowedBlock};
+ghost use Rattle.flow_graph.specs.Blocks.{AreBlocksOf, AreOnlyBlocks, AreStored, IsFirst, StandsIn, is_first, next_of, IsUnplaced, GluedToPlaced, HasRoomForUnplaced, IsFollowedBlock};
 ghost use Rattle.flow_graph.specs.Edges.{edges_of};
 
 use crate::tables::{bounds, filled, part};
@@ -94,11 +94,11 @@ fn add(
     requires edges { edges.now ≡ edges_of graph.now.nodes }
     requires there { head < length graph.now.nodes }
     requires before { AreStored graph.now.nodes head order.old.items starts.old.items block_of.old }
-    requires room { HasRoom (length graph.now.nodes) order.old block_of.old }
+    requires room { HasRoomForUnplaced (length graph.now.nodes) order.old block_of.old }
     requires starts { vec_capacity starts.old ≡ length graph.now.nodes + 1 }
     ensures after { AreStored graph.now.nodes (head + 1)
         order.new.items starts.new.items block_of.new }
-    ensures room { HasRoom (length graph.now.nodes) order.new block_of.new }
+    ensures room { HasRoomForUnplaced (length graph.now.nodes) order.new block_of.new }
     ensures starts { vec_capacity starts.new ≡ vec_capacity starts.old }
 {
     if !begins(graph, edges, head, block_of) {
@@ -142,10 +142,10 @@ fn follow(
     requires long { length block_of.old ≡ length graph.now.nodes }
     requires unplaced { IsUnplaced (length graph.now.nodes) block_of.old head }
     requires closed { GluedToPlaced graph.now.nodes block_of.old }
-    requires room { HasRoom (length graph.now.nodes) order.old block_of.old }
+    requires room { HasRoomForUnplaced (length graph.now.nodes) order.old block_of.old }
     ensures block { IsFollowedBlock graph.now.nodes head block order.old.items order.new.items
         block_of.old block_of.new }
-    ensures room { HasRoom (length graph.now.nodes) order.new block_of.new }
+    ensures room { HasRoomForUnplaced (length graph.now.nodes) order.new block_of.new }
 {
     let _nodes = graph.nodes();
     let mut node = head;

@@ -14,7 +14,7 @@ use Rattle.path_laws.specs.Paths.{AreRows, has_bit}
 use Rattle.motion_rewrite.specs.declared.placement.Placement.{Placement}
 use Rattle.motion_rewrite.specs.Placements.{Places, nowhere, places_of}
 use Rattle.latest_place.specs.Lazy.{IsLazy, IsLazyPlacement}
-use Rattle.latest_place.specs.Parts.{AddsBits, IsAmong, IsLazyAmong, IsPart}
+use Rattle.latest_place.specs.Parts.{AddsBits, HasNumber, IsLazyAmong, IsPart}
 
 -- placements with the same bits are lazy alike
 same_places_lazy : (graph : GraphShape) (e : Expr) (Down : ℕ → Type 0) (p q : Places) → ((n : ℕ) → q.inserts n ≡ p.inserts n) → ((n : ℕ) → q.replaces n ≡ p.replaces n)
@@ -34,15 +34,16 @@ false_or x y off = rw off refl
 
 -- ---- lists of numbers
 
--- a number of the first list is among both, and so is one of the second
-among_left : (i : ℕ) (xs ys : List ℕ) → IsAmong i xs → IsAmong i (xs ++ ys)
+-- a number of the first list is in both joined
+among_left : (i : ℕ) (xs ys : List ℕ) → HasNumber i xs → HasNumber i (xs ++ ys)
 among_left i xs ys (k, at) = (k, get_left xs ys k (slice_get_within xs k i at) ∙ at)
 
-among_right : (i : ℕ) (xs ys : List ℕ) → IsAmong i ys → IsAmong i (xs ++ ys)
+-- so is one of the second
+among_right : (i : ℕ) (xs ys : List ℕ) → HasNumber i ys → HasNumber i (xs ++ ys)
 among_right i xs ys (k, at) = (length xs + k, get_right xs ys k ∙ at)
 
 -- and not in both
-apart : (i : ℕ) (xs ys : List ℕ) → AllDiffer (xs ++ ys) → IsAmong i xs → IsAmong i ys → ⊥
+apart : (i : ℕ) (xs ys : List ℕ) → AllDiffer (xs ++ ys) → HasNumber i xs → HasNumber i ys → ⊥
 apart i xs ys differ (k, at) (j, at') =
     let below = slice_get_within xs k i at in
     let same = one_place (xs ++ ys) differ k (length xs + j) i (get_left xs ys k below ∙ at) (get_right xs ys j ∙ at') in
@@ -83,7 +84,7 @@ module _ (Down : GraphShape → Expr → ℕ → Type 0) (graph : GraphShape) (t
     (old new part : Placement) (was : IsLazyAmong Down graph table others old) (placed : IsLazyPlacement Down graph exprs part)
     (inserts : AddsBits numbers part.insert old.insert new.insert) (replaces : AddsBits numbers part.replace old.replace new.replace) where
   -- a bit of the part, where there was none
-  part_bit : (bits was_bits are_bits : List (List Bool)) → AddsBits numbers bits was_bits are_bits → ((n b : ℕ) → (IsAmong b others → ⊥) → has_bit was_bits b n ≡ false) → (n k b : ℕ) → slice_get numbers k ≡ Some b
+  part_bit : (bits was_bits are_bits : List (List Bool)) → AddsBits numbers bits was_bits are_bits → ((n b : ℕ) → (HasNumber b others → ⊥) → has_bit was_bits b n ≡ false) → (n k b : ℕ) → slice_get numbers k ≡ Some b
       → has_bit are_bits b n ≡ has_bit bits k n
   part_bit bits was_bits are_bits adds none n k b at =
       adds.added n k b at ∙ false_or (has_bit was_bits b n) (has_bit bits k n) (none n b (λ among. apart b others numbers differ among (k, at)))
@@ -130,23 +131,23 @@ lazy_among_none Down graph table p inserts replaces = record {
     ]
 
 -- whether a number is in a list can be tested
-among_or_not : (i : ℕ) (list : List ℕ) → Dec (IsAmong i list)
+among_or_not : (i : ℕ) (list : List ℕ) → Dec (HasNumber i list)
 among_or_not i [] = no (λ among. let low = slice_get_within {A = ℕ} [] among.0 i among.1 in omega (arith, low))
-among_or_not i (x ∷ list) = elim (cases_eq i x) as (λ _. Dec (IsAmong i (x ∷ list))) [
+among_or_not i (x ∷ list) = elim (cases_eq i x) as (λ _. Dec (HasNumber i (x ∷ list))) [
   | inl same ↦ yes (0, ap Some (sym same))
-  | inr other ↦ elim (among_or_not i list) as (λ _. Dec (IsAmong i (x ∷ list))) [
+  | inr other ↦ elim (among_or_not i list) as (λ _. Dec (HasNumber i (x ∷ list))) [
     | yes among ↦ yes (suc among.0, among.1)
     | no none ↦ no (λ among. neither other none among.0 among.1)
   ]
 ]
   where
-    neither : i ≢ x → (IsAmong i list → ⊥) → (k : ℕ) → slice_get (x ∷ list) k ≡ Some i → ⊥
+    neither : i ≢ x → (HasNumber i list → ⊥) → (k : ℕ) → slice_get (x ∷ list) k ≡ Some i → ⊥
     neither other none zero at = let same : i ≡ x = cc in other same
     neither other none (suc k) at = none (k, at)
 
 -- where those that are not placed stay, the placement is whole
 pub lazy_among_all : (Down : GraphShape → Expr → ℕ → Type 0) (graph : GraphShape) (table : List Expr) (numbers : List ℕ) (p : Placement) → IsLazyAmong Down graph table numbers p
-    → ((i : ℕ) (e : Expr) → slice_get table i ≡ Some e → (IsAmong i numbers → ⊥) → IsLazy graph e (Down graph e) nowhere) → IsLazyPlacement Down graph table p
+    → ((i : ℕ) (e : Expr) → slice_get table i ≡ Some e → (HasNumber i numbers → ⊥) → IsLazy graph e (Down graph e) nowhere) → IsLazyPlacement Down graph table p
 lazy_among_all Down graph table numbers p placed stay = record {
   insert_rows = placed.insert_rows;
   replace_rows = placed.replace_rows;

@@ -9,7 +9,7 @@ use Rattle.mir_base.specs.ItemLaws.{get_last, get_left, one_place}
 use Rattle.flow_graph.specs.ListLaws.{get_push}
 use Rattle.flow_graph.specs.Graphs.{GraphShape, succs_at}
 use Rattle.motion_rewrite.specs.Expressions.{uses}
-use Rattle.latest_place.specs.Parts.{AreNumbersBelow, AreSeenFrom, IsAmong, IsPassedOnce, IsSeenFrom, LeadsFrom, seen_again, seen_at}
+use Rattle.latest_place.specs.Parts.{AreNumbersBelow, AreSeenFrom, HasNumber, IsPassedOnce, IsSeenFrom, LeadsFrom, seen_again, seen_at}
 use Rattle.latest_place.specs.Stable.{split_bit}
 use Rattle.latest_place.specs.declared.once.Seen.{Seen}
 use Rattle.latest_place.specs.declared.once.Seen.TheVariants.{Never, Once, More}
@@ -90,7 +90,7 @@ module _ (graph : GraphShape) (n : ℕ) where
 pub record AreListedTo (seen : List Seen) (end : ℕ) (numbers : List ℕ) : Type 0 where
   pub below : AreNumbersBelow end numbers
   pub differ : AllDiffer numbers
-  pub others : (i : ℕ) → i < end → (IsAmong i numbers → ⊥) → get_or seen i More ≡ Once
+  pub others : (i : ℕ) → i < end → (HasNumber i numbers → ⊥) → get_or seen i More ≡ Once
 
 -- at the start
 pub listed_none : (seen : List Seen) → AreListedTo seen 0 []

@@ -7,7 +7,7 @@ use Rattle.mir_base.specs.Shapes.{AllDiffer}
 use Rattle.mir_base.specs.ItemLaws.{one_place}
 use Rattle.bit_rows.specs.Bits.{AreAlike, IsTrueFrom, NoneTrue, row_bit, row_of}
 use Rattle.path_laws.specs.Paths.{has_bit}
-use Rattle.latest_place.specs.Parts.{AddsBits, AddsRow, IsAmong}
+use Rattle.latest_place.specs.Parts.{AddsBits, AddsRow, HasNumber}
 
 -- ---- one bit set
 
@@ -52,11 +52,12 @@ alike_on a b c p q = record { len = q.len ∙ p.len; each = λ n below. q.each n
 pub alike_self : (a : List (List Bool)) → AreAlike a a
 alike_self a = record { len = refl; each = λ n below. refl }
 
--- a bit or false is the bit, and a bit or true is true
+-- a bit or false is the bit
 or_false : (x : Bool) → x ≡ (x || false)
 or_false true = refl
 or_false false = refl
 
+-- and a bit or true is true
 or_true : (x : Bool) → true ≡ (x || true)
 or_true true = refl
 or_true false = refl
@@ -67,7 +68,7 @@ or_true false = refl
 pub record AddsUpTo (numbers : List ℕ) (node : ℕ) (row : List Bool) (from : ℕ) (old new : List (List Bool)) : Type 0 where
   pub alike : AreAlike old new
   pub others : (n b : ℕ) → n ≢ node → has_bit new b n ≡ has_bit old b n
-  pub beside : (b : ℕ) → (IsAmong b numbers → ⊥) → has_bit new b node ≡ has_bit old b node
+  pub beside : (b : ℕ) → (HasNumber b numbers → ⊥) → has_bit new b node ≡ has_bit old b node
   pub done : (k b : ℕ) → k < from → slice_get numbers k ≡ Some b → has_bit new b node ≡ (has_bit old b node || row_bit row k)
   pub rest : (k b : ℕ) → from ≤ k → slice_get numbers k ≡ Some b → has_bit new b node ≡ has_bit old b node
 
@@ -128,7 +129,7 @@ module _ (numbers : List ℕ) (node : ℕ) (row : List Bool) (old : List (List B
 -- the rows below this node have the bits of the part, and the others are as before
 pub record AddsBelow (numbers : List ℕ) (part : List (List Bool)) (node : ℕ) (old new : List (List Bool)) : Type 0 where
   pub alike : AreAlike old new
-  pub beside : (n b : ℕ) → (IsAmong b numbers → ⊥) → has_bit new b n ≡ has_bit old b n
+  pub beside : (n b : ℕ) → (HasNumber b numbers → ⊥) → has_bit new b n ≡ has_bit old b n
   pub done : (n k b : ℕ) → n < node → slice_get numbers k ≡ Some b → has_bit new b n ≡ (has_bit old b n || has_bit part k n)
   pub rest : (n b : ℕ) → node ≤ n → has_bit new b n ≡ has_bit old b n
 

@@ -58,18 +58,18 @@ seen_at seen passed (Some i) = slice_set seen i (seen_again passed (slice_index_
 -- ---- numbers
 
 -- the list has the number
-abbrev pub IsAmong : ℕ → List ℕ → Type 0
-IsAmong i numbers = (k : ℕ) × (slice_get numbers k ≡ Some i)
+abbrev pub HasNumber : ℕ → List ℕ → Type 0
+HasNumber i numbers = (k : ℕ) × (slice_get numbers k ≡ Some i)
 
 -- the numbers of the list are below this one
 abbrev pub AreNumbersBelow : ℕ → List ℕ → Type 0
 AreNumbersBelow end numbers = (k i : ℕ) → slice_get numbers k ≡ Some i → i < end
 
 -- distinct numbers of expressions of the table, without only such as one node uses, which is passed once
-pub record AreMoving (graph : GraphShape) (table : List Expr) (numbers : List ℕ) : Type 0 where
+pub record AreToPlace (graph : GraphShape) (table : List Expr) (numbers : List ℕ) : Type 0 where
   pub below : AreNumbersBelow (length table) numbers
   pub differ : AllDiffer numbers
-  pub others : ForEachExpr table (λ i e. (IsAmong i numbers → ⊥) → (u : ℕ) × IsUsedOnceFrom graph e 0 u)
+  pub others : ForEachExpr table (λ i e. (HasNumber i numbers → ⊥) → (u : ℕ) × IsUsedOnceFrom graph e 0 u)
 
 -- the expressions of these numbers
 pub record IsPart (numbers : List ℕ) (table part : List Expr) : Type 0 where
@@ -82,13 +82,13 @@ pub record IsPart (numbers : List ℕ) (table part : List Expr) : Type 0 where
 pub record AddsRow (numbers : List ℕ) (node : ℕ) (row : List Bool) (old new : List (List Bool)) : Type 0 where
   pub alike : AreAlike old new
   pub others : (n b : ℕ) → n ≢ node → has_bit new b n ≡ has_bit old b n
-  pub beside : (b : ℕ) → (IsAmong b numbers → ⊥) → has_bit new b node ≡ has_bit old b node
+  pub beside : (b : ℕ) → (HasNumber b numbers → ⊥) → has_bit new b node ≡ has_bit old b node
   pub added : (k b : ℕ) → slice_get numbers k ≡ Some b → has_bit new b node ≡ (has_bit old b node || row_bit row k)
 
 -- so it is of each row
 pub record AddsBits (numbers : List ℕ) (part old new : List (List Bool)) : Type 0 where
   pub alike : AreAlike old new
-  pub beside : (n b : ℕ) → (IsAmong b numbers → ⊥) → has_bit new b n ≡ has_bit old b n
+  pub beside : (n b : ℕ) → (HasNumber b numbers → ⊥) → has_bit new b n ≡ has_bit old b n
   pub added : (n k b : ℕ) → slice_get numbers k ≡ Some b → has_bit new b n ≡ (has_bit old b n || has_bit part k n)
 
 -- ---- the placement
@@ -99,6 +99,6 @@ pub record IsLazyAmong (Down : GraphShape → Expr → ℕ → Type 0) (graph : 
     (numbers : List ℕ) (p : Placement) : Type 0 where
   pub insert_rows : HaveShape graph (length table) p.insert
   pub replace_rows : HaveShape graph (length table) p.replace
-  pub lazy : ForEachExpr table (λ i e. IsAmong i numbers → IsLazy graph e (Down graph e) (places_of p i))
-  pub inserts_none : (n b : ℕ) → (IsAmong b numbers → ⊥) → has_bit p.insert b n ≡ false
-  pub replaces_none : (n b : ℕ) → (IsAmong b numbers → ⊥) → has_bit p.replace b n ≡ false
+  pub lazy : ForEachExpr table (λ i e. HasNumber i numbers → IsLazy graph e (Down graph e) (places_of p i))
+  pub inserts_none : (n b : ℕ) → (HasNumber b numbers → ⊥) → has_bit p.insert b n ≡ false
+  pub replaces_none : (n b : ℕ) → (HasNumber b numbers → ⊥) → has_bit p.replace b n ≡ false

@@ -1,7 +1,7 @@
 // Which expressions stay where they are: one node uses each of them, and no run passes that node twice.
 ghost use Rattle.std.specs.Prelude.{◌≡◌, ◌<◌, ◌≤◌, ◌↔◌, true, All, length, IfOk, IfSome};
 ghost use Rattle.flow_graph.specs.Graphs.{node_succs};
-ghost use Rattle.latest_place.specs.Parts.{AreMoving, AreSeenFrom, seen_again, seen_at};
+ghost use Rattle.latest_place.specs.Parts.{AreToPlace, AreSeenFrom, seen_again, seen_at};
 
 use flow_graph::{Graph, Node};
 use mir_base::Memory;
@@ -28,7 +28,7 @@ pub(crate) fn moving_numbers(
     graph: &Graph,
     table: &ExprTable,
 ) -> Result<Vec<usize>, Memory>
-    ensures { IfOk result (λ numbers. AreMoving graph.now table.now numbers.items) }
+    ensures { IfOk result (λ numbers. AreToPlace graph.now table.now numbers.items) }
 {
     let _nodes = graph.nodes();
     let seen = seen_uses(alloc, graph, table)?;

@@ -5,7 +5,7 @@ ghost use Rattle.bit_rows.specs.Bits.{row_of};
 ghost use Rattle.flow_graph.specs.Edges.{IsSplit, edges_of};
 ghost use Rattle.path_laws.specs.Paths.{HaveShape};
 ghost use Rattle.latest_place.specs.Lazy.{IsLazyPlacement};
-ghost use Rattle.latest_place.specs.Parts.{AddsBits, AddsRow, AreMoving, AreNumbersBelow, IsLazyAmong, IsPart};
+ghost use Rattle.latest_place.specs.Parts.{AddsBits, AddsRow, AreToPlace, AreNumbersBelow, IsLazyAmong, IsPart};
 
 use crate::once::moving_numbers;
 use crate::placement::placed;
@@ -54,7 +54,7 @@ fn joined_parts<R: DownRule>(
 ) -> Result<Placement, Memory>
     requires split { IsSplit graph.now.nodes }
     requires edges { edges.now ≡ edges_of graph.now.nodes }
-    requires numbers { AreMoving graph.now table.now numbers.now }
+    requires numbers { AreToPlace graph.now table.now numbers.now }
     ensures { IfOk result (IsLazyPlacement (R.is_down rule.now) graph.now table.now) }
 {
     let _nodes = graph.nodes();

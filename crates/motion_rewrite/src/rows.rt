@@ -42,7 +42,8 @@ pub fn kill_rows(alloc: Global, graph: &Graph, table: &ExprTable) -> Result<Rows
 pub fn used_at(graph: &Graph, table: &ExprTable, node: usize) -> Option<usize>
     requires { node < length graph.now.nodes }
     ensures within { IfSome result (λ number. number < length table.now) }
-    ensures used { ForEachExpr table.now (λ i e. (uses graph.now e node ≡ true) ↔ (result ≡ Some i)) }
+    ensures used { ForEachExpr table.now
+        (λ i e. (uses graph.now e node ≡ true) ↔ (result ≡ Some i)) }
 {
     let nodes = graph.nodes();
     table.find_some(Written.key_of(&nodes[node]))

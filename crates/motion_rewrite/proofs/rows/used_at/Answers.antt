@@ -9,9 +9,9 @@ pub returns-clause-used : goal.returns-clause-used
 returns-clause-used c = λ i e at.
     let node = c.index-nodes-node.result in
     let here : slice_get c.args.graph.now.nodes c.args.node ≡ Some node =
-        ap (λ (nodes : List Node). slice_get nodes c.args.node) (sym c.nodes-nodes.ensures.value)
-        ∙ slice_get-get_or c.nodes-nodes.result.now c.args.node node (subst (λ (nodes : List Node). c.args.node < length nodes) (sym c.nodes-nodes.ensures.value) c.requires)
-        ∙ ap Some (sym c.index-nodes-node.is) in
+    ap (λ (nodes : List Node). slice_get nodes c.args.node) (sym c.nodes-nodes.ensures.value)
+    ∙ slice_get-get_or c.nodes-nodes.result.now c.args.node node (subst (λ (nodes : List Node). c.args.node < length nodes) (sym c.nodes-nodes.ensures.value) c.requires)
+    ∙ ap Some (sym c.index-nodes-node.is) in
     let key = ap (key_in written_at) here in
     let written = uses_written c.args.graph.now.nodes c.args.node e in
     let finds = c.find_some.ensures.finds i e at in
