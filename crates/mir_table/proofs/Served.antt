@@ -8,7 +8,7 @@ use Rattle.mir_top.specs.declared.command.Command.TheVariants.{Optimise}
 use Rattle.mir_top.specs.Calls.{Call}
 use Rattle.mir_top.specs.Commands.{Reads}
 use Rattle.mir_top.specs.Complaints.{Complaint, out_of_memory}
-use Rattle.mir_top.specs.Due.{Completes, IsRefused, IsShortTextOf, Refuses, no_command, no_text, of_optimise, too_deep, wrong_number}
+use Rattle.mir_top.specs.Due.{Completes, IsRefused, IsShortTextOf, Refuses, invalid, long, no_command, no_text, of_optimise, too_deep, unreadable, wrong_number}
 use Rattle.mir_top.specs.Promises.{HasOptimised, HasRefused, Promises}
 use Rattle.mir_top.specs.Outputs.{Optimises}
 use Rattle.mir_top.specs.Streams.{HasFailed, Stream, Untouched}
@@ -26,6 +26,12 @@ refused_is words text complaint asked (no_command none) = absurd (let e = sym as
 refused_is words text complaint asked (no_text other asks is) = is
 refused_is words text complaint asked (wrong_number steps program run on count) = absurd (let e = sym asked ∙ run in cc)
 refused_is words text complaint asked (too_deep steps program run on count above) = absurd (let e = sym asked ∙ run in cc)
+
+-- and so it has the status of a refused text
+refused_status : (text : List ℕ) (complaint : Complaint) → IsRefused text complaint → complaint.status ≡ 2
+refused_status text complaint (long more) = refl
+refused_status text complaint (unreadable fault short is) = refl
+refused_status text complaint (invalid fault short is) = refl
 
 -- ---- streams
 
@@ -54,7 +60,10 @@ without_words source out err status unread unwritten ended =
       most = ([], subst (λ (o : Option (List ℕ)). Consumes source.old o []) (sym unread.0) (Consumes-nil source.old), omega arith);
       ended = memory_failed ended unwritten;
       complete = λ text program tells on. (3, omega arith, sym is);
-      refuses = λ text complaint tells refused. (2, omega arith, sym is);
+      refuses = λ text complaint tells refused. record {
+        status = (2, omega arith, sym is);
+        told = λ same. absurd (let two = refused_status text complaint refused in omega (arith, is, same, two));
+      };
       statuses = omega (arith, is);
     }
 
@@ -69,7 +78,7 @@ module _ (call : Call) (p : Promises call) (asked : AsksOptimise call.words) (no
   refused_by r = text_refused (record {
     text = r.text;
     complaint = r.complaint;
-    read = (r.read (reads call.words asked)).taken;
+    read = r.read (reads call.words asked);
     refused = refused_is call.words r.text r.complaint asked r.refuses;
     ended = record { status_is = r.status; told = r.written };
   }) still
@@ -91,7 +100,9 @@ module _ (call : Call) (p : Promises call) (asked : AsksOptimise call.words) (no
     most = p.most;
     ended = by call.reply.status refl p.statuses;
     complete = λ text program tells on. p.complete text 0 (λ asks. tells) (of_optimise program asked on);
-    refuses = λ text complaint tells is. (p.refuses text complaint (λ asks. tells) (no_text complaint (reads call.words asked) is)).status;
+    refuses = λ text complaint tells is.
+        let ends = p.refuses text complaint (λ asks. tells) (no_text complaint (reads call.words asked) is) in
+        record { status = ends.status; told = ends.written };
     statuses = p.statuses;
   }
 

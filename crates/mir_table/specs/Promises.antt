@@ -9,7 +9,8 @@ use Rattle.mir_top.specs.Commands.{command_of}
 use Rattle.mir_top.specs.Complaints.{Complaint, out_of_memory, read_fault, write_fault}
 use Rattle.mir_top.specs.Due.{IsRefused, IsShortTextOf}
 use Rattle.mir_top.specs.Outputs.{Optimises}
-use Rattle.mir_top.specs.Streams.{Gave, GavePart, HasFailed, Stream, Took, TookAll, Tried, Untouched}
+use Rattle.mir_top.specs.Promises.{HasSeen}
+use Rattle.mir_top.specs.Streams.{Gave, GavePart, HasFailed, Stream, TookAll, Tried, Untouched}
 use Rattle.pass_table.specs.Trails.{ShowsTables}
 
 -- what a call did to its source and its outputs, and its status
@@ -55,11 +56,12 @@ pub record HasTables (call : TableCall) : Type 0 where
   pub optimises : Optimises trail
   pub written : HasWritten trail call.out call.err call.status
 
--- a part of the source was read, or all of it, which is the text of no program, and so it was told
+-- the source was read to its end, or more of it than a text may have, and what was read is the text of no program, and
+-- so it was told
 pub record HasRefusedText (call : TableCall) : Type 0 where
   pub text : List ℕ
   pub complaint : Complaint
-  pub read : Took call.source text
+  pub read : HasSeen call.source text
   pub refused : IsRefused text complaint
   pub ended : EndedBy call.status call.err complaint
 
@@ -73,6 +75,11 @@ pub data CallEnded (call : TableCall) : Type 0 where
   source_failed : HasFailed call.source → EndedBy call.status call.err read_fault → Untouched call.out → CallEnded call
   memory_failed : EndedBy call.status call.err out_of_memory → Untouched call.out → CallEnded call
 
+-- the call ends with this complaint, unless a read fails or memory runs out
+pub record EndsWith (call : TableCall) (complaint : Complaint) : Type 0 where
+  pub status : Contains (complaint.status ∷ 6 ∷ 8 ∷ []) call.status
+  pub told : call.status ≡ complaint.status → Tried call.err complaint.line
+
 -- the text is the whole of the source, whose bytes can be observed
 abbrev pub SourceHas : TableCall → List ℕ → Type 0
 SourceHas call text = call.source.old ≡ Some text
@@ -84,9 +91,10 @@ pub record TextPromises (call : TableCall) : Type 0 where
   -- Where the text is that of a program, its tables are written, unless a device fails or memory runs out.
   pub complete : (text : List ℕ) (program : ProgramShape) → SourceHas call text → IsShortTextOf text program
       → Contains (0 ∷ 6 ∷ 7 ∷ 8 ∷ []) call.status
-  -- Where it is of no program, it is refused, unless the device fails or memory runs out.
+  -- Where it is of no program, it is refused by the first thing that is wrong, unless the device fails or memory runs
+  -- out.
   pub refuses : (text : List ℕ) (complaint : Complaint) → SourceHas call text → IsRefused text complaint
-      → Contains (complaint.status ∷ 6 ∷ 8 ∷ []) call.status
+      → EndsWith call complaint
   pub statuses : call.status ≤ 8
 
 -- all that holds of a call with these words, whatever its source and sinks
