@@ -1,5 +1,6 @@
 -- What is known of variables, as it is kept in two lists, place by place.
-use Rattle.std.proofs.Common.{◌≡◌, ℕ, ℤ, zero, suc, ◌+◌, ◌<◌, ◌≤◌, ◌↔◌, Bool, true, false, slice_set, List, [], ◌∷◌, ◌++◌, length, take, replicate, get_or, refl, sym, ap, arith, ◌∙◌}
+use Rattle.std.proofs.Common.{◌≡◌, ℕ, ℤ, zero, suc, ◌+◌, ◌<◌, ◌≤◌, ◌↔◌, Bool, true, false, slice_set, List, [], ◌∷◌, ◌++◌, length, take, replicate, get_or, refl, sym, ap, arith, ◌∙◌, ⊎_elim, take_all}
+use Rattle.std.specs.List.{AllClonesOf, AppendsClonesOf}
 use Rattle.std.proofs.lemmas.Option.{slice_get-get_or}
 use Rattle.flow_graph.specs.ListLaws.{take_next}
 use Rattle.cond_const.specs.declared.known.Known.{Known}
@@ -36,10 +37,10 @@ facts_set (f ∷ fixed) (v ∷ values) zero g w e = refl
 facts_set (f ∷ fixed) (v ∷ values) (suc x) g w e = ap (λ l. known_by f v ∷ l) (facts_set fixed values x g w (let e' : suc (length values) ≡ suc (length fixed) = e in omega arith))
 
 -- past the last nothing is set
-pub facts_kept : (ks : List Known) (x : ℕ) (k : Known) → length ks ≤ x → slice_set ks x k ≡ ks
-facts_kept [] x k h = refl
-facts_kept (a ∷ ks) zero k h = absurd (omega (arith, h))
-facts_kept (a ∷ ks) (suc x) k h = ap (λ l. a ∷ l) (facts_kept ks x k (let h' : suc (length ks) ≤ suc x = h in omega arith))
+pub items_kept : {T : Type 0} (ks : List T) (x : ℕ) (k : T) → length ks ≤ x → slice_set ks x k ≡ ks
+items_kept [] x k h = refl
+items_kept (a ∷ ks) zero k h = absurd (omega (arith, h))
+items_kept (a ∷ ks) (suc x) k h = ap (λ l. a ∷ l) (items_kept ks x k (let h' : suc (length ks) ≤ suc x = h in omega arith))
 
 -- whether one is fixed is set
 pub facts_fixed : (fixed : List Bool) (values : List ℤ) (x : ℕ) (f : Bool) (d : ℤ) → length values ≡ length fixed → facts_of (slice_set fixed x f) values ≡ slice_set (facts_of fixed values) x (known_by f (get_or values x d))
@@ -52,6 +53,21 @@ facts_fixed (f ∷ fixed) (v ∷ values) (suc x) g w e = ap (λ l. known_by f v 
 pub facts_alike : (n : ℕ) (f : Bool) (v : ℤ) → facts_of (replicate n f) (replicate n v) ≡ replicate n (known_by f v)
 facts_alike zero f v = refl
 facts_alike (suc n) f v = ap (λ l. known_by f v ∷ l) (facts_alike n f v)
+
+-- clones that are the same are as many copies
+pub alike_clones : {T : Type 0} (x : T) (ys : List T) → AllClonesOf (λ a b. b ≡ a) x ys → ys ≡ replicate (length ys) x
+alike_clones x [] every = refl
+alike_clones x (y ∷ ys) every =
+    let here : y ≡ x = ⊎_elim (λ e. e) (λ e. e) every.0 in
+    ap (λ z. z ∷ ys) here ∙ ap (λ l. x ∷ l) (alike_clones x ys every.1)
+
+-- an empty list that is filled up
+pub filled_up : {T : Type 0} (n : ℕ) (x : T) (old new : List T) → old ≡ [] → AppendsClonesOf (λ a b. b ≡ a) (take n old) new x → length new ≡ n → new ≡ replicate n x
+filled_up n x old new empty made count =
+    let ys = made.0 in
+    let front : take n old ≡ [] = ap (take n) empty ∙ take_all n [] (omega arith) in
+    let all : new ≡ ys = made.1 ∙ ap (λ l. l ++ ys) front in
+    all ∙ alike_clones x ys made.2 ∙ ap (λ k. replicate k x) (sym (ap length all) ∙ count)
 
 -- one more
 pub listed_more : (ks list : List Known) (x : ℕ) (k : Known) → x < length ks → list ≡ take x ks → k ≡ known_at ks x → list ++ k ∷ [] ≡ take (x + 1) ks

@@ -1,6 +1,5 @@
 // What is known of each variable, as it is kept: in two lists, so that it takes little room and is joined in few steps.
 ghost use Rattle.std.specs.Prelude.{true, ◌≡◌, ◌↔◌, ◌<◌, ◌≤◌, ◌^◌, [], false, length, pos, replicate, slice_set, IfOk};
-ghost use Rattle.std.specs.Vec.{vec_capacity};
 ghost use Rattle.cond_const.specs.FactLists.{facts_of, known_by};
 ghost use Rattle.cond_const.specs.Folding.{known_at};
 ghost use Rattle.cond_const.specs.States.{joined_each, joined_known};
@@ -8,21 +7,23 @@ ghost use Rattle.cond_const.specs.declared.known.Known.TheVariants.{Fixed, Varyi
 
 use crate::known::Known;
 use mir_base::Memory;
+use smallvec::SmallVec;
 use std::alloc::Global;
+use std::default::MadeWith;
 use std::marker::Model;
 
 /// What is known of variables, by their numbers: whether each has one value, and the value that it then has. Both lists
-/// have room for `size` variables. Contracts see the size, and what is known.
+/// have room for `size` variables, which is in the value itself where they are few. Contracts see the size, and what is
+/// known.
 #[derive(Drop)]
 pub(crate) struct Facts {
     size: usize,
-    fixed: Vec<bool>,
-    values: Vec<i64>,
+    fixed: SmallVec<bool, 8>,
+    values: SmallVec<i64, 8>,
 }
 
 impl Model for Facts {
     ghost use Rattle.std.specs.Prelude.{◌≡◌, ◌≤◌, length};
-    ghost use Rattle.std.specs.Vec.{vec_capacity};
     ghost use Rattle.cond_const.specs.FactLists.{FactsShape, facts_of};
 
     ghost Value = { FactsShape };
@@ -30,7 +31,7 @@ impl Model for Facts {
     ghost view = { λ f. record { size = f.size; items = facts_of f.fixed.items f.values.items } };
 
     ghost invariant = { λ f. (length f.values.items ≡ length f.fixed.items)
-        × (f.size ≤ vec_capacity f.fixed) × (f.size ≤ vec_capacity f.values) };
+        × (f.size ≤ f.fixed.capacity) × (f.size ≤ f.values.capacity) };
 }
 
 impl Facts {
@@ -39,8 +40,8 @@ impl Facts {
         ensures size { IfOk result (λ facts. facts.size ≡ size) }
         ensures items { IfOk result (λ facts. facts.items ≡ []) }
     {
-        let fixed = Vec::with_capacity(alloc, size)?;
-        let values = Vec::with_capacity(alloc, size)?;
+        let fixed = empty_list(alloc, size)?;
+        let values = empty_list(alloc, size)?;
         Ok(Facts {
             size,
             fixed,
@@ -53,8 +54,10 @@ impl Facts {
         ensures size { IfOk result (λ facts. facts.size ≡ size) }
         ensures items { IfOk result (λ facts. facts.items ≡ replicate size (Fixed (pos 0))) }
     {
-        let fixed = vec![in alloc; true; size]?;
-        let values = vec![in alloc; 0; size]?;
+        let mut fixed = empty_list(alloc, size)?;
+        fixed.resize(size, true)?;
+        let mut values = empty_list(alloc, size)?;
+        values.resize(size, 0)?;
         Ok(Facts {
             size,
             fixed,
@@ -67,7 +70,7 @@ impl Facts {
         ensures size { IfOk result (λ copy. copy.size ≡ length self.now.items) }
         ensures items { IfOk result (λ copy. copy.items ≡ self.now.items) }
     {
-        let mut copy = Facts::with_room(alloc, self.fixed.len())?;
+        let mut copy = Facts::with_room(alloc, self.len())?;
         copy.refill(self);
         Ok(copy)
     }
@@ -76,8 +79,8 @@ impl Facts {
     pub(crate) fn listed(&self, alloc: Global) -> Result<Vec<Known>, Memory>
         ensures { IfOk result (λ list. list.items ≡ self.now.items) }
     {
-        let mut list = Vec::with_capacity(alloc, self.fixed.len())?;
-        for x in 0..self.fixed.len() {
+        let mut list = Vec::with_capacity(alloc, self.len())?;
+        for x in 0..self.len() {
             list.push(self.get(x))?;
         }
         Ok(list)
@@ -88,7 +91,7 @@ impl Facts {
         ensures value { result ≡ length self.now.items }
         ensures small { result < 2 ^ 63 }
     {
-        self.fixed.len()
+        self.fixed.as_slice().len()
     }
 
     /// For how many variables there is room. It does not allocate.
@@ -102,11 +105,7 @@ impl Facts {
     pub(crate) fn get(&self, x: usize) -> Known
         ensures { result ≡ known_at self.now.items x }
     {
-        if x < self.fixed.len() {
-            known_by(self.fixed[x], &self.values[x])
-        } else {
-            Known::Varying
-        }
+        fact_at(self.fixed.as_slice(), self.values.as_slice(), x)
     }
 
     /// Sets what is known of a variable. It does not allocate.
@@ -125,10 +124,8 @@ impl Facts {
         ensures size { self.new.size ≡ self.old.size }
         ensures items { self.new.items ≡ slice_set self.old.items x (known_by fixed value) }
     {
-        if x < self.fixed.len() {
-            self.fixed[x] = fixed;
-            self.values[x] = value;
-        }
+        put_at(self.fixed.as_mut_slice(), x, fixed);
+        put_at(self.values.as_mut_slice(), x, value);
     }
 
     /// Sets what is known of all variables. It does not allocate.
@@ -157,8 +154,8 @@ impl Facts {
         ensures size { self.new.size ≡ self.old.size }
         ensures items { self.new.items ≡ from.now.items }
     {
-        refill_list(&mut self.fixed, &from.fixed);
-        refill_list(&mut self.values, &from.values);
+        refill_list(&mut self.fixed, from.fixed.as_slice());
+        refill_list(&mut self.values, from.values.as_slice());
     }
 
     /// Leaves what is known where two paths meet, and answers whether it changed. It does not allocate.
@@ -170,18 +167,56 @@ impl Facts {
     {
         join_lists(
             self.fixed.as_mut_slice(),
-            &self.values,
-            &other.fixed,
-            &other.values,
+            self.values.as_slice(),
+            other.fixed.as_slice(),
+            other.values.as_slice(),
         )
     }
 }
 
+/// An empty list with room for so many items, made at once where they are not in the value itself.
+fn empty_list<T: MadeWith<Global> + Copy>(
+    alloc: Global,
+    size: usize,
+) -> Result<SmallVec<T, 8>, Memory>
+    ensures items { IfOk result (λ list. list.items ≡ []) }
+    ensures capacity { IfOk result (λ list. size ≤ list.capacity) }
+{
+    if size <= 8 {
+        Ok(SmallVec::new(alloc))
+    } else {
+        let list = Vec::with_capacity(alloc, size)?;
+        Ok(SmallVec::from_vec(list))
+    }
+}
+
+/// What is known of a variable.
+fn fact_at(fixed: &[bool], values: &[i64], x: usize) -> Known
+    requires { length values.now ≡ length fixed.now }
+    ensures { result ≡ known_at (facts_of fixed.now values.now) x }
+{
+    if x < fixed.len() {
+        known_by(fixed[x], &values[x])
+    } else {
+        Known::Varying
+    }
+}
+
+/// Sets an item of a list, if there is one of this number.
+fn put_at<T: Copy>(list: &mut [T], x: usize, item: T)
+    ensures items { list.new ≡ slice_set list.old x item }
+    ensures long { length list.new ≡ length list.old }
+{
+    if x < list.len() {
+        list[x] = item;
+    }
+}
+
 /// Leaves these items in a list that has room for them.
-fn refill_list<T: Copy>(list: &mut Vec<T>, items: &[T])
-    requires { length items.now ≤ vec_capacity list.old }
+fn refill_list<T: MadeWith<Global> + Copy>(list: &mut SmallVec<T, 8>, items: &[T])
+    requires { length items.now ≤ list.old.capacity }
     ensures items { list.new.items ≡ items.now }
-    ensures capacity { vec_capacity list.old ≤ vec_capacity list.new }
+    ensures capacity { list.old.capacity ≤ list.new.capacity }
 {
     list.clear();
     match list.extend_from_slice(items) {

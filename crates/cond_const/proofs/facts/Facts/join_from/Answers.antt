@@ -9,7 +9,7 @@ join_lists-requires-clause-other c =
     omega (
       arith,
       ap length c.as_mut_slice.ensures.value,
-      ap length c.deref-2.ensures.value,
+      ap length c.as_slice-2.ensures,
       length_facts i.fixed.items i.values.items c.self.invariant.0,
       ap (λ s. length s.items) c.self.view_is,
       length_facts o.fixed.items o.values.items c.other.invariant.0,
@@ -24,7 +24,7 @@ join_lists-requires-clause-other_long c =
     omega (
       arith,
       ap length c.as_mut_slice.ensures.value,
-      ap length c.deref-3.ensures.value,
+      ap length c.as_slice-3.ensures,
       length_facts i.fixed.items i.values.items c.self.invariant.0,
       ap (λ s. length s.items) c.self.view_is,
       length_facts o.fixed.items o.values.items c.other.invariant.0,

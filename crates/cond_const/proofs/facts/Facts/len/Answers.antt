@@ -7,4 +7,4 @@ returns-clause-value c =
     let i = c.self.inside in
     let kept = length_facts i.fixed.items i.values.items c.self.invariant.0 in
     let seen = ap (λ s. length s.items) c.self.view_is in
-    omega (arith, c.len.ensures, kept, seen, i.fixed.ok.0)
+    omega (arith, ap length c.as_slice.ensures, kept, seen)

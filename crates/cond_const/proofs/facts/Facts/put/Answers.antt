@@ -1,18 +1,21 @@
-use Rattle.std.proofs.Common.{◌∙◌, length, slice_set, sym, ap, arith, to_z-of_z}
+use Rattle.std.proofs.Common.{◌≡◌, ◌∙◌, ◌++◌, length, take, drop, slice_set, ap, to_z-of_z}
+use Rattle.std.proofs.lemmas.List.{take_at}
 use Rattle.cond_const.specs.FactLists.{known_by, facts_of}
-use Rattle.cond_const.proofs.FactLaws.{length_facts, facts_set, facts_kept}
+use Rattle.cond_const.proofs.FactLaws.{facts_set}
 use Rattle.cond_const.proofs.facts.Facts.put.Goals as goal
 
-pub returns-then-x-len-clause-items : goal.returns-then-x-len-clause-items
-returns-then-x-len-clause-items c =
+pub returns-clause-items : goal.returns-clause-items
+returns-clause-items c =
     let i = c.self.inside in
-    ap (λ v. facts_of (slice_set i.fixed.items c.args.x c.args.fixed) (slice_set i.values.items c.args.x v)) (to_z-of_z c.ranges.value)
-    ∙ facts_set i.fixed.items i.values.items c.args.x c.args.fixed c.args.value c.self.invariant.0
-    ∙ ap (λ s. slice_set s.items c.args.x (known_by c.args.fixed c.args.value)) c.self.view_is
-
-pub returns-else-x-len-clause-items : goal.returns-else-x-len-clause-items
-returns-else-x-len-clause-items c =
-    let i = c.self.inside in
-    let kept = length_facts i.fixed.items i.values.items c.self.invariant.0 in
-    let seen = ap (λ s. length s.items) c.self.view_is in
-    sym (facts_kept c.args.self.now.items c.args.x (known_by c.args.fixed c.args.value) (omega (arith, c.if-x-len.false, c.len.ensures, kept, seen, i.fixed.ok.0)))
+    let x = c.args.x in
+    let f = c.args.fixed in
+    let v = c.args.value in
+    let fs = c.put_at.new.list in
+    let vs = c.put_at-2.new.list in
+    let f_is : fs ≡ slice_set i.fixed.items x f = c.put_at.ensures.items ∙ ap (λ l. slice_set l x f) c.as_mut_slice.ensures.value in
+    let v_is : vs ≡ slice_set i.values.items x v = c.put_at-2.ensures.items ∙ ap (slice_set c.as_mut_slice-2.result.now x) (to_z-of_z c.ranges.value) ∙ ap (λ l. slice_set l x v) c.as_mut_slice-2.ensures.value in
+    ap (λ l. facts_of l (take (length i.values.items) (vs ++ drop (length vs) i.values.items))) (take_at fs (drop (length fs) i.fixed.items) (length i.fixed.items) (c.put_at.ensures.long ∙ ap length c.as_mut_slice.ensures.value))
+    ∙ ap (facts_of fs) (take_at vs (drop (length vs) i.values.items) (length i.values.items) (c.put_at-2.ensures.long ∙ ap length c.as_mut_slice-2.ensures.value))
+    ∙ ap (λ l. facts_of l vs) f_is ∙ ap (facts_of (slice_set i.fixed.items x f)) v_is
+    ∙ facts_set i.fixed.items i.values.items x f v c.self.invariant.0
+    ∙ ap (λ s. slice_set s.items x (known_by f v)) c.self.view_is
