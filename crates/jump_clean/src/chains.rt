@@ -30,8 +30,9 @@ pub fn ends(alloc: Global, nodes: &[Node]) -> Result<Vec<usize>, Memory>
 {
     let mut found = nothing_found(alloc, nodes.len())?;
     let mut ends = Vec::with_capacity(alloc, nodes.len())?;
+    let mut chain = Vec::new(alloc);
     for n in 0..nodes.len() {
-        let end = end_of(alloc, nodes, &mut found, n)?;
+        let end = end_of(nodes, &mut found, &mut chain, n)?;
         ends.push(end)?;
     }
     Ok(ends)
@@ -44,11 +45,11 @@ fn nothing_found(alloc: Global, count: usize) -> Result<Vec<ChainPlace>, Memory>
     Ok(vec![in alloc; ChainPlace::Nothing; count]?)
 }
 
-/// The end of the chain that begins at a node. It is noted for each Skip of the chain.
+/// The end of the chain that begins at a node. It is noted for each Skip of the chain, which go into the given list.
 fn end_of(
-    alloc: Global,
     nodes: &[Node],
     found: &mut Vec<ChainPlace>,
+    chain: &mut Vec<usize>,
     start: usize,
 ) -> Result<usize, Memory>
     requires within { AllWithin nodes.now }
@@ -57,7 +58,7 @@ fn end_of(
     ensures end { IfOk result (λ end. IsEnd nodes.now start end) }
     ensures found { OnOk result (AreFound nodes.now found.new.items) }
 {
-    let mut chain = Vec::new(alloc);
+    chain.clear();
     let mut n = start;
     while let Some(next) = onward(&nodes[n], found[n]) {
         found[n] = ChainPlace::InChain;

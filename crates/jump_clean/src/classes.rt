@@ -8,8 +8,8 @@ use mir_base::Memory;
 use smallvec::SmallVec;
 use std::alloc::Global;
 
-/// The members of a class, in a list that has room in itself for the one that each class begins with.
-type Members = SmallVec<usize, 1>;
+/// The members of a class, in a list that has room in itself for the few that most classes come to.
+type Members = SmallVec<usize, 4>;
 
 /// The number of the class of each node, and the members of each class.
 #[derive(Drop)]

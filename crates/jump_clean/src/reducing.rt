@@ -29,6 +29,7 @@ pub(crate) fn reduce_all(
     let mut classes = Classes::apart(alloc, nodes.len())?;
     let all = numbers(alloc, nodes.len())?;
     let mut worklist = skips(alloc, nodes.as_slice())?;
+    let mut checks = Vec::new(alloc);
     let mut nodes = nodes;
     recheck(
         &mut nodes,
@@ -37,7 +38,7 @@ pub(crate) fn reduce_all(
         all.as_slice(),
     )?;
     while let Some(n) = worklist.pop() {
-        let checks = join_skip(alloc, edges, nodes.as_slice(), &mut classes, n)?;
+        join_skip(alloc, edges, nodes.as_slice(), &mut classes, &mut checks, n)?;
         recheck(
             &mut nodes,
             classes.of.as_slice(),
@@ -65,7 +66,7 @@ fn skips(alloc: Global, nodes: &[Node]) -> Result<Vec<usize>, Memory>
     ensures all { IfOk result (λ skips. ContainSkips nodes.now skips.items) }
     ensures below { IfOk result (λ skips. AllBelow (length nodes.now) skips.items) }
 {
-    let mut skips = Vec::new(alloc);
+    let mut skips = Vec::with_capacity(alloc, nodes.len())?;
     for n in 0..nodes.len() {
         push_skip(&mut skips, &nodes[n], n)?;
     }
@@ -83,45 +84,46 @@ fn push_skip(skips: &mut Vec<usize>, node: &Node, n: usize) -> Result<(), Memory
     Ok(())
 }
 
-/// Joins the class of a Skip with that of its successor, and answers the nodes that lead to one that was moved: no
-/// other Test can have got both successors into one class by it.
+/// Joins the class of a Skip with that of its successor, and lists the nodes that lead to one that was moved: no other
+/// Test can have got both successors into one class by it.
 fn join_skip(
     alloc: Global,
     edges: &Edges,
     nodes: &[Node],
     classes: &mut Classes,
+    checks: &mut Vec<usize>,
     n: usize,
-) -> Result<Vec<usize>, Memory>
+) -> Result<(), Memory>
     requires members { HaveMembers classes.old }
     requires n { n < length nodes.now }
     requires long { length classes.old.of.items ≡ length nodes.now }
     requires edges { edges.now.nodes ≡ length nodes.now }
     requires within { AllWithin nodes.now }
     ensures members { OnOk result (HaveMembers classes.new) }
-    ensures joining { IfOk result (λ checks.
-        JoinsLast edges.now nodes.now n classes.old classes.new checks.items) }
+    ensures joining { OnOk result (
+        JoinsLast edges.now nodes.now n classes.old classes.new checks.new.items) }
 {
     match skip_succ(&nodes[n]) {
         Some(next) => {
             let moved = classes.join(alloc, n, next)?;
-            let checks = all_preds(alloc, edges, moved.as_slice())?;
-            Ok(checks)
+            all_preds(edges, moved.as_slice(), checks)?;
         }
-        None => Ok(Vec::new(alloc)),
+        None => checks.clear(),
     }
+    Ok(())
 }
 
-/// The sources of the edges that enter these nodes.
-fn all_preds(alloc: Global, edges: &Edges, nodes: &[usize]) -> Result<Vec<usize>, Memory>
+/// Lists the sources of the edges that enter these nodes, in place of what was listed.
+fn all_preds(edges: &Edges, nodes: &[usize], preds: &mut Vec<usize>) -> Result<(), Memory>
     requires { AllBelow edges.now.nodes nodes.now }
-    ensures all { IfOk result (λ preds. ContainPreds edges.now.edges nodes.now preds.items) }
-    ensures only { IfOk result (λ preds. AreOnlyPreds edges.now.edges nodes.now preds.items) }
+    ensures all { OnOk result (ContainPreds edges.now.edges nodes.now preds.new.items) }
+    ensures only { OnOk result (AreOnlyPreds edges.now.edges nodes.now preds.new.items) }
 {
-    let mut preds = Vec::new(alloc);
+    preds.clear();
     for n in nodes {
         preds.extend_from_slice(edges.preds(*n))?;
     }
-    Ok(preds)
+    Ok(())
 }
 
 /// Each of these nodes that is a Test with both successors in one class becomes a Skip, whose class is to be joined.

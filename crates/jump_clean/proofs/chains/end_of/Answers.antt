@@ -40,7 +40,7 @@ end_at-end-requires c = λ in_chain.
 pub note-requires : goal.note-requires
 note-requires c = subst (AllBelow (length c.loop-next.found.items)) (sym c.as_slice-2.ensures.value) (note_below c.args.nodes.now c.loop-next.found.items c.loop-next.chain.items c.args.start c.loop-next.n c.loop-next.invariant)
 
-end_is : (c : goal.After-drop-chain-2) → IsEnd c.args.nodes.now c.loop-next.n c.end_at-end.result
+end_is : (c : goal.After-note) → IsEnd c.args.nodes.now c.loop-next.n c.end_at-end.result
 end_is c =
     let nodes = c.args.nodes.now in
     let inv = c.loop-next.invariant in

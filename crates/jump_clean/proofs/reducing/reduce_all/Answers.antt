@@ -40,24 +40,24 @@ join_skip-requires-clause-edges c =
 
 pub recheck-requires-in-Some-clause-long : goal.recheck-requires-in-Some-clause-long
 recheck-requires-in-Some-clause-long c =
-    let j = slice_joined c.args.nodes.items c.loop-n.nodes.items c.as_slice-in-Some.result.now c.loop-n.classes.of.items c.join_skip.new.classes.of.items c.loop-n.worklist.items c.pop.new.self.items c.in_ok-checks.checks.items c.in-Some.n c.as_slice-in-Some.ensures.value c.in-Some.ensures.items c.loop-n.invariant.joining (c.in_ok-checks.ensures.joining c.args.nodes.items c.pop.new.self.items c.requires.edges) in
+    let j = slice_joined c.args.nodes.items c.loop-n.nodes.items c.as_slice-in-Some.result.now c.loop-n.classes.of.items c.join_skip.new.classes.of.items c.loop-n.worklist.items c.pop.new.self.items c.join_skip.new.checks.items c.in-Some.n c.as_slice-in-Some.ensures.value c.in-Some.ensures.items c.loop-n.invariant.joining (c.in_ok-join_skip.ensures.joining c.args.nodes.items c.pop.new.self.items c.requires.edges) in
     ap length c.as_slice-in-Some-2.ensures.value ∙ j.long
 
 pub recheck-requires-in-Some-clause-below : goal.recheck-requires-in-Some-clause-below
 recheck-requires-in-Some-clause-below c =
-    let j = slice_joined c.args.nodes.items c.loop-n.nodes.items c.as_slice-in-Some.result.now c.loop-n.classes.of.items c.join_skip.new.classes.of.items c.loop-n.worklist.items c.pop.new.self.items c.in_ok-checks.checks.items c.in-Some.n c.as_slice-in-Some.ensures.value c.in-Some.ensures.items c.loop-n.invariant.joining (c.in_ok-checks.ensures.joining c.args.nodes.items c.pop.new.self.items c.requires.edges) in
+    let j = slice_joined c.args.nodes.items c.loop-n.nodes.items c.as_slice-in-Some.result.now c.loop-n.classes.of.items c.join_skip.new.classes.of.items c.loop-n.worklist.items c.pop.new.self.items c.join_skip.new.checks.items c.in-Some.n c.as_slice-in-Some.ensures.value c.in-Some.ensures.items c.loop-n.invariant.joining (c.in_ok-join_skip.ensures.joining c.args.nodes.items c.pop.new.self.items c.requires.edges) in
     subst (AllBelow (length c.loop-n.nodes.items)) (sym c.as_slice-in-Some-3.ensures.value) j.suspects_below
 
 pub loop-n-preserved : goal.loop-n-preserved
 loop-n-preserved c =
     let raw = c.args.nodes.items in
     let of = c.join_skip.new.classes.of.items in
-    let j = slice_joined c.args.nodes.items c.loop-n.nodes.items c.as_slice-in-Some.result.now c.loop-n.classes.of.items c.join_skip.new.classes.of.items c.loop-n.worklist.items c.pop.new.self.items c.in_ok-checks.checks.items c.in-Some.n c.as_slice-in-Some.ensures.value c.in-Some.ensures.items c.loop-n.invariant.joining (c.in_ok-checks.ensures.joining c.args.nodes.items c.pop.new.self.items c.requires.edges) in
-    let given = joining_as raw c.loop-n.nodes.items c.loop-n.nodes.items of c.as_slice-in-Some-2.result.now c.pop.new.self.items c.pop.new.self.items c.in_ok-checks.checks.items c.as_slice-in-Some-3.result.now refl (sym c.as_slice-in-Some-2.ensures.value) refl (sym c.as_slice-in-Some-3.ensures.value) j in
+    let j = slice_joined c.args.nodes.items c.loop-n.nodes.items c.as_slice-in-Some.result.now c.loop-n.classes.of.items c.join_skip.new.classes.of.items c.loop-n.worklist.items c.pop.new.self.items c.join_skip.new.checks.items c.in-Some.n c.as_slice-in-Some.ensures.value c.in-Some.ensures.items c.loop-n.invariant.joining (c.in_ok-join_skip.ensures.joining c.args.nodes.items c.pop.new.self.items c.requires.edges) in
+    let given = joining_as raw c.loop-n.nodes.items c.loop-n.nodes.items of c.as_slice-in-Some-2.result.now c.pop.new.self.items c.pop.new.self.items c.join_skip.new.checks.items c.as_slice-in-Some-3.result.now refl (sym c.as_slice-in-Some-2.ensures.value) refl (sym c.as_slice-in-Some-3.ensures.value) j in
     let now = c.in_ok-recheck-2.ensures.joining raw given in
     record {
       joining = joining_as raw c.recheck-in-Some.new.nodes.items c.recheck-in-Some.new.nodes.items c.as_slice-in-Some-2.result.now of c.recheck-in-Some.new.worklist.items c.recheck-in-Some.new.worklist.items [] [] refl c.as_slice-in-Some-2.ensures.value refl refl now;
-      members = c.in_ok-checks.ensures.members;
+      members = c.in_ok-join_skip.ensures.members;
     }
 
 pub returns : goal.returns
