@@ -6,3 +6,4 @@ pub mod Joins
 pub mod Preds
 pub mod Cleans
 pub mod CallsKept
+pub mod NoJumps

@@ -1,6 +1,6 @@
 -- Tests that make no difference: those whose two successors have the same end of chain become Skips, one after the
 -- other. Cited by contracts.
-use Rattle.std.specs.Prelude.{◌≡◌, ℕ, List, [], ◌∷◌, slice_get, slice_set, Some}
+use Rattle.std.specs.Prelude.{◌≡◌, ℕ, nat_eq, Bool, true, false, List, [], ◌∷◌, slice_get, slice_set, Some}
 use Rattle.mir_base.specs.declared.instructions.Test as tests
 use Rattle.flow_graph.specs.declared.nodes.Node.{Node}
 use Rattle.flow_graph.specs.declared.nodes.Node.TheVariants.{Skip, Test}
@@ -26,6 +26,16 @@ abbrev pub AreReductions : List Node → List ℕ → List Node → Type 0
 AreReductions nodes [] reduced = reduced ≡ nodes
 AreReductions nodes (n ∷ order) reduced = (middle : List Node) × AreReductions nodes order middle
     × IsReduction middle n reduced
+
+-- a Skip, or a Test with one node for both successors
+abbrev pub is_jump : Node → Bool
+is_jump (Skip next) = true
+is_jump (Test test taken other) = nat_eq taken other
+is_jump _ = false
+
+-- none of the nodes is a jump
+abbrev pub HaveNoJumps : List Node → Type 0
+HaveNoJumps nodes = (n : ℕ) (node : Node) → slice_get nodes n ≡ Some node → is_jump node ≡ false
 
 -- no such node is left
 abbrev pub NoEqualSuccessors : List Node → Type 0

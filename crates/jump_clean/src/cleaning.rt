@@ -1,9 +1,10 @@
 // Graphs with clean jumps.
-ghost use Rattle.std.specs.Prelude.{◌≡◌, length, map, IfOk};
+ghost use Rattle.std.specs.Prelude.{◌≡◌, false, length, map, IfOk};
 ghost use Rattle.flow_graph.specs.Graphs.{AllWithin};
 ghost use Rattle.flow_graph.specs.Retained.{redirected_by};
 ghost use Rattle.flow_graph.specs.Passes.{GraphDividesUnchanged, GraphKeeps};
 ghost use Rattle.jump_clean.specs.Cleaned.{AreCleaned, HasCleanJumps, IsClean, IsOnlyClean};
+ghost use Rattle.jump_clean.specs.Reductions.{AreReduced, HaveNoJumps, is_jump};
 
 use crate::chains::ends;
 use crate::reducing::reduce_all;
@@ -43,12 +44,49 @@ fn cleaned(alloc: Global, graph: &Graph) -> Result<Vec<Node>, Memory>
     ensures { IfOk result (λ cleaned. AreCleaned graph.now.nodes cleaned.items) }
 {
     let nodes = graph.nodes();
-    let edges = Edges::of(alloc, graph)?;
     let nodes = copied(alloc, nodes)?;
-    let reduced = reduce_all(alloc, &edges, nodes)?;
+    let reduced = reduced(alloc, graph, nodes)?;
     let ends = ends(alloc, reduced.as_slice())?;
     let cleaned = redirect_all(alloc, reduced, ends.as_slice())?;
     Ok(cleaned)
+}
+
+/// The nodes of the graph, of which tests that make no difference have become Skips. Nothing is to be done where no
+/// node is a jump.
+fn reduced(alloc: Global, graph: &Graph, nodes: Vec<Node>) -> Result<Vec<Node>, Memory>
+    requires within { AllWithin nodes.items }
+    requires copied { nodes.items ≡ graph.now.nodes }
+    ensures { IfOk result (λ reduced. AreReduced nodes.items reduced.items) }
+{
+    if !any_jump(nodes.as_slice()) {
+        return Ok(nodes);
+    }
+    let edges = Edges::of(alloc, graph)?;
+    let reduced = reduce_all(alloc, &edges, nodes)?;
+    Ok(reduced)
+}
+
+/// Tells whether one of the nodes is a jump.
+fn any_jump(nodes: &[Node]) -> bool
+    ensures { result ≡ false → HaveNoJumps nodes.now }
+{
+    for n in 0..nodes.len() {
+        if is_jump(&nodes[n]) {
+            return true;
+        }
+    }
+    false
+}
+
+/// Tells whether a node is a Skip, or a Test with one node for both successors.
+fn is_jump(node: &Node) -> bool
+    ensures { result ≡ is_jump node.now }
+{
+    match node {
+        Node::Skip(_) => true,
+        Node::Test(_, taken, other) => *taken == *other,
+        _ => false,
+    }
 }
 
 /// A copy of the nodes.
