@@ -12,9 +12,9 @@ pub no_jump_further : (nodes : List Node) (n : ℕ) (here : Node) → slice_get 
 no_jump_further nodes n here is apart all k node lt e = elim (cases_lt k n) [
   | inl low ↦ all k node low e
   | inr high ↦
-    let same : k ≡ n = omega (arith, high, lt) in
-    let one : node ≡ here = same_Some node here (sym e ∙ ap (slice_get nodes) same ∙ is) in
-    ap is_jump one ∙ apart
+      let same : k ≡ n = omega (arith, high, lt) in
+      let one : node ≡ here = same_Some node here (sym e ∙ ap (slice_get nodes) same ∙ is) in
+      ap is_jump one ∙ apart
 ]
 
 -- a chain has one node
