@@ -21,5 +21,5 @@ pub record FactsShape : Type 0 where
   pub items : List Known
 
 -- a state by whether the block is reached, how many variables there are, and what is then known of them
-abbrev pub state_by : Bool → ℕ → List Known → NodeState
-state_by reached size known = if reached then Knows known else Unreached size
+abbrev pub kept_state : Bool → ℕ → List Known → NodeState
+kept_state reached size known = if reached then Knows known else Unreached size

@@ -264,7 +264,8 @@ fn join_at(
     ensures joined { facts_of fixed.new values.now ≡ slice_set (facts_of fixed.old values.now) i
         (joined_known (known_at (facts_of fixed.old values.now) i)
         (known_at (facts_of other_fixed.now other_values.now) i)) }
-    ensures unchanged { (result ≡ false) ↔ (joined_known (known_at (facts_of fixed.old values.now) i)
+    ensures unchanged { (result ≡ false)
+        ↔ (joined_known (known_at (facts_of fixed.old values.now) i)
         (known_at (facts_of other_fixed.now other_values.now) i)
         ≡ known_at (facts_of fixed.old values.now) i) }
     ensures long { length fixed.new ≡ length fixed.old }

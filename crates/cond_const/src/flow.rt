@@ -4,7 +4,7 @@ ghost use Rattle.std.specs.Prelude.{◌≡◌, ◌↔◌, ◌<◌, ◌≤◌, �
 ghost use Rattle.flow_graph.specs.Blocks.{IsChain};
 ghost use Rattle.cond_const.specs.Blockwise.{IsStateFlow, last_of, fold_net, out_of, through_nodes};
 ghost use Rattle.fix_solve.specs.Order.{IsLeastUpper};
-ghost use Rattle.cond_const.specs.FactLists.{state_by};
+ghost use Rattle.cond_const.specs.FactLists.{kept_state};
 ghost use Rattle.cond_const.specs.States.{BelowState, joined_each, size_of, state_where};
 ghost use Rattle.cond_const.specs.FlowLaws.{flow_laws};
 
@@ -128,7 +128,7 @@ impl<'a, L: Ledger> StateFlow<'a, L> {
         requires valid { IsStateFlow self.now }
         requires in_range { number < length self.now.targets.now }
         requires fits { length known.now.items ≤ room.old.size }
-        ensures passes { state_by result (length known.now.items) room.new.items
+        ensures passes { kept_state result (length known.now.items) room.new.items
             ≡ (fold_net self.now).transfer number (state_where true known.now.items) }
         ensures long { result ≡ true → length room.new.items ≡ length known.now.items }
         ensures size { room.new.size ≡ room.old.size }

@@ -119,7 +119,8 @@ fn put(
 
 /// What a node becomes, where `reached` says whether it is reached and `known` what is known before it.
 fn folded_at(alloc: Global, reached: bool, known: &Facts, node: &Node) -> Result<Node, Memory>
-    ensures { IfOk result (λ folded. folded ≡ folded_at (state_where reached known.now.items) node.now) }
+    ensures { IfOk result (λ folded.
+        folded ≡ folded_at (state_where reached known.now.items) node.now) }
 {
     if reached {
         let folded = folded_node(alloc, known, node)?;

@@ -22,11 +22,11 @@ pub struct BlockState {
 impl Model for BlockState {
     ghost use Rattle.std.specs.Prelude.{◌≡◌, true, length};
     ghost use Rattle.cond_const.specs.States.{NodeState};
-    ghost use Rattle.cond_const.specs.FactLists.{state_by};
+    ghost use Rattle.cond_const.specs.FactLists.{kept_state};
 
     ghost Value = { NodeState };
 
-    ghost view = { λ s. state_by s.reached s.known.size s.known.items };
+    ghost view = { λ s. kept_state s.reached s.known.size s.known.items };
 
     ghost invariant = { λ s. (s.reached ≡ true → length s.known.items ≡ s.known.size)
         × (s.room.size ≡ s.known.size) };
@@ -94,7 +94,8 @@ impl BlockState {
     /// the state changed.
     pub(crate) fn meet(&mut self, known: &Facts) -> bool
         requires { length known.now.items ≡ size_of self.old }
-        ensures joined { IsLeastUpper BelowState self.old (state_where true known.now.items) self.new }
+        ensures joined { IsLeastUpper BelowState self.old (state_where true known.now.items)
+            self.new }
         ensures unchanged { (result ≡ false) ↔ (self.new ≡ self.old) }
     {
         if self.reached {

@@ -111,7 +111,8 @@ fn put(
     known: &Facts,
 ) -> Result<(), Memory>
     requires { n < length all.old.items }
-    ensures { OnOk result (IsToldOf n (state_where reached known.now.items) all.old.items all.new.items) }
+    ensures { OnOk result (IsToldOf n (state_where reached known.now.items) all.old.items
+        all.new.items) }
 {
     let told = told(alloc, reached, known)?;
     all[n] = told;
