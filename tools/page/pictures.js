@@ -62,7 +62,7 @@ function draw(stage, tell, options = {}) {
   return `<figure class="graph">${options.title ? `<figcaption>${options.title}</figcaption>` : ''}<div class="scroll" tabindex="0" aria-label="graph"><svg viewBox="${-26} -26 ${picture.w + 52} ${picture.h + 40}" data-w="${picture.w + 52}" data-h="${picture.h + 40}" width="${Math.round((picture.w + 52) * fitScale)}" height="${Math.round((picture.h + 40) * fitScale)}" role="group" aria-label="control-flow graph"><defs>${MARKERS}</defs>${parts.join('')}${picture.frames.map(([x, y, w, h]) => `<rect class="frame" x="${x}" y="${y}" width="${w}" height="${h}" rx="4"/>`).join('')}${seams.join('')}${over.join('')}</svg></div>${legend ? `<div class="legend">${legend}</div>` : ''}</figure>`;
 }
 
-// ---- the text of a stage, laid out; each line has its node, and labels are node numbers, so that no label is renamed
+// ---- the text of a stage, laid out; each line has its node, and labels are node numbers
 
 function textOf(stage, key, mark) {
   const targets = new Set(stage.lines.flatMap(line => line[2] === null ? [] : [line[2]])), labelled = new Set();
