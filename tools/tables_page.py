@@ -3,8 +3,10 @@
 import html
 import json
 import re
+import subprocess
 from pathlib import Path
 
+from mir_text import Fault
 from tables_draw import draw
 from tables_text import Reader
 
@@ -13,11 +15,61 @@ PARTS = Path(__file__).resolve().parent / 'page'
 # The parts of the script, in the order in which they stand on the page.
 SCRIPTS = ('graphs.js', 'passes.js', 'runs.js', 'pictures.js', 'show.js', 'reader.js')
 
+# As many prints of a report stand on the page: no walk has more steps.
+PRINTS = 20_000
 
-def page_of(text: str, name: str, run: list[str]) -> str:
-    """The whole page of a text of tables. With words of a run it offers this run."""
-    program = {'name': name, 'units': Reader().read(text), 'runs': [{'words': run, 'reports': {}}] if run else []}
-    data = json.dumps({'programs': [program], 'pictures': draw(program['units'])}, separators=(',', ':'))
+
+def unit_text(unit: dict, stage: dict) -> str:
+    """The text of a unit at a stage: the layout of its graph, with numbers of nodes as labels."""
+    targets = {target for _, _, target in stage['lines']} - {None}
+    text = f'{unit["name"]}: begin\n'
+    for number, words, target in stage['lines']:
+        if number in targets:
+            targets.remove(number)
+            text += f'n{number}:\n'
+        if words is not None:
+            text += words + ('\n' if target is None else f' n{target}\n')
+    return text + 'end\n'
+
+
+def program_text(units: list[dict], at: int) -> str:
+    """The text of a program where its first unit is at its stage of this number. A unit with fewer rounds is at its
+    last one where the first unit has more."""
+    stage = units[0]['stages'][at]
+    text = ''.join(f'global {name}\n' for name in stage['vars'][:stage['shared']])
+    for unit in units:
+        there = next((one for one in unit['stages'] if one['name'] == stage['name']), unit['stages'][-2])
+        text += unit_text(unit, there)
+    return text
+
+
+def report_of(text: str, words: list[str], mir: str) -> list[str]:
+    """The lines of the report that `mir run` writes of a program, or the one that it has for too many frames."""
+    try:
+        ran = subprocess.run([mir, 'run', *words], input=text.encode('latin-1'), capture_output=True)
+    except OSError as error:
+        raise Fault(f'{mir}: {error.strerror}') from None
+    if ran.returncode not in (0, 3, 4, 5):
+        raise Fault(ran.stderr.decode('latin-1').strip().split('\n')[0])
+    lines = (ran.stdout or ran.stderr).decode('latin-1').splitlines()
+    return lines[:-2][:PRINTS] + lines[-2:]
+
+
+def run_of(units: list[dict], words: list[str], mir: str) -> dict:
+    """A run with its words and, for each stage of the first unit, the report of the program there."""
+    stages = units[0]['stages']
+    texts = [program_text(units, at) for at in range(len(stages))]
+    reports = {text: report_of(text, words, mir) for text in dict.fromkeys(texts)}
+    inputs = [str(int(word)) for word in words[1:]]
+    return {'steps': int(words[0]), 'inputs': inputs, 'reports': [reports[text] for text in texts]}
+
+
+def page_of(text: str, name: str, words: list[str], mir: str) -> str:
+    """The whole page of a text of tables. With words of a run it offers this run, and has what `mir run` reports."""
+    program = {'name': name, 'units': Reader().read(text)}
+    pictures = draw(program['units'])
+    program['runs'] = [run_of(program['units'], words, mir)] if words else []
+    data = json.dumps({'programs': [program], 'pictures': pictures}, separators=(',', ':'))
     style, body, *scripts = ((PARTS / file).read_text('utf-8') for file in ('page.css', 'page.html', *SCRIPTS))
     parts = {'TITLE': html.escape(name), 'STYLE': style, 'DATA': data.replace('<', '\\u003c'), 'SCRIPT': '\n'.join(scripts)}
     return re.sub(r'\{\{(\w+)\}\}', lambda match: parts[match.group(1)], body)

@@ -127,7 +127,7 @@ function toggleBlocks() { state.blocks = !byBlocks(); show(); }
 function toggleRun() {
   if (state.run) { state.run = null; show(); return; }
   const known = unitNow().first && unitNow().program.runs[0];
-  startRun(known ? known.words.slice(1).map(one => BigInt(one)) : readRun());
+  startRun(known ? known.inputs.map(BigInt) : readRun());
 }
 
 document.addEventListener('click', event => {
@@ -149,7 +149,7 @@ document.addEventListener('click', event => {
   else if (at.dataset.zoom !== undefined) { state.zoom = at.dataset.zoom === '0' ? 0
     : state.zoom + Number(at.dataset.zoom); fit(); }
   else if (at.dataset.report !== undefined) startRun(unitNow()
-    .program.runs[Number(at.dataset.report)].words.slice(1).map(one => BigInt(one)));
+    .program.runs[Number(at.dataset.report)].inputs.map(BigInt));
   else if (at.dataset.unit !== undefined) { $('#index').close(); goUnit(Number(at.dataset.unit));
     goPass(Number(at.dataset.to)); }
   else if (at.classList.contains('node')) {

@@ -9,6 +9,8 @@ const OPS = { '+': (a, b) => a + b, '-': (a, b) => a - b, '*': (a, b) => a * b, 
     '=': (a, b) => BigInt(a === b), '!=': (a, b) => BigInt(a !== b),
   '<': (a, b) => BigInt(a < b), '<=': (a, b) => BigInt(a <= b), '>': (a, b) => BigInt(a > b),
     '>=': (a, b) => BigInt(a >= b) };
+
+// Where a walk stops: after so many nodes, and with so many frames.
 const MOST_STEPS = 20000, MOST_FRAMES = 200;
 
 class Trap extends Error {}
@@ -24,7 +26,8 @@ function walk(unit, at, args, so = { steps: 0, evals: 0, out: [], globals: new M
   let n = 0, end = null;
   try {
     for (;;) {
-      if (so.steps++ >= MOST_STEPS || depth > MOST_FRAMES) throw new Enough();
+      if (depth >= MOST_FRAMES) throw new Enough(`${MOST_FRAMES} frames`);
+      if (so.steps++ >= MOST_STEPS) throw new Enough(`${MOST_STEPS} steps`);
       const node = stage.nodes[n], one = parsed(node);
       const step = { n, evals: so.evals, out: so.out.length, vars: null, evaluates: false };
       if (keep) { step.vars = [...vars.values()]; steps.push(step); }
@@ -55,13 +58,13 @@ function walk(unit, at, args, so = { steps: 0, evals: 0, out: [], globals: new M
   } catch (fault) {
     if (!keep) throw fault;
     if (fault instanceof Trap) end = { trap: fault.message };
-    else if (fault instanceof Enough) end = { running: true };
+    else if (fault instanceof Enough) end = { running: fault.message };
     else throw fault;
   }
   return { steps, evals: so.evals, out: so.out, ...end };
 }
 
-const ended = ran => ran.trap ? `trapped ${ran.trap}` : ran.running ? `still runs after ${MOST_STEPS} steps`
+const ended = ran => ran.trap ? `trapped ${ran.trap}` : ran.running ? `the walk stops at ${ran.running}`
   : `result ${ran.result}`;
 
 // The walks of a unit at all stages for some arguments, kept.
@@ -70,6 +73,18 @@ function walks(unit, args) {
   unit.walked = unit.walked || {};
   if (!unit.walked[key]) unit.walked[key] = unit.stages.map((_, at) => walk(unit, at, args));
   return unit.walked[key];
+}
+
+// How the walks of a unit compare with the reports of a run: the stages at which they print, end or count otherwise, and
+// those at which they are not compared, since the report or the walk has no end.
+function besideReports(unit, run) {
+  const ran = walks(unit, run.inputs.map(BigInt)), differ = [], open = [];
+  unit.stages.forEach((stage, at) => {
+    const own = ran[at], lines = run.reports[at];
+    if (own.running || !/^(result|trapped)/.test(lines.at(-2))) open.push(stage.name);
+    else if (lines.join() !== [...own.out, ended(own), `evals ${own.evals}`].join()) differ.push(stage.name);
+  });
+  return { differ, open };
 }
 
 // For each step before a pass, how far the run after it has come: the same old nodes come in the same order, but for the

@@ -342,7 +342,7 @@ function fillInputs() {
     + names.map((name, at) => `<label>${esc(name)} <input name="in${at}" inputmode="numeric" size="4" value="0"></label>`)
     .join('')
     + '<button type="submit">Run</button>' + (reports.length
-      ? `<span class="reports">${reports.map((run, at) => `<button type="button" data-report="${at}" title="the run of which the proved program wrote a report">${esc(run.words.slice(1).join(' ') || 'no input')}</button>`).join('')}</span>`
+      ? `<span class="reports">${reports.map((run, at) => `<button type="button" data-report="${at}" title="mir run reports of this run">${esc(run.inputs.join(' ') || 'no input')}</button>`).join('')}</span>`
       : '') + '<button type="button" id="back" aria-label="a step back (,)">◀</button><input type="range" id="at" min="0" value="0" aria-label="step of the run"><button type="button" id="on" aria-label="a step on (.)">▶</button><output id="told"></output>';
 }
 
@@ -372,24 +372,23 @@ function showRun(unit, pass) {
   const left = evalsTo(step, state.at, before), right = evalsTo(other, together(pass, before, after)[state.at], after);
   const shown = pass.before.vars.map((name, v) => `${name}=${step.vars[v]}`).join(' ');
   const out = before.out.slice(0, state.at === before.steps.length - 1 ? undefined : before.steps[state.at + 1].out);
-  const report = unit.first && unit.program.runs.find(run => run.words.slice(1).join(' ') === state.run.join(' '));
-  let agrees = '';
-  const endOf = lines => lines.find(line => /^(result|trapped)/.test(line)),
-    told = Object.entries(report?.reports || {}).filter(([, lines]) => endOf(lines));
-  if (told.length) {
-    const right = told.every(([name, lines]) => {
-      const own = ran[unit.stages.findIndex(stage => stage.name === name)];
-      return own && lines.includes(`evals ${own.evals}`) &&
-        endOf(lines) === (own.trap ? `trapped ${own.trap}` : `result ${own.result}`) &&
-        lines.filter(line => /^-?\d+$/.test(line)).join() === own.out.join();
-    });
-    agrees = `<span class="${right ? 'good' : 'bad'}">${right ? '✓ as the proved program reports' : '✗ not as the proved program reports'}</span>`;
-  }
+  const reported = unit.first && unit.program.runs.find(run => run.inputs.join() === state.run.join());
+  const agrees = reported ? besideRun(unit, reported) : '';
   const bar = (label, now, all,
     most) => `<span class="bar"><span>${label}</span><meter min="0" max="${Math.max(most, 1)}" value="${now}"></meter><b>${now}</b><span class="quiet">of ${all}</span></span>`;
   const most = Math.max(before.evals, after.evals);
   $('#told').innerHTML = `<span>step ${state.at} of ${before.steps.length - 1}, at ${N(step.n)}</span> ${pass.first ? bar('evaluations', left, before.evals, most) : bar('before the pass', left, before.evals, most) + bar('after', right, after.evals, most)}`
     + ` <span>source <b>${ran[0].evals}</b> → result <b>${ran.at(-1).evals}</b></span> ${agrees}<br><span class="vars">${esc(shown)}</span> ${out.length ? `<span class="vars">printed ${out.slice(-6).join(' ')}</span>` : ''} ${state.at === before.steps.length - 1 ? `<b>${ended(before)}</b>` : ''}`;
+}
+
+// In a few words how the walks compare with the reports of a run.
+function besideRun(unit, run) {
+  const { differ, open } = besideReports(unit, run), compared = unit.stages.length - open.length;
+  if (differ.length) return `<span class="bad">✗ not as mir run reports at ${esc(differ.join(', '))}</span>`;
+  const last = run.reports[0].at(-2) ?? run.reports[0][0];
+  if (!compared) return `<span class="quiet">not compared: ${walks(unit, run.inputs.map(BigInt))[0].running
+    ? 'the walk stops before its end' : `mir run ${run.steps} tells ${code(last)}`}</span>`;
+  return `<span class="good">✓ as mir run reports at ${open.length ? `${compared} of ${unit.stages.length} stages` : 'each stage'}</span>`;
 }
 
 // ---- the index and the keys
