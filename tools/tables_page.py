@@ -13,7 +13,7 @@ from tables_text import Reader
 PARTS = Path(__file__).resolve().parent / 'page'
 
 # The parts of the script, in the order in which they stand on the page.
-SCRIPTS = ('graphs.js', 'passes.js', 'runs.js', 'pictures.js', 'show.js', 'reader.js')
+SCRIPTS = ('graphs.js', 'passes.js', 'constants.js', 'runs.js', 'pictures.js', 'show.js', 'reader.js')
 
 # As many prints of a report stand on the page: no walk has more steps.
 PRINTS = 20_000

@@ -141,24 +141,14 @@ const COLUMNS = {
       n => ({ yes: states[n] !== null, html: states[n] !== null ? `Node ${N(n)} is reached.`
         : `No edge passes a state to ${N(n)}: it is dropped.` }));
     return [reached, ...pass.before.vars.map((name, v) => values(name, states.map(one => one ? one[v] : ''),
-      `The one value that ${code(name)} has before the node on every path that a run can take, or <b>?</b> where it varies.`,
+      `The one value that the rules find for ${code(name)} before the node, or <b>?</b> where it varies: some path has another value, or one that is not known.`,
         n => {
         if (states[n] === null) return { html: `No run comes to ${N(n)}.` };
-        const from = into[n].map(p => {
-          const own = parsed(pass.before.nodes[p]);
-          if (states[p] === null) return `${N(p)} is not reached`;
-          if (own.kind === 'start') return pass.before.received.includes(name)
-            ? `${N(p)} receives it, whatever it is` : `${N(p)} makes it 0`;
-          if (!own.sets.includes(name)) return `${N(p)} passes ${states[p][v] === '?' ? 'on that it varies' : states[p][v] + ' on'}`;
-          const now = own.args.map(word => isVar(word) ? states[p][pass.before.vars.indexOf(word)] : word);
-          const alone = own.kind === 'assign' && !own.op ? now[0] : own.kind === 'assign' &&
-            now.every(one => one !== '?') && OPS[own.op] && now.length === 2 &&
-            !(/^(\/|mod)$/.test(own.op) && now[1] === '0')
-            ? String(WRAP(OPS[own.op](BigInt(now[0]), BigInt(now[1])))) : '?';
-          return `${N(p)} ${alone === '?' ? 'gives it what is not known, or what an identity tells' : 'makes it ' + alone}`;
-        });
-        const what = states[n][v] === '?' ? `${code(name)} varies` : `${code(name)} is ${states[n][v]}`;
-        return { html: `Before ${N(n)} ${what}${from.length ? ': ' + from.join('; ') : ': all variables are 0 at first'}.`,
+        if (states[n][v] === '?') return whyVarying(pass, name, n);
+        const from = into[n].map(p => states[p] === null ? `${N(p)} is not reached`
+          : !passesOn(pass, p, n) ? `${N(p)} takes its other way`
+          : setsIn(pass, p, name) ? `${N(p)} makes it ${valueBehind(pass, p, name)}` : `${N(p)} passes ${states[p][v]} on`);
+        return { html: `Before ${N(n)} ${code(name)} is ${states[n][v]}${from.length ? ': ' + from.join('; ') : ': all variables are 0 at first'}.`,
           edges: into[n].map(p => [p, n]) };
       }))];
   },

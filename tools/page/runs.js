@@ -13,6 +13,10 @@ const OPS = { '+': (a, b) => a + b, '-': (a, b) => a - b, '*': (a, b) => a * b, 
 // Where a walk stops: after so many nodes, and with so many frames.
 const MOST_STEPS = 20000, MOST_FRAMES = 200;
 
+// What an operator makes of one number or of two; null where it is a division by 0.
+const operated = (op, a, b) => op === null ? a : (op === '/' || op === 'mod') && b === 0n ? null
+  : WRAP(b === undefined ? (op === '-' ? -a : BigInt(a === 0n)) : OPS[op](a, b));
+
 class Trap extends Error {}
 class Enough extends Error {}
 
@@ -33,13 +37,9 @@ function walk(unit, at, args, so = { steps: 0, evals: 0, out: [], globals: new M
       if (keep) { step.vars = [...vars.values()]; steps.push(step); }
       let slot = 0;
       if (one.kind === 'assign' || one.kind === 'test' || one.kind === 'guard') {
-        const [a, b] = one.args.map(value);
-        let result = a;
-        if (one.op) {
-          if (one.kind === 'assign') { so.evals++; step.evaluates = true; }
-          if ((one.op === '/' || one.op === 'mod') && b === 0n) throw new Trap('zero divisor');
-          result = WRAP(b === undefined ? (one.op === '-' ? -a : BigInt(a === 0n)) : OPS[one.op](a, b));
-        }
+        if (one.op && one.kind === 'assign') { so.evals++; step.evaluates = true; }
+        const result = operated(one.op, ...one.args.map(value));
+        if (result === null) throw new Trap('zero divisor');
         if (one.kind === 'assign') vars.set(one.into, result);
         else if (one.kind === 'test') slot = result !== 0n ? 0 : 1;
         else if (result !== 0n) throw new Trap(String(one.trap));
