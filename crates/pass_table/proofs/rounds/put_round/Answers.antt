@@ -21,11 +21,11 @@ put_round_finding-requires c =
     let before : c.args.number ≡ c.args.next - 1 = omega (arith, c.requires.next) in
     subst (λ k. c.args.flow.now.edges ≡ edges_of (graph_at unit (Round k)).nodes) before c.requires.flow.edges
 
-pub sunk_with_flow-sinking-requires-clause-split : goal.sunk_with_flow-sinking-requires-clause-split
-sunk_with_flow-sinking-requires-clause-split c = subst (λ (g : GraphShape). IsSplit g.nodes) (sym c.graph.ensures) c.requires.split
+pub sunk_with_flow-requires-clause-split : goal.sunk_with_flow-requires-clause-split
+sunk_with_flow-requires-clause-split c = subst (λ (g : GraphShape). IsSplit g.nodes) (sym c.graph.ensures) c.requires.split
 
-pub sunk_with_flow-sinking-requires-clause-flow : goal.sunk_with_flow-sinking-requires-clause-flow
-sunk_with_flow-sinking-requires-clause-flow c = subst (λ (g : GraphShape). IsFlowOf g.nodes c.args.flow.now) (sym c.graph.ensures) c.requires.flow
+pub sunk_with_flow-requires-clause-flow : goal.sunk_with_flow-requires-clause-flow
+sunk_with_flow-requires-clause-flow c = subst (λ (g : GraphShape). IsFlowOf g.nodes c.args.flow.now) (sym c.graph.ensures) c.requires.flow
 
 -- the graph of this number is a round of the one before
 round : (c : In_ok-sinking) → IsRound (graph_at c.args.unit.now (Round c.args.number)) (graph_at c.args.unit.now (Round c.args.next))

@@ -22,7 +22,7 @@ loop-number-init c =
 -- the round that is put is the next one
 pub loop-number-preserved : goal.loop-number-preserved
 loop-number-preserved c = (
-  next_turn (IsRoundAt (names_of_units c.args.units.now) c.args.unit.now) c.loop-number.number c.args.text.now c.loop-number.text c.put_round.new.text c.loop-number.invariant.0 c.in_ok-put_round.ensures.text,
-  c.in_ok-put_round.ensures.split,
-  c.in_ok-put_round.ensures.flow,
+  next_turn (IsRoundAt (names_of_units c.args.units.now) c.args.unit.now) c.loop-number.number c.args.text.now c.loop-number.text c.put_round.new.text c.loop-number.invariant.0 c.in_ok-flow-2.ensures.text,
+  c.in_ok-flow-2.ensures.split,
+  c.in_ok-flow-2.ensures.flow,
 )
