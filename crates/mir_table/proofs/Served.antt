@@ -1,5 +1,5 @@
 -- From what `top` promises of the call that reads the text to what `tables` promises.
-use Rattle.std.proofs.Common.{◌≡◌, ◌≤◌, inl, ℕ, suc, List, [], ◌∷◌, ◌++◌, Option, None, Some, IfSome, zero, is_some, Contains, refl, sym, ◌∙◌, ap, subst, arith}
+use Rattle.std.proofs.Common.{◌≡◌, ◌≢◌, ◌<◌, ◌≤◌, inl, ℕ, suc, List, [], ◌∷◌, ◌++◌, Option, None, Some, IfSome, zero, is_some, Contains, refl, sym, ◌∙◌, ap, subst, arith}
 use Rattle.std.proofs.KnownBytes.{Consumes-nil}
 use Rattle.std.proofs.lemmas.List.{append-nil}
 use Rattle.std.specs.Io.KnownBytes.{Consumes, IsAtEnd}
@@ -8,7 +8,7 @@ use Rattle.mir_top.specs.declared.command.Command.TheVariants.{Optimise}
 use Rattle.mir_top.specs.Calls.{Call}
 use Rattle.mir_top.specs.Commands.{Reads}
 use Rattle.mir_top.specs.Complaints.{Complaint, out_of_memory}
-use Rattle.mir_top.specs.Due.{Completes, IsRefused, IsShortTextOf, Refuses, invalid, long, no_command, no_text, of_optimise, too_deep, unreadable, wrong_number}
+use Rattle.mir_top.specs.Due.{Completes, IsRefused, IsShortTextOf, Refuses, no_command, no_text, of_optimise, too_deep, wrong_number}
 use Rattle.mir_top.specs.Promises.{HasOptimised, HasRefused, Promises}
 use Rattle.mir_top.specs.Outputs.{Optimises}
 use Rattle.mir_top.specs.Streams.{HasFailed, Stream, Untouched}
@@ -27,11 +27,12 @@ refused_is words text complaint asked (no_text other asks is) = is
 refused_is words text complaint asked (wrong_number steps program run on count) = absurd (let e = sym asked ∙ run in cc)
 refused_is words text complaint asked (too_deep steps program run on count above) = absurd (let e = sym asked ∙ run in cc)
 
--- and so it has the status of a refused text
-refused_status : (text : List ℕ) (complaint : Complaint) → IsRefused text complaint → complaint.status ≡ 2
-refused_status text complaint (long more) = refl
-refused_status text complaint (unreadable fault short is) = refl
-refused_status text complaint (invalid fault short is) = refl
+-- of these three a status that is neither 6 nor 8 is the first
+first_of : (a n : ℕ) → Contains (a ∷ 6 ∷ 8 ∷ []) n → n ≢ 6 → n ≢ 8 → n ≡ a
+first_of a n (zero, low, at) no_six no_eight = sym at
+first_of a n (suc zero, low, at) no_six no_eight = absurd (no_six (sym at))
+first_of a n (suc (suc zero), low, at) no_six no_eight = absurd (no_eight (sym at))
+first_of a n (suc (suc (suc k)), low, at) no_six no_eight = absurd (let inside : suc (suc (suc k)) < 3 = low in omega (arith, inside))
 
 -- ---- streams
 
@@ -62,7 +63,7 @@ without_words source out err status unread unwritten ended =
       complete = λ text program tells on. (3, omega arith, sym is);
       refuses = λ text complaint tells refused. record {
         status = (2, omega arith, sym is);
-        told = λ same. absurd (let two = refused_status text complaint refused in omega (arith, is, same, two));
+        told = λ no_six no_eight. absurd (no_eight is);
       };
       statuses = omega (arith, is);
     }
@@ -102,7 +103,7 @@ module _ (call : Call) (p : Promises call) (asked : AsksOptimise call.words) (no
     complete = λ text program tells on. p.complete text 0 (λ asks. tells) (of_optimise program asked on);
     refuses = λ text complaint tells is.
         let ends = p.refuses text complaint (λ asks. tells) (no_text complaint (reads call.words asked) is) in
-        record { status = ends.status; told = ends.written };
+        record { status = ends.status; told = λ no_six no_eight. ends.written (first_of complaint.status call.reply.status ends.status no_six no_eight) };
     statuses = p.statuses;
   }
 

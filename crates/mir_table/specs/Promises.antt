@@ -75,10 +75,10 @@ pub data CallEnded (call : TableCall) : Type 0 where
   source_failed : HasFailed call.source → EndedBy call.status call.err read_fault → Untouched call.out → CallEnded call
   memory_failed : EndedBy call.status call.err out_of_memory → Untouched call.out → CallEnded call
 
--- the call ends with this complaint, unless a read fails or memory runs out
+-- the call ends with the status of this complaint and so it is told, unless a read fails or memory runs out
 pub record EndsWith (call : TableCall) (complaint : Complaint) : Type 0 where
   pub status : Contains (complaint.status ∷ 6 ∷ 8 ∷ []) call.status
-  pub told : call.status ≡ complaint.status → Tried call.err complaint.line
+  pub told : call.status ≢ 6 → call.status ≢ 8 → Tried call.err complaint.line
 
 -- the text is the whole of the source, whose bytes can be observed
 abbrev pub SourceHas : TableCall → List ℕ → Type 0
