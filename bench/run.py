@@ -30,11 +30,9 @@ TOP = Path(__file__).resolve().parent.parent
 MIR, PROGRAM = str(TOP / 'mir'), TOP / 'crates' / 'mir_main' / 'out' / 'mir_main'
 
 # The program that writes the tables, which takes no words: what is called where the word of a case is `tables`. Its
-# functions that write rows and graphs, of which the instructions are not counted: those that write the lines, with all
-# that they call, and by themselves those that call these.
+# functions that write rows and graphs, of which the instructions are not counted.
 TABLES = TOP / 'crates' / 'mir_tables' / 'out' / 'mir_tables'
-WRITERS = r'table_text::rows::put_each|table_text::graphs::put_graph'
-CALLERS = r'table_text::rows::put_(?:edge_)?bits'
+WRITERS = r'table_text::rows::put_(?:edge_)?bits|table_text::graphs::put_graph'
 
 # The lengths of texts: a quarter, a half and the whole of what a text may have.
 LENGTHS = (262_144, 524_288, 1_048_576)
@@ -564,15 +562,10 @@ def measure(command: list[str], case: Case, folder: Path, repeat: int) -> Measur
 
 
 def of_writers(counts: Path) -> int:
-    """How many instructions the functions take that write tables."""
-    return instructions_of(counts, WRITERS, 'yes') + instructions_of(counts, CALLERS, 'no')
-
-
-def instructions_of(counts: Path, names: str, inclusive: str) -> int:
-    """How many instructions the functions of these names take, with all that they call or by themselves."""
-    annotate = ['callgrind_annotate', f'--inclusive={inclusive}', '--threshold=100', '--show-percs=no', str(counts)]
+    """How many instructions the functions take that write tables, with all that they call."""
+    annotate = ['callgrind_annotate', '--inclusive=yes', '--threshold=100', '--show-percs=no', str(counts)]
     lines = subprocess.run(annotate, stdout=subprocess.PIPE, text=True, check=True).stdout.splitlines()
-    rows = [re.match(rf'\s*([\d,]+)\s+\S*:(?:{names})\b', line) for line in lines]
+    rows = [re.match(rf'\s*([\d,]+)\s+\S*:(?:{WRITERS})\b', line) for line in lines]
     return sum(int(row[1].replace(',', '')) for row in rows if row)
 
 
