@@ -1,5 +1,5 @@
 -- What holds while the nodes are put in order. Cited by contracts.
-use Rattle.std.specs.Prelude.{◌≡◌, ℕ, ◌<◌, Bool, List, length, All}
+use Rattle.std.specs.Prelude.{◌≡◌, ℕ, ◌<◌, List, length, All}
 use Rattle.fix_solve.specs.Net.{Net}
 use Rattle.fix_solve.specs.declared.order.DepthFirst.{DepthFirst}
 
@@ -7,14 +7,12 @@ use Rattle.fix_solve.specs.declared.order.DepthFirst.{DepthFirst}
 abbrev pub AreNodes : ℕ → List ℕ → Type 0
 AreNodes nodes = All (λ n. n < nodes)
 
--- a chain begins at each node and goes on after each edge, each node has a mark, and what is put down are nodes
-pub record IsWalk (nodes edges : ℕ) (heads nexts : List ℕ) (seen : List Bool) (stack order : List ℕ) : Type 0 where
-  pub heads_len : length heads ≡ nodes
-  pub nexts_len : length nexts ≡ edges
-  pub seen_len : length seen ≡ nodes
-  pub stacked : AreNodes nodes stack
+-- each node has a next edge and the node from which the walk came, and what is put down are nodes
+pub record IsWalk (nodes : ℕ) (nexts froms order : List ℕ) : Type 0 where
+  pub nexts_len : length nexts ≡ nodes
+  pub froms_len : length froms ≡ nodes
   pub ordered : AreNodes nodes order
 
 -- the walk is one over this flow
 abbrev pub WalksOver : {V : Type 0} → Net V → DepthFirst → Type 0
-WalksOver net walk = IsWalk net.nodes net.edges walk.heads.items walk.nexts.items walk.seen.items walk.stack.items walk.order.items
+WalksOver net walk = IsWalk net.nodes walk.nexts.items walk.froms.items walk.order.items

@@ -1,51 +1,44 @@
 // The order in which the nodes are first visited: what leads to a node mostly stands before it.
-ghost use Rattle.std.specs.Prelude.{◌≡◌, ◌<◌, IfOk, IfSome, OnOk, length};
+ghost use Rattle.std.specs.Prelude.{◌<◌, ◌≤◌, IfOk, OnOk};
 ghost use Rattle.fix_solve.specs.OrderWalks.{AreNodes, WalksOver};
 
 use crate::{Flow, Memory};
 use std::alloc::Global;
 
-/// A walk over all edges, depth first. The edges that it takes from a node are chained in ascending order: `heads` has
-/// the next one of each node, and `nexts` the one after each edge; a chain ends with a number past the last edge.
+/// A walk over all edges, depth first, that goes back along the edges by which it came. `nexts` has the number of the
+/// next edge of each node that was seen, and `froms` the node from which the walk came to it, or, where that is none,
+/// the number of nodes; of a node that was not seen it has `UNSEEN`. `order` has the nodes that are left for good.
 #[derive(Drop)]
 struct DepthFirst {
-    heads: Vec<usize>,
     nexts: Vec<usize>,
-    seen: Vec<bool>,
-    stack: Vec<usize>,
+    froms: Vec<usize>,
     order: Vec<usize>,
 }
 
-/// The nodes in reverse postorder of the edges, or, where most edges lead down, in postorder of the reversed edges:
-/// each node after those that lead to it, but along the edges that close a loop.
+/// Stands for a node that was not seen.
+const UNSEEN: usize = usize::MAX;
+
+/// The nodes in postorder of the edges: each node before those that lead to it, but along the edges that close a loop.
+/// Where no edge leads down it lists none, for then the ascending order has each node after those that lead to it.
 pub(crate) fn order_of<F: Flow>(alloc: Global, flow: &F) -> Result<Vec<usize>, Memory>
     requires { F.valid flow.now }
     ensures { IfOk result (λ order. AreNodes (F.net flow.now).nodes order.items) }
 {
-    let nodes = flow.nodes();
-    let reversed = leads_down(flow);
-    let mut walk = walk_over(alloc, flow, reversed)?;
-    let mut root = 0;
-    // Each step takes an edge, puts a node at the end of the order, or comes to a root.
-    let steps = flow.edges().saturating_add(nodes).saturating_add(nodes);
-    for _step in 0..steps {
-        if let Some(node) = walk.stack.pop() {
-            go_on(&mut walk, flow, reversed, node)?;
-        } else if root < nodes {
-            see(&mut walk, flow, root)?;
-            root += 1;
-        }
+    let down = edges_down(flow);
+    if down == 0 {
+        Ok(Vec::new(alloc))
+    } else {
+        // Most edges of a flow against the edges of a program lead down, and its last nodes are where it begins.
+        let from_last = flow.edges() - down < down;
+        let walk = walked(alloc, flow, from_last)?;
+        Ok(walk.order)
     }
-    let mut order = walk.order;
-    if !reversed {
-        order.reverse();
-    }
-    Ok(order)
 }
 
-/// Whether most edges lead to a node with a lower number, as those of a flow against the edges of a program do.
-fn leads_down<F: Flow>(flow: &F) -> bool
+/// How many edges lead to a node with a lower number.
+fn edges_down<F: Flow>(flow: &F) -> usize
     requires { F.valid flow.now }
+    ensures { result ≤ (F.net flow.now).edges }
 {
     let edges = flow.edges();
     let mut down = 0;
@@ -55,94 +48,85 @@ fn leads_down<F: Flow>(flow: &F) -> bool
             down += 1;
         }
     }
-    edges - down < down
+    down
 }
 
-/// A walk in which nothing is seen yet. The edges are walked from source to target, or reversed.
-fn walk_over<F: Flow>(alloc: Global, flow: &F, reversed: bool) -> Result<DepthFirst, Memory>
+/// The walk over all nodes. It begins anew at each node that it did not see, from the first on or from the last.
+fn walked<F: Flow>(alloc: Global, flow: &F, from_last: bool) -> Result<DepthFirst, Memory>
     requires { F.valid flow.now }
     ensures { IfOk result (λ walk. WalksOver (F.net flow.now) walk) }
 {
     let nodes = flow.nodes();
-    let edges = flow.edges();
-    let mut heads = vec![in alloc; edges; nodes]?;
-    let mut nexts = vec![in alloc; edges; edges]?;
-    for count in 0..edges {
-        let number = edges - 1 - count;
-        let (source, target) = flow.edge(number);
-        let from = if reversed { target } else { source };
-        nexts[number] = heads[from];
-        heads[from] = number;
-    }
-    Ok(DepthFirst {
-        heads,
-        nexts,
-        seen: vec![in alloc; false; nodes]?,
-        stack: Vec::with_capacity(alloc, nodes)?,
+    let mut walk = DepthFirst {
+        nexts: vec![in alloc; 0; nodes]?,
+        froms: vec![in alloc; UNSEEN; nodes]?,
         order: Vec::with_capacity(alloc, nodes)?,
-    })
+    };
+    for count in 0..nodes {
+        let root = if from_last { nodes - 1 - count } else { count };
+        walk_from(&mut walk, flow, root)?;
+    }
+    Ok(walk)
 }
 
-/// Goes on from the node at the top of the stack: along its next edge, to a node that was not seen, or else back from
-/// the node, which is put at the end of the order.
-fn go_on<F: Flow>(
-    walk: &mut DepthFirst,
-    flow: &F,
-    reversed: bool,
-    node: usize,
-) -> Result<(), Memory>
+/// Walks over what is come to from a node, if that was not seen.
+fn walk_from<F: Flow>(walk: &mut DepthFirst, flow: &F, root: usize) -> Result<(), Memory>
     requires valid { F.valid flow.now }
-    requires in_range { node < (F.net flow.now).nodes }
+    requires in_range { root < (F.net flow.now).nodes }
     requires walk { WalksOver (F.net flow.now) walk.old }
     ensures walk { OnOk result (WalksOver (F.net flow.now) walk.new) }
 {
-    match next_edge(&mut walk.heads, &walk.nexts, node) {
-        Some(number) => {
-            walk.stack.push(node)?;
-            let next = end_of(flow, number, reversed);
-            see(walk, flow, next)
-        }
-        None => {
-            walk.order.push(node)?;
-            Ok(())
-        }
+    if walk.froms[root] != UNSEEN {
+        return Ok(());
     }
-}
-
-/// Takes the next edge of a node off its chain.
-fn next_edge(heads: &mut [usize], nexts: &[usize], node: usize) -> Option<usize>
-    requires { node < length heads.old }
-    ensures len { length heads.new ≡ length heads.old }
-    ensures in_range { IfSome result (λ number. number < length nexts.now) }
-{
-    let number = heads[node];
-    if number < nexts.len() {
-        heads[node] = nexts[number];
-        Some(number)
-    } else {
-        None
-    }
-}
-
-/// The node that an edge leads to, or, reversed, that it comes from.
-fn end_of<F: Flow>(flow: &F, number: usize, reversed: bool) -> usize
-    requires valid { F.valid flow.now }
-    requires in_range { number < (F.net flow.now).edges }
-    ensures { result < (F.net flow.now).nodes }
-{
-    let (source, target) = flow.edge(number);
-    if reversed { source } else { target }
-}
-
-/// Puts a node on the stack if it was not seen.
-fn see<F: Flow>(walk: &mut DepthFirst, flow: &F, node: usize) -> Result<(), Memory>
-    requires in_range { node < (F.net flow.now).nodes }
-    requires walk { WalksOver (F.net flow.now) walk.old }
-    ensures walk { OnOk result (WalksOver (F.net flow.now) walk.new) }
-{
-    if !walk.seen[node] {
-        walk.seen[node] = true;
-        walk.stack.push(node)?;
+    let nodes = flow.nodes();
+    see(walk, flow, nodes, root);
+    let mut node = root;
+    // Each step takes an edge, or puts a node at the end of the order.
+    let steps = flow.edges().saturating_add(nodes);
+    for _step in 0..steps {
+        if node < nodes {
+            node = go_on(walk, flow, node)?;
+        } else {
+            break;
+        }
     }
     Ok(())
+}
+
+/// Goes on from a node, and answers where the walk then is: along the next edge, to a node that was not seen, or else
+/// back from the node, which is put at the end of the order.
+fn go_on<F: Flow>(walk: &mut DepthFirst, flow: &F, node: usize) -> Result<usize, Memory>
+    requires valid { F.valid flow.now }
+    requires in_range { node < (F.net flow.now).nodes }
+    requires walk { WalksOver (F.net flow.now) walk.old }
+    ensures walk { OnOk result (WalksOver (F.net flow.now) walk.new) }
+{
+    let number = walk.nexts[node];
+    let (_, end) = flow.out(node);
+    if number < end {
+        walk.nexts[node] = number + 1;
+        let (_, target) = flow.edge(number);
+        if walk.froms[target] == UNSEEN {
+            see(walk, flow, node, target);
+            Ok(target)
+        } else {
+            Ok(node)
+        }
+    } else {
+        walk.order.push(node)?;
+        Ok(walk.froms[node])
+    }
+}
+
+/// Comes from one node, or from none, to another, which was not seen.
+fn see<F: Flow>(walk: &mut DepthFirst, flow: &F, from: usize, node: usize)
+    requires valid { F.valid flow.now }
+    requires in_range { node < (F.net flow.now).nodes }
+    requires walk { WalksOver (F.net flow.now) walk.old }
+    ensures { WalksOver (F.net flow.now) walk.new }
+{
+    let (first, _) = flow.out(node);
+    walk.nexts[node] = first;
+    walk.froms[node] = from;
 }

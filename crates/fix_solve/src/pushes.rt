@@ -8,7 +8,7 @@ ghost use Rattle.fix_solve.specs.Solving.{AllDone, AllDoneBut, IsOneList, Pushed
 use crate::{Flow, Lattice, Steps};
 use node_list::Links;
 
-/// Puts each node into the list: first these, in their order, and then those that are left.
+/// Puts each node into the list: first these, from the last on, and then those that are left.
 pub(crate) fn enlist_all(waiting: &mut Links, order: &[usize], nodes: usize)
     requires one_list { IsOneList waiting.old }
     requires nodes { waiting.old.nodes ≡ nodes }
@@ -21,15 +21,16 @@ pub(crate) fn enlist_all(waiting: &mut Links, order: &[usize], nodes: usize)
     enlist_up(waiting, nodes);
 }
 
-/// Puts each of these nodes into the list, in their order.
+/// Puts each of these nodes into the list, from the last on.
 fn enlist_each(waiting: &mut Links, nodes: &[usize])
     requires one_list { IsOneList waiting.old }
     requires in_range { AreNodes waiting.old.nodes nodes.now }
     ensures one_list { IsOneList waiting.new }
     ensures nodes { waiting.new.nodes ≡ waiting.old.nodes }
 {
-    for node in nodes {
-        enlist(waiting, *node, true);
+    let end = nodes.len();
+    for count in 0..end {
+        enlist(waiting, nodes[end - 1 - count], true);
     }
 }
 

@@ -11,8 +11,8 @@ use std::marker::Model;
 
 /// A value for each node. Contracts see it as the list of these.
 ///
-/// It also holds the list of the nodes that wait for a visit, and the order in which they are first visited, so that
-/// the solver does not allocate.
+/// It also holds the list of the nodes that wait for a visit, and the order in which they are first visited, the
+/// last first, so that the solver does not allocate.
 #[derive(Drop)]
 pub struct Work<V: Lattice> {
     values: Vec<V>,
