@@ -1,5 +1,5 @@
 -- Rows that grow at their end: with one more row the words hold the old rows, as before, and the new one.
-use Rattle.std.proofs.Common.{◌≡◌, ℕ, ◌+◌, ◌-◌, ◌*◌, ◌/◌, ◌<◌, ◌≤◌, Bool, false, List, [], ◌∷◌, ◌++◌, length, take, drop, replicate, refl, sym, ap, inl, inr, arith, ◌∙◌, length-append}
+use Rattle.std.proofs.Common.{◌≡◌, ℕ, ◌+◌, ◌-◌, ◌*◌, ◌/◌, ◌<◌, ◌≤◌, Bool, false, List, [], ◌∷◌, ◌++◌, length, drop, replicate, refl, sym, ap, inl, inr, arith, ◌∙◌, length-append}
 use Rattle.std.proofs.Math.Seq.{drop-append_seam, get_or-append_seam}
 use Rattle.std.proofs.lemmas.Bool.{cases_lt}
 use Rattle.std.proofs.lemmas.List.{ext_get_or, get_or_append_left, length-replicate, take-append-le, take_all}
@@ -75,14 +75,13 @@ module _ (rows bits stride : ℕ) (words : List ℕ) (all : List (List Bool)) (f
 
 -- one row more that is all false
 pub grown_false : (rows bits stride : ℕ) (words : List ℕ) (all : List (List Bool)) (fits : FitsRows rows bits stride words) (view : rows_of rows bits stride words ≡ all)
-    (m step len count : ℕ) → step ≡ (m + 63) / 64 → len ≡ length words → count ≡ len + step → AreEquallyLong m all
-    → HoldRows (rows + 1) m step (take count words ++ replicate (count - len) 0) (all ++ replicate m false ∷ [])
-grown_false rows bits stride words all fits view m step len count step_is len_is count_is long =
+    (m step : ℕ) → step ≡ (m + 63) / 64 → AreEquallyLong m all
+    → HoldRows (rows + 1) m step (words ++ replicate step 0) (all ++ replicate m false ∷ [])
+grown_false rows bits stride words all fits view m step step_is long =
     let zeros : Holds m (replicate step 0) (replicate m false) = zeros_hold m step step_is in
     let wide : length (replicate {A = Bool} m false) ≡ m = length-replicate {A = Bool} m false in
     let more : HoldRows (rows + 1) m (length (replicate {A = ℕ} step 0)) (words ++ replicate step 0) (all ++ replicate m false ∷ []) = grown rows bits stride words all fits view m (replicate step 0) (replicate m false) zeros (rw wide long) in
-    let added : count - len ≡ step = omega arith in
-    rw (added, take_all count words (omega arith)) (rw (length-replicate {A = ℕ} step 0) at more)
+    rw (length-replicate {A = ℕ} step 0) at more
 
 -- no rows need no words
 pub no_rows : (bits stride : ℕ) (words : List ℕ) → rows_of 0 bits stride words ≡ []

@@ -4,8 +4,8 @@ ghost use Rattle.bit_rows.specs.Bits.{or_bits, minus_bits, not_bits};
 
 use crate::joining::Joining;
 use crate::words::{
-    flip_words, join_words, minus_then_or_words, or_minus_words, or_then_minus_words, or_words,
-    word_bit,
+    copy_of_words, flip_words, join_words, minus_then_or_words, or_minus_words,
+    or_then_minus_words, or_words, word_bit,
 };
 use crate::{Memory, RowView};
 use smallvec::SmallVec;
@@ -45,12 +45,13 @@ impl Row {
     }
 
     /// A copy of a row. It fails only with `Memory`.
+    #[inline(always)]
     pub fn of(alloc: Global, row: &RowView<'_>) -> Result<Row, Memory>
         ensures { IfOk result (λ made. made ≡ row.now) }
     {
         Ok(Row {
             bits: row.bits,
-            words: SmallVec::from_slice(alloc, row.words)?,
+            words: copy_of_words(alloc, row.words)?,
         })
     }
 

@@ -8,7 +8,7 @@ use crate::packed::{
     flip_row, join_row, or_minus_passed_row, or_minus_row, or_minus_rows, or_passed_rows,
     row_words, set_row_bit,
 };
-use crate::words::{join_words, words_without};
+use crate::words::{join_words, push_words, push_zeros, words_without};
 use crate::{Memory, RowView};
 use std::alloc::{AllocError, Global};
 use std::marker::Model;
@@ -71,6 +71,7 @@ impl Rows {
 
     /// Puts a copy of a row at the end, as long as those that stand. It fails only with `Memory`, and the rows are then
     /// as they were.
+    #[inline(always)]
     pub fn push(&mut self, row: &RowView<'_>) -> Result<(), Memory>
         requires { AreEquallyLong (length row.now) self.old }
         ensures ok { OnOk result (self.new ≡ self.old ++ row.now ∷ []) }
@@ -79,7 +80,7 @@ impl Rows {
         let Some(rows) = self.rows.checked_add(1) else {
             return Err(AllocError);
         };
-        self.words.extend_from_slice(row.words)?;
+        push_words(&mut self.words, row.words)?;
         self.rows = rows;
         self.bits = row.bits;
         self.stride = row.words.len();
@@ -88,6 +89,7 @@ impl Rows {
 
     /// Puts a row of so many bits, all false, at the end; those that stand are as long. It fails only with `Memory`,
     /// and the rows are then as they were.
+    #[inline(always)]
     pub fn push_false(&mut self, bits: usize) -> Result<(), Memory>
         requires { AreEquallyLong bits self.old }
         ensures ok { OnOk result (self.new ≡ self.old ++ replicate bits false ∷ []) }
@@ -97,10 +99,7 @@ impl Rows {
         let Some(rows) = self.rows.checked_add(1) else {
             return Err(AllocError);
         };
-        let Some(count) = self.words.len().checked_add(stride) else {
-            return Err(AllocError);
-        };
-        self.words.resize(count, 0)?;
+        push_zeros(&mut self.words, stride)?;
         self.rows = rows;
         self.bits = bits;
         self.stride = stride;

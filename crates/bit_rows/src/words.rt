@@ -1,5 +1,5 @@
 // The passes over words. Each clause says what becomes of one word, or of one bit.
-ghost use Rattle.std.specs.Prelude.{◌≡◌, ℕ, ◌+◌, ◌*◌, ◌^◌, ◌<◌, ◌≤◌, ◌↔◌, false, IfNone, IfOk, IfSome, OnOk, length, bit_and, bit_or};
+ghost use Rattle.std.specs.Prelude.{◌≡◌, ℕ, ◌+◌, ◌*◌, ◌^◌, ◌<◌, ◌≤◌, ◌↔◌, ◌++◌, false, IfNone, IfOk, IfSome, OnErr, OnOk, length, replicate, bit_and, bit_or};
 ghost use Rattle.std.specs.Int.{bit_at};
 ghost use Rattle.bit_rows.specs.Bits.{IsTrueFrom, NoneTrue};
 ghost use Rattle.bit_rows.specs.Joinings.{word_join};
@@ -7,7 +7,8 @@ ghost use Rattle.bit_rows.specs.Words.{AddsWithout, AreFlipped, EachByTwo, EachO
 
 use crate::Memory;
 use crate::joining::Joining;
-use std::alloc::Global;
+use smallvec::SmallVec;
+use std::alloc::{AllocError, Global};
 
 /// Each word becomes its disjunction with the other's. It answers whether one changed.
 pub fn or_words(into: &mut [u64], from: &[u64]) -> bool
@@ -124,6 +125,70 @@ pub fn join_words(how: Joining, into: &mut [u64], from: &[u64])
         Joining::And => and_words(into, from),
         Joining::Minus => minus_words(into, from),
     }
+}
+
+/// Puts words at the end. One word, which is what most rows have, goes there without a copy of memory.
+#[inline(always)]
+pub fn push_words(made: &mut Vec<u64>, words: &[u64]) -> Result<(), Memory>
+    ensures ok { OnOk result (made.new.items ≡ made.old.items ++ words.now) }
+    ensures err { OnErr result (made.new.items ≡ made.old.items) }
+{
+    if words.len() == 1 && made.len() < made.capacity() {
+        made.push_reserved(words[0]);
+    } else {
+        made.extend_from_slice(words)?;
+    }
+    Ok(())
+}
+
+/// Puts so many words that are 0 at the end; one goes there without a call.
+#[inline(always)]
+pub fn push_zeros(made: &mut Vec<u64>, count: usize) -> Result<(), Memory>
+    ensures ok { OnOk result (made.new.items ≡ made.old.items ++ replicate count 0) }
+    ensures err { OnErr result (made.new.items ≡ made.old.items) }
+{
+    if count == 1 && made.len() < made.capacity() {
+        made.push_reserved(0);
+        Ok(())
+    } else {
+        push_more_zeros(made, count)
+    }
+}
+
+/// Puts so many words that are 0 at the end, where their number can be counted.
+#[inline(never)]
+fn push_more_zeros(made: &mut Vec<u64>, count: usize) -> Result<(), Memory>
+    ensures ok { OnOk result (made.new.items ≡ made.old.items ++ replicate count 0) }
+    ensures err { OnErr result (made.new.items ≡ made.old.items) }
+{
+    let Some(len) = made.len().checked_add(count) else {
+        return Err(AllocError);
+    };
+    made.resize(len, 0)?;
+    Ok(())
+}
+
+/// A copy of words. One word, which is what most rows have, is put down without a copy of memory.
+#[inline(always)]
+pub fn copy_of_words(alloc: Global, words: &[u64]) -> Result<SmallVec<u64, 2>, Memory>
+    ensures { IfOk result (λ made. made.items ≡ words.now) }
+{
+    if words.len() == 1 {
+        let mut made = SmallVec::new(alloc);
+        made.push_reserved(words[0]);
+        Ok(made)
+    } else {
+        copy_of_more_words(alloc, words)
+    }
+}
+
+/// A copy of words, however many.
+#[inline(never)]
+fn copy_of_more_words(alloc: Global, words: &[u64]) -> Result<SmallVec<u64, 2>, Memory>
+    ensures { IfOk result (λ made. made.items ≡ words.now) }
+{
+    let made = SmallVec::from_slice(alloc, words)?;
+    Ok(made)
 }
 
 /// Puts words without the bits of others at the end, as many as there are.
