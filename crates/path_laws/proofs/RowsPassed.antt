@@ -13,7 +13,7 @@ use Rattle.flow_graph.specs.declared.nodes.Node.{Node}
 use Rattle.path_laws.specs.Blockwise.{AreBarredByPaths, flow_order, passed, passed_all}
 use Rattle.path_laws.specs.Paths.{AreRows, has_bit}
 use Rattle.path_laws.specs.declared.problems.Problem.{Problem}
-use Rattle.path_laws.specs.Problem.{IsProblem, block_seeds, is_barred, is_seed, orders, row_after, row_through}
+use Rattle.path_laws.specs.Problem.{IsProblem, begun_row, block_seeds, is_barred, is_seed, orders, row_after, row_through}
 use Rattle.path_laws.specs.RowLaws.{Written, put, written_shape}
 use Rattle.path_laws.specs.Seeds.{bars_of, is_end, passed_row, seeds_of}
 use Rattle.std.proofs.lemmas.List.Folds.{list_any-append}
@@ -84,6 +84,16 @@ none_minus (x ∷ row) = ap (λ r. false ∷ r) (none_minus row)
 none_or : (row : List Bool) → or_bits (replicate (length row) false) row ≡ row
 none_or [] = refl
 none_or (x ∷ row) = ap (λ r. x ∷ r) (none_or row)
+
+-- the seeds of a node are made of what is born there, for some path
+pub begun_some : (p : Problem) (n : ℕ) → p.every ≡ false → begun_row p n ≡ row_of p.born.now n
+begun_some p n some = ap (λ way. cond way (cond (is_end p.against p.graph.now.nodes n) (row_of p.born.now n) (row_of p.stop.now n)) (row_of p.born.now n)) some
+
+-- and of what is stopped there, for every path, where none ends
+pub begun_inside : (p : Problem) (n : ℕ) → p.every ≡ true → is_end p.against p.graph.now.nodes n ≡ false → begun_row p n ≡ row_of p.stop.now n
+begun_inside p n every inside =
+    ap (λ way. cond way (cond (is_end p.against p.graph.now.nodes n) (row_of p.born.now n) (row_of p.stop.now n)) (row_of p.born.now n)) every
+    ∙ ap (λ e. cond e (row_of p.born.now n) (row_of p.stop.now n)) inside
 
 -- where no bit comes to a node, its seeds leave it
 module _ (p : Problem) (is : IsProblem p) (n : ℕ) (n_in : n < length p.graph.now.nodes) where

@@ -1,8 +1,9 @@
 -- A path problem as its functions see it: what holds of it, and what the rows on the way to its answers say. Cited by
 -- contracts.
-use Rattle.std.specs.Prelude.{◌≡◌, ℕ, ◌+◌, ◌*◌, ◌<◌, ◌↔◌, ◌&&◌, ◌||◌, not, Bool, true, false, List, [], ◌∷◌, length, map, replicate, slice_get, Some}
+use Rattle.std.specs.Prelude.{◌≡◌, ℕ, ◌+◌, ◌*◌, ◌<◌, ◌↔◌, ◌&&◌, ◌||◌, not, cond, Bool, true, false, List, [], ◌∷◌, length, map, replicate, slice_get, Some}
 use Rattle.std.specs.List.{list_any}
 use Rattle.flow_graph.specs.declared.edges.Edge.{Edge}
+use Rattle.bit_rows.specs.Bits.{row_of}
 use Rattle.flow_graph.specs.Graphs.{IsGraph}
 use Rattle.node_list.specs.Lists.{list_at}
 use Rattle.path_laws.specs.declared.between.BlockEdges.{BlockEdges}
@@ -14,7 +15,7 @@ use Rattle.path_laws.specs.Leads.{Leads}
 use Rattle.flow_graph.specs.FlowEdges.{StepAlong}
 use Rattle.path_laws.specs.Paths.{AreRows, HaveShape, Tell, has_bit, width}
 use Rattle.path_laws.specs.RowLaws.{Joined}
-use Rattle.path_laws.specs.Seeds.{IsPathProblem, bars_of, passed_row, seeds_of}
+use Rattle.path_laws.specs.Seeds.{IsPathProblem, bars_of, is_end, passed_row, seeds_of}
 
 -- its graph keeps the laws of graphs
 abbrev pub HasGraph : Problem → Type 0
@@ -43,6 +44,10 @@ is_barred p = has_bit (bars_in p)
 -- the row that leaves a node where this one comes to it
 abbrev pub row_after : Problem → ℕ → List Bool → List Bool
 row_after p = passed_row p.every p.against p.graph.now.nodes p.born.now p.stop.now
+
+-- the row of which the seeds of a node are made: what it stops, where what is stopped is seeded, and else what is born
+abbrev pub begun_row : Problem → ℕ → List Bool
+begun_row p n = cond p.every (cond (is_end p.against p.graph.now.nodes n) (row_of p.born.now n) (row_of p.stop.now n)) (row_of p.born.now n)
 
 -- the row that leaves these nodes, one after the other, where this one comes to the first
 abbrev pub row_through : Problem → List ℕ → List Bool → List Bool

@@ -2,7 +2,7 @@
 ghost use Rattle.std.specs.Prelude.{◌≡◌, ◌<◌, false, length, replicate, slice_get, IfOk, Some};
 ghost use Rattle.bit_rows.specs.Bits.{and_bits, not_bits, row_of};
 ghost use Rattle.path_laws.specs.Blockwise.{flow_order};
-ghost use Rattle.path_laws.specs.Problem.{IsProblem, bars_in, is_seed, row_after};
+ghost use Rattle.path_laws.specs.Problem.{IsProblem, bars_in, begun_row, is_seed, row_after};
 ghost use Rattle.path_laws.specs.RowLaws.{Joined, Written};
 
 use crate::problems::Problem;
@@ -18,18 +18,43 @@ pub(crate) fn seeds_at(alloc: Global, problem: &Problem<'_>, node: usize) -> Res
     ensures { IfOk result
         (λ row. row ≡ row_after problem.now node (replicate problem.now.bits false)) }
 {
-    let born = problem.born.row(node);
-    if !problem.every {
-        let row = Row::of(alloc, &born)?;
-        Ok(row)
-    } else if is_end(problem.graph, problem.against, node) {
-        let mut row = Row::of(alloc, &born)?;
-        row.flip();
-        Ok(row)
+    let mut row = Row::of(alloc, &seeds_begin(problem, node))?;
+    finish_seeds(problem, &mut row, node);
+    Ok(row)
+}
+
+/// The row of which the seeds of a node are made: for every path what is stopped there, but where paths end, and else
+/// what is born there.
+fn seeds_begin<'a>(problem: &Problem<'a>, node: usize) -> RowView<'a>
+    requires problem { IsProblem problem.now }
+    requires node { node < length problem.now.graph.now.nodes }
+    ensures { result ≡ begun_row problem.now node }
+{
+    if problem.every {
+        if is_end(problem.graph, problem.against, node) {
+            problem.born.row(node)
+        } else {
+            problem.stop.row(node)
+        }
     } else {
-        let mut row = Row::of(alloc, &problem.stop.row(node))?;
-        row.minus_from(&born);
-        Ok(row)
+        problem.born.row(node)
+    }
+}
+
+/// That row becomes the seeds: for every path it is taken without what is born there, or, where paths end, everything
+/// is.
+fn finish_seeds(problem: &Problem<'_>, row: &mut Row, node: usize)
+    requires problem { IsProblem problem.now }
+    requires node { node < length problem.now.graph.now.nodes }
+    requires begun { row.old ≡ begun_row problem.now node }
+    ensures { row.new ≡ row_after problem.now node (replicate problem.now.bits false) }
+{
+    if problem.every {
+        if is_end(problem.graph, problem.against, node) {
+            row.flip();
+        } else {
+            row.minus_from(&problem.born.row(node));
+        }
     }
 }
 
