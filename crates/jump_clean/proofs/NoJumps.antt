@@ -1,10 +1,17 @@
 -- Nodes of which none is a jump: no Test makes no difference.
-use Rattle.std.proofs.Common.{◌≡◌, ℕ, zero, suc, ◌+◌, ◌<◌, true, false, nat_eq, eq-eqb, List, slice_get, Some, inl, inr, sym, ap, ◌∙◌, arith}
+use Rattle.std.proofs.Common.{◌≡◌, ℕ, zero, suc, ◌+◌, ◌<◌, true, false, nat_eq, eq-eqb, List, [], ◌∷◌, length, map, slice_get, Some, inl, inr, refl, sym, ap, subst, ◌∙◌, arith}
 use Rattle.std.proofs.lemmas.Bool.{cases_lt}
+use Rattle.std.proofs.lemmas.List.FromFn.{get_or-range_with_len, length-range_with_len}
 use Rattle.std.proofs.lemmas.Option.{same_Some}
+use Rattle.std.specs.List.{range_with_len}
+use Rattle.std.specs.Prelude.{slice_index_or}
 use Rattle.flow_graph.specs.declared.nodes.Node.{Node}
 use Rattle.flow_graph.specs.declared.nodes.Node.TheVariants.{Skip, Test}
-use Rattle.jump_clean.specs.Chains.{Skips}
+use Rattle.flow_graph.specs.Graphs.{AllWithin, node_succs, succs_of}
+use Rattle.flow_graph.specs.NodeLaws.{redirected_none}
+use Rattle.flow_graph.specs.Retained.{redirected}
+use Rattle.jump_clean.specs.Chains.{IsEnd, Skips}
+use Rattle.jump_clean.specs.Cleaned.{AreCleaned}
 use Rattle.jump_clean.specs.Reductions.{HaveNoJumps, NoEqualSuccessors, is_jump}
 
 -- the nodes up to one more
@@ -30,3 +37,39 @@ no_equal nodes none n taken d =
     let apart : nat_eq taken d.other ≡ false = none n (Test d.test taken d.other) d.is in
     let equal : nat_eq taken d.other ≡ true = eq-eqb taken d.other (first ∙ sym second) in
     cc
+
+-- it ends at each node
+all_end : (nodes : List Node) → HaveNoJumps nodes → (n : ℕ) → IsEnd nodes n n
+all_end nodes none n = record {
+  leads = record { count = 0; skips = refl };
+  ends = record {
+    back = λ m to. record { count = 0; skips = sym (no_chain nodes none to.count n m to.skips) };
+    least = λ m to. let same : n ≡ m = no_chain nodes none to.count n m to.skips in omega (arith, same);
+  };
+}
+
+-- the numbers from 0 on, each in its own place
+own_place : (size n : ℕ) → n < size → slice_index_or (range_with_len 0 size) n 0 ≡ n
+own_place size n below = let there = get_or-range_with_len 0 size n 0 below in omega (arith, there)
+
+-- and no node changes
+pub none_changed : (nodes : List Node) → AllWithin nodes → HaveNoJumps nodes → AreCleaned nodes nodes
+none_changed nodes within none =
+    let long = length nodes in
+    let numbers = range_with_len 0 long in
+    record {
+      reduced = nodes;
+      are_reduced = record { order = []; reductions = refl; differ = no_equal nodes none };
+      ends = numbers;
+      are_ends = record {
+        long = length-range_with_len 0 long;
+        are = λ n below. subst (IsEnd nodes n) (sym (own_place long n below)) (all_end nodes none n);
+      };
+      are = sym (all_stay nodes (λ n node here slot s edge. own_place long s (within n slot s (ap (λ o. slice_get (succs_of o) slot) here ∙ edge))));
+    }
+  where
+    all_stay : (l : List Node) → ((n : ℕ) (node : Node) → slice_get l n ≡ Some node → (slot s : ℕ) → slice_get (node_succs node) slot ≡ Some s → slice_index_or (range_with_len 0 (length nodes)) s 0 ≡ s) → map (redirected (λ n. slice_index_or (range_with_len 0 (length nodes)) n 0)) l ≡ l
+    all_stay [] stay = refl
+    all_stay (node ∷ l) stay =
+        ap (λ m. redirected (λ n. slice_index_or (range_with_len 0 (length nodes)) n 0) node ∷ m) (all_stay l (λ n. stay (suc n)))
+        ∙ ap (λ m. m ∷ l) (redirected_none (λ n. slice_index_or (range_with_len 0 (length nodes)) n 0) node (stay 0 node refl))

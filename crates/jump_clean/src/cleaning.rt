@@ -39,28 +39,38 @@ pub fn clean(alloc: Global, graph: &Graph) -> Result<Graph, Memory>
     Ok(cleaned)
 }
 
-/// The nodes, of which tests that make no difference have become Skips and successors ends of chain.
+/// The nodes, of which tests that make no difference have become Skips and successors ends of chain. Where no node is a
+/// jump they stay as they are.
 fn cleaned(alloc: Global, graph: &Graph) -> Result<Vec<Node>, Memory>
     ensures { IfOk result (λ cleaned. AreCleaned graph.now.nodes cleaned.items) }
 {
     let nodes = graph.nodes();
     let nodes = copied(alloc, nodes)?;
+    if any_jump(nodes.as_slice()) {
+        changed(alloc, graph, nodes)
+    } else {
+        Ok(nodes)
+    }
+}
+
+/// The same where some node may be a jump.
+fn changed(alloc: Global, graph: &Graph, nodes: Vec<Node>) -> Result<Vec<Node>, Memory>
+    requires within { AllWithin nodes.items }
+    requires copied { nodes.items ≡ graph.now.nodes }
+    ensures { IfOk result (λ cleaned. AreCleaned graph.now.nodes cleaned.items) }
+{
     let reduced = reduced(alloc, graph, nodes)?;
     let ends = ends(alloc, reduced.as_slice())?;
     let cleaned = redirect_all(alloc, reduced, ends.as_slice())?;
     Ok(cleaned)
 }
 
-/// The nodes of the graph, of which tests that make no difference have become Skips. Nothing is to be done where no
-/// node is a jump.
+/// The nodes of the graph, of which tests that make no difference have become Skips.
 fn reduced(alloc: Global, graph: &Graph, nodes: Vec<Node>) -> Result<Vec<Node>, Memory>
     requires within { AllWithin nodes.items }
     requires copied { nodes.items ≡ graph.now.nodes }
     ensures { IfOk result (λ reduced. AreReduced nodes.items reduced.items) }
 {
-    if !any_jump(nodes.as_slice()) {
-        return Ok(nodes);
-    }
     let edges = Edges::of(alloc, graph)?;
     let reduced = reduce_all(alloc, &edges, nodes)?;
     Ok(reduced)

@@ -1,16 +1,16 @@
-use Rattle.std.proofs.Common.{sym, subst}
+use Rattle.std.proofs.Common.{◌∙◌, sym, subst}
 use Rattle.flow_graph.specs.Graphs.{AllWithin}
-use Rattle.jump_clean.specs.ReductionLaws.{reductions_within}
+use Rattle.jump_clean.specs.Cleaned.{AreCleaned}
+use Rattle.jump_clean.specs.Reductions.{HaveNoJumps}
+use Rattle.jump_clean.proofs.NoJumps.{none_changed}
 use Rattle.jump_clean.proofs.cleaning.cleaned.Goals as goal
 
-pub ends-requires : goal.ends-requires
-ends-requires c =
-    let old : AllWithin c.in_ok-nodes.nodes.items = subst AllWithin (sym c.in_ok-nodes.ensures) (λ m slot s edge. (c.nodes-nodes.ensures.graph.can.succs m slot s edge).1) in
-    let t = c.in_ok-reduced.ensures in
-    subst AllWithin (sym c.as_slice.ensures.value) (reductions_within c.in_ok-nodes.nodes.items t.order c.in_ok-reduced.reduced.items t.reductions old)
+pub changed-requires-clause-within : goal.changed-requires-clause-within
+changed-requires-clause-within c = subst AllWithin (sym c.in_ok-nodes.ensures) (λ m slot s edge. (c.nodes-nodes.ensures.graph.can.succs m slot s edge).1)
 
-pub redirect_all-requires-clause-within : goal.redirect_all-requires-clause-within
-redirect_all-requires-clause-within c =
-    let old : AllWithin c.in_ok-nodes.nodes.items = subst AllWithin (sym c.in_ok-nodes.ensures) (λ m slot s edge. (c.nodes-nodes.ensures.graph.can.succs m slot s edge).1) in
-    let t = c.in_ok-reduced.ensures in
-    reductions_within c.in_ok-nodes.nodes.items t.order c.in_ok-reduced.reduced.items t.reductions old
+pub returns-else-any_jump : goal.returns-else-any_jump
+returns-else-any_jump c =
+    let nodes = c.in_ok-nodes.nodes.items in
+    let within : AllWithin nodes = subst AllWithin (sym c.in_ok-nodes.ensures) (λ m slot s edge. (c.nodes-nodes.ensures.graph.can.succs m slot s edge).1) in
+    let none : HaveNoJumps nodes = subst HaveNoJumps c.as_slice.ensures.value (c.any_jump.ensures c.if-any_jump.false) in
+    subst (λ l. AreCleaned l nodes) (c.in_ok-nodes.ensures ∙ c.nodes-nodes.ensures.value) (none_changed nodes within none)
