@@ -41,11 +41,10 @@ impl Links {
             return Err(AllocError);
         };
         let mut next = Vec::with_capacity(alloc, count)?;
-        let mut prev = Vec::with_capacity(alloc, count)?;
         for number in 0..count {
             next.push(number)?;
-            prev.push(number)?;
         }
+        let prev = Vec::from_slice(alloc, next.as_slice())?;
         Ok(Links {
             nodes,
             lists,

@@ -3,8 +3,6 @@ use Rattle.node_list.proofs.links.Links.new.Given as goal
 
 abbrev pub invariant-loop-number : goal.invariant-loop-number
 invariant-loop-number l = record {
-  next_len : length l.next.items ≡ l.number;
-  prev_len : length l.prev.items ≡ l.number;
-  next_self : (k : ℕ) → k < l.number → get_or l.next.items k 0 ≡ k;
-  prev_self : (k : ℕ) → k < l.number → get_or l.prev.items k 0 ≡ k;
+  len : length l.next.items ≡ l.number;
+  itself : (k : ℕ) → k < l.number → get_or l.next.items k 0 ≡ k;
 }
