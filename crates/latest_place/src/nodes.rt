@@ -9,7 +9,7 @@ use bit_rows::Rows;
 use flow_graph::{Blocks, Edges, Graph};
 use mir_base::Memory;
 use motion_rewrite::Placement;
-use path_laws::{backward_some_over, forward_all_over, some_successor};
+use path_laws::{backward_some_over, forward_all_over, last_nodes, some_successor};
 use std::alloc::Global;
 
 /// Where the nodes of a graph use each bit.
@@ -41,11 +41,7 @@ pub(crate) fn latest_rows(alloc: Global, uses: &Uses<'_>, delayed: &Rows) -> Res
     ensures shape { IfOk result (HaveShape uses.now.graph.now (width delayed.now)) }
     ensures bits { IfOk result (AreLatestRows uses.now.graph.now delayed.now uses.now.rows.now) }
 {
-    let mut undelayed = delayed.copied(alloc)?;
-    undelayed.flip_rows(0);
-    let mut rows = some_successor(alloc, uses.graph, uses.edges, &undelayed)?;
-    rows.or_rows(uses.rows);
-    rows.and_rows(delayed);
+    let rows = last_nodes(alloc, uses.graph, uses.edges, delayed, uses.rows)?;
     Ok(rows)
 }
 

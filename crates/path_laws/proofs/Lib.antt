@@ -5,6 +5,7 @@ pub mod RowsPassed
 pub mod Coming
 pub mod Complements
 pub mod Joining
+pub mod Lasting
 pub mod Pushing
 pub mod RowBits
 pub mod Ways

@@ -34,5 +34,5 @@ pub use calls::{
 };
 pub use gathering::node_keys;
 pub use heads::{backward_some_ends, forward_all_heads};
-pub use joins::{some_predecessor, some_successor};
+pub use joins::{last_nodes, some_predecessor, some_successor};
 pub use keyed::{KeyOf, key_rows};

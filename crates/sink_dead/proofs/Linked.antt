@@ -1,6 +1,6 @@
 -- The graph as it is written is the graph rewritten: insertions listed for all nodes make the chains of the nodes, and
 -- edges lead to the entries.
-use Rattle.std.proofs.Common.{◌≡◌, ◌≢◌, ◌<◌, ◌≤◌, ℕ, zero, suc, ◌+◌, if◌then◌else◌, nat_eq, get_or, drop, List, [], ◌∷◌, ◌++◌, map, length, slice_get, slice_set, Some, inl, inr, refl, sym, ap, ◌∙◌, arith, length-append, length-set, append_assoc}
+use Rattle.std.proofs.Common.{◌≡◌, ◌<◌, ◌≤◌, ℕ, zero, suc, ◌+◌, if◌then◌else◌, drop, List, [], ◌∷◌, ◌++◌, map, length, slice_get, Some, inl, inr, refl, sym, ap, ◌∙◌, arith, length-append, length-set, append_assoc}
 use Rattle.std.proofs.lemmas.Bool.{cases_eq, cases_lt, eq-eqb, ne_eqb}
 use Rattle.std.proofs.lemmas.List.{get_or-set_same, get_or-set_other}
 use Rattle.std.proofs.lemmas.Option.{get_or_from_slice_get, same_Some, slice_get_within}

@@ -1,6 +1,6 @@
 -- Dead assignments, told block by block: what blocks read and assign, what is live after each, and which nodes are
 -- flagged. Cited by contracts of private functions.
-use Rattle.std.specs.Prelude.{◌≡◌, ℕ, ◌<◌, ◌≤◌, ◌↔◌, ◌||◌, ◌&&◌, not, nat_eq, if◌then◌else◌, Bool, true, false, List, length, reverse, slice_get, slice_index_or, Some}
+use Rattle.std.specs.Prelude.{◌≡◌, ℕ, ◌<◌, ◌≤◌, ◌↔◌, ◌||◌, ◌&&◌, not, nat_eq, if◌then◌else◌, Bool, true, false, List, length, reverse, slice_get, Some}
 use Rattle.std.specs.List.{list_any}
 use Rattle.mir_base.specs.Expressions.{divides}
 use Rattle.flow_graph.specs.declared.nodes.Node.{Node}

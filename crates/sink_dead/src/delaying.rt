@@ -16,7 +16,7 @@ use bit_rows::Rows;
 use flow_graph::{Edges, Graph};
 use key_table::KeyTable;
 use mir_base::Memory;
-use path_laws::{forward_all, some_successor};
+use path_laws::{forward_all, last_nodes};
 use std::alloc::Global;
 
 /// Has no effect; carries the theorem that what is inserted before one node leaves each other alone: the patterns have
@@ -165,10 +165,6 @@ fn inserted_rows(
     requires delayed { AreDelayedIn over.now delayed.now }
     ensures { IfOk result (AreInsertedIn over.now) }
 {
-    let mut ended = delayed.copied(alloc)?;
-    ended.flip_rows(0);
-    let mut rows = some_successor(alloc, over.graph, over.edges, &ended)?;
-    rows.or_rows(blocked);
-    rows.and_rows(delayed);
+    let rows = last_nodes(alloc, over.graph, over.edges, delayed, blocked)?;
     Ok(rows)
 }
