@@ -7,8 +7,8 @@ use Rattle.std.proofs.lemmas.List.{ext_get_or, get_or-replicate, get_or-set_same
 use Rattle.std.proofs.lemmas.List.FromFn.{length-map-range_with_len, get_or-map-range_with_len}
 use Rattle.std.specs.Int.{bit_not}
 use Rattle.bit_rows.specs.Bits.{AreEquallyLong, zip_with, minus_bits, not_bits, or_bits, row_of}
-use Rattle.bit_rows.specs.Words.{bits_of, rows_of, used_bits, with_bit, words_at, EachOrMinus, EachOrMinusPassed, EachOrPassed, FitsRows, FitsWords, Rewritten}
-use Rattle.bit_rows.proofs.Views.{Holds, IsBitwise, length_bits_of, rewritten_whole, joined_hold, or_minus_hold, or_minus_passed_hold, or_passed_hold, flip_holds, set_holds, zeros_hold}
+use Rattle.bit_rows.specs.Words.{bits_of, rows_of, used_bits, with_bit, words_at, EachOrMinus, EachOrPassed, FitsRows, FitsWords, Rewritten}
+use Rattle.bit_rows.proofs.Views.{Holds, IsBitwise, length_bits_of, rewritten_whole, joined_hold, or_minus_hold, or_passed_hold, flip_holds, set_holds, zeros_hold}
 
 -- as many rows as are asked for, and each of them
 pub length_rows_of : (rows bits stride : ℕ) (words : List ℕ) → length (rows_of rows bits stride words) ≡ rows
@@ -120,18 +120,6 @@ module _ (rows bits stride : ℕ) (words : List ℕ) (all : List (List Bool)) (f
         as_wide m2 ws third fw seen same2 =
             let e : m2 ≡ bits = sym (length_bits_of m2 ws) ∙ ap length seen ∙ sym same2 ∙ row_long in
             rw (← e) (record { fits = fw; view = seen })
-
-        -- and those of three others, of which two are joined and the third is taken away
-        pub or_minus_passed_one : (m2 : ℕ) (bs : List ℕ) (but : List Bool) → FitsWords m2 bs → bits_of m2 bs ≡ but → length (row_of all row) ≡ length but
-            → (m3 : ℕ) (ms : List ℕ) (more : List Bool) → FitsWords m3 ms → bits_of m3 ms ≡ more → length (row_of all row) ≡ length more
-            → (m4 : ℕ) (ws : List ℕ) (less : List Bool) → FitsWords m4 ws → bits_of m4 ws ≡ less → length (row_of all row) ≡ length less
-            → EachOrMinusPassed stride (words_at stride words row) ys bs ms ws (words_at stride words' row)
-            → HoldRows rows bits stride (take len (words' ++ drop (length words') words)) (set all row (or_bits (row_of all row) (minus_bits other (minus_bits (or_bits but more) less))))
-        or_minus_passed_one m2 bs but fb view2 same2 m3 ms more fm view3 same3 m4 ws less fw view4 same4 each =
-            let two = as_wide m2 bs but fb view2 same2 in
-            let three = as_wide m3 ms more fm view3 same3 in
-            let four = as_wide m4 ws less fw view4 same4 in
-            put _ (rw (← row_view, ← view_n, ← two.view, ← three.view, ← four.view) (or_minus_passed_hold bits (words_at stride words row) ys bs ms ws (words_at stride words' row) row_fits fits_n two.fits three.fits four.fits new_long (λ k l. each k (rw words_long at l))))
 
         -- and those of a fourth, which is joined to the second
         pub or_passed_row : (m2 : ℕ) (ms : List ℕ) (more : List Bool) → FitsWords m2 ms → bits_of m2 ms ≡ more → length (row_of all row) ≡ length more

@@ -183,18 +183,6 @@ two_hold op f is next g is2 n xs ys ws zs fx fy fw len each =
     let inner : Holds n vs (zip_with f (bits_of n xs) (bits_of n ys)) = joined_hold op f is n xs ys vs fx fy lens at in
     rw (← inner.view) (joined_hold next g is2 n vs ws zs inner.fits fw (len ∙ sym lens) (λ k h. let h' : k < length xs = rw lens at h in each k h' ∙ ap (λ w. next w (get_or ws k 0)) (sym (at k h'))))
 
--- and with what another has but where a fourth or a fifth has it and a last one has not
-pub or_minus_passed_hold : (n : ℕ) (xs fs ys ms ws zs : List ℕ) → FitsWords n xs → FitsWords n fs → FitsWords n ys → FitsWords n ms → FitsWords n ws → length zs ≡ length xs
-    → ((k : ℕ) → k < length xs → get_or zs k 0 ≡ bit_or (get_or xs k 0) (minus_word (get_or fs k 0) (minus_word (bit_or (get_or ys k 0) (get_or ms k 0)) (get_or ws k 0))))
-    → Holds n zs (or_bits (bits_of n xs) (minus_bits (bits_of n fs) (minus_bits (or_bits (bits_of n ys) (bits_of n ms)) (bits_of n ws))))
-or_minus_passed_hold n xs fs ys ms ws zs fx ff fy fm fw len each =
-    let word : ℕ → ℕ = λ k. minus_word (bit_or (get_or ys k 0) (get_or ms k 0)) (get_or ws k 0) in
-    let vs : List ℕ = map word (range_with_len 0 (length ys)) in
-    let lens : length ys ≡ length xs = fy.len ∙ sym fx.len in
-    let at : (k : ℕ) → k < length ys → get_or vs k 0 ≡ word k = λ k h. get_or-map-range_with_len word 0 (length ys) k k 0 h (omega arith) in
-    let inner : Holds n vs (minus_bits (or_bits (bits_of n ys) (bits_of n ms)) (bits_of n ws)) = two_hold bit_or (λ x y. x || y) or_bitwise minus_word (λ x y. x && not y) minus_bitwise n ys ms ws vs fy fm fw (length-map-range_with_len word 0 (length ys)) at in
-    rw (← inner.view) (or_minus_hold n xs fs vs zs fx ff inner.fits len (λ k h. each k h ∙ ap (λ w. bit_or (get_or xs k 0) (minus_word (get_or fs k 0) w)) (sym (at k (rw lens h)))))
-
 -- ---- a flip
 
 -- all bits of a word are below such a number

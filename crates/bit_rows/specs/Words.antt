@@ -37,11 +37,6 @@ EachOrMinus len old other less new = (k : ℕ) → k < len → slice_index new k
 abbrev pub EachOrPassed : ℕ → List ℕ → List ℕ → List ℕ → List ℕ → List ℕ → Type 0
 EachOrPassed len old other more less new = (k : ℕ) → k < len → slice_index new k ≡ bit_or (slice_index old k) (minus_word (bit_or (slice_index other k) (slice_index more k)) (slice_index less k))
 
--- each is made of the old one, and of what another list's has but where a third or a fourth has it and a fifth has not
-abbrev pub EachOrMinusPassed : ℕ → List ℕ → List ℕ → List ℕ → List ℕ → List ℕ → List ℕ → Type 0
-EachOrMinusPassed len old other but more less new = (k : ℕ) → k < len
-    → slice_index new k ≡ bit_or (slice_index old k) (minus_word (slice_index other k) (minus_word (bit_or (slice_index but k) (slice_index more k)) (slice_index less k)))
-
 -- each is made of the old one and another list's by the first operator, and of that and a third list's by the second
 abbrev pub EachByTwo : (ℕ → ℕ → ℕ) → (ℕ → ℕ → ℕ) → ℕ → List ℕ → List ℕ → List ℕ → List ℕ → Type 0
 EachByTwo op next len old other third new = (k : ℕ) → k < len → slice_index new k ≡ next (op (slice_index old k) (slice_index other k)) (slice_index third k)

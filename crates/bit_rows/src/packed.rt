@@ -1,10 +1,10 @@
 // Rows one after the other in one list of words, so many to a row. Each clause says what becomes of the words of a row.
 ghost use Rattle.std.specs.Prelude.{◌≡◌, ◌+◌, ◌*◌, ◌<◌, ◌≤◌, length};
 ghost use Rattle.bit_rows.specs.Joinings.{word_join};
-ghost use Rattle.bit_rows.specs.Words.{AreFlipped, EachOrMinus, EachOrMinusPassed, EachOrPassed, EachWordOfRow, Rewritten, words_at, words_with_bit};
+ghost use Rattle.bit_rows.specs.Words.{AreFlipped, EachOrMinus, EachOrPassed, EachWordOfRow, Rewritten, words_at, words_with_bit};
 
 use crate::joining::Joining;
-use crate::words::{flip_words, join_words, or_minus_passed_words, or_minus_words, set_word_bit};
+use crate::words::{flip_words, join_words, or_minus_words, set_word_bit};
 
 /// The words of a row.
 pub fn row_words(words: &[u64], stride: usize, row: usize) -> &[u64]
@@ -39,31 +39,6 @@ pub fn or_minus_row(into: &mut [u64], stride: usize, row: usize, from: &[u64], l
 {
     let at = stride * row;
     let _changed = or_minus_words(&mut into[at..at + stride], from, less);
-}
-
-/// The words of a row become their disjunction with what others have but where third or fourth ones have it and fifth
-/// ones have not.
-#[tactic(auto, using(crate::proofs::Splices::rewrites, crate::proofs::Splices::rewritten_here))]
-pub fn or_minus_passed_row(
-    into: &mut [u64],
-    stride: usize,
-    row: usize,
-    from: &[u64],
-    but: &[u64],
-    more: &[u64],
-    less: &[u64],
-)
-    requires within { stride * row + stride ≤ length into.old }
-    requires from { length from.now ≡ stride }
-    requires but { length but.now ≡ stride }
-    requires more { length more.now ≡ stride }
-    requires less { length less.now ≡ stride }
-    ensures others { Rewritten stride row into.old into.new }
-    ensures each { EachOrMinusPassed stride (words_at stride into.old row) from.now but.now
-        more.now less.now (words_at stride into.new row) }
-{
-    let at = stride * row;
-    or_minus_passed_words(&mut into[at..at + stride], from, but, more, less);
 }
 
 /// The words of a row become their disjunction with what those of a second row have and others have not.

@@ -5,8 +5,7 @@ ghost use Rattle.bit_rows.specs.Joinings.{bit_join};
 
 use crate::joining::Joining;
 use crate::packed::{
-    flip_row, join_row, or_minus_passed_row, or_minus_row, or_minus_rows, or_passed_rows,
-    row_words, set_row_bit,
+    flip_row, join_row, or_minus_row, or_minus_rows, or_passed_rows, row_words, set_row_bit,
 };
 use crate::words::{join_words, push_words, push_zeros, words_without};
 use crate::{Memory, RowView};
@@ -185,31 +184,6 @@ impl Rows {
             (or_bits (row_of self.old row) (minus_bits from.now less.now)) }
     {
         or_minus_row(&mut self.words, self.stride, row, from.words, less.words);
-    }
-
-    /// The row becomes its disjunction with what a second row has but where a third or a fourth has it and a fifth has
-    /// not, in one pass. It does not allocate.
-    pub fn or_minus_passed(
-        &mut self,
-        row: usize,
-        from: &RowView<'_>,
-        but: &RowView<'_>,
-        more: &RowView<'_>,
-        less: &RowView<'_>,
-    )
-        requires row { row < length self.old }
-        requires from { length (row_of self.old row) ≡ length from.now }
-        requires but { length (row_of self.old row) ≡ length but.now }
-        requires more { length (row_of self.old row) ≡ length more.now }
-        requires less { length (row_of self.old row) ≡ length less.now }
-        ensures { self.new ≡ slice_set self.old row (or_bits (row_of self.old row)
-            (minus_bits from.now (minus_bits (or_bits but.now more.now) less.now))) }
-    {
-        let words = &mut self.words;
-        let stride = self.stride;
-        or_minus_passed_row(
-            words, stride, row, from.words, but.words, more.words, less.words,
-        );
     }
 
     /// The row becomes its disjunction with what a second row of these has and another row has not, in one pass. It

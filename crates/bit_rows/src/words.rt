@@ -3,7 +3,7 @@ ghost use Rattle.std.specs.Prelude.{◌≡◌, ℕ, ◌+◌, ◌*◌, ◌^◌, �
 ghost use Rattle.std.specs.Int.{bit_at};
 ghost use Rattle.bit_rows.specs.Bits.{IsTrueFrom, NoneTrue};
 ghost use Rattle.bit_rows.specs.Joinings.{word_join};
-ghost use Rattle.bit_rows.specs.Words.{AddsWithout, AreFlipped, EachByTwo, EachOrMinus, EachOrMinusPassed, EachWord, bit_of, minus_word, used_bits, words_with_bit};
+ghost use Rattle.bit_rows.specs.Words.{AddsWithout, AreFlipped, EachByTwo, EachOrMinus, EachWord, bit_of, minus_word, used_bits, words_with_bit};
 
 use crate::Memory;
 use crate::joining::Joining;
@@ -41,27 +41,6 @@ pub fn or_minus_words(into: &mut [u64], from: &[u64], less: &[u64]) -> bool
         into[i] = word;
     }
     changed
-}
-
-/// Each word becomes its disjunction with what another has but where a third or a fourth has it and a fifth has not.
-pub fn or_minus_passed_words(
-    into: &mut [u64],
-    from: &[u64],
-    but: &[u64],
-    more: &[u64],
-    less: &[u64],
-)
-    requires from { length into.old ≡ length from.now }
-    requires but { length into.old ≡ length but.now }
-    requires more { length into.old ≡ length more.now }
-    requires less { length into.old ≡ length less.now }
-    ensures len { length into.new ≡ length into.old }
-    ensures each { EachOrMinusPassed (length into.old) into.old from.now but.now more.now less.now
-        into.new }
-{
-    for i in 0..into.len() {
-        into[i] = into[i] | (from[i] & !((but[i] | more[i]) & !less[i]));
-    }
 }
 
 /// Each word gets the bits of another's, and then loses those of a third.
