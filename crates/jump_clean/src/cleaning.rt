@@ -1,5 +1,5 @@
 // Graphs with clean jumps.
-ghost use Rattle.std.specs.Prelude.{◌≡◌, false, length, map, IfOk};
+ghost use Rattle.std.specs.Prelude.{◌≡◌, ◌↔◌, false, length, map, IfOk};
 ghost use Rattle.flow_graph.specs.Graphs.{AllWithin};
 ghost use Rattle.flow_graph.specs.Retained.{redirected_by};
 ghost use Rattle.flow_graph.specs.Passes.{GraphDividesUnchanged, GraphKeeps};
@@ -78,7 +78,7 @@ fn reduced(alloc: Global, graph: &Graph, nodes: Vec<Node>) -> Result<Vec<Node>, 
 
 /// Tells whether one of the nodes is a jump.
 fn any_jump(nodes: &[Node]) -> bool
-    ensures { result ≡ false → HaveNoJumps nodes.now }
+    ensures { (result ≡ false) ↔ HaveNoJumps nodes.now }
 {
     for n in 0..nodes.len() {
         if is_jump(&nodes[n]) {

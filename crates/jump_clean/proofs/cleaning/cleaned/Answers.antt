@@ -12,5 +12,5 @@ pub returns-else-any_jump : goal.returns-else-any_jump
 returns-else-any_jump c =
     let nodes = c.in_ok-nodes.nodes.items in
     let within : AllWithin nodes = subst AllWithin (sym c.in_ok-nodes.ensures) (λ m slot s edge. (c.nodes-nodes.ensures.graph.can.succs m slot s edge).1) in
-    let none : HaveNoJumps nodes = subst HaveNoJumps c.as_slice.ensures.value (c.any_jump.ensures c.if-any_jump.false) in
+    let none : HaveNoJumps nodes = subst HaveNoJumps c.as_slice.ensures.value (c.any_jump.ensures.0 c.if-any_jump.false) in
     subst (λ l. AreCleaned l nodes) (c.in_ok-nodes.ensures ∙ c.nodes-nodes.ensures.value) (none_changed nodes within none)
