@@ -67,7 +67,7 @@ fn seen_uses(alloc: Global, graph: &Graph, table: &ExprTable) -> Result<Vec<Seen
     Ok(seen)
 }
 
-/// The least of a number and of the successors of a node.
+/// A bound: no more than a number and than each successor of a node. The least of them lets most be seen.
 fn least_succ(node: &Node, least: usize) -> usize
     ensures below { result ≤ least }
     ensures succs { All (λ next. result ≤ next) (node_succs node.now) }

@@ -20,7 +20,7 @@ use Rattle.sink_dead.specs.declared.patterns.Pattern.{Pattern}
 use Rattle.sink_dead.specs.declared.places.Places.{Places}
 use Rattle.sink_dead.specs.Accesses.{blocks_at}
 use Rattle.sink_dead.specs.BlockRows.{is_blocked_in}
-use Rattle.sink_dead.specs.Coming.{ComeInto, HasStopped}
+use Rattle.sink_dead.specs.Coming.{ComeInto, HasBlocked}
 use Rattle.sink_dead.specs.FoundPuts.{ComesInto, IsFromHead, passes_whole}
 use Rattle.sink_dead.specs.Heads.{AreHeadDone, AreHeadsDone, IsSettled}
 use Rattle.sink_dead.specs.Inside.{stop_from}
@@ -182,8 +182,8 @@ on_within (b ∷ row) (suc k) on = let rest = on_within row k on in omega (arith
 -- ---- what nothing blocks
 
 -- what comes into a block, and is not blocked there, passes all its nodes
-pub unstopped_passes : (over : OverBlocks) (coming : Coming) → HasStopped over coming → (b k : ℕ) (list : List ℕ) (p : Pattern) → slice_get (lists_of over) b ≡ Some list → slice_get over.table.now k ≡ Some p
-    → has_bit coming.into k b ≡ true → has_bit coming.stopped k b ≡ false → passes_whole over.graph.now list p ≡ true
+pub unstopped_passes : (over : OverBlocks) (coming : Coming) → HasBlocked over coming → (b k : ℕ) (list : List ℕ) (p : Pattern) → slice_get (lists_of over) b ≡ Some list → slice_get over.table.now k ≡ Some p
+    → has_bit coming.into k b ≡ true → has_bit coming.blocked k b ≡ false → passes_whole over.graph.now list p ≡ true
 unstopped_passes over coming has b k list p is_block numbered on off = all_passes over.graph.now list p free
   where
     none_blocks : is_blocked_in over.graph.now p list ≡ false
@@ -197,22 +197,22 @@ unstopped_passes over coming has b k list p is_block numbered on off = all_passe
       | inr passes ↦ passes
     ]
 
-module _ (over : OverBlocks) (coming : Coming) (has : HasStopped over coming) (leaves rows after : List (List Bool)) (puts now : List Put) (block : ℕ) (block_in : block < length (lists_of over)) (shape : HaveShapeOver over rows)
-    (is : after ≡ set rows block (or_bits (row_of rows block) (minus_bits (row_of coming.into block) (row_of coming.stopped block)))) where
+module _ (over : OverBlocks) (coming : Coming) (has : HasBlocked over coming) (leaves rows after : List (List Bool)) (puts now : List Put) (block : ℕ) (block_in : block < length (lists_of over)) (shape : HaveShapeOver over rows)
+    (is : after ≡ set rows block (or_bits (row_of rows block) (minus_bits (row_of coming.into block) (row_of coming.blocked block)))) where
   abbrev into : List (List Bool)
   into = coming.into
 
   abbrev gone : List Bool
-  gone = minus_bits (row_of coming.into block) (row_of coming.stopped block)
+  gone = minus_bits (row_of coming.into block) (row_of coming.blocked block)
 
   into_long : length (row_of coming.into block) ≡ length over.table.now
   into_long = has.into_shape.each block block_in
 
-  same_long : length (row_of coming.into block) ≡ length (row_of coming.stopped block)
+  same_long : length (row_of coming.into block) ≡ length (row_of coming.blocked block)
   same_long = into_long ∙ sym (has.shape.each block block_in)
 
   gone_long : length gone ≡ length over.table.now
-  gone_long = length_minus (row_of coming.into block) (row_of coming.stopped block) same_long ∙ into_long
+  gone_long = length_minus (row_of coming.into block) (row_of coming.blocked block) same_long ∙ into_long
 
   row_long : length (row_of rows block) ≡ length gone
   row_long = shape.each block block_in ∙ sym gone_long
@@ -225,10 +225,10 @@ module _ (over : OverBlocks) (coming : Coming) (has : HasStopped over coming) (l
   gone_shape = written_shape (length (lists_of over)) (length over.table.now) block rows after (or_bits (row_of rows block) gone) shape is_written (length_or (row_of rows block) gone row_long ∙ shape.each block block_in)
 
   -- a bit of the block is set where it was, or where its pattern comes into the block and is not blocked there
-  bit_here : (k : ℕ) → has_bit after k block ≡ (has_bit rows k block || (has_bit into k block && not (has_bit coming.stopped k block)))
+  bit_here : (k : ℕ) → has_bit after k block ≡ (has_bit rows k block || (has_bit into k block && not (has_bit coming.blocked k block)))
   bit_here k =
       ap (λ (r : List Bool). get_or r k false) is_written.here ∙ or_bit (row_of rows block) gone k row_long
-      ∙ ap (λ o. has_bit rows k block || o) (minus_bit (row_of coming.into block) (row_of coming.stopped block) k same_long)
+      ∙ ap (λ o. has_bit rows k block || o) (minus_bit (row_of coming.into block) (row_of coming.blocked block) k same_long)
 
   bit_other : (b k : ℕ) → b ≢ block → has_bit after k b ≡ has_bit rows k b
   bit_other b k differ = ap (λ (r : List Bool). get_or r k false) (is_written.others b differ)
@@ -236,7 +236,7 @@ module _ (over : OverBlocks) (coming : Coming) (has : HasStopped over coming) (l
   -- a bit that is set stays set
   still : (b k : ℕ) → has_bit rows k b ≡ true → has_bit after k b ≡ true
   still b k on = elim (cases_eq b block) as (λ _. has_bit after k b ≡ true) [
-    | inl same ↦ ap (has_bit after k) same ∙ bit_here k ∙ ap (λ o. o || (has_bit into k block && not (has_bit coming.stopped k block))) (ap (has_bit rows k) (sym same) ∙ on)
+    | inl same ↦ ap (has_bit after k) same ∙ bit_here k ∙ ap (λ o. o || (has_bit into k block && not (has_bit coming.blocked k block))) (ap (has_bit rows k) (sym same) ∙ on)
     | inr differ ↦ bit_other b k differ ∙ on
   ]
 
@@ -248,7 +248,7 @@ module _ (over : OverBlocks) (coming : Coming) (has : HasStopped over coming) (l
   either_true false false z e = absurd (true≢false (sym e))
 
   -- those that nothing blocks in the block are settled, all at once
-  pub gone_at_once : AreHeadsDone over into leaves puts (suc block) rows now → AreHeadDone over into (row_of coming.stopped block) leaves puts block 0 after now
+  pub gone_at_once : AreHeadsDone over into leaves puts (suc block) rows now → AreHeadDone over into (row_of coming.blocked block) leaves puts block 0 after now
   gone_at_once are = record {
     shape = gone_shape;
     grows = are.grows;
@@ -261,11 +261,11 @@ module _ (over : OverBlocks) (coming : Coming) (has : HasStopped over coming) (l
       ]
     ];
     sound = λ b k list p is_block numbered on. elim (cases_eq b block) as (λ _. (has_bit leaves k b ≡ true) ⊎ ((has_bit into k b ≡ true) × (passes_whole over.graph.now list p ≡ true))) [
-      | inl same ↦ elim (either_true (has_bit rows k block) (has_bit into k block) (has_bit coming.stopped k block) (sym (bit_here k) ∙ ap (has_bit after k) (sym same) ∙ on)) as (λ _. (has_bit leaves k b ≡ true) ⊎ ((has_bit into k b ≡ true) × (passes_whole over.graph.now list p ≡ true))) [
+      | inl same ↦ elim (either_true (has_bit rows k block) (has_bit into k block) (has_bit coming.blocked k block) (sym (bit_here k) ∙ ap (has_bit after k) (sym same) ∙ on)) as (λ _. (has_bit leaves k b ≡ true) ⊎ ((has_bit into k b ≡ true) × (passes_whole over.graph.now list p ≡ true))) [
         | inl was ↦ are.sound b k list p is_block numbered (ap (has_bit rows k) same ∙ was)
         | inr new ↦
             let comes : has_bit coming.into k b ≡ true = ap (has_bit into k) same ∙ new.0 in
-            inr (comes, unstopped_passes over coming has b k list p is_block numbered comes (ap (has_bit coming.stopped k) same ∙ new.1))
+            inr (comes, unstopped_passes over coming has b k list p is_block numbered comes (ap (has_bit coming.blocked k) same ∙ new.1))
       ]
       | inr differ ↦ are.sound b k list p is_block numbered (sym (bit_other b k differ) ∙ on)
     ];
@@ -276,20 +276,20 @@ module _ (over : OverBlocks) (coming : Coming) (has : HasStopped over coming) (l
         | inl low ↦ absurd (omega (arith, low))
         | inr off ↦
             ap (has_bit after k) here.0 ∙ bit_here k
-            ∙ ap (λ o. has_bit rows k block || (o && not (has_bit coming.stopped k block))) (ap (has_bit into k) (sym here.0) ∙ comes.comes)
+            ∙ ap (λ o. has_bit rows k block || (o && not (has_bit coming.blocked k block))) (ap (has_bit into k) (sym here.0) ∙ comes.comes)
             ∙ ap (λ o. has_bit rows k block || not o) off ∙ or-true (has_bit rows k block)
       ]
     ];
   }
     where
-      passes : (b k : ℕ) (list : List ℕ) (p : Pattern) → b ≡ block → get_or (row_of coming.stopped block) k false ≡ false → ComesInto (lists_of over) over.table.now into b k list p → passes_whole over.graph.now list p ≡ true
-      passes b k list p same off comes = unstopped_passes over coming has b k list p comes.is_block comes.numbered comes.comes (ap (has_bit coming.stopped k) same ∙ off)
+      passes : (b k : ℕ) (list : List ℕ) (p : Pattern) → b ≡ block → get_or (row_of coming.blocked block) k false ≡ false → ComesInto (lists_of over) over.table.now into b k list p → passes_whole over.graph.now list p ≡ true
+      passes b k list p same off comes = unstopped_passes over coming has b k list p comes.is_block comes.numbered comes.comes (ap (has_bit coming.blocked k) same ∙ off)
 
 -- what is set in the row of the blocked ones comes into its block
-pub stopped_comes : (over : OverBlocks) (coming : Coming) → HasStopped over coming → (block : ℕ) → block < length (lists_of over) → ComeInto coming.into block (row_of coming.stopped block)
+pub stopped_comes : (over : OverBlocks) (coming : Coming) → HasBlocked over coming → (block : ℕ) → block < length (lists_of over) → ComeInto coming.into block (row_of coming.blocked block)
 stopped_comes over coming has block h k on =
-    let long : length (row_of coming.stopped block) ≡ length over.table.now = has.shape.each block h in
-    let inside = on_within (row_of coming.stopped block) k on in
+    let long : length (row_of coming.blocked block) ≡ length over.table.now = has.shape.each block h in
+    let inside = on_within (row_of coming.blocked block) k on in
     let within : k < length over.table.now = omega (arith, long, inside) in
     let fallback : Pattern = record { var = 0; rhs = Plain (Var 0) } in
     let list = get_or (lists_of over) block [] in

@@ -9,15 +9,15 @@ use Rattle.sink_dead.specs.BlockRows.{is_blocked_in}
 use Rattle.sink_dead.specs.Over.{AreIntoOver, HaveShapeOver, lists_of}
 
 -- the second rows say which patterns of the first some node of the block blocks
-pub record HasStopped (over : OverBlocks) (coming : Coming) : Type 0 where
+pub record HasBlocked (over : OverBlocks) (coming : Coming) : Type 0 where
   pub into_shape : HaveShapeOver over coming.into
-  pub shape : HaveShapeOver over coming.stopped
-  pub are : (b k : ℕ) (list : List ℕ) (p : Pattern) → slice_get (lists_of over) b ≡ Some list → slice_get over.table.now k ≡ Some p → has_bit coming.stopped k b ≡ (is_blocked_in over.graph.now p list && has_bit coming.into k b)
+  pub shape : HaveShapeOver over coming.blocked
+  pub are : (b k : ℕ) (list : List ℕ) (p : Pattern) → slice_get (lists_of over) b ≡ Some list → slice_get over.table.now k ≡ Some p → has_bit coming.blocked k b ≡ (is_blocked_in over.graph.now p list && has_bit coming.into k b)
 
 -- and the first say which come into each block
 pub record AreComing (over : OverBlocks) (coming : Coming) : Type 0 where
   pub into : AreIntoOver over coming.into
-  pub stopped : HasStopped over coming
+  pub blocked : HasBlocked over coming
 
 -- what is set in the row comes into the block
 abbrev pub ComeInto : List (List Bool) → ℕ → List Bool → Type 0

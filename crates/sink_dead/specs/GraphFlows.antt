@@ -1,5 +1,5 @@
 -- The edges and the blocks of a graph, and that they depend on the successors of its nodes alone. `IsFlowOf` is cited by
--- contracts of private functions, the laws by proofs.
+-- contracts, the laws by proofs.
 use Rattle.std.proofs.Common.{◌≡◌, ℕ, suc, ◌<◌, ◌++◌, List, [], ◌∷◌, length, refl, sym, ap, ◌∙◌, subst, arith}
 use Rattle.flow_graph.specs.declared.edges.Edge.{Edge}
 use Rattle.flow_graph.specs.declared.nodes.Node.{Node}

@@ -1,16 +1,14 @@
 -- Rows of bits by nodes and variables: what nodes read and assign, and which variables are live before them. Cited by
 -- contracts.
-use Rattle.std.specs.Prelude.{◌≡◌, ℕ, ◌<◌, ◌&&◌, if◌then◌else◌, Bool, true, nat_eq, List, [], ◌∷◌, ◌++◌, length}
-use Rattle.mir_base.specs.Frames.{shared_vars}
-use Rattle.mir_base.specs.Shapes.{into_vars}
+use Rattle.std.specs.Prelude.{◌≡◌, ℕ, ◌<◌, ◌&&◌, if◌then◌else◌, Bool, true, nat_eq, List, length}
 use Rattle.bit_rows.specs.Bits.{row_of}
 use Rattle.flow_graph.specs.declared.nodes.Node.{Node}
-use Rattle.flow_graph.specs.declared.nodes.Node.TheVariants.{Start, Skip, Assign, Print, Guard, Call, Test, Return}
 use Rattle.flow_graph.specs.Blocks.{StandsIn}
 use Rattle.flow_graph.specs.Graphs.{GraphShape}
 use Rattle.flow_graph.specs.Numbering.{is_in}
 use Rattle.path_laws.specs.Paths.{HaveShape, Tell, has_bit}
 use Rattle.sink_dead.specs.Liveness.{IsLiveBefore}
+use Rattle.sink_dead.specs.PatternRows.{assigns_of}
 
 -- ---- marks of what nodes read and assign
 
@@ -22,14 +20,7 @@ pub record IsMarkedAt (value : Bool) (n : ℕ) (vars : List ℕ) (old new : List
 
 -- the variables that a node of the graph assigns: a call assigns each global, and its own variable where it has one
 abbrev pub assigned_vars : GraphShape → Node → List ℕ
-assigned_vars graph (Start next) = []
-assigned_vars graph (Skip next) = []
-assigned_vars graph (Assign x rhs next) = x ∷ []
-assigned_vars graph (Print a next) = []
-assigned_vars graph (Guard test number next) = []
-assigned_vars graph (Call into unit operands next) = shared_vars graph.shared ++ into_vars into
-assigned_vars graph (Test test taken other) = []
-assigned_vars graph (Return a) = []
+assigned_vars graph node = assigns_of graph.shared node
 
 -- ---- rows of what is live
 

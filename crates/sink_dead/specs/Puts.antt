@@ -1,7 +1,6 @@
--- What is inserted before each node, as the rows of insertions say, and as one list for all nodes. Cited by contracts.
+-- What is inserted before each node, as one list for all nodes. Cited by contracts.
 use Rattle.std.specs.Prelude.{◌≡◌, ℕ, zero, suc, Bool, if◌then◌else◌, List, [], ◌∷◌, ◌++◌, length, Option}
 use Rattle.mir_base.specs.declared.instructions.Rhs.{Rhs}
-use Rattle.bit_rows.specs.Bits.{row_of}
 use Rattle.flow_graph.specs.Graphs.{GraphShape}
 use Rattle.graph_edit.specs.Insertions.{Insertion}
 use Rattle.sink_dead.specs.declared.inserting.Put.{Put}
@@ -17,10 +16,6 @@ abbrev pub chosen : List Pattern → List Bool → List Insertion
 chosen [] row = []
 chosen (p ∷ table) [] = []
 chosen (p ∷ table) (bit ∷ row) = if bit then insertion_of_pattern p ∷ chosen table row else chosen table row
-
--- what the rows say is inserted before a node
-abbrev pub chosen_at : List Pattern → List (List Bool) → ℕ → List Insertion
-chosen_at table rows n = chosen table (row_of rows n)
 
 -- the pattern inserted before node n
 abbrev pub put_at : ℕ → Pattern → Put

@@ -18,7 +18,7 @@ pub(crate) struct Coming {
     /// Which come into a block.
     pub(crate) into: Rows,
     /// Which of these some node of the block blocks.
-    pub(crate) stopped: Rows,
+    pub(crate) blocked: Rows,
 }
 
 /// Which patterns come into each block, and which of them it blocks. `leaves` says which leave a block in which they
@@ -32,10 +32,10 @@ pub(crate) fn coming_rows(
     requires leaves { AreLeavingOver over.now leaves.now }
     ensures { IfOk result (AreComing over.now) }
 {
-    let mut stopped = blocked_rows(alloc, over)?;
-    let into = into_rows(alloc, over, &stopped, leaves)?;
-    stopped.and_rows(&into);
-    Ok(Coming { into, stopped })
+    let mut blocked = blocked_rows(alloc, over)?;
+    let into = into_rows(alloc, over, &blocked, leaves)?;
+    blocked.and_rows(&into);
+    Ok(Coming { into, blocked })
 }
 
 /// Which patterns come into each block, by rows of those that are blocked in it. What is blocked in a block and does not

@@ -1,7 +1,7 @@
 // What is inserted in the blocks into which it comes, and at the ends of those that it leaves.
 ghost use Rattle.std.specs.Prelude.{◌≡◌, ℕ, ◌<◌, ◌++◌, suc, Bool, List, length, slice_get, Some, OnOk};
 ghost use Rattle.sink_dead.specs.declared.inserting.Put.{Put};
-ghost use Rattle.sink_dead.specs.Coming.{ComeInto, HasStopped};
+ghost use Rattle.sink_dead.specs.Coming.{ComeInto, HasBlocked};
 ghost use Rattle.sink_dead.specs.Heads.{AreHeadDone, AreHeadsDone, IsHeadTaken, IsSettled, skip_to};
 ghost use Rattle.sink_dead.specs.Over.{AreFromHeadsOver, ArePutAtEndsOver, HaveShapeOver, IsOverBlocks, lists_of};
 ghost use Rattle.sink_dead.specs.Places.{AreBlockPlaces, AreTakenIn};
@@ -27,7 +27,7 @@ pub(crate) fn from_heads(
     puts: &mut Vec<Put>,
 ) -> Result<(), Memory>
     requires over { IsOverBlocks over.now }
-    requires coming { HasStopped over.now coming.now }
+    requires coming { HasBlocked over.now coming.now }
     requires leaves { HaveShapeOver over.now leaves.old }
     ensures { OnOk result (AreFromHeadsOver over.now coming.now.into leaves.old puts.old.items
         (λ b k. Unit {0}) leaves.new puts.new.items) }
@@ -53,7 +53,7 @@ fn from_head(
 ) -> Result<(), Memory>
     requires over { IsOverBlocks over.now }
     requires block { block < length (lists_of over.now) }
-    requires coming { HasStopped over.now coming.now }
+    requires coming { HasBlocked over.now coming.now }
     requires leaves { HaveShapeOver over.now leaves.old }
     requires places { AreBlockPlaces over.now.graph.now (suc block) places.old }
     ensures places { OnOk result (AreBlockPlaces over.now.graph.now block places.new) }
@@ -62,12 +62,12 @@ fn from_head(
         OnOk result (AreHeadsDone over.now coming.now.into rows begun block leaves.new
         puts.new.items) }
 {
-    let stopped = coming.stopped.row(block);
-    leaves.or_minus_from(block, &coming.into.row(block), &stopped);
-    match stopped.next_true(0) {
+    let blocked = coming.blocked.row(block);
+    leaves.or_minus_from(block, &coming.into.row(block), &blocked);
+    match blocked.next_true(0) {
         Some(_) => {
             take_in_all(over, block, places);
-            settle_all(over, block, &stopped, places, leaves, puts)
+            settle_all(over, block, &blocked, places, leaves, puts)
         }
         None => Ok(()),
     }

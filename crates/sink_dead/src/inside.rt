@@ -25,7 +25,7 @@ pub(crate) struct Leaving {
 pub(crate) struct Inside {
     /// The insertions before nodes of the same block.
     pub(crate) puts: Vec<Put>,
-    /// The patterns that leave a block.
+    /// The patterns: each that leaves a block is among them.
     pub(crate) table: Patterns,
     /// Which leaves which.
     pub(crate) leaving: Vec<Leaving>,
@@ -47,7 +47,7 @@ pub(crate) fn found_inside(alloc: Global, graph: &Graph, blocks: &Blocks) -> Res
     Ok(found)
 }
 
-/// Nothing found, with room for what occurrences at so many nodes come to.
+/// Nothing found. Room for what occurrences at so many nodes come to is taken at once.
 fn nothing_yet(alloc: Global, nodes: usize) -> Result<Inside, Memory>
     ensures puts { IfOk result (λ found. found.puts.items ≡ []) }
     ensures table { IfOk result (λ found. found.table ≡ []) }

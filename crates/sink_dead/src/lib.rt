@@ -1,7 +1,8 @@
 //! Partial dead code elimination. In goes a split graph; out come the rounds that are made of it. In a round each plain
 //! or movable assignment sinks to the last places to which every path brings it, so that a path that does not need it
-//! may be spared it, and then each such assignment whose variable is not live after it is removed. What a round finds
-//! out can be asked too: where each pattern that can still move is delayed and inserted, and which variables are live.
+//! may be spared it, and then each such assignment whose variable is not live after it is removed. What the definition of
+//! a round speaks of can be asked too: where each pattern that can still move is delayed and inserted, and which
+//! variables are live.
 //!
 //! The theorem that this crate carries is the contract of `sink`: each round is the exact graph of the one before it,
 //! does the same, and has on the corresponding path of each full path no more of any plain or movable assignment; and

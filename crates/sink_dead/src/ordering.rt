@@ -7,7 +7,7 @@ use mir_base::Memory;
 use std::alloc::Global;
 
 /// The same insertions in order of their nodes, and those before one node in order of their variables; of those with
-/// one node and variable only the first stays. It fails only with `Memory`.
+/// one node and variable only one stays. It fails only with `Memory`.
 pub(crate) fn in_order(alloc: Global, puts: Vec<Put>) -> Result<Vec<Put>, Memory>
     ensures { IfOk result (λ once. AreOnce puts.items once.items) }
 {
