@@ -1,5 +1,5 @@
 -- What a count becomes where two rows differ in a bit.
-use Rattle.std.proofs.Common.{◌≡◌, ◌≤◌, ◌<◌, ◌+◌, ◌-◌, ◌&&◌, not, ℕ, Bool, true, false, refl, sym, arith}
+use Rattle.std.proofs.Common.{◌≡◌, ◌<◌, ◌+◌, ◌-◌, ◌&&◌, not, ℕ, Bool, true, false, refl, sym, arith}
 use Rattle.flow_graph.specs.Sums.{one_if}
 use Rattle.live_range.specs.Counts.{only_if}
 

@@ -9,7 +9,7 @@ use Rattle.flow_graph.specs.ListLaws.{some_at}
 use Rattle.flow_graph.specs.Paths.{Ends, HasEdge, IsPath, Trace, from_start, goes_on}
 use Rattle.path_laws.specs.Paths.{AreRows, has_bit}
 use Rattle.motion_rewrite.specs.declared.placement.Placement.{Placement}
-use Rattle.motion_rewrite.specs.Placements.{DownLaws, IsAdmissible, IsAvailableAfter, Places, places_of}
+use Rattle.motion_rewrite.specs.Placements.{AreAdmissible, DownLaws, IsAdmissible, IsAvailableAfter, Places, places_of}
 use Rattle.latest_place.specs.Lazy.{AreLazy, IsLazy}
 use Rattle.latest_place.specs.Optimal.{lazy_optimal}
 use Rattle.latest_place.specs.Stable.{not_both, split_bit}
@@ -80,11 +80,7 @@ module _ (graph : GraphShape) (known : SplitFacts graph) (e : Expr) (Down : ℕ 
 
 module _ (graph : GraphShape) (is_graph : IsGraph graph.vars graph.received graph.nodes) (split : IsSplit graph.nodes) (e : Expr) (Down : ℕ → Type 0) (laws : DownLaws graph e Down)
     (p : Places) (is_lazy : IsLazy graph e Down p) where
-  -- its edges are held exactly where what they enter is wanted
-  pub lazy_held : (m n : ℕ) → HasEdge graph.nodes m n → IsWanted graph.nodes p n → IsHeld graph.nodes p m n
-  lazy_held m n edge w = wanted_held graph (split_facts graph is_graph split) e Down p (lazy_optimal graph is_graph split e Down laws p is_lazy).admissible m n edge w
-
-  -- and those of every optimal placement too
+  -- an edge that it holds is held by every optimal placement too
   pub lazy_least : IsHeldLeast graph e Down p
   lazy_least other best m n held =
       let wanted = held_wanted graph.nodes p m n held in
@@ -92,11 +88,16 @@ module _ (graph : GraphShape) (is_graph : IsGraph graph.vars graph.received grap
 
 -- ---- the rows
 
--- the rows of what is wanted, by the targets of edges, tell which edges are held
-pub held_rows : (graph : GraphShape) (is_graph : IsGraph graph.vars graph.received graph.nodes) (split : IsSplit graph.nodes) (table : List Expr) (Down : Expr → ℕ → Type 0) (laws : (e : Expr) → DownLaws graph e (Down e)) (p : Placement)
-    → AreLazy graph table Down p → (wanted made : List (List Bool)) → AreRows (length graph.nodes) (length table) wanted → AreWantedRows graph (length table) p wanted → made ≡ rows_by_target (edges_of graph.nodes).edges wanted
+-- a lazy placement is admissible for each expression of its table
+pub lazy_admissible : (graph : GraphShape) (is_graph : IsGraph graph.vars graph.received graph.nodes) (split : IsSplit graph.nodes) (table : List Expr) (Down : Expr → ℕ → Type 0) (laws : (e : Expr) → DownLaws graph e (Down e)) (p : Placement)
+    → AreLazy graph table Down p → AreAdmissible graph table Down p
+lazy_admissible graph is_graph split table Down laws p lazy i e at = (lazy_optimal graph is_graph split e (Down e) (laws e) (places_of p i) (lazy i e at)).admissible
+
+-- of an admissible placement the rows of what is wanted, by the targets of edges, tell which edges are held
+pub held_rows : (graph : GraphShape) (is_graph : IsGraph graph.vars graph.received graph.nodes) (split : IsSplit graph.nodes) (table : List Expr) (Down : Expr → ℕ → Type 0) (p : Placement)
+    → AreAdmissible graph table Down p → (wanted made : List (List Bool)) → AreRows (length graph.nodes) (length table) wanted → AreWantedRows graph (length table) p wanted → made ≡ rows_by_target (edges_of graph.nodes).edges wanted
     → AreHeldEdges graph table p made
-held_rows graph is_graph split table Down laws p lazy wanted made shape says is = record {
+held_rows graph is_graph split table Down p admissible wanted made shape says is = record {
   shape = subst (AreRows (length (edges_of graph.nodes).edges) (length table)) (sym is) (target_shape graph.nodes (length table) wanted (λ m slot s edge. (is_graph.can.succs m slot s edge).1) shape);
   bits = λ k i edge at i_in.
       let has = edge_is graph.nodes k edge at in
@@ -104,7 +105,7 @@ held_rows graph is_graph split table Down laws p lazy wanted made shape says is 
       let bit : has_bit made i k ≡ has_bit wanted i edge.target = ap (λ rows. has_bit rows i k) is ∙ ap (λ row. get_or row i false) (target_row (edges_of graph.nodes).edges wanted k edge at) in
       let here = says edge.target i below i_in in
       let e = some_at table i i_in in (
-        λ on. lazy_held graph is_graph split e.0 (Down e.0) (laws e.0) (places_of p i) (lazy i e.0 e.1) edge.source edge.target has (here.0 (sym bit ∙ on)),
+        λ on. wanted_held graph (split_facts graph is_graph split) e.0 (Down e.0) (places_of p i) (admissible i e.0 e.1) edge.source edge.target has (here.0 (sym bit ∙ on)),
         λ held. bit ∙ here.1 (held_wanted graph.nodes (places_of p i) edge.source edge.target held).1,
       );
 }

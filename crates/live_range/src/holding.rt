@@ -3,6 +3,7 @@ ghost use Rattle.std.specs.Prelude.{◌≡◌, length, IfOk};
 ghost use Rattle.bit_rows.specs.Bits.{AreEquallyLong};
 ghost use Rattle.flow_graph.specs.Edges.{AllEnter, IsSplit, edges_of};
 ghost use Rattle.path_laws.specs.Paths.{HaveShape};
+ghost use Rattle.motion_rewrite.specs.Placements.{AreAdmissible};
 ghost use Rattle.latest_place.specs.Lazy.{AreLazy};
 ghost use Rattle.live_range.specs.Held.{AreHeldEdges, AreHeldLeast};
 ghost use Rattle.live_range.specs.Wanted.{rows_by_target};
@@ -24,6 +25,36 @@ pub struct Held {
     pub edges: Rows,
 }
 
+/// On which edges a placement that is admissible by the rule holds the temporary of each expression of the table. The
+/// graph is split, `edges` are those of `graph`, and the placement has one row for each node and one bit for each
+/// expression. It fails only with `Memory`.
+///
+/// An insertion serves each replaced use on every path to it, so an edge is held exactly where some path from its
+/// target comes to a replaced use with no insertion on the way; nothing has to be found of the paths before the edge.
+pub fn held_edges<R: DownRule>(
+    alloc: Global,
+    rule: &R,
+    graph: &Graph,
+    edges: &Edges,
+    table: &ExprTable,
+    placement: &Placement,
+) -> Result<Held, Memory>
+    requires split { IsSplit graph.now.nodes }
+    requires edges { edges.now ≡ edges_of graph.now.nodes }
+    requires insert { HaveShape graph.now (length table.now) placement.now.insert }
+    requires replace { HaveShape graph.now (length table.now) placement.now.replace }
+    requires admissible { AreAdmissible graph.now table.now (R.is_down rule.now graph.now)
+        placement.now }
+    ensures held { IfOk result (λ held.
+        AreHeldEdges graph.now table.now placement.now held.edges) }
+{
+    // The proof needs what holds of every graph: that each node is reached.
+    let _nodes = graph.nodes();
+    let wanted = wanted_rows(alloc, graph, edges, table.len(), placement)?;
+    let edges = by_target(alloc, edges, table.len(), &wanted)?;
+    Ok(Held { edges })
+}
+
 /// On which edges the lazy placement of a rule holds the temporary of each expression of the table. The graph is split,
 /// `edges` are those of `graph`, and the placement, with one row for each node and one bit for each expression, is the
 /// lazy one of the rule, as `lazy` of `latest_place` answers it. It fails only with `Memory`.
@@ -31,9 +62,6 @@ pub struct Held {
 /// Every placement that is optimal by the rule holds the temporary on these edges too: none keeps it alive shorter.
 /// That lazy code motion is best in this sense is of Knoop, Ruething and Steffen, *Optimal Code Motion: Theory and
 /// Practice*, TOPLAS 1994.
-///
-/// An insertion serves each replaced use on every path to it, so an edge is held exactly where some path from its
-/// target comes to a replaced use with no insertion on the way; nothing has to be found of the paths before the edge.
 pub fn ranges<R: DownRule>(
     alloc: Global,
     rule: &R,
@@ -58,9 +86,8 @@ pub fn ranges<R: DownRule>(
     holds_least(rule, graph, table, placement);
     // The proof needs what holds of every graph: that each node is reached.
     let _nodes = graph.nodes();
-    let wanted = wanted_rows(alloc, graph, edges, table.len(), placement)?;
-    let edges = by_target(alloc, edges, table.len(), &wanted)?;
-    Ok(Held { edges })
+    let held = held_edges(alloc, rule, graph, edges, table, placement)?;
+    Ok(held)
 }
 
 /// Has no effect; carries the theorem that the lazy placement of a rule holds the temporary of each expression only

@@ -5,7 +5,8 @@
 //!
 //! The theorem that this crate carries is the contract of `ranges`: the rows are exactly this, and every placement that
 //! is optimal by the rule holds the temporary of an expression wherever the lazy one does. So among those that evaluate
-//! as seldom as can be, the lazy placement keeps its temporaries alive the shortest.
+//! as seldom as can be, the lazy placement keeps its temporaries alive the shortest. `held_edges` has rows of the first
+//! kind for any admissible placement, the busy one among them.
 #![tactic(auto)]
 
 mod counting;
@@ -13,4 +14,4 @@ mod holding;
 mod wanted;
 
 pub use counting::{RangeCounts, count_ranges};
-pub use holding::{Held, holds_least, ranges};
+pub use holding::{Held, held_edges, holds_least, ranges};

@@ -1,4 +1,4 @@
-use Rattle.std.proofs.Common.{◌≡◌, ◌+◌, ◌<◌, ◌∙◌, ◌&&◌, not, ℕ, Bool, ap, sym, arith, length, slice_index_or}
+use Rattle.std.proofs.Common.{◌≡◌, ◌+◌, ◌<◌, ◌∙◌, ◌&&◌, not, Bool, ap, sym, arith, length, slice_index_or}
 use Rattle.bit_rows.specs.BitLaws.{minus_bit}
 use Rattle.bit_rows.specs.Bits.{minus_bits, row_bit}
 use Rattle.live_range.proofs.Differences.{not_second, has_first, differing_counted}

@@ -1,9 +1,8 @@
-use Rattle.std.proofs.Common.{◌≡◌, ◌+◌, ◌-◌, ◌∙◌, ◌<◌, ℕ, Bool, ap, sym, arith, length, slice_index_or}
-use Rattle.bit_rows.specs.Bits.{row_bit, row_of}
-use Rattle.live_range.proofs.BelowCounts.{count_few, count_next}
-use Rattle.live_range.proofs.Differences.{none_if, one_more}
+use Rattle.std.proofs.Common.{◌-◌, arith, length}
+use Rattle.bit_rows.specs.Bits.{row_bit}
+use Rattle.live_range.proofs.BelowCounts.{count_few}
+use Rattle.live_range.proofs.Differences.{none_if}
 use Rattle.path_laws.specs.Paths.{has_bit}
-use Rattle.live_range.specs.Counts.{only_if}
 use Rattle.live_range.proofs.counting.count_rows.Goals as goal
 
 pub count_differences-requires-clause-room : goal.count_differences-requires-clause-room
