@@ -2,3 +2,4 @@ pub mod Rules
 pub mod Bits
 pub mod Busy
 pub mod EveryPathLaws
+pub mod BusyPlaces

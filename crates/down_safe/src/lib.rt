@@ -15,6 +15,6 @@ mod rule;
 mod safety;
 
 pub use nodes::{busy, busy_over, earliest_over};
-pub use placement::busy_placement;
+pub use placement::{busy_admits, busy_placement};
 pub use rule::{DownRule, EveryPath};
 pub use safety::{Busy, EarlySites, Sites};

@@ -3,9 +3,10 @@ ghost use Rattle.std.specs.Prelude.{◌≡◌, length, IfOk};
 ghost use Rattle.flow_graph.specs.Edges.{IsSplit, edges_of};
 ghost use Rattle.path_laws.specs.Paths.{HaveShape};
 ghost use Rattle.motion_rewrite.specs.Placements.{AreAdmissible};
-ghost use Rattle.down_safe.specs.Busy.{AreBusy};
+ghost use Rattle.down_safe.specs.Busy.{AreBusy, AreBusyRows};
+ghost use Rattle.down_safe.specs.BusyPlaces.{placement_of};
 
-use crate::{DownRule, busy};
+use crate::{Busy, DownRule, busy};
 use flow_graph::{Edges, Graph};
 use mir_base::Memory;
 use motion_rewrite::{ExprTable, Placement};
@@ -36,4 +37,18 @@ pub fn busy_placement<R: DownRule>(
         insert: busy.early,
         replace: busy.uses,
     })
+}
+
+/// Has no effect; carries the theorem that the placement which rows of the rule, the graph and the table make, inserting
+/// where an expression is earliest and replacing where it is used, is admissible. The graph is split.
+pub fn busy_admits<R: DownRule>(rule: &R, graph: &Graph, table: &ExprTable, busy: &Busy)
+    requires split { IsSplit graph.now.nodes }
+    requires busy { AreBusyRows graph.now table.now (R.is_down rule.now graph.now) busy.now }
+    ensures busy { AreBusy graph.now table.now (R.is_down rule.now graph.now)
+        (placement_of busy.now) }
+    ensures admissible { AreAdmissible graph.now table.now (R.is_down rule.now graph.now)
+        (placement_of busy.now) }
+{
+    // The proof needs what holds of every graph: that each node is reached.
+    let _nodes = graph.nodes();
 }
