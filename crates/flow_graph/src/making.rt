@@ -41,8 +41,8 @@ impl Graph {
         Ok(graph)
     }
 
-    /// The graph with these parts, which fit together as those of a graph do. The editor of `graph_edit` makes graphs
-    /// by this call. It does not allocate.
+    /// The graph with these parts, which fit together as those of a graph do, for crates that make graphs of their own.
+    /// It does not allocate.
     pub fn of_parts(
         alloc: Global,
         name: Name,
