@@ -18,7 +18,7 @@ import sys
 import tempfile
 import time
 from pathlib import Path
-from typing import Callable, NamedTuple, Optional
+from typing import Callable, Iterator, NamedTuple, Optional
 
 from interpret import Machine
 from texts import (LOOP, LOOP_OF_CALLS, LOOP_OF_CALLS_GLOBAL, LOOP_OF_GLOBALS, dense, diamonds, doubling,
@@ -30,9 +30,12 @@ TOP = Path(__file__).resolve().parent.parent
 MIR, PROGRAM = str(TOP / 'mir'), TOP / 'crates' / 'mir_main' / 'out' / 'mir_main'
 
 # The program that writes the tables, which takes no words: what is called where the word of a case is `tables`. Its
-# functions that write rows and graphs, of which the instructions are not counted.
+# functions that append bytes to the text, of which the instructions are not counted; the functions of Vec that they
+# call to append are not counted either where the other crates of tables call them.
 TABLES = TOP / 'crates' / 'mir_tables' / 'out' / 'mir_tables'
-WRITERS = r'table_text::rows::put_(?:edge_)?bits|table_text::graphs::put_graph'
+WRITERS = re.compile(r'(?:table_text|mir_print|itoa)::')
+APPENDERS = re.compile(r'std_alloc::vec::Vec::(?:extend_from_slice|push|resize)\b')
+TABLE_CRATES = re.compile(r'(?:pass_table|mir_table)::')
 
 # The lengths of texts: a quarter, a half and the whole of what a text may have.
 LENGTHS = (262_144, 524_288, 1_048_576)
@@ -561,12 +564,25 @@ def measure(command: list[str], case: Case, folder: Path, repeat: int) -> Measur
     return Measure(min(m.seconds for m in measures), max(m.bytes for m in measures))
 
 
+def calls_in(counts: Path) -> Iterator[tuple[str, str, int]]:
+    """The calls that callgrind wrote: who calls, who is called, and the instructions with all that is called there."""
+    names, caller, callee = {}, '', None
+    for line in counts.read_text().splitlines():
+        function = re.match(r'(c?fn)=\((\d+)\)(?: (.*))?', line)
+        if function:
+            name = names.setdefault(function[2], function[3])
+            caller, callee = (name, None) if function[1] == 'fn' else (caller, name)
+        elif callee and re.match(r'[+*\d-]', line):
+            yield caller, callee, int(line.split()[-1])
+            callee = None
+
+
 def of_writers(counts: Path) -> int:
-    """How many instructions the functions take that write tables, with all that they call."""
-    annotate = ['callgrind_annotate', '--inclusive=yes', '--threshold=100', '--show-percs=no', str(counts)]
-    lines = subprocess.run(annotate, stdout=subprocess.PIPE, text=True, check=True).stdout.splitlines()
-    rows = [re.match(rf'\s*([\d,]+)\s+\S*:(?:{WRITERS})\b', line) for line in lines]
-    return sum(int(row[1].replace(',', '')) for row in rows if row)
+    """How many instructions it takes to append the bytes of tables to the text."""
+    calls = list(calls_in(counts))
+    appenders = {callee for caller, callee, _ in calls if WRITERS.match(caller) and APPENDERS.match(callee)}
+    return sum(spent for caller, callee, spent in calls if not WRITERS.match(caller)
+               and (WRITERS.match(callee) or callee in appenders and TABLE_CRATES.match(caller)))
 
 
 def instructions(program: str, case: Case, folder: Path) -> int:

@@ -21,6 +21,7 @@ pub fn put_unit(text: &mut Vec<u8>, name: &Name) -> Result<(), Memory>
 
 /// The lines of a graph: its variables, and a line for each node. The units are those of the program, which its calls
 /// name.
+#[inline(never)]
 pub fn put_graph(text: &mut Vec<u8>, units: &[MirUnit], graph: &Graph) -> Result<(), Memory>
     ensures { AppendsOnOk result text.old text.new
         (graph_text (names_of_units units.now) graph.now) }

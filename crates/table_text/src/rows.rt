@@ -32,8 +32,9 @@ pub fn put_edge_bits(
     put_title(text, title)
 }
 
-/// The bit of this number of all rows.
-#[inline(always)]
+/// The bit of this number of all rows. It is not drawn into those that call it, so that what it takes is counted by
+/// itself.
+#[inline(never)]
 fn put_each(text: &mut Vec<u8>, rows: &Rows, bit: usize) -> Result<(), Memory>
     requires { HaveBit rows.now bit }
     ensures { AppendsOnOk result text.old text.new (bits_below rows.now bit (length rows.now)) }
