@@ -1,15 +1,16 @@
 #!/usr/bin/env python3
-"""Measures the seconds and the memory that README.md beside this file shows, and puts them into its tables.
+"""Measures the seconds, the memory and the page faults that README.md beside this file shows, and puts them there.
 
     bench/fill.py [--mir PATH] [--repeat N] [--show] [--counts]
 
 A cell is filled by the head of its column and the workload and size of its row: `Time s`, `Memory MB`, `A second`,
 `x time` and `x memory`; `move: s` and `move: MB`, and the same of `optimise`, of the workload with this command behind
-its name; `mir s`, `opt s` and `mir / opt`, where `opt` is here. All other cells stay. With `--counts` it measures no
-time and counts instructions by callgrind: `Instructions`, `x at half`, `move: millions` and the like, the columns of
-the commands beside `move`, and the sentence on the other workloads. With `--show` the new page is printed and not
-written. The program is the one that the gate built where no other is named; of each call the least time
-of N is taken, and the greatest peak. It runs on Linux alone, with Python's standard library.
+its name; `mir s`, `opt s` and `mir / opt`, where `opt` is here. All other cells stay, and so does the text but for what
+the start takes and the sentence on minor page faults. With `--counts` it measures no time and counts instructions by
+callgrind: `Instructions`, `x at half`, `move: millions` and the like, the columns of the commands beside `move`, and
+the sentence on the other workloads. With `--show` the new page is printed and not written. The program is the one that
+the gate built where no other is named; of each call the least time of N is taken, the greatest peak and the most page
+faults. It runs on Linux alone, with Python's standard library.
 """
 
 import argparse
@@ -53,7 +54,8 @@ class Meter:
     def above(self, name: str, size: int) -> run.Measure:
         """The same, less what the start takes."""
         taken = self.taken(name, size)
-        return run.Measure(taken.seconds - self.start.seconds, taken.bytes - self.start.bytes)
+        start = self.start
+        return run.Measure(taken.seconds - start.seconds, taken.bytes - start.bytes, taken.faults - start.faults)
 
     @functools.lru_cache(maxsize=None)
     def beside(self, name: str, size: int) -> Optional[tuple[float, float]]:
@@ -141,7 +143,19 @@ def filled(text: str, meter: Meter) -> str:
     if meter.counts:
         return told('\n'.join(lines), meter)
     start = f'Start: {meter.start.seconds:.3f} s, {meter.start.bytes / 1e6:.1f} MB.'
-    return re.sub(r'Start: [\d.]+ s, [\d.]+ MB\.', start, '\n'.join(lines))
+    return faulted(re.sub(r'Start: [\d.]+ s, [\d.]+ MB\.', start, '\n'.join(lines)), meter)
+
+
+def faulted(text: str, meter: Meter) -> str:
+    """The page with the sentence on minor page faults under `optimise`, each at the greatest size."""
+    begin = text.index('Minor page faults under')
+    end = text.index('.', begin)
+
+    def of(found: re.Match) -> str:
+        name = found[1] if found[1] in meter.workloads else f'{found[1]}-optimise'
+        return f'`{found[1]}`{found[2]}{meter.taken(name, max(meter.cases(name))).faults:,}'
+
+    return text[:begin] + re.sub(r'`([\w-]+)`(\s)\d[\d,]*\d', of, text[begin:end]) + text[end:]
 
 
 def told(text: str, meter: Meter) -> str:

@@ -1,5 +1,5 @@
 #!/usr/bin/env python3
-"""Measures `mir` on workloads that it writes itself: wall time, peak memory, and how both grow.
+"""Measures `mir` on workloads that it writes itself: wall time, peak memory, page faults, and how the first two grow.
 
     bench/run.py [--mir PATH] [--repeat N] [--callgrind] [WORKLOAD ..]
 
@@ -86,6 +86,8 @@ class Measure(NamedTuple):
 
     seconds: float
     bytes: int
+    # Minor page faults: how often a page of memory was touched that the system had to give or to map first.
+    faults: int
 
 
 class Failure(Exception):
@@ -555,13 +557,13 @@ def call(command: list[str], case: Case, folder: Path) -> Measure:
     _, status, usage = os.wait4(-1, 0)
     seconds = time.perf_counter() - begin
     judge(command, case, os.waitstatus_to_exitcode(status), output.read_text(), errors.read_text())
-    return Measure(seconds, usage.ru_maxrss * 1024)
+    return Measure(seconds, usage.ru_maxrss * 1024, usage.ru_minflt)
 
 
 def measure(command: list[str], case: Case, folder: Path, repeat: int) -> Measure:
-    """The least time and the greatest peak of memory of so many calls."""
+    """The least time, the greatest peak of memory and the most page faults of so many calls."""
     measures = [call(command, case, folder) for _ in range(repeat)]
-    return Measure(min(m.seconds for m in measures), max(m.bytes for m in measures))
+    return Measure(min(m.seconds for m in measures), max(m.bytes for m in measures), max(m.faults for m in measures))
 
 
 def calls_in(counts: Path) -> Iterator[tuple[str, str, int]]:
@@ -609,13 +611,14 @@ def show(workload: Workload, measures: list[tuple[int, Measure]], start: Measure
     """Prints a line for each case: what it took, and its growth above the first case, less what the start took."""
     unit = workload.unit
     print(f'\n{workload.name}: {workload.about}')
-    print(f'{unit:>12}{"time s":>10}{"memory MB":>11}{unit + "/s":>13}{"x " + unit:>10}{"x time":>9}{"x memory":>10}')
+    print(f'{unit:>12}{"time s":>10}{"memory MB":>11}{"faults":>9}{unit + "/s":>13}{"x " + unit:>10}{"x time":>9}'
+          f'{"x memory":>10}')
     first_size, first = measures[0]
     for size, taken in measures:
         seconds, memory = taken.seconds - start.seconds, taken.bytes - start.bytes
         rate = f'{size / seconds:,.0f}' if seconds >= LEAST_SECONDS else '-'
         print(
-            f'{size:>12,}{taken.seconds:>10.3f}{taken.bytes / 1e6:>11.1f}{rate:>13}'
+            f'{size:>12,}{taken.seconds:>10.3f}{taken.bytes / 1e6:>11.1f}{taken.faults:>9,}{rate:>13}'
             f'{size / first_size:>10.2f}'
             f'{ratio(seconds, first.seconds - start.seconds, LEAST_SECONDS):>9}'
             f'{ratio(memory, first.bytes - start.bytes, LEAST_BYTES):>10}'
