@@ -504,8 +504,9 @@ function problem(pass, item) {
 // The edges of a stage, in order of the node that they leave; of a test the one that is taken stands first.
 const allEdges = stage => stage.nodes.flatMap((node, n) => node[1].map(s => [n, s]));
 
-// The edges on which the temporary of an expression lives, by the row of the tables.
-const heldEdges = (stage, item) => allEdges(stage).filter((_, at) => item.edges?.held?.[at] === '1');
+// The edges on which the temporary of an expression lives, by a row of the tables: that of the lazy placement, or of the
+// busy one.
+const heldEdges = (stage, item, row = 'held') => allEdges(stage).filter((_, at) => item.edges?.[row]?.[at] === '1');
 
 // From which nodes of a stage some path comes to a Return.
 function comesToReturn(stage) {
@@ -515,7 +516,7 @@ function comesToReturn(stage) {
 }
 
 // Where a temporary lives, for insertions and replaced uses: on the edges from which some path reads it before it is set,
-// and then comes to a Return. The tables say it of the lazy placement; of the busy one the page works it out.
+// and then comes to a Return. The tables say it of both placements, and the page compares.
 function livesOn(stage, inserted, replaced) {
   const { into } = edgesOf(stage), returns = comesToReturn(stage);
   const before = stage.nodes.map(() => false), waiting = [];
@@ -538,11 +539,12 @@ function disagreeing(pass, number) {
         same] of [['busy inserted', 'earliest'], ['busy replaced', 'used']])
       bitsOf(item.rows, name).forEach((bit, n) => { bits++;
           if (bit !== (item.rows[same][n] === '1')) found.push([name, n]); });
-    if (pass.name === 'motion' && item && pass.before.nodes.length <= 160) {
-      const own = new Set(livesOn(pass.before, bitsOf(item.rows, 'inserted'), bitsOf(item.rows, 'replaced'))
-        .map(edge => edge.join('>')));
+    if (pass.name === 'motion' && item && pass.before.nodes.length <= 160) for (const which of ['', 'busy ']) {
+      const own = new Set(livesOn(pass.before, bitsOf(item.rows, `${which}inserted`),
+        bitsOf(item.rows, `${which}replaced`)).map(edge => edge.join('>')));
       allEdges(pass.before).forEach((edge, at) => { bits++;
-          if ((item.edges?.held?.[at] === '1') !== own.has(edge.join('>'))) found.push(['held', edge[0]]); });
+          if ((item.edges?.[`${which}held`]?.[at] === '1') !== own.has(edge.join('>')))
+            found.push([`${which}held`, edge[0]]); });
     }
     columns.checked = { bits, found };
   }

@@ -282,7 +282,7 @@ function showGraphs(pass) {
         aria: inserted[n] ? 'inserted before' : '' }),
       { live, title: `<b>${title}</b> ${words}: inserts at ${list(where(inserted))}, replaces ${list(where(replaced))}; ${code(temp)} lives on <b>${many(live.length, 'edge')}</b>` });
     const rows = ['busy inserted', 'busy replaced', 'inserted', 'replaced'].map(name => bitsOf(item.rows, name));
-    const busy = side('Busy', '(as early as it can)', rows[0], rows[1], livesOn(pass.before, rows[0], rows[1]));
+    const busy = side('Busy', '(as early as it can)', rows[0], rows[1], heldEdges(pass.before, item, 'busy held'));
     const lazy = side('Lazy', '(as late as it can; taken)', rows[2], rows[3], heldEdges(pass.before, item));
     html = `<div class="pair">${busy}${lazy}</div>`;
   } else {

@@ -131,6 +131,7 @@ row 0001000010 latest
 row 1110011100 isolated
 row 0100000000 busy inserted
 row 0001010000 busy replaced
+edges 0111110011 busy held
 row 0001000010 inserted
 row 0001010000 replaced
 edges 0000110011 held
@@ -187,6 +188,7 @@ row 00100000 latest
 row 11111111 isolated
 row 00100000 busy inserted
 row 00100000 busy replaced
+edges 00000000 busy held
 row 00000000 inserted
 row 00000000 replaced
 edges 00000000 held
@@ -201,6 +203,7 @@ row 00001000 latest
 row 11111111 isolated
 row 00100000 busy inserted
 row 00001000 busy replaced
+edges 00011000 busy held
 row 00000000 inserted
 row 00000000 replaced
 edges 00000000 held
@@ -249,6 +252,7 @@ row 010010 latest
 row 111111 isolated
 row 010010 busy inserted
 row 010010 busy replaced
+edges 00000 busy held
 row 000000 inserted
 row 000000 replaced
 edges 00000 held
@@ -263,6 +267,7 @@ row 000100 latest
 row 111111 isolated
 row 010000 busy inserted
 row 000100 busy replaced
+edges 01100 busy held
 row 000000 inserted
 row 000000 replaced
 edges 00000 held
@@ -309,6 +314,7 @@ row 0000010 latest
 row 1000100 isolated
 row 0000010 busy inserted
 row 0100000 busy replaced
+edges 0111011 busy held
 row 0000010 inserted
 row 0100000 replaced
 edges 0111011 held
@@ -323,6 +329,7 @@ row 0010000 latest
 row 1111111 isolated
 row 0000011 busy inserted
 row 0010000 busy replaced
+edges 0100011 busy held
 row 0000000 inserted
 row 0000000 replaced
 edges 0000000 held

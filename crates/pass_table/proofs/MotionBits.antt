@@ -19,6 +19,7 @@ motion_bits unit rows i motion are low =
         down = have_bit _ _ rows.places.busy.down i busy.down.shape low;
         early = have_bit _ _ rows.places.busy.early i busy.early.shape low;
       };
+      busy_held = have_bit _ _ rows.places.busy_held.edges i are.places_are.busy_held_are.shape low;
       late = record {
         delayed = have_bit _ _ rows.places.late.delayed i late.delayed.shape low;
         latest = have_bit _ _ rows.places.late.latest i late.latest.shape low;

@@ -11,11 +11,13 @@ use Rattle.motion_rewrite.specs.Rows.{AreRowsOf}
 use Rattle.motion_rewrite.specs.Temporaries.{has_insertion, temporary}
 use Rattle.down_safe.specs.declared.safety.Busy.{Busy}
 use Rattle.down_safe.specs.Busy.{AreBusyRows}
+use Rattle.down_safe.specs.BusyPlaces.{placement_of}
 use Rattle.latest_place.specs.declared.delays.Late.{Late}
 use Rattle.latest_place.specs.Lazy.{AreLateRows}
 use Rattle.live_range.specs.Held.{AreHeldEdges}
 use Rattle.mir_opt.specs.declared.trails.UnitTrail.{UnitTrail}
 use Rattle.pass_table.specs.declared.motion.BoundRows.{BoundRows}
+use Rattle.pass_table.specs.declared.motion.BusyRanges.{BusyRanges}
 use Rattle.pass_table.specs.declared.motion.MotionRows.{MotionRows}
 use Rattle.pass_table.specs.declared.motion.PlaceRows.{PlaceRows}
 use Rattle.table_text.specs.Lines.{field}
@@ -57,10 +59,13 @@ late_lines late i =
     ++ bits_line late.latest i (codes "latest")
     ++ bits_line late.isolated i (codes "isolated")
 
--- the busy placement of it, which inserts where it is earliest and replaces every use
-abbrev pub busy_lines : Busy → ℕ → List ℕ
-busy_lines busy i =
-    bits_line busy.early i (codes "busy inserted") ++ bits_line busy.uses i (codes "busy replaced")
+-- the busy placement of it, which inserts where it is earliest and replaces every use, and the edges on which its
+-- temporary lives
+abbrev pub busy_lines : PlaceRows → ℕ → List ℕ
+busy_lines places i =
+    bits_line places.busy.early i (codes "busy inserted")
+    ++ bits_line places.busy.uses i (codes "busy replaced")
+    ++ edge_bits_line places.busy_held.edges i (codes "busy held")
 
 -- the lazy placement of it, and the edges on which its temporary lives
 abbrev pub lazy_lines : Placement → MotionRows → ℕ → List ℕ
@@ -72,7 +77,7 @@ lazy_lines placement rows i =
 -- all of its rows
 abbrev pub motion_lines : Placement → MotionRows → ℕ → List ℕ
 motion_lines placement rows i =
-    safe_lines rows i ++ late_lines rows.places.late i ++ busy_lines rows.places.busy i ++ lazy_lines placement rows i
+    safe_lines rows i ++ late_lines rows.places.late i ++ busy_lines rows.places i ++ lazy_lines placement rows i
 
 -- the lines of expression i, where there is one
 abbrev pub expression_lines : UnitTrail → MotionRows → ℕ → Option Expr → List ℕ
@@ -88,12 +93,14 @@ expressions_below unit rows (suc n) =
 -- ---- what is found out
 
 -- the rows say of each expression of the split graph where it is used, available, anticipatable, earliest, delayed,
--- latest and isolated
+-- latest and isolated, and on which edges the busy placement holds its temporary
 pub record ArePlaceRows (unit : UnitTrail) (rows : PlaceRows) : Type 0 where
   pub busy_are : AreBusyRows unit.split unit.table (IsAnticipatable unit.split) rows.busy
   pub late_are : AreLateRows unit.split unit.table (IsAnticipatable unit.split) rows.late
+  pub busy_held_are :
+      AreHeldEdges unit.split unit.table (placement_of rows.busy) rows.busy_held.edges
 
--- where it is killed, and on which edges the placement holds its temporary
+-- where it is killed, and on which edges the lazy placement holds its temporary
 pub record AreBoundRows (unit : UnitTrail) (rows : BoundRows) : Type 0 where
   pub kills_are : AreRowsOf unit.split unit.table (kills unit.split) rows.kills
   pub held_are : AreHeldEdges unit.split unit.table unit.placement rows.held.edges
@@ -109,7 +116,12 @@ pub record IsMotionText (unit : UnitTrail) (text : List ℕ) : Type 0 where
   pub are : AreMotionRows unit rows
   pub text_is : text ≡ expressions_below unit rows (length unit.table)
 
--- ---- for the functions that write them
+-- ---- for the functions that find and write them
+
+-- the rows of the busy placement, and the edges on which it holds the temporaries
+pub record AreBusyRanges (unit : UnitTrail) (ranges : BusyRanges) : Type 0 where
+  pub busy_are : AreBusyRows unit.split unit.table (IsAnticipatable unit.split) ranges.busy
+  pub held_are : AreHeldEdges unit.split unit.table (placement_of ranges.busy) ranges.held.edges
 
 -- each row of these has a bit of this number
 pub record HaveBusyBit (busy : Busy) (bit : ℕ) : Type 0 where
@@ -127,6 +139,7 @@ pub record HaveLateBit (late : Late) (bit : ℕ) : Type 0 where
 -- and of all that code motion finds out, and of the placement
 pub record HaveMotionBit (placement : Placement) (rows : MotionRows) (bit : ℕ) : Type 0 where
   pub busy : HaveBusyBit rows.places.busy bit
+  pub busy_held : HaveBit rows.places.busy_held.edges bit
   pub late : HaveLateBit rows.places.late bit
   pub kills : HaveBit rows.bounds.kills bit
   pub held : HaveBit rows.bounds.held.edges bit

@@ -3,22 +3,25 @@ ghost use Rattle.std.specs.Prelude.{◌≡◌, ◌<◌, ◌+◌, if◌then◌els
 ghost use Rattle.mir_base.specs.Appending.{AppendsOnOk};
 ghost use Rattle.mir_base.specs.ExpressionVars.{rhs_of};
 ghost use Rattle.flow_graph.specs.Edges.{IsSplit, edges_of};
+ghost use Rattle.motion_rewrite.specs.Placements.{IsAnticipatable};
 ghost use Rattle.motion_rewrite.specs.Temporaries.{IsInsertionRow, has_insertion};
+ghost use Rattle.down_safe.specs.Busy.{AreBusyRows};
+ghost use Rattle.down_safe.specs.BusyPlaces.{placement_of};
 ghost use Rattle.live_range.specs.Held.{AreHeldEdges};
 ghost use Rattle.table_text.specs.Rows.{HaveBit};
 ghost use Rattle.table_text.specs.Turns.{AppendsSome};
-ghost use Rattle.pass_table.specs.Motion.{AreBoundRows, AreMotionRows, ArePlaceRows, HaveBusyBit, HaveLateBit, HaveMotionBit, IsMotionText, busy_lines, expression_head, expression_lines, expressions_below, late_lines, lazy_lines, motion_lines, safe_lines, unit_temporary, temporary_text};
+ghost use Rattle.pass_table.specs.Motion.{AreBoundRows, AreBusyRanges, AreMotionRows, ArePlaceRows, HaveBusyBit, HaveLateBit, HaveMotionBit, IsMotionText, busy_lines, expression_head, expression_lines, expressions_below, late_lines, lazy_lines, motion_lines, safe_lines, unit_temporary, temporary_text};
 ghost use Rattle.pass_table.specs.Units.{IsUnitMotion};
 
 use bit_rows::{Row, Rows};
-use down_safe::{Busy, EveryPath, busy};
+use down_safe::{Busy, EveryPath, busy, busy_admits};
 use edge_split::split_splits;
 use flow_graph::Edges;
 use latest_place::{Late, late_of_busy};
-use live_range::{Held, ranges};
+use live_range::{Held, held_edges, ranges};
 use mir_base::{Expr, Memory, Rhs};
 use mir_opt::UnitTrail;
-use motion_rewrite::{inserted_somewhere, kill_rows};
+use motion_rewrite::{Placement, inserted_somewhere, kill_rows};
 use std::alloc::{AllocError, Global};
 use table_text::{put_bits, put_count, put_edge_bits, put_field, put_name, put_right};
 
@@ -26,27 +29,38 @@ use table_text::{put_bits, put_count, put_edge_bits, put_field, put_name, put_ri
 /// bit for each expression.
 #[derive(Drop)]
 pub(crate) struct MotionRows {
-    /// Where expressions are safe, and how far they can be delayed.
+    /// Where expressions are safe, how far they can be delayed, and what the busy placement holds.
     pub(crate) places: PlaceRows,
-    /// Where they are killed, and on which edges their temporaries live.
+    /// Where they are killed, and on which edges their temporaries live under the lazy placement.
     pub(crate) bounds: BoundRows,
 }
 
-/// Where expressions are safe, and how far they can be delayed.
+/// Where expressions are safe, how far they can be delayed, and what the busy placement holds.
 #[derive(Drop)]
 pub(crate) struct PlaceRows {
     /// Where an expression is used, available, anticipatable and earliest.
     pub(crate) busy: Busy,
     /// Where it is delayed, latest and isolated.
     pub(crate) late: Late,
+    /// On which edges its temporary lives under the busy placement.
+    pub(crate) busy_held: Held,
 }
 
-/// Where expressions are killed, and on which edges their temporaries live.
+/// The rows of the busy placement, and on which edges its temporaries live.
+#[derive(Drop)]
+pub(crate) struct BusyRanges {
+    /// Where an expression is used, available, anticipatable and earliest.
+    pub(crate) busy: Busy,
+    /// On which edges its temporary lives.
+    pub(crate) held: Held,
+}
+
+/// Where expressions are killed, and on which edges their temporaries live under the lazy placement.
 #[derive(Drop)]
 pub(crate) struct BoundRows {
     /// Where an expression is killed.
     pub(crate) kills: Rows,
-    /// On which edges its temporary lives.
+    /// On which edges its temporary lives under the lazy placement.
     pub(crate) held: Held,
 }
 
@@ -74,7 +88,8 @@ fn motion_rows(alloc: Global, unit: &UnitTrail) -> Result<MotionRows, Memory>
     Ok(MotionRows { places, bounds })
 }
 
-/// Where the expressions of a unit are safe, and how far they can be delayed. The edges are those of the split graph.
+/// Where the expressions of a unit are safe, how far they can be delayed, and on which edges their temporaries live
+/// under the busy placement. The edges are those of the split graph.
 fn place_rows(alloc: Global, unit: &UnitTrail, edges: &Edges) -> Result<PlaceRows, Memory>
     requires split { IsSplit unit.now.split.nodes }
     requires edges { edges.now ≡ edges_of unit.now.split.nodes }
@@ -82,11 +97,52 @@ fn place_rows(alloc: Global, unit: &UnitTrail, edges: &Edges) -> Result<PlaceRow
 {
     let busy = busy(alloc, &EveryPath, &unit.split, edges, &unit.table)?;
     let late = late_of_busy(alloc, &EveryPath, &unit.split, edges, &unit.table, &busy)?;
-    Ok(PlaceRows { busy, late })
+    let ranges = busy_ranges(alloc, unit, edges, busy)?;
+    Ok(PlaceRows {
+        busy: ranges.busy,
+        late,
+        busy_held: ranges.held,
+    })
 }
 
-/// Where the expressions of a unit are killed, and on which edges their temporaries live. The edges are those of the
-/// split graph.
+/// On which edges the temporaries of a unit live under the busy placement, beside the rows of it, which make a placement
+/// for as long as this is worked out. The edges are those of the split graph.
+fn busy_ranges(
+    alloc: Global,
+    unit: &UnitTrail,
+    edges: &Edges,
+    busy: Busy,
+) -> Result<BusyRanges, Memory>
+    requires split { IsSplit unit.now.split.nodes }
+    requires edges { edges.now ≡ edges_of unit.now.split.nodes }
+    requires busy { AreBusyRows unit.now.split unit.now.table
+        (IsAnticipatable unit.now.split) busy }
+    ensures { IfOk result (AreBusyRanges unit.now) }
+{
+    busy_admits(&EveryPath, &unit.split, &unit.table, &busy);
+    let placement = Placement {
+        insert: busy.early,
+        replace: busy.uses,
+    };
+    let held = held_edges(
+        alloc,
+        &EveryPath,
+        &unit.split,
+        edges,
+        &unit.table,
+        &placement,
+    )?;
+    let busy = Busy {
+        uses: placement.replace,
+        up: busy.up,
+        down: busy.down,
+        early: placement.insert,
+    };
+    Ok(BusyRanges { busy, held })
+}
+
+/// Where the expressions of a unit are killed, and on which edges their temporaries live under the lazy placement. The
+/// edges are those of the split graph.
 fn bound_rows(alloc: Global, unit: &UnitTrail, edges: &Edges) -> Result<BoundRows, Memory>
     requires motion { IsUnitMotion unit.now }
     requires split { IsSplit unit.now.split.nodes }
@@ -94,12 +150,12 @@ fn bound_rows(alloc: Global, unit: &UnitTrail, edges: &Edges) -> Result<BoundRow
     ensures { IfOk result (AreBoundRows unit.now) }
 {
     let kills = kill_rows(alloc, &unit.split, &unit.table)?;
-    let held = held_edges(alloc, unit, edges)?;
+    let held = lazy_held(alloc, unit, edges)?;
     Ok(BoundRows { kills, held })
 }
 
-/// On which edges the temporaries of a unit live. The edges are those of the split graph.
-fn held_edges(alloc: Global, unit: &UnitTrail, edges: &Edges) -> Result<Held, Memory>
+/// On which edges the temporaries of a unit live under its lazy placement. The edges are those of the split graph.
+fn lazy_held(alloc: Global, unit: &UnitTrail, edges: &Edges) -> Result<Held, Memory>
     requires motion { IsUnitMotion unit.now }
     requires split { IsSplit unit.now.split.nodes }
     requires edges { edges.now ≡ edges_of unit.now.split.nodes }
@@ -244,7 +300,7 @@ fn put_rows(
 {
     put_safe(text, rows, number)?;
     put_late(text, &rows.places.late, number)?;
-    put_busy(text, &rows.places.busy, number)?;
+    put_busy(text, rows, number)?;
     put_lazy(text, unit, rows, number)
 }
 
@@ -273,13 +329,16 @@ fn put_late(text: &mut Vec<u8>, late: &Late, number: usize) -> Result<(), Memory
     put_bits(text, &late.isolated, number, b"isolated")
 }
 
-/// Appends the busy placement of it.
-fn put_busy(text: &mut Vec<u8>, busy: &Busy, number: usize) -> Result<(), Memory>
-    requires { HaveBusyBit busy.now number }
-    ensures { AppendsOnOk result text.old text.new (busy_lines busy.now number) }
+/// Appends the busy placement of it, and on which edges its temporary lives.
+fn put_busy(text: &mut Vec<u8>, rows: &MotionRows, number: usize) -> Result<(), Memory>
+    requires busy { HaveBusyBit rows.now.places.busy number }
+    requires held { HaveBit rows.now.places.busy_held.edges number }
+    ensures { AppendsOnOk result text.old text.new (busy_lines rows.now.places number) }
 {
+    let busy = &rows.places.busy;
     put_bits(text, &busy.early, number, b"busy inserted")?;
-    put_bits(text, &busy.uses, number, b"busy replaced")
+    put_bits(text, &busy.uses, number, b"busy replaced")?;
+    put_edge_bits(text, &rows.places.busy_held.edges, number, b"busy held")
 }
 
 /// Appends the lazy placement of it, and on which edges its temporary lives.

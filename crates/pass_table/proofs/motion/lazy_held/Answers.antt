@@ -1,4 +1,4 @@
-use Rattle.pass_table.proofs.motion.held_edges.Goals as goal
+use Rattle.pass_table.proofs.motion.lazy_held.Goals as goal
 
 -- the placement is the lazy one, with a bit for each expression
 pub ranges-requires-clause-insert : goal.ranges-requires-clause-insert
