@@ -30,8 +30,8 @@ TOP = Path(__file__).resolve().parent.parent
 MIR, PROGRAM = str(TOP / 'mir'), TOP / 'crates' / 'mir_main' / 'out' / 'mir_main'
 
 # The program that writes the tables, which takes no words: what is called where the word of a case is `tables`. Its
-# functions that append bytes to the text, of which the instructions are not counted; the functions of Vec that they
-# call to append are not counted either where the other crates of tables call them.
+# functions that append bytes to the text, of which the instructions are not counted where the crates of tables call
+# them, and neither are the functions of Vec that they call to append.
 TABLES = TOP / 'crates' / 'mir_tables' / 'out' / 'mir_tables'
 WRITERS = re.compile(r'(?:table_text|mir_print|itoa)::')
 APPENDERS = re.compile(r'std_alloc::vec::Vec::(?:extend_from_slice|push|resize)\b')
@@ -583,8 +583,8 @@ def of_writers(counts: Path) -> int:
     """How many instructions it takes to append the bytes of tables to the text."""
     calls = list(calls_in(counts))
     appenders = {callee for caller, callee, _ in calls if WRITERS.match(caller) and APPENDERS.match(callee)}
-    return sum(spent for caller, callee, spent in calls if not WRITERS.match(caller)
-               and (WRITERS.match(callee) or callee in appenders and TABLE_CRATES.match(caller)))
+    return sum(spent for caller, callee, spent in calls
+               if TABLE_CRATES.match(caller) and (WRITERS.match(callee) or callee in appenders))
 
 
 def instructions(program: str, case: Case, folder: Path) -> int:

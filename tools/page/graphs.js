@@ -32,14 +32,14 @@ const HUES = { used: 212, killed: 2, available: 140, anticipatable: 178, earlies
 
 // the same as equations, where they are; `in` and `out` are all predecessors and all successors
 const RULE = {
-  motion: { available: 'every pred: not killed, and used or available',
+  motion: { available: 'not Start, and every pred: not killed, and used or available',
     anticipatable: 'used; or not killed, no Return, and every succ: anticipatable',
     earliest: 'anticipatable, and some pred: killed, or neither available nor anticipatable',
-    delayed: 'earliest; or every pred: delayed and not used',
+    delayed: 'earliest; or, not Start, every pred: delayed and not used',
       latest: 'delayed, and used or some succ: not delayed', isolated: 'every succ: latest, or isolated and not used',
       inserted: 'latest and not isolated', replaced: 'used, and not both latest and isolated',
     held: 'an edge to a node that is not inserted, and is replaced with a Return behind it, or has an edge that is held' },
-  sink: { delayed: 'every pred: occurs, or delayed and not blocked',
+  sink: { delayed: 'not Start, and every pred: occurs, or delayed and not blocked',
     inserted: 'delayed, and blocked or some succ: not delayed' },
   prune: { 'live before': 'read, or not assigned and live after', 'live after': 'some succ: live before',
     dead: 'assigned, not live after, and the right side does not divide' },
