@@ -64,13 +64,13 @@ class Meter:
         return None if isinstance(times, str) else times
 
     @functools.lru_cache(maxsize=None)
-    def millions(self, name: str, size: int) -> float:
+    def millions(self, name: str, size: int, without_bytes: bool = False) -> float:
         """How many millions of instructions a case takes; of a name that ends in `, move`, those of the
         command beside it."""
         print(f'bench/fill.py: {name} {size:,}', file=sys.stderr, flush=True)
         plain = name.removesuffix(', move')
         cases = self.cases(name) if plain == name else {case.size: case for case in self.workloads[plain].beside()}
-        return run.instructions(self.command[0], cases[size], self.folder) / 1e6
+        return run.instructions(self.command[0], cases[size], self.folder, without_bytes) / 1e6
 
     def against_half(self, name: str, size: int) -> str:
         """How many times as many a case takes as at half its size, where that is a case too."""
@@ -96,6 +96,8 @@ class Meter:
             return self.against_half(name, size)
         if head == 'x' and before == 'stages':
             return f'{self.millions(name, size) / self.millions(f"{name}, move", size):.2f}'
+        if head == 'x without bytes':
+            return f'{self.millions(name, size, True) / self.millions(f"{name}, move", size, True):.2f}'
         return f'{self.millions(f"{name}, move", size):,.1f}' if head in ('move', 'stages') else old
 
     def cell(self, head: str, name: str, size: int, old: str) -> str:

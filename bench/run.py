@@ -29,6 +29,11 @@ from texts import (LOOP, LOOP_OF_CALLS, LOOP_OF_CALLS_GLOBAL, LOOP_OF_GLOBALS, d
 TOP = Path(__file__).resolve().parent.parent
 MIR, PROGRAM = str(TOP / 'mir'), TOP / 'crates' / 'mir_main' / 'out' / 'mir_main'
 
+# With this in the environment the C library does not copy or fill many bytes by one instruction, of which callgrind
+# counts each byte.
+BYTE_BY_BYTE = ('GLIBC_TUNABLES=glibc.cpu.x86_rep_movsb_threshold=1000000000'
+                ':glibc.cpu.x86_rep_stosb_threshold=1000000000')
+
 # The program that writes the tables, which takes no words: what is called where the word of a case is `tables`. Its
 # functions that append bytes to the text, of which the instructions are not counted where the crates of tables call
 # them, and neither are the functions of Vec that they call to append.
@@ -361,12 +366,12 @@ def tabled_by(word: str, sizes: tuple[int, ...], texts: Callable[[int], str]) ->
 
 
 # What tables are measured on. Their passes are asked once more for what they find out, so twice what `stages` takes is
-# aimed at beside the bytes that are written. Instructions are counted for the lesser two sizes.
+# aimed at beside the bytes that are written.
 TABLED = [
     Workload(f'{name}-tables', f'the tables of {about}', unit,
              lambda sizes=sizes, texts=texts: tabled_by('tables', sizes, texts),
-             lambda sizes=sizes, texts=texts: tabled_by('tables', sizes[:2], texts),
-             lambda sizes=sizes, texts=texts: tabled_by('stages', sizes[:2], texts), 2)
+             lambda sizes=sizes, texts=texts: tabled_by('tables', sizes, texts),
+             lambda sizes=sizes, texts=texts: tabled_by('stages', sizes, texts), 2)
     for name, about, unit, sizes, texts in (
         ('diamonds', 'a chain of diamonds', 'diamonds', (250, 500, 1000), lambda count: diamonds('main', count)[0]),
         ('nested', 'nested loops full of sums', 'insts', INSTRUCTIONS, lambda insts: nested_loops('main', insts, 32)[0]),
@@ -587,11 +592,13 @@ def of_writers(counts: Path) -> int:
                if TABLE_CRATES.match(caller) and (WRITERS.match(callee) or callee in appenders))
 
 
-def instructions(program: str, case: Case, folder: Path) -> int:
+def instructions(program: str, case: Case, folder: Path, without_bytes: bool = False) -> int:
     """How many instructions of the processor the program takes for the case, by callgrind; of tables all but those of the
-    functions that write them."""
+    functions that write them. Bytes that one instruction copies or fills are counted, or left out."""
     counts = folder / 'counts'
     valgrind = ['valgrind', '--quiet', '--tool=callgrind', f'--callgrind-out-file={counts}', program]
+    if without_bytes:
+        valgrind = ['env', BYTE_BY_BYTE, *valgrind]
     call(valgrind, case, folder)
     for line in counts.read_text().splitlines():
         if line.startswith('totals:'):
