@@ -336,3 +336,24 @@ set_holds n b v xs fx early =
       | inr d ↦ rw (get_or-set_other (bits_of n xs) b k v false d, get_or_bits_of n xs k h) (bit_other xs b v within k d)
     ])
     (λ k late high. bit_other xs b v within k (λ e. let e' : k ≡ b = e in absurd (omega arith)) ∙ fx.unused k late (rw len at high))
+
+-- ---- a word of a row
+
+-- the bit of words at a number of a word and one below 64
+bit_of_word : (words : List ℕ) (k i : ℕ) → i < 64 → bit_of words (64 * k + i) ≡ eqb (bit_at (get_or words k 0) i) 1
+unfolding bit_of
+bit_of_word words k i h =
+    let word : (64 * k + i) / 64 ≡ k = omega arith in
+    let place : (64 * k + i) % 64 ≡ i = omega arith in
+    rw (word, place) refl
+
+-- a bit of the word at a number is the bit of the row there, which is not set past the last
+pub word_of_bits : (n : ℕ) (words : List ℕ) (k : ℕ) → FitsWords n words → 64 * k < n
+    → (i : ℕ) → i < 64 → get_or (bits_of n words) (64 * k + i) false ≡ eqb (bit_at (get_or words k 0) i) 1
+word_of_bits n words k fits low i h =
+    let here : bit_of words (64 * k + i) ≡ eqb (bit_at (get_or words k 0) i) 1 = bit_of_word words k i h in
+    let len : length words ≡ (n + 63) / 64 = fits.len in
+    elim (cases_lt (64 * k + i) n) as (λ _. get_or (bits_of n words) (64 * k + i) false ≡ eqb (bit_at (get_or words k 0) i) 1) [
+      | inl inside ↦ get_or_bits_of n words (64 * k + i) inside ∙ here
+      | inr past ↦ get_or_past (bits_of n words) (64 * k + i) false (let long : length (bits_of n words) ≤ 64 * k + i = rw length_bits_of past in long) ∙ sym (sym here ∙ fits.unused (64 * k + i) past (omega arith))
+    ]

@@ -1,8 +1,9 @@
 // A row that is kept elsewhere.
-ghost use Rattle.std.specs.Prelude.{◌≡◌, ◌<◌, ◌↔◌, IsTrue, false, IfNone, IfSome, length, slice_index_or};
+ghost use Rattle.std.specs.Prelude.{◌≡◌, ℕ, ◌+◌, ◌*◌, ◌<◌, ◌↔◌, IsTrue, false, IfNone, IfSome, length, nat_eq, slice_index_or};
+ghost use Rattle.std.specs.Int.{bit_at};
 ghost use Rattle.bit_rows.specs.Bits.{IsTrueFrom, NoneTrue, row_bit};
 
-use crate::words::{next_set, word_bit};
+use crate::words::{next_set, word_at, word_bit};
 use std::marker::Model;
 
 /// A row of truth values that stands among others, or alone. Contracts see it as the list of these.
@@ -51,6 +52,16 @@ impl<'a> RowView<'a> {
         } else {
             None
         }
+    }
+
+    /// The 64 bits from number 64 * `number` on, as a word of which the lowest bit is the first of them. Bits past the
+    /// last of the row are not set in it. It does not allocate.
+    pub fn word(&self, number: usize) -> u64
+        requires { 64 * number < length self.now }
+        ensures { (i : ℕ) → i < 64 →
+            row_bit self.now (64 * number + i) ≡ nat_eq (bit_at result i) 1 }
+    {
+        word_at(self.words, number)
     }
 
     /// Whether it has the same bits as the other. It does not allocate.

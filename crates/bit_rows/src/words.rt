@@ -1,5 +1,5 @@
 // The passes over words. Each clause says what becomes of one word, or of one bit.
-ghost use Rattle.std.specs.Prelude.{◌≡◌, ℕ, ◌+◌, ◌*◌, ◌^◌, ◌<◌, ◌≤◌, ◌↔◌, ◌++◌, false, IfNone, IfOk, IfSome, OnErr, OnOk, length, replicate, bit_and, bit_or};
+ghost use Rattle.std.specs.Prelude.{◌≡◌, ℕ, ◌+◌, ◌*◌, ◌^◌, ◌<◌, ◌≤◌, ◌↔◌, ◌++◌, false, IfNone, IfOk, IfSome, OnErr, OnOk, length, replicate, slice_index_or, bit_and, bit_or};
 ghost use Rattle.std.specs.Int.{bit_at};
 ghost use Rattle.bit_rows.specs.Bits.{IsTrueFrom, NoneTrue};
 ghost use Rattle.bit_rows.specs.Joinings.{word_join};
@@ -224,6 +224,14 @@ pub fn flip_words(bits: usize, words: &mut [u64])
     if whole < words.len() {
         words[whole] = !words[whole] & used(bits, whole);
     }
+}
+
+/// The word of a number.
+pub fn word_at(words: &[u64], number: usize) -> u64
+    requires { number < length words.now }
+    ensures { result ≡ slice_index_or words.now number 0 }
+{
+    words[number]
 }
 
 /// One bit of the words.

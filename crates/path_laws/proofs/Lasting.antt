@@ -12,7 +12,7 @@ use Rattle.flow_graph.specs.Graphs.{AllWithin}
 use Rattle.flow_graph.specs.Paths.{HasEdge}
 use Rattle.path_laws.specs.Leads.{TellLasts}
 use Rattle.path_laws.specs.LeadsLaws.{flow_step, step_edge}
-use Rattle.path_laws.specs.Paths.{AreRows, IsLast, has_bit}
+use Rattle.path_laws.specs.Paths.{AreRows, IsLastNode, has_bit}
 use Rattle.path_laws.specs.RowLaws.{Written, put, written_shape}
 use Rattle.path_laws.specs.Says.{both_say, either_says, not_says}
 use Rattle.path_laws.proofs.Pushing.{pushed_before, pushed_last, pushed_shape}
@@ -21,8 +21,8 @@ use Rattle.path_laws.proofs.Pushing.{pushed_before, pushed_last, pushed_shape}
 -- the others are whole
 pub record TellLastsTo (nodes : List Node) (bits : ℕ) (rows stop : List (List Bool)) (node number : ℕ) (all : List (List Bool)) : Type 0 where
   pub shape : AreRows (node + 1) bits all
-  pub whole : (n b : ℕ) → n < node → (has_bit all b n ≡ true) ↔ IsLast nodes rows stop b n
-  pub sound : (b : ℕ) → has_bit all b node ≡ true → IsLast nodes rows stop b node
+  pub whole : (n b : ℕ) → n < node → (has_bit all b n ≡ true) ↔ IsLastNode nodes rows stop b n
+  pub sound : (b : ℕ) → has_bit all b node ≡ true → IsLastNode nodes rows stop b node
   pub stopped : (b : ℕ) → has_bit rows b node ≡ true → has_bit stop b node ≡ true → has_bit all b node ≡ true
   pub ended : (e b : ℕ) → first_out false nodes node ≤ e → e < number → has_bit rows b node ≡ true → has_bit rows b (edge_at (flow_edges false nodes) e).target ≡ false → has_bit all b node ≡ true
 
@@ -50,7 +50,7 @@ module _ (nodes : List Node) (within : AllWithin nodes) (bits : ℕ) (rows stop 
       let both = λ (b : ℕ). both_say (has_bit stop b node) (has_bit rows b node) in
       record {
         shape = written_shape (node + 1) bits node pushed after row shape made (length_and (row_of pushed node) (row_of rows node) alike ∙ here);
-        whole = λ n b h. subst (λ (r : List Bool). (get_or r b false ≡ true) ↔ IsLast nodes rows stop b n) (sym (made.others n (λ e. absurd (omega (arith, e, h))) ∙ pushed_before node bits all pushed (row_of stop node) are.shape is n h)) (are.are n b h);
+        whole = λ n b h. subst (λ (r : List Bool). (get_or r b false ≡ true) ↔ IsLastNode nodes rows stop b n) (sym (made.others n (λ e. absurd (omega (arith, e, h))) ∙ pushed_before node bits all pushed (row_of stop node) are.shape is n h)) (are.are n b h);
         sound = λ b on. let parts = (both b).0 (sym (bit b) ∙ on) in (parts.1, inl parts.0);
         stopped = λ b has stops. bit b ∙ (both b).1 (stops, has);
         ended = λ e b low high has off. absurd (omega (arith, low, high));
@@ -75,8 +75,8 @@ module _ (nodes : List Node) (within : AllWithin nodes) (bits : ℕ) (rows stop 
       let target : edge_at (flow_edges false nodes) number ≡ record { source = source; target = m } = get_or_from_slice_get (flow_edges false nodes) number _ _ at in
       record {
         shape = written_shape (node + 1) bits node all after row are.shape made (length_or (row_of all node) gone alike ∙ here);
-        whole = λ n b h. subst (λ (r : List Bool). (get_or r b false ≡ true) ↔ IsLast nodes rows stop b n) (sym (made.others n (λ e. absurd (omega (arith, e, h))))) (are.whole n b h);
-        sound = λ b on. elim ((either b).0 (sym (bit b) ∙ on)) as (λ _. IsLast nodes rows stop b node) [
+        whole = λ n b h. subst (λ (r : List Bool). (get_or r b false ≡ true) ↔ IsLastNode nodes rows stop b n) (sym (made.others n (λ e. absurd (omega (arith, e, h))))) (are.whole n b h);
+        sound = λ b on. elim ((either b).0 (sym (bit b) ∙ on)) as (λ _. IsLastNode nodes rows stop b node) [
           | inl was ↦ are.sound b was
           | inr now ↦ (
               let parts = (both b).0 now in
@@ -102,7 +102,7 @@ module _ (nodes : List Node) (within : AllWithin nodes) (bits : ℕ) (rows stop 
   pub ended_all : (number : ℕ) (all : List (List Bool)) → TellLastsTo nodes bits rows stop node number all → first_out false nodes (suc node) ≤ number → TellLasts nodes bits rows stop (node + 1) all
   ended_all number all are late = record {
     shape = are.shape;
-    are = λ n b h. elim (cases_eq n node) as (λ _. (has_bit all b n ≡ true) ↔ IsLast nodes rows stop b n) [
+    are = λ n b h. elim (cases_eq n node) as (λ _. (has_bit all b n ≡ true) ↔ IsLastNode nodes rows stop b n) [
       | inl e ↦ rw e (
         are.sound b,
         λ last. elim last.1 as (λ _. has_bit all b node ≡ true) [

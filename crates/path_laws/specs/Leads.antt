@@ -2,7 +2,7 @@
 use Rattle.std.specs.Prelude.{◌≡◌, ℕ, ◌<◌, ◌↔◌, Bool, true, false, List}
 use Rattle.flow_graph.specs.declared.nodes.Node.{Node}
 use Rattle.flow_graph.specs.Paths.{HasEdge}
-use Rattle.path_laws.specs.Paths.{AreRows, IsLast, has_bit}
+use Rattle.path_laws.specs.Paths.{AreRows, IsLastNode, has_bit}
 
 -- from node n a way along these steps comes to a seed, and none of its nodes before that one bars
 pub data Leads (steps : ℕ → ℕ → Type 0) (seed bar : ℕ → Bool) : ℕ → Type 0 where
@@ -26,4 +26,4 @@ pub record TellSteps (against : Bool) (nodes : List Node) (bits : ℕ) (rows : L
 -- so many rows, each of so many bits, tell which nodes are the last ones with each bit
 pub record TellLasts (nodes : List Node) (bits : ℕ) (rows stop : List (List Bool)) (count : ℕ) (all : List (List Bool)) : Type 0 where
   pub shape : AreRows count bits all
-  pub are : (n b : ℕ) → n < count → (has_bit all b n ≡ true) ↔ IsLast nodes rows stop b n
+  pub are : (n b : ℕ) → n < count → (has_bit all b n ≡ true) ↔ IsLastNode nodes rows stop b n

@@ -101,6 +101,6 @@ SomePred nodes rows bit n = (m : ℕ) × HasEdge nodes m n × (has_bit rows bit 
 
 -- node n is a last one with the bit: the rows have it there, and `stop` has it too or the rows have it not at some
 -- successor of n
-abbrev pub IsLast : List Node → List (List Bool) → List (List Bool) → ℕ → ℕ → Type 0
-IsLast nodes rows stop bit n = (has_bit rows bit n ≡ true)
+abbrev pub IsLastNode : List Node → List (List Bool) → List (List Bool) → ℕ → ℕ → Type 0
+IsLastNode nodes rows stop bit n = (has_bit rows bit n ≡ true)
     × ((has_bit stop bit n ≡ true) ⊎ ((s : ℕ) × HasEdge nodes n s × (has_bit rows bit s ≡ false)))

@@ -3,7 +3,7 @@ ghost use Rattle.std.specs.Prelude.{◌≡◌, ◌+◌, ◌<◌, length, IfOk, O
 ghost use Rattle.flow_graph.specs.Edges.{edges_of};
 ghost use Rattle.flow_graph.specs.Graphs.{IsGraph};
 ghost use Rattle.path_laws.specs.Leads.{SomeStep, TellLasts, TellSteps};
-ghost use Rattle.path_laws.specs.Paths.{HaveShape, IsLast, SomePred, SomeSucc, TellEach, width};
+ghost use Rattle.path_laws.specs.Paths.{HaveShape, IsLastNode, SomePred, SomeSucc, TellEach, width};
 
 use crate::graph_edges::{flow_edge, leaving};
 use bit_rows::Rows;
@@ -62,7 +62,7 @@ pub fn last_nodes(
     requires stop { HaveShape graph.now (width rows.now) stop.now }
     ensures graph { OnOk result (IsGraph graph.now.vars graph.now.received graph.now.nodes) }
     ensures shape { IfOk result (HaveShape graph.now (width rows.now)) }
-    ensures last { IfOk result (TellEach graph.now (IsLast graph.now.nodes rows.now stop.now)) }
+    ensures last { IfOk result (TellEach graph.now (IsLastNode graph.now.nodes rows.now stop.now)) }
 {
     let all = lasts(alloc, graph, edges, rows.bits(), rows, stop)?;
     Ok(all)
@@ -82,7 +82,7 @@ fn lasts(
     requires stop { HaveShape graph.now bits stop.now }
     ensures graph { OnOk result (IsGraph graph.now.vars graph.now.received graph.now.nodes) }
     ensures shape { IfOk result (HaveShape graph.now bits) }
-    ensures last { IfOk result (TellEach graph.now (IsLast graph.now.nodes rows.now stop.now)) }
+    ensures last { IfOk result (TellEach graph.now (IsLastNode graph.now.nodes rows.now stop.now)) }
 {
     let count = graph.nodes().len();
     let mut all = Rows::with_room(alloc, count, bits)?;
