@@ -5,7 +5,7 @@ use Rattle.flow_graph.specs.declared.edges.Edge.{Edge}
 use Rattle.flow_graph.specs.declared.nodes.Node.{Node}
 use Rattle.flow_graph.specs.Graphs.{GraphShape}
 use Rattle.flow_graph.specs.Paths.{Ends, IsPath, is_return}
-use Rattle.bit_rows.specs.Bits.{row_of}
+use Rattle.bit_rows.specs.Bits.{AreAlike, row_of}
 use Rattle.path_laws.specs.Paths.{AreRows, Tell, has_bit}
 use Rattle.motion_rewrite.specs.declared.placement.Placement.{Placement}
 use Rattle.motion_rewrite.specs.Placements.{Places, places_of}
@@ -35,6 +35,11 @@ pub record AreReturnRows (nodes : List Node) (rows : List (List Bool)) : Type 0 
 pub record AreReachingRows (graph : GraphShape) (rows : List (List Bool)) : Type 0 where
   pub shape : AreRows (length graph.nodes) 1 rows
   pub bits : (n : ℕ) → n < length graph.nodes → (has_bit rows 0 n ≡ true) ↔ ReachesReturn graph.nodes n
+
+-- as many rows, and as long, each with only bits that the other row of its number has
+pub record HaveOnlyBitsOf (other rows : List (List Bool)) : Type 0 where
+  pub alike : AreAlike other rows
+  pub bits : (n b : ℕ) → has_bit rows b n ≡ true → has_bit other b n ≡ true
 
 -- of the rows of the nodes below a number those stay whose one bit is set in these, and the others lose all bits; the
 -- rows from the number on are as they were

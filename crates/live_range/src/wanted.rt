@@ -1,15 +1,16 @@
 // From which nodes a replaced use is come to with no insertion on the way.
 ghost use Rattle.std.specs.Prelude.{◌≡◌, length, IfOk, Some};
+ghost use Rattle.flow_graph.specs.Blocks.{AreBlocksOf};
 ghost use Rattle.flow_graph.specs.Edges.{edges_of};
 ghost use Rattle.flow_graph.specs.Paths.{is_return};
 ghost use Rattle.path_laws.specs.Paths.{AreRows, HaveShape};
-ghost use Rattle.live_range.specs.Wanted.{AreMaskedBelow, AreReachingRows, AreReturnRows, AreWantedRows};
+ghost use Rattle.live_range.specs.Wanted.{AreMaskedBelow, AreReachingRows, AreReturnRows, AreWantedRows, HaveOnlyBitsOf};
 
 use bit_rows::Rows;
-use flow_graph::{Edges, Graph, Node};
+use flow_graph::{Blocks, Edges, Graph, Node};
 use mir_base::Memory;
 use motion_rewrite::Placement;
-use path_laws::backward_some;
+use path_laws::backward_some_over;
 use std::alloc::Global;
 
 /// From which nodes a path comes to a replaced use, from which a Return is reached, with no insertion on it, the ends
@@ -27,22 +28,28 @@ pub(crate) fn wanted_rows(
     ensures shape { IfOk result (HaveShape graph.now bits) }
     ensures wanted { IfOk result (AreWantedRows graph.now bits placement.now) }
 {
-    let reaching = reaching_rows(alloc, graph, edges)?;
-    let mut born = placement.replace.copied(alloc)?;
+    let blocks = Blocks::of(alloc, graph, edges)?;
+    let reaching = reaching_rows(alloc, graph, edges, &blocks)?;
+    let mut born = placement.replace.without(alloc, &placement.insert)?;
     mask_rows(&mut born, &placement.replace, &reaching);
-    born.minus_rows(&placement.insert);
-    let rows = backward_some(alloc, graph, edges, &born, &placement.insert)?;
+    let rows = backward_some_over(alloc, graph, edges, &blocks, &born, &placement.insert)?;
     Ok(rows)
 }
 
 /// From which nodes a Return is reached.
-fn reaching_rows(alloc: Global, graph: &Graph, edges: &Edges) -> Result<Rows, Memory>
-    requires { edges.now ≡ edges_of graph.now.nodes }
+fn reaching_rows(
+    alloc: Global,
+    graph: &Graph,
+    edges: &Edges,
+    blocks: &Blocks,
+) -> Result<Rows, Memory>
+    requires edges { edges.now ≡ edges_of graph.now.nodes }
+    requires blocks { AreBlocksOf graph.now.nodes blocks.now }
     ensures { IfOk result (AreReachingRows graph.now) }
 {
     let returns = return_rows(alloc, graph.nodes())?;
     let nowhere = Rows::new(alloc, graph.len(), 1)?;
-    let rows = backward_some(alloc, graph, edges, &returns, &nowhere)?;
+    let rows = backward_some_over(alloc, graph, edges, blocks, &returns, &nowhere)?;
     Ok(rows)
 }
 
@@ -67,9 +74,10 @@ fn is_return(node: &Node) -> bool
     }
 }
 
-/// Each row, which is that of the second rows, stays where its bit is set in the third, and else loses all bits.
+/// Each row, which has only bits of that of the second rows, stays where its bit is set in the third, and else loses
+/// all bits.
 fn mask_rows(rows: &mut Rows, same: &Rows, mask: &Rows)
-    requires same { rows.old ≡ same.now }
+    requires same { HaveOnlyBitsOf same.now rows.old }
     requires mask { AreRows (length rows.old) 1 mask.now }
     ensures { AreMaskedBelow (length rows.old) mask.now rows.old rows.new }
 {

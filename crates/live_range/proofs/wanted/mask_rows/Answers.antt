@@ -1,5 +1,4 @@
-use Rattle.std.proofs.Common.{◌+◌, sym, ap, ◌∙◌, subst, set, arith}
-use Rattle.bit_rows.specs.Bits.{minus_bits, row_of}
+use Rattle.std.proofs.Common.{◌+◌, sym, ◌∙◌, subst, arith}
 use Rattle.live_range.specs.Wanted.{AreMaskedBelow}
 use Rattle.live_range.proofs.Masked.{stayed_row, lost_row}
 use Rattle.live_range.proofs.wanted.mask_rows.Goals as goal
@@ -13,7 +12,6 @@ loop-n-preserved c =
     let rows = c.loop-n.rows in
     elim c.if-not-get.branch [
       | then-not-get w ↦
-          let is = w.rows-is ∙ w.minus_into.ensures ∙ ap (λ r. set rows n (minus_bits (row_of rows n) (row_of r n))) (sym c.requires.same) in
-          lost_row n mask old rows c.if-not-get.rows (sym c.get.ensures ∙ w.if-not-get.true) (omega (arith, c.loop-n-test.true, c.len-n-end.ensures)) is c.loop-n.invariant
+          lost_row n c.args.same.now mask old rows c.if-not-get.rows c.requires.same (sym c.get.ensures ∙ w.if-not-get.true) (omega (arith, c.loop-n-test.true, c.len-n-end.ensures)) (w.rows-is ∙ w.minus_into.ensures) c.loop-n.invariant
       | else-not-get w ↦ subst (AreMaskedBelow (n + 1) mask old) (sym w.rows-is) (stayed_row n mask old rows (sym c.get.ensures ∙ w.if-not-get.false) c.loop-n.invariant)
     ]
