@@ -25,6 +25,8 @@ pub mod HeldUp
 pub mod Noted
 pub mod Passing
 pub mod Carried
+pub mod Ending
+pub mod Carrying
 pub mod Seam
 pub mod Sinks
 pub mod Sources

@@ -22,7 +22,6 @@ pub mod GraphFlows
 pub mod RoundsKept
 pub mod RoundsMade
 pub mod RoundLaws
-pub mod PatternGraphs
 pub mod FoundPatterns
 pub mod SamePatterns
 pub mod Places
@@ -30,6 +29,8 @@ pub mod Inside
 pub mod BlockRows
 pub mod FoundPuts
 pub mod Over
+pub mod Along
+pub mod Ends
 pub mod Coming
 pub mod Heads
 pub mod Moved

@@ -40,7 +40,7 @@ pub(crate) fn coming_rows(
 
 /// Which patterns come into each block, by rows of those that are blocked in it. What is blocked in a block and does not
 /// leave it is lost there.
-fn into_rows(
+pub(crate) fn into_rows(
     alloc: Global,
     over: &OverBlocks<'_>,
     blocked: &Rows,

@@ -6,17 +6,18 @@ ghost use Rattle.sink_dead.specs.Accesses.{blocks_at};
 ghost use Rattle.sink_dead.specs.Delaying.{AreApartAt, IsDelayedTo, IsInsertedAt, IsPassedAtSkips};
 ghost use Rattle.sink_dead.specs.FoundPatterns.{AreFoundIn};
 ghost use Rattle.sink_dead.specs.Moving.{AreMoving};
-ghost use Rattle.sink_dead.specs.PatternGraphs.{AreBlockedIn, AreDelayedIn, AreInsertedIn, IsPatternGraph};
 ghost use Rattle.sink_dead.specs.PatternRows.{AreRowsTelling, ArePatternRows};
 ghost use Rattle.sink_dead.specs.PatternTables.{AreSinkableBelow};
 
-use crate::pattern_rows::{blocking_rows, occurrence_rows};
+use crate::along::delayed_rows;
+use crate::ends::inserted_rows;
+use crate::over::OverBlocks;
+use crate::pattern_rows::blocking_rows;
 use crate::patterns::{Pattern, Patterns, moving_patterns};
 use bit_rows::Rows;
-use flow_graph::{Edges, Graph};
+use flow_graph::{Blocks, Edges, Graph};
 use key_table::KeyTable;
 use mir_base::Memory;
-use path_laws::{forward_all, last_nodes};
 use std::alloc::Global;
 
 /// Has no effect; carries the theorem that what is inserted before one node leaves each other alone: the patterns have
@@ -106,7 +107,7 @@ fn found_of_none(alloc: Global, graph: &Graph, table: Patterns) -> Result<Delaye
     })
 }
 
-/// The same of any table, by the paths to each node.
+/// The same of any table, block by block.
 fn found_of_some(
     alloc: Global,
     graph: &Graph,
@@ -117,9 +118,11 @@ fn found_of_some(
     requires sinkable { AreSinkableBelow (length graph.now.vars) table }
     ensures { IfOk result (AreFoundIn graph.now table) }
 {
-    let over = PatternGraph {
+    let blocks = Blocks::of(alloc, graph, edges)?;
+    let over = OverBlocks {
         graph,
         edges,
+        blocks: &blocks,
         table: &table,
     };
     let blocked = blocking_rows(alloc, graph, &table)?;
@@ -131,40 +134,4 @@ fn found_of_some(
         delayed,
         inserted,
     })
-}
-
-/// A graph with its edges, and a table of patterns of it.
-#[derive(Drop)]
-struct PatternGraph<'a> {
-    graph: &'a Graph,
-    edges: &'a Edges,
-    table: &'a Patterns,
-}
-
-/// At which nodes each pattern is delayed: on every path from Start it has occurred, and no node has blocked it since.
-fn delayed_rows(alloc: Global, over: &PatternGraph<'_>, blocked: &Rows) -> Result<Rows, Memory>
-    requires over { IsPatternGraph over.now }
-    requires blocked { AreBlockedIn over.now blocked.now }
-    ensures { IfOk result (AreDelayedIn over.now) }
-{
-    let occurs = occurrence_rows(alloc, over.graph, over.table)?;
-    let _nodes = over.graph.nodes();
-    let rows = forward_all(alloc, over.graph, over.edges, &occurs, blocked)?;
-    Ok(rows)
-}
-
-/// At which nodes each pattern is inserted.
-fn inserted_rows(
-    alloc: Global,
-    over: &PatternGraph<'_>,
-    blocked: &Rows,
-    delayed: &Rows,
-) -> Result<Rows, Memory>
-    requires over { IsPatternGraph over.now }
-    requires blocked { AreBlockedIn over.now blocked.now }
-    requires delayed { AreDelayedIn over.now delayed.now }
-    ensures { IfOk result (AreInsertedIn over.now) }
-{
-    let rows = last_nodes(alloc, over.graph, over.edges, delayed, blocked)?;
-    Ok(rows)
 }

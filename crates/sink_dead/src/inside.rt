@@ -103,7 +103,7 @@ struct InBlock<'a> {
 }
 
 /// Whether paths go on from a node: it is no Return.
-fn goes_on(node: &Node) -> bool
+pub(crate) fn goes_on(node: &Node) -> bool
     ensures { result ≡ not (is_return (Some node.now)) }
 {
     match node {

@@ -9,10 +9,12 @@
 //! so it is from the graph to the last round.
 #![tactic(auto)]
 
+mod along;
 mod answers;
 mod between;
 mod dead;
 mod delaying;
+mod ends;
 mod flow;
 mod heads;
 mod inserting;

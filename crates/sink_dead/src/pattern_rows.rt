@@ -1,4 +1,4 @@
-// Where the patterns of a table occur, and where they are blocked: rows by nodes, with one bit for each pattern.
+// Where the patterns of a table are blocked: rows by nodes, with one bit for each pattern.
 ghost use Rattle.std.specs.Prelude.{◌≡◌, ℕ, ◌<◌, ◌≤◌, ◌∷◌, ◌++◌, [], Some, length, flat_map, IfOk, OnOk};
 ghost use Rattle.mir_base.specs.Frames.{shared_vars};
 ghost use Rattle.mir_base.specs.Shapes.{AllBelow, into_vars, operand_vars, rhs_vars, test_vars};
@@ -6,45 +6,16 @@ ghost use Rattle.bit_rows.specs.Bits.{AreEquallyLong, row_of};
 ghost use Rattle.flow_graph.specs.Graphs.{HaveVarsBelow, node_vars};
 ghost use Rattle.path_laws.specs.KeyRows.{SetsBitAt};
 ghost use Rattle.path_laws.specs.Paths.{AreRows};
-ghost use Rattle.sink_dead.specs.Accesses.{blocks_at, occurs_at};
+ghost use Rattle.sink_dead.specs.Accesses.{blocks_at};
 ghost use Rattle.sink_dead.specs.PatternRows.{AreBitsByVariable, AreBlockedRows, ArePatternRows, FitsRowsOf, JoinsBlocked, JoinsRows, blocked_row, pattern_vars};
-ghost use Rattle.sink_dead.specs.PatternTables.{AreSinkableBelow, pattern_of};
+ghost use Rattle.sink_dead.specs.PatternTables.{AreSinkableBelow};
 
-use crate::patterns::{Pattern, Patterns, is_start, pattern_at};
+use crate::patterns::{Patterns, is_start};
 use bit_rows::Rows;
 use flow_graph::{Graph, Node};
 use mir_base::{Memory, Operand, Rhs, Test};
-use path_laws::{KeyOf, key_rows, mark_operand, mark_var, push_true};
+use path_laws::{mark_operand, mark_var, push_true};
 use std::alloc::Global;
-
-// ---- occurrences
-
-/// Reads off a node the pattern that occurs at it.
-struct Occurring;
-
-impl KeyOf<Pattern> for Occurring {
-    ghost key_of = { λ of node. pattern_of node };
-
-    fn key_of(&self, node: &Node) -> Option<Pattern> {
-        pattern_at(node)
-    }
-}
-
-/// At which nodes each pattern of the table occurs. It fails only with `Memory`.
-pub(crate) fn occurrence_rows(
-    alloc: Global,
-    graph: &Graph,
-    table: &Patterns,
-) -> Result<Rows, Memory>
-    requires { AreSinkableBelow (length graph.now.vars) table.now }
-    ensures { IfOk result (ArePatternRows graph.now table.now (λ x t. occurs_at x t graph.now)) }
-{
-    let nodes = graph.nodes();
-    let rows = key_rows(alloc, nodes, table, &Occurring)?;
-    Ok(rows)
-}
-
-// ---- blocked patterns
 
 /// For each variable the patterns that it has to do with.
 #[derive(Drop)]

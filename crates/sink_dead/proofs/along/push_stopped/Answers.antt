@@ -1,0 +1,43 @@
+use Rattle.std.proofs.Common.{◌<◌, ℕ, List, get_or, length, sym, ◌∙◌, subst, arith}
+use Rattle.std.proofs.lemmas.Option.{slice_get-get_or}
+use Rattle.flow_graph.specs.BlockLaws.{chain_within, edge_within}
+use Rattle.flow_graph.specs.declared.nodes.Node.{Node}
+use Rattle.flow_graph.specs.Graphs.{IsGraph}
+use Rattle.sink_dead.proofs.BlockedIn.{joined_all, joined_none}
+use Rattle.sink_dead.proofs.Carrying.{stopped_more}
+use Rattle.sink_dead.proofs.along.push_stopped.Goals as goal
+use Rattle.sink_dead.proofs.along.push_stopped.Goals.{After-nodes-nodes, In_ok-push_false}
+
+is_graph : (c : After-nodes-nodes) → IsGraph c.args.over.now.graph.now.vars c.args.over.now.graph.now.received c.args.over.now.graph.now.nodes
+is_graph c = subst (λ (l : List Node). IsGraph c.args.over.now.graph.now.vars c.args.over.now.graph.now.received l) c.nodes-nodes.ensures.value c.nodes-nodes.ensures.graph
+
+-- a node of the block is one of the graph
+node_within : (c : In_ok-push_false) (index : ℕ) → index < length c.nodes-list.result.now → get_or c.nodes-list.result.now index 0 < length c.args.over.now.graph.now.nodes
+node_within c index lt =
+    let nodes = c.args.over.now.graph.now.nodes in
+    let list = c.nodes-list.result.now in
+    chain_within nodes list index (get_or list index 0) (λ m k edge. edge_within nodes m k edge) (c.requires.over.blocks.are.blocks c.args.block list c.nodes-list.ensures).chain (slice_get-get_or list index 0 lt)
+
+pub loop-node-init : goal.loop-node-init
+loop-node-init c =
+    let over = c.args.over.now in
+    joined_none over.graph.now (is_graph (goal.at.loop-node-init c).After-nodes-nodes) over.blocks.now.lists over.table.now c.args.block c.nodes-list.result.now c.args.rows.now c.push_false.new.self c.requires.rows (rw c.len.ensures.len at c.in_ok-push_false.ensures.ok)
+
+pub or_into-requires-clause-from : goal.or_into-requires-clause-from
+or_into-requires-clause-from c = rw c.requires.blocked.shape.len (node_within (goal.at.or_into-requires-clause-from c).In_ok-push_false c.loop-node.node-index c.loop-node-test.true)
+
+pub or_into-requires-clause-equally_long : goal.or_into-requires-clause-equally_long
+or_into-requires-clause-equally_long c =
+    c.loop-node.invariant.shape.each c.args.block (omega arith)
+    ∙ sym (c.requires.blocked.shape.each (get_or c.nodes-list.result.now c.loop-node.node-index 0) (node_within (goal.at.or_into-requires-clause-equally_long c).In_ok-push_false c.loop-node.node-index c.loop-node-test.true))
+
+pub loop-node-preserved : goal.loop-node-preserved
+loop-node-preserved c =
+    let list = c.nodes-list.result.now in
+    let index = c.loop-node.node-index in
+    stopped_more c.args.over.now c.args.block list c.args.blocked.now c.requires.blocked index (get_or list index 0) c.loop-node.rows c.or_into.new.self (slice_get-get_or list index 0 c.loop-node-test.true) (node_within (goal.at.loop-node-preserved c).In_ok-push_false index c.loop-node-test.true) c.loop-node.invariant c.or_into.ensures
+
+pub returns : goal.returns
+returns c =
+    let over = c.args.over.now in
+    joined_all over.graph.now (is_graph (goal.at.returns c).After-nodes-nodes) over.blocks.now.lists over.table.now c.args.block c.nodes-list.result.now c.loop-node.node-index c.loop-node.rows c.nodes-list.ensures c.loop-node-test.false c.loop-node.invariant
