@@ -9,11 +9,13 @@
 
 mod fields;
 mod graphs;
+mod lines;
 mod nodes;
 mod operands;
 mod rows;
 
 pub use fields::{put_count, put_field};
 pub use graphs::{put_graph, put_unit};
+pub use lines::Lines;
 pub use operands::{put_assigned, put_name, put_right};
 pub use rows::{put_bits, put_edge_bits};

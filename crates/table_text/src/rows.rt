@@ -1,70 +1,84 @@
 // The lines of rows: one bit of all rows, the first row first. Each function fails only with `Memory`.
-ghost use Rattle.std.specs.Prelude.{◌≡◌, ◌+◌, ◌++◌, codes, length, take};
+ghost use Rattle.std.specs.Prelude.{◌≡◌, ◌+◌, ◌<◌, ◌++◌, codes, length, take};
 ghost use Rattle.mir_base.specs.Appending.{AppendsOnOk};
+ghost use Rattle.table_text.specs.Columns.{column_below, word_bit};
 ghost use Rattle.table_text.specs.Rows.{HaveBit, bit_byte, bits_below, bits_line, edge_bits_line};
 
-use bit_rows::Rows;
+use crate::lines::Lines;
 use mir_base::Memory;
 use std::alloc::AllocError;
 
 /// The bit of this number of all rows, with the title of the line. A row stands for a node.
-pub fn put_bits(text: &mut Vec<u8>, rows: &Rows, bit: usize, title: &[u8]) -> Result<(), Memory>
-    requires { HaveBit rows.now bit }
-    ensures { AppendsOnOk result text.old text.new (bits_line rows.now bit title.now) }
+pub fn put_bits(text: &mut Vec<u8>, lines: &Lines, bit: usize, title: &[u8]) -> Result<(), Memory>
+    requires { HaveBit lines.now bit }
+    ensures { AppendsOnOk result text.old text.new (bits_line lines.now bit title.now) }
 {
     text.extend_from_slice(b"row ")?;
-    put_each(text, rows, bit)?;
+    put_each(text, lines, bit)?;
     put_title(text, title)
 }
 
 /// The same where a row stands for an edge.
 pub fn put_edge_bits(
     text: &mut Vec<u8>,
-    rows: &Rows,
+    lines: &Lines,
     bit: usize,
     title: &[u8],
 ) -> Result<(), Memory>
-    requires { HaveBit rows.now bit }
-    ensures { AppendsOnOk result text.old text.new (edge_bits_line rows.now bit title.now) }
+    requires { HaveBit lines.now bit }
+    ensures { AppendsOnOk result text.old text.new (edge_bits_line lines.now bit title.now) }
 {
     text.extend_from_slice(b"edges ")?;
-    put_each(text, rows, bit)?;
+    put_each(text, lines, bit)?;
     put_title(text, title)
 }
 
 /// The bit of this number of all rows. It is not drawn into those that call it, so that what it takes is counted by
 /// itself.
 #[inline(never)]
-fn put_each(text: &mut Vec<u8>, rows: &Rows, bit: usize) -> Result<(), Memory>
-    requires { HaveBit rows.now bit }
-    ensures { AppendsOnOk result text.old text.new (bits_below rows.now bit (length rows.now)) }
+fn put_each(text: &mut Vec<u8>, lines: &Lines, bit: usize) -> Result<(), Memory>
+    requires { HaveBit lines.now bit }
+    ensures { AppendsOnOk result text.old text.new (bits_below lines.now bit (length lines.now)) }
+{
+    put_column(text, lines.column(bit), bit % 64)
+}
+
+/// The bit of this number of all words of a column.
+#[inline(always)]
+fn put_column(text: &mut Vec<u8>, column: &[u64], bit: usize) -> Result<(), Memory>
+    requires { bit < 64 }
+    ensures { AppendsOnOk result text.old text.new
+        (column_below column.now bit (length column.now)) }
 {
     let start = text.len();
-    let Some(end) = start.checked_add(rows.len()) else {
+    let Some(end) = start.checked_add(column.len()) else {
         return Err(AllocError);
     };
     text.resize(end, b'0')?;
-    write_bits(text.as_mut_slice(), start, rows, bit);
+    write_bits(text.as_mut_slice(), start, column, bit);
     Ok(())
 }
 
-/// Writes the bit of this number of all rows over the bytes from a place on.
+/// Writes the bit of this number of all words of a column over the bytes from a place on.
 #[inline(always)]
-fn write_bits(bytes: &mut [u8], start: usize, rows: &Rows, bit: usize)
-    requires bit { HaveBit rows.now bit }
-    requires room { length bytes.old ≡ start + length rows.now }
-    ensures { bytes.new ≡ take start bytes.old ++ bits_below rows.now bit (length rows.now) }
+fn write_bits(bytes: &mut [u8], start: usize, column: &[u64], bit: usize)
+    requires bit { bit < 64 }
+    requires room { length bytes.old ≡ start + length column.now }
+    ensures { bytes.new
+        ≡ take start bytes.old ++ column_below column.now bit (length column.now) }
 {
-    for row in 0..rows.len() {
-        bytes[start + row] = bit_byte(rows.get(row, bit));
+    for row in 0..column.len() {
+        bytes[start + row] = word_byte(column[row], bit);
     }
 }
 
-/// `1` for a bit that is set, and `0` for one that is not.
-fn bit_byte(bit: bool) -> u8
-    ensures { result ≡ bit_byte bit }
+/// `1` for a bit of a word that is set, and `0` for one that is not.
+#[inline(always)]
+fn word_byte(word: u64, bit: usize) -> u8
+    requires { bit < 64 }
+    ensures { result ≡ bit_byte (word_bit word bit) }
 {
-    if bit { b'1' } else { b'0' }
+    b'0' + ((word >> bit) & 1) as u8
 }
 
 /// The title of a line, and its end.

@@ -1,0 +1,94 @@
+// Rows that are turned into columns of words, so that one bit of all of them is at hand. Each function that makes them
+// fails only with `Memory`.
+ghost use Rattle.std.specs.Prelude.{◌≡◌, ℕ, ◌+◌, ◌*◌, ◌%◌, ◌<◌, ◌≤◌, IfOk, OnOk, length, slice_index, slice_range};
+ghost use Rattle.bit_rows.specs.Bits.{row_bit, row_of};
+ghost use Rattle.table_text.specs.Columns.{AddsColumn, AreColumns, word_bit};
+ghost use Rattle.table_text.specs.Rows.{HaveBit};
+
+use bit_rows::Rows;
+use mir_base::Memory;
+use std::alloc::{AllocError, Global};
+use std::marker::Model;
+
+/// Rows of truth values, all equally long, for writing one bit of all of them after the other. Contracts see them as the
+/// list of the rows that they were made of.
+///
+/// They are kept in words of 64 bits, column after column: word `k` of row `n` stands at `k * rows + n`.
+#[derive(Drop)]
+pub struct Lines {
+    rows: usize,
+    bits: usize,
+    words: Vec<u64>,
+}
+
+impl Model for Lines {
+    ghost use Rattle.std.specs.Prelude.{List, Bool};
+    ghost use Rattle.table_text.specs.Columns.{lines_of, FitsColumns};
+
+    ghost Value = { List (List Bool) };
+
+    ghost view = { λ lines. lines_of lines.rows lines.bits lines.words.items };
+
+    ghost invariant = { λ lines. FitsColumns lines.rows lines.bits lines.words.items };
+}
+
+impl Lines {
+    /// The rows in columns. It fails only with `Memory`.
+    pub fn of(alloc: Global, rows: &Rows) -> Result<Lines, Memory>
+        ensures { IfOk result (λ made. made ≡ rows.now) }
+    {
+        let bits = rows.bits();
+        let words = columns(alloc, rows, bits.div_ceil(64))?;
+        Ok(Lines {
+            rows: rows.len(),
+            bits,
+            words,
+        })
+    }
+
+    /// A word of each row, in which the bit of this number is number `bit` % 64. It does not allocate.
+    pub(crate) fn column(&self, bit: usize) -> &[u64]
+        requires { HaveBit self.now bit }
+        ensures len { length result.now ≡ length self.now }
+        ensures bits { (n : ℕ) → n < length self.now →
+            row_bit (row_of self.now n) bit ≡ word_bit (slice_index result.now n) (bit % 64) }
+    {
+        column_words(&self.words, self.rows, bit / 64)
+    }
+}
+
+/// The words of the column of this number, where each has so many.
+fn column_words(words: &[u64], rows: usize, number: usize) -> &[u64]
+    requires { number * rows + rows ≤ length words.now }
+    ensures { result.now ≡ slice_range words.now (number * rows) (number * rows + rows) }
+{
+    let at = number * rows;
+    &words[at..at + rows]
+}
+
+/// The first so many columns of the rows, one behind the other.
+fn columns(alloc: Global, rows: &Rows, count: usize) -> Result<Vec<u64>, Memory>
+    requires { (n : ℕ) → n < length rows.now → 64 * count < length (row_of rows.now n) + 64 }
+    ensures { IfOk result (λ made. AreColumns rows.now count made.items) }
+{
+    let Some(len) = count.checked_mul(rows.len()) else {
+        return Err(AllocError);
+    };
+    let mut words = Vec::with_capacity(alloc, len)?;
+    for number in 0..count {
+        push_column(&mut words, rows, number)?;
+    }
+    Ok(words)
+}
+
+/// Puts the column of this number at the end.
+fn push_column(words: &mut Vec<u64>, rows: &Rows, number: usize) -> Result<(), Memory>
+    requires { (n : ℕ) → n < length rows.now → 64 * number < length (row_of rows.now n) }
+    ensures { OnOk result (AddsColumn rows.now number (length rows.now)
+        words.old.items words.new.items) }
+{
+    for row in 0..rows.len() {
+        words.push(rows.row(row).word(number))?;
+    }
+    Ok(())
+}
