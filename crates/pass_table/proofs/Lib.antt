@@ -1,5 +1,6 @@
 mod BitLaws
 mod MotionBits
+mod MotionLineLaws
 mod RoundLaws
 mod TrailLaws
 mod TurnLaws

@@ -1,5 +1,6 @@
 pub mod Copies
 pub mod Motion
+pub mod MotionLines
 pub mod Patterns
 pub mod Rounds
 pub mod Sinkings

@@ -7,6 +7,7 @@ use Rattle.sink_dead.specs.Accesses.{blocks_at}
 use Rattle.sink_dead.specs.Delaying.{IsDelayedTo, IsInsertedAt}
 use Rattle.sink_dead.specs.Moving.{AreMoving}
 use Rattle.sink_dead.specs.PatternRows.{ArePatternRows, AreRowsTelling}
+use Rattle.pass_table.specs.declared.patterns.PatternLines.{PatternLines}
 use Rattle.table_text.specs.Lines.{assigned_text, field}
 use Rattle.table_text.specs.Rows.{HaveBit, bits_line}
 
@@ -45,6 +46,10 @@ pub record IsPatternsText (graph : GraphShape) (text : List ℕ) : Type 0 where
   pub text_is : text ≡ patterns_below graph.vars found (length found.table)
 
 -- ---- for the functions that write them
+
+-- what was found, where its rows are those of the lines
+abbrev pub found_of : PatternLines → DelayedPatterns
+found_of lines = record { table = lines.table; blocked = lines.blocked; delayed = lines.delayed; inserted = lines.inserted }
 
 -- each of the rows has a bit of this number
 pub record HavePatternBit (found : DelayedPatterns) (bit : ℕ) : Type 0 where

@@ -6,29 +6,29 @@ ghost use Rattle.table_text.specs.Rows.{HaveBit};
 ghost use Rattle.table_text.specs.Turns.{AppendsSome};
 ghost use Rattle.pass_table.specs.Copies.{IsCopiesText, copies_below, copy_head, copy_lines};
 
-use bit_rows::Rows;
 use copy_flow::{HeldCopies, VarCopy};
 use flow_graph::Graph;
 use key_table::KeyTable;
 use mir_base::{Memory, Name};
 use std::alloc::Global;
-use table_text::{put_bits, put_count, put_name};
+use table_text::{Lines, put_bits, put_count, put_name};
 
 /// Appends the copies of a graph, each with the nodes before which it holds.
 pub(crate) fn put_copies(alloc: Global, text: &mut Vec<u8>, graph: &Graph) -> Result<(), Memory>
     ensures { OnOk result (AppendsSome (IsCopiesText graph.now) text.old text.new) }
 {
     let copies = HeldCopies::of(alloc, graph)?;
-    put_each(text, graph, &copies.table, &copies.held)?;
+    let held = Lines::of(alloc, &copies.held)?;
+    put_each(text, graph, &copies.table, &held)?;
     Ok(())
 }
 
-/// Appends the lines of the copies of this table, which hold where the rows say.
+/// Appends the lines of the copies of this table, which hold where these lines say.
 fn put_each(
     text: &mut Vec<u8>,
     graph: &Graph,
     table: &KeyTable<VarCopy>,
-    held: &Rows,
+    held: &Lines,
 ) -> Result<(), Memory>
     requires { AreHeldRows graph.now table.now held.now }
     ensures { AppendsOnOk result text.old text.new
@@ -44,7 +44,7 @@ fn put_each(
 fn put_copy(
     text: &mut Vec<u8>,
     vars: &[Name],
-    held: &Rows,
+    held: &Lines,
     number: usize,
     copy: &VarCopy,
 ) -> Result<(), Memory>

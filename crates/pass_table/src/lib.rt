@@ -11,6 +11,7 @@
 
 mod copies;
 mod motion;
+mod motion_lines;
 mod patterns;
 mod rounds;
 mod stages;

@@ -10,9 +10,11 @@ ghost use Rattle.down_safe.specs.BusyPlaces.{placement_of};
 ghost use Rattle.live_range.specs.Held.{AreHeldEdges};
 ghost use Rattle.table_text.specs.Rows.{HaveBit};
 ghost use Rattle.table_text.specs.Turns.{AppendsSome};
+ghost use Rattle.pass_table.specs.MotionLines.{TellMotion, busy_of, late_of, placement_of_lines, rows_of_lines};
 ghost use Rattle.pass_table.specs.Motion.{AreBoundRows, AreBusyRanges, AreMotionRows, ArePlaceRows, HaveBusyBit, HaveLateBit, HaveMotionBit, IsMotionText, busy_lines, expression_head, expression_lines, expressions_below, late_lines, lazy_lines, motion_lines, safe_lines, unit_temporary, temporary_text};
 ghost use Rattle.pass_table.specs.Units.{IsUnitMotion};
 
+use crate::motion_lines::{MotionLines, motion_lines_of};
 use bit_rows::{Row, Rows};
 use down_safe::{Busy, EveryPath, busy, busy_admits};
 use edge_split::split_splits;
@@ -69,11 +71,21 @@ pub(crate) fn put_motion(alloc: Global, text: &mut Vec<u8>, unit: &UnitTrail) ->
     requires { IsUnitMotion unit.now }
     ensures { OnOk result (AppendsSome (IsMotionText unit.now) text.old text.new) }
 {
-    let rows = motion_rows(alloc, unit)?;
+    let lines = lines_found(alloc, unit)?;
     let exprs = unit.table.len();
     let inserted = inserted_somewhere(alloc, exprs, &unit.placement.insert)?;
-    put_expressions(text, unit, &rows, &inserted)?;
+    put_expressions(text, unit, &lines, &inserted)?;
     Ok(())
+}
+
+/// The lines of what code motion finds out of a unit, and of its placement.
+fn lines_found(alloc: Global, unit: &UnitTrail) -> Result<MotionLines, Memory>
+    requires { IsUnitMotion unit.now }
+    ensures { IfOk result (TellMotion unit.now) }
+{
+    let rows = motion_rows(alloc, unit)?;
+    let lines = motion_lines_of(alloc, &unit.placement, &rows)?;
+    Ok(lines)
 }
 
 /// What code motion finds out of a unit.
@@ -177,20 +189,20 @@ fn lazy_held(alloc: Global, unit: &UnitTrail, edges: &Edges) -> Result<Held, Mem
 fn put_expressions(
     text: &mut Vec<u8>,
     unit: &UnitTrail,
-    rows: &MotionRows,
+    lines: &MotionLines,
     inserted: &Row,
 ) -> Result<(), Memory>
     requires motion { IsUnitMotion unit.now }
-    requires rows { AreMotionRows unit.now rows.now }
+    requires lines { TellMotion unit.now lines.now }
     requires long { length inserted.now ≡ length unit.now.table }
     requires inserted { IsInsertionRow unit.now.placement.insert inserted.now }
     ensures { AppendsOnOk result text.old text.new
-        (expressions_below unit.now rows.now (length unit.now.table)) }
+        (expressions_below unit.now (rows_of_lines lines.now) (length unit.now.table)) }
 {
     let mut temporary = unit.split.vars().len();
     for number in 0..unit.table.len() {
         let has_temporary = inserted.get(number);
-        temporary = put_expression(text, unit, rows, number, has_temporary, temporary)?;
+        temporary = put_expression(text, unit, lines, number, has_temporary, temporary)?;
     }
     Ok(())
 }
@@ -200,18 +212,18 @@ fn put_expressions(
 fn put_expression(
     text: &mut Vec<u8>,
     unit: &UnitTrail,
-    rows: &MotionRows,
+    lines: &MotionLines,
     number: usize,
     inserted: bool,
     temporary: usize,
 ) -> Result<usize, Memory>
     requires motion { IsUnitMotion unit.now }
-    requires rows { AreMotionRows unit.now rows.now }
+    requires lines { TellMotion unit.now lines.now }
     requires number { number < length unit.now.table }
     requires inserted { inserted ≡ has_insertion unit.now.placement.insert number }
     requires temporary { temporary ≡ unit_temporary unit.now number }
     ensures text { AppendsOnOk result text.old text.new
-        (expression_lines unit.now rows.now number (slice_get unit.now.table number)) }
+        (expression_lines unit.now (rows_of_lines lines.now) number (slice_get unit.now.table number)) }
     ensures next { IfOk result (λ next. next ≡ unit_temporary unit.now (number + 1)) }
 {
     let next = next_temporary(temporary, inserted)?;
@@ -223,7 +235,7 @@ fn put_expression(
         inserted,
         temporary,
     )?;
-    put_rows(text, unit, rows, number)?;
+    put_rows(text, lines, number)?;
     Ok(next)
 }
 
@@ -288,71 +300,61 @@ fn rhs_of(expr: &Expr) -> Rhs
 }
 
 /// Appends the rows of an expression.
-fn put_rows(
-    text: &mut Vec<u8>,
-    unit: &UnitTrail,
-    rows: &MotionRows,
-    number: usize,
-) -> Result<(), Memory>
-    requires { HaveMotionBit unit.now.placement rows.now number }
+fn put_rows(text: &mut Vec<u8>, lines: &MotionLines, number: usize) -> Result<(), Memory>
+    requires { HaveMotionBit (placement_of_lines lines.now) (rows_of_lines lines.now) number }
     ensures { AppendsOnOk result text.old text.new
-        (motion_lines unit.now.placement rows.now number) }
+        (motion_lines (placement_of_lines lines.now) (rows_of_lines lines.now) number) }
 {
-    put_safe(text, rows, number)?;
-    put_late(text, &rows.places.late, number)?;
-    put_busy(text, rows, number)?;
-    put_lazy(text, unit, rows, number)
+    put_safe(text, lines, number)?;
+    put_late(text, lines, number)?;
+    put_busy(text, lines, number)?;
+    put_lazy(text, lines, number)
 }
 
 /// Appends where an expression is used and killed, and where it is safe.
-fn put_safe(text: &mut Vec<u8>, rows: &MotionRows, number: usize) -> Result<(), Memory>
-    requires kills { HaveBit rows.now.bounds.kills number }
-    requires busy { HaveBusyBit rows.now.places.busy number }
-    ensures { AppendsOnOk result text.old text.new (safe_lines rows.now number) }
+fn put_safe(text: &mut Vec<u8>, lines: &MotionLines, number: usize) -> Result<(), Memory>
+    requires kills { HaveBit lines.now.safe.kills number }
+    requires busy { HaveBusyBit (busy_of lines.now) number }
+    ensures { AppendsOnOk result text.old text.new (safe_lines (rows_of_lines lines.now) number) }
 {
-    let busy = &rows.places.busy;
-    put_bits(text, &busy.uses, number, b"used")?;
-    put_bits(text, &rows.bounds.kills, number, b"killed")?;
-    put_bits(text, &busy.up, number, b"available")?;
-    put_bits(text, &busy.down, number, b"anticipatable")?;
-    put_bits(text, &busy.early, number, b"earliest")?;
+    let safe = &lines.safe;
+    put_bits(text, &safe.uses, number, b"used")?;
+    put_bits(text, &safe.kills, number, b"killed")?;
+    put_bits(text, &safe.up, number, b"available")?;
+    put_bits(text, &safe.down, number, b"anticipatable")?;
+    put_bits(text, &safe.early, number, b"earliest")?;
     Ok(())
 }
 
 /// Appends how far its evaluations can be delayed.
-fn put_late(text: &mut Vec<u8>, late: &Late, number: usize) -> Result<(), Memory>
-    requires { HaveLateBit late.now number }
-    ensures { AppendsOnOk result text.old text.new (late_lines late.now number) }
+fn put_late(text: &mut Vec<u8>, lines: &MotionLines, number: usize) -> Result<(), Memory>
+    requires { HaveLateBit (late_of lines.now) number }
+    ensures { AppendsOnOk result text.old text.new (late_lines (late_of lines.now) number) }
 {
-    put_bits(text, &late.delayed, number, b"delayed")?;
-    put_bits(text, &late.latest, number, b"latest")?;
-    put_bits(text, &late.isolated, number, b"isolated")
+    put_bits(text, &lines.late.delayed, number, b"delayed")?;
+    put_bits(text, &lines.late.latest, number, b"latest")?;
+    put_bits(text, &lines.late.isolated, number, b"isolated")
 }
 
 /// Appends the busy placement of it, and on which edges its temporary lives.
-fn put_busy(text: &mut Vec<u8>, rows: &MotionRows, number: usize) -> Result<(), Memory>
-    requires busy { HaveBusyBit rows.now.places.busy number }
-    requires held { HaveBit rows.now.places.busy_held.edges number }
-    ensures { AppendsOnOk result text.old text.new (busy_lines rows.now.places number) }
+fn put_busy(text: &mut Vec<u8>, lines: &MotionLines, number: usize) -> Result<(), Memory>
+    requires busy { HaveBusyBit (busy_of lines.now) number }
+    requires held { HaveBit lines.now.placed.busy_held number }
+    ensures { AppendsOnOk result text.old text.new
+        (busy_lines (rows_of_lines lines.now).places number) }
 {
-    let busy = &rows.places.busy;
-    put_bits(text, &busy.early, number, b"busy inserted")?;
-    put_bits(text, &busy.uses, number, b"busy replaced")?;
-    put_edge_bits(text, &rows.places.busy_held.edges, number, b"busy held")
+    put_bits(text, &lines.safe.early, number, b"busy inserted")?;
+    put_bits(text, &lines.safe.uses, number, b"busy replaced")?;
+    put_edge_bits(text, &lines.placed.busy_held, number, b"busy held")
 }
 
 /// Appends the lazy placement of it, and on which edges its temporary lives.
-fn put_lazy(
-    text: &mut Vec<u8>,
-    unit: &UnitTrail,
-    rows: &MotionRows,
-    number: usize,
-) -> Result<(), Memory>
-    requires { HaveMotionBit unit.now.placement rows.now number }
+fn put_lazy(text: &mut Vec<u8>, lines: &MotionLines, number: usize) -> Result<(), Memory>
+    requires { HaveMotionBit (placement_of_lines lines.now) (rows_of_lines lines.now) number }
     ensures { AppendsOnOk result text.old text.new
-        (lazy_lines unit.now.placement rows.now number) }
+        (lazy_lines (placement_of_lines lines.now) (rows_of_lines lines.now) number) }
 {
-    put_bits(text, &unit.placement.insert, number, b"inserted")?;
-    put_bits(text, &unit.placement.replace, number, b"replaced")?;
-    put_edge_bits(text, &rows.bounds.held.edges, number, b"held")
+    put_bits(text, &lines.placed.insert, number, b"inserted")?;
+    put_bits(text, &lines.placed.replace, number, b"replaced")?;
+    put_edge_bits(text, &lines.placed.held, number, b"held")
 }

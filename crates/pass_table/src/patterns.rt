@@ -1,16 +1,30 @@
 // The patterns of a graph that can still move, and where they are delayed and inserted. Each function fails only with
 // `Memory`.
-ghost use Rattle.std.specs.Prelude.{◌≡◌, length, OnOk, Some};
+ghost use Rattle.std.specs.Prelude.{◌≡◌, length, IfOk, OnOk, Some};
 ghost use Rattle.mir_base.specs.Appending.{AppendsOnOk};
 ghost use Rattle.flow_graph.specs.Edges.{edges_of};
 ghost use Rattle.table_text.specs.Turns.{AppendsSome};
-ghost use Rattle.pass_table.specs.Patterns.{ArePatternsFound, HavePatternBit, IsPatternsText, pattern_head, pattern_lines, patterns_below};
+ghost use Rattle.pass_table.specs.Patterns.{ArePatternsFound, HavePatternBit, IsPatternsText, found_of, pattern_head, pattern_lines, patterns_below};
 
 use flow_graph::{Edges, Graph};
+use key_table::KeyTable;
 use mir_base::{Memory, Name};
 use sink_dead::{DelayedPatterns, Pattern};
 use std::alloc::Global;
-use table_text::{put_assigned, put_bits, put_count};
+use table_text::{Lines, put_assigned, put_bits, put_count};
+
+/// The patterns of a graph that can still move, and the lines of where they are blocked, delayed and inserted.
+#[derive(Drop)]
+pub(crate) struct PatternLines {
+    /// The patterns.
+    pub(crate) table: KeyTable<Pattern>,
+    /// Where a pattern is blocked.
+    pub(crate) blocked: Lines,
+    /// Where it is delayed.
+    pub(crate) delayed: Lines,
+    /// Where it is inserted.
+    pub(crate) inserted: Lines,
+}
 
 /// Appends the patterns of a graph that can still move, each with the nodes at which it is blocked, delayed and
 /// inserted.
@@ -33,18 +47,35 @@ pub(crate) fn put_patterns_by(
     ensures { OnOk result (AppendsSome (IsPatternsText graph.now) text.old text.new) }
 {
     let found = DelayedPatterns::of(alloc, graph, edges)?;
-    put_each(text, graph, &found)?;
+    let lines = lines_of(alloc, found)?;
+    put_each(text, graph, &lines)?;
     Ok(())
 }
 
-/// Appends the lines of the patterns that were found.
-fn put_each(text: &mut Vec<u8>, graph: &Graph, found: &DelayedPatterns) -> Result<(), Memory>
-    requires { ArePatternsFound graph.now found.now }
-    ensures { AppendsOnOk result text.old text.new
-        (patterns_below graph.now.vars found.now (length found.now.table)) }
+/// The lines of the patterns that were found.
+fn lines_of(alloc: Global, found: DelayedPatterns) -> Result<PatternLines, Memory>
+    ensures { IfOk result (λ lines. found_of lines ≡ found) }
 {
-    for number in 0..found.table.len() {
-        put_pattern(text, graph.vars(), found, number, found.table.get(number))?;
+    let blocked = Lines::of(alloc, &found.blocked)?;
+    let delayed = Lines::of(alloc, &found.delayed)?;
+    let inserted = Lines::of(alloc, &found.inserted)?;
+    let DelayedPatterns { table, .. } = found;
+    Ok(PatternLines {
+        table,
+        blocked,
+        delayed,
+        inserted,
+    })
+}
+
+/// Appends the lines of the patterns that were found.
+fn put_each(text: &mut Vec<u8>, graph: &Graph, lines: &PatternLines) -> Result<(), Memory>
+    requires { ArePatternsFound graph.now (found_of lines.now) }
+    ensures { AppendsOnOk result text.old text.new
+        (patterns_below graph.now.vars (found_of lines.now) (length lines.now.table)) }
+{
+    for number in 0..lines.table.len() {
+        put_pattern(text, graph.vars(), lines, number, lines.table.get(number))?;
     }
     Ok(())
 }
@@ -53,18 +84,18 @@ fn put_each(text: &mut Vec<u8>, graph: &Graph, found: &DelayedPatterns) -> Resul
 fn put_pattern(
     text: &mut Vec<u8>,
     vars: &[Name],
-    found: &DelayedPatterns,
+    lines: &PatternLines,
     number: usize,
     pattern: &Pattern,
 ) -> Result<(), Memory>
-    requires { HavePatternBit found.now number }
+    requires { HavePatternBit (found_of lines.now) number }
     ensures { AppendsOnOk result text.old text.new
-        (pattern_lines vars.now found.now number (Some pattern.now)) }
+        (pattern_lines vars.now (found_of lines.now) number (Some pattern.now)) }
 {
     put_head(text, vars, number, pattern)?;
-    put_bits(text, &found.blocked, number, b"blocked")?;
-    put_bits(text, &found.delayed, number, b"delayed")?;
-    put_bits(text, &found.inserted, number, b"inserted")
+    put_bits(text, &lines.blocked, number, b"blocked")?;
+    put_bits(text, &lines.delayed, number, b"delayed")?;
+    put_bits(text, &lines.inserted, number, b"inserted")
 }
 
 /// Appends the number of a pattern, and the pattern.

@@ -15,7 +15,6 @@ ghost use Rattle.pass_table.specs.Sinkings.{IsSinkingOf};
 ghost use Rattle.pass_table.specs.Units.{IsUnitLinked};
 
 use crate::stages::{put_round_finding, put_shown};
-use bit_rows::Rows;
 use copy_flow::copied_splits;
 use edge_split::split_splits;
 use flow_graph::{Graph, Node};
@@ -23,7 +22,7 @@ use mir_base::{Memory, Name, Unit as MirUnit};
 use mir_opt::{Stage, UnitTrail};
 use sink_dead::{GraphFlow, live_rows_by, sunk_by};
 use std::alloc::Global;
-use table_text::{put_bits, put_count, put_graph, put_name};
+use table_text::{Lines, put_bits, put_count, put_graph, put_name};
 
 /// Appends the rounds of a unit.
 pub(crate) fn put_rounds(
@@ -218,12 +217,13 @@ fn put_live(
     ensures { OnOk result (AppendsSome (IsLiveText graph.now) text.old text.new) }
 {
     let live = live_rows_by(alloc, graph, flow)?;
-    put_variables(text, graph, &live)?;
+    let lines = Lines::of(alloc, &live)?;
+    put_variables(text, graph, &lines)?;
     Ok(())
 }
 
-/// Appends the variables of a graph, each with its bit of the rows.
-fn put_variables(text: &mut Vec<u8>, graph: &Graph, live: &Rows) -> Result<(), Memory>
+/// Appends the variables of a graph, each with its bit of the lines.
+fn put_variables(text: &mut Vec<u8>, graph: &Graph, live: &Lines) -> Result<(), Memory>
     requires { HaveShape graph.now (length graph.now.vars) live.now }
     ensures { AppendsOnOk result text.old text.new
         (variables_below graph.now.vars live.now (length graph.now.vars)) }

@@ -6,14 +6,14 @@ use Rattle.pass_table.proofs.motion.put_safe.Goals as goal
 -- the five rows stand one behind the other
 pub returns : goal.returns
 returns c =
-    let rows = c.args.rows.now in
+    let safe = c.args.lines.now.safe in
     let n = c.args.number in
     let start = c.args.text.now in
-    let used = bits_line rows.places.busy.uses n (codes "used") in
-    let killed = bits_line rows.bounds.kills n (codes "killed") in
-    let up = bits_line rows.places.busy.up n (codes "available") in
-    let down = bits_line rows.places.busy.down n (codes "anticipatable") in
-    let early = bits_line rows.places.busy.early n (codes "earliest") in
+    let used = bits_line safe.uses n (codes "used") in
+    let killed = bits_line safe.kills n (codes "killed") in
+    let up = bits_line safe.up n (codes "available") in
+    let down = bits_line safe.down n (codes "anticipatable") in
+    let early = bits_line safe.early n (codes "earliest") in
     let two = two_pieces start c.put_bits.new.text c.put_bits-2.new.text used killed c.in_ok-put_bits.ensures c.in_ok-put_bits-2.ensures in
     let three = two_pieces start c.put_bits-2.new.text c.put_bits-3.new.text (used ++ killed) up two c.in_ok-put_bits-3.ensures in
     let four = two_pieces start c.put_bits-3.new.text c.put_bits-4.new.text (used ++ killed ++ up) down three c.in_ok-put_bits-4.ensures in
