@@ -25,12 +25,12 @@ length_line_row : (rows bits : ℕ) (words : List ℕ) (n : ℕ) → length (lin
 unfolding line_row
 length_line_row rows bits words n = length-map-range_with_len (line_bit rows words n) 0 bits
 
-bit_line_row : (rows bits : ℕ) (words : List ℕ) (n b : ℕ) → b < bits → row_bit (line_row rows bits words n) b ≡ word_bit (get_or words (b / 64 * rows + n) 0) (b % 64)
+bit_line_row : (rows bits : ℕ) (words : List ℕ) (n b : ℕ) → b < bits → row_bit (line_row rows bits words n) b ≡ word_bit (get_or words (b / 16 * rows + n) 0) (b % 16)
 unfolding line_row line_bit
 bit_line_row rows bits words n b h = get_or-map-range_with_len (line_bit rows words n) 0 bits b b false h (omega arith)
 
 -- the columns of rows are those rows
-pub turned : (all : List (List Bool)) (bits : ℕ) (words : List ℕ) → AreEquallyLong bits all → AreColumns all ((bits + 63) / 64) words
+pub turned : (all : List (List Bool)) (bits : ℕ) (words : List ℕ) → AreEquallyLong bits all → AreColumns all ((bits + 15) / 16) words
     → lines_of (length all) bits words ≡ all
 turned all bits words long are =
     ext_get_or [] (lines_of (length all) bits words) all (length_lines_of (length all) bits words)
@@ -38,10 +38,10 @@ turned all bits words long are =
     row_lines_of (length all) bits words n low
     ∙ ext_get_or false (line_row (length all) bits words n) (row_of all n) (length_line_row (length all) bits words n ∙ sym (long.each n low))
     (λ b l. let within : b < bits = subst (λ k. b < k) (length_line_row (length all) bits words n) l in
-    let word : b / 64 < (bits + 63) / 64 = omega arith in
-    let place : b % 64 < 64 = omega arith in
-    let whole : 64 * (b / 64) + b % 64 ≡ b = omega arith in
-    bit_line_row (length all) bits words n b within ∙ sym (are.each (b / 64) n word low (b % 64) place) ∙ ap (row_bit (row_of all n)) whole))
+    let word : b / 16 < (bits + 15) / 16 = omega arith in
+    let place : b % 16 < 16 = omega arith in
+    let whole : 16 * (b / 16) + b % 16 ≡ b = omega arith in
+    bit_line_row (length all) bits words n b within ∙ sym (are.each (b / 16) n word low (b % 16) place) ∙ ap (row_bit (row_of all n)) whole))
 
 -- ---- one column
 
@@ -60,12 +60,12 @@ module _ (rows bits : ℕ) (words : List ℕ) (all : List (List Bool)) (fits : F
   in_bits bit n have h = subst (λ k. bit < k) (sym (ap length (row_is n h)) ∙ length_line_row rows bits words n) (have n h)
 
   -- the words have its column
-  pub column_within : (bit : ℕ) → HaveBit all bit → bit / 64 * rows + rows ≤ length words
-  column_within bit have = elim (cases_lt 0 rows) as (λ _. bit / 64 * rows + rows ≤ length words) [
+  pub column_within : (bit : ℕ) → HaveBit all bit → bit / 16 * rows + rows ≤ length words
+  column_within bit have = elim (cases_lt 0 rows) as (λ _. bit / 16 * rows + rows ≤ length words) [
     | inl some ↦ (
         let low : bit < bits = in_bits bit 0 have (subst (λ k. 0 < k) (sym lines_are) some) in
-        let before : bit / 64 < (bits + 63) / 64 = omega arith in
-        subst (λ k. bit / 64 * rows + rows ≤ k) (sym fits.len) (row_fits (bit / 64) rows ((bits + 63) / 64) rows before (omega arith))
+        let before : bit / 16 < (bits + 15) / 16 = omega arith in
+        subst (λ k. bit / 16 * rows + rows ≤ k) (sym fits.len) (row_fits (bit / 16) rows ((bits + 15) / 16) rows before (omega arith))
         )
     | inr none ↦ (
         let zero_is : rows ≡ 0 = omega arith in
@@ -74,23 +74,23 @@ module _ (rows bits : ℕ) (words : List ℕ) (all : List (List Bool)) (fits : F
   ]
 
   -- which has the bits of this number
-  pub column_bit : (bit n : ℕ) → HaveBit all bit → n < length all → row_bit (row_of all n) bit ≡ word_bit (get_or words (bit / 64 * rows + n) 0) (bit % 64)
+  pub column_bit : (bit n : ℕ) → HaveBit all bit → n < length all → row_bit (row_of all n) bit ≡ word_bit (get_or words (bit / 16 * rows + n) 0) (bit % 16)
   column_bit bit n have h = ap (λ (r : List Bool). row_bit r bit) (sym (row_is n h)) ∙ bit_line_row rows bits words n bit (in_bits bit n have h)
 
   -- the words of the column
   module _ (bit : ℕ) (have : HaveBit all bit) where
     abbrev part : List ℕ
-    part = slice_range words (bit / 64 * rows) (bit / 64 * rows + rows)
+    part = slice_range words (bit / 16 * rows) (bit / 16 * rows + rows)
 
     pub column_long : length part ≡ length all
-    column_long = let within : bit / 64 * rows + rows ≤ length words = column_within bit have in let are : length all ≡ rows = lines_are in grind (arith, length-drop, length-take)
+    column_long = let within : bit / 16 * rows + rows ≤ length words = column_within bit have in let are : length all ≡ rows = lines_are in grind (arith, length-drop, length-take)
 
-    pub column_part : (n : ℕ) → n < length all → row_bit (row_of all n) bit ≡ word_bit (get_or part n 0) (bit % 64)
+    pub column_part : (n : ℕ) → n < length all → row_bit (row_of all n) bit ≡ word_bit (get_or part n 0) (bit % 16)
     column_part n h =
         let low : n < rows = in_rows n h in
-        let at = bit / 64 * rows in
+        let at = bit / 16 * rows in
         column_bit bit n have h
-        ∙ ap (λ (w : ℕ). word_bit w (bit % 64)) (sym (get_or-take (at + rows - at) (drop at words) n 0 (omega (arith, low)) ∙ get_or-drop at words n 0))
+        ∙ ap (λ (w : ℕ). word_bit w (bit % 16)) (sym (get_or-take (at + rows - at) (drop at words) n 0 (omega (arith, low)) ∙ get_or-drop at words n 0))
 
 -- what is written of a column is what is written of the rows
 pub same_below : (all : List (List Bool)) (column : List ℕ) (bit at n : ℕ)

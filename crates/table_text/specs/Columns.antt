@@ -11,9 +11,9 @@ use Rattle.table_text.specs.Rows.{bit_byte}
 abbrev pub word_bit : ℕ → ℕ → Bool
 word_bit word i = nat_eq (bit_at word i) 1
 
--- the word has the 64 bits of row n that begin with number 64 * k
+-- the word has the 16 bits of row n that begin with number 16 * k
 abbrev pub IsWordOf : List (List Bool) → ℕ → ℕ → ℕ → Type 0
-IsWordOf rows k n word = (i : ℕ) → i < 64 → row_bit (row_of rows n) (64 * k + i) ≡ word_bit word i
+IsWordOf rows k n word = (i : ℕ) → i < 16 → row_bit (row_of rows n) (16 * k + i) ≡ word_bit word i
 
 -- behind the old words stands the front of column k of the rows, with the words of so many of them
 pub record AddsColumn (rows : List (List Bool)) (k count : ℕ) (old new : List ℕ) : Type 0 where
@@ -35,7 +35,7 @@ pub record AreColumns (rows : List (List Bool)) (columns : ℕ) (words : List �
 
 -- bit b of row n of so many rows
 unfoldable pub line_bit : ℕ → List ℕ → ℕ → ℕ → Bool
-line_bit rows words n b = word_bit (slice_index words (b / 64 * rows + n)) (b % 64)
+line_bit rows words n b = word_bit (slice_index words (b / 16 * rows + n)) (b % 16)
 
 -- row n of so many rows of so many bits
 unfoldable pub line_row : ℕ → ℕ → List ℕ → ℕ → List Bool
@@ -47,4 +47,4 @@ lines_of rows bits words = map (line_row rows bits words) (range_with_len 0 rows
 
 -- the words are as many as the columns need
 pub record FitsColumns (rows bits : ℕ) (words : List ℕ) : Type 0 where
-  pub len : length words ≡ (bits + 63) / 64 * rows
+  pub len : length words ≡ (bits + 15) / 16 * rows

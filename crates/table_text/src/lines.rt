@@ -2,7 +2,7 @@
 // fails only with `Memory`.
 ghost use Rattle.std.specs.Prelude.{◌≡◌, ℕ, ◌+◌, ◌*◌, ◌%◌, ◌<◌, ◌≤◌, IfOk, OnOk, length, slice_index, slice_range};
 ghost use Rattle.bit_rows.specs.Bits.{row_bit, row_of};
-ghost use Rattle.table_text.specs.Columns.{AddsColumn, AreColumns, word_bit};
+ghost use Rattle.table_text.specs.Columns.{AddsColumn, AreColumns, IsWordOf, word_bit};
 ghost use Rattle.table_text.specs.Rows.{HaveBit};
 
 use bit_rows::Rows;
@@ -13,12 +13,13 @@ use std::marker::Model;
 /// Rows of truth values, all equally long, for writing one bit of all of them after the other. Contracts see them as the
 /// list of the rows that they were made of.
 ///
-/// They are kept in words of 64 bits, column after column: word `k` of row `n` stands at `k * rows + n`.
+/// They are kept in words of 16 bits, column after column: word `k` of row `n` stands at `k * rows + n`. The narrower the
+/// words, the more of them are written at once, and the more of them are to be turned.
 #[derive(Drop)]
 pub struct Lines {
     rows: usize,
     bits: usize,
-    words: Vec<u64>,
+    words: Vec<u16>,
 }
 
 impl Model for Lines {
@@ -38,7 +39,7 @@ impl Lines {
         ensures { IfOk result (λ made. made ≡ rows.now) }
     {
         let bits = rows.bits();
-        let words = columns(alloc, rows, bits.div_ceil(64))?;
+        let words = columns(alloc, rows, bits.div_ceil(16))?;
         Ok(Lines {
             rows: rows.len(),
             bits,
@@ -46,19 +47,19 @@ impl Lines {
         })
     }
 
-    /// A word of each row, in which the bit of this number is number `bit` % 64. It does not allocate.
-    pub(crate) fn column(&self, bit: usize) -> &[u64]
+    /// A word of each row, in which the bit of this number is number `bit` % 16. It does not allocate.
+    pub(crate) fn column(&self, bit: usize) -> &[u16]
         requires { HaveBit self.now bit }
         ensures len { length result.now ≡ length self.now }
         ensures bits { (n : ℕ) → n < length self.now →
-            row_bit (row_of self.now n) bit ≡ word_bit (slice_index result.now n) (bit % 64) }
+            row_bit (row_of self.now n) bit ≡ word_bit (slice_index result.now n) (bit % 16) }
     {
-        column_words(&self.words, self.rows, bit / 64)
+        column_words(&self.words, self.rows, bit / 16)
     }
 }
 
 /// The words of the column of this number, where each has so many.
-fn column_words(words: &[u64], rows: usize, number: usize) -> &[u64]
+fn column_words(words: &[u16], rows: usize, number: usize) -> &[u16]
     requires { number * rows + rows ≤ length words.now }
     ensures { result.now ≡ slice_range words.now (number * rows) (number * rows + rows) }
 {
@@ -67,8 +68,8 @@ fn column_words(words: &[u64], rows: usize, number: usize) -> &[u64]
 }
 
 /// The first so many columns of the rows, one behind the other.
-fn columns(alloc: Global, rows: &Rows, count: usize) -> Result<Vec<u64>, Memory>
-    requires { (n : ℕ) → n < length rows.now → 64 * count < length (row_of rows.now n) + 64 }
+fn columns(alloc: Global, rows: &Rows, count: usize) -> Result<Vec<u16>, Memory>
+    requires { (n : ℕ) → n < length rows.now → 16 * count < length (row_of rows.now n) + 16 }
     ensures { IfOk result (λ made. AreColumns rows.now count made.items) }
 {
     let Some(len) = count.checked_mul(rows.len()) else {
@@ -82,13 +83,32 @@ fn columns(alloc: Global, rows: &Rows, count: usize) -> Result<Vec<u64>, Memory>
 }
 
 /// Puts the column of this number at the end.
-fn push_column(words: &mut Vec<u64>, rows: &Rows, number: usize) -> Result<(), Memory>
-    requires { (n : ℕ) → n < length rows.now → 64 * number < length (row_of rows.now n) }
+fn push_column(words: &mut Vec<u16>, rows: &Rows, number: usize) -> Result<(), Memory>
+    requires { (n : ℕ) → n < length rows.now → 16 * number < length (row_of rows.now n) }
     ensures { OnOk result (AddsColumn rows.now number (length rows.now)
         words.old.items words.new.items) }
 {
     for row in 0..rows.len() {
-        words.push(rows.row(row).word(number))?;
+        words.push(row_word(rows, row, number))?;
     }
     Ok(())
+}
+
+/// The bits of a row that stand in the column of this number.
+#[inline(always)]
+fn row_word(rows: &Rows, row: usize, number: usize) -> u16
+    requires row { row < length rows.now }
+    requires number { 16 * number < length (row_of rows.now row) }
+    ensures { IsWordOf rows.now number row result }
+{
+    word_part(rows.row(row).word(number / 4), number % 4)
+}
+
+/// A quarter of a word, of which that of number 0 has the lowest bits.
+#[inline(always)]
+fn word_part(word: u64, part: usize) -> u16
+    requires { part < 4 }
+    ensures { (i : ℕ) → i < 16 → word_bit result i ≡ word_bit word (16 * part + i) }
+{
+    ((word >> (16 * part)) & 0xffff) as u16
 }

@@ -40,13 +40,13 @@ fn put_each(text: &mut Vec<u8>, lines: &Lines, bit: usize) -> Result<(), Memory>
     requires { HaveBit lines.now bit }
     ensures { AppendsOnOk result text.old text.new (bits_below lines.now bit (length lines.now)) }
 {
-    put_column(text, lines.column(bit), bit % 64)
+    put_column(text, lines.column(bit), bit % 16)
 }
 
 /// The bit of this number of all words of a column.
 #[inline(always)]
-fn put_column(text: &mut Vec<u8>, column: &[u64], bit: usize) -> Result<(), Memory>
-    requires { bit < 64 }
+fn put_column(text: &mut Vec<u8>, column: &[u16], bit: usize) -> Result<(), Memory>
+    requires { bit < 16 }
     ensures { AppendsOnOk result text.old text.new
         (column_below column.now bit (length column.now)) }
 {
@@ -61,8 +61,8 @@ fn put_column(text: &mut Vec<u8>, column: &[u64], bit: usize) -> Result<(), Memo
 
 /// Writes the bit of this number of all words of a column over the bytes from a place on.
 #[inline(always)]
-fn write_bits(bytes: &mut [u8], start: usize, column: &[u64], bit: usize)
-    requires bit { bit < 64 }
+fn write_bits(bytes: &mut [u8], start: usize, column: &[u16], bit: usize)
+    requires bit { bit < 16 }
     requires room { length bytes.old ≡ start + length column.now }
     ensures { bytes.new
         ≡ take start bytes.old ++ column_below column.now bit (length column.now) }
@@ -74,8 +74,8 @@ fn write_bits(bytes: &mut [u8], start: usize, column: &[u64], bit: usize)
 
 /// `1` for a bit of a word that is set, and `0` for one that is not.
 #[inline(always)]
-fn word_byte(word: u64, bit: usize) -> u8
-    requires { bit < 64 }
+fn word_byte(word: u16, bit: usize) -> u8
+    requires { bit < 16 }
     ensures { result ≡ bit_byte (word_bit word bit) }
 {
     b'0' + ((word >> bit) & 1) as u8

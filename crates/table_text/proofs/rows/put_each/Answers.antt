@@ -10,6 +10,6 @@ returns c =
     let lines = c.args.lines.now in
     let column = c.column.result.now in
     let bit = c.args.bit in
-    let same : column_below column (bit % 64) (length column) ≡ bits_below lines bit (length lines) =
-    ap (column_below column (bit % 64)) c.column.ensures.len ∙ same_below lines column bit (bit % 64) (length lines) c.column.ensures.bits in
+    let same : column_below column (bit % 16) (length column) ≡ bits_below lines bit (length lines) =
+    ap (column_below column (bit % 16)) c.column.ensures.len ∙ same_below lines column bit (bit % 16) (length lines) c.column.ensures.bits in
     subst (λ (l : List ℕ). OnOk c.put_column.result (c.put_column.new.text.items ≡ c.args.text.now.items ++ l)) same c.put_column.ensures

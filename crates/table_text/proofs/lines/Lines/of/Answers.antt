@@ -6,5 +6,5 @@ use Rattle.table_text.proofs.lines.Lines.of.Goals as goal
 -- the columns are as many as the bits need
 pub returns : goal.returns
 returns c =
-    let many : c.div_ceil.result ≡ (c.bits-bits.result + 63) / 64 = let e : c.div_ceil.result ≡ c.bits-bits.result / 64 + min 1 (c.bits-bits.result % 64) = c.div_ceil.ensures in omega arith in
+    let many : c.div_ceil.result ≡ (c.bits-bits.result + 15) / 16 = let e : c.div_ceil.result ≡ c.bits-bits.result / 16 + min 1 (c.bits-bits.result % 16) = c.div_ceil.ensures in omega arith in
     rw c.len.ensures (turned c.args.rows.now c.bits-bits.result c.in_ok-words.words.items c.bits-bits.ensures (subst (λ k. AreColumns c.args.rows.now k c.in_ok-words.words.items) many c.in_ok-words.ensures))
