@@ -39,6 +39,7 @@ shown_tell unit rows found = record {
 }
 
 module _ (unit : UnitTrail) (rows : MotionRows) (lines : MotionLines) (are : AreMotionLines unit.placement rows lines) where
+  -- the rows of the lines are these
   lines_show : rows_of_lines lines ≡ shown rows
   lines_show =
       let safe = are.safe_are in

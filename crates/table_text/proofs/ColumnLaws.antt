@@ -11,20 +11,22 @@ use Rattle.table_text.specs.Rows.{HaveBit, bit_byte, bits_below}
 
 -- ---- which rows they are
 
--- as many rows as are asked for, and each of them
+-- as many rows as are asked for
 pub length_lines_of : (rows bits : ℕ) (words : List ℕ) → length (lines_of rows bits words) ≡ rows
 unfolding lines_of
 length_lines_of rows bits words = length-map-range_with_len (line_row rows bits words) 0 rows
 
+-- and each of them
 row_lines_of : (rows bits : ℕ) (words : List ℕ) (n : ℕ) → n < rows → row_of (lines_of rows bits words) n ≡ line_row rows bits words n
 unfolding lines_of
 row_lines_of rows bits words n h = get_or-map-range_with_len (line_row rows bits words) 0 rows n n [] h (omega arith)
 
--- as many bits as are asked for, and each of them
+-- as many bits as are asked for
 length_line_row : (rows bits : ℕ) (words : List ℕ) (n : ℕ) → length (line_row rows bits words n) ≡ bits
 unfolding line_row
 length_line_row rows bits words n = length-map-range_with_len (line_bit rows words n) 0 bits
 
+-- and each of them
 bit_line_row : (rows bits : ℕ) (words : List ℕ) (n b : ℕ) → b < bits → row_bit (line_row rows bits words n) b ≡ word_bit (get_or words (b / 16 * rows + n) 0) (b % 16)
 unfolding line_row line_bit
 bit_line_row rows bits words n b h = get_or-map-range_with_len (line_bit rows words n) 0 bits b b false h (omega arith)
@@ -46,12 +48,15 @@ turned all bits words long are =
 -- ---- one column
 
 module _ (rows bits : ℕ) (words : List ℕ) (all : List (List Bool)) (fits : FitsColumns rows bits words) (view : lines_of rows bits words ≡ all) where
+  -- as many rows as the fields say
   pub lines_are : length all ≡ rows
   lines_are = rw view at (length_lines_of rows bits words)
 
+  -- a row of these is one of so many
   in_rows : (n : ℕ) → n < length all → n < rows
   in_rows n h = subst (λ k. n < k) lines_are h
 
+  -- each row is read from the words
   row_is : (n : ℕ) → n < length all → line_row rows bits words n ≡ row_of all n
   row_is n h = sym (row_lines_of rows bits words n (in_rows n h)) ∙ ap (λ (xs : List (List Bool)). row_of xs n) view
 
@@ -79,12 +84,15 @@ module _ (rows bits : ℕ) (words : List ℕ) (all : List (List Bool)) (fits : F
 
   -- the words of the column
   module _ (bit : ℕ) (have : HaveBit all bit) where
+    -- they stand one after the other
     abbrev part : List ℕ
     part = slice_range words (bit / 16 * rows) (bit / 16 * rows + rows)
 
+    -- one for each row
     pub column_long : length part ≡ length all
     column_long = let within : bit / 16 * rows + rows ≤ length words = column_within bit have in let are : length all ≡ rows = lines_are in grind (arith, length-drop, length-take)
 
+    -- with the bit of this number
     pub column_part : (n : ℕ) → n < length all → row_bit (row_of all n) bit ≡ word_bit (get_or part n 0) (bit % 16)
     column_part n h =
         let low : n < rows = in_rows n h in
