@@ -9,7 +9,6 @@ pub mod Linked
 pub mod PatternBits
 pub mod KeptTies
 pub mod Found
-pub mod RowsTell
 pub mod BlockedLong
 pub mod JoinedLast
 pub mod BlockedIn
