@@ -1,14 +1,16 @@
 -- What is delayed at the nodes of blocks, as rows: what comes past one node, past the nodes of a block, and along them
 -- from what comes into the block.
 use Rattle.std.proofs.Common.{◌≡◌, ◌≢◌, ◌+◌, ◌<◌, ◌≤◌, ◌||◌, ◌&&◌, not, ℕ, suc, Bool, true, false, List, [], ◌∷◌, ◌++◌, length, get_or, replicate, set, take, slice_get, Option, Some, None, inl, inr, refl, sym, ap, ◌∙◌, subst, arith, true≢false}
-use Rattle.std.proofs.Math.Bool.{or-false}
-use Rattle.std.proofs.lemmas.Bool.{and_parts, cases_Bool, cases_eq, not-true, or_cases, or_left, or_right}
+use Rattle.std.proofs.Math.Bool.{and-true, or-false}
+use Rattle.std.proofs.lemmas.Bool.{and_parts, cases_Bool, cases_eq, false≢true, not-true, or_cases, or_left, or_right}
 use Rattle.std.proofs.lemmas.List.{get_or-set_other, get_or-set_same, length-replicate, length-set, take_all}
 use Rattle.std.proofs.lemmas.List.Folds.{list_any-append}
 use Rattle.std.proofs.lemmas.Option.{none-some, same_Some, slice_get_within}
 use Rattle.std.specs.List.{list_any}
 use Rattle.bit_rows.specs.BitLaws.{length_minus, length_or, minus_bit, or_bit}
 use Rattle.bit_rows.specs.Bits.{minus_bits, or_bits, row_of, with_row_by}
+use Rattle.flow_graph.specs.declared.nodes.Node.{Node}
+use Rattle.flow_graph.specs.declared.nodes.Node.TheVariants.{Start, Skip, Assign, Print, Guard, Call, Test, Return}
 use Rattle.flow_graph.specs.BlockLaws.{glued_edge, only_from}
 use Rattle.flow_graph.specs.Blocks.{IsBlocks, IsGlued, StandsIn}
 use Rattle.flow_graph.specs.Graphs.{IsGraph}
@@ -21,8 +23,8 @@ use Rattle.path_laws.specs.RowLaws.{Written, put, written_shape}
 use Rattle.path_laws.proofs.Pushing.{pushed_before, pushed_last, pushed_shape}
 use Rattle.sink_dead.specs.declared.over.OverBlocks.{OverBlocks}
 use Rattle.sink_dead.specs.declared.patterns.Pattern.{Pattern}
-use Rattle.sink_dead.specs.Accesses.{blocks_at, occurs_at}
-use Rattle.sink_dead.specs.Along.{AreBlockedIn, AreCarriedTo, AreDelayedIn, HasPassed, IsHandedOn, IsPassedOver, TellsOccurrence}
+use Rattle.sink_dead.specs.Accesses.{blocks_at, is_occurrence, occurs_at}
+use Rattle.sink_dead.specs.Along.{AreBlockedIn, AreCarriedTo, AreDelayedIn, HasPassed, IsHandedOn, IsPassedOver, TellsOccurrence, is_skip}
 use Rattle.sink_dead.specs.BlockRows.{AreRowsTo, leaves_own}
 use Rattle.sink_dead.specs.Delaying.{IsDelayedTo}
 use Rattle.sink_dead.specs.Inside.{comes_past}
@@ -30,7 +32,43 @@ use Rattle.sink_dead.specs.Over.{AreIntoOver, lists_of}
 use Rattle.sink_dead.proofs.BlockedIn.{IsJoinedTo}
 use Rattle.sink_dead.proofs.Carried.{glued_on}
 use Rattle.sink_dead.proofs.PrunedMarks.{no_bits}
+use Rattle.sink_dead.proofs.Skipping.{skip_lets_pass}
 use Rattle.sink_dead.proofs.Delays.{at_start, came_from, start_unentered}
+
+-- ---- a Skip
+
+-- a Skip blocks no pattern
+pub skip_frees : (over : OverBlocks) (n : ℕ) (node : Node) → slice_get over.graph.now.nodes n ≡ Some node → is_skip node ≡ true → (p : Pattern) → blocks_at p.var p.rhs over.graph.now n ≡ false
+skip_frees over n (Start next) at is p = absurd (false≢true is)
+skip_frees over n (Skip next) at is p = skip_lets_pass over.graph.now p.var p.rhs n next at
+skip_frees over n (Assign x rhs next) at is p = absurd (false≢true is)
+skip_frees over n (Print a next) at is p = absurd (false≢true is)
+skip_frees over n (Guard test number next) at is p = absurd (false≢true is)
+skip_frees over n (Call into unit operands next) at is p = absurd (false≢true is)
+skip_frees over n (Test test taken other) at is p = absurd (false≢true is)
+skip_frees over n (Return a) at is p = absurd (false≢true is)
+
+-- and none occurs at it
+skip_bears : (over : OverBlocks) (n : ℕ) (node : Node) → slice_get over.graph.now.nodes n ≡ Some node → is_skip node ≡ true → (p : Pattern) → occurs_at p.var p.rhs over.graph.now n ≡ false
+skip_bears over n (Start next) at is p = absurd (false≢true is)
+skip_bears over n (Skip next) at is p = ap (is_occurrence p.var p.rhs) at
+skip_bears over n (Assign x rhs next) at is p = absurd (false≢true is)
+skip_bears over n (Print a next) at is p = absurd (false≢true is)
+skip_bears over n (Guard test number next) at is p = absurd (false≢true is)
+skip_bears over n (Call into unit operands next) at is p = absurd (false≢true is)
+skip_bears over n (Test test taken other) at is p = absurd (false≢true is)
+skip_bears over n (Return a) at is p = absurd (false≢true is)
+
+-- so a row that is taken past it stays
+pub passed_skip : (over : OverBlocks) (n row : ℕ) (node : Node) (rows : List (List Bool)) → slice_get over.graph.now.nodes n ≡ Some node → is_skip node ≡ true → IsPassedOver over n row rows rows
+passed_skip over n row node rows at is = record {
+  len = refl;
+  long = refl;
+  others = λ m apart. refl;
+  bits = λ k p numbered.
+      sym (ap (λ o. o || (has_bit rows k row && not (blocks_at p.var p.rhs over.graph.now n))) (skip_bears over n node at is p)
+      ∙ ap (λ b. has_bit rows k row && not b) (skip_frees over n node at is p) ∙ and-true (has_bit rows k row));
+}
 
 -- ---- an occurrence
 
@@ -201,6 +239,16 @@ module _ (over : OverBlocks) (block : ℕ) (list : List ℕ) where
 
 -- ---- what a block blocks
 
+-- what some node before an index blocks, with one node more
+any_more : (over : OverBlocks) (list : List ℕ) (index n : ℕ) → slice_get list index ≡ Some n → (p : Pattern)
+    → list_any (blocks_at p.var p.rhs over.graph.now) (take (index + 1) list) ≡ (list_any (blocks_at p.var p.rhs over.graph.now) (take index list) || blocks_at p.var p.rhs over.graph.now n)
+any_more over list index n at p =
+    let one : index + 1 ≡ suc index = omega arith in
+    ap (λ i. list_any (blocks_at p.var p.rhs over.graph.now) (take i list)) one
+    ∙ ap (list_any (blocks_at p.var p.rhs over.graph.now)) (take_next list index n at)
+    ∙ list_any-append (blocks_at p.var p.rhs over.graph.now) (take index list) (n ∷ [])
+    ∙ ap (λ b. list_any (blocks_at p.var p.rhs over.graph.now) (take index list) || b) (or-false (blocks_at p.var p.rhs over.graph.now n))
+
 -- to the row of the block what one node more blocks is joined
 pub stopped_more : (over : OverBlocks) (block : ℕ) (list : List ℕ) (blocked : List (List Bool)) → AreBlockedIn over blocked → (index n : ℕ) (rows new : List (List Bool)) → slice_get list index ≡ Some n → n < length over.graph.now.nodes
     → IsJoinedTo over.graph.now (lists_of over) over.table.now block list index rows → new ≡ with_row_by or_bits rows block blocked n → IsJoinedTo over.graph.now (lists_of over) over.table.now block list (index + 1) new
@@ -211,7 +259,7 @@ stopped_more over block list blocked blocked_are index n rows new at n_in joined
       ap (λ (r : List Bool). get_or r k false) made.here ∙ or_bit (row_of rows block) (row_of blocked n) k equal
       ∙ ap (λ b. b || has_bit blocked k n) (joined.here k p numbered)
       ∙ ap (λ b. list_any (blocks_at p.var p.rhs over.graph.now) (take index list) || b) (blocked_are.bits n k p n_in numbered)
-      ∙ sym (more p);
+      ∙ sym (any_more over list index n at p);
 }
   where
     long : length (row_of rows block) ≡ length over.table.now
@@ -223,13 +271,17 @@ stopped_more over block list blocked blocked_are index n rows new at n_in joined
     made : Written rows new block (or_bits (row_of rows block) (row_of blocked n))
     made = put rows new block (or_bits (row_of rows block) (row_of blocked n)) (rw joined.shape.len (omega arith)) is
 
-    more : (p : Pattern) → list_any (blocks_at p.var p.rhs over.graph.now) (take (index + 1) list) ≡ (list_any (blocks_at p.var p.rhs over.graph.now) (take index list) || blocks_at p.var p.rhs over.graph.now n)
-    more p =
-        let one : index + 1 ≡ suc index = omega arith in
-        ap (λ i. list_any (blocks_at p.var p.rhs over.graph.now) (take i list)) one
-        ∙ ap (list_any (blocks_at p.var p.rhs over.graph.now)) (take_next list index n at)
-        ∙ list_any-append (blocks_at p.var p.rhs over.graph.now) (take index list) (n ∷ [])
-        ∙ ap (λ b. list_any (blocks_at p.var p.rhs over.graph.now) (take index list) || b) (or-false (blocks_at p.var p.rhs over.graph.now n))
+-- a node that blocks nothing joins nothing
+pub stopped_none : (over : OverBlocks) (block : ℕ) (list : List ℕ) (index n : ℕ) (rows : List (List Bool)) → slice_get list index ≡ Some n → ((p : Pattern) → blocks_at p.var p.rhs over.graph.now n ≡ false)
+    → IsJoinedTo over.graph.now (lists_of over) over.table.now block list index rows → IsJoinedTo over.graph.now (lists_of over) over.table.now block list (index + 1) rows
+stopped_none over block list index n rows at free joined = record {
+  shape = joined.shape;
+  before = joined.before;
+  here = λ k p numbered.
+      joined.here k p numbered
+      ∙ sym (any_more over list index n at p
+      ∙ ap (λ b. list_any (blocks_at p.var p.rhs over.graph.now) (take index list) || b) (free p) ∙ or-false (list_any (blocks_at p.var p.rhs over.graph.now) (take index list)));
+}
 
 -- ---- along the nodes of a block
 

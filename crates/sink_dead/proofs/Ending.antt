@@ -1,5 +1,7 @@
 -- Before which nodes patterns are inserted: where they are blocked, and edge by edge.
-use Rattle.std.proofs.Common.{◌≡◌, ◌+◌, ◌<◌, ◌≤◌, ◌||◌, ◌&&◌, not, ℕ, Bool, true, false, List, [], ◌∷◌, ◌++◌, length, get_or, set, slice_get, Some, inl, inr, refl, sym, ap, ◌∙◌, subst, arith}
+use Rattle.std.proofs.Common.{◌≡◌, ◌+◌, ◌<◌, ◌≤◌, ◌||◌, ◌&&◌, not, ℕ, Bool, true, false, List, [], ◌∷◌, ◌++◌, length, get_or, replicate, set, slice_get, Some, inl, inr, refl, sym, ap, ◌∙◌, subst, arith}
+use Rattle.std.proofs.Math.Bool.{and-false}
+use Rattle.std.proofs.lemmas.List.{length-replicate}
 use Rattle.std.proofs.lemmas.Bool.{and_from, and_parts, cases_Bool, cases_eq, or_cases, or_left, or_right}
 use Rattle.std.proofs.lemmas.Option.{same_Some, slice_get_within}
 use Rattle.bit_rows.specs.BitLaws.{and_bit, length_and, length_minus, length_or, minus_bit, or_bit}
@@ -11,6 +13,7 @@ use Rattle.flow_graph.specs.EdgeLaws.{edge_is, edge_number}
 use Rattle.flow_graph.specs.Edges.{first_leaving}
 use Rattle.flow_graph.specs.Graphs.{IsGraph}
 use Rattle.flow_graph.specs.Paths.{HasEdge}
+use Rattle.path_laws.specs.KeyRowLaws.{false_bit}
 use Rattle.path_laws.specs.Paths.{AreRows, has_bit}
 use Rattle.path_laws.specs.RowLaws.{Written, put, written_shape}
 use Rattle.path_laws.proofs.Pushing.{pushed_before, pushed_last, pushed_shape}
@@ -30,11 +33,11 @@ pub both_more : (over : OverBlocks) (blocked delayed : List (List Bool)) → Are
     → pushed ≡ rows ++ row_of delayed n ∷ [] → new ≡ with_row_by and_bits pushed n blocked n → AreBothTo over blocked delayed (n + 1) new
 both_more over blocked delayed blocked_are told n rows pushed new n_in before push_is is = record {
   shape = written_shape (n + 1) (length over.table.now) n pushed new (and_bits (row_of pushed n) (row_of blocked n)) shape made (length_and (row_of pushed n) (row_of blocked n) equal ∙ long);
-  bits = λ m k lt. elim (cases_eq m n) as (λ _. has_bit new k m ≡ (has_bit delayed k m && has_bit blocked k m)) [
+  bits = λ m k p lt numbered. elim (cases_eq m n) as (λ _. has_bit new k m ≡ (has_bit delayed k m && has_bit blocked k m)) [
     | inl same ↦ rw same (ap (λ (r : List Bool). get_or r k false) made.here ∙ and_bit (row_of pushed n) (row_of blocked n) k equal ∙ ap (λ (r : List Bool). get_or r k false && has_bit blocked k n) last)
     | inr apart ↦
         let early : m < n = omega (arith, lt, apart) in
-        ap (λ (r : List Bool). get_or r k false) (made.others m apart ∙ pushed_before n (length over.table.now) rows pushed (row_of delayed n) before.shape push_is m early) ∙ before.bits m k early
+        ap (λ (r : List Bool). get_or r k false) (made.others m apart ∙ pushed_before n (length over.table.now) rows pushed (row_of delayed n) before.shape push_is m early) ∙ before.bits m k p early numbered
   ];
 }
   where
@@ -53,6 +56,21 @@ both_more over blocked delayed blocked_are told n rows pushed new n_in before pu
     made : Written pushed new n (and_bits (row_of pushed n) (row_of blocked n))
     made = put pushed new n (and_bits (row_of pushed n) (row_of blocked n)) (rw shape.len (omega arith)) is
 
+-- a node that blocks nothing has a row of false bits
+pub both_none : (over : OverBlocks) (blocked delayed : List (List Bool)) → AreBlockedIn over blocked → (n : ℕ) (rows new : List (List Bool)) → n < length over.graph.now.nodes → ((p : Pattern) → blocks_at p.var p.rhs over.graph.now n ≡ false)
+    → AreBothTo over blocked delayed n rows → new ≡ rows ++ replicate (length over.table.now) false ∷ [] → AreBothTo over blocked delayed (n + 1) new
+both_none over blocked delayed blocked_are n rows new n_in free before is = record {
+  shape = pushed_shape n (length over.table.now) rows new (replicate (length over.table.now) false) before.shape is (length-replicate (length over.table.now) false);
+  bits = λ m k p lt numbered. elim (cases_eq m n) as (λ _. has_bit new k m ≡ (has_bit delayed k m && has_bit blocked k m)) [
+    | inl same ↦ rw same (
+        ap (λ (r : List Bool). get_or r k false) (pushed_last n (length over.table.now) rows new (replicate (length over.table.now) false) before.shape is) ∙ false_bit (length over.table.now) k
+        ∙ sym (ap (λ b. has_bit delayed k n && b) (blocked_are.bits n k p n_in numbered ∙ free p) ∙ and-false (has_bit delayed k n)))
+    | inr apart ↦
+        let early : m < n = omega (arith, lt, apart) in
+        ap (λ (r : List Bool). get_or r k false) (pushed_before n (length over.table.now) rows new (replicate (length over.table.now) false) before.shape is m early) ∙ before.bits m k p early numbered
+  ];
+}
+
 module _ (over : OverBlocks) (is_graph : IsGraph over.graph.now.vars over.graph.now.received over.graph.now.nodes) (are : IsOverBlocks over) (delayed : List (List Bool)) (told : AreDelayedIn over delayed) where
   -- an edge of this number leads from its source to its target
   pub edge_leads : (number : ℕ) (edge : Edge) → slice_get over.edges.now.edges number ≡ Some edge → HasEdge over.graph.now.nodes edge.source edge.target
@@ -68,11 +86,11 @@ module _ (over : OverBlocks) (is_graph : IsGraph over.graph.now.vars over.graph.
   pub ended_none : (blocked rows : List (List Bool)) → AreBlockedIn over blocked → AreBothTo over blocked delayed (length over.graph.now.nodes) rows → AreEndedTo over 0 rows
   ended_none blocked rows blocked_are both = record {
     shape = both.shape;
-    only = λ n k p n_in numbered on. let parts = and_parts (has_bit delayed k n) (has_bit blocked k n) (sym (both.bits n k n_in) ∙ on) in (
+    only = λ n k p n_in numbered on. let parts = and_parts (has_bit delayed k n) (has_bit blocked k n) (sym (both.bits n k p n_in numbered) ∙ on) in (
       (told.bits n k p n_in numbered).0 parts.0,
       inl (sym (blocked_are.bits n k p n_in numbered) ∙ parts.1),
     );
-    blocked = λ n k p n_in numbered d stops. both.bits n k n_in ∙ and_from (has_bit delayed k n) (has_bit blocked k n) ((told.bits n k p n_in numbered).1 d) (blocked_are.bits n k p n_in numbered ∙ stops);
+    blocked = λ n k p n_in numbered d stops. both.bits n k p n_in numbered ∙ and_from (has_bit delayed k n) (has_bit blocked k n) ((told.bits n k p n_in numbered).1 d) (blocked_are.bits n k p n_in numbered ∙ stops);
     ended = λ number k p edge lt numbered at first d lost. absurd (omega (arith, lt));
   }
 

@@ -2,6 +2,8 @@
 -- private functions.
 use Rattle.std.specs.Prelude.{◌≡◌, ◌≢◌, ◌+◌, ◌<◌, ℕ, ◌↔◌, ◌&&◌, ◌||◌, not, Bool, true, false, List, length, take, slice_get, Option, Some, IfSome}
 use Rattle.bit_rows.specs.Bits.{row_of}
+use Rattle.flow_graph.specs.declared.nodes.Node.{Node}
+use Rattle.flow_graph.specs.declared.nodes.Node.TheVariants.{Start, Skip, Assign, Print, Guard, Call, Test, Return}
 use Rattle.flow_graph.specs.Blocks.{StandsIn}
 use Rattle.path_laws.specs.Paths.{AreRows, has_bit}
 use Rattle.sink_dead.specs.declared.over.OverBlocks.{OverBlocks}
@@ -28,6 +30,17 @@ abbrev pub AreInsertedIn : OverBlocks → List (List Bool) → Type 0
 AreInsertedIn over rows = AreRowsTelling over.graph.now over.table.now (IsInsertedAt over.graph.now) rows
 
 -- ---- one node
+
+-- the node is a Skip
+abbrev pub is_skip : Node → Bool
+is_skip (Start next) = false
+is_skip (Skip next) = true
+is_skip (Assign x rhs next) = false
+is_skip (Print a next) = false
+is_skip (Guard test number next) = false
+is_skip (Call into unit operands next) = false
+is_skip (Test test taken other) = false
+is_skip (Return a) = false
 
 -- the number is that of the pattern of the table that occurs at node n
 pub record TellsOccurrence (over : OverBlocks) (n : ℕ) (number : Option ℕ) : Type 0 where

@@ -11,7 +11,7 @@ use Rattle.sink_dead.specs.Delaying.{IsDelayedTo, IsInsertedAt}
 -- so many rows, one bit for each pattern: what both of these rows have
 pub record AreBothTo (over : OverBlocks) (blocked delayed : List (List Bool)) (count : ℕ) (rows : List (List Bool)) : Type 0 where
   pub shape : AreRows count (length over.table.now) rows
-  pub bits : (n k : ℕ) → n < count → has_bit rows k n ≡ (has_bit delayed k n && has_bit blocked k n)
+  pub bits : (n k : ℕ) (p : Pattern) → n < count → slice_get over.table.now k ≡ Some p → has_bit rows k n ≡ (has_bit delayed k n && has_bit blocked k n)
 
 -- one row for each node, one bit for each pattern: what is set is inserted there. What is inserted at a node that blocks
 -- it is set, and what is delayed at the source of an edge before this number into a first node, and not at the target

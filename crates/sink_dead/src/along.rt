@@ -1,6 +1,6 @@
 // At which nodes patterns are delayed: what comes into each block, taken through its nodes.
 ghost use Rattle.std.specs.Prelude.{◌≡◌, ◌+◌, ◌<◌, length, slice_get, IfOk, OnOk, Some};
-ghost use Rattle.sink_dead.specs.Along.{AreBlockedIn, AreCarriedTo, AreDelayedIn, HasPassed, IsHandedOn, IsPassedOver, TellsOccurrence};
+ghost use Rattle.sink_dead.specs.Along.{AreBlockedIn, AreCarriedTo, AreDelayedIn, HasPassed, IsHandedOn, IsPassedOver, TellsOccurrence, is_skip};
 ghost use Rattle.sink_dead.specs.BlockRows.{AreRowsTo, is_blocked_in, leaves_own};
 ghost use Rattle.sink_dead.specs.Over.{AreBlockedOver, AreIntoOver, AreLeavingOver, IsOverBlocks, lists_of};
 ghost use Rattle.path_laws.specs.Paths.{AreRows};
@@ -10,6 +10,7 @@ use crate::inside::goes_on;
 use crate::over::OverBlocks;
 use crate::patterns::pattern_at;
 use bit_rows::Rows;
+use flow_graph::Node;
 use mir_base::Memory;
 use std::alloc::Global;
 
@@ -60,10 +61,13 @@ fn push_stopped(
     ensures { OnOk result (AreRowsTo (block + 1) (lists_of over.now) over.now.table.now
         (is_blocked_in over.now.graph.now) rows.new) }
 {
-    let _nodes = over.graph.nodes();
+    let nodes = over.graph.nodes();
     let list = over.blocks.nodes(block);
     rows.push_false(over.table.len())?;
     for node in list {
+        if is_skip(&nodes[*node]) {
+            continue;
+        }
         rows.or_into(block, blocked, *node);
     }
     Ok(())
@@ -121,7 +125,8 @@ fn pass_all(over: &OverBlocks<'_>, block: usize, list: &[usize], blocked: &Rows,
     }
 }
 
-/// Takes a row through a node: what the node blocks is taken out, and what occurs there comes in.
+/// Takes a row through a node: what the node blocks is taken out, and what occurs there comes in. A Skip changes
+/// nothing.
 fn pass_over(over: &OverBlocks<'_>, blocked: &Rows, node: usize, row: usize, rows: &mut Rows)
     requires blocked { AreBlockedIn over.now blocked.now }
     requires node { node < length over.now.graph.now.nodes }
@@ -129,9 +134,28 @@ fn pass_over(over: &OverBlocks<'_>, blocked: &Rows, node: usize, row: usize, row
     requires rows { AreRows (length rows.old) (length over.now.table.now) rows.old }
     ensures { IsPassedOver over.now node row rows.old rows.new }
 {
+    if is_skip(over.graph.node(node)) {
+        return;
+    }
     rows.minus_into(row, blocked, node);
     if let Some(number) = number_at(over, node) {
         rows.set(row, number, true);
+    }
+}
+
+/// Whether a node is a Skip: it blocks no pattern, and none occurs at it.
+pub(crate) fn is_skip(node: &Node) -> bool
+    ensures { result ≡ is_skip node.now }
+{
+    match node {
+        Node::Start(_) => false,
+        Node::Skip(_) => true,
+        Node::Assign(_, _, _) => false,
+        Node::Print(_, _) => false,
+        Node::Guard(_, _, _) => false,
+        Node::Call(_, _, _, _) => false,
+        Node::Test(_, _, _) => false,
+        Node::Return(_) => false,
     }
 }
 

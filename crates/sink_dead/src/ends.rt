@@ -5,6 +5,7 @@ ghost use Rattle.sink_dead.specs.Along.{AreBlockedIn, AreDelayedIn, AreInsertedI
 ghost use Rattle.sink_dead.specs.Ends.{AreBothTo, AreEndedTo};
 ghost use Rattle.sink_dead.specs.Over.{IsOverBlocks};
 
+use crate::along::is_skip;
 use crate::over::OverBlocks;
 use bit_rows::Rows;
 use mir_base::Memory;
@@ -49,10 +50,32 @@ fn both_rows(
     let count = over.graph.nodes().len();
     let mut rows = Rows::with_room(alloc, count, over.table.len())?;
     for node in 0..count {
-        rows.push(&delayed.row(node))?;
-        rows.and_into(node, blocked, node);
+        push_both(over, blocked, delayed, node, &mut rows)?;
     }
     Ok(rows)
+}
+
+/// Puts the row of a node at the end: the patterns that are both delayed and blocked there. A Skip blocks none.
+fn push_both(
+    over: &OverBlocks<'_>,
+    blocked: &Rows,
+    delayed: &Rows,
+    node: usize,
+    rows: &mut Rows,
+) -> Result<(), Memory>
+    requires blocked { AreBlockedIn over.now blocked.now }
+    requires delayed { AreDelayedIn over.now delayed.now }
+    requires node { node < length over.now.graph.now.nodes }
+    requires rows { AreBothTo over.now blocked.now delayed.now node rows.old }
+    ensures { OnOk result
+        (AreBothTo over.now blocked.now delayed.now (node + 1) rows.new) }
+{
+    if is_skip(over.graph.node(node)) {
+        return rows.push_false(over.table.len());
+    }
+    rows.push(&delayed.row(node))?;
+    rows.and_into(node, blocked, node);
+    Ok(())
 }
 
 /// Adds to the row of the source of an edge the patterns that are delayed there and not at its target, where the target

@@ -3,8 +3,12 @@ use Rattle.bit_rows.specs.BitLaws.{length_minus}
 use Rattle.bit_rows.specs.Bits.{minus_bits, row_of}
 use Rattle.path_laws.specs.KeyRowLaws.{with_found}
 use Rattle.path_laws.specs.RowLaws.{put}
-use Rattle.sink_dead.proofs.Carrying.{passed_over}
+use Rattle.sink_dead.proofs.Carrying.{passed_over, passed_skip}
 use Rattle.sink_dead.proofs.along.pass_over.Goals as goal
+
+-- a Skip changes nothing
+pub returns-then-is_skip : goal.returns-then-is_skip
+returns-then-is_skip c = passed_skip c.args.over.now c.args.node c.args.row c.node.result.now c.args.rows.now c.node.ensures (sym c.is_skip.ensures ∙ c.if-is_skip.true)
 
 pub set-requires-clause-bit : goal.set-requires-clause-bit
 set-requires-clause-bit c =

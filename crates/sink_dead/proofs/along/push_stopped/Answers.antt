@@ -1,10 +1,10 @@
-use Rattle.std.proofs.Common.{◌<◌, ℕ, List, get_or, length, sym, ◌∙◌, subst, arith}
+use Rattle.std.proofs.Common.{◌≡◌, Some, ap, rules, slice_get, ◌∙◌, ◌<◌, ℕ, List, get_or, length, sym, subst, arith}
 use Rattle.std.proofs.lemmas.Option.{slice_get-get_or}
 use Rattle.flow_graph.specs.BlockLaws.{chain_within, edge_within}
 use Rattle.flow_graph.specs.declared.nodes.Node.{Node}
 use Rattle.flow_graph.specs.Graphs.{IsGraph}
 use Rattle.sink_dead.proofs.BlockedIn.{joined_all, joined_none}
-use Rattle.sink_dead.proofs.Carrying.{stopped_more}
+use Rattle.sink_dead.proofs.Carrying.{skip_frees, stopped_more, stopped_none}
 use Rattle.sink_dead.proofs.along.push_stopped.Goals as goal
 use Rattle.sink_dead.proofs.along.push_stopped.Goals.{After-nodes-nodes, In_ok-push_false}
 
@@ -18,6 +18,16 @@ node_within c index lt =
     let list = c.nodes-list.result.now in
     chain_within nodes list index (get_or list index 0) (λ m k edge. edge_within nodes m k edge) (c.requires.over.blocks.are.blocks c.args.block list c.nodes-list.ensures).chain (slice_get-get_or list index 0 lt)
 
+-- and of the list of them
+listed : (c : In_ok-push_false) (index : ℕ) → index < length c.nodes-list.result.now → get_or c.nodes-list.result.now index 0 < length c.nodes-nodes.result.now
+listed c index lt = subst (λ (l : List Node). get_or c.nodes-list.result.now index 0 < length l) (sym c.nodes-nodes.ensures.value) (node_within c index lt)
+
+pub offset_bounds-nodes-node : goal.offset_bounds-nodes-node
+offset_bounds-nodes-node c = let within = listed (goal.at.offset_bounds-nodes-node c).In_ok-push_false c.loop-node.node-index c.loop-node-test.true in search rules
+
+pub bounds-nodes-node : goal.bounds-nodes-node
+bounds-nodes-node c = listed (goal.at.bounds-nodes-node c).In_ok-push_false c.loop-node.node-index c.loop-node-test.true
+
 pub loop-node-init : goal.loop-node-init
 loop-node-init c =
     let over = c.args.over.now in
@@ -30,6 +40,17 @@ pub or_into-requires-clause-equally_long : goal.or_into-requires-clause-equally_
 or_into-requires-clause-equally_long c =
     c.loop-node.invariant.shape.each c.args.block (omega arith)
     ∙ sym (c.requires.blocked.shape.each (get_or c.nodes-list.result.now c.loop-node.node-index 0) (node_within (goal.at.or_into-requires-clause-equally_long c).In_ok-push_false c.loop-node.node-index c.loop-node-test.true))
+
+-- a Skip blocks nothing
+pub loop-node-preserved-then-is_skip : goal.loop-node-preserved-then-is_skip
+loop-node-preserved-then-is_skip c =
+    let list = c.nodes-list.result.now in
+    let index = c.loop-node.node-index in
+    let n = get_or list index 0 in
+    let stands : slice_get c.args.over.now.graph.now.nodes (get_or c.nodes-list.result.now c.loop-node.node-index 0) ≡ Some c.index-nodes-node.result
+    = ap (λ (l : List Node). slice_get l (get_or c.nodes-list.result.now c.loop-node.node-index 0)) (sym c.nodes-nodes.ensures.value) ∙ slice_get-get_or c.nodes-nodes.result.now n c.index-nodes-node.result (listed (goal.at.loop-node-preserved-then-is_skip c).In_ok-push_false index c.loop-node-test.true) ∙ ap Some (sym c.index-nodes-node.is) in
+    stopped_none c.args.over.now c.args.block list index n c.loop-node.rows (slice_get-get_or list index 0 c.loop-node-test.true)
+    (skip_frees c.args.over.now n c.index-nodes-node.result stands (sym c.is_skip.ensures ∙ c.if-is_skip.true)) c.loop-node.invariant
 
 pub loop-node-preserved : goal.loop-node-preserved
 loop-node-preserved c =
