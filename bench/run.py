@@ -35,8 +35,8 @@ BYTE_BY_BYTE = ('GLIBC_TUNABLES=glibc.cpu.x86_rep_movsb_threshold=1000000000'
                 ':glibc.cpu.x86_rep_stosb_threshold=1000000000')
 
 # The program that writes the tables, which takes no words: what is called where the word of a case is `tables`. Its
-# functions that append bytes to the text, of which the instructions are not counted where the crates of tables call
-# them, and neither are the functions of Vec that they call to append.
+# functions that turn rows for writing and append bytes to the text, of which the instructions are not counted where the
+# crates of tables call them, and neither are the functions of Vec that they call to append.
 TABLES = TOP / 'crates' / 'mir_tables' / 'out' / 'mir_tables'
 WRITERS = re.compile(r'(?:table_text|mir_print|itoa)::')
 APPENDERS = re.compile(r'std_alloc::vec::Vec::(?:extend_from_slice|push|resize)\b')
@@ -585,7 +585,8 @@ def calls_in(counts: Path) -> Iterator[tuple[str, str, int]]:
 
 
 def of_writers(counts: Path) -> int:
-    """How many instructions it takes to append the bytes of tables to the text."""
+    """How many instructions it takes to write tables: to turn the rows of which lines are written, and to append the
+    bytes of the text."""
     calls = list(calls_in(counts))
     appenders = {callee for caller, callee, _ in calls if WRITERS.match(caller) and APPENDERS.match(callee)}
     return sum(spent for caller, callee, spent in calls
