@@ -20,7 +20,8 @@ use Rattle.sink_dead.specs.RoundGraphs.{AreRounds, AreRoundsFrom, IsRound}
 use Rattle.sink_dead.specs.SunkGraphs.{IsSunk}
 use Rattle.sink_dead.specs.SunkLaws.{sunk_is_one}
 use Rattle.mir_opt.specs.Stages.{after_rounds}
-use Rattle.pass_table.specs.Rounds.{became_skip, is_skip}
+use Rattle.pass_table.specs.Rounds.{became_skip}
+use Rattle.sink_dead.specs.Skips.{is_skip}
 
 -- ---- split graphs
 

@@ -1,11 +1,11 @@
 -- The lines of the rounds of sinking. Cited by contracts.
-use Rattle.std.specs.Prelude.{◌≡◌, ◌↔◌, ◌<◌, ℕ, zero, suc, ◌+◌, Bool, true, false, ◌&&◌, not, List, [], ◌∷◌, ◌++◌, codes, decimal, length, slice_get, slice_index_or, Option, Some, None}
+use Rattle.std.specs.Prelude.{◌≡◌, ◌↔◌, ◌<◌, ℕ, zero, suc, ◌+◌, Bool, true, ◌&&◌, not, List, [], ◌∷◌, ◌++◌, codes, decimal, length, slice_get, slice_index_or, Option, Some, None}
 use Rattle.flow_graph.specs.declared.nodes.Node.{Node}
-use Rattle.flow_graph.specs.declared.nodes.Node.TheVariants as nodes
 use Rattle.flow_graph.specs.Graphs.{GraphShape}
 use Rattle.path_laws.specs.Paths.{HaveShape}
 use Rattle.sink_dead.specs.LiveRows.{TellLive}
 use Rattle.sink_dead.specs.Pruned.{IsDeadAt}
+use Rattle.sink_dead.specs.Skips.{is_skip}
 use Rattle.sink_dead.specs.SunkGraphs.{IsSunk}
 use Rattle.mir_opt.specs.declared.stages.Stage.TheVariants.{Round}
 use Rattle.mir_opt.specs.declared.trails.UnitTrail.{UnitTrail}
@@ -31,18 +31,6 @@ pub record IsDeadLine (graph : GraphShape) (text : List ℕ) : Type 0 where
   pub dead : ℕ → Bool
   pub dead_are : (n : ℕ) → n < length graph.nodes → (dead n ≡ true) ↔ IsDeadAt graph n
   pub text_is : text ≡ dead_line dead (length graph.nodes)
-
--- the node, where there is one, is a Skip
-abbrev pub is_skip : Option Node → Bool
-is_skip None = false
-is_skip (Some (nodes.Start next)) = false
-is_skip (Some (nodes.Skip next)) = true
-is_skip (Some (nodes.Assign x rhs next)) = false
-is_skip (Some (nodes.Print a next)) = false
-is_skip (Some (nodes.Guard test number next)) = false
-is_skip (Some (nodes.Call into unit operands next)) = false
-is_skip (Some (nodes.Test test taken other)) = false
-is_skip (Some (nodes.Return a)) = false
 
 -- node n became a Skip
 abbrev pub became_skip : List Node → List Node → ℕ → Bool

@@ -223,7 +223,8 @@ fn put_expression(
     requires inserted { inserted ≡ has_insertion unit.now.placement.insert number }
     requires temporary { temporary ≡ unit_temporary unit.now number }
     ensures text { AppendsOnOk result text.old text.new
-        (expression_lines unit.now (rows_of_lines lines.now) number (slice_get unit.now.table number)) }
+        (expression_lines unit.now (rows_of_lines lines.now) number
+        (slice_get unit.now.table number)) }
     ensures next { IfOk result (λ next. next ≡ unit_temporary unit.now (number + 1)) }
 {
     let next = next_temporary(temporary, inserted)?;

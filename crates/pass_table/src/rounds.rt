@@ -5,12 +5,13 @@ ghost use Rattle.flow_graph.specs.Edges.{IsSplit};
 ghost use Rattle.path_laws.specs.Paths.{HaveShape};
 ghost use Rattle.sink_dead.specs.GraphFlows.{IsFlowOf};
 ghost use Rattle.sink_dead.specs.Pruned.{IsPruned};
+ghost use Rattle.sink_dead.specs.Skips.{is_skip};
 ghost use Rattle.mir_opt.specs.declared.stages.Stage.TheVariants.{Round};
 ghost use Rattle.mir_opt.specs.Stages.{graph_at};
 ghost use Rattle.table_text.specs.Lines.{names_of_units};
 ghost use Rattle.table_text.specs.Rows.{bit_byte};
 ghost use Rattle.table_text.specs.Turns.{AppendsSome, InTurn};
-ghost use Rattle.pass_table.specs.Rounds.{IsDeadLine, IsLiveText, IsRoundAt, IsSunkText, became_skip, dead_line, flags_below, is_skip, sunk_line, variable_line, variables_below};
+ghost use Rattle.pass_table.specs.Rounds.{IsDeadLine, IsLiveText, IsRoundAt, IsSunkText, became_skip, dead_line, flags_below, sunk_line, variable_line, variables_below};
 ghost use Rattle.pass_table.specs.Sinkings.{IsSinkingOf};
 ghost use Rattle.pass_table.specs.Units.{IsUnitLinked};
 

@@ -24,10 +24,11 @@ use Rattle.path_laws.proofs.Pushing.{pushed_before, pushed_last, pushed_shape}
 use Rattle.sink_dead.specs.declared.over.OverBlocks.{OverBlocks}
 use Rattle.sink_dead.specs.declared.patterns.Pattern.{Pattern}
 use Rattle.sink_dead.specs.Accesses.{blocks_at, is_occurrence, occurs_at}
-use Rattle.sink_dead.specs.Along.{AreBlockedIn, AreCarriedTo, AreDelayedIn, HasPassed, IsHandedOn, IsPassedOver, TellsOccurrence, is_skip}
+use Rattle.sink_dead.specs.Along.{AreBlockedIn, AreCarriedTo, AreDelayedIn, HasPassed, IsHandedOver, IsPassedOver, TellsOccurrence}
 use Rattle.sink_dead.specs.BlockRows.{AreRowsTo, leaves_own}
 use Rattle.sink_dead.specs.Delaying.{IsDelayedTo}
 use Rattle.sink_dead.specs.Inside.{comes_past}
+use Rattle.sink_dead.specs.Skips.{is_skip}
 use Rattle.sink_dead.specs.Over.{AreIntoOver, lists_of}
 use Rattle.sink_dead.proofs.BlockedIn.{IsJoinedTo}
 use Rattle.sink_dead.proofs.Carried.{glued_on}
@@ -38,7 +39,7 @@ use Rattle.sink_dead.proofs.Delays.{at_start, came_from, start_unentered}
 -- ---- a Skip
 
 -- a Skip blocks no pattern
-pub skip_frees : (over : OverBlocks) (n : ℕ) (node : Node) → slice_get over.graph.now.nodes n ≡ Some node → is_skip node ≡ true → (p : Pattern) → blocks_at p.var p.rhs over.graph.now n ≡ false
+pub skip_frees : (over : OverBlocks) (n : ℕ) (node : Node) → slice_get over.graph.now.nodes n ≡ Some node → is_skip (Some node) ≡ true → (p : Pattern) → blocks_at p.var p.rhs over.graph.now n ≡ false
 skip_frees over n (Start next) at is p = absurd (false≢true is)
 skip_frees over n (Skip next) at is p = skip_lets_pass over.graph.now p.var p.rhs n next at
 skip_frees over n (Assign x rhs next) at is p = absurd (false≢true is)
@@ -49,7 +50,7 @@ skip_frees over n (Test test taken other) at is p = absurd (false≢true is)
 skip_frees over n (Return a) at is p = absurd (false≢true is)
 
 -- and none occurs at it
-skip_bears : (over : OverBlocks) (n : ℕ) (node : Node) → slice_get over.graph.now.nodes n ≡ Some node → is_skip node ≡ true → (p : Pattern) → occurs_at p.var p.rhs over.graph.now n ≡ false
+skip_bears : (over : OverBlocks) (n : ℕ) (node : Node) → slice_get over.graph.now.nodes n ≡ Some node → is_skip (Some node) ≡ true → (p : Pattern) → occurs_at p.var p.rhs over.graph.now n ≡ false
 skip_bears over n (Start next) at is p = absurd (false≢true is)
 skip_bears over n (Skip next) at is p = ap (is_occurrence p.var p.rhs) at
 skip_bears over n (Assign x rhs next) at is p = absurd (false≢true is)
@@ -60,7 +61,7 @@ skip_bears over n (Test test taken other) at is p = absurd (false≢true is)
 skip_bears over n (Return a) at is p = absurd (false≢true is)
 
 -- so a row that is taken past it stays
-pub passed_skip : (over : OverBlocks) (n row : ℕ) (node : Node) (rows : List (List Bool)) → slice_get over.graph.now.nodes n ≡ Some node → is_skip node ≡ true → IsPassedOver over n row rows rows
+pub passed_skip : (over : OverBlocks) (n row : ℕ) (node : Node) (rows : List (List Bool)) → slice_get over.graph.now.nodes n ≡ Some node → is_skip (Some node) ≡ true → IsPassedOver over n row rows rows
 passed_skip over n row node rows at is = record {
   len = refl;
   long = refl;
@@ -150,7 +151,7 @@ module _ (over : OverBlocks) (blocked : List (List Bool)) (blocked_are : AreBloc
 
   -- to the row of the next node is joined what comes past this one
   pub handed_on : (node : ℕ) (rows put_rows new : List (List Bool)) → AreRows (length over.graph.now.nodes) (length over.table.now) rows → node < length over.graph.now.nodes
-      → put_rows ≡ set rows node (or_bits (row_of rows node) (minus_bits (row_of rows n) (row_of blocked n))) → new ≡ with_found put_rows node found → IsHandedOn over n node rows new
+      → put_rows ≡ set rows node (or_bits (row_of rows node) (minus_bits (row_of rows n) (row_of blocked n))) → new ≡ with_found put_rows node found → IsHandedOver over n node rows new
   handed_on node rows put_rows new shape node_in is found_is = record {
     len = found_len over n found tells put_rows new node mid_shape row_mid found_is ∙ made.len;
     long = found_long over n found tells put_rows new node mid_shape row_mid found_is ∙ ap length made.here ∙ length_or (row_of rows node) (minus_bits (row_of rows n) (row_of blocked n)) alike;
@@ -350,7 +351,7 @@ module _ (over : OverBlocks) (is_graph : IsGraph over.graph.now.vars over.graph.
 
     -- each other what the one before it hands on
     pub along_more : (place m n : ℕ) (rows new : List (List Bool)) → slice_get list place ≡ Some m → slice_get list (suc place) ≡ Some n → IsGlued over.graph.now.nodes m n → n < length over.graph.now.nodes
-        → AreAlong over block list (suc place) rows → IsHandedOn over m n rows new → AreAlong over block list (suc (suc place)) new
+        → AreAlong over block list (suc place) rows → IsHandedOver over m n rows new → AreAlong over block list (suc (suc place)) new
     along_more place m n rows new m_at n_at glued n_in before handed = record {
       shape = record {
         len = handed.len ∙ before.shape.len;

@@ -2,8 +2,6 @@
 -- private functions.
 use Rattle.std.specs.Prelude.{◌≡◌, ◌≢◌, ◌+◌, ◌<◌, ℕ, ◌↔◌, ◌&&◌, ◌||◌, not, Bool, true, false, List, length, take, slice_get, Option, Some, IfSome}
 use Rattle.bit_rows.specs.Bits.{row_of}
-use Rattle.flow_graph.specs.declared.nodes.Node.{Node}
-use Rattle.flow_graph.specs.declared.nodes.Node.TheVariants.{Start, Skip, Assign, Print, Guard, Call, Test, Return}
 use Rattle.flow_graph.specs.Blocks.{StandsIn}
 use Rattle.path_laws.specs.Paths.{AreRows, has_bit}
 use Rattle.sink_dead.specs.declared.over.OverBlocks.{OverBlocks}
@@ -31,17 +29,6 @@ AreInsertedIn over rows = AreRowsTelling over.graph.now over.table.now (IsInsert
 
 -- ---- one node
 
--- the node is a Skip
-abbrev pub is_skip : Node → Bool
-is_skip (Start next) = false
-is_skip (Skip next) = true
-is_skip (Assign x rhs next) = false
-is_skip (Print a next) = false
-is_skip (Guard test number next) = false
-is_skip (Call into unit operands next) = false
-is_skip (Test test taken other) = false
-is_skip (Return a) = false
-
 -- the number is that of the pattern of the table that occurs at node n
 pub record TellsOccurrence (over : OverBlocks) (n : ℕ) (number : Option ℕ) : Type 0 where
   pub within : IfSome number (λ k. k < length over.table.now)
@@ -57,7 +44,7 @@ pub record IsPassedOver (over : OverBlocks) (n row : ℕ) (old new : List (List 
 
 -- to one row is joined what comes past node `before`, of which the old rows say what came to it, and the others are as
 -- they were
-pub record IsHandedOn (over : OverBlocks) (before node : ℕ) (old new : List (List Bool)) : Type 0 where
+pub record IsHandedOver (over : OverBlocks) (before node : ℕ) (old new : List (List Bool)) : Type 0 where
   pub len : length new ≡ length old
   pub long : length (row_of new node) ≡ length (row_of old node)
   pub others : (m : ℕ) → m ≢ node → row_of new m ≡ row_of old m

@@ -1,8 +1,21 @@
--- Skips that an assignment passes: the node after each, and where they lead. Cited by contracts.
-use Rattle.std.specs.Prelude.{◌≡◌, ◌<◌, ◌≤◌, ℕ, zero, suc, nat_eq, if◌then◌else◌, List, length, slice_get, Option, Some, None}
+-- Skips that an assignment passes: which nodes are Skips, the node after each, and where they lead. Cited by contracts,
+-- those of pass_table too.
+use Rattle.std.specs.Prelude.{◌≡◌, ◌<◌, ◌≤◌, ℕ, zero, suc, nat_eq, if◌then◌else◌, Bool, true, false, List, length, slice_get, Option, Some, None}
 use Rattle.flow_graph.specs.declared.nodes.Node.{Node}
 use Rattle.flow_graph.specs.declared.nodes.Node.TheVariants.{Start, Skip, Assign, Print, Guard, Call, Test, Return}
 use Rattle.flow_graph.specs.Edges.{preds_of}
+
+-- the node, where there is one, is a Skip
+abbrev pub is_skip : Option Node → Bool
+is_skip None = false
+is_skip (Some (Start next)) = false
+is_skip (Some (Skip next)) = true
+is_skip (Some (Assign x rhs next)) = false
+is_skip (Some (Print a next)) = false
+is_skip (Some (Guard test number next)) = false
+is_skip (Some (Call into unit operands next)) = false
+is_skip (Some (Test test taken other)) = false
+is_skip (Some (Return a)) = false
 
 -- the node, where one edge alone enters it
 abbrev pub entered_once : List Node → ℕ → Option ℕ

@@ -1,8 +1,9 @@
 // At which nodes patterns are delayed: what comes into each block, taken through its nodes.
 ghost use Rattle.std.specs.Prelude.{◌≡◌, ◌+◌, ◌<◌, length, slice_get, IfOk, OnOk, Some};
-ghost use Rattle.sink_dead.specs.Along.{AreBlockedIn, AreCarriedTo, AreDelayedIn, HasPassed, IsHandedOn, IsPassedOver, TellsOccurrence, is_skip};
+ghost use Rattle.sink_dead.specs.Along.{AreBlockedIn, AreCarriedTo, AreDelayedIn, HasPassed, IsHandedOver, IsPassedOver, TellsOccurrence};
 ghost use Rattle.sink_dead.specs.BlockRows.{AreRowsTo, is_blocked_in, leaves_own};
 ghost use Rattle.sink_dead.specs.Over.{AreBlockedOver, AreIntoOver, AreLeavingOver, IsOverBlocks, lists_of};
+ghost use Rattle.sink_dead.specs.Skips.{is_skip};
 ghost use Rattle.path_laws.specs.Paths.{AreRows};
 
 use crate::between::into_rows;
@@ -145,7 +146,7 @@ fn pass_over(over: &OverBlocks<'_>, blocked: &Rows, node: usize, row: usize, row
 
 /// Whether a node is a Skip: it blocks no pattern, and none occurs at it.
 pub(crate) fn is_skip(node: &Node) -> bool
-    ensures { result ≡ is_skip node.now }
+    ensures { result ≡ is_skip (Some node.now) }
 {
     match node {
         Node::Start(_) => false,
@@ -216,7 +217,7 @@ fn hand_on(over: &OverBlocks<'_>, blocked: &Rows, before: usize, node: usize, ro
     requires node { node < length over.now.graph.now.nodes }
     requires rows { AreRows (length over.now.graph.now.nodes) (length over.now.table.now)
         rows.old }
-    ensures { IsHandedOn over.now before node rows.old rows.new }
+    ensures { IsHandedOver over.now before node rows.old rows.new }
 {
     rows.or_minus_within(node, before, &blocked.row(before));
     if let Some(number) = number_at(over, before) {
