@@ -35,7 +35,7 @@ BYTE_BY_BYTE = ('GLIBC_TUNABLES=glibc.cpu.x86_rep_movsb_threshold=1000000000'
                 ':glibc.cpu.x86_rep_stosb_threshold=1000000000')
 
 # The program that writes the tables, which takes no words: what is called where the word of a case is `tables`. Its
-# functions that turn rows for writing and append bytes to the text, of which the instructions are not counted where the
+# functions that turn rows for writing or append bytes to the text, of which the instructions are not counted where the
 # crates of tables call them, and neither are the functions of Vec that they call to append.
 TABLES = TOP / 'crates' / 'mir_tables' / 'out' / 'mir_tables'
 WRITERS = re.compile(r'(?:table_text|mir_print|itoa)::')
