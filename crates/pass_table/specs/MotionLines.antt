@@ -46,7 +46,7 @@ pub record AreMotionLines (placement : Placement) (rows : MotionRows) (lines : M
 abbrev pub busy_of : MotionLines → Busy
 busy_of lines = record { uses = lines.safe.uses; up = lines.safe.up; down = lines.safe.down; early = lines.safe.early }
 
--- those of how far expressions can be delayed, which are used where the busy placement has it
+-- those of how far expressions can be delayed; the rows of where these are used are those of the busy placement
 abbrev pub late_of : MotionLines → Late
 late_of lines =
     record { uses = lines.safe.uses; delayed = lines.late.delayed; latest = lines.late.latest; isolated = lines.late.isolated }

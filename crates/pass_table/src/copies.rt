@@ -23,7 +23,7 @@ pub(crate) fn put_copies(alloc: Global, text: &mut Vec<u8>, graph: &Graph) -> Re
     Ok(())
 }
 
-/// Appends the lines of the copies of this table, which hold where these lines say.
+/// Appends the lines of the copies of this table; `held` says where each holds.
 fn put_each(
     text: &mut Vec<u8>,
     graph: &Graph,

@@ -18,7 +18,7 @@ pub(crate) struct MotionLines {
     pub(crate) safe: SafeLines,
     /// How far they can be delayed.
     pub(crate) late: LateLines,
-    /// Where the placements insert and replace, and where they hold temporaries.
+    /// Where the lazy placement inserts and replaces, and on which edges each placement holds temporaries.
     pub(crate) placed: PlacedLines,
 }
 
@@ -48,7 +48,7 @@ pub(crate) struct LateLines {
     pub(crate) isolated: Lines,
 }
 
-/// The lines of the lazy placement, and of the edges on which temporaries live under both.
+/// The lines of the lazy placement, and of the edges on which temporaries live under each of the two placements.
 #[derive(Drop)]
 pub(crate) struct PlacedLines {
     /// On which edges the temporary of an expression lives under the busy placement.
@@ -105,7 +105,7 @@ fn late_lines_of(alloc: Global, late: &Late) -> Result<LateLines, Memory>
     })
 }
 
-/// The lines of the lazy placement, and of the edges on which temporaries live under both.
+/// The lines of the lazy placement, and of the edges on which temporaries live under each of the two placements.
 fn placed_lines_of(
     alloc: Global,
     placement: &Placement,
@@ -127,7 +127,7 @@ fn placed_lines_of(
     })
 }
 
-/// The lines of two sets of rows.
+/// The lines of two sets of rows, so that few values are owned where a call can fail.
 fn two_lines(alloc: Global, first: &Rows, second: &Rows) -> Result<(Lines, Lines), Memory>
     ensures { IfOk result (λ made. (made.0 ≡ first.now) × (made.1 ≡ second.now)) }
 {

@@ -52,7 +52,7 @@ pub(crate) fn put_patterns_by(
     Ok(())
 }
 
-/// The lines of the patterns that were found.
+/// The patterns that were found, with their rows turned.
 fn lines_of(alloc: Global, found: DelayedPatterns) -> Result<PatternLines, Memory>
     ensures { IfOk result (λ lines. found_of lines ≡ found) }
 {

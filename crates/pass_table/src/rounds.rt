@@ -223,7 +223,7 @@ fn put_live(
     Ok(())
 }
 
-/// Appends the variables of a graph, each with its bit of the lines.
+/// Appends the variables of a graph, each with the nodes before which it is live.
 fn put_variables(text: &mut Vec<u8>, graph: &Graph, live: &Lines) -> Result<(), Memory>
     requires { HaveShape graph.now (length graph.now.vars) live.now }
     ensures { AppendsOnOk result text.old text.new

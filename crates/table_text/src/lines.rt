@@ -10,11 +10,11 @@ use mir_base::Memory;
 use std::alloc::{AllocError, Global};
 use std::marker::Model;
 
-/// Rows of truth values, all equally long, for writing one bit of all of them after the other. Contracts see them as the
-/// list of the rows that they were made of.
+/// Rows of truth values, all equally long, for writing one bit of all of them after the other. Contracts see them as
+/// the list of the rows that they were made of.
 ///
-/// They are kept in words of 16 bits, column after column: word `k` of row `n` stands at `k * rows + n`. The narrower the
-/// words, the more of them are written at once, and the more of them are to be turned.
+/// They are kept in words of 16 bits, column after column: word `k` of row `n` stands at `k * rows + n`. The narrower
+/// the words, the more of them are written at once, and the more of them are to be turned.
 #[derive(Drop)]
 pub struct Lines {
     rows: usize,
@@ -34,7 +34,9 @@ impl Model for Lines {
 }
 
 impl Lines {
-    /// The rows in columns. It fails only with `Memory`.
+    /// The rows in columns. It fails only with `Memory`. It is not drawn into those that call it, so that what it takes
+    /// is counted by itself.
+    #[inline(never)]
     pub fn of(alloc: Global, rows: &Rows) -> Result<Lines, Memory>
         ensures { IfOk result (λ made. made ≡ rows.now) }
     {
