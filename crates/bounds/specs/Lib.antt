@@ -1,0 +1,15 @@
+pub mod Ends
+pub mod Facts
+pub mod Bounding
+pub mod Narrowing
+pub mod Edges
+pub mod FactLaws
+pub mod EndLaws
+pub mod RoundingLaws
+pub mod SpanMono
+pub mod SpanHolds
+pub mod BoundsLaws
+pub mod NarrowingLaws
+pub mod UseLaws
+pub mod EdgeLaws
+pub mod NonemptyLaws

@@ -1,0 +1,404 @@
+-- The value of an operator lies in its span. For proofs only.
+use Rattle.std.proofs.Common.{◌≡◌, ℕ, suc, ◌*◌, ◌/◌, ◌%◌, ◌^◌, ◌<◌, ◌≤◌, Bool, true, false, if◌then◌else◌, not, refl, sym, subst, arith, mod-eq_of_lt, ℤ, pos, negsuc, ◌+ℤ◌, ◌-ℤ◌, ◌*ℤ◌, int_le, int_lt, int_div, int_rem, unsigned_abs, bit_and, bit_or, bit_xor, FitsSigned, w64}
+use Rattle.std.specs.Ordering.{int_eq}
+use Rattle.std.proofs.lemmas.Int.{ints, clamps, int_wrap_fits}
+use Rattle.std.proofs.lemmas.Nat.{mul-le, shr_le, and_le_l, and_le_r, or_lt, xor_lt, mod_below}
+use Rattle.std.proofs.Math.IntN.{*ℤ_comm}
+use Rattle.std.proofs.Math.Nat.{mod-le}
+use Rattle.std.proofs.Math.Pow.{pow_pos}
+use Rattle.std.specs.Int.{int_min, int_max, int_div_euclid}
+use Rattle.std.specs.Prelude.{◌≤ℤ◌}
+use Rattle.mir_base.specs.declared.operators.Op.{Op}
+use Rattle.mir_base.specs.declared.operators.Op.TheVariants.{Add, Sub, Mul, Div, Mod, Min, Max, Eq, Ne, Lt, Le, Gt, Ge, Shl, Shr, Shra, And, Or, Xor}
+use Rattle.mir_base.specs.declared.operators.UnOp.{UnOp}
+use Rattle.mir_base.specs.declared.operators.UnOp.TheVariants.{Neg, Not}
+use Rattle.mir_base.specs.Numbers.{wrapped, unsigned, distance, truth, value_of_op, value_of_un_op}
+use Rattle.mir_base.specs.WordLaws.{bits_are}
+use Rattle.bounds.specs.declared.ends.End.{End}
+use Rattle.bounds.specs.declared.ends.End.TheVariants.{Least, Min32, Min16, Min8, MinusOne, Zero, One, Max8, MaxU8, Max16, MaxU16, Max32, MaxU32, Greatest}
+use Rattle.bounds.specs.Ends.{value, ceiling}
+use Rattle.bounds.specs.EndLaws.{le_is, is_le, both_left, both_right, ceiling_high}
+use Rattle.bounds.specs.declared.spans.Span.{Span}
+use Rattle.bounds.specs.Bounding.{In, span, all, is_natural, is_positive, natural, are_distances, shifted_all, span_mul, span_div, span_mod, span_shl, span_shr, span_shra_by, span_shra, first_distance, depth, scaled, span_and, span_or, are_one, may_equal, span_lt, span_le, span_op, span_un_op}
+use Rattle.bounds.specs.RoundingLaws.{InIfFits, both_true, le_trans, fits_from}
+use Rattle.bounds.specs.SpanMono.{shra_by_mono, natural_mono, pos_mono, positive_is, div_mono, power_mono}
+
+-- ---- where rules apply
+
+-- a number in a span
+stands : (s : Span) (z : ℤ) → In s z → InIfFits s z
+stands s z h = record { in_span = λ p q. h }
+
+-- each is in more than all numbers, as that does not fit
+all_holds : (z : ℤ) → InIfFits all z
+all_holds z = record { in_span = λ p q. absurd (omega (arith, ints, p)) }
+
+-- a rule that applies
+guard : (b : Bool) (s : Span) (z : ℤ) → (b ≡ true → InIfFits s z) → InIfFits (if b then s else all) z
+guard true s z h = h refl
+guard false s z h = all_holds z
+
+-- two rules
+guard_two : (b c : Bool) (s t : Span) (z : ℤ) → (b ≡ true → InIfFits s z) → (c ≡ true → InIfFits t z)
+    → InIfFits (if b then s else if c then t else all) z
+guard_two true c s t z h k = h refl
+guard_two false true s t z h k = k refl
+guard_two false false s t z h k = all_holds z
+
+-- ---- numbers
+
+-- an exact number in a span, wrapped where the span fits, is itself
+exact : (s : Span) (z : ℤ) → In s z → InIfFits s (wrapped z)
+exact s z h = record {
+  in_span = λ p q.
+      let low : value Least ≤ℤ z = le_trans _ _ _ p h.low in
+      let high : z ≤ℤ value Greatest = le_trans _ _ _ h.high q in
+      subst (In s) (sym (int_wrap_fits w64 z (fits_from z low high))) h;
+}
+
+-- a natural number read without a sign
+pub unsigned_is : (n : ℕ) → FitsSigned w64 (pos n) → unsigned (pos n) ≡ n
+unsigned_is n fits = sym (bits_are (pos n) fits)
+
+-- natural numbers in a span
+natural_low : (s : Span) (n : ℕ) → In s (pos n) → natural s.low ≤ n
+natural_low s n h = natural_mono _ _ h.low
+
+-- and at most its high end
+natural_high : (s : Span) (n : ℕ) → In s (pos n) → n ≤ natural s.high
+natural_high s n h = natural_mono _ _ h.high
+
+-- no negative number is in a natural span
+not_natural : {A : Type 0} (s : Span) (n : ℕ) → In s (negsuc n) → is_natural s ≡ true → A
+not_natural s n h is = let low : pos 0 ≤ℤ s.low = le_is _ _ is in absurd (omega (arith, ints, low, h.low))
+
+-- ---- each operator
+
+-- multiples by at most n
+scaled_holds : (s : Span) (a : ℤ) (m n : ℕ) → In s a → m ≤ n → In (scaled s n) (a *ℤ pos m)
+scaled_holds s (pos a) m n v le = record {
+  low = omega (arith, ints);
+  high = pos_mono _ _ (mul-le _ _ _ _ (natural_high s a v) le);
+}
+scaled_holds s (negsuc a) m n v le =
+    let deep : suc a ≤ depth s.low = is_deep s.low v.low in
+    let product : suc a * m ≤ depth s.low * n = mul-le _ _ _ _ deep le in
+    record { low = omega (arith, ints, product); high = omega (arith, ints) }
+  where
+    is_deep : (z : ℤ) → z ≤ℤ negsuc a → suc a ≤ depth z
+    is_deep (pos n) le = absurd (omega (arith, ints, le))
+    is_deep (negsuc n) le = omega (arith, ints, le)
+
+-- products by a natural span
+by_natural : (s t : Span) (a b : ℤ) → In s a → In t b → is_natural t ≡ true
+    → InIfFits (scaled s (natural t.high)) (wrapped (a *ℤ b))
+by_natural s t a (pos b) v w is = exact _ _ (scaled_holds s a b _ v (natural_high t b w))
+by_natural s t a (negsuc b) v w is = not_natural t b w is
+
+-- products
+mul_holds : (s t : Span) (a b : ℤ) → In s a → In t b → InIfFits (span_mul s t) (wrapped (a *ℤ b))
+mul_holds s t a b v w =
+    guard_two _ _ _ _ _ (by_natural s t a b v w)
+    (λ k. subst (λ z. InIfFits (scaled t (natural s.high)) (wrapped z)) (*ℤ_comm b a) (by_natural t s b a w v k))
+
+-- a positive span has no negative number
+not_positive : {A : Type 0} (s : Span) (n : ℕ) → In s (negsuc n) → is_positive s ≡ true → A
+not_positive s n h is = let low : pos 1 ≤ℤ s.low = le_is _ _ is in absurd (omega (arith, ints, low, h.low))
+
+-- quotients
+div_holds : (s t : Span) (a b : ℤ) → In s a → In t b → InIfFits (span_div s t) (wrapped (int_div a b))
+div_holds s t (pos a) (pos b) v w =
+    guard _ _ _ (λ h. exact _ _ (record {
+      low = omega (arith, ints);
+      high = pos_mono _ _ (div_mono _ _ _ _ (natural_high s a v) (natural_low t b w)
+          (positive_is t.low (le_is _ _ (both_right (is_natural s) (is_positive t) h))));
+    }))
+div_holds s t (negsuc a) b v w = guard _ _ _ (λ h. not_natural s a v (both_left _ (is_positive t) h))
+div_holds s t (pos a) (negsuc b) v w = guard _ _ _ (λ h. not_positive t b w (both_right (is_natural s) _ h))
+
+-- the high end of a remainder of a natural number
+rem_high : (c : Bool) (h k : ℤ) (a : ℕ) (b : ℤ) → pos a ≤ℤ h → (c ≡ true → (pos 1 ≤ℤ b) × (b ≤ℤ k))
+    → pos (a % unsigned_abs b) ≤ℤ (if c then int_min h (k -ℤ pos 1) else h)
+rem_high false h k a b le on = omega (arith, ints, le, mod-le a (unsigned_abs b))
+rem_high true h k a (pos b) le on =
+    let low : pos 1 ≤ℤ pos b = (on refl).0 in
+    let some : 0 < b = omega (arith, ints, low) in
+    omega (arith, ints, clamps, le, mod-le a b, mod_below a b some, (on refl).1)
+rem_high true h k a (negsuc b) le on = let low : pos 1 ≤ℤ negsuc b = (on refl).0 in absurd (omega (arith, ints, low))
+
+-- what a positive span says of its numbers
+positive_in : (t : Span) (b : ℤ) → In t b → is_positive t ≡ true → (pos 1 ≤ℤ b) × (b ≤ℤ t.high)
+positive_in t b w is = let low : pos 1 ≤ℤ t.low = le_is _ _ is in (le_trans _ _ _ low w.low, w.high)
+
+-- a remainder is nearer to 0 than a positive divisor
+rem_near : (a b : ℤ) → pos 1 ≤ℤ b → ((pos 1 -ℤ b) ≤ℤ int_rem a b) × (int_rem a b ≤ℤ (b -ℤ pos 1))
+rem_near (pos a) (pos b) low =
+    let some : 0 < b = omega (arith, ints, low) in
+    let small : a % b < b = mod_below a b some in
+    (omega (arith, ints, small), omega (arith, ints, small))
+rem_near (negsuc a) (pos b) low =
+    let some : 0 < b = omega (arith, ints, low) in
+    let small : suc a % b < b = mod_below (suc a) b some in
+    (omega (arith, ints, small), omega (arith, ints, small))
+rem_near a (negsuc b) low = absurd (omega (arith, ints, low))
+
+-- so it lies in a span that a positive one gives
+rem_in : (t : Span) (a b : ℤ) → In t b → is_positive t ≡ true
+    → In (span (int_min (pos 0) (pos 1 -ℤ t.high)) (t.high -ℤ pos 1)) (int_rem a b)
+rem_in t a b w is =
+    let near = rem_near a b (positive_in t b w is).0 in
+    record { low = omega (arith, ints, clamps, near.0, w.high); high = omega (arith, ints, near.1, w.high) }
+
+-- remainders
+mod_holds : (s t : Span) (a b : ℤ) → In s a → In t b → InIfFits (span_mod s t) (int_rem a b)
+mod_holds s t (pos a) b v w =
+    let natural_part : In (span (pos 0) (if is_positive t then int_min s.high (t.high -ℤ pos 1) else s.high))
+    (pos (a % unsigned_abs b)) =
+    record { low = omega (arith, ints); high = rem_high (is_positive t) s.high t.high a b v.high (positive_in t b w) } in
+    guard_two _ _ _ _ _ (λ h. stands _ _ natural_part) (λ k. stands _ _ (rem_in t (pos a) b w k))
+mod_holds s t (negsuc a) b v w =
+    guard_two _ _ _ _ _ (λ h. not_natural s a v h) (λ k. stands _ _ (rem_in t (negsuc a) b w k))
+
+-- a distance that does not wrap
+distance_is : (t : Span) (b : ℤ) → In t b → are_distances t ≡ true
+    → (natural t.low ≤ distance b) × (distance b ≤ natural t.high)
+distance_is t (pos b) w is =
+    let high : t.high ≤ℤ pos 63 = le_is _ _ (both_right (is_natural t) (int_le t.high (pos 63)) is) in
+    let small : b < 64 = omega (arith, ints, high, w.high) in
+    let same : b % 64 ≡ b = mod-eq_of_lt small in
+    (omega (arith, same, natural_low t b w), omega (arith, same, natural_high t b w))
+distance_is t (negsuc b) w is = not_natural t b w (both_left (is_natural t) (int_le t.high (pos 63)) is)
+
+-- it is at least the least of the span
+first_is : (t : Span) (b : ℤ) → In t b → are_distances t ≡ true → first_distance t ≤ distance b
+first_is t b w is = let far = (distance_is t b w is).0 in omega (arith, far)
+
+-- shifts to the left
+shl_holds : (s t : Span) (a b : ℤ) → In s a → In t b
+    → InIfFits (span_shl s t) (wrapped (a *ℤ pos (2 ^ distance b)))
+shl_holds s t a b v w =
+    guard _ _ _ (λ h. exact _ _ (scaled_holds s a _ _ v (power_mono _ _ (distance_is t b w h).1)))
+
+-- read without a sign a number has 64 bits
+unsigned_small : (a : ℤ) → unsigned a ≤ 18446744073709551615
+unsigned_small (pos n) = omega (arith, mod_below n 18446744073709551616 (omega arith))
+unsigned_small (negsuc n) = omega (arith, mod_below n 18446744073709551616 (omega arith))
+
+-- shifts to the right without a sign
+shr_holds : (s t : Span) (a b : ℤ) → FitsSigned w64 a → In s a → In t b
+    → InIfFits (span_shr s t) (wrapped (pos (unsigned a / 2 ^ distance b)))
+shr_holds s t a b fits v w =
+    guard_two _ _ _ _ _
+    (λ h. exact _ _ (record {
+      low = omega (arith, ints);
+      high = high_end a fits v (is_natural s) refl (first_is t b w h);
+    }))
+    (λ k. exact _ _ (record { low = omega (arith, ints); high = whole a fits v k }))
+  where
+    whole : (a : ℤ) → FitsSigned w64 a → In s a → is_natural s ≡ true
+        → pos (unsigned a / 2 ^ distance b) ≤ℤ pos (natural s.high)
+    whole (pos a) fits v is =
+        pos_mono _ _ (omega (arith, shr_le (unsigned (pos a)) (distance b), unsigned_is a fits, natural_high s a v))
+    whole (negsuc a) fits v is = not_natural s a v is
+
+    high_end : (a : ℤ) → FitsSigned w64 a → In s a → (c : Bool) → is_natural s ≡ c → first_distance t ≤ distance b
+        → pos (unsigned a / 2 ^ distance b) ≤ℤ
+        (if c then pos (natural s.high / 2 ^ first_distance t) else shifted_all (first_distance t))
+    high_end (pos a) fits v true is near =
+        pos_mono _ _ (div_mono _ _ _ _ (omega (arith, unsigned_is a fits, natural_high s a v)) (power_mono _ _ near) (pow_pos (first_distance t)))
+    high_end (negsuc a) fits v true is near = not_natural s a v is
+    high_end a fits v false is near =
+        pos_mono _ _ (div_mono _ _ _ _ (unsigned_small a) (power_mono _ _ near) (pow_pos (first_distance t)))
+
+-- a shift by at least k
+shra_by_holds : (s : Span) (a : ℤ) (j k : ℕ) → In s a → k ≤ j
+    → InIfFits (span_shra_by s k) (int_div_euclid a (pos (2 ^ j)))
+shra_by_holds s a j k v le =
+    let wide = shra_by_mono (span a a) s j k (record { low = v.low; high = v.high }) le in
+    stands _ _ (record {
+      low = le_trans _ _ _ wide.low (omega (arith, ints, clamps));
+      high = le_trans _ _ _ (omega (arith, ints, clamps)) wide.high;
+    })
+
+-- shifts to the right with a sign
+shra_holds : (s t : Span) (a b : ℤ) → In s a → In t b
+    → InIfFits (span_shra s t) (int_div_euclid a (pos (2 ^ distance b)))
+shra_holds s t a b v w = cases _ refl
+  where
+    cases : (c : Bool) → are_distances t ≡ c
+        → InIfFits (if c then span_shra_by s (first_distance t) else span_shra_by s 0) (int_div_euclid a (pos (2 ^ distance b)))
+    cases true is = shra_by_holds s a (distance b) (first_distance t) v (first_is t b w is)
+    cases false is = shra_by_holds s a (distance b) 0 v (omega arith)
+
+-- the lesser high end where both are natural
+and_high : (c : Bool) (h k : ℤ) (n : ℕ) → pos n ≤ℤ h → (c ≡ true → pos n ≤ℤ k) → pos n ≤ℤ (if c then int_min h k else h)
+and_high true h k n p q = omega (arith, ints, clamps, p, q refl)
+and_high false h k n p q = p
+
+-- `and`
+and_holds : (s t : Span) (a b : ℤ) → FitsSigned w64 a → FitsSigned w64 b → In s a → In t b
+    → InIfFits (span_and s t) (wrapped (pos (bit_and (unsigned a) (unsigned b))))
+and_holds s t a b fit_a fit_b v w =
+    guard_two _ _ _ _ _
+    (λ h. exact _ _ (record {
+      low = omega (arith, ints);
+      high = and_high _ _ _ _ (at_left a fit_a v h) (at_right b fit_b w);
+    }))
+    (λ k. exact _ _ (record { low = omega (arith, ints); high = at_right b fit_b w k }))
+  where
+    at_left : (a : ℤ) → FitsSigned w64 a → In s a → is_natural s ≡ true
+        → pos (bit_and (unsigned a) (unsigned b)) ≤ℤ s.high
+    at_left (pos a) fit v h =
+        let e : unsigned (pos a) ≡ a = unsigned_is a fit in
+        omega (arith, ints, e, and_le_l (unsigned (pos a)) (unsigned b), v.high)
+    at_left (negsuc a) fit v h = not_natural s a v h
+
+    at_right : (b : ℤ) → FitsSigned w64 b → In t b → is_natural t ≡ true
+        → pos (bit_and (unsigned a) (unsigned b)) ≤ℤ t.high
+    at_right (pos b) fit w h =
+        let e : unsigned (pos b) ≡ b = unsigned_is b fit in
+        omega (arith, ints, e, and_le_r (unsigned a) (unsigned (pos b)), w.high)
+    at_right (negsuc b) fit w h = not_natural t b w h
+
+-- a natural end has ones alone: one more than it is a power of two
+pub ones_end : (e : End) → pos 0 ≤ℤ value e → (k : ℕ) × (value e +ℤ pos 1 ≡ pos (2 ^ k))
+ones_end Least le = absurd (omega (arith, ints, le))
+ones_end Min32 le = absurd (omega (arith, ints, le))
+ones_end Min16 le = absurd (omega (arith, ints, le))
+ones_end Min8 le = absurd (omega (arith, ints, le))
+ones_end MinusOne le = absurd (omega (arith, ints, le))
+ones_end Zero le = (0, refl)
+ones_end One le = (1, refl)
+ones_end Max8 le = (7, refl)
+ones_end MaxU8 le = (8, refl)
+ones_end Max16 le = (15, refl)
+ones_end MaxU16 le = (16, refl)
+ones_end Max32 le = (31, refl)
+ones_end MaxU32 le = (32, refl)
+ones_end Greatest le = (63, refl)
+
+-- what keeps numbers below powers of two keeps them at most such ends
+below_end : (f : ℕ → ℕ → ℕ) (a b : ℕ) (e : End)
+    → ((k a b : ℕ) → a < 2 ^ k → b < 2 ^ k → f a b < 2 ^ k) → pos a ≤ℤ value e → pos b ≤ℤ value e
+    → pos (f a b) ≤ℤ value e
+below_end f a b e keeps p q =
+    let ones = ones_end e (omega (arith, ints, p)) in
+    let left : a < 2 ^ ones.0 = omega (arith, ints, p, ones.1) in
+    let right : b < 2 ^ ones.0 = omega (arith, ints, q, ones.1) in
+    omega (arith, ints, ones.1, keeps ones.0 a b left right)
+
+-- `or` and `xor`
+or_holds : (f : ℕ → ℕ → ℕ) (s t : Span) (a b : ℤ) → ((k a b : ℕ) → a < 2 ^ k → b < 2 ^ k → f a b < 2 ^ k)
+    → s.high ≤ℤ value Greatest → t.high ≤ℤ value Greatest
+    → FitsSigned w64 a → FitsSigned w64 b → In s a → In t b
+    → InIfFits (span_or s t) (wrapped (pos (f (unsigned a) (unsigned b))))
+or_holds f s t (pos a) (pos b) keeps small small' fit_a fit_b v w =
+    let same : unsigned (pos a) ≡ a = unsigned_is a fit_a in
+    let same' : unsigned (pos b) ≡ b = unsigned_is b fit_b in
+    let near : int_max s.high t.high ≤ℤ value (ceiling (int_max s.high t.high)) = ceiling_high _
+    (omega (arith, ints, clamps, small, small')) in
+    let left : pos (unsigned (pos a)) ≤ℤ value (ceiling (int_max s.high t.high)) =
+    omega (arith, ints, clamps, near, same, v.high) in
+    let right : pos (unsigned (pos b)) ≤ℤ value (ceiling (int_max s.high t.high)) =
+    omega (arith, ints, clamps, near, same', w.high) in
+    let both : In (span (pos 0) (value (ceiling (int_max s.high t.high)))) (pos (f (unsigned (pos a)) (unsigned (pos b)))) =
+    record { low = omega (arith, ints); high = below_end f _ _ (ceiling (int_max s.high t.high)) keeps left right } in
+    guard _ _ _ (λ h. exact _ _ both)
+or_holds f s t (negsuc a) b keeps small small' fit_a fit_b v w =
+    guard _ _ _ (λ h. not_natural s a v (both_left _ (is_natural t) h))
+or_holds f s t (pos a) (negsuc b) keeps small small' fit_a fit_b v w =
+    guard _ _ _ (λ h. not_natural t b w (both_right (is_natural s) _ h))
+
+-- a truth value lies between two, of which the first means the test and the test means the second
+truth_in : (l b h : Bool) → (l ≡ true → b ≡ true) → (b ≡ true → h ≡ true) → In (span (truth l) (truth h)) (truth b)
+truth_in l b h p q = record { low = steps l b p; high = steps b h q }
+  where
+    steps : (a b : Bool) → (a ≡ true → b ≡ true) → truth a ≤ℤ truth b
+    steps true true h = omega (arith, ints)
+    steps true false h = let bad : false ≡ true = h refl in absurd (cc)
+    steps false true h = omega (arith, ints)
+    steps false false h = omega (arith, ints)
+
+-- the negation of what a test means
+contrary : (a b : Bool) → (a ≡ true → b ≡ true) → not b ≡ true → not a ≡ true
+contrary true true h k = k
+contrary true false h k = let bad : false ≡ true = h refl in absurd (cc)
+contrary false b h k = refl
+
+-- what is below by the ends
+lt_low : (a b h l : ℤ) → a ≤ℤ h → l ≤ℤ b → int_lt h l ≡ true → int_lt a b ≡ true
+lt_low a b h l p q is = grind (arith, ints)
+
+-- what is at most by the ends
+le_low : (a b h l : ℤ) → a ≤ℤ h → l ≤ℤ b → int_le h l ≡ true → int_le a b ≡ true
+le_low a b h l p q is = let m : h ≤ℤ l = le_is _ _ is in is_le a b (omega (arith, ints, p, q, m))
+
+-- below
+lt_holds : (s t : Span) (a b : ℤ) → In s a → In t b → In (span_lt s t) (truth (int_lt a b))
+lt_holds s t a b v w = truth_in _ _ _ (lt_low a b _ _ v.high w.low) (lt_low _ _ a b v.low w.high)
+
+-- at most
+le_holds : (s t : Span) (a b : ℤ) → In s a → In t b → In (span_le s t) (truth (int_le a b))
+le_holds s t a b v w = truth_in _ _ _ (le_low a b _ _ v.high w.low) (le_low _ _ a b v.low w.high)
+
+-- numbers of one number are equal
+one_means : (s t : Span) (a b : ℤ) → In s a → In t b → are_one s t ≡ true → int_eq a b ≡ true
+one_means s t a b v w is =
+    let p : s.high ≤ℤ t.low = le_is _ _ (both_left _ (int_le t.high s.low) is) in
+    let q : t.high ≤ℤ s.low = le_is _ _ (both_right (int_le s.high t.low) _ is) in
+    let same : a ≡ b = omega (arith, ints, p, q, v.low, v.high, w.low, w.high) in
+    subst (λ c. int_eq a c ≡ true) same (eq_same a)
+  where
+    eq_same : (a : ℤ) → int_eq a a ≡ true
+    eq_same a = grind (arith, ints)
+
+-- numbers that are equal may be
+equal_means : (s t : Span) (a b : ℤ) → In s a → In t b → int_eq a b ≡ true → may_equal s t ≡ true
+equal_means s t a b v w is =
+    let same : a ≡ b = eq_is a b is in
+    both_true _ _ (is_le s.low t.high (omega (arith, ints, same, v.low, w.high)))
+    (is_le t.low s.high (omega (arith, ints, same, w.low, v.high)))
+  where
+    eq_is : (a b : ℤ) → int_eq a b ≡ true → a ≡ b
+    eq_is a b h = grind (arith, ints)
+
+-- each operator
+pub span_holds : (op : Op) (s t : Span) (a b : ℤ) → s.high ≤ℤ value Greatest → t.high ≤ℤ value Greatest
+    → FitsSigned w64 a → FitsSigned w64 b → In s a → In t b → InIfFits (span_op op s t) (value_of_op op a b)
+span_holds Add s t a b p q f g v w =
+    exact _ _ (record { low = omega (arith, ints, v.low, w.low); high = omega (arith, ints, v.high, w.high) })
+span_holds Sub s t a b p q f g v w =
+    exact _ _ (record { low = omega (arith, ints, v.low, w.high); high = omega (arith, ints, v.high, w.low) })
+span_holds Mul s t a b p q f g v w = mul_holds s t a b v w
+span_holds Div s t a b p q f g v w = div_holds s t a b v w
+span_holds Mod s t a b p q f g v w = mod_holds s t a b v w
+span_holds Min s t a b p q f g v w =
+    stands _ _ (record {
+      low = omega (arith, ints, clamps, v.low, w.low);
+      high = omega (arith, ints, clamps, v.high, w.high);
+    })
+span_holds Max s t a b p q f g v w =
+    stands _ _ (record {
+      low = omega (arith, ints, clamps, v.low, w.low);
+      high = omega (arith, ints, clamps, v.high, w.high);
+    })
+span_holds Eq s t a b p q f g v w = stands _ _ (truth_in _ _ _ (one_means s t a b v w) (equal_means s t a b v w))
+span_holds Ne s t a b p q f g v w =
+    stands _ _ (truth_in _ _ _ (contrary _ _ (equal_means s t a b v w)) (contrary _ _ (one_means s t a b v w)))
+span_holds Lt s t a b p q f g v w = stands _ _ (lt_holds s t a b v w)
+span_holds Le s t a b p q f g v w = stands _ _ (le_holds s t a b v w)
+span_holds Gt s t a b p q f g v w = stands _ _ (lt_holds t s b a w v)
+span_holds Ge s t a b p q f g v w = stands _ _ (le_holds t s b a w v)
+span_holds Shl s t a b p q f g v w = shl_holds s t a b v w
+span_holds Shr s t a b p q f g v w = shr_holds s t a b f v w
+span_holds Shra s t a b p q f g v w = shra_holds s t a b v w
+span_holds And s t a b p q f g v w = and_holds s t a b f g v w
+span_holds Or s t a b p q f g v w = or_holds bit_or s t a b or_lt p q f g v w
+span_holds Xor s t a b p q f g v w = or_holds bit_xor s t a b xor_lt p q f g v w
+
+-- and each on one number
+pub span_un_holds : (op : UnOp) (s : Span) (a : ℤ) → In s a → InIfFits (span_un_op op s) (value_of_un_op op a)
+span_un_holds Neg s a v = exact _ _ (record { low = omega (arith, ints, v.high); high = omega (arith, ints, v.low) })
+span_un_holds Not s a v =
+    let zero_in : In (span (pos 0) (pos 0)) (pos 0) = record { low = omega (arith, ints); high = omega (arith, ints) } in
+    stands _ _ (truth_in _ _ _ (one_means s _ a (pos 0) v zero_in) (equal_means s _ a (pos 0) v zero_in))
