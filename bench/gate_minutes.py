@@ -1,24 +1,34 @@
 #!/usr/bin/env python3
-"""Runs `rt ci` (with the words given) and prints the processor seconds that it took, by crate: of the proof, of the
-tests' proof and of the must-fail edits, as the table of CONTRIBUTING.md, with the number of edits; then the sums, the
+"""Runs the gate from nothing and prints the processor seconds that it took, by crate: of the proof, of the tests' proof
+and of the must-fail edits, as the table of CONTRIBUTING.md, with the number of edits; then what passed, the sums, the
 longest chain of crates of which each waits for the one before, and the minutes by the clock.
 
-    bench/gate_minutes.py --anew        # all from nothing
-    bench/gate_minutes.py bit_rows      # this crate and those below it
+    bench/gate_minutes.py             # rt ci
+    bench/gate_minutes.py --gate      # .ci/run, which does more behind rt ci; the table is of rt ci all the same
+    bench/gate_minutes.py --write     # puts the table and what stands below it into CONTRIBUTING.md too
+    bench/gate_minutes.py bit_rows    # this crate and those below it, where the kit's rt ci takes names
 
-What an earlier run on this machine has passed is not proved again and costs nothing, but with `--anew`. It looks at the
-processes of the run ten times a second; what a process took that lived shorter than that is counted with the one that
-started it. What `.ci/run` does besides `rt ci` takes a minute or two."""
+What the run itself writes is shown as it comes. --write writes nothing where the run failed.
+
+It looks at the processes of the run ten times a second; what a process took that lived shorter than that is counted with
+the one that started it. The minutes by the clock are up to the last process of the prover; what .ci/run does behind
+rt ci, and the runs of programs and tests, take some minutes more. A kit whose rt ci does not prove again what an earlier
+run has passed is told to prove all anew, but where crates are named."""
 import argparse
 import glob
 import os
 import re
 import subprocess
 import sys
+import threading
 import time
 
+PAGE = "CONTRIBUTING.md"
 TICKS = os.sysconf("SC_CLK_TCK")
 KINDS = ("proof", "tests", "edits")
+HEAD = "| Crate | Proof | Tests | Edits | Number of edits |\n|---|---|---|---|---|\n"
+SHOWN = re.compile(re.escape(HEAD) + r"(?:\|.*\n)*\n```text\n(?:.*\n)*?```\n")
+COUNTS = re.compile(r"\d+ passed, \d+ failed")
 
 
 def processes():
@@ -40,15 +50,25 @@ def processes():
     return found
 
 
+def is_rt_ci(words):
+    """Whether a command is `rt ci`, by itself or run by an interpreter."""
+    names = [os.path.basename(word) for word in words]
+    return any(pair == ("rt", "ci") for pair in zip(names, names[1:]))
+
+
 def prover_of(found, process, root):
-    """The outermost process of the prover that this one is, or was started by; none where the root did not start it."""
-    prover = None
-    while process in found and process != root:
+    """The outermost process of the prover that this one is, or was started by; none where no `rt ci` that the root is
+    or started has started it."""
+    prover, of_ci = None, False
+    while process in found:
         words = found[process][1]
         if os.path.basename(words[0]) == "rattle" and "--crate-name" in words:
             prover = process
+        of_ci = of_ci or is_rt_ci(words)
+        if process == root:
+            return prover if of_ci else None
         process = found[process][0]
-    return prover if process == root else None
+    return None
 
 
 def kind_of(words, folder):
@@ -59,7 +79,7 @@ def kind_of(words, folder):
 
 
 def sample(root, runs):
-    """Notes what each run of the prover that the root started has taken so far."""
+    """Notes what each run of the prover under the root has taken so far."""
     found, sums = processes(), {}
     for process, (_, _, _, _, seconds) in found.items():
         prover = prover_of(found, process, root)
@@ -70,6 +90,7 @@ def sample(root, runs):
         crate = words[words.index("--crate-name") + 1]
         before = runs.get((prover, begun), ("", "", 0))[2]
         runs[prover, begun] = (crate, kind_of(words, folder), max(seconds, before))
+    return bool(sums)
 
 
 def longest_chain(proofs):
@@ -87,34 +108,92 @@ def longest_chain(proofs):
     return max(map(chain_to, below))
 
 
-def show(table):
-    """Prints the rows, the sums and the longest chain."""
-    print("| Crate | Proof | Tests | Edits | Number of edits |\n|---|---|---|---|---|")
+def shown(table, counts, minutes):
+    """The table, and below it what passed, the sums, the longest chain and the minutes by the clock."""
+    rows, edits = [], 0
     for crate, row in sorted(table.items(), key=lambda item: -sum(item[1].values())):
         seconds = " | ".join(f"{row[kind]:.0f}" if row[kind] else "none" for kind in KINDS)
-        print(f"| `{crate}` | {seconds} | {len(glob.glob(f'crates/{crate}/must-fail/*.edit'))} |")
+        number = len(glob.glob(f"crates/{crate}/must-fail/*.edit"))
+        edits += number
+        rows.append(f"| `{crate}` | {seconds} | {number} |\n")
     sums = {kind: sum(row[kind] for row in table.values()) / 60 for kind in KINDS}
     told = ", ".join(f"{kind} {minutes:.1f}" for kind, minutes in sums.items())
-    print(f"{sum(sums.values()):.1f} processor minutes: {told}")
     seconds, chain = longest_chain({crate: row["proof"] for crate, row in table.items()})
-    print(f"longest chain: {seconds / 60:.1f} processor minutes of proof: {', '.join(chain)}")
+    lines = [
+        f"{len(table)} crates, {edits} edits; {counts}",
+        f"{sum(sums.values()):.1f} processor minutes: {told}",
+        *wrapped(f"longest chain: {seconds / 60:.1f} processor minutes of proof: {', '.join(chain)}"),
+        f"{minutes:.1f} minutes by the clock",
+    ]
+    return HEAD + "".join(rows) + "\n```text\n" + "\n".join(lines) + "\n```\n"
+
+
+def wrapped(line):
+    """The line, as lines of at most 120 columns."""
+    lines = [""]
+    for word in line.split(" "):
+        if len(lines[-1]) + len(word) >= 120:
+            lines.append("   ")
+        lines[-1] += f" {word}" if lines[-1] else word
+    return lines
+
+
+def put_into_page(text):
+    """Puts the table and what stands below it in the place of those of the page."""
+    with open(PAGE) as file:
+        page = file.read()
+    if len(SHOWN.findall(page)) != 1:
+        sys.exit(f"{PAGE} has no such table, with a block marked text below it")
+    with open(PAGE, "w") as file:
+        file.write(SHOWN.sub(lambda _: text, page))
+
+
+def echo(lines, last):
+    """Shows what the run writes, and keeps the last line that counts."""
+    for line in lines:
+        sys.stdout.write(line)
+        sys.stdout.flush()
+        found = COUNTS.match(line)
+        if found:
+            last[0] = found[0]
+
+
+def command(given):
+    """What is run."""
+    if given.gate:
+        return [".ci/run"]
+    told = subprocess.run(["rt", "help"], stdout=subprocess.PIPE, stderr=subprocess.STDOUT, errors="replace").stdout
+    return ["rt", "ci", *(["--anew"] if "--anew" in told and not given.crates else []), *given.crates]
 
 
 def main():
-    parser = argparse.ArgumentParser(description="Runs rt ci and prints the processor seconds that it took, by crate.")
-    parser.add_argument("--anew", action="store_true", help="prove all from nothing")
+    parser = argparse.ArgumentParser(description="Runs the gate and prints the processor seconds that it took, by crate.")
+    parser.add_argument("--gate", action="store_true", help="run .ci/run in the place of rt ci")
+    parser.add_argument("--write", action="store_true", help=f"put the table into {PAGE}")
     parser.add_argument("crates", nargs="*", metavar="CRATE", help="prove these and those below them; all with none")
     given = parser.parse_args()
-    begin, runs = time.time(), {}
-    gate = subprocess.Popen(["rt", "ci", *(["--anew"] if given.anew else []), *given.crates])
+    if given.crates and (given.gate or given.write):
+        parser.error("--gate and --write are for all crates")
+    begin, runs, last = time.time(), {}, ["nothing counted"]
+    end = begin
+    gate = subprocess.Popen(command(given), stdout=subprocess.PIPE, stdin=subprocess.DEVNULL, errors="replace")
+    reader = threading.Thread(target=echo, args=(gate.stdout, last))
+    reader.start()
     while gate.poll() is None:
-        sample(gate.pid, runs)
+        if sample(gate.pid, runs):
+            end = time.time()
         time.sleep(0.1)
+    reader.join()
     table = {}
     for crate, kind, seconds in runs.values():
         table.setdefault(crate, dict.fromkeys(KINDS, 0))[kind] += seconds
-    show(table)
-    print(f"{(time.time() - begin) / 60:.1f} minutes by the clock")
+    if not table:
+        print("no process of the prover was seen")
+        return gate.returncode or 1
+    text = shown(table, last[0], (end - begin) / 60)
+    print(text, end="")
+    if given.write and gate.returncode == 0:
+        put_into_page(text)
     return gate.returncode
 
 
