@@ -94,11 +94,11 @@ def read_before_set(unit: Unit, block: Block) -> tuple[set[str], set[str]]:
     return read, written
 
 
-def live_edges(unit: Unit, parts: list[Block], names: frozenset) -> list[frozenset]:
-    """For each edge between blocks which of these variables live on it: some path from its target reads them unset."""
+def live_blocks(unit: Unit, parts: list[Block]) -> list[set[str]]:
+    """For each block which variables live before it: some path from it reads them unset."""
     edges = list(block_edges(unit, parts))
     accesses = [read_before_set(unit, block) for block in parts]
-    live = [read & names for read, _ in accesses]
+    live = [read for read, _ in accesses]
     changed = True
     while changed:
         changed = False
@@ -106,7 +106,13 @@ def live_edges(unit: Unit, parts: list[Block], names: frozenset) -> list[frozens
             more = live[edge.target] - accesses[edge.source][1] - live[edge.source]
             live[edge.source] |= more
             changed |= bool(more)
-    return [frozenset(live[edge.target]) for edge in edges]
+    return live
+
+
+def live_edges(unit: Unit, parts: list[Block], names: frozenset) -> list[frozenset]:
+    """For each edge between blocks which of these variables live on it."""
+    live = live_blocks(unit, parts)
+    return [names & live[edge.target] for edge in block_edges(unit, parts)]
 
 
 def quoted(text: str) -> str:

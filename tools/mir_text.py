@@ -129,6 +129,11 @@ class Unit:
         return sum(isinstance(instruction, Receive) for instruction in self.instructions)
 
 
+def is_name(text: str) -> bool:
+    """Whether a text is a name."""
+    return bool(re.fullmatch('[A-Za-z][A-Za-z0-9_]*', text)) and len(text) <= NAME_BYTES and text not in RESERVED
+
+
 def tokens(text: str) -> Iterator[Token]:
     """The tokens from the left; empty lines are dropped, and the last line has an end."""
     at, line, before = 0, 1, Token('end', '\n', 0)
