@@ -1,6 +1,7 @@
 """Makes the lines of calls: of units, of the few functions of the C library that have a form in MIR, and of what LLVM
 has as calls and is an operator."""
 
+import llvm_bits
 from llvm_text import Address, Global, Instruction, width
 from llvm_units import ABORTED, ILLEGAL, LEAST, bounds, narrowed
 from mir_text import Binary, Call, If, Operand, Plain, Print, Return, Unary
@@ -106,14 +107,15 @@ def abort(maker, one: Instruction) -> None:
 
 
 def leave(maker, one: Instruction) -> None:
-    """An `exit`: a return where nothing calls the entry, elsewhere a trap with the status, where this is a constant."""
+    """An `exit`: a return where nothing calls the entry, elsewhere a trap with the status."""
     status = maker.operand(one, 1, maker.bits(one, one.types[0]))
     if maker.ends_run:
         maker.body.emit(Return(status))
     elif isinstance(status, int):
         maker.body.trap(status & 255)
     else:
-        raise maker.refusal(one, 'an exit outside of the entry')
+        maker.needs.add('exit')
+        maker.body.emit(Call(None, maker.names.units['exit'], (status,)))
 
 
 LIBRARY = {'printf': printf, 'putchar': putchar, 'mir_print': mir_print, 'abort': abort, '__assert_fail': abort,
@@ -168,22 +170,33 @@ def saturated(maker, one: Instruction, kind: str) -> None:
         maker.body.emit(If(Binary('<=', first, second), past))
         maker.body.narrow(name, Binary('-', left, right), bits, False)
         maker.body.mark(past)
-    elif kind == 'uadd' and 1 < bits <= 32:
+    elif kind == 'uadd' and 1 < bits < 63:
         whole = maker.body.made(name, '+', maker.unsigned(one, 1, bits), maker.unsigned(one, 2, bits))
         maker.body.narrow(name, Plain(maker.body.made(name, 'min', whole, 2 ** bits - 1)), bits, False)
-    elif kind[0] == 's' and 1 < bits <= 32:
+    elif kind[0] == 's' and 1 < bits < 64:
         whole = maker.body.made(name, operator, left, right)
         low, high = bounds(bits)
         maker.body.assign(name, Binary('min', maker.body.made(name, 'max', whole, low), high))
+    elif bits == 64:
+        whole, has_more = maker.body.made(name, operator, left, right), maker.body.names.fresh(name)
+        overflow_of_64(maker, one, kind, whole, has_more)
+        bound = -1 if kind == 'uadd' else maker.body.made(name, 'xor', maker.body.made(name, 'shra', whole, 63), LEAST)
+        maker.body.assign(name, Plain(whole))
+        maker.body.emit(If(Unary('!', has_more), past))
+        maker.body.assign(name, Plain(bound))
+        maker.body.mark(past)
     else:
-        raise maker.refusal(one, f'an operator of LLVM without a form in MIR (@{one.operands[0].name})')
+        raise maker.refusal(one, f'sums of a single bit or of 63 (@{one.operands[0].name})')
 
 
 def with_overflow(maker, one: Instruction, kind: str) -> None:
     """A sum, a difference or a product, and whether it has too many bits."""
-    bits = width(one.types[0])
-    if bits not in (8, 16, 32) and (bits != 64 or kind.endswith('mul')):
-        raise maker.refusal(one, f'an operator of LLVM without a form in MIR (@{one.operands[0].name})')
+    bits = maker.bits(one, one.types[0])
+    if bits == 1:
+        raise maker.refusal(one, f'sums of a single bit (@{one.operands[0].name})')
+    if kind.endswith('mul') and bits > 32:
+        llvm_bits.product(maker, one, kind, bits)
+        return
     left, right = maker.operand(one, 1, bits), maker.operand(one, 2, bits)
     name, has_more = maker.body.names.fresh(one.name), maker.body.names.fresh(f'{one.name}_more')
     if bits == 64:
@@ -213,22 +226,6 @@ def overflow_of_64(maker, one: Instruction, kind: str, name: str, has_more: str)
         maker.body.assign(has_more, Binary('<', *turned))
 
 
-def turned(maker, one: Instruction, kind: str) -> None:
-    """The high or the low part of two numbers that are shifted as one, by a number of places that is known."""
-    bits, places = maker.bits(one), one.operands[3]
-    if not isinstance(places, int) or bits == 1:
-        raise maker.refusal(one, f'a turn by places that are computed (@{one.operands[0].name})')
-    places = places % bits if kind == 'fshl' else (bits - places % bits) % bits
-    if places == 0:
-        maker.body.assign(maker.result(one), Plain(maker.operand(one, 1 if kind == 'fshl' else 2, bits)))
-        return
-    name = maker.result(one)
-    high = maker.body.made(name, 'shl', maker.operand(one, 1, bits), places)
-    low = maker.operand(one, 2, bits) if bits == 64 else maker.unsigned(one, 2, bits)
-    low = maker.body.made(name, 'shr', low, bits - places)
-    maker.body.narrow(name, Binary('or', high, low), bits, False)
-
-
 def expected(maker, one: Instruction, kind: str) -> None:
     """A number of which LLVM is told more, or whether it is a constant, which it is not."""
     bits = maker.bits(one)
@@ -240,5 +237,6 @@ OPERATORS = {
     **dict.fromkeys(('smin', 'smax', 'umin', 'umax'), least_or_greatest), 'abs': absolute,
     **dict.fromkeys(('sadd.sat', 'ssub.sat', 'uadd.sat', 'usub.sat'), saturated),
     **dict.fromkeys([f'{kind}.with.overflow' for kind in PAIRS], with_overflow),
-    'fshl': turned, 'fshr': turned, 'expect': expected, 'is.constant': expected,
+    **dict.fromkeys(('fshl', 'fshr'), llvm_bits.turned), **dict.fromkeys(('bswap', 'bitreverse'), llvm_bits.swapped),
+    **dict.fromkeys(('ctpop', 'ctlz', 'cttz'), llvm_bits.counted), 'expect': expected, 'is.constant': expected,
 }
