@@ -199,6 +199,71 @@ good:
   ret i64 %sum
 }
 ''', [([0], ['trap']), ([4], [4])]),
+    'arrays and structures that are only accessed by constants': ('''
+%pair = type { i8, [2 x i64] }
+@table = internal constant [3 x i16] [i16 7, i16 -8, i16 9]
+@text = private constant [4 x i8] c"ab\\FF\\00"
+@kept = internal global %pair { i8 1, [2 x i64] [i64 20, i64 300] }
+@zeros = internal global [2 x [2 x i32]] zeroinitializer
+declare void @mir_print(i64)
+declare void @llvm.lifetime.start.p0(i64, ptr)
+define void @raise() {
+  %old = load i64, ptr getelementptr inbounds (%pair, ptr @kept, i64 0, i32 1, i64 1)
+  %new = add i64 %old, 1
+  store i64 %new, ptr getelementptr inbounds (%pair, ptr @kept, i64 0, i32 1, i64 1)
+  ret void
+}
+define i64 @f(i64 %n) {
+  %place = alloca [3 x i64], align 16
+  %both = alloca { i32, i8 }
+  call void @llvm.lifetime.start.p0(i64 24, ptr %place)
+  %last = getelementptr inbounds [3 x i64], ptr %place, i64 0, i64 2
+  store i64 %n, ptr %last
+  store i64 5, ptr %place
+  %one = getelementptr i64, ptr %place, i64 1
+  store i64 6, ptr %one
+  %low = getelementptr i8, ptr %both, i64 4
+  store i8 -3, ptr %low
+  call void @raise()
+  call void @raise()
+  %a = load i64, ptr %last
+  %b = load i64, ptr %place
+  %c = load i64, ptr %one
+  call void @mir_print(i64 %a)
+  call void @mir_print(i64 %b)
+  call void @mir_print(i64 %c)
+  %d = load i8, ptr %low
+  %e = sext i8 %d to i64
+  call void @mir_print(i64 %e)
+  %g = load i64, ptr getelementptr (i8, ptr @kept, i64 16)
+  call void @mir_print(i64 %g)
+  %h = load i16, ptr getelementptr ([3 x i16], ptr @table, i64 0, i64 1)
+  %i = sext i16 %h to i64
+  call void @mir_print(i64 %i)
+  %j = load i8, ptr getelementptr ([4 x i8], ptr @text, i64 0, i64 2)
+  %k = sext i8 %j to i64
+  call void @mir_print(i64 %k)
+  %l = load i32, ptr getelementptr ([2 x [2 x i32]], ptr @zeros, i64 0, i64 1, i64 0)
+  %m = sext i32 %l to i64
+  ret i64 %m
+}
+''', [([4], [4, 5, 6, -3, 302, -8, -1, 0]), ([-1], [-1, 5, 6, -3, 302, -8, -1, 0])]),
+    'an array with typed pointers': ('''
+@t = internal global [4 x i32] [i32 1, i32 2, i32 3, i32 4]
+define i32 @f(i32 %n) {
+  %p = alloca [2 x i32]
+  %1 = getelementptr inbounds [2 x i32], [2 x i32]* %p, i64 0, i64 0
+  %2 = getelementptr inbounds i32, i32* %1, i64 1
+  store i32 %n, i32* %2
+  %3 = load i32, i32* getelementptr inbounds ([4 x i32], [4 x i32]* @t, i64 0, i64 2)
+  store i32 10, i32* bitcast ([4 x i32]* @t to i32*)
+  %4 = load i32, i32* %2
+  %5 = load i32, i32* getelementptr ([4 x i32], [4 x i32]* @t, i64 0, i64 0)
+  %6 = mul i32 %3, %4
+  %7 = add i32 %5, %6
+  ret i32 %7
+}
+''', [([7], [31])]),
     'blocks that stand before those they come from': ('''
 define i64 @f(i64 %a) {
 entry:
@@ -221,7 +286,11 @@ second:
 # What is refused, and the line that tells so.
 REFUSED = {
     'define i32 @main() {\n  %x = fadd float 1.0, 2.0\n  ret i32 0\n}\n': 'line 2, in @main: floating point (fadd)',
-    'define i32 @main() {\n  %p = alloca [4 x i32]\n  ret i32 0\n}\n': 'line 2, in @main: an array',
+    'define i32 @main(i64 %n) {\n  %p = alloca [4 x i32]\n  %q = getelementptr [4 x i32], ptr %p, i64 0, i64 %n\n'
+    '  %x = load i32, ptr %q\n  ret i32 %x\n}\n': 'line 2, in @main: an array',
+    '@t = global [2 x i32] zeroinitializer\ndefine i32 @main() {\n'
+    '  %x = load i64, ptr getelementptr ([2 x i32], ptr @t, i64 0, i64 0)\n  ret i32 0\n}\n':
+        'line 3, in @main: an access at an address that is computed',
     'define i128 @main() {\n  ret i128 0\n}\n':
         'line 1, in @main: the result is no integer of at most 64 bits (i128)',
     'define i32 @main(i32* %p) {\n  %x = load i32, i32* %p\n  ret i32 %x\n}\n':

@@ -48,9 +48,11 @@ class Global(NamedTuple):
 
 
 class Address(NamedTuple):
-    """An expression of constants that has the name of a global in it, as an address in an array."""
+    """An expression of constants that has the name of a global in it, as an address in an array: the steps to it, each
+    a type and the numbers of parts, where they are known."""
 
     name: str
+    steps: Optional[tuple[tuple[str, tuple[int, ...]], ...]] = None
 
 
 class Other(NamedTuple):
@@ -110,7 +112,7 @@ class Function:
 
 @dataclass
 class Variable:
-    """A global variable or constant: its type, and its first value where that is one number or a text."""
+    """A global variable or constant: its type, and its first value where that is one number, a text, or parts."""
 
     name: str
     line: int
@@ -119,14 +121,16 @@ class Variable:
     first: Optional[Value]
     text: Optional[bytes] = None
     is_plain: bool = True
+    parts: object = None
 
 
 @dataclass
 class Module:
-    """The functions and the variables of a text, by name, and what it says of the lines of its source."""
+    """The functions, the variables and the types of a text, by name, and what it says of the lines of its source."""
 
     functions: dict[str, Function] = field(default_factory=dict)
     variables: dict[str, Variable] = field(default_factory=dict)
+    types: dict[str, str] = field(default_factory=dict)
     marks: dict[int, str] = field(default_factory=dict)
     source_lines: dict[str, str] = field(default_factory=dict)
 
@@ -246,11 +250,30 @@ class Cursor:
             return Other(self.skip_group())
         begin = self.at
         self.next()
+        group = self.at + (self.peek() == 'inbounds')
         self.skip_words()
         if self.peek() == '(':
             self.skip_group()
         names = [bare(each.text) for each in self.tokens[begin:self.at] if each.kind == 'global']
-        return Address(names[0]) if len(names) == 1 else Other(text)
+        return Address(names[0], self.steps(text, group)) if len(names) == 1 else Other(text)
+
+    def steps(self, kind: str, group: int) -> Optional[tuple]:
+        """The steps of an expression whose bracket begins here, to an address by constants; none where it has others."""
+        end, self.at, taken = self.at, group, []
+        try:
+            self.take('(')
+            of = self.type() if kind == 'getelementptr' else ''
+            while not taken or self.peek() == ',':
+                self.has(',')
+                taken.append(self.typed()[1])
+        except Refusal:
+            return None
+        finally:
+            self.at = end
+        before = () if isinstance(taken[0], Global) else taken[0].steps if isinstance(taken[0], Address) else None
+        if kind not in ('getelementptr', 'bitcast') or before is None or not all(type(at) is int for at in taken[1:]):
+            return None
+        return before + (((of, tuple(taken[1:])),) if of else ())
 
     def typed(self) -> tuple[str, Value]:
         """Takes a type and a value of it."""
@@ -311,6 +334,8 @@ def module(text: str) -> Module:
         elif entry.startswith('@'):
             variable = global_variable(Cursor(line, entry), entry)
             made.variables[variable.name] = variable
+        elif re.match(r'%\S+ = type ', entry):
+            made.types.update([entry.strip().split(' = type ')])
         elif not re.match(r'(source_filename|target|attributes|module|uselistorder|[!$%^])', entry.strip()):
             raise Refusal(line, f'no LLVM IR: `{entry.strip()[:40]}`')
     if inside is not None:
@@ -350,8 +375,31 @@ def global_variable(cursor: Cursor, entry: str) -> Variable:
     of, text, first = cursor.type(), re.search(r'c("[^"]*")', entry), None
     if width(of) is not None and cursor.is_value():
         first = cursor.value()
-    return Variable(name, cursor.line, of, kinds[0] == 'constant', first,
-                    unescaped(text[1][1:-1]) if text else None, is_plain)
+    plain = unescaped(text[1][1:-1]) if text else None
+    return Variable(name, cursor.line, of, kinds[0] == 'constant', first, plain, is_plain, parts_of(cursor))
+
+
+def parts_of(cursor: Cursor) -> object:
+    """The first values of an array or a structure as lists in lists, `None` for zeros; 0 where they are others."""
+    try:
+        return aggregate(cursor)
+    except Refusal:
+        return 0
+
+
+def aggregate(cursor: Cursor) -> object:
+    """Takes the value of a part: a number, a text, zeros, or what stands in brackets."""
+    if cursor.kind() == 'string':
+        return list(unescaped(cursor.next().lstrip('c')[1:-1]))
+    if cursor.peek() not in ('[', '{'):
+        value = cursor.value()
+        return None if cursor.tokens[cursor.at - 1].text in ('zeroinitializer', 'undef') else value
+    found, close = [], ']' if cursor.next() == '[' else '}'
+    while not cursor.has(close):
+        cursor.type()
+        found.append(aggregate(cursor))
+        cursor.has(',')
+    return found
 
 
 def unescaped(text: str) -> bytes:
@@ -495,6 +543,16 @@ def read_store(cursor: Cursor, made: Instruction) -> None:
     made.operands = [value, cursor.typed()[1]]
 
 
+def read_element(cursor: Cursor, made: Instruction) -> None:
+    """A type, an address, and the numbers of parts."""
+    cursor.skip_words()
+    made.type = cursor.type()
+    while cursor.has(','):
+        of, value = cursor.typed()
+        made.types.append(of)
+        made.operands.append(value)
+
+
 def read_part(cursor: Cursor, made: Instruction) -> None:
     """A structure, and the number of one of its parts."""
     made.type, value = cursor.typed()
@@ -522,5 +580,5 @@ READERS = {
     **dict.fromkeys(BINARY, read_binary), **dict.fromkeys(CASTS, read_cast), 'icmp': read_comparison,
     'freeze': read_operand, 'select': read_select, 'phi': read_phi, 'br': read_jump, 'switch': read_switch,
     'ret': read_return, 'alloca': read_alloca, 'load': read_load, 'store': read_store, 'extractvalue': read_part,
-    'call': read_call,
+    'call': read_call, 'getelementptr': read_element,
 }
