@@ -1,18 +1,28 @@
 #!/usr/bin/env python3
 """Brings C programs in, and compares what they do as native programs, as MIR, and as what `mir` makes of it.
 
-    bench/real.py [--mir PATH] [--csmith N] [--seed N] [--jobs N] [--table N] [FILE ..]
+    bench/real.py [--mir PATH] [--csmith N] [--set NAME ..] [--minutes N] [--gcc FOLDER] [--fill] [FILE ..]
 
-The programs are those that `csmith` draws (`--csmith 500`: the numbers from `--seed` on), and each C file that is named
-or lies in a folder that is named, from its `main` on. clang makes a native program of each without optimisation;
-`tools/from_c` brings it in. Then `run` of its text, and of what each command of `mir` makes of it, has to print the
-same numbers and end in the same way; runs of more than 1,000,000 steps are compared as native programs
-(`tools/compile`). The counts are of same, refused by reason, and different ones, each of which is shown; the status is
-1 where there is one.
+The programs are those that `csmith` draws, N of each of these sets (`bench/drawn.py` has their settings), and each C
+file that is named or lies in a folder that is named, from its `main` on:
 
-Beside it the operators of whole runs are counted by `run`: of the text, of what `optimise` makes of it, and of what
-LLVM leaves of the same IR, which is brought in like the source, so that the unit is the same. `--table` shows the
-programs in which LLVM leaves least beside `optimise`. It wants csmith, clang and opt.
+    small      three functions, blocks three deep; no inputs, so that all may be evaluated while it is compiled
+    large      five functions, blocks four deep
+    inputs     as small, and each global variable begins with a value of an input; three runs of each program
+    turns      as inputs, where a loop does all the work many times; of these the time is measured, and no more
+
+clang makes a native program of each without optimisation; `tools/from_c` brings it in. Then `run` of its text, and of
+what each command of `mir` makes of it, has to print the same numbers and end in the same way; runs of more than
+1,000,000 steps are compared as native programs (`tools/compile`). The counts are of same, refused by reason, and
+different ones, each of which is shown; the status is 1 where there is one.
+
+Beside it the operators of whole runs are counted by `run`: of the text, of what commands make of it, and of what LLVM
+leaves of the same IR, which is brought in like the source, so that the unit is the same. `--table` shows the programs
+in which LLVM leaves least beside `optimise`. The time is that of native programs, by `bench/native_times.py`.
+
+With `--fill` the tables are put into README.md beside this file, behind the line `<!-- bench/real.py -->`; those of a
+set that is not named stay. Where a set takes more than its part of `--minutes`, what is done by then is told. It wants
+csmith, clang and opt.
 """
 
 import argparse
@@ -24,23 +34,26 @@ import signal
 import subprocess
 import sys
 import tempfile
+import time
 from concurrent.futures import ThreadPoolExecutor, as_completed
 from dataclasses import dataclass, field
 from pathlib import Path
-from typing import Iterable, NamedTuple, Optional
+from typing import Callable, Iterable, NamedTuple, Optional
 
 TOP = Path(__file__).resolve().parent.parent
 sys.dont_write_bytecode = True
 sys.path.insert(0, str(TOP / 'tools'))
 sys.setrecursionlimit(20_000)
 
+import drawn  # noqa: E402
 import mir_text  # noqa: E402
+import native_times  # noqa: E402
+import real_tables  # noqa: E402
+from drawn import Source  # noqa: E402
 
-COMMANDS = ('optimise', 'move', 'divisions', 'tails', 'join')
-STEPS, SECONDS, DRAWN = 1_000_000, 60, 10
-CSMITH = ('--no-pointers --no-arrays --no-structs --no-unions --no-bitfields --no-volatiles --no-volatile-pointers '
-          '--no-packed-struct --no-argc --concise --max-funcs 3 --max-block-depth 3 --max-expr-complexity 6').split()
-
+COMMANDS = ('optimise', 'thorough', 'move', 'divisions', 'tails', 'join')
+STEPS, SECONDS = 1_000_000, 60
+PAGE = Path(__file__).resolve().parent / 'README.md'
 # The numbers of traps that stand for signals.
 SIGNALS = (132, 134, 136)
 
@@ -48,26 +61,6 @@ SIGNALS = (132, 134, 136)
 ALIKE = 'mem2reg,simplifycfg,sccp,gvn,sink,adce,simplifycfg'
 ALL = 'default<O2>'
 NO_VECTORS = ['-vectorize-loops=false', '-vectorize-slp=false']
-
-# What stands for the runtime of csmith: its checked arithmetic, and a print of each value in the place of a checksum.
-HEADER = '''#include <float.h>
-#include <limits.h>
-#include <math.h>
-#include <stdint.h>
-void mir_print(long long);
-#define STATIC static WRAPPER
-#define UNDEFINED(value) (value)
-#define LOG_INDEX
-#define LOG_EXEC
-#define FUNC_NAME(name) (safe_##name)
-#include <csmith/safe_math.h>
-#define platform_main_begin()
-#define crc32_gentab()
-#define transparent_crc(value, name, flag) mir_print((long long)(value))
-#define platform_main_end(value, flag)
-'''
-INLINE = '__attribute__((always_inline)) inline'
-
 
 class Report(NamedTuple):
     """What a run printed, how it ended (a result, `trap`, `running`, `deep`), and how many operators it evaluated."""
@@ -88,15 +81,6 @@ class Outcome:
     is_long: bool = False
 
 
-class Source(NamedTuple):
-    """A C file, flags of clang for it, and its programs: the function that each begins with. Where this is not `main`,
-    the native program takes its name as a word."""
-
-    path: Path
-    flags: list[str]
-    entries: dict[str, str]
-
-
 def ended(line: str) -> str:
     """How a run ended, as a native program does: with the status that its result has, or by a signal. A trap with a
     number is an exit with this status, unless it stands for a signal."""
@@ -109,10 +93,11 @@ def ended(line: str) -> str:
     return words[1] if is_exit else 'trap'
 
 
-def inputs(text: str) -> list[str]:
-    """The inputs of a program: where its `main` takes the number of its words, the one that the native program has."""
+def inputs_of(text: str, given: tuple[str, ...]) -> list[str]:
+    """The inputs of a run: those that are given; else, where a `main` takes the number of its words, the one that the
+    native program has."""
     receives = re.match(r'(?:global .*\n)*.*begin\n((?:receive .*\n)*)', text)
-    return ['1'] * receives[1].count('\n') if receives else []
+    return list(given) or (['1'] * receives[1].count('\n') if receives else [])
 
 
 def tool(name: str):
@@ -140,7 +125,7 @@ class Bench:
 
     def __init__(self, mir: str, folder: Path):
         self.mir, self.folder = mir, folder
-        self.from_c, self.from_llvm = tool('from_c'), tool('from_llvm')
+        self.from_c, self.from_llvm, self.to_llvm = tool('from_c'), tool('from_llvm'), tool('to_llvm')
         usage = ran([mir]).stderr.decode()
         self.support = folder / 'native.o'
         if ran(['clang', '-O1', '-c', TOP / 'tools' / 'native.c', '-o', self.support]).returncode:
@@ -152,30 +137,30 @@ class Bench:
         words = ['clang', '-O0', '-fwrapv', '-w', *source.flags, source.path, self.support, '-lm', '-o', program]
         return ran(words).returncode == 0
 
-    def native(self, program: Path, entry: str) -> Report:
+    def native(self, program: Path, entry: str, given: tuple[str, ...]) -> Report:
         """The report of a native program."""
-        said = ran([program, *([] if entry == 'main' else [entry])], seconds=SECONDS)
+        said = ran([program, *([] if entry == 'main' else [entry]), *given], seconds=SECONDS)
         printed = said.stdout.decode('latin-1').splitlines()
         if said.returncode in (None, -signal.SIGXCPU):
             return Report(printed, 'running')
         return Report(printed, 'trap' if said.returncode < 0 else str(said.returncode))
 
-    def run(self, text: str) -> Report:
+    def run(self, text: str, given: tuple[str, ...]) -> Report:
         """The report of a run; its result is counted as the status of a process is."""
-        said = ran([self.mir, 'run', STEPS, *inputs(text)], text.encode())
+        said = ran([self.mir, 'run', STEPS, *inputs_of(text, given)], text.encode())
         lines = said.stdout.decode().splitlines()
         if said.returncode not in (0, 3, 4):
             return Report([], 'deep' if said.returncode == 5 else said.stderr.decode().strip())
         return Report(lines[:-2], ended(lines[-2]), int(lines[-1].split()[1]))
 
-    def compiled(self, text: str, stem: Path) -> Report:
+    def compiled(self, text: str, given: tuple[str, ...], stem: Path) -> Report:
         """The report of a text that is compiled."""
         source, program = stem.with_suffix('.mir'), stem.with_suffix('.program')
         source.write_text(text)
         said = ran([TOP / 'tools' / 'compile', source, '-o', program])
         if said.returncode:
             return Report([], said.stderr.decode().strip())
-        said = ran([program, *inputs(text)], seconds=SECONDS)
+        said = ran([program, *inputs_of(text, given)], seconds=SECONDS)
         lines = said.stdout.decode().splitlines()
         if said.returncode not in (0, 3):
             return Report(lines, 'running' if said.returncode is None else 'deep')
@@ -191,38 +176,43 @@ class Bench:
     def judge(self, source: Source) -> list[Outcome]:
         """What becomes of the programs of a file."""
         program = self.folder / f'{source.path.stem}.native'
-        try:
-            ir = self.from_c.llvm(str(source.path), source.flags)
-            read = self.from_llvm.module_of(ir)
-        except mir_text.Fault as fault:
-            return [Outcome(name, f'refused: {reason(str(fault))}', [str(fault)]) for name in source.entries]
-        texts, outcomes = {}, []
-        for name, entry in source.entries.items():
-            try:
-                texts[name] = self.from_llvm.program_text(read, entry)
-            except mir_text.Fault as fault:
-                outcomes.append(Outcome(name, f'refused: {reason(str(fault))}', [str(fault)]))
+        texts, outcomes, ir = self.texts_of(source)
         if texts and not self.is_native(source, program):
             return outcomes + [Outcome(name, 'no native program') for name in texts]
         left = self.left_by_llvm(ir, source.entries.values()) if texts else {}
-        return outcomes + [self.judged(name, source.entries[name], text, program, left) for name, text in texts.items()]
+        for name, text in texts.items():
+            every = [self.judged(name, source.entries[name], text, given, program, left) for given in source.inputs]
+            outcomes.append(together(every))
+        return outcomes
 
-    def judged(self, name: str, entry: str, text: str, program: Path, left: dict) -> Outcome:
-        """What becomes of a program that comes in."""
-        wanted = self.native(program, entry)
+    def texts_of(self, source: Source) -> tuple[dict[str, str], list[Outcome], str]:
+        """The programs of a file that come in, what becomes of the others, and the IR of all."""
+        texts, outcomes, ir, read = {}, [], '', None
+        for name, entry in source.entries.items():
+            try:
+                ir = ir or self.from_c.llvm(str(source.path), source.flags)
+                read = read or self.from_llvm.module_of(ir)
+                texts[name] = self.from_llvm.program_text(read, entry)
+            except mir_text.Fault as fault:
+                outcomes.append(Outcome(name, f'refused: {reason(str(fault))}', [str(fault)]))
+        return texts, outcomes, ir
+
+    def judged(self, name: str, entry: str, text: str, given: tuple[str, ...], program: Path, left: dict) -> Outcome:
+        """What becomes of a program with some inputs."""
+        wanted = self.native(program, entry, given)
         if wanted.end == 'running':
             return Outcome(name, 'the native program does not end')
-        outcome = self.compared(Outcome(name, 'same'), wanted, text, self.folder / name)
+        outcome = self.compared(Outcome(name, 'same'), wanted, text, given, self.folder / name)
         if outcome.state == 'same' and not outcome.is_long:
             for kind, read in left.items():
-                self.count_llvm(outcome, wanted, kind, read, entry)
+                self.count_llvm(outcome, wanted, kind, read, entry, given)
         return outcome
 
-    def compared(self, outcome: Outcome, wanted: Report, text: str, stem: Path) -> Outcome:
+    def compared(self, outcome: Outcome, wanted: Report, text: str, given: tuple[str, ...], stem: Path) -> Outcome:
         """The outcome, with what is not the same, and the operators of each run."""
         reports: dict[str, Report] = {}
         for way, made in self.ways(text):
-            report = reports[made] if made in reports else reports.setdefault(made, self.run(made))
+            report = reports[made] if made in reports else reports.setdefault(made, self.run(made, given))
             if report.end == 'deep' and way == 'source':
                 return Outcome(outcome.name, 'more than 10000 frames')
             if way != 'source' and report.end.endswith('too many instructions'):
@@ -230,7 +220,7 @@ class Bench:
                 continue
             if report.end == 'running':
                 outcome.is_long = True
-                report = self.compiled(made, stem)
+                report = self.compiled(made, given, stem)
             elif not outcome.is_long:
                 outcome.evals[way] = report.evals
             more = way != 'source' and wanted.end != 'trap' and report.evals > outcome.evals.get('source', report.evals)
@@ -253,19 +243,43 @@ class Bench:
                 continue
         return left
 
-    def count_llvm(self, outcome: Outcome, wanted: Report, kind: str, read, entry: str) -> None:
+    def count_llvm(self, outcome: Outcome, wanted: Report, kind: str, read, entry: str,
+                   given: tuple[str, ...]) -> None:
         """Adds the operators of what LLVM leaves, where it comes through and does the same."""
         try:
             made = self.from_llvm.program_text(read, entry)
         except mir_text.Fault as fault:
             outcome.shown.append(f'{kind}: {fault}')
             return
-        report = self.run(made)
+        report = self.run(made, given)
         if (report.printed, report.end) == (wanted.printed, wanted.end):
             outcome.evals[kind] = report.evals
         else:
             outcome.state = 'different'
             outcome.shown.append(f'{kind} of LLVM: wanted {wanted}, found {report}')
+
+    def timed(self, source: Source, repeat: int) -> list[native_times.Times]:
+        """The times of the programs of a file, as they come in and as the first commands make them."""
+        found = []
+        for name, text in self.texts_of(source)[0].items():
+            texts = {way: made for way, made in self.ways(text) if way in ('source', 'optimise', 'thorough')}
+            given = native_times.measured(name, texts, source.inputs[-1], self.to_llvm, self.folder / name, repeat)
+            found += [given] if given else []
+        return found
+
+
+def together(every: list[Outcome]) -> Outcome:
+    """The outcome of all runs of a program: of those that end."""
+    ended = [each for each in every if each.state in ('same', 'different')] or every[:1]
+    whole = Outcome(ended[0].name, ended[0].state, is_long=any(each.is_long for each in ended))
+    for each in ended:
+        whole.state = 'different' if 'different' in (each.state, whole.state) else whole.state
+        whole.shown += each.shown
+        for way, count in each.evals.items():
+            whole.evals[way] = whole.evals.get(way, 0) + count
+    complete = [way for way in whole.evals if all(way in each.evals for each in ended)]
+    whole.evals = {way: whole.evals[way] for way in complete}
+    return whole
 
 
 def reason(fault: str) -> str:
@@ -275,48 +289,24 @@ def reason(fault: str) -> str:
     return re.sub(r' \([^)]*\)$', '', plain)
 
 
-def drawn(numbers: list[int], folder: Path) -> Source:
-    """Programs that csmith draws, in one file, so that clang is called once. The checked arithmetic is put into its
-    callers in every second file, so that both are tried."""
-    parts, entries = ['#include "csmith.h"'], {}
-    for number in numbers:
-        text = ran(['csmith', *CSMITH, '--seed', number], folder=folder).stdout.decode()
-        text = text.replace('#include "csmith.h"', '')
-        parts.append(re.sub(r'\b(func_\d+|g_\d+|main|__undefined)\b', rf'p{number}_\1', text))
-        entries[f'csmith_{number}'] = f'p{number}_main'
-    tests = ''.join(f'    if (strcmp(words[1], "{entry}") == 0) return {entry}();\n' for entry in entries.values())
-    parts.append(f'#include <string.h>\nint main(int count, char **words) {{\n{tests}    return 99;\n}}\n')
-    path = folder / f'csmith_{numbers[0]}.c'
-    path.write_text('\n'.join(parts))
-    flags = ['-I', str(folder), f'-DWRAPPER={INLINE if numbers[0] // DRAWN % 2 == 0 else ""}']
-    return Source(path, flags, entries)
-
-
 def named(files: list[Path]) -> Iterable[Source]:
     """The C files that are named, and those of the folders that are named."""
     for path in files:
         for each in sorted(path.rglob('*.c')) if path.is_dir() else [path]:
-            yield Source(each, ['-I', str(each.parent)], {each.stem: 'main'})
+            yield Source(each, ['-I', str(each.parent)], {each.stem: 'main'}, ((),))
 
 
-def print_counts(outcomes: list[Outcome]) -> None:
+def print_counts(title: str, outcomes: list[Outcome]) -> None:
     """Prints how many programs came to which end, and the operators of all that were counted in each way."""
     counts = collections.Counter(each.state for each in outcomes)
-    print(f'{len(outcomes)} programs, {sum(each.is_long for each in outcomes)} compared as native programs')
+    print(f'{title}: {len(outcomes)} programs, {sum(each.is_long for each in outcomes)} compared as native programs')
     for state, count in sorted(counts.items(), key=lambda each: (-each[1], each[0])):
         print(f'{count:6} {state}')
     same = [each for each in outcomes if each.state == 'same']
     notes = collections.Counter(re.sub(': .*', '', note) for each in same for note in each.shown)
     for note, count in notes.items():
         print(f'{count:6} of them: {note}')
-    whole = [each for each in same if set(each.evals) >= {'source', 'alike', 'all'}]
-    print(f'operators of the runs of {len(whole)} programs:')
-    for way in whole[0].evals if whole else ():
-        print(f'{sum(each.evals.get(way, each.evals["source"]) for each in whole):12} {way}')
-    for kind in ('alike', 'all') if whole else ():
-        less = sum(each.evals[kind] < each.evals['optimise'] for each in whole)
-        more = sum(each.evals[kind] > each.evals['optimise'] for each in whole)
-        print(f'{kind}: less than optimise in {less}, more in {more}, as much in {len(whole) - less - more}')
+    print(*real_tables.lines(title, outcomes), sep='\n', flush=True)
 
 
 def print_table(outcomes: list[Outcome], rows: int) -> None:
@@ -326,38 +316,85 @@ def print_table(outcomes: list[Outcome], rows: int) -> None:
         print(each.name, each.evals)
 
 
-def main() -> int:
-    """Judges all programs, and prints the counts."""
+def judge_all(bench: Bench, sources: Iterable[Callable[[], Source]], jobs: int, end: float) -> list[Outcome]:
+    """What becomes of the programs of some files; none is begun behind the end of their time."""
+    def judged(source: Callable[[], Source]) -> list[Outcome]:
+        return bench.judge(source()) if time.monotonic() < end else []
+
+    outcomes = []
+    with ThreadPoolExecutor(jobs) as pool:
+        for task in as_completed([pool.submit(judged, source) for source in sources]):
+            outcomes += task.result()
+            with open(bench.folder / 'outcomes', 'a', encoding='utf-8') as log:
+                print(*task.result(), sep='\n', file=log)
+    return sorted(outcomes, key=lambda each: each.name)
+
+
+def sources_of(name: str, given: argparse.Namespace, folder: Path) -> list[Callable[[], Source]]:
+    """What draws the files of a set, or finds them."""
+    if name not in drawn.SETTINGS:
+        return [lambda source=source: source for source in named([given.gcc] if name == 'gcc' else given.files)]
+    numbers = list(range(given.seed, given.seed + given.csmith))
+    return [lambda some=numbers[at:at + drawn.TOGETHER]: drawn.drawn(drawn.SETTINGS[name], some, folder, name)
+            for at in range(0, len(numbers), drawn.TOGETHER)]
+
+
+def time_all(bench: Bench, sources: list[Callable[[], Source]], repeat: int, end: float) -> list[native_times.Times]:
+    """The times of the programs of some files, one after the other, up to the end of their time."""
+    found = []
+    for source in sources:
+        if time.monotonic() < end:
+            found += bench.timed(source(), repeat)
+    return found
+
+
+def words_given() -> argparse.Namespace:
+    """The words of the call."""
     words = argparse.ArgumentParser(description='Brings C programs in and compares what they do.')
     words.add_argument('--mir', default=str(TOP / 'mir'), help='the program that is tried')
-    words.add_argument('--csmith', type=int, default=0, help='how many programs csmith draws')
+    words.add_argument('--csmith', type=int, default=0, metavar='N', help='how many programs csmith draws for each set')
+    words.add_argument('--set', nargs='+', default=['small'], choices=list(drawn.SETTINGS), help='which sets (small)')
     words.add_argument('--seed', type=int, default=1, help='the number of the first of them')
     words.add_argument('--jobs', type=int, default=2, help='how many programs are judged at a time')
+    words.add_argument('--minutes', type=float, default=600, help='after how many nothing more is begun')
+    words.add_argument('--repeat', type=int, default=3, help='of how many times the least is taken')
     words.add_argument('--table', type=int, default=0, help='how many programs are shown in which LLVM leaves less')
     words.add_argument('--keep', type=Path, help='a folder for the programs, which stay there, and what became of each')
+    words.add_argument('--gcc', type=Path, help='the folder gcc.c-torture/execute of the tests of GCC')
+    words.add_argument('--fill', action='store_true', help='put the tables into README.md')
     words.add_argument('files', nargs='*', type=Path, metavar='FILE', help='C files and folders of them')
-    given = words.parse_args()
+    return words.parse_args()
+
+
+def main() -> int:
+    """Judges all programs, and prints the counts."""
+    given = words_given()
+    sets = [name for name in given.set if given.csmith] + ['gcc'] * bool(given.gcc) + ['files'] * bool(given.files)
+    status, page = 0, PAGE.read_text(encoding='utf-8')
     with tempfile.TemporaryDirectory() as made:
         folder = given.keep or Path(made)
         folder.mkdir(exist_ok=True)
-        (folder / 'csmith.h').write_text(HEADER)
-        bench = Bench(given.mir, folder)
-        numbers = list(range(given.seed, given.seed + given.csmith))
-        with ThreadPoolExecutor(given.jobs) as pool:
-            tasks = [pool.submit(lambda some=some: bench.judge(drawn(some, folder)))
-                     for some in (numbers[at:at + DRAWN] for at in range(0, len(numbers), DRAWN))]
-            tasks += [pool.submit(bench.judge, source) for source in named(given.files)]
-            outcomes = []
-            for task in as_completed(tasks):
-                outcomes += task.result()
-                with open(folder / 'outcomes', 'a', encoding='utf-8') as log:
-                    print(*task.result(), sep='\n', file=log)
-    for each in sorted(outcomes, key=lambda each: each.name):
-        if each.state == 'different':
-            print(f'{each.name}: different', *each.shown, sep='\n  ')
-    print_counts(outcomes)
-    print_table(outcomes, given.table)
-    return 1 if any(each.state == 'different' for each in outcomes) else 0
+        (folder / 'csmith.h').write_text(drawn.HEADER)
+        bench, begun = Bench(given.mir, folder), time.monotonic()
+        for at, name in enumerate(sets):
+            end = begun + given.minutes * 60 * (at + 1) / len(sets)
+            sources = sources_of(name, given, folder)
+            if name == 'turns':
+                times = time_all(bench, sources, given.repeat, end)
+                print(*real_tables.time_lines(times), sep='\n', flush=True)
+                page = real_tables.with_times(page, times)
+                continue
+            outcomes = judge_all(bench, sources, given.jobs, end)
+            for each in outcomes:
+                if each.state == 'different':
+                    print(f'{each.name}: different', *each.shown, sep='\n  ')
+                    status = 1
+            print_counts(name, outcomes)
+            print_table(outcomes, given.table)
+            page = real_tables.with_set(page, name, outcomes)
+    if given.fill:
+        PAGE.write_text(page, encoding='utf-8')
+    return status
 
 
 if __name__ == '__main__':

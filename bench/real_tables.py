@@ -1,0 +1,95 @@
+"""The tables of bench/real.py: what it counts and measures, as rows of README.md."""
+
+import collections
+
+import native_times
+
+MARK = '<!-- bench/real.py -->'
+WAYS = ('source', 'move', 'optimise', 'thorough', 'alike', 'all')
+HEADS = {
+    'ends': '| Set | Programs | Same | Different | Refused | Not compared | As native programs |',
+    'reasons': '| Set | Refused or not compared, since | Programs |',
+    'operators': '| Set | Programs | Source | `move` | `optimise` | `thorough` | `alike` | `all` |',
+    'beside': '| Set | LLVM | beside | less | as much | more |',
+    'times': '| clang | Programs | `optimise` | `thorough` |',
+}
+
+
+def row(cells: list) -> str:
+    """A row of a table."""
+    plain = [f'{cell:,}' if isinstance(cell, int) else cell for cell in cells]
+    return '|' + '|'.join(f' {cell} ' if cell else ' ' for cell in plain) + '|'
+
+
+def counted(outcomes: list) -> list:
+    """The programs that are the same and of which all runs were counted."""
+    return [each for each in outcomes if each.state == 'same' and set(each.evals) >= {'source', 'alike', 'all'}]
+
+
+def rows_of(name: str, outcomes: list) -> dict[str, list[list]]:
+    """The rows of a set in each table."""
+    states = collections.Counter(each.state for each in outcomes)
+    refused = sum(count for state, count in states.items() if state.startswith('refused'))
+    others = len(outcomes) - states['same'] - states['different'] - refused
+    whole, found = counted(outcomes), {}
+    native = sum(each.is_long for each in outcomes)
+    found['ends'] = [[len(outcomes), states['same'], states['different'], refused, others, native]]
+    reasons = sorted(((count, state) for state, count in states.items() if state not in ('same', 'different')),
+                     reverse=True)
+    found['reasons'] = [[state.removeprefix('refused: '), count] for count, state in reasons]
+    sums = [sum(each.evals.get(way, each.evals['source']) for each in whole)
+            if any(way in each.evals for each in whole) else '' for way in WAYS]
+    found['operators'] = [[len(whole), *sums]] if whole else []
+    found['beside'] = []
+    for kind in ('alike', 'all'):
+        for way in ('optimise', 'thorough'):
+            both = [(each.evals[kind], each.evals[way]) for each in whole if way in each.evals]
+            signs = [sum(left < right for left, right in both), sum(left == right for left, right in both),
+                     sum(left > right for left, right in both)]
+            found['beside'] += [[f'`{kind}`', f'`{way}`', *signs]] if both else []
+    return {table: [[f'`{name}`', *cells] for cells in rows] for table, rows in found.items()}
+
+
+def lines(name: str, outcomes: list) -> list[str]:
+    """The rows of a set, each behind the head of its table."""
+    return [line for table, rows in rows_of(name, outcomes).items() if rows for line in [HEADS[table], *map(row, rows)]]
+
+
+def time_rows(times: list[native_times.Times]) -> list[list]:
+    """The rows of the table of times."""
+    found = native_times.summary(times)
+    return [[f'`{level}`', int(found[f'programs {level}']),
+             *(f'{found[f"{way} {level}"]:.2f}' if f'{way} {level}' in found else '' for way in ('optimise', 'thorough'))]
+            for level in native_times.LEVELS]
+
+
+def time_lines(times: list[native_times.Times]) -> list[str]:
+    """The table of times."""
+    return [HEADS['times'], *map(row, time_rows(times))]
+
+
+def put(page: str, table: str, key: str, rows: list[list]) -> str:
+    """The page with these rows in a table, in the place of those that begin with a key, or behind all."""
+    before, mark, behind = page.partition(MARK)
+    if not mark or HEADS[table] not in behind:
+        return page
+    top, head, rest = behind.partition(HEADS[table] + '\n')
+    old = rest.split('\n\n')[0].split('\n')
+    at = next((at for at, line in enumerate(old) if line.startswith(f'| {key} ')), len(old))
+    kept = [line for line in old if not line.startswith(f'| {key} ')]
+    new = kept[:at] + [row(cells) for cells in rows] + kept[at:]
+    return before + mark + top + head + '\n'.join(new) + rest[len('\n'.join(old)):]
+
+
+def with_set(page: str, name: str, outcomes: list) -> str:
+    """The page with the rows of a set."""
+    for table, rows in rows_of(name, outcomes).items():
+        page = put(page, table, f'`{name}`', rows)
+    return page
+
+
+def with_times(page: str, times: list[native_times.Times]) -> str:
+    """The page with the rows of times."""
+    for cells in time_rows(times):
+        page = put(page, 'times', cells[0], [cells])
+    return page
