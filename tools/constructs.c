@@ -193,6 +193,54 @@ static number near_bounds(number a, number b) {
     return c + d + e + f;
 }
 
+static number counted_bits(number a, number b) {
+    unsigned u = (unsigned)a | 1;
+    unsigned long long w = (unsigned long long)b | 1ull << 40;
+    number counts = __builtin_popcount((unsigned)a) + 100 * __builtin_popcountll((unsigned long long)b);
+    counts += 10000 * __builtin_clz(u) + 1000000 * __builtin_ctzll(w) + 100000000ll * __builtin_parity((unsigned)b);
+    return counts + __builtin_clzll(w) + __builtin_ctz(u | 1u << 31);
+}
+
+static number swapped_bytes(number a, number b) {
+    mir_print(__builtin_bswap16((uint16_t)a));
+    mir_print(__builtin_bswap32((uint32_t)a));
+    mir_print((number)__builtin_bswap64((uint64_t)b));
+    mir_print(__builtin_bitreverse32((uint32_t)b));
+    return (number)__builtin_rotateleft64((uint64_t)a, (uint64_t)b) + __builtin_rotateright32((uint32_t)a, (uint32_t)b);
+}
+
+static number overflowing_products(number a, number b) {
+    number product;
+    unsigned long long plain;
+    unsigned small;
+    int over = __builtin_mul_overflow(a, b, &product);
+    over += 2 * __builtin_mul_overflow((unsigned long long)a, (unsigned long long)b, &plain);
+    over += 4 * __builtin_mul_overflow((int)a, (unsigned)b, &small);
+    over += 8 * __builtin_mul_overflow((int)a, (int)b, (int *)&small);
+    mir_print(over);
+    return product + (number)plain + small;
+}
+
+static void leave(int status) { if (status & 1) exit(status); }
+static number exits(number a, number b) { leave((int)a); leave((int)b | 1); return 3; }
+
+struct pair { char low; long high; };
+static struct pair kept = {-3, 40};
+static int four[4] = {1, 2, 3};
+static const short table[3] = {10, -20, 30};
+
+static number parts(number a, number b) {
+    struct { int x; struct pair inner[2]; } local = {1, {{2, 3}, {4, 5}}};
+    number two[2] = {a, b};
+    local.inner[1].high += a;
+    kept.high += two[1];
+    kept.low++;
+    four[3] = (int)b;
+    four[0] += four[3];
+    number sum = local.x + local.inner[0].low + local.inner[1].high + two[0] + kept.low + kept.high;
+    return sum + four[0] + four[2] + table[1];
+}
+
 #define CASE(at, name) case at: return name(a, b);
 #define CASES(at, name) CASE(at, name##_i8) CASE(at + 1, name##_u8) CASE(at + 2, name##_i16) CASE(at + 3, name##_u16) \
     CASE(at + 4, name##_i32) CASE(at + 5, name##_u32) CASE(at + 6, name##_i64) CASE(at + 7, name##_u64)
@@ -209,7 +257,8 @@ number construct(number which, number a, number b) {
     CASE(111, small_switch) CASE(112, wide_switch) CASE(113, loops) CASE(114, jumps) CASE(115, swaps)
     CASE(116, recursion) CASE(117, prints) CASE(118, aborts) CASE(119, asserts) CASE(120, globals)
     CASE(121, increments) CASE(122, safe_quotient) CASE(123, greatest_divisor) CASE(124, turned)
-    CASE(125, near_bounds)
+    CASE(125, near_bounds) CASE(126, counted_bits) CASE(127, swapped_bytes) CASE(128, overflowing_products)
+    CASE(129, exits) CASE(130, parts)
     }
     return -1;
 }

@@ -1,15 +1,19 @@
 """Takes arrays and structures apart that are only accessed by constants: each part that is a number becomes a variable.
 
 An array of a function, or a global one, is taken apart where each use of it is a load or a store of one of its numbers,
-as a whole, at a place that is known; where one use is another, it stays as it is, and is refused where it is reached.
+as a whole, at a place that is known, or a copy or a fill of whole numbers; where one use is another, it stays as it is,
+and is refused where it is reached.
 """
 
-from typing import NamedTuple, Optional
+from typing import Iterator, NamedTuple, Optional
 
 import llvm_calls
 from llvm_text import (Address, Cursor, Function, Global, Instruction, Local, Module, Refusal, Value, Variable,
                        width)
 from llvm_units import narrowed
+
+# An array or a structure that is taken apart has at most so many bytes.
+LARGEST = 1024
 
 Base = tuple[str, str]
 
@@ -93,6 +97,15 @@ def part_at(of: Layout, at: int) -> Optional[tuple[tuple[int, ...], int]]:
     return (tuple(path), of.bits) if at == 0 else None
 
 
+def numbers_in(of: Layout, at: int = 0) -> Iterator[tuple[int, int]]:
+    """The place and the bits of each number of a type."""
+    if not of.parts:
+        yield at, of.bits
+    for number in range(of.count or len(of.parts)) if of.parts else ():
+        part = of.parts[0 if of.count else number]
+        yield from numbers_in(part, at + (number * part.size if of.count else of.offsets[number]))
+
+
 def first_value(parts: object, path: tuple[int, ...]) -> object:
     """The first value of a part."""
     for number in path:
@@ -104,6 +117,14 @@ def first_value(parts: object, path: tuple[int, ...]) -> object:
     return 0 if parts is None else parts
 
 
+class Fill(NamedTuple):
+    """A copy or a fill: where it goes to, and for each number there the place and what it gets, a number or a place."""
+
+    base: Base
+    source: Optional[Base]
+    numbers: list[tuple[int, int, int]]
+
+
 class Splitter:
     """Takes the arrays of some functions of a module apart."""
 
@@ -112,13 +133,16 @@ class Splitter:
         self.layouts: dict[Base, Layout] = {}
         self.bad: set[Base] = set()
         self.found: dict[int, tuple[Base, int]] = {}
+        self.loaded: set[tuple[Base, int]] = set()
+        self.copies: list[tuple[Base, Base]] = []
+        self.fills: dict[int, Fill] = {}
         for name, variable in module.variables.items():
             self.add(('', name), variable.type, variable.is_plain)
 
     def add(self, base: Base, of: str, is_plain: bool) -> None:
         """Notes the layout of what may be taken apart."""
         found = layout(self.module, of) if is_plain and of[:1] in '[{%' else None
-        if found is not None and found.parts:
+        if found is not None and found.parts and found.size <= LARGEST:
             self.layouts[base] = found
 
     def place(self, function: Function, made: dict, value: Value) -> Optional[tuple[Base, int]]:
@@ -175,11 +199,55 @@ class Splitter:
             if part is None or part[1] != width(one.type) or {'volatile', 'atomic'} & set(one.words):
                 self.bad.add(base)
             self.found[id(one)] = place
+            self.loaded |= {place} if at == 0 else set()
         elif (one.kind, at) in (('getelementptr', 0), ('bitcast', 0)):
             if self.place(function, made, Local(one.name)) is None:
                 self.bad.add(base)
-        elif one.kind != 'call' or at == 0 or not llvm_calls.is_without_effect(one):
+        elif one.kind != 'call' or at == 0:
             self.bad.add(base)
+        elif not llvm_calls.is_without_effect(one) and id(one) not in self.fills:
+            self.fill(function, made, one)
+
+    def fill(self, function: Function, made: dict, one: Instruction) -> None:
+        """Notes a copy or a fill of whole numbers; any other call makes what it uses bad."""
+        places = [self.place(function, made, value) for value in one.operands[1:3]]
+        name = one.operands[0].name if isinstance(one.operands[0], Global) else ''
+        is_copy = name.startswith(('llvm.memcpy.', 'llvm.memmove.'))
+        found = None
+        if len(one.operands) == 5 and type(one.operands[3]) is int and one.operands[4] == 0 and places[0]:
+            if is_copy and places[1]:
+                found = self.copied(places[0], places[1], one.operands[3])
+            elif name.startswith('llvm.memset.') and type(one.operands[2]) is int:
+                found = self.filled(places[0], one.operands[2], one.operands[3])
+        if found is None:
+            self.bad.update(place[0] for place in places if place)
+            return
+        self.fills[id(one)] = found
+        if found.source is not None:
+            self.copies.append((found.base, found.source))
+
+    def covered(self, place: tuple[Base, int], length: int) -> Optional[list[tuple[int, int]]]:
+        """The numbers that some bytes from a place on have; none where they have one in part."""
+        base, begin = place
+        every = list(numbers_in(self.layouts[base]))
+        inside = [(at, bits) for at, bits in every if begin < at + (bits + 7) // 8 and at < begin + length]
+        is_whole = all(begin <= at and at + (bits + 7) // 8 <= begin + length for at, bits in inside)
+        return inside if is_whole and begin + length <= self.layouts[base].size else None
+
+    def filled(self, to: tuple[Base, int], byte: int, length: int) -> Optional[Fill]:
+        """A fill."""
+        inside = self.covered(to, length)
+        number = int.from_bytes(bytes([byte % 256]) * 8, 'little')
+        return None if inside is None else Fill(to[0], None, [(at, bits, number) for at, bits in inside])
+
+    def copied(self, to: tuple[Base, int], source: tuple[Base, int], length: int) -> Optional[Fill]:
+        """A copy between places of one shape."""
+        inside, others = self.covered(to, length), self.covered(source, length)
+        shift = source[1] - to[1]
+        if inside is None or [(at + shift, bits) for at, bits in inside] != others:
+            return None
+        self.loaded.update((source[0], at) for at, _ in others)
+        return Fill(to[0], source[0], [(at, bits, at + shift) for at, bits in inside])
 
     def split(self) -> None:
         """Takes apart what can be."""
@@ -189,6 +257,8 @@ class Splitter:
             variable = self.module.variables.get(base[1]) if not base[0] else None
             if variable is not None and variable.parts == 0:
                 self.bad.add(base)
+        while any((to in self.bad) != (source in self.bad) for to, source in self.copies):
+            self.bad.update(base for pair in self.copies if self.bad & set(pair) for base in pair)
         for function in self.functions:
             self.rewrite(function)
 
@@ -202,13 +272,30 @@ class Splitter:
                 gone.add(id(one))
         locals_: dict[str, Instruction] = {}
         for block in function.blocks:
-            for one in block.instructions:
-                place = self.found.get(id(one))
+            kept = []
+            for one in (one for one in block.instructions if id(one) not in gone):
+                place, fill = self.found.get(id(one)), self.fills.get(id(one))
                 if place is not None and place[0] not in self.bad:
                     one.operands[-1] = self.variable(one, *place, locals_)
-            block.instructions = [one for one in block.instructions if id(one) not in gone]
+                kept += [one] if fill is None or fill.base in self.bad else self.stores(one, fill, locals_)
+            block.instructions = kept
         if locals_:
             function.blocks[0].instructions[:0] = locals_.values()
+
+    def stores(self, one: Instruction, fill: Fill, locals_: dict[str, Instruction]) -> list[Instruction]:
+        """The loads and stores of a copy or a fill; what a function stores and never loads is left out."""
+        loads, stores = [], []
+        for at, bits, value in fill.numbers:
+            if fill.base[0] and (fill.base, at) not in self.loaded:
+                continue
+            if fill.source is not None:
+                name = f'copied:{one.line}:{at}'
+                source = self.variable(one, fill.source, value, locals_)
+                loads.append(Instruction(one.line, name, 'load', f'i{bits}', [source]))
+                value = Local(name)
+            target = self.variable(one, fill.base, at, locals_)
+            stores.append(Instruction(one.line, None, 'store', f'i{bits}', [value, target]))
+        return loads + stores
 
     def variable(self, one: Instruction, base: Base, at: int, locals_: dict[str, Instruction]) -> Value:
         """The variable of a part."""

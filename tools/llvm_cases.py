@@ -248,6 +248,33 @@ define i64 @f(i64 %n) {
   ret i64 %m
 }
 ''', [([4], [4, 5, 6, -3, 302, -8, -1, 0]), ([-1], [-1, 5, 6, -3, 302, -8, -1, 0])]),
+    'copies and fills of arrays': ('''
+@first = private constant [3 x i32] [i32 4, i32 5, i32 6]
+declare void @llvm.memcpy.p0.p0.i64(ptr, ptr, i64, i1)
+declare void @llvm.memmove.p0.p0.i64(ptr, ptr, i64, i1)
+declare void @llvm.memset.p0.i64(ptr, i8, i64, i1)
+define i32 @f(i32 %n) {
+  %a = alloca [3 x i32]
+  %b = alloca [3 x i32]
+  call void @llvm.memcpy.p0.p0.i64(ptr %a, ptr @first, i64 12, i1 false)
+  %a.1 = getelementptr [3 x i32], ptr %a, i64 0, i64 1
+  store i32 %n, ptr %a.1
+  call void @llvm.memmove.p0.p0.i64(ptr %b, ptr %a, i64 12, i1 false)
+  call void @llvm.memset.p0.i64(ptr %a, i8 -1, i64 8, i1 false)
+  %1 = load i32, ptr %b
+  %b.1 = getelementptr [3 x i32], ptr %b, i64 0, i64 1
+  %2 = load i32, ptr %b.1
+  %3 = load i32, ptr %a
+  %a.2 = getelementptr [3 x i32], ptr %a, i64 0, i64 2
+  %4 = load i32, ptr %a.2
+  %5 = mul i32 %1, 100
+  %6 = add i32 %5, %2
+  %7 = add i32 %6, %3
+  %8 = mul i32 %7, 10
+  %9 = add i32 %8, %4
+  ret i32 %9
+}
+''', [([7], [4066]), ([0], [3996])]),
     'an array with typed pointers': ('''
 @t = internal global [4 x i32] [i32 1, i32 2, i32 3, i32 4]
 define i32 @f(i32 %n) {
@@ -288,6 +315,8 @@ REFUSED = {
     'define i32 @main() {\n  %x = fadd float 1.0, 2.0\n  ret i32 0\n}\n': 'line 2, in @main: floating point (fadd)',
     'define i32 @main(i64 %n) {\n  %p = alloca [4 x i32]\n  %q = getelementptr [4 x i32], ptr %p, i64 0, i64 %n\n'
     '  %x = load i32, ptr %q\n  ret i32 %x\n}\n': 'line 2, in @main: an array',
+    'define i32 @main() {\n  %p = alloca [2 x i32]\n  call void @llvm.memset.p0.i64(ptr %p, i8 0, i64 6, i1 false)\n'
+    '  %x = load i32, ptr %p\n  ret i32 %x\n}\n': 'line 2, in @main: an array',
     '@t = global [2 x i32] zeroinitializer\ndefine i32 @main() {\n'
     '  %x = load i64, ptr getelementptr ([2 x i32], ptr @t, i64 0, i64 0)\n  ret i32 0\n}\n':
         'line 3, in @main: an access at an address that is computed',
