@@ -121,7 +121,7 @@ def shown(table, counts, minutes):
     seconds, chain = longest_chain({crate: row["proof"] for crate, row in table.items()})
     lines = [
         f"{len(table)} crates, {edits} edits; {counts}",
-        f"{sum(sums.values()):.1f} processor minutes: {told}",
+        f"{sum(sums.values()):.1f} processor minutes: {told}, {60 * sums['edits'] / max(edits, 1):.0f} seconds an edit",
         *wrapped(f"longest chain: {seconds / 60:.1f} processor minutes of proof: {', '.join(chain)}"),
         f"{minutes:.1f} minutes by the clock",
     ]
