@@ -10,10 +10,10 @@ longest chain of crates of which each waits for the one before, and the minutes 
 
 What the run itself writes is shown as it comes. --write writes nothing where the run failed.
 
-It looks at the processes of the run ten times a second; what a process took that lived shorter than that is counted with
-the one that started it. The minutes by the clock are up to the last process of the prover; what .ci/run does behind
-rt ci, and the runs of programs and tests, take some minutes more. A kit whose rt ci does not prove again what an earlier
-run has passed is told to prove all anew, but where crates are named."""
+It looks at the processes of the run ten times a second; what a process took that lived shorter than that is counted
+with the one that started it. The minutes by the clock are up to the last process of the prover; what .ci/run does
+behind rt ci, and the runs of programs and tests, take some minutes more. A kit whose rt ci does not prove again what an
+earlier run has passed is told to prove all anew, but where crates are named."""
 import argparse
 import glob
 import os
@@ -167,7 +167,7 @@ def command(given):
 
 
 def main():
-    parser = argparse.ArgumentParser(description="Runs the gate and prints the processor seconds that it took, by crate.")
+    parser = argparse.ArgumentParser(description="Runs the gate and prints the processor seconds of each crate.")
     parser.add_argument("--gate", action="store_true", help="run .ci/run in the place of rt ci")
     parser.add_argument("--write", action="store_true", help=f"put the table into {PAGE}")
     parser.add_argument("crates", nargs="*", metavar="CRATE", help="prove these and those below them; all with none")
