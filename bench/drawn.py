@@ -95,6 +95,18 @@ def drawn(setting: Setting, numbers: list[int], folder: Path, stem: str) -> Sour
     return Source(path, flags, entries, INPUTS if setting.has_inputs else ((),))
 
 
+def of_file(path: Path, folder: Path) -> Source:
+    """A C file, from its `main` on; or, where its first comment names inputs, from the function of its name on."""
+    named = re.search(r'ARGS: ([-\d ]*\d)', path.read_text(encoding='latin-1'))
+    if named is None:
+        return Source(path, ['-I', str(path.parent)], {path.stem: 'main'}, ((),))
+    inputs = tuple(named[1].split())
+    made = folder / f'{path.stem}_called.c'
+    made.write_text(f'#include "{path.resolve()}"\n#include <stdlib.h>\n#include <string.h>\n'
+                    + caller([path.stem], len(inputs)))
+    return Source(made, [], {path.stem: path.stem}, (inputs,))
+
+
 def caller(entries: list[str], count: int) -> str:
     """A `main` that calls the program that its first word names, with the others as inputs."""
     words = ', '.join(f'strtol(words[{at + 2}], 0, 10)' for at in range(count))

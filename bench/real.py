@@ -10,6 +10,7 @@ file that is named or lies in a folder that is named, from its `main` on:
     large      five functions, blocks four deep
     inputs     as small, and each global variable begins with a value of an input; three runs of each program
     turns      as inputs, where a loop does all the work many times; of these the time is measured, and no more
+    examples   those of examples/c, each from the function of its name on, with the inputs that it names; none is drawn
 
 clang makes a native program of each without optimisation; `tools/from_c` brings it in. Then `run` of its text, and of
 what each command of `mir` makes of it, has to print the same numbers and end in the same way; runs of more than
@@ -54,6 +55,7 @@ from drawn import Source  # noqa: E402
 COMMANDS = ('optimise', 'thorough', 'move', 'divisions', 'tails', 'join')
 STEPS, SECONDS = 1_000_000, 60
 PAGE = Path(__file__).resolve().parent / 'README.md'
+EXAMPLES = TOP / 'examples' / 'c'
 # The numbers of traps that stand for signals.
 SIGNALS = (132, 134, 136)
 
@@ -289,11 +291,9 @@ def reason(fault: str) -> str:
     return re.sub(r' \([^)]*\)$', '', plain)
 
 
-def named(files: list[Path]) -> Iterable[Source]:
+def files_of(paths: list[Path]) -> list[Path]:
     """The C files that are named, and those of the folders that are named."""
-    for path in files:
-        for each in sorted(path.rglob('*.c')) if path.is_dir() else [path]:
-            yield Source(each, ['-I', str(each.parent)], {each.stem: 'main'}, ((),))
+    return [each for path in paths for each in (sorted(path.rglob('*.c')) if path.is_dir() else [path])]
 
 
 def print_counts(title: str, outcomes: list[Outcome]) -> None:
@@ -333,7 +333,8 @@ def judge_all(bench: Bench, sources: Iterable[Callable[[], Source]], jobs: int, 
 def sources_of(name: str, given: argparse.Namespace, folder: Path) -> list[Callable[[], Source]]:
     """What draws the files of a set, or finds them."""
     if name not in drawn.SETTINGS:
-        return [lambda source=source: source for source in named([given.gcc] if name == 'gcc' else given.files)]
+        paths = {'gcc': [given.gcc], 'examples': [EXAMPLES], 'files': given.files}[name]
+        return [lambda path=path: drawn.of_file(path, folder) for path in files_of(paths)]
     numbers = list(range(given.seed, given.seed + given.csmith))
     return [lambda some=numbers[at:at + drawn.TOGETHER]: drawn.drawn(drawn.SETTINGS[name], some, folder, name)
             for at in range(0, len(numbers), drawn.TOGETHER)]
@@ -353,7 +354,7 @@ def words_given() -> argparse.Namespace:
     words = argparse.ArgumentParser(description='Brings C programs in and compares what they do.')
     words.add_argument('--mir', default=str(TOP / 'mir'), help='the program that is tried')
     words.add_argument('--csmith', type=int, default=0, metavar='N', help='how many programs csmith draws for each set')
-    words.add_argument('--set', nargs='+', default=['small'], choices=list(drawn.SETTINGS), help='which sets (small)')
+    words.add_argument('--set', nargs='+', default=['small'], choices=[*drawn.SETTINGS, 'examples'], help='which sets (small)')
     words.add_argument('--seed', type=int, default=1, help='the number of the first of them')
     words.add_argument('--jobs', type=int, default=2, help='how many programs are judged at a time')
     words.add_argument('--minutes', type=float, default=600, help='after how many nothing more is begun')
@@ -369,7 +370,7 @@ def words_given() -> argparse.Namespace:
 def main() -> int:
     """Judges all programs, and prints the counts."""
     given = words_given()
-    sets = [name for name in given.set if given.csmith] + ['gcc'] * bool(given.gcc) + ['files'] * bool(given.files)
+    sets = [name for name in given.set if given.csmith or name == 'examples'] + ['gcc'] * bool(given.gcc) + ['files'] * bool(given.files)
     status, page = 0, PAGE.read_text(encoding='utf-8')
     with tempfile.TemporaryDirectory() as made:
         folder = given.keep or Path(made)

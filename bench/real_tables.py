@@ -11,6 +11,7 @@ HEADS = {
     'reasons': '| Set | Refused or not compared, since | Programs |',
     'operators': '| Set | Programs | Source | `move` | `optimise` | `thorough` | `alike` | `all` |',
     'beside': '| Set | LLVM | beside | less | as much | more |',
+    'each': '| Program | Source | `move` | `optimise` | `thorough` | `alike` | `all` |',
     'times': '| clang | Programs | `optimise` | `thorough` |',
 }
 
@@ -81,8 +82,18 @@ def put(page: str, table: str, key: str, rows: list[list]) -> str:
     return before + mark + top + head + '\n'.join(new) + rest[len('\n'.join(old)):]
 
 
+def with_each(page: str, outcomes: list) -> str:
+    """The page with a row for each of these programs."""
+    for each in outcomes:
+        cells = [f'`{each.name}`', *(each.evals.get(way, '') for way in WAYS)]
+        page = put(page, 'each', cells[0], [cells])
+    return page
+
+
 def with_set(page: str, name: str, outcomes: list) -> str:
-    """The page with the rows of a set."""
+    """The page with the rows of a set; of the examples it has one for each."""
+    if name == 'examples':
+        return with_each(page, outcomes)
     for table, rows in rows_of(name, outcomes).items():
         page = put(page, table, f'`{name}`', rows)
     return page
