@@ -24,7 +24,7 @@ sys.path.insert(0, str(TOP / 'tools'))
 
 import bril_run  # noqa: E402
 import bril_text  # noqa: E402
-from test_calls import module_of  # noqa: E402
+from tool_calls import module_of  # noqa: E402
 
 COMMANDS = ('optimise', 'thorough')
 STEPS, COUNT = '1000000', 10 ** 7

@@ -28,8 +28,6 @@ csmith, clang and opt.
 
 import argparse
 import collections
-import importlib.machinery
-import importlib.util
 import re
 import signal
 import subprocess
@@ -51,6 +49,7 @@ import mir_text  # noqa: E402
 import native_times  # noqa: E402
 import real_tables  # noqa: E402
 from drawn import Source  # noqa: E402
+from tool_calls import module_of  # noqa: E402
 
 COMMANDS = ('optimise', 'thorough', 'move', 'divisions', 'tails', 'join')
 STEPS, SECONDS = 1_000_000, 60
@@ -102,14 +101,6 @@ def inputs_of(text: str, given: tuple[str, ...]) -> list[str]:
     return list(given) or (['1'] * receives[1].count('\n') if receives else [])
 
 
-def tool(name: str):
-    """The tool with that name, as a module."""
-    loader = importlib.machinery.SourceFileLoader(name, str(TOP / 'tools' / name))
-    made = importlib.util.module_from_spec(importlib.util.spec_from_loader(name, loader))
-    loader.exec_module(made)
-    return made
-
-
 Call = subprocess.CompletedProcess
 
 
@@ -127,7 +118,7 @@ class Bench:
 
     def __init__(self, mir: str, folder: Path):
         self.mir, self.folder = mir, folder
-        self.from_c, self.from_llvm, self.to_llvm = tool('from_c'), tool('from_llvm'), tool('to_llvm')
+        self.from_c, self.from_llvm, self.to_llvm = map(module_of, ('from_c', 'from_llvm', 'to_llvm'))
         usage = ran([mir]).stderr.decode()
         self.support = folder / 'native.o'
         if ran(['clang', '-O1', '-c', TOP / 'tools' / 'native.c', '-o', self.support]).returncode:
@@ -319,6 +310,7 @@ def print_table(outcomes: list[Outcome], rows: int) -> None:
 def judge_all(bench: Bench, sources: Iterable[Callable[[], Source]], jobs: int, end: float) -> list[Outcome]:
     """What becomes of the programs of some files; none is begun behind the end of their time."""
     def judged(source: Callable[[], Source]) -> list[Outcome]:
+        """What becomes of the programs of a file, where there is time left."""
         return bench.judge(source()) if time.monotonic() < end else []
 
     outcomes = []

@@ -170,21 +170,19 @@ def input_of(word: str) -> Value:
         raise mir_text.Fault(f'no number: {word}') from None
 
 
-def main() -> int:
-    """Runs a program."""
-    def work() -> None:
-        functions = program(mir_text.read_input(sys.argv[1] if len(sys.argv) > 1 else None))
-        if 'main' not in [function.name for function in functions]:
-            raise mir_text.Fault('there is no function @main')
-        found = Run(functions).report([input_of(word) for word in sys.argv[2:]], 10 ** 8)
-        for values in found.printed:
-            print(*map(spelled, values))
-        print(f'total_dyn_inst: {found.count}', file=sys.stderr)
-        if found.stopped:
-            print(f'stopped: {found.stopped}', file=sys.stderr)
-            sys.exit(2)
-    return mir_text.run_tool('bril_run', work)
+def work() -> None:
+    """Runs the program of the first word with the others as inputs."""
+    functions = program(mir_text.read_input(sys.argv[1] if len(sys.argv) > 1 else None))
+    if 'main' not in [function.name for function in functions]:
+        raise mir_text.Fault('there is no function @main')
+    found = Run(functions).report([input_of(word) for word in sys.argv[2:]], 10 ** 8)
+    for values in found.printed:
+        print(*map(spelled, values))
+    print(f'total_dyn_inst: {found.count}', file=sys.stderr)
+    if found.stopped:
+        print(f'stopped: {found.stopped}', file=sys.stderr)
+        sys.exit(2)
 
 
 if __name__ == '__main__':
-    sys.exit(main())
+    sys.exit(mir_text.run_tool('bril_run', work))

@@ -9,7 +9,7 @@ import bril_cases
 import bril_run
 import bril_text
 import mir_text
-from test_calls import TOP, module_of, ran, tool
+from tool_calls import TOP, module_of, ran, tool
 
 EXAMPLES = sorted(TOP.glob('examples/bril/*.bril'))
 DRAWN, STEPS = 300, 20_000

@@ -1,4 +1,4 @@
-"""How the tests of the tools call what they try."""
+"""Calls of the tools, for their tests and for bench/: as programs, and as modules."""
 
 import importlib.machinery
 import importlib.util
