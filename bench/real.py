@@ -311,7 +311,13 @@ def judge_all(bench: Bench, sources: Iterable[Callable[[], Source]], jobs: int, 
     """What becomes of the programs of some files; none is begun behind the end of their time."""
     def judged(source: Callable[[], Source]) -> list[Outcome]:
         """What becomes of the programs of a file, where there is time left."""
-        return bench.judge(source()) if time.monotonic() < end else []
+        if time.monotonic() > end:
+            return []
+        found = source()
+        try:
+            return bench.judge(found)
+        except Exception as fault:  # so that one program does not end the whole run; the status is 1
+            return [Outcome(found.path.stem, 'different', [f'a fault of the tools: {fault!r}'])]
 
     outcomes = []
     with ThreadPoolExecutor(jobs) as pool:

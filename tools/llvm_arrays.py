@@ -40,26 +40,30 @@ def layout(module: Module, of: str) -> Optional[Layout]:
         return None
 
 
-def next_layout(module: Module, cursor: Cursor) -> Optional[Layout]:
-    """Takes a type."""
+def next_layout(module: Module, cursor: Cursor) -> Layout:
+    """Takes a type, which is refused where it has another layout."""
     text = cursor.next()
-    bits = width(text)
-    if bits is not None:
-        size = next((each for each in (1, 2, 4, 8) if bits <= 8 * each), 0)
-        return Layout(size, size, bits) if size else None
+    bits = width(text) or 0
+    if cursor.peek() == '*' or bits > 64:
+        raise Refusal(0, 'an address, or too many bits')
+    if bits:
+        size = next(each for each in (1, 2, 4, 8) if bits <= 8 * each)
+        return Layout(size, size, bits)
     if text == '[':
         count = int(cursor.next())
         cursor.take('x')
         part = next_layout(module, cursor)
         cursor.take(']')
-        return part and Layout(part.size * count, part.align, parts=(part,), count=count)
+        return Layout(part.size * count, part.align, parts=(part,), count=count)
     if text == '{':
         members = []
-        while not cursor.has('}'):
+        while not members or cursor.has(','):
             members.append(next_layout(module, cursor))
-            cursor.has(',')
-        return None if None in members or not members else structure(members)
-    return layout(module, module.types[text]) if text in module.types else None
+        cursor.take('}')
+        return structure(members)
+    if text in module.types:
+        return next_layout(module, Cursor(0, module.types[text]))
+    raise Refusal(0, 'another type')
 
 
 def structure(members: list[Layout]) -> Layout:

@@ -276,6 +276,9 @@ define i32 @f(i32 %n) {
 }
 ''', [([7], [4066]), ([0], [3996])]),
     'an array with typed pointers': ('''
+%list = type { i32, %list* }
+@none = internal global [1 x %list] zeroinitializer
+@empty = internal global [0 x i32] zeroinitializer
 @t = internal global [4 x i32] [i32 1, i32 2, i32 3, i32 4]
 define i32 @f(i32 %n) {
   %p = alloca [2 x i32]
