@@ -39,8 +39,10 @@ class Bril(unittest.TestCase):
     MIR = str(TOP / 'mir')
 
     def setUp(self):
-        """The tools as modules."""
+        """The tools as modules, and the commands that the program has for all passes."""
         self.mir_of, self.bril_of = module_of('from_bril').mir_of, module_of('to_bril').bril_of
+        usage = ran([self.MIR]).stderr.decode()
+        self.commands = [command for command in ('optimise', 'thorough') if re.search(rf'[ |]{command}\b', usage)]
 
     def report_of_mir(self, text: str, inputs: tuple[int, ...]) -> Optional[Report]:
         """The report of a run of MIR; None where it goes on."""
@@ -58,22 +60,22 @@ class Bril(unittest.TestCase):
         given = [bool(value) if of == 'bool' else value for value, (_, of) in zip(inputs, main.args)]
         return numbered(bril_run.Run(functions).report(given, steps))
 
-    def optimised(self, text: str) -> str:
-        """What `optimise` makes of a text."""
-        said = ran([self.MIR, 'optimise'], text)
+    def optimised(self, text: str, command: str) -> str:
+        """What a command makes of a text."""
+        said = ran([self.MIR, command], text)
         self.assertEqual(said.returncode, 0, said.stderr)
         return said.stdout.decode('latin-1')
 
     def check(self, text: str, every: list[tuple[int, ...]], steps: int = STEPS) -> int:
         """A program in Bril, as MIR, optimised, there and back, and there again, does the same; how many runs ended."""
         plain, _ = self.mir_of(text)
-        best = self.optimised(plain)
-        back = [bril_text.program_json(self.bril_of(each)) for each in (plain, best)]
-        again = self.mir_of(bril_text.program_text(bril_text.program(back[1])))[0]
+        texts = [plain, *(self.optimised(plain, command) for command in self.commands)]
+        back = [bril_text.program_json(self.bril_of(each)) for each in texts]
+        texts.append(self.mir_of(bril_text.program_text(bril_text.program(back[-1])))[0])
         ended = 0
         for inputs in (each[:mir_text.program(plain)[0].receives()] for each in every):
             wanted = self.report_of_bril(text, inputs, steps)
-            for found in (plain, best, again) if wanted else ():
+            for found in texts if wanted else ():
                 self.assertEqual(self.report_of_mir(found, inputs), wanted, found)
             for found in back if wanted else ():
                 self.assertEqual(self.report_of_bril(found, inputs, steps * 30), wanted, found)
