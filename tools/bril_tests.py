@@ -53,12 +53,18 @@ class Bril(unittest.TestCase):
             return None
         return Report(list(map(int, lines[:-2])), None if said.returncode else int(lines[-2].split()[1]))
 
-    def report_of_bril(self, text: str, inputs: tuple[int, ...], steps: int = 10 ** 6) -> Optional[Report]:
+    def report_of_bril(self, text: str, inputs: tuple[int, ...], steps: int) -> Optional[Report]:
         """The report of a run in Bril; where `main` takes a `bool` it is given one. None where it goes on."""
         functions = bril_text.program(text)
         main = next(function for function in functions if function.name == 'main')
         given = [bool(value) if of == 'bool' else value for value, (_, of) in zip(inputs, main.args)]
         return numbered(bril_run.Run(functions).report(given, steps))
+
+    def report_of_made(self, text: str, inputs: tuple[int, ...], steps: int = 10 ** 6) -> Optional[Report]:
+        """The report of a run of what `to_bril` made, which prints numbers."""
+        found = bril_run.Run(bril_text.program(text)).report(list(inputs), steps)
+        self.assertNotIn(bool, [type(value) for values in found.printed for value in values], text)
+        return numbered(found)
 
     def optimised(self, text: str, command: str) -> str:
         """What a command makes of a text."""
@@ -78,7 +84,7 @@ class Bril(unittest.TestCase):
             for found in texts if wanted else ():
                 self.assertEqual(self.report_of_mir(found, inputs), wanted, found)
             for found in back if wanted else ():
-                self.assertEqual(self.report_of_bril(found, inputs, steps * 30), wanted, found)
+                self.assertEqual(self.report_of_made(found, inputs, steps * 30), wanted, found)
             ended += wanted is not None
         return ended
 
@@ -108,7 +114,7 @@ class Bril(unittest.TestCase):
         made = bril_text.program_json(self.bril_of(bril_cases.OPERATORS))
         for inputs in ((a, b) for a in NUMBERS for b in NUMBERS):
             with self.subTest(inputs):
-                self.assertEqual(self.report_of_bril(made, inputs),
+                self.assertEqual(self.report_of_made(made, inputs),
                                  self.report_of_mir(bril_cases.OPERATORS, inputs))
 
     def test_examples_of_mir_go_out(self):
@@ -121,7 +127,7 @@ class Bril(unittest.TestCase):
             inputs = (3, 2, 5, 1)[:mir_text.program(text)[0].receives()]
             with self.subTest(path.name):
                 made = bril_text.program_text(self.bril_of(text))
-                self.assertEqual(self.report_of_bril(made, inputs), self.report_of_mir(text, inputs))
+                self.assertEqual(self.report_of_made(made, inputs), self.report_of_mir(text, inputs))
                 count += 1
         self.assertGreater(count, 30)
 
