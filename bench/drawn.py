@@ -64,9 +64,9 @@ class Source(NamedTuple):
 
 def with_inputs(text: str, turns: bool) -> str:
     """The program with the inputs x1 to x4, which are added to the first values of its global variables. With turns it
-    does all its work so many times, each time with other values, and prints a sum of what it printed."""
+    does all its work so many times, from four lists of first values in turn, and prints a sum of what it printed."""
     found = VARIABLE.findall(text)
-    count = ' + turn' if turns else ''
+    count = ' + (turn & 3)' if turns else ''
     firsts = ''.join(f'    {name} = ({of})({value} + x{at % 4 + 1}{count});\n' for at, (of, name, value) in enumerate(found))
     head, body = re.split(r'\nint main ?\(.*?\)\n\{', text)
     if not turns:

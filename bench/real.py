@@ -9,7 +9,8 @@ file that is named or lies in a folder that is named, from its `main` on:
     small      three functions, blocks three deep; no inputs, so that all may be evaluated while it is compiled
     large      five functions, blocks four deep
     inputs     as small, and each global variable begins with a value of an input; three runs of each program
-    turns      as inputs, where a loop does all the work many times; of these the time is measured, and no more
+    turns      as inputs, where a loop does all the work many times, from four lists of first values in turn; of these
+               the time is measured, and no more
     examples   those of examples/c, each from the function of its name on, with the inputs that it names; none is drawn
 
 clang makes a native program of each without optimisation; `tools/from_c` brings it in. Then `run` of its text, and of
