@@ -67,7 +67,8 @@ def with_inputs(text: str, turns: bool) -> str:
     does all its work so many times, from four lists of first values in turn, and prints a sum of what it printed."""
     found = VARIABLE.findall(text)
     count = ' + (turn & 3)' if turns else ''
-    firsts = ''.join(f'    {name} = ({of})({value} + x{at % 4 + 1}{count});\n' for at, (of, name, value) in enumerate(found))
+    firsts = ''.join(f'    {name} = ({of})({value} + x{at % 4 + 1}{count});\n'
+                     for at, (of, name, value) in enumerate(found))
     head, body = re.split(r'\nint main ?\(.*?\)\n\{', text)
     if not turns:
         return f'{head}\nint main(long x1, long x2, long x3, long x4) {{\n{firsts}{body}'

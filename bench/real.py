@@ -353,7 +353,8 @@ def words_given() -> argparse.Namespace:
     words = argparse.ArgumentParser(description='Brings C programs in and compares what they do.')
     words.add_argument('--mir', default=str(TOP / 'mir'), help='the program that is tried')
     words.add_argument('--csmith', type=int, default=0, metavar='N', help='how many programs csmith draws for each set')
-    words.add_argument('--set', nargs='+', default=['small'], choices=[*drawn.SETTINGS, 'examples'], help='which sets (small)')
+    words.add_argument('--set', nargs='+', default=['small'], choices=[*drawn.SETTINGS, 'examples'],
+                       help='which sets (small)')
     words.add_argument('--seed', type=int, default=1, help='the number of the first of them')
     words.add_argument('--jobs', type=int, default=2, help='how many programs are judged at a time')
     words.add_argument('--minutes', type=float, default=600, help='after how many nothing more is begun')
@@ -369,7 +370,8 @@ def words_given() -> argparse.Namespace:
 def main() -> int:
     """Judges all programs, and prints the counts."""
     given = words_given()
-    sets = [name for name in given.set if given.csmith or name == 'examples'] + ['gcc'] * bool(given.gcc) + ['files'] * bool(given.files)
+    sets = [name for name in given.set if given.csmith or name == 'examples']
+    sets += ['gcc'] * bool(given.gcc) + ['files'] * bool(given.files)
     status, page = 0, PAGE.read_text(encoding='utf-8')
     with tempfile.TemporaryDirectory() as made:
         folder = given.keep or Path(made)

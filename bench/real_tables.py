@@ -59,9 +59,9 @@ def lines(name: str, outcomes: list) -> list[str]:
 def time_rows(times: list[native_times.Times]) -> list[list]:
     """The rows of the table of times."""
     found = native_times.summary(times)
-    return [[f'`{level}`', int(found[f'programs {level}']),
-             *(f'{found[f"{way} {level}"]:.2f}' if f'{way} {level}' in found else '' for way in ('optimise', 'thorough'))]
-            for level in native_times.LEVELS]
+    ways = {level: [found.get(f'{way} {level}') for way in ('optimise', 'thorough')] for level in native_times.LEVELS}
+    return [[f'`{level}`', int(found[f'programs {level}']), *('' if one is None else f'{one:.2f}' for one in each)]
+            for level, each in ways.items()]
 
 
 def time_lines(times: list[native_times.Times]) -> list[str]:
