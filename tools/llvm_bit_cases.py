@@ -1,9 +1,9 @@
-"""Texts of LLVM IR for tools/test with the operators of `llvm_bits.py`, for several widths, and what they should print."""
+"""Texts of LLVM IR for tools/test with the operators of `llvm_bits.py`, of several widths, and what they print."""
 
 WIDTHS = (1, 2, 7, 8, 16, 31, 32, 33, 63, 64)
-INPUTS = ((0, 0), (1, 2), (-1, 1), (5, 63), (-2 ** 63, -1), (-1, -2 ** 63), (2 ** 32, 2 ** 31), (3037000500, 3037000500),
-          (-3037000500, 3037000500), (0x0123456789ABCDEF, 12), (2 ** 62, 2), (2 ** 62, -2), (-7, 2 ** 61),
-          (4294967296, 4294967296), (4294967295, 4294967297), (6700417, 2753074036095), (255, 8), (-128, 129))
+INPUTS = ((0, 0), (1, 2), (-1, 1), (5, 63), (-2 ** 63, -1), (-1, -2 ** 63), (2 ** 32, 2 ** 31),
+          (3037000500, 3037000500), (-3037000500, 3037000500), (0x0123456789ABCDEF, 12), (2 ** 62, 2), (2 ** 62, -2),
+          (-7, 2 ** 61), (4294967296, 4294967296), (4294967295, 4294967297), (6700417, 2753074036095), (255, 8), (-128, 129))
 
 
 def signed(number: int, bits: int) -> int:
@@ -58,7 +58,7 @@ def calls(name: str, bits: int, at: str) -> list[str]:
     """The lines that print what an operator makes."""
     more = {'ctlz': ', i1 false', 'cttz': ', i1 false', 'fshl': f', i{bits} %y, i{bits} %y',
             'fshr': f', i{bits} %y, i{bits} %y'}.get(name, '')
-    lines, found = [], [(at, f'%{at}')]
+    lines = []
     if name in OVERFLOWS:
         pair = f'{{ i{bits}, i1 }}'
         lines.append(f'%{at} = call {pair} @llvm.{name}.with.overflow.i{bits}(i{bits} %x, i{bits} %y)')

@@ -258,7 +258,7 @@ class Cursor:
         return Address(names[0], self.steps(text, group)) if len(names) == 1 else Other(text)
 
     def steps(self, kind: str, group: int) -> Optional[tuple]:
-        """The steps of an expression whose bracket begins here, to an address by constants; none where it has others."""
+        """The steps by constants of an expression whose bracket begins here; none where it has other steps."""
         end, self.at, taken = self.at, group, []
         try:
             self.take('(')
