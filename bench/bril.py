@@ -80,7 +80,10 @@ def main() -> int:
     words.add_argument('--mir', default=str(TOP / 'mir'), metavar='PATH', help='the program that is tried')
     words.add_argument('files', nargs='*', type=Path, metavar='FILE', help='programs in Bril; those of examples/bril/')
     given = words.parse_args()
-    usage = subprocess.run([given.mir], capture_output=True, text=True).stderr
+    try:
+        usage = subprocess.run([given.mir], capture_output=True, text=True).stderr
+    except OSError as fault:
+        sys.exit(f'bench/bril.py: {fault}')
     commands = [command for command in COMMANDS if re.search(rf'[ |]{command}\b', usage)]
     files = given.files or sorted(TOP.glob('examples/bril/*.bril'))
     print(table([judged(path, given.mir, commands) for path in files], commands))
