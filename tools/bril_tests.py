@@ -117,6 +117,14 @@ class Bril(unittest.TestCase):
                 self.assertEqual(self.report_of_made(made, inputs),
                                  self.report_of_mir(bril_cases.OPERATORS, inputs))
 
+    def test_constants_that_no_run_sets(self):
+        """A constant that stands where no run comes to is set again behind it."""
+        for text in ('main: begin\ngoto L\nprint 5\nL: print 5\nprint 5\nend\n',
+                     'main: begin\nif x goto M\nreturn 1\nprint 5\nM: print 5\nend\n',
+                     'main: begin\nprint 5\nL: i <- i + 1\nif i < 5 goto L\nprint i\nprint 5\nend\n'):
+            self.assertEqual(self.report_of_made(bril_text.program_text(self.bril_of(text)), ()),
+                             self.report_of_mir(text, ()))
+
     def test_examples_of_mir_go_out(self):
         """Each example of MIR without globals and traps with a number does in Bril what it does in MIR."""
         count = 0
