@@ -241,6 +241,17 @@ static number parts(number a, number b) {
     return sum + four[0] + four[2] + table[1];
 }
 
+static const unsigned char days[12] = {31, 28, 31, 30, 31, 30, 31, 31, 30, 31, 30, 31};
+static const number far[3] = {-5000000000, 7, 5000000000};
+static const int16_t zeros[5];
+
+static number tables(number a, number b) {
+    number sum = days[(unsigned long long)a % 12] + far[(unsigned long long)b % 3] + zeros[b & 3] + days[1];
+    for (int i = 0; i < 5; i++)
+        sum = sum * 3 + "words"[i] + far[i % 3];
+    return sum;
+}
+
 #define CASE(at, name) case at: return name(a, b);
 #define CASES(at, name) CASE(at, name##_i8) CASE(at + 1, name##_u8) CASE(at + 2, name##_i16) CASE(at + 3, name##_u16) \
     CASE(at + 4, name##_i32) CASE(at + 5, name##_u32) CASE(at + 6, name##_i64) CASE(at + 7, name##_u64)
@@ -258,7 +269,7 @@ number construct(number which, number a, number b) {
     CASE(116, recursion) CASE(117, prints) CASE(118, aborts) CASE(119, asserts) CASE(120, globals)
     CASE(121, increments) CASE(122, safe_quotient) CASE(123, greatest_divisor) CASE(124, turned)
     CASE(125, near_bounds) CASE(126, counted_bits) CASE(127, swapped_bytes) CASE(128, overflowing_products)
-    CASE(129, exits) CASE(130, parts)
+    CASE(129, exits) CASE(130, parts) CASE(131, tables)
     }
     return -1;
 }

@@ -248,6 +248,22 @@ define i64 @f(i64 %n) {
   ret i64 %m
 }
 ''', [([4], [4, 5, 6, -3, 302, -8, -1, 0]), ([-1], [-1, 5, 6, -3, 302, -8, -1, 0])]),
+    'tables': ('''
+@table = private constant [3 x i16] [i16 7, i16 -8, i16 9]
+@same = private constant [4 x i64] [i64 5, i64 5, i64 5, i64 5]
+define i64 @f(i64 %n) {
+  %p = getelementptr inbounds [3 x i16], ptr @table, i64 0, i64 %n
+  %1 = load i16, ptr %p
+  %q = getelementptr i64, ptr @same, i64 %n
+  %2 = load i64, ptr %q
+  %3 = load i16, ptr getelementptr ([3 x i16], ptr @table, i64 0, i64 2)
+  %4 = sext i16 %1 to i64
+  %5 = sext i16 %3 to i64
+  %6 = mul i64 %4, %2
+  %7 = add i64 %5, %6
+  ret i64 %7
+}
+''', [([0], [44]), ([1], [-31]), ([2], [54]), ([3], ['trap']), ([-1], ['trap'])]),
     'copies and fills of arrays': ('''
 @first = private constant [3 x i32] [i32 4, i32 5, i32 6]
 declare void @llvm.memcpy.p0.p0.i64(ptr, ptr, i64, i1)
@@ -320,6 +336,9 @@ REFUSED = {
     '  %x = load i32, ptr %q\n  ret i32 %x\n}\n': 'line 2, in @main: an array',
     'define i32 @main() {\n  %p = alloca [2 x i32]\n  call void @llvm.memset.p0.i64(ptr %p, i8 0, i64 6, i1 false)\n'
     '  %x = load i32, ptr %p\n  ret i32 %x\n}\n': 'line 2, in @main: an array',
+    '@t = global [2 x i32] zeroinitializer\ndefine i32 @main(i64 %n) {\n'
+    '  %p = getelementptr [2 x i32], ptr @t, i64 0, i64 %n\n  %x = load i32, ptr %p\n  ret i32 %x\n}\n':
+        'line 3, in @main: an address is computed (getelementptr)',
     '@t = global [2 x i32] zeroinitializer\ndefine i32 @main() {\n'
     '  %x = load i64, ptr getelementptr ([2 x i32], ptr @t, i64 0, i64 0)\n  ret i32 0\n}\n':
         'line 3, in @main: an access at an address that is computed',

@@ -292,6 +292,13 @@ class Maker:
                 return self.own.get(value.name) or self.names.shared[value.name]
         raise self.refusal(one, 'an access at an address that is computed')
 
+    def element(self, one: Instruction) -> None:
+        """A number of a table, which a unit of its own answers."""
+        self.bits(one)
+        index, unit = self.operand(one, 0, self.bits(one, one.types[0])), one.words[0]
+        self.needs.add(unit)
+        self.body.emit(Call(self.result(one), self.names.units[unit], (index,)))
+
     def load(self, one: Instruction) -> None:
         """A load of a variable."""
         self.bits(one)
@@ -403,7 +410,7 @@ MAKERS = {
     **dict.fromkeys(('trunc', 'zext', 'sext', 'bitcast'), Maker.cast), 'freeze': Maker.freeze,
     'icmp': Maker.comparison, 'select': Maker.select, 'load': Maker.load, 'store': Maker.store,
     'alloca': Maker.alloca, 'call': llvm_calls.call, 'ret': Maker.give, 'unreachable': Maker.never,
-    'extractvalue': Maker.part,
+    'extractvalue': Maker.part, 'element': Maker.element,
 }
 
 
