@@ -10,7 +10,7 @@ from typing import NamedTuple, Optional
 LEVELS = ('-O0', '-O2')
 
 # A program is counted from these seconds on, and ended after those; and it makes no more turns than this.
-LEAST, LIMIT, GREATEST = 0.1, 10, 10 ** 9
+LEAST, LIMIT, GREATEST = 0.1, 30, 10 ** 9
 
 
 class Times(NamedTuple):

@@ -252,10 +252,13 @@ class Bench:
             outcome.state = 'different'
             outcome.shown.append(f'{kind} of LLVM: wanted {wanted}, found {report}')
 
-    def timed(self, source: Source, repeat: int) -> list[native_times.Times]:
-        """The times of the programs of a file, as they come in and as the first commands make them."""
+    def timed(self, source: Source, repeat: int, end: float) -> list[native_times.Times]:
+        """The times of the programs of a file, as they come in and as the first commands make them; none is begun
+        behind the end of their time."""
         found = []
         for name, text in self.texts_of(source)[0].items():
+            if time.monotonic() > end:
+                break
             texts = {way: made for way, made in self.ways(text) if way in ('source', 'optimise', 'thorough')}
             given = native_times.measured(name, texts, source.inputs[-1], self.to_llvm, self.folder / name, repeat)
             found += [given] if given else []
@@ -344,7 +347,7 @@ def time_all(bench: Bench, sources: list[Callable[[], Source]], repeat: int, end
     found = []
     for source in sources:
         if time.monotonic() < end:
-            found += bench.timed(source(), repeat)
+            found += bench.timed(source(), repeat, end)
     return found
 
 
