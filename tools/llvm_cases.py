@@ -336,6 +336,9 @@ REFUSED = {
     '  %x = load i32, ptr %q\n  ret i32 %x\n}\n': 'line 2, in @main: an array',
     'define i32 @main() {\n  %p = alloca [2 x i32]\n  call void @llvm.memset.p0.i64(ptr %p, i8 0, i64 6, i1 false)\n'
     '  %x = load i32, ptr %p\n  ret i32 %x\n}\n': 'line 2, in @main: an array',
+    'define i32 @main() {\n  %p = alloca [2 x i32]\n  %q = getelementptr i8, ptr %p, i64 2\n'
+    '  call void @llvm.memset.p0.i64(ptr %q, i8 0, i64 6, i1 false)\n  %x = load i32, ptr %p\n  ret i32 %x\n}\n':
+        'line 2, in @main: an array',
     '@t = global [2 x i32] zeroinitializer\ndefine i32 @main(i64 %n) {\n'
     '  %p = getelementptr [2 x i32], ptr @t, i64 0, i64 %n\n  %x = load i32, ptr %p\n  ret i32 %x\n}\n':
         'line 3, in @main: an address is computed (getelementptr)',
