@@ -1,5 +1,6 @@
 -- That the code motion of a trail is the best: on no full path does an admissible placement evaluate an expression less
--- often; and that sinking leaves no more assignments on any. Cited by contracts.
+-- often; and that sinking leaves no more assignments on any, each round no more than any single step. Cited by
+-- contracts.
 use Rattle.std.specs.Prelude.{ℕ, List}
 use Rattle.mir_base.specs.declared.instructions.Expr.{Expr}
 use Rattle.graph_edit.specs.Along.{RunsFollow}
@@ -11,6 +12,7 @@ use Rattle.div_move.specs.MustCome.{MustComeTo}
 use Rattle.div_move.specs.Moves.{InsertionsCome}
 use Rattle.sink_dead.specs.NoMore.{HasNoMore}
 use Rattle.sink_dead.specs.RoundGraphs.{last_round}
+use Rattle.sink_dead.specs.Steps.{AreBestSteps}
 use Rattle.mir_opt.specs.declared.trails.MoveUnit.{MoveUnit}
 use Rattle.mir_opt.specs.declared.trails.UnitTrail.{UnitTrail}
 
@@ -42,3 +44,8 @@ pub record DivisionsAreBest (unit : MoveUnit) : Type 0 where
 -- graph before the rounds
 abbrev pub SinksNoMore : UnitTrail → Type 0
 SinksNoMore unit = HasNoMore unit.recopied (last_round unit.recopied unit.sunk.rounds)
+
+-- each round is the best of all single steps from the graph before it: none leaves fewer of a plain or movable
+-- assignment on any full path; and where a round leaves the layout as it is, none leaves fewer than stand there
+abbrev pub RoundsAreBest : UnitTrail → Type 0
+RoundsAreBest unit = AreBestSteps unit.recopied unit.sunk.rounds

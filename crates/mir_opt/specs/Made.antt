@@ -16,6 +16,7 @@ use Rattle.motion_rewrite.specs.Flatten.{IsFlattened}
 use Rattle.motion_rewrite.specs.ExprTables.{movable_exprs}
 use Rattle.sink_dead.specs.RoundGraphs.{last_round}
 use Rattle.sink_dead.specs.RoundsKept.{RoundKeeps, RoundsKeep}
+use Rattle.sink_dead.specs.Steps.{AreBestSteps}
 use Rattle.latest_place.specs.Lazy.{IsLazyPlacement}
 use Rattle.div_move.specs.MustCome.{MustComeTo}
 use Rattle.div_move.specs.Moves.{InsertionsCome}
@@ -28,18 +29,19 @@ use Rattle.mir_opt.specs.declared.moving.Placed.{Placed}
 use Rattle.mir_opt.specs.declared.trails.MoveUnit.{MoveUnit}
 use Rattle.mir_opt.specs.declared.trails.UnitTrail.{UnitTrail}
 use Rattle.mir_opt.specs.declared.over_units.ProgramSteps.{ProgramSteps}
-use Rattle.mir_opt.specs.Best.{IsBest, MotionIsBest, MovesBest, SinksNoMore}
+use Rattle.mir_opt.specs.Best.{IsBest, MotionIsBest, MovesBest, RoundsAreBest, SinksNoMore}
 use Rattle.mir_opt.specs.Divisions.{DivisionsStay}
 use Rattle.mir_opt.specs.Links.{IsBack, IsBeforeMotion, IsDivisionMotion, IsMotion, IsStart}
 use Rattle.mir_opt.specs.Stages.{AreLaid, KeepsProgram}
 
--- after all passes the code motion of a unit is the best, divisions stay, and the last round has no more of any
--- assignment than the graph before the rounds
+-- after all passes the code motion of a unit is the best, divisions stay, the last round has no more of any assignment
+-- than the graph before the rounds, and each round is the best of all steps
 pub record UnitBest (source : UnitShape) (unit : UnitTrail) : Type 0 where
   pub moves : MovesBest unit
   pub lowers : DivisionsLowered source unit.lowered
   pub divisions : DivisionsStay unit
   pub sinks : SinksNoMore unit
+  pub rounds : RoundsAreBest unit
 
 -- after code motion alone it is the best, and divisions stay as they are
 pub record MoveBest (source : UnitShape) (unit : MoveUnit) : Type 0 where
@@ -88,6 +90,7 @@ pub record BackMade (moved : GraphShape) (made : Back) : Type 0 where
   pub recopied_keeps : GraphKeeps moved made.recopied
   pub rounds_keep : RoundsKeep made.recopied made.sunk.rounds
   pub last_keeps : RoundKeeps made.recopied (last_round made.recopied made.sunk.rounds)
+  pub rounds_best : AreBestSteps made.recopied made.sunk.rounds
   pub swept_keeps : GraphKeeps (last_round made.recopied made.sunk.rounds) made.swept
   pub divides : GraphDivides moved made.swept
 

@@ -5,6 +5,7 @@ use Rattle.std.specs.List.{AllZip}
 use Rattle.mir_base.specs.Runs.{Cheaper, Same}
 use Rattle.mir_base.specs.Shapes.{ProgramShape, UnitShape}
 use Rattle.mir_sim.specs.Calls.{CallsNoMore}
+use Rattle.mir_sim.specs.Machines.{Shallower}
 use Rattle.mir_sim.specs.Pairs.{AllUnitsSame}
 use Rattle.flow_graph.specs.Graphs.{AllWithin, GraphShape}
 use Rattle.flow_graph.specs.Keeps.{AsGraph, AsUnit, Keeps}
@@ -91,10 +92,11 @@ AllKeep {S = S} graph_of sources units =
 abbrev pub AreLaid : {T S : Type 0} → (T → S → GraphShape) → S → List T → List UnitShape → Type 0
 AreLaid graph_of stage units targets = AllZip (λ unit target. IsLayout (graph_of unit stage) target) units targets
 
--- the second program is the same as the first, as a whole and unit by unit, evaluates no more operators, and calls no
--- units but those that the first calls
+-- the second program is the same as the first, as a whole and unit by unit, evaluates no more operators, never has more
+-- frames, and calls no units but those that the first calls
 pub record KeepsProgram (first second : ProgramShape) : Type 0 where
   pub same : Same first second
   pub cheaper : Cheaper first second
   pub units : AllUnitsSame first second
+  pub shallower : Shallower first second
   pub calls : CallsNoMore first second

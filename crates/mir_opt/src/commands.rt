@@ -1,6 +1,6 @@
 // The calls of this crate: each takes all units of a program through the steps of its command.
 ghost use Rattle.std.specs.Prelude.{◌≡◌, All, IfOk};
-ghost use Rattle.mir_opt.specs.Best.{DivisionsAreBest, MotionIsBest, MovesBest, SinksNoMore};
+ghost use Rattle.mir_opt.specs.Best.{DivisionsAreBest, MotionIsBest, MovesBest, RoundsAreBest, SinksNoMore};
 ghost use Rattle.mir_opt.specs.Divisions.{DivisionsReachTarget, DivisionsStay, MotionKeepsDivisions};
 ghost use Rattle.mir_opt.specs.Links.{IsDivisionLinked, IsLinked, IsMoveLinked, IsOnlyDivisionTrail, IsOnlyMoveTrail, IsOnlyTrail};
 ghost use Rattle.mir_opt.specs.Stages.{AllKeep, AreLaid, KeepsProgram, graph_at, move_graph_at};
@@ -21,8 +21,8 @@ pub fn optimise(alloc: Global, program: &Program) -> Result<Trail, Memory>
     ensures linked { IfOk result IsLinked }
     ensures only { IfOk result (IsOnlyTrail program.now) }
 
-    // The target is the same program, as a whole and unit by unit, evaluates no more operators, and calls no units but
-    // those that the program calls. So it would be at each stage.
+    // The target is the same program, as a whole and unit by unit, evaluates no more operators, never has more frames,
+    // and calls no units but those that the program calls. So it would be at each stage.
     ensures keeps { IfOk result (λ trail. KeepsProgram program.now trail.target) }
     ensures stages { IfOk result (λ trail. AllKeep graph_at trail.source.units trail.units) }
 
@@ -31,6 +31,9 @@ pub fn optimise(alloc: Global, program: &Program) -> Result<Trail, Memory>
 
     // On no full path the rounds of sinking together leave more of any plain or movable assignment.
     ensures sinks { IfOk result (λ trail. All SinksNoMore trail.units) }
+
+    // On no full path does a single step leave fewer of one than the round of sinking from the same graph.
+    ensures rounds { IfOk result (λ trail. All RoundsAreBest trail.units) }
 
     // Each dividing instruction of the source that is reached is one of the target, with its variable and its operator,
     // unless its divisor is known and not 0, and no two are one. So it is from graph to graph.
@@ -54,8 +57,8 @@ pub fn motion(alloc: Global, program: &Program) -> Result<MoveTrail, Memory>
     ensures linked { IfOk result IsMoveLinked }
     ensures only { IfOk result (IsOnlyMoveTrail program.now) }
 
-    // The target is the same program, as a whole and unit by unit, evaluates no more operators, and calls no units but
-    // those that the program calls. So it would be at each stage.
+    // The target is the same program, as a whole and unit by unit, evaluates no more operators, never has more frames,
+    // and calls no units but those that the program calls. So it would be at each stage.
     ensures keeps { IfOk result (λ trail. KeepsProgram program.now trail.target) }
     ensures stages { IfOk result (λ trail. AllKeep move_graph_at trail.source.units trail.units) }
 
@@ -83,8 +86,8 @@ pub fn divisions(alloc: Global, program: &Program) -> Result<MoveTrail, Memory>
     ensures linked { IfOk result IsDivisionLinked }
     ensures only { IfOk result (IsOnlyDivisionTrail program.now) }
 
-    // The target is the same program, as a whole and unit by unit, evaluates no more operators, and calls no units but
-    // those that the program calls. So it would be at each stage.
+    // The target is the same program, as a whole and unit by unit, evaluates no more operators, never has more frames,
+    // and calls no units but those that the program calls. So it would be at each stage.
     ensures keeps { IfOk result (λ trail. KeepsProgram program.now trail.target) }
     ensures stages { IfOk result (λ trail. AllKeep move_graph_at trail.source.units trail.units) }
 
@@ -101,9 +104,9 @@ pub fn divisions(alloc: Global, program: &Program) -> Result<MoveTrail, Memory>
 }
 
 /// The program with the globals of the source whose units are the layouts of the graphs at a stage. It is the same as the
-/// source, unit by unit, evaluates no more operators, and calls no units but those that the source calls. At each stage
-/// the graph of each unit keeps the unit of the source, as in every trail that `optimise` makes. It fails only with
-/// `Memory`.
+/// source, unit by unit, evaluates no more operators, never has more frames, and calls no units but those that the source
+/// calls. At each stage the graph of each unit keeps the unit of the source, as in every trail that `optimise` makes. It
+/// fails only with `Memory`.
 pub fn stage_program(alloc: Global, trail: &Trail, stage: Stage) -> Result<Program, Memory>
     requires { AllKeep graph_at trail.now.source.units trail.now.units }
     ensures laid { IfOk result (λ program. AreLaid graph_at stage trail.now.units program.units) }

@@ -7,11 +7,11 @@
 //!
 //! The theorem that this crate carries is the contract of `optimise`, and that of `motion` alike: the trail is linked
 //! and is the only linked trail of its source, source and target are the same program, unit by unit and as a whole, the
-//! target evaluates no more operators, in each unit no admissible placement evaluates an expression less often on any
-//! full path than the one that was taken, and dividing instructions that are reached stay; of `optimise` also that
-//! sinking leaves no more assignments on any full path. `divisions` has a theorem of the same form, for the expressions
-//! that divide and their own rule. What is said of the target holds of the program of each stage, which `stage_program`
-//! makes.
+//! target evaluates no more operators and never has more frames, in each unit no admissible placement evaluates an
+//! expression less often on any full path than the one that was taken, and dividing instructions that are reached stay;
+//! of `optimise` also that sinking leaves no more assignments on any full path, and each round no more than any single
+//! step. `divisions` has a theorem of the same form, for the expressions that divide and their own rule. What is said of
+//! the target holds of the program of each stage, which `stage_program` makes.
 #![tactic(auto)]
 
 mod back;

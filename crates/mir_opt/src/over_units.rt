@@ -49,7 +49,8 @@ fn all_steps<T: UnitSteps>(alloc: Global, program: &Program) -> Result<Items<T::
 }
 
 /// The program whose units are the layouts of the graphs at a stage. It is the same as the source, unit by unit,
-/// evaluates no more operators, and calls no units but those that the source calls. It fails only with `Memory`.
+/// evaluates no more operators, never has more frames, and calls no units but those that the source calls. It fails only
+/// with `Memory`.
 pub(crate) fn program_at<T: UnitSteps>(
     alloc: Global,
     source: &Program,

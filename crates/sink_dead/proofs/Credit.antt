@@ -1,5 +1,5 @@
 -- The credit of what is delayed: along each edge it makes up for what is put anew, whatever assignments weigh.
-use Rattle.std.proofs.Common.{◌≡◌, ◌<◌, ◌≤◌, ◌+◌, ℕ, Bool, true, false, if◌then◌else◌, nat_eq, not, List, [], ◌∷◌, length, slice_get, Option, Some, None, option_map, inl, inr, refl, sym, ap, ◌∙◌, arith}
+use Rattle.std.proofs.Common.{◌≡◌, ◌<◌, ◌≤◌, ◌+◌, ℕ, Bool, true, false, if◌then◌else◌, nat_eq, not, List, length, slice_get, Option, Some, None, option_map, inl, inr, refl, sym, ap, ◌∙◌, arith}
 use Rattle.std.proofs.lemmas.Bool.{true≢false, eq-eqb, ne_eqb}
 use Rattle.std.proofs.lemmas.Option.{slice_get_within}
 use Rattle.mir_base.specs.declared.instructions.Rhs.{Rhs}
@@ -19,7 +19,7 @@ use Rattle.sink_dead.specs.Delaying.{IsDelayedTo}
 use Rattle.sink_dead.proofs.Delays.{back_to, none_at_start, put_delayed, source_within, trace_of}
 use Rattle.sink_dead.proofs.Occurring.{occurrence_is}
 use Rattle.sink_dead.proofs.Ordered.{each_put, sum_none, sum_one, sum_vars, sums_le, weigh_in_order, weight_of}
-use Rattle.sink_dead.proofs.Waiting.{Waits}
+use Rattle.sink_dead.proofs.Waiting.{waits_below}
 
 module _ (graph : GraphShape) (is_graph : IsGraph graph.vars graph.received graph.nodes) (split : IsSplit graph.nodes) (late : ℕ → ℕ → Option Rhs) (inserts : ℕ → List Insertion) (are : AreInsertions graph late inserts) (weight : ℕ → Rhs → ℕ) where
   abbrev vars : ℕ
@@ -29,18 +29,9 @@ module _ (graph : GraphShape) (is_graph : IsGraph graph.vars graph.received grap
   abbrev pub credit : ℕ → ℕ
   credit n = sum_vars (λ x. weight_of weight x (late n x)) 0 (length graph.vars)
 
-  -- a pattern that occurs is over the graph's variables
-  occurs_below : (n x : ℕ) (t : Rhs) → occurs_at x t graph n ≡ true → (x < vars) × AllBelow vars (rhs_vars t)
-  occurs_below n x t o = let w = occurrence_is x t (slice_get graph.nodes n) o in is_graph.can.below n (Assign x t w.0) w.1
-
-  waits_below : (x : ℕ) (t : Rhs) (before : List ℕ) → Waits graph x t before → (x < vars) × AllBelow vars (rhs_vars t)
-  waits_below x t [] s = absurd s
-  waits_below x t (m ∷ before) (inl o) = occurs_below m x t o
-  waits_below x t (m ∷ before) (inr s) = waits_below x t before s.1
-
-  -- so is one that is delayed
+  -- a pattern that is delayed is over the graph's variables
   pub delayed_below : (n x : ℕ) (t : Rhs) → n < length graph.nodes → IsDelayedTo graph x t n → (x < vars) × AllBelow vars (rhs_vars t)
-  delayed_below n x t lt d = let tr = trace_of graph is_graph n lt in waits_below x t tr.0 (d tr.0 tr.1)
+  delayed_below n x t lt d = let tr = trace_of graph is_graph n lt in waits_below graph is_graph x t tr.0 (d tr.0 tr.1)
 
   -- the insertions weigh what they put for each variable
   inserts_weigh : (n : ℕ) → n < length graph.nodes → weigh_all weight (inserts n) ≡ sum_vars (λ x. weight_of weight x (put_for (inserts n) x)) 0 vars

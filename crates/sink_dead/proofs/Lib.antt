@@ -44,3 +44,16 @@ pub mod Listed
 pub mod AllPuts
 pub mod OnceSorted
 pub mod ListedBits
+pub mod Maximal
+pub mod LiveOver
+pub mod Transfer
+pub mod Bridge
+pub mod Chains
+pub mod BestAlong
+pub mod Unpruned
+pub mod Walks
+pub mod Names
+pub mod Settled
+pub mod StepLaws
+pub mod Totals
+pub mod Best

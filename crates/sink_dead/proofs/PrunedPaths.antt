@@ -15,7 +15,7 @@ use Rattle.sink_dead.specs.PrunedLaws.{pruned_get, pruned_succs}
 use Rattle.sink_dead.proofs.Flagged.{pruned_length}
 
 -- a node stays a Return, removed or not
-return_stays : (gone : Bool) (o : Option Node) → is_return (option_map (changed (removed_if gone)) o) ≡ is_return o
+pub return_stays : (gone : Bool) (o : Option Node) → is_return (option_map (changed (removed_if gone)) o) ≡ is_return o
 return_stays gone None = refl
 return_stays gone (Some (Start next)) = refl
 return_stays gone (Some (Skip next)) = refl
@@ -47,7 +47,7 @@ path_by these those many succs (n ∷ []) is = omega (arith, is, many)
 path_by these those many succs (m ∷ n ∷ path) is = ((is.0.0, ap (λ l. slice_get l is.0.0) (succs m) ∙ is.0.1), path_by these those many succs (n ∷ path) is.1)
 
 -- and a full path is a full one, where besides the same of them are Returns
-full_by : (these those : List Node) → length these ≡ length those → ((n : ℕ) → succs_at those n ≡ succs_at these n) → ((n : ℕ) → is_return (slice_get those n) ≡ is_return (slice_get these n)) → (path : List ℕ) → IsFullPath these path → IsFullPath those path
+pub full_by : (these those : List Node) → length these ≡ length those → ((n : ℕ) → succs_at those n ≡ succs_at these n) → ((n : ℕ) → is_return (slice_get those n) ≡ is_return (slice_get these n)) → (path : List ℕ) → IsFullPath these path → IsFullPath those path
 full_by these those many succs returns path full = record {
   is_path = path_by these those many succs path full.is_path;
   begins = full.begins;

@@ -1,13 +1,13 @@
 -- Patterns that wait on one path: an occurrence has been passed, and no node since blocks. They have different
--- variables, and none assigns what another reads.
-use Rattle.std.proofs.Common.{◌≡◌, ℕ, true, false, nat_eq, List, [], ◌∷◌, slice_get, Some, inl, inr, sym, ap, ◌∙◌}
+-- variables, and none assigns what another reads; and they are over the graph's variables.
+use Rattle.std.proofs.Common.{◌≡◌, ◌<◌, ℕ, true, false, nat_eq, List, [], ◌∷◌, length, slice_get, Some, inl, inr, sym, ap, ◌∙◌}
 use Rattle.std.proofs.lemmas.Bool.{true≢false, eq-eqb}
 use Rattle.std.proofs.lemmas.Option.{same_Some}
 use Rattle.mir_base.specs.declared.instructions.Rhs.{Rhs}
 use Rattle.mir_base.specs.Expressions.{divides}
-use Rattle.mir_base.specs.Shapes.{rhs_vars}
+use Rattle.mir_base.specs.Shapes.{AllBelow, rhs_vars}
 use Rattle.flow_graph.specs.declared.nodes.Node.TheVariants.{Assign}
-use Rattle.flow_graph.specs.Graphs.{GraphShape}
+use Rattle.flow_graph.specs.Graphs.{GraphShape, IsGraph}
 use Rattle.flow_graph.specs.Numbering.{is_in}
 use Rattle.flow_graph.specs.NumberingLaws.{in_any}
 use Rattle.path_laws.specs.Paths.{Since}
@@ -59,3 +59,14 @@ module _ (graph : GraphShape) where
   waits_sinkable x t [] s = absurd s
   waits_sinkable x t (m ∷ before) (inl o) = (at_occurrence x t m o).2
   waits_sinkable x t (m ∷ before) (inr s) = waits_sinkable x t before s.1
+
+module _ (graph : GraphShape) (is_graph : IsGraph graph.vars graph.received graph.nodes) where
+  -- a pattern that occurs is over the graph's variables
+  occurs_below : (n x : ℕ) (t : Rhs) → occurs_at x t graph n ≡ true → (x < length graph.vars) × AllBelow (length graph.vars) (rhs_vars t)
+  occurs_below n x t o = let w = at_occurrence graph x t n o in is_graph.can.below n (Assign x t w.0) w.1
+
+  -- so is one that waits
+  pub waits_below : (x : ℕ) (t : Rhs) (before : List ℕ) → Waits graph x t before → (x < length graph.vars) × AllBelow (length graph.vars) (rhs_vars t)
+  waits_below x t [] s = absurd s
+  waits_below x t (m ∷ before) (inl o) = occurs_below m x t o
+  waits_below x t (m ∷ before) (inr s) = waits_below x t before s.1

@@ -16,6 +16,7 @@ pub mod VarLaws
 pub mod LastLaws
 pub mod Pruned
 pub mod RoundGraphs
+pub mod Steps
 pub mod LiveRows
 pub mod PrunedLaws
 pub mod GraphFlows

@@ -40,7 +40,7 @@ use Rattle.flow_graph.specs.PathLaws.{assign_edge}
 -- ---- what is live
 
 -- what is live before a successor and is not assigned is live before the node
-live_back : (graph : GraphShape) (x m n : ℕ) → HasEdge graph.nodes m n → assigns_at graph x m ≡ false → IsLiveBefore graph x n → IsLiveBefore graph x m
+pub live_back : (graph : GraphShape) (x m n : ℕ) → HasEdge graph.nodes m n → assigns_at graph x m ≡ false → IsLiveBefore graph x n → IsLiveBefore graph x m
 live_back graph x m n edge free live = lengthen live.path live.is_path live.begins live.ends
   where
     lengthen : (path : List ℕ) → IsPath graph.nodes path → Begins n path → EndsBorn (reads_at graph x) (assigns_at graph x) path → IsLiveBefore graph x m
@@ -48,7 +48,7 @@ live_back graph x m n edge free live = lengthen live.path live.is_path live.begi
     lengthen (k ∷ path) is_path begins ends = record { path = m ∷ k ∷ path; is_path = (subst (HasEdge graph.nodes m) (sym begins) edge, is_path); begins = refl; ends = (free, ends) }
 
 -- what a node reads is live before it
-live_read : (graph : GraphShape) (x n : ℕ) (node : Node) → slice_get graph.nodes n ≡ Some node → is_in x (node_reads graph node) ≡ true → IsLiveBefore graph x n
+pub live_read : (graph : GraphShape) (x n : ℕ) (node : Node) → slice_get graph.nodes n ≡ Some node → is_in x (node_reads graph node) ≡ true → IsLiveBefore graph x n
 live_read graph x n node is read = record {
   path = n ∷ [];
   is_path = slice_get_within graph.nodes n node is;

@@ -1,13 +1,13 @@
 -- Laws of insertions in order of their variables: what is put for each variable, and that it determines the list. For
 -- proofs only.
-use Rattle.std.proofs.Common.{◌≡◌, ℕ, suc, ◌≤◌, if◌then◌else◌, List, [], ◌∷◌, Some, inl, inr, refl, sym, ap, ◌∙◌, arith}
+use Rattle.std.proofs.Common.{◌≡◌, ℕ, suc, ◌≤◌, if◌then◌else◌, List, [], ◌∷◌, Some, None, inl, inr, refl, sym, ap, ◌∙◌, arith}
 use Rattle.std.specs.Prelude.{◌↔◌}
 use Rattle.std.proofs.lemmas.Bool.{cases_eq, eq-eqb, ne_eqb}
 use Rattle.std.proofs.lemmas.Option.{same_Some, none-some}
 use Rattle.mir_base.specs.declared.instructions.Rhs.{Rhs}
 use Rattle.graph_edit.specs.Insertions.{Insertion}
 use Rattle.flow_graph.specs.ListLaws.{cons_same}
-use Rattle.graph_edit.specs.Sinking.{put_for}
+use Rattle.graph_edit.specs.Sinking.{LeaveAlone, put_for}
 use Rattle.sink_dead.specs.SunkGraphs.{RisesFrom}
 
 -- ---- what is put for a variable
@@ -19,6 +19,11 @@ put_first put puts = ap (λ b. (if b then Some put.rhs else put_for puts put.var
 -- for another variable what the others put
 pub put_rest : (put : Insertion) (puts : List Insertion) (x : ℕ) → (x ≡ put.var → ⊥) → put_for (put ∷ puts) x ≡ put_for puts x
 put_rest put puts x differ = ap (λ b. (if b then Some put.rhs else put_for puts x)) (ne_eqb x put.var differ)
+
+-- nothing is put for a variable that the insertions leave alone
+pub alone_unput : (x : ℕ) (puts : List Insertion) → LeaveAlone x puts → put_for puts x ≡ None
+alone_unput x [] alone = refl
+alone_unput x (put ∷ puts) alone = ap (λ b. (if b then Some put.rhs else put_for puts x)) alone.0.0 ∙ alone_unput x puts alone.1
 
 -- the variables of insertions that rise from a number on are not below it
 pub put_above : (low : ℕ) (puts : List Insertion) (x : ℕ) (t : Rhs) → RisesFrom low puts → put_for puts x ≡ Some t → low ≤ x

@@ -6,6 +6,7 @@ use Rattle.sink_dead.specs.declared.rounds.PrunedRound.{PrunedRound}
 use Rattle.sink_dead.specs.GraphFlows.{IsFlowOf}
 use Rattle.sink_dead.specs.RoundGraphs.{IsRound, SaysChanged}
 use Rattle.sink_dead.specs.RoundsKept.{RoundKeeps}
+use Rattle.sink_dead.specs.Steps.{IsBestStep}
 
 -- it is a round of the graph, with its edges and its blocks
 pub record IsPrunedRound (graph : GraphShape) (made : PrunedRound) : Type 0 where
@@ -20,3 +21,4 @@ pub record IsMadeRound (graph : GraphShape) (made : MadeRound) : Type 0 where
   pub laid : IsLayout made.graph made.unit
   pub changed : SaysChanged graph made.graph made.changed
   pub keeps : RoundKeeps graph made.graph
+  pub best : IsBestStep graph made.graph

@@ -5,6 +5,7 @@ ghost use Rattle.flow_graph.specs.Layouts.{IsLayout};
 ghost use Rattle.sink_dead.specs.GraphFlows.{IsFlowOf};
 ghost use Rattle.sink_dead.specs.RoundGraphs.{AreOnlyRounds, AreRounds, IsOnlyRound, IsRound, KeepsGlobals, SaysChanged, last_round};
 ghost use Rattle.sink_dead.specs.RoundsKept.{RoundKeeps, RoundsKeep};
+ghost use Rattle.sink_dead.specs.Steps.{AreBestSteps, IsBestStep};
 ghost use Rattle.sink_dead.specs.RoundsMade.{IsMadeRound, IsPrunedRound};
 
 use crate::answers::{Round, Sunk};
@@ -33,6 +34,9 @@ pub fn round(alloc: Global, graph: &Graph) -> Result<Round, Memory>
 
     // no last assignment of a global before a call or a return is removed
     ensures globals { IfOk result (λ round. KeepsGlobals graph.now round.graph) }
+
+    // no step of sinking and removal leaves fewer of a plain or movable assignment on any full path
+    ensures best { IfOk result (λ round. IsBestStep graph.now round.graph) }
 {
     let made = first_round(alloc, graph)?;
     Ok(Round {
@@ -54,6 +58,9 @@ pub fn sink(alloc: Global, graph: &Graph) -> Result<Sunk, Memory>
 
     // the last of them keeps of the graph what one round does
     ensures last { IfOk result (λ sunk. RoundKeeps graph.now (last_round graph.now sunk.rounds)) }
+
+    // on no full path does a step from the graph before one of them leave fewer of any than that one does
+    ensures best { IfOk result (λ sunk. AreBestSteps graph.now sunk.rounds) }
 {
     let mut last = first_round(alloc, graph)?;
     let mut rounds = Vec::new(alloc);
@@ -99,7 +106,10 @@ fn next_round(
     requires unit { IsLayout graph.now unit.now }
     ensures { IfOk result (IsMadeRound graph.now) }
 {
+    let _nodes = graph.nodes();
+    let _shared = graph.shared();
     let made = sunk_and_pruned(alloc, graph, flow)?;
+    let _made = made.graph.nodes();
     let laid = layout(alloc, &made.graph)?;
     let changed = !same_unit(unit, &laid);
     let PrunedRound { graph, flow } = made;

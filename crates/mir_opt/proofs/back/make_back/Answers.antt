@@ -27,6 +27,7 @@ returns c =
       recopied_keeps = c.in_ok-recopied.ensures.keeps;
       rounds_keep = sunk.keeps;
       last_keeps = sunk.last;
+      rounds_best = sunk.best;
       swept_keeps = subst (λ g. GraphKeeps g swept) (last_is c) c.in_ok-swept.ensures.keeps;
       divides = stay_trans c.args.moved.now.nodes recopied.nodes swept.nodes c.in_ok-recopied.ensures.divides
           (unchanged_stay recopied.nodes swept.nodes (unchanged_trans recopied.nodes last.nodes swept.nodes sunk.last.divides (subst (λ g. GraphDividesUnchanged g swept) (last_is c) c.in_ok-swept.ensures.divides)));

@@ -1,5 +1,5 @@
 use Rattle.mir_opt.specs.declared.trails.Trail.{Trail}
-use Rattle.mir_opt.specs.Best.{MovesBest, SinksNoMore}
+use Rattle.mir_opt.specs.Best.{MovesBest, RoundsAreBest, SinksNoMore}
 use Rattle.mir_opt.specs.Divisions.{DivisionsStay}
 use Rattle.mir_opt.specs.OneLaws.{unit_is_one}
 use Rattle.mir_opt.proofs.KeptDivisions.{unit_divisions}
@@ -14,6 +14,9 @@ returns-clause-best c = steps_all c.in_ok-steps.ensures MovesBest (λ source uni
 
 pub returns-clause-sinks : goal.returns-clause-sinks
 returns-clause-sinks c = steps_all c.in_ok-steps.ensures SinksNoMore (λ source unit best. best.sinks)
+
+pub returns-clause-rounds : goal.returns-clause-rounds
+returns-clause-rounds c = steps_all c.in_ok-steps.ensures RoundsAreBest (λ source unit best. best.rounds)
 
 pub returns-clause-stay : goal.returns-clause-stay
 returns-clause-stay c = steps_all c.in_ok-steps.ensures DivisionsStay (λ source unit best. best.divisions)

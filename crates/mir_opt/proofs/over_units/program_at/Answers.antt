@@ -19,6 +19,7 @@ returns-clause-keeps g c = record {
   same = c.lift.ensures.same;
   cheaper = c.lift.ensures.cheaper (laid_cheaper g.T.UnitSteps.graph_at c.args.stage.now c.args.units.now c.in_ok-targets.targets.items c.in_ok-targets.ensures c.args.source.now c.in_ok-program.program c.in_ok-program.ensures.is c.program_of_units.ensures.fits c.requires);
   units = laid_same g.T.UnitSteps.graph_at c.args.stage.now c.args.units.now c.in_ok-targets.targets.items c.in_ok-targets.ensures c.args.source.now c.in_ok-program.program c.in_ok-program.ensures.is c.program_of_units.ensures.fits c.requires;
+  shallower = c.lift.ensures.shallower;
   calls = laid_calls g.T.UnitSteps.graph_at c.args.stage.now c.args.units.now c.in_ok-targets.targets.items c.in_ok-targets.ensures c.args.source.now c.in_ok-program.program c.in_ok-program.ensures.is c.program_of_units.ensures.fits c.requires;
 }
 

@@ -4,7 +4,8 @@ use Rattle.sink_dead.specs.declared.rounds.MadeRound.{MadeRound}
 use Rattle.sink_dead.specs.RoundGraphs.{AreRounds}
 use Rattle.sink_dead.specs.RoundLaws.{last_keeps, sunk_rounds_are_one}
 use Rattle.sink_dead.specs.RoundsKept.{RoundsKeep}
-use Rattle.sink_dead.proofs.RoundsSoFar.{AreSoFar, all_keep, all_rounds, one_more}
+use Rattle.sink_dead.specs.Steps.{AreBestSteps}
+use Rattle.sink_dead.proofs.RoundsSoFar.{AreSoFar, all_best, all_keep, all_rounds, one_more}
 use Rattle.sink_dead.proofs.rounds.sink.Goals as goal
 use Rattle.sink_dead.proofs.rounds.sink.Goals.{After-of, then-rounds-test+else-len, else-rounds-test}
 
@@ -47,3 +48,8 @@ pub returns-clause-last : goal.returns-clause-last
 returns-clause-last c =
     let known = (goal.at.returns-clause-last c).After-of in
     last_keeps c.args.graph.now c.of.result (are_rounds known) (they_keep known)
+
+pub returns-clause-best : goal.returns-clause-best
+returns-clause-best c =
+    let known = (goal.at.returns-clause-best c).After-of in
+    subst (AreBestSteps known.args.graph.now) (sym (list_is known)) (all_best known.args.graph.now known.rounds.rounds.items known.rounds.last known.rounds.invariant)

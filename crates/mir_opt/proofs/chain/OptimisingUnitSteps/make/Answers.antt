@@ -35,6 +35,7 @@ returns c =
         lowers = front.start.lowered_divides;
         divisions = record { cleans = front.start.divides; folds = front.values.folded_divides; keeps = rest };
         sinks = after.last_keeps.no_more;
+        rounds = after.rounds_best;
       };
       keeps = elim [
         | Lower ↦ keep 0 source (omega arith)
