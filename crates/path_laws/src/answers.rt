@@ -5,7 +5,7 @@ ghost use Rattle.flow_graph.specs.Blocks.{AreBlocksOf};
 ghost use Rattle.flow_graph.specs.Edges.{edges_of};
 ghost use Rattle.path_laws.specs.Problem.{AreLed, AreSolved, HasBetween, HasGraph, HaveBlockShape, HaveBornShape, IsProblem, born_room, room_along};
 
-use crate::between::{BlockEdges, between};
+use crate::between::{BlockEdges, edges_between};
 use crate::bits::{Bits, Seeds, out_of_blocks};
 use crate::filling::{fill_all, initial_rows};
 use crate::problems::Problem;
@@ -35,7 +35,7 @@ pub(crate) fn answers<L: Ledger>(
     ensures err { OnErr result (steps.new ≡ steps.old) }
 {
     let _nodes = problem.graph.nodes();
-    let between = between(
+    let between = edges_between(
         alloc,
         problem.graph,
         problem.edges,

@@ -9,16 +9,18 @@ use flow_graph::{Blocks, Edge, Edges, Graph};
 use mir_base::Memory;
 use std::alloc::Global;
 
-/// The edges of a flow over blocks, in order of their sources, and the number of the first edge of each block, with the
-/// number of edges at the end.
+/// The edges of a flow over blocks.
 #[derive(Drop)]
-pub(crate) struct BlockEdges {
-    pub(crate) edges: Vec<Edge>,
-    pub(crate) firsts: Vec<usize>,
+pub struct BlockEdges {
+    /// From block to block, in order of the blocks that they leave.
+    pub edges: Vec<Edge>,
+    /// For each block the number of its first edge, and at the end the number of edges.
+    pub firsts: Vec<usize>,
 }
 
-/// The edges of the flow that leave blocks: along the edges from their last nodes, against them from their first.
-pub(crate) fn between(
+/// The edges of the flow that leave blocks: along the edges of the graph from their last nodes, `against` them from
+/// their first. `edges` and `blocks` are those of `graph`. It fails only with `Memory`.
+pub fn edges_between(
     alloc: Global,
     graph: &Graph,
     edges: &Edges,

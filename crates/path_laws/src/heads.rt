@@ -6,7 +6,7 @@ ghost use Rattle.path_laws.specs.AtBlocks.{AreBornAtEnds, AreBornAtHeads, AreBro
 ghost use Rattle.path_laws.specs.Flow.{IsBlockFlow};
 ghost use Rattle.path_laws.specs.Paths.{AreRows};
 
-use crate::between::{BlockEdges, between};
+use crate::between::{BlockEdges, edges_between};
 use crate::bits::{Bits, Seeds, out_of_blocks};
 use bit_rows::Rows;
 use fix_solve::{Steps, Work};
@@ -91,7 +91,7 @@ fn come_over(
     ensures { IfOk result
         (ComeOver against graph.now.nodes blocks.now.lists bits seeds.now stops.now) }
 {
-    let between = between(alloc, graph, edges, blocks, against)?;
+    let between = edges_between(alloc, graph, edges, blocks, against)?;
     let blank = Blank::new(1);
     let rows = come_along::<Brand>(alloc, blocks.len(), &between, seeds, stops, bits, blank)?;
     Ok(rows)

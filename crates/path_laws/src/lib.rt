@@ -8,7 +8,8 @@
 //! each node has (`key_rows`), and what is said of the variable that a node assigns (`assigned_rows`).
 //!
 //! Where rows by blocks are at hand, two calls answer for blocks alone: at their first nodes (`forward_all_heads`), and
-//! after their last (`backward_some_ends`).
+//! after their last (`backward_some_ends`). The edges between blocks, in the order in which a solver asks for them, are
+//! made by `edges_between`.
 #![tactic(auto)]
 
 mod answers;
@@ -28,6 +29,7 @@ mod seeds;
 mod summaries;
 
 pub use assigned::{assigned_rows, mark_operand, mark_var, push_true};
+pub use between::{BlockEdges, edges_between};
 pub use calls::{
     backward_all, backward_all_in, backward_all_over, backward_some, backward_some_in,
     backward_some_over, forward_all, forward_all_in, forward_all_over,

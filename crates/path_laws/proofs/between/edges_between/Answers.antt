@@ -4,7 +4,7 @@ use Rattle.path_laws.proofs.Leaving.{between_more}
 use Rattle.flow_graph.specs.BlockLaws.{chain_some}
 use Rattle.path_laws.proofs.Places.{flow_within}
 use Rattle.path_laws.proofs.Runs.{ahead_last}
-use Rattle.path_laws.proofs.between.between.Goals as goal
+use Rattle.path_laws.proofs.between.edges_between.Goals as goal
 
 pub ahead-from-requires : goal.ahead-from-requires
 ahead-from-requires c = chain_some c.args.graph.now.nodes c.nodes.result.now (c.requires.blocks.are.blocks c.loop-block.block c.nodes.result.now c.nodes.ensures).chain

@@ -1,0 +1,13 @@
+pub mod Values
+pub mod Steps
+pub mod Bits
+pub mod Found
+pub mod Taking
+pub mod Lookups
+pub mod Raising
+pub mod Reading
+pub mod LeastNumbers
+pub mod Noting
+pub mod Pushing
+pub mod Shapes
+pub mod Listing

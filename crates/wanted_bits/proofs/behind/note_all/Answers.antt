@@ -1,0 +1,76 @@
+use Rattle.std.proofs.Common.{◌≡◌, ◌∙◌, ◌++◌, ◌+◌, ◌<◌, drop, length, sym, ap, subst, take, arith}
+use Rattle.std.proofs.lemmas.Option.{get_or_from_slice_get, slice_get-get_or, slice_get_within}
+use Rattle.fix_solve.specs.Net.{value_at}
+use Rattle.flow_graph.specs.Graphs.{IsGraph}
+use Rattle.wanted_bits.specs.BitsOrder.{HasFew}
+use Rattle.wanted_bits.specs.Found.{NotesBlock}
+use Rattle.wanted_bits.specs.Walking.{back_in}
+use Rattle.wanted_bits.specs.WantedFlows.{net_over}
+use Rattle.wanted_bits.proofs.LeastNumbers.{bits_by, least_wanted, noted_behind}
+use Rattle.wanted_bits.proofs.Noting.{NotesBelow, below_more, block_nodes}
+use Rattle.wanted_bits.proofs.Raising.{written_back}
+use Rattle.wanted_bits.proofs.behind.note_all.Goals as goal
+use Rattle.wanted_bits.proofs.behind.note_all.Goals.{After-note_block}
+
+pub note_block-requires-clause-block : goal.note_block-requires-clause-block
+note_block-requires-clause-block c = c.requires.crossed.blocks.are.blocks c.loop-block.block c.nodes-list.result.now c.nodes-list.ensures
+
+pub note_block-requires-clause-nodes : goal.note_block-requires-clause-nodes
+note_block-requires-clause-nodes c = block_nodes c.args.graph.now c.nodes-list.result.now (c.requires.crossed.blocks.are.blocks c.loop-block.block c.nodes-list.result.now c.nodes-list.ensures)
+
+module _ (c : After-note_block) where
+  -- what is written of the numbers
+  behind_written : take c.loop-block.behind.len (c.note_block.new.behind ++ drop (length c.note_block.new.behind) c.loop-block.behind.items) ≡ c.note_block.new.behind
+  behind_written = written_back c.loop-block.behind.len c.note_block.new.behind c.loop-block.behind.items (c.note_block.ensures.noted.long ∙ ap length c.as_mut_slice.ensures.value) (sym c.loop-block.behind.ok.0)
+
+  -- the numbers behind the block
+  values_are : c.as_mut_slice-in-loop-block.result.now ≡ value_at (net_over c.args.graph.now c.args.crossed.now (back_in c.args.backs.now)) c.args.work.now c.loop-block.block
+  values_are =
+      let lt : c.loop-block.block < length c.args.work.now = omega (arith, c.loop-block-test.true, c.len-block-end.ensures, c.requires.least.long) in
+      c.as_mut_slice-in-loop-block.ensures.value ∙ c.copy_from_slice.ensures.items ∙ c.bits.ensures.numbers ∙ c.value.ensures
+      ∙ sym (get_or_from_slice_get c.args.work.now c.loop-block.block _ _ (slice_get-get_or c.args.work.now c.loop-block.block c.value.result.now lt))
+
+pub loop-block-preserved : goal.loop-block-preserved
+loop-block-preserved c =
+    let after = (goal.at.loop-block-preserved c).After-note_block in
+    let graph = c.args.graph.now in
+    let back = back_in c.args.backs.now in
+    let written = behind_written after in
+    let room = c.copy_from_slice.new.self in
+    let room_long = c.note_block.ensures.long ∙ ap length c.as_mut_slice-in-loop-block.ensures.value in
+    let room_written = written_back room.len c.note_block.new.bits room.items room_long (sym room.ok.0) in
+    let values = value_at (net_over graph c.args.crossed.now back) c.args.work.now in
+    let notes : NotesBlock graph back c.nodes-list.result.now (values c.loop-block.block) c.loop-block.behind.items c.note_block.new.behind =
+    subst (λ l. NotesBlock graph back c.nodes-list.result.now (values c.loop-block.block) l c.note_block.new.behind) c.as_mut_slice.ensures.value
+    (subst (λ l. NotesBlock graph back c.nodes-list.result.now l c.as_mut_slice.result.now c.note_block.new.behind) (values_are after) c.note_block.ensures.noted) in
+    record {
+      long = ap length written ∙ notes.long ∙ c.loop-block.invariant.long;
+      room = ap length room_written ∙ room_long ∙ omega (arith, c.copy_from_slice.ensures.len, room.ok.0, c.loop-block.room.ok.0, c.loop-block.invariant.room);
+      few = subst HasFew (sym written) notes.few;
+      noted = subst (NotesBelow graph back c.args.crossed.now.blocks.lists values (c.loop-block.block + 1)) (sym written)
+          (below_more graph back c.args.crossed.now.blocks.lists values c.requires.crossed.blocks.are c.loop-block.block c.nodes-list.result.now c.loop-block.behind.items c.note_block.new.behind c.nodes-list.ensures c.loop-block.invariant.noted notes);
+    }
+
+pub returns : goal.returns
+returns c =
+    let graph = c.args.graph.now in
+    let back = back_in c.args.backs.now in
+    let crossed = c.args.crossed.now in
+    let is : IsGraph graph.vars graph.received graph.nodes = rw (← c.nodes-nodes.ensures.value) c.nodes-nodes.ensures.graph in
+    let are = c.requires.crossed.blocks.are in
+    let values = value_at (net_over graph crossed back) c.args.work.now in
+    let edges = crossed.between.edges.items in
+    let firsts = crossed.between.firsts.items in
+    record {
+      long = c.loop-block.invariant.long;
+      few = c.loop-block.invariant.few;
+      are = λ shifts have. (
+        bits_by graph shifts back have is.can crossed.blocks.lists are edges firsts c.requires.crossed.between values,
+        least_wanted graph shifts back have is.can crossed.blocks.lists are edges firsts c.requires.crossed.between values c.requires.least.least,
+        λ n lt.
+            let st = are.every n lt in
+            let low = slice_get_within crossed.blocks.lists st.0 st.1.list st.1.listed in
+            c.loop-block.invariant.noted.noted st.0 st.1.place n st.1.list (omega (arith, low, c.loop-block-test.false, c.len-block-end.ensures)) st.1.listed st.1.is
+            ∙ noted_behind graph shifts back have is.can crossed.blocks.lists are edges firsts c.requires.crossed.between values c.requires.least.least st.0 st.1.place n st.1.list st.1.listed st.1.is,
+      );
+    }

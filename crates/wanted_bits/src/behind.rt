@@ -1,0 +1,90 @@
+// How many bits are wanted of what each node assigns.
+ghost use Rattle.std.specs.Prelude.{◌≡◌, length, IfOk};
+ghost use Rattle.flow_graph.specs.Blocks.{IsBlock};
+ghost use Rattle.wanted_bits.specs.BitsOrder.{HasFew};
+ghost use Rattle.wanted_bits.specs.Found.{AreBehind, NotesBlock};
+ghost use Rattle.wanted_bits.specs.Walking.{AreGraphNodes, back_in};
+ghost use Rattle.wanted_bits.specs.WantedFlows.{AreCrossed, AreLeastBehind};
+
+use crate::lists::WantedList;
+use crate::solving::{Crossed, crossings, least};
+use crate::table::Shift;
+use crate::walking::{assigned_bits, pass_back};
+use fix_solve::Work;
+use flow_graph::Graph;
+use mir_base::Memory;
+use std::alloc::Global;
+
+/// For each node how many bits are wanted, behind it, of the variable to which it assigns a right side, by the least
+/// numbers. Each right side shifts back what `backs` has for its node.
+pub(crate) fn behind(
+    alloc: Global,
+    graph: &Graph,
+    backs: &[Option<Shift>],
+) -> Result<Vec<u8>, Memory>
+    requires { length backs.now ≡ length graph.now.nodes }
+    ensures { IfOk result (λ behind. AreBehind graph.now backs.now behind.items) }
+{
+    let _nodes = graph.nodes();
+    let crossed = crossings(alloc, graph)?;
+    let work = least(alloc, graph, &crossed, backs)?;
+    let behind = note_all(alloc, graph, &crossed, backs, &work)?;
+    Ok(behind)
+}
+
+/// The same by the numbers behind each block.
+fn note_all(
+    alloc: Global,
+    graph: &Graph,
+    crossed: &Crossed,
+    backs: &[Option<Shift>],
+    work: &Work<WantedList>,
+) -> Result<Vec<u8>, Memory>
+    requires crossed { AreCrossed graph.now crossed.now }
+    requires backs { length backs.now ≡ length graph.now.nodes }
+    requires least { AreLeastBehind graph.now crossed.now (back_in backs.now) work.now }
+    ensures { IfOk result (λ behind. AreBehind graph.now backs.now behind.items) }
+{
+    let _nodes = graph.nodes();
+    let mut behind = vec![in alloc; 0; graph.len()]?;
+    let mut room = vec![in alloc; 0; graph.vars().len()]?;
+    for block in 0..crossed.blocks.len() {
+        let list = crossed.blocks.nodes(block);
+        room.copy_from_slice(work.value(block).bits());
+        note_block(
+            behind.as_mut_slice(),
+            room.as_mut_slice(),
+            graph,
+            backs,
+            list,
+        );
+    }
+    Ok(behind)
+}
+
+/// Notes for each node of a block how many bits are wanted of what it assigns, from the last node to the first, by the
+/// numbers behind the block. The numbers before it are left in their place.
+fn note_block(
+    behind: &mut [u8],
+    bits: &mut [u8],
+    graph: &Graph,
+    backs: &[Option<Shift>],
+    list: &[usize],
+)
+    requires few { HasFew bits.old }
+    requires noted { HasFew behind.old }
+    requires long { length behind.old ≡ length graph.now.nodes }
+    requires backs { length backs.now ≡ length graph.now.nodes }
+    requires block { IsBlock graph.now.nodes list.now }
+    requires nodes { AreGraphNodes graph.now list.now }
+    ensures noted { NotesBlock graph.now (back_in backs.now) list.now bits.old
+        behind.old behind.new }
+    ensures long { length bits.new ≡ length bits.old }
+{
+    for count in 0..list.len() {
+        let n = list[list.len() - 1 - count];
+        let node = graph.node(n);
+        behind[n] = assigned_bits(node, bits);
+        pass_back(bits, graph, node, backs[n]);
+    }
+}

@@ -1,0 +1,25 @@
+//! Wanted bits (demanded bits). In goes a graph; out comes the graph in which no bits are computed that are not wanted:
+//! assignments of which no bit is wanted are Skips, operators with a constant that changes no wanted bit give way to
+//! their other operand, and so do shifts to the left and back again that keep the wanted bits. Faint assignments, which
+//! are read by one another alone, go too.
+//!
+//! The theorem that this crate carries is the contract of `narrow`: the answer is the exact graph, made by the least
+//! numbers of wanted bits, it does the same as the graph that goes in, and it evaluates no more operators.
+#![tactic(auto)]
+
+mod backs;
+mod behind;
+mod flow;
+mod held;
+mod keys;
+mod lists;
+mod narrowing;
+mod rows;
+mod solving;
+mod table;
+mod walking;
+mod wanting;
+
+pub use held::HeldShifts;
+pub use narrowing::narrow;
+pub use table::{Shift, VarShift};

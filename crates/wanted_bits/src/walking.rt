@@ -1,0 +1,199 @@
+// The numbers of wanted bits through the nodes of a block, from the last to the first. They are changed in place, for the
+// variables alone that a node assigns and reads.
+ghost use Rattle.std.specs.Prelude.{◌≡◌, ◌<◌, ◌≤◌, ◌+◌, length, slice_get, slice_set, flat_map, Some};
+ghost use Rattle.mir_base.specs.Frames.{shared_vars};
+ghost use Rattle.mir_base.specs.Shapes.{operand_vars, test_vars};
+ghost use Rattle.wanted_bits.specs.BitsOrder.{HasFew};
+ghost use Rattle.wanted_bits.specs.Walking.{HaveBacks, all_raised, assigned_bits, back_in, before_list, bits_at, bits_through, raised_at, raised_by, raised_own, raised_past, with_none};
+ghost use Rattle.wanted_bits.specs.Walking.{AreGraphNodes};
+
+use crate::table::Shift;
+use crate::wanting::{if_any, is_undone, wanted_left, wanted_right};
+use flow_graph::{Graph, Node};
+use mir_base::{Operand, Rhs, Test, UnOp};
+
+/// Leaves the numbers before a list of nodes, each of which leads to the next, in the place of those behind it. Each
+/// right side shifts back what `backs` has for its node.
+pub(crate) fn walk_back(bits: &mut [u8], graph: &Graph, backs: &[Option<Shift>], list: &[usize])
+    requires few { HasFew bits.old }
+    requires backs { length backs.now ≡ length graph.now.nodes }
+    requires nodes { AreGraphNodes graph.now list.now }
+    ensures { bits.new ≡ before_list graph.now (back_in backs.now) list.now bits.old }
+{
+    for count in 0..list.len() {
+        let n = list[list.len() - 1 - count];
+        pass_back(bits, graph, graph.node(n), backs[n]);
+    }
+}
+
+/// Leaves the numbers before a node, whose right side shifts this back, in the place of those behind it.
+pub(crate) fn pass_back(bits: &mut [u8], graph: &Graph, node: &Node, back: Option<Shift>)
+    requires { HasFew bits.old }
+    ensures { bits.new ≡ bits_through graph.now back node.now bits.old }
+{
+    match node {
+        Node::Start(_) => (),
+        Node::Skip(_) => (),
+        Node::Assign(x, rhs, _) => assign_back(bits, *x, *rhs, back),
+        Node::Print(a, _) => read(bits, *a),
+        Node::Guard(test, _, _) => read_test(bits, *test),
+        Node::Call(into, _, args, _) => {
+            forget(bits, *into);
+            read_globals(bits, graph.shared());
+            read_all(bits, args.items());
+        }
+        Node::Test(test, _, _) => read_test(bits, *test),
+        Node::Return(a) => {
+            read_globals(bits, graph.shared());
+            read(bits, *a);
+        }
+    }
+}
+
+/// The number of the variable to which a node assigns a right side, and 0 of any other node.
+pub(crate) fn assigned_bits(node: &Node, bits: &[u8]) -> u8
+    requires { HasFew bits.now }
+    ensures value { result ≡ assigned_bits node.now bits.now }
+    ensures most { result ≤ 64 }
+{
+    match node {
+        Node::Assign(x, _, _) => number_of(bits, *x),
+        _ => 0,
+    }
+}
+
+// ---- assignments
+
+/// Leaves the numbers before an assignment in the place of those behind it.
+fn assign_back(bits: &mut [u8], x: usize, rhs: Rhs, back: Option<Shift>)
+    requires { HasFew bits.old }
+    ensures { bits.new ≡ raised_past (slice_set bits.old x 0) back rhs (bits_at bits.old x) }
+{
+    let k = number_of(bits, x);
+    clear(bits, x);
+    match back {
+        None => raise_own(bits, rhs, k),
+        Some(shift) => raise_back(bits, shift, rhs, k),
+    }
+}
+
+/// Raises what a right side wants that shifts this back, and of which k bits are wanted.
+fn raise_back(bits: &mut [u8], shift: Shift, rhs: Rhs, k: u8)
+    requires { k ≤ 64 }
+    ensures { bits.new ≡ raised_past bits.old (Some shift) rhs k }
+{
+    let room = 64u8.saturating_sub(shift.distance);
+    raise_to(bits, shift.source, k.min(room));
+    if !is_undone(shift, k) {
+        raise_own(bits, rhs, k);
+    }
+}
+
+/// Raises what a right side wants of its operands of which k bits are wanted.
+fn raise_own(bits: &mut [u8], rhs: Rhs, k: u8)
+    requires { k ≤ 64 }
+    ensures { bits.new ≡ raised_own bits.old rhs k }
+{
+    match rhs {
+        Rhs::Plain(a) => raise_by(bits, a, k),
+        Rhs::Unary(UnOp::Neg, a) => raise_by(bits, a, k),
+        Rhs::Unary(UnOp::Not, a) => raise_by(bits, a, if_any(k, 64)),
+        Rhs::Binary(op, a, b) => {
+            raise_by(bits, a, wanted_left(op, b, k));
+            raise_by(bits, b, wanted_right(op, a, k));
+        }
+    }
+}
+
+/// Raises the number of an operand that is a variable.
+fn raise_by(bits: &mut [u8], a: Operand, k: u8)
+    ensures { bits.new ≡ raised_by bits.old a k }
+{
+    match a {
+        Operand::Var(x) => raise_to(bits, x, k),
+        Operand::Const(_) => (),
+    }
+}
+
+// ---- what is read
+
+/// All bits of the operands are wanted.
+fn read_all(bits: &mut [u8], operands: &[Operand])
+    ensures { bits.new ≡ all_raised (flat_map operand_vars operands.now) bits.old }
+{
+    for a in operands {
+        read(bits, *a);
+    }
+}
+
+/// All bits of the globals are wanted.
+fn read_globals(bits: &mut [u8], shared: usize)
+    ensures { bits.new ≡ all_raised (shared_vars shared) bits.old }
+{
+    for x in 0..shared {
+        raise_to(bits, x, 64);
+    }
+}
+
+/// All bits of what a test reads are wanted.
+fn read_test(bits: &mut [u8], test: Test)
+    ensures { bits.new ≡ all_raised (test_vars test) bits.old }
+{
+    match test {
+        Test::Rel(_, a, b) => {
+            read(bits, a);
+            read(bits, b);
+        }
+        Test::Holds(a) => read(bits, a),
+        Test::Fails(a) => read(bits, a),
+    }
+}
+
+/// All bits of an operand are wanted.
+fn read(bits: &mut [u8], a: Operand)
+    ensures { bits.new ≡ all_raised (operand_vars a) bits.old }
+{
+    match a {
+        Operand::Var(x) => raise_to(bits, x, 64),
+        Operand::Const(_) => (),
+    }
+}
+
+// ---- one number
+
+/// The number of a variable.
+fn number_of(bits: &[u8], x: usize) -> u8
+    requires { HasFew bits.now }
+    ensures value { result ≡ bits_at bits.now x }
+    ensures most { result ≤ 64 }
+{
+    if x < bits.len() { bits[x] } else { 0 }
+}
+
+/// Raises the number of a variable to at least this one.
+fn raise_to(bits: &mut [u8], x: usize, k: u8)
+    ensures { bits.new ≡ raised_at bits.old x k }
+{
+    if x < bits.len() {
+        bits[x] = bits[x].max(k);
+    }
+}
+
+/// No bit of the variable, where there is one, is wanted.
+fn forget(bits: &mut [u8], into: Option<usize>)
+    ensures { bits.new ≡ with_none into bits.old }
+{
+    match into {
+        None => (),
+        Some(x) => clear(bits, x),
+    }
+}
+
+/// No bit of the variable is wanted.
+fn clear(bits: &mut [u8], x: usize)
+    ensures { bits.new ≡ slice_set bits.old x 0 }
+{
+    if x < bits.len() {
+        bits[x] = 0;
+    }
+}
