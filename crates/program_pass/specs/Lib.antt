@@ -9,6 +9,7 @@ pub mod GraphPrograms
 pub mod GraphProgramLaws
 pub mod StepLaws
 pub mod PassPrograms
+pub mod KeepsLaws
 pub mod RefitLaws
 pub mod PassProgramLaws
 pub mod UnitMakes

@@ -17,20 +17,26 @@ places_same [] (y ∷ ys) long same = absurd (omega (arith, long))
 places_same (x ∷ xs) [] long same = absurd (omega (arith, long))
 places_same (x ∷ xs) (y ∷ ys) long same = cons_same (same 0 x y refl refl) (places_same xs ys (omega (arith, long)) (λ i. same (suc i)))
 
-module _ (Exact Between : PassRelation) (one : (u : ℕ) (graph a b : GraphShape) → Exact u graph a → Exact u graph b → a ≡ b) where
+-- where what was made of each graph is the only such result (`Other`), what was made of the program is
+module _ (Exact Between Other : PassRelation) (one : (u : ℕ) (graph a b : GraphShape) → Exact u graph a → Other u graph b → a ≡ b) where
   -- a unit that was made is the only one
-  unit_one : (source : UnitShape) (u : ℕ) (a b : UnitShape) → UnitPassed Exact Between source u a → IsPassedUnit Exact source u b → a ≡ b
-  unit_one source u a b p q =
+  unit_only : (source : UnitShape) (u : ℕ) (a b : UnitShape) → UnitPassed Exact Between source u a → IsPassedUnit Other source u b → a ≡ b
+  unit_only source u a b p q =
       let lowered : p.lowered ≡ q.lowered = lowered_is_one source p.lowered q.lowered p.front.is_lowered q.is_lowered in
       let cleaned : p.cleaned ≡ q.cleaned = clean_is_one p.lowered p.cleaned q.cleaned p.front.within p.front.is_cleaned (subst (λ g. IsClean g q.cleaned) (sym lowered) q.is_cleaned) in
-      let passed : p.passed ≡ q.passed = one u p.cleaned p.passed q.passed p.is_passed (subst (λ g. Exact u g q.passed) (sym cleaned) q.is_passed) in
+      let passed : p.passed ≡ q.passed = one u p.cleaned p.passed q.passed p.is_passed (subst (λ g. Other u g q.passed) (sym cleaned) q.is_passed) in
       let swept : p.back.swept ≡ q.swept = clean_is_one p.passed p.back.swept q.swept p.back.within p.back.is_swept (subst (λ g. IsClean g q.swept) (sym passed) q.is_swept) in
       layout_is_one p.back.swept a b p.back.is_laid (subst (λ g. IsLayout g b) (sym swept) q.is_laid)
 
   -- so is a program
-  pub program_one : (source target other : ProgramShape) → target.globals ≡ source.globals → AllPassed Exact Between source.units target.units → IsPassedProgram Exact source other → target ≡ other
-  program_one source target other globals p q =
+  pub program_only : (source target other : ProgramShape) → target.globals ≡ source.globals → AllPassed Exact Between source.units target.units → IsPassedProgram Other source other → target ≡ other
+  program_only source target other globals p q =
       let same : target.units ≡ other.units = places_same target.units other.units (p.long ∙ sym q.long) (λ u a b at at'.
       let at_source = some_at source.units u (omega (arith, slice_get_within target.units u a at, p.long)) in
-      unit_one at_source.0 u a b (p.units u at_source.0 a at_source.1 at) (q.units u at_source.0 b at_source.1 at')) in
+      unit_only at_source.0 u a b (p.units u at_source.0 a at_source.1 at) (q.units u at_source.0 b at_source.1 at')) in
       ap (λ us. record target { units = us }) same ∙ ap (λ gs. record other { globals = gs }) (globals ∙ sym q.globals)
+
+-- where the pass has one result, a program has one
+pub program_one : (Exact Between : PassRelation) → ((u : ℕ) (graph a b : GraphShape) → Exact u graph a → Exact u graph b → a ≡ b)
+    → (source target other : ProgramShape) → target.globals ≡ source.globals → AllPassed Exact Between source.units target.units → IsPassedProgram Exact source other → target ≡ other
+program_one Exact Between one = program_only Exact Between Exact one

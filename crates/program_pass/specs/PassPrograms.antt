@@ -49,6 +49,13 @@ pub record KeepsRuns (first second : ProgramShape) : Type 0 where
   pub cheaper : Cheaper first second
   pub shallower : Shallower first second
 
+-- the target is this exact program, and no other is; it is the same, evaluates no more operators and never has more
+-- frames
+pub record Rewrites (Exact : ProgramShape → ProgramShape → Type 0) (source target : ProgramShape) : Type 0 where
+  pub exact : Exact source target
+  pub only : IsOnly (Exact source) target
+  pub keeps : KeepsRuns source target
+
 -- ---- what is kept, graph by graph
 
 -- The result of a pass has the name and the globals of the graph. In between is a graph of the nodes that the pass

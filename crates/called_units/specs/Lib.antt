@@ -1,0 +1,4 @@
+pub mod CalledUnits
+pub mod CalledLaws
+pub mod CallWalks
+pub mod CalledFits

@@ -1,0 +1,6 @@
+pub mod Passes
+pub mod GraphPasses
+pub mod GraphPassLaws
+pub mod PassLaws
+pub mod ChainLaws
+pub mod GlobalLaws

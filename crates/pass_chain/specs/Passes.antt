@@ -1,0 +1,99 @@
+-- What each pass makes of a program, in one table, and what a list of passes makes, one after another. Cited by
+-- contracts.
+use Rattle.std.specs.Prelude.{◌≡◌, Bool, true, false, if◌then◌else◌, nat_lt, List, [], ◌∷◌, length}
+use Rattle.mir_base.specs.Limits.{most_insts}
+use Rattle.mir_base.specs.Shapes.{ProgramShape, UnitShape}
+use Rattle.flow_graph.specs.Graphs.{GraphShape}
+use Rattle.cond_const.specs.Folded.{IsFolded}
+use Rattle.value_number.specs.Numbered.{IsNumbered}
+use Rattle.copy_flow.specs.Copied.{IsCopied}
+use Rattle.edge_split.specs.Split.{IsEdgeSplit}
+use Rattle.sink_dead.specs.RoundGraphs.{AreRounds, last_round}
+use Rattle.wanted_bits.specs.Narrowed.{IsNarrowed}
+use Rattle.program_pass.specs.PassPrograms.{IsPassedProgram}
+use Rattle.tail_loop.specs.Tails.{Tailed}
+use Rattle.unit_join.specs.JoinPrograms.{IsJoinedProgram}
+use Rattle.mir_opt.specs.declared.trails.MoveTrail.{MoveTrail}
+use Rattle.mir_opt.specs.declared.trails.Trail.{Trail}
+use Rattle.mir_opt.specs.Links.{IsDivisionLinked, IsLinked, IsMoveLinked}
+use Rattle.called_units.specs.CalledUnits.{HasCalledUnits}
+use Rattle.pass_chain.specs.declared.passes.Pass.{Pass}
+use Rattle.pass_chain.specs.declared.passes.Pass.TheVariants.{Tails, Join, Optimise, Clean, Fold, Number, Copies, Motion, Divisions, Sink, Wanted, Called}
+
+-- ---- passes on graphs
+
+-- each unit is lowered, cleaned, put through a pass on graphs, cleaned and laid out
+abbrev pub PassesGraphs : (GraphShape → GraphShape → Type 0) → ProgramShape → ProgramShape → Type 0
+PassesGraphs Exact = IsPassedProgram (λ number. Exact)
+
+-- the graph stays as it is
+abbrev pub IsUnchanged : GraphShape → GraphShape → Type 0
+IsUnchanged graph result = result ≡ graph
+
+-- the last of the rounds of sinking that are made of the split graph
+pub record SunkInRounds (graph result : GraphShape) : Type 0 where
+  pub split : GraphShape
+  pub rounds : List GraphShape
+  pub splits : IsEdgeSplit graph split
+  pub are_rounds : AreRounds split rounds
+  pub last : result ≡ last_round split rounds
+
+-- ---- passes over whole programs
+
+-- no unit has more instructions than a unit of a text may have
+abbrev pub are_short : List UnitShape → Bool
+are_short [] = true
+are_short (unit ∷ units) = if nat_lt most_insts (length unit.body) then false else are_short units
+
+-- the joined program; where a unit of it would be too long to be read again, the source
+abbrev pub short_or_source : ProgramShape → ProgramShape → ProgramShape
+short_or_source source joined = if are_short joined.units then joined else source
+
+-- leaves are joined into their callers, where no unit of the result is too long; else the program stays as it is
+pub record JoinsIfShort (source target : ProgramShape) : Type 0 where
+  pub joined : ProgramShape
+  pub joins : IsJoinedProgram source joined
+  pub is : target ≡ short_or_source source joined
+
+-- there is such a trail from the source to the target
+pub record HasTrail {T : Type 0} (source_of target_of : T → ProgramShape) (Linked : T → Type 0)
+    (source target : ProgramShape) : Type 0 where
+  pub trail : T
+  pub linked : Linked trail
+  pub from_source : source_of trail ≡ source
+  pub to_target : target_of trail ≡ target
+
+-- the target of all passes of `optimise`
+abbrev pub IsOptimised : ProgramShape → ProgramShape → Type 0
+IsOptimised = HasTrail {T = Trail} (λ trail. trail.source) (λ trail. trail.target) IsLinked
+
+-- the target of code motion alone
+abbrev pub IsMoved : ProgramShape → ProgramShape → Type 0
+IsMoved = HasTrail {T = MoveTrail} (λ trail. trail.source) (λ trail. trail.target) IsMoveLinked
+
+-- the target of the motion of divisions alone
+abbrev pub HasDivisionsMoved : ProgramShape → ProgramShape → Type 0
+HasDivisionsMoved = HasTrail {T = MoveTrail} (λ trail. trail.source) (λ trail. trail.target) IsDivisionLinked
+
+-- ---- all passes
+
+-- the target is the exact result of the pass on the source
+abbrev pub IsPassedBy : Pass → ProgramShape → ProgramShape → Type 0
+IsPassedBy Tails = IsPassedProgram Tailed
+IsPassedBy Join = JoinsIfShort
+IsPassedBy Optimise = IsOptimised
+IsPassedBy Clean = PassesGraphs IsUnchanged
+IsPassedBy Fold = PassesGraphs IsFolded
+IsPassedBy Number = PassesGraphs IsNumbered
+IsPassedBy Copies = PassesGraphs IsCopied
+IsPassedBy Motion = IsMoved
+IsPassedBy Divisions = HasDivisionsMoved
+IsPassedBy Sink = PassesGraphs SunkInRounds
+IsPassedBy Wanted = PassesGraphs IsNarrowed
+IsPassedBy Called = HasCalledUnits
+
+-- the target is the exact result of these passes on the source one after another, from the first to the last
+abbrev pub IsChained : List Pass → ProgramShape → ProgramShape → Type 0
+IsChained [] source target = target ≡ source
+IsChained (pass ∷ passes) source target =
+    (next : ProgramShape) × (IsPassedBy pass source next × IsChained passes next target)

@@ -1,0 +1,120 @@
+// The passes on graphs.
+ghost use Rattle.std.specs.Prelude.{◌≡◌, IfOk};
+ghost use Rattle.flow_graph.specs.Graphs.{GraphShape};
+ghost use Rattle.cond_const.specs.Folded.{IsFolded};
+ghost use Rattle.value_number.specs.Numbered.{IsNumbered};
+ghost use Rattle.copy_flow.specs.Copied.{IsCopied};
+ghost use Rattle.sink_dead.specs.RoundGraphs.{last_round};
+ghost use Rattle.wanted_bits.specs.Narrowed.{IsNarrowed};
+ghost use Rattle.pass_chain.specs.Passes.{IsUnchanged, SunkInRounds};
+ghost use Rattle.pass_chain.specs.GraphPasses.{IsMadeOf};
+
+use cond_const::fold;
+use copy_flow::copies;
+use edge_split::split;
+use flow_graph::Graph;
+use mir_base::{Memory, Unit as MirUnit};
+use program_pass::laid_out;
+use sink_dead::sink;
+use std::alloc::Global;
+use value_number::number;
+use wanted_bits::narrow;
+
+/// A pass on graphs: from the graph of a unit, with clean jumps, to the unit that it makes. `exact` says when a graph is
+/// the result of the pass on another.
+pub(crate) trait GraphPass {
+    ghost exact: { GraphShape → GraphShape → Type 0 };
+
+    /// The unit of the result of the pass on a graph: cleaned and laid out. It fails only with `Memory`.
+    fn unit_of(alloc: Global, graph: &Graph) -> Result<MirUnit, Memory>
+        ensures { IfOk result (IsMadeOf exact graph.now) };
+}
+
+/// Nothing but the cleaning before and after.
+pub(crate) struct Cleaning;
+
+impl GraphPass for Cleaning {
+    ghost exact = { IsUnchanged };
+
+    fn unit_of(alloc: Global, graph: &Graph) -> Result<MirUnit, Memory> {
+        let unit = laid_out(alloc, graph)?;
+        Ok(unit)
+    }
+}
+
+/// Known values, of `cond_const`.
+pub(crate) struct Folding;
+
+impl GraphPass for Folding {
+    ghost exact = { IsFolded };
+
+    fn unit_of(alloc: Global, graph: &Graph) -> Result<MirUnit, Memory> {
+        let folded = fold(alloc, graph)?;
+        let unit = laid_out(alloc, &folded)?;
+        Ok(unit)
+    }
+}
+
+/// Numbers of values, of `value_number`.
+pub(crate) struct Numbering;
+
+impl GraphPass for Numbering {
+    ghost exact = { IsNumbered };
+
+    fn unit_of(alloc: Global, graph: &Graph) -> Result<MirUnit, Memory> {
+        let numbered = number(alloc, graph)?;
+        let unit = laid_out(alloc, &numbered)?;
+        Ok(unit)
+    }
+}
+
+/// Copies, of `copy_flow`.
+pub(crate) struct Copying;
+
+impl GraphPass for Copying {
+    ghost exact = { IsCopied };
+
+    fn unit_of(alloc: Global, graph: &Graph) -> Result<MirUnit, Memory> {
+        let copied = copies(alloc, graph)?;
+        let unit = laid_out(alloc, &copied)?;
+        Ok(unit)
+    }
+}
+
+/// Rounds of sinking on the split graph, of `sink_dead`.
+pub(crate) struct Sinking;
+
+impl GraphPass for Sinking {
+    ghost exact = { SunkInRounds };
+
+    fn unit_of(alloc: Global, graph: &Graph) -> Result<MirUnit, Memory> {
+        let split = split(alloc, graph)?;
+        let sunk = sink(alloc, &split)?;
+        let unit = laid_out(alloc, last_round(&split, sunk.rounds.items()))?;
+        Ok(unit)
+    }
+}
+
+/// The graph after all of these rounds. It does not allocate.
+fn last_round<'a>(graph: &'a Graph, rounds: &'a [Graph]) -> &'a Graph
+    ensures { result.now ≡ last_round graph.now rounds.now }
+{
+    let mut last = graph;
+    for round in rounds {
+        last = round;
+    }
+    last
+}
+
+/// Wanted bits, of `wanted_bits`.
+pub(crate) struct Narrowing;
+
+impl GraphPass for Narrowing {
+    ghost exact = { IsNarrowed };
+
+    fn unit_of(alloc: Global, graph: &Graph) -> Result<MirUnit, Memory> {
+        let narrowed = narrow(alloc, graph)?;
+        let unit = laid_out(alloc, &narrowed)?;
+        Ok(unit)
+    }
+}

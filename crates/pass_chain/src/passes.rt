@@ -1,0 +1,77 @@
+// The passes, and what each makes of a program.
+ghost use Rattle.std.specs.Prelude.{◌≡◌, IfOk};
+ghost use Rattle.program_pass.specs.PassPrograms.{IsOnly, KeepsRuns, Rewrites};
+ghost use Rattle.pass_chain.specs.Passes.{IsPassedBy};
+
+use crate::graph_passes::{Cleaning, Copying, Folding, Narrowing, Numbering, Sinking};
+use crate::over_units::program_through;
+use crate::whole::{divided, joined_if_short, looped, moved, optimised, with_called_units};
+use mir_base::{Memory, Program};
+use std::alloc::Global;
+
+/// A pass over a program.
+#[derive(Clone, Copy, Debug, PartialEq, Eq)]
+pub enum Pass {
+    /// Self tail calls become loops.
+    Tails,
+    /// Leaves are joined into their callers, where no unit of the result is too long to be read again.
+    Join,
+    /// Each unit goes through all passes of `optimise`.
+    Optimise,
+    /// Jumps are cleaned.
+    Clean,
+    /// What is known stands in the place of what is computed.
+    Fold,
+    /// A variable stands in the place of a right side whose value it has already.
+    Number,
+    /// The sources of copies stand in their place.
+    Copies,
+    /// Code is moved, by the lazy placement of the movable expressions.
+    Motion,
+    /// Divisions are moved.
+    Divisions,
+    /// Assignments sink to where they are needed, in rounds, and dead ones go.
+    Sink,
+    /// Operators that change no bit that is wanted go.
+    Wanted,
+    /// The units that no call leads to go.
+    Called,
+}
+
+/// What a pass makes of a program. It is the same, evaluates no more operators, and never has more frames. It fails only
+/// with `Memory`.
+///
+/// `Tails` and `Called` make what `tail_program` and `called_program` make, and `Optimise`, `Motion` and `Divisions` the
+/// targets of `optimise`, `motion` and `divisions`. `Join` makes what `join_program` makes where no unit of that has more
+/// instructions than a unit of a text may have, 16,384; else the program stays as it is, so that no join makes a unit
+/// too long to be read again; other passes may. The others are passes on graphs: each unit is lowered, cleaned, passed, cleaned and laid out. `Clean`
+/// does nothing in between, and `Sink` splits the graph and then makes its rounds.
+pub fn pass_program(alloc: Global, pass: Pass, program: &Program) -> Result<Program, Memory>
+    ensures passed { IfOk result (IsPassedBy pass program.now) }
+    ensures only { IfOk result (IsOnly (IsPassedBy pass program.now)) }
+    ensures keeps { IfOk result (KeepsRuns program.now) }
+    ensures globals { IfOk result (λ target. target.globals ≡ program.now.globals) }
+{
+    let target = passed(alloc, pass, program)?;
+    Ok(target)
+}
+
+/// The same, said in one.
+fn passed(alloc: Global, pass: Pass, program: &Program) -> Result<Program, Memory>
+    ensures { IfOk result (Rewrites (IsPassedBy pass) program.now) }
+{
+    match pass {
+        Pass::Tails => looped(alloc, program),
+        Pass::Join => joined_if_short(alloc, program),
+        Pass::Optimise => optimised(alloc, program),
+        Pass::Clean => program_through::<Cleaning>(alloc, program),
+        Pass::Fold => program_through::<Folding>(alloc, program),
+        Pass::Number => program_through::<Numbering>(alloc, program),
+        Pass::Copies => program_through::<Copying>(alloc, program),
+        Pass::Motion => moved(alloc, program),
+        Pass::Divisions => divided(alloc, program),
+        Pass::Sink => program_through::<Sinking>(alloc, program),
+        Pass::Wanted => program_through::<Narrowing>(alloc, program),
+        Pass::Called => with_called_units(alloc, program),
+    }
+}
