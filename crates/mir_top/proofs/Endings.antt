@@ -14,7 +14,7 @@ use Rattle.mir_top.specs.declared.ending.Ending.{Ending}
 use Rattle.mir_top.specs.declared.ending.Ending.TheVariants.{Done, CutShort, Prevented}
 use Rattle.mir_top.specs.declared.outcome.Outcome.{Outcome}
 use Rattle.mir_top.specs.Calls.{Call, reply_of, refusal_with, reply_at_end, complaint_at_end, HasReplied, HasEnded, IsDone, IsCutShort, Prevents, WritesLine, WorkedOn}
-use Rattle.mir_top.specs.Commands.{command_of, inputs_in, Asks, Reads}
+use Rattle.mir_top.specs.Commands.{command_of, Asks, Reads}
 use Rattle.mir_top.specs.Complaints.{Complaint, complaint_of, of_text, of_program, usage, too_long, wrong_inputs, deep, read_fault, write_fault, out_of_memory}
 use Rattle.mir_top.specs.Due.{Refuses, no_command, no_text, wrong_number, too_deep, long, unreadable, invalid}
 use Rattle.mir_top.specs.Outputs.{CannotMake, too_few_or_many, too_many_frames, no_memory}
@@ -52,7 +52,7 @@ module _ (call : Call) where
   seen_all text read reads = let all = read reads in record { taken = all.0; enough = inl all.1 }
 
   -- where the command made nothing of its program
-  making : (text : List ℕ) (command : Command) (program : ProgramShape) (fault : RunFault) → WorkedOn call.words call.source text command program → CannotMake (inputs_in call.words) program command fault → EndsSo (complaint_of (Making fault)) → EndingCase call
+  making : (text : List ℕ) (command : Command) (program : ProgramShape) (fault : RunFault) → WorkedOn call.words call.source text command program → CannotMake call.words program command fault → EndsSo (complaint_of (Making fault)) → EndingCase call
   making text _ program _ worked (too_few_or_many steps wrong) so =
       ends_refused text (wrong_inputs _) so.replied (seen_all text worked.read) (wrong_number steps program worked.asked worked.subject wrong) so.silent so.told
   making text _ program _ worked (too_many_frames steps right above) so =

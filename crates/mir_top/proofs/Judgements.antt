@@ -1,5 +1,5 @@
 -- A text is that of one program, or it is refused for one cause; so for words and a text one thing is due.
-use Rattle.std.proofs.Common.{◌≡◌, ◌≢◌, ◌<◌, ◌≤◌, ℕ, ℤ, List, length, Option, None, Some, IsTrue, refl, sym, ◌∙◌, ap, subst, arith}
+use Rattle.std.proofs.Common.{◌≡◌, ◌≢◌, ◌<◌, ◌≤◌, ℕ, List, length, Option, None, Some, IsTrue, refl, sym, ◌∙◌, ap, subst, arith}
 use Rattle.mir_base.specs.Shapes.{ProgramShape}
 use Rattle.mir_base.specs.Runs.{run, inputs_of}
 use Rattle.mir_base.specs.Limits.{most_frames}
@@ -11,13 +11,14 @@ use Rattle.mir_valid.specs.Refusals.{refusal}
 use Rattle.mir_valid.specs.Stands.{StandsFor}
 use Rattle.mir_valid.specs.Texts.{IsTextOf}
 use Rattle.mir_top.specs.declared.command.Command.{Command}
-use Rattle.mir_top.specs.declared.command.Command.TheVariants.{Optimise, Stages, Move, Ranges, Divisions, Tails, Join, Run, Trial}
+use Rattle.mir_top.specs.declared.command.Command.TheVariants.{Optimise, Stages, Move, Ranges, Divisions, Tails, Join, Thorough, Passes, Run, Trial}
 use Rattle.mir_top.specs.declared.outcome.Outcome.{Outcome}
 use Rattle.mir_top.specs.Calls.{reply_of}
 use Rattle.mir_top.specs.Commands.{command_of, inputs_in, reads_text, Reads}
 use Rattle.mir_top.specs.Complaints.{Complaint, wrong_inputs, deep, of_text, of_program}
-use Rattle.mir_top.specs.Due.{IsShortTextOf, WorksOn, IsRefused, long, unreadable, invalid, Refuses, no_command, no_text, wrong_number, too_deep, Completes, of_optimise, of_stages, of_move, of_ranges, of_divisions, of_tails, of_join, of_run, of_trial, status_of_finish}
-use Rattle.mir_top.specs.Outputs.{JoinsUnits, LoopsTails, Runs, reported, report_text, IsSummary, trail_summary, IsOnlyOutput, Makes, optimised, shown, moved, ranged, divided, tailed, joined, ran, compared}
+use Rattle.mir_top.specs.Due.{IsShortTextOf, WorksOn, IsRefused, long, unreadable, invalid, Refuses, no_command, no_text, wrong_number, too_deep, Completes, of_optimise, of_stages, of_move, of_ranges, of_divisions, of_tails, of_join, of_thorough, of_passes, of_run, of_trial, status_of_finish}
+use Rattle.mir_top.specs.PassWords.{passes_in}
+use Rattle.mir_top.specs.Outputs.{ChainsThrough, JoinsUnits, LoopsTails, Runs, TurnsThrough, reported, report_text, IsSummary, trail_summary, IsOnlyOutput, Makes, optimised, shown, moved, ranged, divided, tailed, joined, turned, chained, ran, compared}
 use Rattle.mir_top.specs.Promises.{HasRead}
 use Rattle.mir_top.specs.RangeTexts.{ShowsRanges}
 use Rattle.mir_top.specs.StageTexts.{ShowsStages}
@@ -50,6 +51,8 @@ within_of Ranges text program reads on = on
 within_of Divisions text program reads on = on
 within_of Tails text program reads on = on
 within_of Join text program reads on = on
+within_of Thorough text program reads on = on
+within_of Passes text program reads on = on
 within_of (Run steps) text program reads on = on
 within_of (Trial number units) text program reads on = absurd (cc)
 
@@ -132,84 +135,126 @@ refuses_same laws words text _ other (wrong_number n program asked on wrong) als
 refuses_same laws words text _ other (too_deep n program asked on right above) also = sym ((refused_run laws words text n program other asked on also).1 right).1
 
 -- what a run makes
-pub runs_of : (inputs : List ℤ) (program : ProgramShape) (command : Command) (outcome : Outcome) (output : List ℕ) (steps : ℕ) → Makes inputs program command outcome output → command ≡ Run steps
-    → Runs program inputs steps × ((reply_of outcome).status ≡ status_of_finish (reported program inputs steps).finish) × (output ≡ report_text (reported program inputs steps))
-runs_of inputs program _ _ _ steps (optimised trail source optimises) is = absurd (cc)
-runs_of inputs program _ _ _ steps (shown trail source optimises text shows) is = absurd (cc)
-runs_of inputs program _ _ _ steps (moved trail source moves) is = absurd (cc)
-runs_of inputs program _ _ _ steps (ranged trail source moves text shows) is = absurd (cc)
-runs_of inputs program _ _ _ steps (divided trail source divides) is = absurd (cc)
-runs_of inputs program _ _ _ steps (tailed target rewrites) is = absurd (cc)
-runs_of inputs program _ _ _ steps (joined target rewrites) is = absurd (cc)
-runs_of inputs program _ _ _ steps (compared number units output is_summary) is = absurd (cc)
-runs_of inputs program _ _ _ steps (ran n runs report reports) is =
+pub runs_of : (words : List (List ℕ)) (program : ProgramShape) (command : Command) (outcome : Outcome) (output : List ℕ) (steps : ℕ) → Makes words program command outcome output → command ≡ Run steps
+    → Runs program (inputs_in words) steps × ((reply_of outcome).status ≡ status_of_finish (reported program (inputs_in words) steps).finish) × (output ≡ report_text (reported program (inputs_in words) steps))
+runs_of words program _ _ _ steps (optimised trail source optimises) is = absurd (cc)
+runs_of words program _ _ _ steps (shown trail source optimises text shows) is = absurd (cc)
+runs_of words program _ _ _ steps (moved trail source moves) is = absurd (cc)
+runs_of words program _ _ _ steps (ranged trail source moves text shows) is = absurd (cc)
+runs_of words program _ _ _ steps (divided trail source divides) is = absurd (cc)
+runs_of words program _ _ _ steps (tailed target rewrites) is = absurd (cc)
+runs_of words program _ _ _ steps (joined target rewrites) is = absurd (cc)
+runs_of words program _ _ _ steps (turned target rewrites) is = absurd (cc)
+runs_of words program _ _ _ steps (chained target rewrites) is = absurd (cc)
+runs_of words program _ _ _ steps (compared number units output is_summary) is = absurd (cc)
+runs_of words program _ _ _ steps (ran n runs report reports) is =
     let same : n ≡ steps = cc in (
-      subst (Runs program inputs) same runs,
-      ap (λ r. status_of_finish r.finish) reports ∙ ap (λ (k : ℕ). status_of_finish (reported program inputs k).finish) same,
-      ap report_text reports ∙ ap (λ (k : ℕ). report_text (reported program inputs k)) same,
+      subst (Runs program (inputs_in words)) same runs,
+      ap (λ r. status_of_finish r.finish) reports ∙ ap (λ (k : ℕ). status_of_finish (reported program (inputs_in words) k).finish) same,
+      ap report_text reports ∙ ap (λ (k : ℕ). report_text (reported program (inputs_in words) k)) same,
     )
 
 -- an outcome with status 3 or 4 is that of a run
-pub run_of_status : (inputs : List ℤ) (program : ProgramShape) (command : Command) (outcome : Outcome) (output : List ℕ) → Makes inputs program command outcome output → is_of_run (reply_of outcome).status → (n : ℕ) × (command ≡ Run n)
-run_of_status inputs program _ _ _ (optimised trail source optimises) is = absurd is
-run_of_status inputs program _ _ _ (shown trail source optimises text shows) is = absurd is
-run_of_status inputs program _ _ _ (moved trail source moves) is = absurd is
-run_of_status inputs program _ _ _ (ranged trail source moves text shows) is = absurd is
-run_of_status inputs program _ _ _ (divided trail source divides) is = absurd is
-run_of_status inputs program _ _ _ (tailed target rewrites) is = absurd is
-run_of_status inputs program _ _ _ (joined target rewrites) is = absurd is
-run_of_status inputs program _ _ _ (compared number units output is_summary) is = absurd is
-run_of_status inputs program _ _ _ (ran n runs report reports) is = (n, refl)
+pub run_of_status : (words : List (List ℕ)) (program : ProgramShape) (command : Command) (outcome : Outcome) (output : List ℕ) → Makes words program command outcome output → is_of_run (reply_of outcome).status → (n : ℕ) × (command ≡ Run n)
+run_of_status words program _ _ _ (optimised trail source optimises) is = absurd is
+run_of_status words program _ _ _ (shown trail source optimises text shows) is = absurd is
+run_of_status words program _ _ _ (moved trail source moves) is = absurd is
+run_of_status words program _ _ _ (ranged trail source moves text shows) is = absurd is
+run_of_status words program _ _ _ (divided trail source divides) is = absurd is
+run_of_status words program _ _ _ (tailed target rewrites) is = absurd is
+run_of_status words program _ _ _ (joined target rewrites) is = absurd is
+run_of_status words program _ _ _ (turned target rewrites) is = absurd is
+run_of_status words program _ _ _ (chained target rewrites) is = absurd is
+run_of_status words program _ _ _ (compared number units output is_summary) is = absurd is
+run_of_status words program _ _ _ (ran n runs report reports) is = (n, refl)
 
 -- what a trial makes
-pub summary_of : (inputs : List ℤ) (program : ProgramShape) (command : Command) (outcome : Outcome) (output : List ℕ) (number units : ℕ) → Makes inputs program command outcome output → command ≡ Trial number units → IsSummary program output
-summary_of inputs program _ _ _ number units (optimised trail source optimises) is = absurd (cc)
-summary_of inputs program _ _ _ number units (shown trail source optimises text shows) is = absurd (cc)
-summary_of inputs program _ _ _ number units (moved trail source moves) is = absurd (cc)
-summary_of inputs program _ _ _ number units (ranged trail source moves text shows) is = absurd (cc)
-summary_of inputs program _ _ _ number units (divided trail source divides) is = absurd (cc)
-summary_of inputs program _ _ _ number units (tailed target rewrites) is = absurd (cc)
-summary_of inputs program _ _ _ number units (joined target rewrites) is = absurd (cc)
-summary_of inputs program _ _ _ number units (ran n runs report reports) is = absurd (cc)
-summary_of inputs program _ _ _ number units (compared other count output summary) is = summary
+pub summary_of : (words : List (List ℕ)) (program : ProgramShape) (command : Command) (outcome : Outcome) (output : List ℕ) (number units : ℕ) → Makes words program command outcome output → command ≡ Trial number units → IsSummary program output
+summary_of words program _ _ _ number units (optimised trail source optimises) is = absurd (cc)
+summary_of words program _ _ _ number units (shown trail source optimises text shows) is = absurd (cc)
+summary_of words program _ _ _ number units (moved trail source moves) is = absurd (cc)
+summary_of words program _ _ _ number units (ranged trail source moves text shows) is = absurd (cc)
+summary_of words program _ _ _ number units (divided trail source divides) is = absurd (cc)
+summary_of words program _ _ _ number units (tailed target rewrites) is = absurd (cc)
+summary_of words program _ _ _ number units (joined target rewrites) is = absurd (cc)
+summary_of words program _ _ _ number units (turned target rewrites) is = absurd (cc)
+summary_of words program _ _ _ number units (chained target rewrites) is = absurd (cc)
+summary_of words program _ _ _ number units (ran n runs report reports) is = absurd (cc)
+summary_of words program _ _ _ number units (compared other count output summary) is = summary
 
 -- what a trial makes has status 0
-pub status_of_trial : (inputs : List ℤ) (program : ProgramShape) (command : Command) (outcome : Outcome) (output : List ℕ) (number units : ℕ) → Makes inputs program command outcome output → command ≡ Trial number units → (reply_of outcome).status ≡ 0
-status_of_trial inputs program _ _ _ number units (optimised trail source optimises) is = refl
-status_of_trial inputs program _ _ _ number units (shown trail source optimises text shows) is = refl
-status_of_trial inputs program _ _ _ number units (moved trail source moves) is = refl
-status_of_trial inputs program _ _ _ number units (ranged trail source moves text shows) is = refl
-status_of_trial inputs program _ _ _ number units (divided trail source divides) is = refl
-status_of_trial inputs program _ _ _ number units (tailed target rewrites) is = refl
-status_of_trial inputs program _ _ _ number units (joined target rewrites) is = refl
-status_of_trial inputs program _ _ _ number units (ran n runs report reports) is = absurd (cc)
-status_of_trial inputs program _ _ _ number units (compared other count output summary) is = refl
+pub status_of_trial : (words : List (List ℕ)) (program : ProgramShape) (command : Command) (outcome : Outcome) (output : List ℕ) (number units : ℕ) → Makes words program command outcome output → command ≡ Trial number units → (reply_of outcome).status ≡ 0
+status_of_trial words program _ _ _ number units (optimised trail source optimises) is = refl
+status_of_trial words program _ _ _ number units (shown trail source optimises text shows) is = refl
+status_of_trial words program _ _ _ number units (moved trail source moves) is = refl
+status_of_trial words program _ _ _ number units (ranged trail source moves text shows) is = refl
+status_of_trial words program _ _ _ number units (divided trail source divides) is = refl
+status_of_trial words program _ _ _ number units (tailed target rewrites) is = refl
+status_of_trial words program _ _ _ number units (joined target rewrites) is = refl
+status_of_trial words program _ _ _ number units (turned target rewrites) is = refl
+status_of_trial words program _ _ _ number units (chained target rewrites) is = refl
+status_of_trial words program _ _ _ number units (ran n runs report reports) is = absurd (cc)
+status_of_trial words program _ _ _ number units (compared other count output summary) is = refl
 
 -- what `tails` makes
-pub tailed_of : (inputs : List ℤ) (program : ProgramShape) (command : Command) (outcome : Outcome) (output : List ℕ) → Makes inputs program command outcome output → command ≡ Tails
+pub tailed_of : (words : List (List ℕ)) (program : ProgramShape) (command : Command) (outcome : Outcome) (output : List ℕ) → Makes words program command outcome output → command ≡ Tails
     → ((reply_of outcome).status ≡ 0) × (target : ProgramShape) × LoopsTails program target × (output ≡ canonical_text target)
-tailed_of inputs program _ _ _ (optimised trail source optimises) is = absurd (cc)
-tailed_of inputs program _ _ _ (shown trail source optimises text shows) is = absurd (cc)
-tailed_of inputs program _ _ _ (moved trail source moves) is = absurd (cc)
-tailed_of inputs program _ _ _ (ranged trail source moves text shows) is = absurd (cc)
-tailed_of inputs program _ _ _ (divided trail source divides) is = absurd (cc)
-tailed_of inputs program _ _ _ (tailed target rewrites) is = (refl, target, rewrites, refl)
-tailed_of inputs program _ _ _ (joined target rewrites) is = absurd (cc)
-tailed_of inputs program _ _ _ (ran n runs report reports) is = absurd (cc)
-tailed_of inputs program _ _ _ (compared number units output is_summary) is = absurd (cc)
+tailed_of words program _ _ _ (optimised trail source optimises) is = absurd (cc)
+tailed_of words program _ _ _ (shown trail source optimises text shows) is = absurd (cc)
+tailed_of words program _ _ _ (moved trail source moves) is = absurd (cc)
+tailed_of words program _ _ _ (ranged trail source moves text shows) is = absurd (cc)
+tailed_of words program _ _ _ (divided trail source divides) is = absurd (cc)
+tailed_of words program _ _ _ (tailed target rewrites) is = (refl, target, rewrites, refl)
+tailed_of words program _ _ _ (joined target rewrites) is = absurd (cc)
+tailed_of words program _ _ _ (turned target rewrites) is = absurd (cc)
+tailed_of words program _ _ _ (chained target rewrites) is = absurd (cc)
+tailed_of words program _ _ _ (ran n runs report reports) is = absurd (cc)
+tailed_of words program _ _ _ (compared number units output is_summary) is = absurd (cc)
 
 -- what `join` makes
-pub joined_of : (inputs : List ℤ) (program : ProgramShape) (command : Command) (outcome : Outcome) (output : List ℕ) → Makes inputs program command outcome output → command ≡ Join
+pub joined_of : (words : List (List ℕ)) (program : ProgramShape) (command : Command) (outcome : Outcome) (output : List ℕ) → Makes words program command outcome output → command ≡ Join
     → ((reply_of outcome).status ≡ 0) × (target : ProgramShape) × JoinsUnits program target × (output ≡ canonical_text target)
-joined_of inputs program _ _ _ (optimised trail source optimises) is = absurd (cc)
-joined_of inputs program _ _ _ (shown trail source optimises text shows) is = absurd (cc)
-joined_of inputs program _ _ _ (moved trail source moves) is = absurd (cc)
-joined_of inputs program _ _ _ (ranged trail source moves text shows) is = absurd (cc)
-joined_of inputs program _ _ _ (divided trail source divides) is = absurd (cc)
-joined_of inputs program _ _ _ (tailed target rewrites) is = absurd (cc)
-joined_of inputs program _ _ _ (joined target rewrites) is = (refl, target, rewrites, refl)
-joined_of inputs program _ _ _ (ran n runs report reports) is = absurd (cc)
-joined_of inputs program _ _ _ (compared number units output is_summary) is = absurd (cc)
+joined_of words program _ _ _ (optimised trail source optimises) is = absurd (cc)
+joined_of words program _ _ _ (shown trail source optimises text shows) is = absurd (cc)
+joined_of words program _ _ _ (moved trail source moves) is = absurd (cc)
+joined_of words program _ _ _ (ranged trail source moves text shows) is = absurd (cc)
+joined_of words program _ _ _ (divided trail source divides) is = absurd (cc)
+joined_of words program _ _ _ (tailed target rewrites) is = absurd (cc)
+joined_of words program _ _ _ (joined target rewrites) is = (refl, target, rewrites, refl)
+joined_of words program _ _ _ (turned target rewrites) is = absurd (cc)
+joined_of words program _ _ _ (chained target rewrites) is = absurd (cc)
+joined_of words program _ _ _ (ran n runs report reports) is = absurd (cc)
+joined_of words program _ _ _ (compared number units output is_summary) is = absurd (cc)
+
+-- what `thorough` makes
+pub turned_of : (words : List (List ℕ)) (program : ProgramShape) (command : Command) (outcome : Outcome) (output : List ℕ) → Makes words program command outcome output → command ≡ Thorough
+    → ((reply_of outcome).status ≡ 0) × (target : ProgramShape) × TurnsThrough program target × (output ≡ canonical_text target)
+turned_of words program _ _ _ (optimised trail source optimises) is = absurd (cc)
+turned_of words program _ _ _ (shown trail source optimises text shows) is = absurd (cc)
+turned_of words program _ _ _ (moved trail source moves) is = absurd (cc)
+turned_of words program _ _ _ (ranged trail source moves text shows) is = absurd (cc)
+turned_of words program _ _ _ (divided trail source divides) is = absurd (cc)
+turned_of words program _ _ _ (tailed target rewrites) is = absurd (cc)
+turned_of words program _ _ _ (joined target rewrites) is = absurd (cc)
+turned_of words program _ _ _ (turned target rewrites) is = (refl, target, rewrites, refl)
+turned_of words program _ _ _ (chained target rewrites) is = absurd (cc)
+turned_of words program _ _ _ (ran n runs report reports) is = absurd (cc)
+turned_of words program _ _ _ (compared number units output is_summary) is = absurd (cc)
+
+-- what `passes` makes
+pub chained_of : (words : List (List ℕ)) (program : ProgramShape) (command : Command) (outcome : Outcome) (output : List ℕ) → Makes words program command outcome output → command ≡ Passes
+    → ((reply_of outcome).status ≡ 0) × (target : ProgramShape) × ChainsThrough (passes_in words) program target × (output ≡ canonical_text target)
+chained_of words program _ _ _ (optimised trail source optimises) is = absurd (cc)
+chained_of words program _ _ _ (shown trail source optimises text shows) is = absurd (cc)
+chained_of words program _ _ _ (moved trail source moves) is = absurd (cc)
+chained_of words program _ _ _ (ranged trail source moves text shows) is = absurd (cc)
+chained_of words program _ _ _ (divided trail source divides) is = absurd (cc)
+chained_of words program _ _ _ (tailed target rewrites) is = absurd (cc)
+chained_of words program _ _ _ (joined target rewrites) is = absurd (cc)
+chained_of words program _ _ _ (turned target rewrites) is = absurd (cc)
+chained_of words program _ _ _ (chained target rewrites) is = (refl, target, rewrites, refl)
+chained_of words program _ _ _ (ran n runs report reports) is = absurd (cc)
+chained_of words program _ _ _ (compared number units output is_summary) is = absurd (cc)
 
 -- the words of a trial are not those of a command that reads the text
 pub trial_reads : (words : List (List ℕ)) (number units : ℕ) → command_of words ≡ Some (Trial number units) → Reads words → ⊥
@@ -217,18 +262,18 @@ trial_reads words number units asked reads = let e = reads_of words (Trial numbe
 
 -- where something is made, nothing is refused
 pub makes_no_refusal : OneReading → (words : List (List ℕ)) (text : List ℕ) (command : Command) (program : ProgramShape) (outcome : Outcome) (output : List ℕ) (complaint : Complaint) → command_of words ≡ Some command → WorksOn command text program
-    → Makes (inputs_in words) program command outcome output → Refuses words text complaint → ⊥
+    → Makes words program command outcome output → Refuses words text complaint → ⊥
 makes_no_refusal laws words text command program outcome output _ asked on makes (no_command none) = no_command_of command (command_of words) none asked
 makes_no_refusal laws words text command program outcome output _ asked on makes (no_text complaint reads refused) =
     not_refused laws text program complaint (within_of command text program (reads_of words command asked reads) on) refused
 makes_no_refusal laws words text command program outcome output _ asked on makes (wrong_number n other also within wrong) =
     let is = same_command command (Run n) (command_of words) asked also in
-    let runs = runs_of (inputs_in words) program command outcome output n makes is in
+    let runs = runs_of words program command outcome output n makes is in
     let same = program_same laws text program other (subst (λ (c : Command). WorksOn c text program) is on).parsed within.parsed in
     wrong (runs.0.enough ∙ ap inputs_of same)
 makes_no_refusal laws words text command program outcome output _ asked on makes (too_deep n other also within right above) =
     let is = same_command command (Run n) (command_of words) asked also in
-    let runs = runs_of (inputs_in words) program command outcome output n makes is in
+    let runs = runs_of words program command outcome output n makes is in
     let same = program_same laws text program other (subst (λ (c : Command). WorksOn c text program) is on).parsed within.parsed in
     let shallow : (run other (inputs_in words) n).depth ≤ most_frames = subst (λ (p : ProgramShape). (run p (inputs_in words) n).depth ≤ most_frames) same runs.0.shallow in
     omega (arith, shallow, above)
@@ -256,46 +301,54 @@ completes_no_refusal laws words text _ complaint (of_ranges program asked on) re
 completes_no_refusal laws words text _ complaint (of_divisions program asked on) refuses = other_refusal laws words text Divisions program complaint asked on (λ n is. absurd (cc)) refuses
 completes_no_refusal laws words text _ complaint (of_tails program asked on) refuses = other_refusal laws words text Tails program complaint asked on (λ n is. absurd (cc)) refuses
 completes_no_refusal laws words text _ complaint (of_join program asked on) refuses = other_refusal laws words text Join program complaint asked on (λ n is. absurd (cc)) refuses
+completes_no_refusal laws words text _ complaint (of_thorough program asked on) refuses = other_refusal laws words text Thorough program complaint asked on (λ n is. absurd (cc)) refuses
+completes_no_refusal laws words text _ complaint (of_passes program asked on) refuses = other_refusal laws words text Passes program complaint asked on (λ n is. absurd (cc)) refuses
 completes_no_refusal laws words text _ complaint (of_trial number units asked) refuses = unread_refusal words text (Trial number units) complaint asked (λ reads. absurd (cc)) refuses
 completes_no_refusal laws words text _ complaint (of_run n program asked on runs) refuses =
     let refused = refused_run laws words text n program complaint asked on refuses in
     let over = (refused.1 runs.enough).0 in let shallow = runs.shallow in omega (arith, over, shallow)
 
 -- what is made by a command that is no run has status 0
-status_of_text : (inputs : List ℤ) (program : ProgramShape) (command : Command) (outcome : Outcome) (output : List ℕ) → Makes inputs program command outcome output → ((n : ℕ) → command ≡ Run n → ⊥) → (reply_of outcome).status ≡ 0
-status_of_text inputs program _ _ _ (optimised trail source optimises) no_run = refl
-status_of_text inputs program _ _ _ (shown trail source optimises text shows) no_run = refl
-status_of_text inputs program _ _ _ (moved trail source moves) no_run = refl
-status_of_text inputs program _ _ _ (ranged trail source moves text shows) no_run = refl
-status_of_text inputs program _ _ _ (divided trail source divides) no_run = refl
-status_of_text inputs program _ _ _ (tailed target rewrites) no_run = refl
-status_of_text inputs program _ _ _ (joined target rewrites) no_run = refl
-status_of_text inputs program _ _ _ (compared number units output is_summary) no_run = refl
-status_of_text inputs program _ _ _ (ran n runs report reports) no_run = absurd (no_run n refl)
+status_of_text : (words : List (List ℕ)) (program : ProgramShape) (command : Command) (outcome : Outcome) (output : List ℕ) → Makes words program command outcome output → ((n : ℕ) → command ≡ Run n → ⊥) → (reply_of outcome).status ≡ 0
+status_of_text words program _ _ _ (optimised trail source optimises) no_run = refl
+status_of_text words program _ _ _ (shown trail source optimises text shows) no_run = refl
+status_of_text words program _ _ _ (moved trail source moves) no_run = refl
+status_of_text words program _ _ _ (ranged trail source moves text shows) no_run = refl
+status_of_text words program _ _ _ (divided trail source divides) no_run = refl
+status_of_text words program _ _ _ (tailed target rewrites) no_run = refl
+status_of_text words program _ _ _ (joined target rewrites) no_run = refl
+status_of_text words program _ _ _ (turned target rewrites) no_run = refl
+status_of_text words program _ _ _ (chained target rewrites) no_run = refl
+status_of_text words program _ _ _ (compared number units output is_summary) no_run = refl
+status_of_text words program _ _ _ (ran n runs report reports) no_run = absurd (no_run n refl)
 
 -- what is made where an output is due has the status that is due
 pub completes_status : OneReading → (words : List (List ℕ)) (text : List ℕ) (status : ℕ) (command : Command) (program : ProgramShape) (outcome : Outcome) (output : List ℕ) → Completes words text status → command_of words ≡ Some command → WorksOn command text program
-    → Makes (inputs_in words) program command outcome output → (reply_of outcome).status ≡ status
+    → Makes words program command outcome output → (reply_of outcome).status ≡ status
 completes_status laws words text _ command program outcome output (of_optimise other also within) asked on makes =
-    status_of_text (inputs_in words) program command outcome output makes (λ n is. let e = sym (same_command command Optimise (command_of words) asked also) ∙ is in absurd (cc))
+    status_of_text words program command outcome output makes (λ n is. let e = sym (same_command command Optimise (command_of words) asked also) ∙ is in absurd (cc))
 completes_status laws words text _ command program outcome output (of_stages other also within) asked on makes =
-    status_of_text (inputs_in words) program command outcome output makes (λ n is. let e = sym (same_command command Stages (command_of words) asked also) ∙ is in absurd (cc))
+    status_of_text words program command outcome output makes (λ n is. let e = sym (same_command command Stages (command_of words) asked also) ∙ is in absurd (cc))
 completes_status laws words text _ command program outcome output (of_move other also within) asked on makes =
-    status_of_text (inputs_in words) program command outcome output makes (λ n is. let e = sym (same_command command Move (command_of words) asked also) ∙ is in absurd (cc))
+    status_of_text words program command outcome output makes (λ n is. let e = sym (same_command command Move (command_of words) asked also) ∙ is in absurd (cc))
 completes_status laws words text _ command program outcome output (of_ranges other also within) asked on makes =
-    status_of_text (inputs_in words) program command outcome output makes (λ n is. let e = sym (same_command command Ranges (command_of words) asked also) ∙ is in absurd (cc))
+    status_of_text words program command outcome output makes (λ n is. let e = sym (same_command command Ranges (command_of words) asked also) ∙ is in absurd (cc))
 completes_status laws words text _ command program outcome output (of_divisions other also within) asked on makes =
-    status_of_text (inputs_in words) program command outcome output makes (λ n is. let e = sym (same_command command Divisions (command_of words) asked also) ∙ is in absurd (cc))
+    status_of_text words program command outcome output makes (λ n is. let e = sym (same_command command Divisions (command_of words) asked also) ∙ is in absurd (cc))
 completes_status laws words text _ command program outcome output (of_tails other also within) asked on makes =
-    status_of_text (inputs_in words) program command outcome output makes (λ n is. let e = sym (same_command command Tails (command_of words) asked also) ∙ is in absurd (cc))
+    status_of_text words program command outcome output makes (λ n is. let e = sym (same_command command Tails (command_of words) asked also) ∙ is in absurd (cc))
 completes_status laws words text _ command program outcome output (of_join other also within) asked on makes =
-    status_of_text (inputs_in words) program command outcome output makes (λ n is. let e = sym (same_command command Join (command_of words) asked also) ∙ is in absurd (cc))
+    status_of_text words program command outcome output makes (λ n is. let e = sym (same_command command Join (command_of words) asked also) ∙ is in absurd (cc))
+completes_status laws words text _ command program outcome output (of_thorough other also within) asked on makes =
+    status_of_text words program command outcome output makes (λ n is. let e = sym (same_command command Thorough (command_of words) asked also) ∙ is in absurd (cc))
+completes_status laws words text _ command program outcome output (of_passes other also within) asked on makes =
+    status_of_text words program command outcome output makes (λ n is. let e = sym (same_command command Passes (command_of words) asked also) ∙ is in absurd (cc))
 completes_status laws words text _ command program outcome output (of_trial number units also) asked on makes =
-    status_of_text (inputs_in words) program command outcome output makes (λ n is. let e = sym (same_command command (Trial number units) (command_of words) asked also) ∙ is in absurd (cc))
+    status_of_text words program command outcome output makes (λ n is. let e = sym (same_command command (Trial number units) (command_of words) asked also) ∙ is in absurd (cc))
 completes_status laws words text _ command program outcome output (of_run n other also within runs) asked on makes =
     let is = same_command command (Run n) (command_of words) asked also in
     let same = program_same laws text program other (subst (λ (c : Command). WorksOn c text program) is on).parsed within.parsed in
-    (runs_of (inputs_in words) program command outcome output n makes is).1 ∙ ap (λ (p : ProgramShape). status_of_finish (reported p (inputs_in words) n).finish) same
+    (runs_of words program command outcome output n makes is).1 ∙ ap (λ (p : ProgramShape). status_of_finish (reported p (inputs_in words) n).finish) same
 
 -- under a command that is no run an output is due with status 0
 due_of_text : (words : List (List ℕ)) (text : List ℕ) (command : Command) (status : ℕ) → command_of words ≡ Some command → ((n : ℕ) → command ≡ Run n → ⊥) → Completes words text status → 0 ≡ status
@@ -306,6 +359,8 @@ due_of_text words text command _ asked no_run (of_ranges program also on) = refl
 due_of_text words text command _ asked no_run (of_divisions program also on) = refl
 due_of_text words text command _ asked no_run (of_tails program also on) = refl
 due_of_text words text command _ asked no_run (of_join program also on) = refl
+due_of_text words text command _ asked no_run (of_thorough program also on) = refl
+due_of_text words text command _ asked no_run (of_passes program also on) = refl
 due_of_text words text command _ asked no_run (of_trial number units also) = refl
 due_of_text words text command _ asked no_run (of_run n program also on runs) = absurd (no_run n (same_command command (Run n) (command_of words) asked also))
 
@@ -318,6 +373,8 @@ due_of_run laws words text steps program _ asked within (of_ranges other also on
 due_of_run laws words text steps program _ asked within (of_divisions other also on) = absurd (let e = same_command (Run steps) Divisions (command_of words) asked also in cc)
 due_of_run laws words text steps program _ asked within (of_tails other also on) = absurd (let e = same_command (Run steps) Tails (command_of words) asked also in cc)
 due_of_run laws words text steps program _ asked within (of_join other also on) = absurd (let e = same_command (Run steps) Join (command_of words) asked also in cc)
+due_of_run laws words text steps program _ asked within (of_thorough other also on) = absurd (let e = same_command (Run steps) Thorough (command_of words) asked also in cc)
+due_of_run laws words text steps program _ asked within (of_passes other also on) = absurd (let e = same_command (Run steps) Passes (command_of words) asked also in cc)
 due_of_run laws words text steps program _ asked within (of_trial number units also) = absurd (let e = same_command (Run steps) (Trial number units) (command_of words) asked also in cc)
 due_of_run laws words text steps program _ asked within (of_run n other also on runs) =
     ap (λ (p : ProgramShape). status_of_finish (reported p (inputs_in words) steps).finish) (program_same laws text program other within.parsed on.parsed)
@@ -332,25 +389,29 @@ completes_same laws words text _ other (of_ranges program asked on) due = due_of
 completes_same laws words text _ other (of_divisions program asked on) due = due_of_text words text Divisions other asked (λ n is. absurd (cc)) due
 completes_same laws words text _ other (of_tails program asked on) due = due_of_text words text Tails other asked (λ n is. absurd (cc)) due
 completes_same laws words text _ other (of_join program asked on) due = due_of_text words text Join other asked (λ n is. absurd (cc)) due
+completes_same laws words text _ other (of_thorough program asked on) due = due_of_text words text Thorough other asked (λ n is. absurd (cc)) due
+completes_same laws words text _ other (of_passes program asked on) due = due_of_text words text Passes other asked (λ n is. absurd (cc)) due
 completes_same laws words text _ other (of_trial number units asked) due = due_of_text words text (Trial number units) other asked (λ n is. absurd (cc)) due
 completes_same laws words text _ other (of_run n program asked on runs) due = due_of_run laws words text n program other asked on due
 
 -- ---- outputs
 
 -- a command makes one output of a program
-pub only_output : (inputs : List ℤ) (program : ProgramShape) (command : Command) (outcome : Outcome) (output : List ℕ) → Makes inputs program command outcome output → IsOnlyOutput inputs program command output
-only_output inputs program _ _ _ (optimised trail source optimises) _ _ (optimised other also improves) =
+pub only_output : (words : List (List ℕ)) (program : ProgramShape) (command : Command) (outcome : Outcome) (output : List ℕ) → Makes words program command outcome output → IsOnlyOutput words program command output
+only_output words program _ _ _ (optimised trail source optimises) _ _ (optimised other also improves) =
     ap (λ (t : Trail). canonical_text t.target) (optimises.only other (also ∙ sym source) improves.linked)
-only_output inputs program _ _ _ (shown trail source optimises text shows) _ _ (shown other also improves text' shows') =
+only_output words program _ _ _ (shown trail source optimises text shows) _ _ (shown other also improves text' shows') =
     stages_same trail text text' shows (subst (λ (t : Trail). ShowsStages t text') (sym (optimises.only other (also ∙ sym source) improves.linked)) shows')
-only_output inputs program _ _ _ (moved trail source moves) _ _ (moved other also too) =
+only_output words program _ _ _ (moved trail source moves) _ _ (moved other also too) =
     ap (λ (t : MoveTrail). canonical_text t.target) (moves.improves.only other (also ∙ sym source) too.improves.linked)
-only_output inputs program _ _ _ (ranged trail source moves text shows) _ _ (ranged other also too text' shows') =
+only_output words program _ _ _ (ranged trail source moves text shows) _ _ (ranged other also too text' shows') =
     ranges_same trail.units text text' shows (subst (λ (t : MoveTrail). ShowsRanges t.units text') (sym (moves.improves.only other (also ∙ sym source) too.improves.linked)) shows')
-only_output inputs program _ _ _ (divided trail source divides) _ _ (divided other also too) =
+only_output words program _ _ _ (divided trail source divides) _ _ (divided other also too) =
     ap (λ (t : MoveTrail). canonical_text t.target) (divides.improves.only other (also ∙ sym source) too.improves.linked)
-only_output inputs program _ _ _ (tailed target rewrites) _ _ (tailed other also) = ap canonical_text (rewrites.only other also.exact)
-only_output inputs program _ _ _ (joined target rewrites) _ _ (joined other also) = ap canonical_text (rewrites.only other also.exact)
-only_output inputs program _ _ _ (compared number units output is) _ _ (compared _ _ other also) =
+only_output words program _ _ _ (tailed target rewrites) _ _ (tailed other also) = ap canonical_text (rewrites.only other also.exact)
+only_output words program _ _ _ (joined target rewrites) _ _ (joined other also) = ap canonical_text (rewrites.only other also.exact)
+only_output words program _ _ _ (turned target turns) _ _ (turned other also) = ap canonical_text (turns.rewrites.only other also.rewrites.exact)
+only_output words program _ _ _ (chained target rewrites) _ _ (chained other also) = ap canonical_text (rewrites.only other also.exact)
+only_output words program _ _ _ (compared number units output is) _ _ (compared _ _ other also) =
     is.output_is ∙ ap trail_summary (is.optimises.only also.trail (also.source ∙ sym is.source) also.optimises.linked) ∙ sym also.output_is
-only_output inputs program _ _ _ (ran steps runs report reports) _ _ (ran _ again report' reports') = ap report_text (reports ∙ sym reports')
+only_output words program _ _ _ (ran steps runs report reports) _ _ (ran _ again report' reports') = ap report_text (reports ∙ sym reports')

@@ -1,4 +1,5 @@
 mod MadeLaws
+mod TurnLaws
 mod Statuses
 mod ShownLaws
 mod RangeLaws

@@ -5,24 +5,23 @@ use Rattle.std.proofs.lemmas.Option.{IfSome_then}
 use Rattle.std.specs.Io.KnownBytes.{Consumes, IsAtEnd}
 use Rattle.mir_base.specs.Limits.{most_bytes}
 use Rattle.mir_base.specs.Shapes.{ProgramShape}
-use Rattle.mir_base.specs.Text.{canonical_text}
-use Rattle.mir_opt.specs.declared.trails.MoveTrail.{MoveTrail}
 use Rattle.mir_outside.specs.Transfer.{TakesAtMost}
 use Rattle.mir_trial.specs.Trial.{trial_program}
 use Rattle.mir_top.specs.declared.reply.Reply.{Reply}
 use Rattle.mir_top.specs.declared.command.Command.{Command}
-use Rattle.mir_top.specs.declared.command.Command.TheVariants.{Optimise, Stages, Move, Ranges, Divisions, Tails, Join, Run, Trial}
+use Rattle.mir_top.specs.declared.command.Command.TheVariants.{Optimise, Stages, Move, Ranges, Divisions, Tails, Join, Thorough, Passes, Run, Trial}
 use Rattle.mir_top.specs.declared.outcome.Outcome.{Outcome}
 use Rattle.mir_top.specs.Calls.{Call, reply_of, refusal_with, HasReplied, MakesOutput, WorkedOn}
-use Rattle.mir_top.specs.Commands.{command_of, inputs_in, Asks, Reads}
+use Rattle.mir_top.specs.Commands.{command_of, Asks, Reads}
 use Rattle.mir_top.specs.Complaints.{Complaint, usage, read_fault, write_fault, out_of_memory}
 use Rattle.mir_top.specs.Due.{IsShortTextOf, WorksOn, IsRefused, long, unreadable, invalid, Refuses, no_command, no_text, wrong_number, too_deep, Completes}
-use Rattle.mir_top.specs.Outputs.{JoinsUnits, LoopsTails, Makes}
+use Rattle.mir_top.specs.Outputs.{ChainsThrough, JoinsUnits, LoopsTails, Makes, TurnsThrough}
+use Rattle.mir_top.specs.PassWords.{passes_in}
 use Rattle.mir_top.specs.Promises.{Promises, HasSeen, IsOnlyMade, StatusIs, Asked, HasDivided, HasOptimised, HasRanged, HasRewritten, HasShown, HasMoved, HasMade, HasCutShort, HasRun, HasTried, HasRefused, EndsBy, HasText}
 use Rattle.mir_top.specs.Streams.{Stream, Untouched, HasFailed, Took, Gave, Tried}
 use Rattle.mir_top.specs.Texts.{OneReading}
 use Rattle.mir_top.proofs.Endings.{EndingCase, ends_done, ends_cut, ends_failed, ends_out_of_memory, ends_refused, ends}
-use Rattle.mir_top.proofs.Judgements.{no_command_of, same_command, has_read, runs_of, run_of_status, summary_of, status_of_trial, tailed_of, joined_of, trial_reads, unread_refusal, refuses_same, makes_no_refusal, completes_no_refusal, completes_status, only_output}
+use Rattle.mir_top.proofs.Judgements.{no_command_of, same_command, has_read, runs_of, run_of_status, summary_of, status_of_trial, tailed_of, joined_of, turned_of, chained_of, trial_reads, unread_refusal, refuses_same, makes_no_refusal, completes_no_refusal, completes_status, only_output}
 use Rattle.mir_top.proofs.Statuses.{is_success, is_refusal, is_of_run, is_silent, run_has, success_is, refusal_is, silent_is, refusal_no_success, success_no_refusal, success_no_silent, refusal_below, success_below, outcome_is_success, refuses_is_refusal}
 use Rattle.mir_top.proofs.Trails.{HasMotion, HasPasses, passes, motion, trail_has_output, trail_is_asked, trail_comes}
 
@@ -49,7 +48,7 @@ module _ (laws : OneReading) (call : Call) where
 
   -- what was made is the one output
   only_made : (outcome : Outcome) (output : List ℕ) (made : MakesOutput call.words call.source outcome output) → IsOnlyMade call outcome output made
-  only_made outcome output made = only_output (inputs_in call.words) made.program made.command outcome output made.made
+  only_made outcome output made = only_output call.words made.program made.command outcome output made.made
 
   -- ---- statuses 0, 3 and 4
 
@@ -67,7 +66,7 @@ module _ (laws : OneReading) (call : Call) where
   of_run ends among =
       let has = (success_of ends (run_has is_success tt tt call.reply.status among)).0 in
       let made = has.done.made in
-      let under = run_of_status (inputs_in call.words) made.program made.command has.outcome has.done.output made.made (subst is_of_run (status_is _ has.reply) (run_has is_of_run tt tt call.reply.status among)) in
+      let under = run_of_status call.words made.program made.command has.outcome has.done.output made.made (subst is_of_run (status_is _ has.reply) (run_has is_of_run tt tt call.reply.status among)) in
       (under.0, made.worked.asked ∙ ap (λ (c : Command). Some c) under.1)
 
   -- under `run` the report says how the run stands
@@ -76,7 +75,7 @@ module _ (laws : OneReading) (call : Call) where
       let has = (success_of ends success).0 in
       let made = has.done.made in
       let is = same_command made.command (Run steps) (command_of call.words) made.worked.asked asked in
-      let runs = runs_of (inputs_in call.words) made.program made.command has.outcome has.done.output steps made.made is in
+      let runs = runs_of call.words made.program made.command has.outcome has.done.output steps made.made is in
       record {
         program = made.program;
         read = has_read call.words call.source (Run steps) made.program made.program made.text refl asked made.worked.read (subst (λ (c : Command). WorksOn c made.text made.program) is made.worked.subject) refl;
@@ -91,7 +90,7 @@ module _ (laws : OneReading) (call : Call) where
       let has = (success_of ends success).0 in
       let made = has.done.made in
       let is = same_command made.command (Trial number units) (command_of call.words) made.worked.asked asked in
-      let tried = summary_of (inputs_in call.words) made.program made.command has.outcome has.done.output number units made.made is in
+      let tried = summary_of call.words made.program made.command has.outcome has.done.output number units made.made is in
       record {
         trail = tried.trail;
         source = tried.source ∙ subst (λ (c : Command). WorksOn c made.text made.program) is made.worked.subject;
@@ -103,7 +102,7 @@ module _ (laws : OneReading) (call : Call) where
   of_trial : EndingCase call → (number units : ℕ) → command_of call.words ≡ Some (Trial number units) → Contains (0 ∷ 7 ∷ 8 ∷ []) call.reply.status
   of_trial (ends_done outcome replied is quiet) number units asked =
       let same = same_command is.made.command (Trial number units) (command_of call.words) is.made.worked.asked asked in
-      (0, omega arith, sym (status_is _ replied ∙ status_of_trial (inputs_in call.words) is.made.program is.made.command outcome is.output number units is.made.made same))
+      (0, omega arith, sym (status_is _ replied ∙ status_of_trial call.words is.made.program is.made.command outcome is.output number units is.made.made same))
   of_trial (ends_cut replied is told) number units asked = (1, omega arith, sym (status_is _ replied))
   of_trial (ends_failed replied reads fails silent told) number units asked = absurd (trial_reads call.words number units asked reads)
   of_trial (ends_out_of_memory replied asked silent told) number units also = (2, omega arith, sym (status_is _ replied))
@@ -168,6 +167,8 @@ module _ (laws : OneReading) (call : Call) where
       by Divisions asked on = here (Divisions, asked, refl) on
       by Tails asked on = here (Tails, asked, refl) on
       by Join asked on = here (Join, asked, refl) on
+      by Thorough asked on = here (Thorough, asked, refl) on
+      by Passes asked on = here (Passes, asked, refl) on
       by (Run n) asked on = here (Run n, asked, refl) on
       by (Trial number units) asked on = on
 
@@ -175,7 +176,7 @@ module _ (laws : OneReading) (call : Call) where
   ends_by : (text : List ℕ) (complaint : Complaint) → HasText call text → Refuses call.words text complaint → EndingCase call → EndsBy call complaint
   ends_by text complaint tells due (ends_done outcome replied is quiet) = absurd (not_made is.made.text is.made.command is.made.program is.made.worked outcome is.output is.made.made)
     where
-      not_made : (read : List ℕ) (command : Command) (program : ProgramShape) → WorkedOn call.words call.source read command program → (o : Outcome) (output : List ℕ) → Makes (inputs_in call.words) program command o output → ⊥
+      not_made : (read : List ℕ) (command : Command) (program : ProgramShape) → WorkedOn call.words call.source read command program → (o : Outcome) (output : List ℕ) → Makes call.words program command o output → ⊥
       not_made read command program worked o output makes = makes_no_refusal laws call.words text command program o output complaint worked.asked (works_on_text text read command program tells worked) makes due
   ends_by text complaint tells due (ends_cut replied is told) =
       let made = is.made in
@@ -310,7 +311,7 @@ module _ (laws : OneReading) (call : Call) where
       let has = (success_of ends success).0 in
       let made = has.done.made in
       let is = same_command made.command Tails (command_of call.words) made.worked.asked asked in
-      let of = tailed_of (inputs_in call.words) made.program made.command has.outcome has.done.output made.made is in
+      let of = tailed_of call.words made.program made.command has.outcome has.done.output made.made is in
       record {
         source = made.program;
         target = of.1;
@@ -324,11 +325,39 @@ module _ (laws : OneReading) (call : Call) where
       let has = (success_of ends success).0 in
       let made = has.done.made in
       let is = same_command made.command Join (command_of call.words) made.worked.asked asked in
-      let of = joined_of (inputs_in call.words) made.program made.command has.outcome has.done.output made.made is in
+      let of = joined_of call.words made.program made.command has.outcome has.done.output made.made is in
       record {
         source = made.program;
         target = of.1;
         read = has_read call.words call.source Join made.program made.program made.text refl asked made.worked.read (subst (λ (c : Command). WorksOn c made.text made.program) is made.worked.subject) refl;
+        rewrites = of.2;
+        written = subst (Gave call.out) of.3 has.done.written;
+      }
+
+  turns_of : EndingCase call → Asked call Thorough → is_success call.reply.status → HasRewritten call TurnsThrough
+  turns_of ends asked success =
+      let has = (success_of ends success).0 in
+      let made = has.done.made in
+      let is = same_command made.command Thorough (command_of call.words) made.worked.asked asked in
+      let of = turned_of call.words made.program made.command has.outcome has.done.output made.made is in
+      record {
+        source = made.program;
+        target = of.1;
+        read = has_read call.words call.source Thorough made.program made.program made.text refl asked made.worked.read (subst (λ (c : Command). WorksOn c made.text made.program) is made.worked.subject) refl;
+        rewrites = of.2;
+        written = subst (Gave call.out) of.3 has.done.written;
+      }
+
+  chains_of : EndingCase call → Asked call Passes → is_success call.reply.status → HasRewritten call (ChainsThrough (passes_in call.words))
+  chains_of ends asked success =
+      let has = (success_of ends success).0 in
+      let made = has.done.made in
+      let is = same_command made.command Passes (command_of call.words) made.worked.asked asked in
+      let of = chained_of call.words made.program made.command has.outcome has.done.output made.made is in
+      record {
+        source = made.program;
+        target = of.1;
+        read = has_read call.words call.source Passes made.program made.program made.text refl asked made.worked.read (subst (λ (c : Command). WorksOn c made.text made.program) is made.worked.subject) refl;
         rewrites = of.2;
         written = subst (Gave call.out) of.3 has.done.written;
       }
@@ -349,6 +378,8 @@ module _ (laws : OneReading) (call : Call) where
     divisions = divided_of whole;
     tails = λ asked at. tails_of whole asked (subst is_success (sym at) tt);
     joins = λ asked at. joins_of whole asked (subst is_success (sym at) tt);
+    turns = λ asked at. turns_of whole asked (subst is_success (sym at) tt);
+    chains = λ asked at. chains_of whole asked (subst is_success (sym at) tt);
     reports = λ steps asked among. reports whole steps asked (success_is _ among);
     of_run = of_run whole;
     tries = λ number units asked at. tries whole number units asked (subst is_success (sym at) tt);

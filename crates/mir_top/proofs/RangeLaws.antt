@@ -7,7 +7,6 @@ use Rattle.std.proofs.lemmas.List.{append-nil}
 use Rattle.std.proofs.lemmas.List.Elements.{All-cons, All-nil}
 use Rattle.mir_base.specs.declared.instructions.Expr.{Expr}
 use Rattle.mir_base.specs.Shapes.{UnitShape}
-use Rattle.flow_graph.specs.Graphs.{GraphShape}
 use Rattle.flow_graph.specs.ListLaws.{take_one}
 use Rattle.flow_graph.specs.Sums.{one_if}
 use Rattle.path_laws.specs.Paths.{has_bit}

@@ -14,11 +14,12 @@ use Rattle.mir_sim.specs.Calls.{CallsHigher}
 use Rattle.mir_trial.specs.Trial.{trial_program}
 use Rattle.mir_top.specs.declared.cause.Cause.TheVariants.{Making}
 use Rattle.mir_top.specs.declared.command.Command.{Command}
-use Rattle.mir_top.specs.declared.command.Command.TheVariants.{Optimise, Stages, Move, Ranges, Divisions, Tails, Join, Run, Trial}
+use Rattle.mir_top.specs.declared.command.Command.TheVariants.{Optimise, Stages, Move, Ranges, Divisions, Tails, Join, Thorough, Passes, Run, Trial}
 use Rattle.mir_top.specs.Calls.{IsSubject, Prevents}
-use Rattle.mir_top.specs.Commands.{alone_of, command_of, is_input, run_of, step_count, trial_of, trial_with}
+use Rattle.mir_top.specs.Commands.{alone_of, chain_of, command_of, is_input, run_of, step_count, trial_of, trial_with}
 use Rattle.mir_top.specs.Due.{Needs, WorksOn}
 use Rattle.mir_top.specs.Outputs.{no_memory}
+use Rattle.mir_top.specs.PassWords.{are_passes}
 use Rattle.mir_top.specs.Streams.{Stream}
 use Rattle.mir_top.proofs.Judgements.{trial_reads}
 
@@ -90,25 +91,36 @@ after_run : (arguments : List (List ℕ)) (n units : ℕ) → run_of arguments �
 after_run [] n units is = cc
 after_run (steps ∷ inputs) n units is = run_with (list_all is_input inputs) (step_count steps) n units is
 
+-- nor is a chain of passes
+chain_with : (are : Bool) (n units : ℕ) → (if are then Some Passes else None) ≡ Some (Trial n units) → ⊥
+chain_with true n units is = cc
+chain_with false n units is = cc
+
+-- by the words after `passes`
+after_passes : (arguments : List (List ℕ)) (n units : ℕ) → chain_of arguments ≡ Some (Trial n units) → ⊥
+after_passes arguments n units is = chain_with (are_passes arguments) n units is
+
 -- by which of the commands the first word is
-by_word : (optimise stages move ranges divisions tails join run trial : Bool) (arguments : List (List ℕ)) (n units : ℕ)
-    → (if optimise then alone_of Optimise arguments else if stages then alone_of Stages arguments else if move then alone_of Move arguments else if ranges then alone_of Ranges arguments else if divisions then alone_of Divisions arguments else if tails then alone_of Tails arguments else if join then alone_of Join arguments else if run then run_of arguments else if trial then trial_of arguments else None) ≡ Some (Trial n units) → IsUnitCount units
-by_word true stages move ranges divisions tails join run trial arguments n units is = absurd (alone_is_none Optimise arguments n units (λ e. absurd (cc)) is)
-by_word false true move ranges divisions tails join run trial arguments n units is = absurd (alone_is_none Stages arguments n units (λ e. absurd (cc)) is)
-by_word false false true ranges divisions tails join run trial arguments n units is = absurd (alone_is_none Move arguments n units (λ e. absurd (cc)) is)
-by_word false false false true divisions tails join run trial arguments n units is = absurd (alone_is_none Ranges arguments n units (λ e. absurd (cc)) is)
-by_word false false false false true tails join run trial arguments n units is = absurd (alone_is_none Divisions arguments n units (λ e. absurd (cc)) is)
-by_word false false false false false true join run trial arguments n units is = absurd (alone_is_none Tails arguments n units (λ e. absurd (cc)) is)
-by_word false false false false false false true run trial arguments n units is = absurd (alone_is_none Join arguments n units (λ e. absurd (cc)) is)
-by_word false false false false false false false true trial arguments n units is = absurd (after_run arguments n units is)
-by_word false false false false false false false false true arguments n units is = after_trial arguments n units is
-by_word false false false false false false false false false arguments n units is = absurd (cc)
+by_word : (optimise stages move ranges divisions tails join thorough passes run trial : Bool) (arguments : List (List ℕ)) (n units : ℕ)
+    → (if optimise then alone_of Optimise arguments else if stages then alone_of Stages arguments else if move then alone_of Move arguments else if ranges then alone_of Ranges arguments else if divisions then alone_of Divisions arguments else if tails then alone_of Tails arguments else if join then alone_of Join arguments else if thorough then alone_of Thorough arguments else if passes then chain_of arguments else if run then run_of arguments else if trial then trial_of arguments else None) ≡ Some (Trial n units) → IsUnitCount units
+by_word true stages move ranges divisions tails join thorough passes run trial arguments n units is = absurd (alone_is_none Optimise arguments n units (λ e. absurd (cc)) is)
+by_word false true move ranges divisions tails join thorough passes run trial arguments n units is = absurd (alone_is_none Stages arguments n units (λ e. absurd (cc)) is)
+by_word false false true ranges divisions tails join thorough passes run trial arguments n units is = absurd (alone_is_none Move arguments n units (λ e. absurd (cc)) is)
+by_word false false false true divisions tails join thorough passes run trial arguments n units is = absurd (alone_is_none Ranges arguments n units (λ e. absurd (cc)) is)
+by_word false false false false true tails join thorough passes run trial arguments n units is = absurd (alone_is_none Divisions arguments n units (λ e. absurd (cc)) is)
+by_word false false false false false true join thorough passes run trial arguments n units is = absurd (alone_is_none Tails arguments n units (λ e. absurd (cc)) is)
+by_word false false false false false false true thorough passes run trial arguments n units is = absurd (alone_is_none Join arguments n units (λ e. absurd (cc)) is)
+by_word false false false false false false false true passes run trial arguments n units is = absurd (alone_is_none Thorough arguments n units (λ e. absurd (cc)) is)
+by_word false false false false false false false false true run trial arguments n units is = absurd (after_passes arguments n units is)
+by_word false false false false false false false false false true trial arguments n units is = absurd (after_run arguments n units is)
+by_word false false false false false false false false false false true arguments n units is = after_trial arguments n units is
+by_word false false false false false false false false false false false arguments n units is = absurd (cc)
 
 -- the units of a trial that words ask for
 trial_units : (words : List (List ℕ)) (number units : ℕ) → command_of words ≡ Some (Trial number units) → IsUnitCount units
 trial_units [] number units is = absurd (cc)
 trial_units (word ∷ arguments) number units is =
-    by_word (is_text (codes "optimise") word) (is_text (codes "stages") word) (is_text (codes "move") word) (is_text (codes "ranges") word) (is_text (codes "divisions") word) (is_text (codes "tails") word) (is_text (codes "join") word) (is_text (codes "run") word) (is_text (codes "trial") word) arguments number units is
+    by_word (is_text (codes "optimise") word) (is_text (codes "stages") word) (is_text (codes "move") word) (is_text (codes "ranges") word) (is_text (codes "divisions") word) (is_text (codes "tails") word) (is_text (codes "join") word) (is_text (codes "thorough") word) (is_text (codes "passes") word) (is_text (codes "run") word) (is_text (codes "trial") word) arguments number units is
 
 -- the same where the command is known by an equation
 pub units_of_trial : (words : List (List ℕ)) (command : Command) (number units : ℕ) → command_of words ≡ Some command → command ≡ Trial number units → IsUnitCount units

@@ -1,6 +1,6 @@
 -- The trail of all passes, and those of code motion and of the motion of divisions alone, by one set of lemmas: a trail comes exactly with status 0
 -- under its commands, and with the output that each of them asks.
-use Rattle.std.proofs.Common.{◌≡◌, ◌⊎◌, inl, inr, ℕ, ℤ, List, Option, None, Some, IsSome, IfSome, IsTrue, refl, sym, ◌∙◌, ap, subst}
+use Rattle.std.proofs.Common.{◌≡◌, ◌⊎◌, inl, inr, ℕ, List, Option, None, Some, IsSome, IfSome, IsTrue, refl, sym, ◌∙◌, ap, subst}
 use Rattle.std.proofs.lemmas.Option.{IfSome_then}
 use Rattle.mir_base.specs.Shapes.{ProgramShape}
 use Rattle.mir_base.specs.Text.{canonical_text}
@@ -11,8 +11,8 @@ use Rattle.mir_top.specs.declared.command.Command.{Command}
 use Rattle.mir_top.specs.declared.command.Command.TheVariants.{Optimise, Stages, Move, Ranges, Divisions}
 use Rattle.mir_top.specs.declared.outcome.Outcome.{Outcome}
 use Rattle.mir_top.specs.Calls.{Call, reply_of, refusal_with, IsDone}
-use Rattle.mir_top.specs.Commands.{command_of, inputs_in, reads_text}
-use Rattle.mir_top.specs.Outputs.{Divides, Optimises, MovesCode, Makes, optimised, shown, moved, ranged, divided, tailed, joined, ran, compared}
+use Rattle.mir_top.specs.Commands.{command_of, reads_text}
+use Rattle.mir_top.specs.Outputs.{Divides, Optimises, MovesCode, Makes, optimised, shown, moved, ranged, divided, tailed, joined, turned, chained, ran, compared}
 use Rattle.mir_top.specs.Promises.{Asked, HasMade, HasRead, StatusIs}
 use Rattle.mir_top.specs.RangeTexts.{ShowsRanges}
 use Rattle.mir_top.specs.StageTexts.{ShowsStages}
@@ -30,9 +30,9 @@ IsTrailOf Own source Improved Output program command outcome output trail =
 pub record HasTrails {T : Type 0} (Own : Command → Type 0) (field : Reply → Option T) (source : T → ProgramShape) (Improved : T → Type 0) (Output : T → Command → List ℕ → Type 0) : Type 0 where
   reads : (command : Command) → Own command → IsTrue (reads_text command)
   empty : (status : ℕ) → field (refusal_with status) ≡ None
-  of : (inputs : List ℤ) (program : ProgramShape) (command : Command) (outcome : Outcome) (output : List ℕ) → Makes inputs program command outcome output
+  of : (words : List (List ℕ)) (program : ProgramShape) (command : Command) (outcome : Outcome) (output : List ℕ) → Makes words program command outcome output
       → IfSome (field (reply_of outcome)) (IsTrailOf Own source Improved Output program command outcome output)
-  comes : (inputs : List ℤ) (program : ProgramShape) (command : Command) (outcome : Outcome) (output : List ℕ) → Makes inputs program command outcome output
+  comes : (words : List (List ℕ)) (program : ProgramShape) (command : Command) (outcome : Outcome) (output : List ℕ) → Makes words program command outcome output
       → Own command → IsSome (field (reply_of outcome))
 
 -- ---- the trail of all passes
@@ -51,37 +51,43 @@ passes_read command (inl is) = subst (λ (c : Command). IsTrue (reads_text c)) (
 passes_read command (inr is) = subst (λ (c : Command). IsTrue (reads_text c)) (sym is) refl
 
 -- of the outcomes those of the two alone have a trail of all passes, and it is of its making
-passes_of : (inputs : List ℤ) (program : ProgramShape) (command : Command) (outcome : Outcome) (output : List ℕ) → Makes inputs program command outcome output
+passes_of : (words : List (List ℕ)) (program : ProgramShape) (command : Command) (outcome : Outcome) (output : List ℕ) → Makes words program command outcome output
     → IfSome (reply_of outcome).trail (IsTrailOf HasPasses (λ (t : Trail). t.source) Optimises IsPassesOutput program command outcome output)
-passes_of inputs program _ _ _ (optimised trail source optimises) = (refl, inl refl, source, optimises, (λ _. refl, λ is. absurd (cc)))
-passes_of inputs program _ _ _ (shown trail source optimises text shows) = (refl, inr refl, source, optimises, (λ is. absurd (cc), λ _. shows))
-passes_of inputs program _ _ _ (moved trail source moves) = tt
-passes_of inputs program _ _ _ (ranged trail source moves text shows) = tt
-passes_of inputs program _ _ _ (divided trail source divides) = tt
-passes_of inputs program _ _ _ (tailed target rewrites) = tt
-passes_of inputs program _ _ _ (joined target rewrites) = tt
-passes_of inputs program _ _ _ (ran n runs report reports) = tt
-passes_of inputs program _ _ _ (compared number units output is) = tt
+passes_of words program _ _ _ (optimised trail source optimises) = (refl, inl refl, source, optimises, (λ _. refl, λ is. absurd (cc)))
+passes_of words program _ _ _ (shown trail source optimises text shows) = (refl, inr refl, source, optimises, (λ is. absurd (cc), λ _. shows))
+passes_of words program _ _ _ (moved trail source moves) = tt
+passes_of words program _ _ _ (ranged trail source moves text shows) = tt
+passes_of words program _ _ _ (divided trail source divides) = tt
+passes_of words program _ _ _ (tailed target rewrites) = tt
+passes_of words program _ _ _ (joined target rewrites) = tt
+passes_of words program _ _ _ (turned target rewrites) = tt
+passes_of words program _ _ _ (chained target rewrites) = tt
+passes_of words program _ _ _ (ran n runs report reports) = tt
+passes_of words program _ _ _ (compared number units output is) = tt
 
 -- under the two the outcome is one of these, as the others are of other commands
-passes_come : (inputs : List ℤ) (program : ProgramShape) (command : Command) (outcome : Outcome) (output : List ℕ) → Makes inputs program command outcome output
+passes_come : (words : List (List ℕ)) (program : ProgramShape) (command : Command) (outcome : Outcome) (output : List ℕ) → Makes words program command outcome output
     → HasPasses command → IsSome (reply_of outcome).trail
-passes_come inputs program _ _ _ (optimised trail source optimises) is = refl
-passes_come inputs program _ _ _ (shown trail source optimises text shows) is = refl
-passes_come inputs program _ _ _ (moved trail source moves) (inl is) = absurd (cc)
-passes_come inputs program _ _ _ (moved trail source moves) (inr is) = absurd (cc)
-passes_come inputs program _ _ _ (ranged trail source moves text shows) (inl is) = absurd (cc)
-passes_come inputs program _ _ _ (ranged trail source moves text shows) (inr is) = absurd (cc)
-passes_come inputs program _ _ _ (divided trail source divides) (inl is) = absurd (cc)
-passes_come inputs program _ _ _ (divided trail source divides) (inr is) = absurd (cc)
-passes_come inputs program _ _ _ (tailed target rewrites) (inl is) = absurd (cc)
-passes_come inputs program _ _ _ (tailed target rewrites) (inr is) = absurd (cc)
-passes_come inputs program _ _ _ (joined target rewrites) (inl is) = absurd (cc)
-passes_come inputs program _ _ _ (joined target rewrites) (inr is) = absurd (cc)
-passes_come inputs program _ _ _ (ran n runs report reports) (inl is) = absurd (cc)
-passes_come inputs program _ _ _ (ran n runs report reports) (inr is) = absurd (cc)
-passes_come inputs program _ _ _ (compared number units output is_summary) (inl is) = absurd (cc)
-passes_come inputs program _ _ _ (compared number units output is_summary) (inr is) = absurd (cc)
+passes_come words program _ _ _ (optimised trail source optimises) is = refl
+passes_come words program _ _ _ (shown trail source optimises text shows) is = refl
+passes_come words program _ _ _ (moved trail source moves) (inl is) = absurd (cc)
+passes_come words program _ _ _ (moved trail source moves) (inr is) = absurd (cc)
+passes_come words program _ _ _ (ranged trail source moves text shows) (inl is) = absurd (cc)
+passes_come words program _ _ _ (ranged trail source moves text shows) (inr is) = absurd (cc)
+passes_come words program _ _ _ (divided trail source divides) (inl is) = absurd (cc)
+passes_come words program _ _ _ (divided trail source divides) (inr is) = absurd (cc)
+passes_come words program _ _ _ (tailed target rewrites) (inl is) = absurd (cc)
+passes_come words program _ _ _ (tailed target rewrites) (inr is) = absurd (cc)
+passes_come words program _ _ _ (joined target rewrites) (inl is) = absurd (cc)
+passes_come words program _ _ _ (joined target rewrites) (inr is) = absurd (cc)
+passes_come words program _ _ _ (turned target rewrites) (inl is) = absurd (cc)
+passes_come words program _ _ _ (turned target rewrites) (inr is) = absurd (cc)
+passes_come words program _ _ _ (chained target rewrites) (inl is) = absurd (cc)
+passes_come words program _ _ _ (chained target rewrites) (inr is) = absurd (cc)
+passes_come words program _ _ _ (ran n runs report reports) (inl is) = absurd (cc)
+passes_come words program _ _ _ (ran n runs report reports) (inr is) = absurd (cc)
+passes_come words program _ _ _ (compared number units output is_summary) (inl is) = absurd (cc)
+passes_come words program _ _ _ (compared number units output is_summary) (inr is) = absurd (cc)
 
 -- so the field `trail` has the trail of both
 pub passes : HasTrails HasPasses (λ (a : Reply). a.trail) (λ (t : Trail). t.source) Optimises IsPassesOutput
@@ -110,42 +116,50 @@ motion_reads command (inr (inl is)) = subst (λ (c : Command). IsTrue (reads_tex
 motion_reads command (inr (inr is)) = subst (λ (c : Command). IsTrue (reads_text c)) (sym is) refl
 
 -- of the outcomes those of the three alone have such a trail
-motion_of : (inputs : List ℤ) (program : ProgramShape) (command : Command) (outcome : Outcome) (output : List ℕ) → Makes inputs program command outcome output
+motion_of : (words : List (List ℕ)) (program : ProgramShape) (command : Command) (outcome : Outcome) (output : List ℕ) → Makes words program command outcome output
     → IfSome (reply_of outcome).moved (IsTrailOf HasMotion (λ (t : MoveTrail). t.source) IsAny IsMotionOutput program command outcome output)
-motion_of inputs program _ _ _ (optimised trail source optimises) = tt
-motion_of inputs program _ _ _ (shown trail source optimises text shows) = tt
-motion_of inputs program _ _ _ (moved trail source moves) = (refl, inl refl, source, tt, record { of_move = λ _. (moves, refl); of_ranges = λ is. absurd (cc); of_divisions = λ is. absurd (cc) })
-motion_of inputs program _ _ _ (ranged trail source moves text shows) = (refl, inr (inl refl), source, tt, record { of_move = λ is. absurd (cc); of_ranges = λ _. (moves, shows); of_divisions = λ is. absurd (cc) })
-motion_of inputs program _ _ _ (divided trail source divides) = (refl, inr (inr refl), source, tt, record { of_move = λ is. absurd (cc); of_ranges = λ is. absurd (cc); of_divisions = λ _. (divides, refl) })
-motion_of inputs program _ _ _ (tailed target rewrites) = tt
-motion_of inputs program _ _ _ (joined target rewrites) = tt
-motion_of inputs program _ _ _ (ran n runs report reports) = tt
-motion_of inputs program _ _ _ (compared number units output is) = tt
+motion_of words program _ _ _ (optimised trail source optimises) = tt
+motion_of words program _ _ _ (shown trail source optimises text shows) = tt
+motion_of words program _ _ _ (moved trail source moves) = (refl, inl refl, source, tt, record { of_move = λ _. (moves, refl); of_ranges = λ is. absurd (cc); of_divisions = λ is. absurd (cc) })
+motion_of words program _ _ _ (ranged trail source moves text shows) = (refl, inr (inl refl), source, tt, record { of_move = λ is. absurd (cc); of_ranges = λ _. (moves, shows); of_divisions = λ is. absurd (cc) })
+motion_of words program _ _ _ (divided trail source divides) = (refl, inr (inr refl), source, tt, record { of_move = λ is. absurd (cc); of_ranges = λ is. absurd (cc); of_divisions = λ _. (divides, refl) })
+motion_of words program _ _ _ (tailed target rewrites) = tt
+motion_of words program _ _ _ (joined target rewrites) = tt
+motion_of words program _ _ _ (turned target rewrites) = tt
+motion_of words program _ _ _ (chained target rewrites) = tt
+motion_of words program _ _ _ (ran n runs report reports) = tt
+motion_of words program _ _ _ (compared number units output is) = tt
 
 -- under the three the outcome is one of these, as the others are of other commands
-motion_comes : (inputs : List ℤ) (program : ProgramShape) (command : Command) (outcome : Outcome) (output : List ℕ) → Makes inputs program command outcome output
+motion_comes : (words : List (List ℕ)) (program : ProgramShape) (command : Command) (outcome : Outcome) (output : List ℕ) → Makes words program command outcome output
     → HasMotion command → IsSome (reply_of outcome).moved
-motion_comes inputs program _ _ _ (optimised trail source optimises) (inl is) = absurd (cc)
-motion_comes inputs program _ _ _ (optimised trail source optimises) (inr (inl is)) = absurd (cc)
-motion_comes inputs program _ _ _ (optimised trail source optimises) (inr (inr is)) = absurd (cc)
-motion_comes inputs program _ _ _ (shown trail source optimises text shows) (inl is) = absurd (cc)
-motion_comes inputs program _ _ _ (shown trail source optimises text shows) (inr (inl is)) = absurd (cc)
-motion_comes inputs program _ _ _ (shown trail source optimises text shows) (inr (inr is)) = absurd (cc)
-motion_comes inputs program _ _ _ (moved trail source moves) is = refl
-motion_comes inputs program _ _ _ (ranged trail source moves text shows) is = refl
-motion_comes inputs program _ _ _ (divided trail source divides) is = refl
-motion_comes inputs program _ _ _ (tailed target rewrites) (inl is) = absurd (cc)
-motion_comes inputs program _ _ _ (tailed target rewrites) (inr (inl is)) = absurd (cc)
-motion_comes inputs program _ _ _ (tailed target rewrites) (inr (inr is)) = absurd (cc)
-motion_comes inputs program _ _ _ (joined target rewrites) (inl is) = absurd (cc)
-motion_comes inputs program _ _ _ (joined target rewrites) (inr (inl is)) = absurd (cc)
-motion_comes inputs program _ _ _ (joined target rewrites) (inr (inr is)) = absurd (cc)
-motion_comes inputs program _ _ _ (ran n runs report reports) (inl is) = absurd (cc)
-motion_comes inputs program _ _ _ (ran n runs report reports) (inr (inl is)) = absurd (cc)
-motion_comes inputs program _ _ _ (ran n runs report reports) (inr (inr is)) = absurd (cc)
-motion_comes inputs program _ _ _ (compared number units output is_summary) (inl is) = absurd (cc)
-motion_comes inputs program _ _ _ (compared number units output is_summary) (inr (inl is)) = absurd (cc)
-motion_comes inputs program _ _ _ (compared number units output is_summary) (inr (inr is)) = absurd (cc)
+motion_comes words program _ _ _ (optimised trail source optimises) (inl is) = absurd (cc)
+motion_comes words program _ _ _ (optimised trail source optimises) (inr (inl is)) = absurd (cc)
+motion_comes words program _ _ _ (optimised trail source optimises) (inr (inr is)) = absurd (cc)
+motion_comes words program _ _ _ (shown trail source optimises text shows) (inl is) = absurd (cc)
+motion_comes words program _ _ _ (shown trail source optimises text shows) (inr (inl is)) = absurd (cc)
+motion_comes words program _ _ _ (shown trail source optimises text shows) (inr (inr is)) = absurd (cc)
+motion_comes words program _ _ _ (moved trail source moves) is = refl
+motion_comes words program _ _ _ (ranged trail source moves text shows) is = refl
+motion_comes words program _ _ _ (divided trail source divides) is = refl
+motion_comes words program _ _ _ (tailed target rewrites) (inl is) = absurd (cc)
+motion_comes words program _ _ _ (tailed target rewrites) (inr (inl is)) = absurd (cc)
+motion_comes words program _ _ _ (tailed target rewrites) (inr (inr is)) = absurd (cc)
+motion_comes words program _ _ _ (joined target rewrites) (inl is) = absurd (cc)
+motion_comes words program _ _ _ (joined target rewrites) (inr (inl is)) = absurd (cc)
+motion_comes words program _ _ _ (joined target rewrites) (inr (inr is)) = absurd (cc)
+motion_comes words program _ _ _ (turned target rewrites) (inl is) = absurd (cc)
+motion_comes words program _ _ _ (turned target rewrites) (inr (inl is)) = absurd (cc)
+motion_comes words program _ _ _ (turned target rewrites) (inr (inr is)) = absurd (cc)
+motion_comes words program _ _ _ (chained target rewrites) (inl is) = absurd (cc)
+motion_comes words program _ _ _ (chained target rewrites) (inr (inl is)) = absurd (cc)
+motion_comes words program _ _ _ (chained target rewrites) (inr (inr is)) = absurd (cc)
+motion_comes words program _ _ _ (ran n runs report reports) (inl is) = absurd (cc)
+motion_comes words program _ _ _ (ran n runs report reports) (inr (inl is)) = absurd (cc)
+motion_comes words program _ _ _ (ran n runs report reports) (inr (inr is)) = absurd (cc)
+motion_comes words program _ _ _ (compared number units output is_summary) (inl is) = absurd (cc)
+motion_comes words program _ _ _ (compared number units output is_summary) (inr (inl is)) = absurd (cc)
+motion_comes words program _ _ _ (compared number units output is_summary) (inr (inr is)) = absurd (cc)
 
 -- so the field `moved` has the trail of all three
 pub motion : HasTrails HasMotion (λ (a : Reply). a.moved) (λ (t : MoveTrail). t.source) IsAny IsMotionOutput
@@ -176,7 +190,7 @@ module _ {T : Type 0} {Own : Command → Type 0} {field : Reply → Option T} {s
   of_done outcome is =
       let made = is.made in
       let worked = made.worked in
-      IfSome_then (field (reply_of outcome)) (has.of (inputs_in call.words) made.program made.command outcome is.output made.made) (λ trail of. (
+      IfSome_then (field (reply_of outcome)) (has.of call.words made.program made.command outcome is.output made.made) (λ trail of. (
         of.0,
         record { command = made.command; asked = worked.asked; own = of.1; output = is.output; is_output = of.4; written = is.written },
         has_read call.words call.source made.command made.program (source trail) made.text (has.reads made.command of.1) worked.asked worked.read worked.subject of.2,
@@ -220,4 +234,4 @@ module _ {T : Type 0} {Own : Command → Type 0} {field : Reply → Option T} {s
   trail_comes made command asked own =
       let output = made.done.made in
       subst (λ (a : Reply). IsSome (field a)) (sym made.reply)
-      (has.comes (inputs_in call.words) output.program output.command made.outcome made.done.output output.made (subst Own (same_command command output.command (command_of call.words) asked output.worked.asked) own))
+      (has.comes call.words output.program output.command made.outcome made.done.output output.made (subst Own (same_command command output.command (command_of call.words) asked output.worked.asked) own))

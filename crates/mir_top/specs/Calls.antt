@@ -16,8 +16,8 @@ use Rattle.mir_top.specs.declared.command.Command.{Command}
 use Rattle.mir_top.specs.declared.ending.Ending.{Ending}
 use Rattle.mir_top.specs.declared.ending.Ending.TheVariants.{Done, CutShort, Prevented}
 use Rattle.mir_top.specs.declared.outcome.Outcome.{Outcome}
-use Rattle.mir_top.specs.declared.outcome.Outcome.TheVariants.{Optimised, Shown, Moved, Ranged, Divided, Tailed, Joined, Ran, Compared}
-use Rattle.mir_top.specs.Commands.{command_of, inputs_in, Reads}
+use Rattle.mir_top.specs.declared.outcome.Outcome.TheVariants.{Optimised, Shown, Moved, Ranged, Divided, Tailed, Joined, Turned, Chained, Ran, Compared}
+use Rattle.mir_top.specs.Commands.{command_of, Reads}
 use Rattle.mir_top.specs.Complaints.{Complaint, complaint_of, write_fault}
 use Rattle.mir_top.specs.Due.{WorksOn, status_of_finish}
 use Rattle.mir_top.specs.Outputs.{Makes, CannotMake}
@@ -43,6 +43,8 @@ reply_of (Ranged trail) = record { status = 0; trail = None; moved = Some trail 
 reply_of (Divided trail) = record { status = 0; trail = None; moved = Some trail }
 reply_of Tailed = record { status = 0; trail = None; moved = None }
 reply_of Joined = record { status = 0; trail = None; moved = None }
+reply_of Turned = record { status = 0; trail = None; moved = None }
+reply_of Chained = record { status = 0; trail = None; moved = None }
 reply_of (Ran finish) = record { status = status_of_finish finish; trail = None; moved = None }
 reply_of Compared = record { status = 0; trail = None; moved = None }
 
@@ -67,7 +69,7 @@ pub record MakesOutput
   pub command : Command
   pub program : ProgramShape
   pub worked : WorkedOn words source text command program
-  pub made : Makes (inputs_in words) program command outcome output
+  pub made : Makes words program command outcome output
 
 -- the output was made and written, whole and nothing else
 pub record IsDone (words : List (List ℕ)) (source out : Stream) (outcome : Outcome) : Type 0 where
@@ -110,7 +112,7 @@ pub record MakesNone (words : List (List ℕ)) (source : Stream) (fault : RunFau
   pub command : Command
   pub program : ProgramShape
   pub worked : WorkedOn words source text command program
-  pub stopped : CannotMake (inputs_in words) program command fault
+  pub stopped : CannotMake words program command fault
 
 -- why no output is made, and what was read then
 abbrev pub Prevents : List (List ℕ) → Stream → Cause → Type 0

@@ -7,7 +7,8 @@ use Rattle.mir_base.specs.Limits.{most_steps, most_units}
 use Rattle.mir_base.specs.Words.{is_text}
 use Rattle.mir_lex.specs.Numbers.{signed_number, unsigned_number}
 use Rattle.mir_top.specs.declared.command.Command.{Command}
-use Rattle.mir_top.specs.declared.command.Command.TheVariants.{Optimise, Stages, Move, Ranges, Divisions, Tails, Join, Run, Trial}
+use Rattle.mir_top.specs.declared.command.Command.TheVariants.{Optimise, Stages, Move, Ranges, Divisions, Tails, Join, Thorough, Passes, Run, Trial}
+use Rattle.mir_top.specs.PassWords.{are_passes}
 
 -- the bytes of each word of the command line
 abbrev pub word_bytes : List (String Global) → List (List ℕ)
@@ -26,6 +27,10 @@ step_count word = at_most most_steps (unsigned_number word)
 abbrev pub alone_of : Command → List (List ℕ) → Option Command
 alone_of command [] = Some command
 alone_of command (argument ∷ arguments) = None
+
+-- `passes [PASS ..]`, by the words after `passes`
+abbrev pub chain_of : List (List ℕ) → Option Command
+chain_of words = if are_passes words then Some Passes else None
 
 -- a word is an input of a run: an optional `-` and digits, of a signed 64-bit number
 abbrev pub is_input : List ℕ → Bool
@@ -62,6 +67,8 @@ command_of (word ∷ arguments) =
     if is_text (codes "divisions") word then alone_of Divisions arguments else
     if is_text (codes "tails") word then alone_of Tails arguments else
     if is_text (codes "join") word then alone_of Join arguments else
+    if is_text (codes "thorough") word then alone_of Thorough arguments else
+    if is_text (codes "passes") word then chain_of arguments else
     if is_text (codes "run") word then run_of arguments else
     if is_text (codes "trial") word then trial_of arguments else None
 
@@ -78,6 +85,8 @@ reads_text Ranges = true
 reads_text Divisions = true
 reads_text Tails = true
 reads_text Join = true
+reads_text Thorough = true
+reads_text Passes = true
 reads_text (Run steps) = true
 reads_text (Trial number units) = false
 

@@ -41,8 +41,8 @@ pub record ArePartsOf (complaint : Complaint) (parts : ComplaintParts) : Type 0 
 abbrev pub usage : Complaint
 usage = record {
   status = 1;
-  line = codes "usage: mir optimise | stages | move | ranges | divisions | tails | join"
-      ++ codes " | run STEPS [N ..] | trial NUMBER UNITS\n";
+  line = codes "usage: mir optimise | stages | move | ranges | divisions | tails | join | thorough"
+      ++ codes " | passes [PASS ..] | run STEPS [N ..] | trial NUMBER UNITS\n";
 }
 
 -- a run has more or fewer inputs than the program receives

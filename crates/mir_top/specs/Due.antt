@@ -13,7 +13,7 @@ use Rattle.mir_trial.specs.Trial.{trial_program}
 use Rattle.mir_valid.specs.declared.faults.ValidFault.{ValidFault}
 use Rattle.mir_valid.specs.Texts.{IsTextOf}
 use Rattle.mir_top.specs.declared.command.Command.{Command}
-use Rattle.mir_top.specs.declared.command.Command.TheVariants.{Optimise, Stages, Move, Ranges, Divisions, Tails, Join, Run, Trial}
+use Rattle.mir_top.specs.declared.command.Command.TheVariants.{Optimise, Stages, Move, Ranges, Divisions, Tails, Join, Thorough, Passes, Run, Trial}
 use Rattle.mir_top.specs.Commands.{command_of, inputs_in, Reads}
 use Rattle.mir_top.specs.Complaints.{Complaint, usage, wrong_inputs, too_long, deep, of_text, of_program}
 use Rattle.mir_top.specs.Outputs.{Runs, reported}
@@ -33,6 +33,8 @@ WorksOn Ranges text program = IsShortTextOf text program
 WorksOn Divisions text program = IsShortTextOf text program
 WorksOn Tails text program = IsShortTextOf text program
 WorksOn Join text program = IsShortTextOf text program
+WorksOn Thorough text program = IsShortTextOf text program
+WorksOn Passes text program = IsShortTextOf text program
 WorksOn (Run steps) text program = IsShortTextOf text program
 WorksOn (Trial number units) text program = program ≡ trial_program number units
 
@@ -52,6 +54,8 @@ Needs Ranges program = Unit {0}
 Needs Divisions program = Unit {0}
 Needs Tails program = Unit {0}
 Needs Join program = Unit {0}
+Needs Thorough program = Unit {0}
+Needs Passes program = Unit {0}
 Needs (Run steps) program = Unit {0}
 Needs (Trial number units) program = CanBeTried program
 
@@ -98,6 +102,10 @@ pub data Completes (words : List (List ℕ)) (text : List ℕ) : ℕ → Type 0 
       → WorksOn Tails text program → Completes words text 0
   of_join : (program : ProgramShape) → command_of words ≡ Some Join
       → WorksOn Join text program → Completes words text 0
+  of_thorough : (program : ProgramShape) → command_of words ≡ Some Thorough
+      → WorksOn Thorough text program → Completes words text 0
+  of_passes : (program : ProgramShape) → command_of words ≡ Some Passes
+      → WorksOn Passes text program → Completes words text 0
   of_run : (steps : ℕ) (program : ProgramShape) → command_of words ≡ Some (Run steps)
       → WorksOn (Run steps) text program → Runs program (inputs_in words) steps
       → Completes words text (status_of_finish (reported program (inputs_in words) steps).finish)

@@ -1,4 +1,5 @@
 pub mod Streams
+pub mod PassWords
 pub mod Commands
 pub mod Texts
 pub mod Complaints

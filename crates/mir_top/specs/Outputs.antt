@@ -1,11 +1,11 @@
 -- What each command makes of the program that it works on. Cited by contracts.
-use Rattle.std.specs.Prelude.{ℕ, ℤ, pos, ◌≡◌, ◌≢◌, ◌<◌, ◌≤◌, List, [], ◌∷◌, All, length, sum_by, ◌++◌, codes, decimal, flat_map}
+use Rattle.std.specs.Prelude.{ℕ, zero, suc, ℤ, pos, ◌≡◌, ◌≢◌, ◌<◌, ◌≤◌, List, [], ◌∷◌, All, length, sum_by, ◌++◌, codes, decimal, flat_map}
 use Rattle.std.specs.declared.alloc.AllocError.{AllocError}
 use Rattle.std.specs.Fmt.{signed_decimal}
 use Rattle.mir_base.specs.declared.operators.Trap.TheVariants.{ZeroDivisor, Raised}
 use Rattle.mir_base.specs.Limits.{most_frames, most_steps}
 use Rattle.mir_base.specs.Shapes.{ProgramShape}
-use Rattle.mir_base.specs.Runs.{State, Same, Cheaper, run, inputs_of}
+use Rattle.mir_base.specs.Runs.{State, run, inputs_of}
 use Rattle.mir_base.specs.Text.{canonical_text}
 use Rattle.mir_interp.specs.declared.report.Finish.{Finish}
 use Rattle.mir_interp.specs.declared.report.Finish.TheVariants.{Running, Ended, Trapped}
@@ -18,44 +18,60 @@ use Rattle.mir_opt.specs.declared.trails.MoveTrail.{MoveTrail}
 use Rattle.div_move.specs.MustCome.{MustComeTo}
 use Rattle.motion_rewrite.specs.Placements.{IsAnticipatable}
 use Rattle.mir_opt.specs.Links.{IsDivisionLinked, IsLinked, IsMoveLinked, IsOnlyDivisionTrail, IsOnlyMoveTrail, IsOnlyTrail}
-use Rattle.mir_opt.specs.Best.{DivisionsAreBest, MotionIsBest, MovesBest}
-use Rattle.mir_sim.specs.Pairs.{AllUnitsSame}
-use Rattle.program_pass.specs.PassPrograms.{IsOnly, IsPassedProgram, KeepsRuns}
+use Rattle.mir_opt.specs.Best.{DivisionsAreBest, MotionIsBest, MovesBest, RoundsAreBest, SinksNoMore}
+use Rattle.mir_opt.specs.Divisions.{DivisionsReachTarget, DivisionsStay, MotionKeepsDivisions}
+use Rattle.mir_opt.specs.Stages.{KeepsProgram}
+use Rattle.pass_chain.specs.declared.passes.Pass.{Pass}
+use Rattle.pass_chain.specs.Passes.{IsChained}
+use Rattle.program_pass.specs.PassPrograms.{IsPassedProgram, Rewrites}
+use Rattle.program_turns.specs.Turns.{IsThorough, turn}
 use Rattle.tail_loop.specs.Tails.{Tailed as IsTailed}
 use Rattle.unit_join.specs.JoinPrograms.{IsJoinedProgram}
+use Rattle.mir_top.specs.Commands.{inputs_in}
+use Rattle.mir_top.specs.PassWords.{passes_in}
 use Rattle.mir_top.specs.RangeTexts.{UnitHoldsLeast, ShowsRanges}
 use Rattle.mir_top.specs.StageTexts.{ShowsStages}
 use Rattle.mir_top.specs.declared.command.Command.{Command}
-use Rattle.mir_top.specs.declared.command.Command.TheVariants.{Optimise, Stages, Move, Ranges, Divisions, Tails, Join, Run, Trial}
+use Rattle.mir_top.specs.declared.command.Command.TheVariants.{Optimise, Stages, Move, Ranges, Divisions, Tails, Join, Thorough, Passes, Run, Trial}
 use Rattle.mir_top.specs.declared.making.Made.{Made}
 use Rattle.mir_top.specs.declared.outcome.Outcome.{Outcome}
-use Rattle.mir_top.specs.declared.outcome.Outcome.TheVariants.{Optimised, Shown, Moved, Ranged, Divided, Tailed, Joined, Ran, Compared}
+use Rattle.mir_top.specs.declared.outcome.Outcome.TheVariants.{Optimised, Shown, Moved, Ranged, Divided, Tailed, Joined, Turned, Chained, Ran, Compared}
 
 -- ---- trails
 
 -- from a program to its target: each part between them is the exact result of its pass, and no
--- other parts are; the target does what the program does, whole and unit by unit; over whole runs
--- that end it evaluates no more operators; and the code motion of each unit is the best
+-- other parts are; the target does what the program does, whole and unit by unit, evaluates no more
+-- operators over whole runs that end, never has more frames, and calls no other units; and what the
+-- passes reach is the best
 pub record Improves
     (Linked Only Best : Type 0) (source target : ProgramShape) : Type 0 where
   pub linked : Linked
   pub only : Only
-  pub same : Same source target
-  pub units : AllUnitsSame source target
-  pub cheaper : Cheaper source target
+  pub keeps : KeepsProgram source target
   pub best : Best
+
+-- what all passes reach: in each unit the code motion is the best; sinking leaves no more of any plain or movable
+-- assignment on any full path, each round no more than any single step; and each division stays
+pub record ReachesBest (trail : Trail) : Type 0 where
+  pub moves : All MovesBest trail.units
+  pub sinks : All SinksNoMore trail.units
+  pub rounds : All RoundsAreBest trail.units
+  pub divisions : DivisionsReachTarget trail
+  pub stay : All DivisionsStay trail.units
 
 -- the trail of all passes has an improved target
 abbrev pub Optimises : Trail → Type 0
 Optimises trail =
-    Improves (IsLinked trail) (IsOnlyTrail trail.source trail) (All MovesBest trail.units)
+    Improves (IsLinked trail) (IsOnlyTrail trail.source trail) (ReachesBest trail)
     trail.source trail.target
 
--- and so has the trail of code motion alone, whose placements also hold their temporaries least
+-- and so has the trail of code motion alone, whose placements also hold their temporaries least, and which keeps each
+-- division with its operands
 pub record MovesCode (trail : MoveTrail) : Type 0 where
   pub improves : Improves (IsMoveLinked trail) (IsOnlyMoveTrail trail.source trail)
       (All MotionIsBest trail.units) trail.source trail.target
   pub least : All (UnitHoldsLeast IsAnticipatable) trail.units
+  pub divisions : MotionKeepsDivisions trail
 
 -- and so has that of the motion of divisions alone, which hold them least too
 pub record Divides (trail : MoveTrail) : Type 0 where
@@ -65,13 +81,6 @@ pub record Divides (trail : MoveTrail) : Type 0 where
 
 -- ---- programs whose calls are rewritten
 
--- the target is this exact program, and no other is; it is the same, evaluates no more operators and never has more
--- frames
-pub record Rewrites (Exact : ProgramShape → ProgramShape → Type 0) (source target : ProgramShape) : Type 0 where
-  pub exact : Exact source target
-  pub only : IsOnly (Exact source) target
-  pub keeps : KeepsRuns source target
-
 -- with self tail calls as loops
 abbrev pub LoopsTails : ProgramShape → ProgramShape → Type 0
 LoopsTails = Rewrites (IsPassedProgram IsTailed)
@@ -79,6 +88,29 @@ LoopsTails = Rewrites (IsPassedProgram IsTailed)
 -- with its leaves joined into their callers
 abbrev pub JoinsUnits : ProgramShape → ProgramShape → Type 0
 JoinsUnits = Rewrites IsJoinedProgram
+
+-- so many turns lead from the source to the target
+abbrev pub AreTurns : ℕ → ProgramShape → ProgramShape → Type 0
+AreTurns zero source target = target ≡ source
+AreTurns (suc count) source target =
+    (next : ProgramShape) × IsChained turn source next × AreTurns count next target
+
+-- the target is what at most so many turns lead to; where fewer do, one turn more changes nothing
+pub record ComesToRest (most : ℕ) (source target : ProgramShape) : Type 0 where
+  pub count : ℕ
+  pub turns : AreTurns count source target
+  pub few : count ≤ most
+  pub rests : count < most → IsChained turn target target
+
+-- through turns of passes, until a turn changes nothing or sixteen were made
+pub record TurnsThrough (source target : ProgramShape) : Type 0 where
+  pub rewrites : Rewrites IsThorough source target
+  pub at_rest : ComesToRest 16 source target
+
+-- through these passes one after another, from the first to the last: each makes its exact result of what the one before
+-- made
+abbrev pub ChainsThrough : List Pass → ProgramShape → ProgramShape → Type 0
+ChainsThrough passes = Rewrites (IsChained passes)
 
 -- ---- reports
 
@@ -150,48 +182,53 @@ pub record IsSummary (program : ProgramShape) (output : List ℕ) : Type 0 where
 
 -- ---- by command
 
--- the command, with these inputs, makes this of the program, with this output
-pub data Makes (inputs : List ℤ) (program : ProgramShape)
+-- the command of these words makes this of the program, with this output: the words give the inputs of a run and the
+-- passes of a chain
+pub data Makes (words : List (List ℕ)) (program : ProgramShape)
     : Command → Outcome → List ℕ → Type 0 where
   optimised : (trail : Trail) → trail.source ≡ program → Optimises trail
-      → Makes inputs program Optimise (Optimised trail) (canonical_text trail.target)
+      → Makes words program Optimise (Optimised trail) (canonical_text trail.target)
   shown : (trail : Trail) → trail.source ≡ program → Optimises trail
       → (text : List ℕ) → ShowsStages trail text
-      → Makes inputs program Stages (Shown trail) text
+      → Makes words program Stages (Shown trail) text
   moved : (trail : MoveTrail) → trail.source ≡ program → MovesCode trail
-      → Makes inputs program Move (Moved trail) (canonical_text trail.target)
+      → Makes words program Move (Moved trail) (canonical_text trail.target)
   ranged : (trail : MoveTrail) → trail.source ≡ program → MovesCode trail
       → (text : List ℕ) → ShowsRanges trail.units text
-      → Makes inputs program Ranges (Ranged trail) text
+      → Makes words program Ranges (Ranged trail) text
   divided : (trail : MoveTrail) → trail.source ≡ program → Divides trail
-      → Makes inputs program Divisions (Divided trail) (canonical_text trail.target)
+      → Makes words program Divisions (Divided trail) (canonical_text trail.target)
   tailed : (target : ProgramShape) → LoopsTails program target
-      → Makes inputs program Tails Tailed (canonical_text target)
+      → Makes words program Tails Tailed (canonical_text target)
   joined : (target : ProgramShape) → JoinsUnits program target
-      → Makes inputs program Join Joined (canonical_text target)
-  ran : (steps : ℕ) → Runs program inputs steps
-      → (report : Report) → report ≡ reported program inputs steps
-      → Makes inputs program (Run steps) (Ran report.finish) (report_text report)
+      → Makes words program Join Joined (canonical_text target)
+  turned : (target : ProgramShape) → TurnsThrough program target
+      → Makes words program Thorough Turned (canonical_text target)
+  chained : (target : ProgramShape) → ChainsThrough (passes_in words) program target
+      → Makes words program Passes Chained (canonical_text target)
+  ran : (steps : ℕ) → Runs program (inputs_in words) steps
+      → (report : Report) → report ≡ reported program (inputs_in words) steps
+      → Makes words program (Run steps) (Ran report.finish) (report_text report)
   compared : (number units : ℕ) (output : List ℕ) → IsSummary program output
-      → Makes inputs program (Trial number units) Compared output
+      → Makes words program (Trial number units) Compared output
 
 -- the same of the outcome and the output together
-abbrev pub IsMadeBy : List ℤ → ProgramShape → Command → Made → Type 0
-IsMadeBy inputs program command made =
-    Makes inputs program command made.outcome made.output.items
+abbrev pub IsMadeBy : List (List ℕ) → ProgramShape → Command → Made → Type 0
+IsMadeBy words program command made =
+    Makes words program command made.outcome made.output.items
 
--- the command, with these inputs, cannot make anything of the program, for this cause
-pub data CannotMake (inputs : List ℤ) (program : ProgramShape) : Command → RunFault → Type 0 where
-  too_few_or_many : (steps : ℕ) → length inputs ≢ inputs_of program
-      → CannotMake inputs program (Run steps) (WrongInputs (inputs_of program))
-  too_many_frames : (steps : ℕ) → length inputs ≡ inputs_of program
-      → most_frames < (run program inputs steps).depth
-      → CannotMake inputs program (Run steps) Deep
+-- the command of these words cannot make anything of the program, for this cause
+pub data CannotMake (words : List (List ℕ)) (program : ProgramShape) : Command → RunFault → Type 0 where
+  too_few_or_many : (steps : ℕ) → length (inputs_in words) ≢ inputs_of program
+      → CannotMake words program (Run steps) (WrongInputs (inputs_of program))
+  too_many_frames : (steps : ℕ) → length (inputs_in words) ≡ inputs_of program
+      → most_frames < (run program (inputs_in words) steps).depth
+      → CannotMake words program (Run steps) Deep
   no_memory : (command : Command) (refusal : AllocError)
-      → CannotMake inputs program command (Memory refusal)
+      → CannotMake words program command (Memory refusal)
 
--- the command, with these inputs, has no other output for the program
-abbrev pub IsOnlyOutput : List ℤ → ProgramShape → Command → List ℕ → Type 0
-IsOnlyOutput inputs program command output =
+-- the command of these words has no other output for the program
+abbrev pub IsOnlyOutput : List (List ℕ) → ProgramShape → Command → List ℕ → Type 0
+IsOnlyOutput words program command output =
     (outcome : Outcome) (other : List ℕ)
-    → Makes inputs program command outcome other → output ≡ other
+    → Makes words program command outcome other → output ≡ other

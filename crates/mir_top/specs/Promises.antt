@@ -9,13 +9,14 @@ use Rattle.mir_opt.specs.declared.trails.MoveTrail.{MoveTrail}
 use Rattle.mir_outside.specs.Transfer.{TakesAtMost}
 use Rattle.mir_trial.specs.Trial.{trial_program}
 use Rattle.mir_top.specs.declared.command.Command.{Command}
-use Rattle.mir_top.specs.declared.command.Command.TheVariants.{Optimise, Stages, Move, Ranges, Divisions, Tails, Join, Run, Trial}
+use Rattle.mir_top.specs.declared.command.Command.TheVariants.{Optimise, Stages, Move, Ranges, Divisions, Tails, Join, Thorough, Passes, Run, Trial}
 use Rattle.mir_top.specs.declared.outcome.Outcome.{Outcome}
 use Rattle.mir_top.specs.Calls.{Call, reply_of, MakesOutput, IsDone, IsCutShort}
 use Rattle.mir_top.specs.Commands.{command_of, inputs_in, Asks, Reads}
 use Rattle.mir_top.specs.Complaints.{Complaint, read_fault, write_fault, out_of_memory}
 use Rattle.mir_top.specs.Due.{IsShortTextOf, Refuses, Completes, status_of_finish}
-use Rattle.mir_top.specs.Outputs.{Divides, JoinsUnits, LoopsTails, Optimises, MovesCode, Runs, reported, report_text, trail_summary, IsOnlyOutput}
+use Rattle.mir_top.specs.Outputs.{ChainsThrough, Divides, JoinsUnits, LoopsTails, Optimises, MovesCode, Runs, TurnsThrough, reported, report_text, trail_summary, IsOnlyOutput}
+use Rattle.mir_top.specs.PassWords.{passes_in}
 use Rattle.mir_top.specs.RangeTexts.{ShowsRanges}
 use Rattle.mir_top.specs.StageTexts.{ShowsStages}
 use Rattle.mir_top.specs.Streams.{Stream, Untouched, HasFailed, Took, TookAll, Gave, Tried}
@@ -43,7 +44,7 @@ HasText call text = Reads call.words → call.source.old ≡ Some text
 abbrev pub IsOnlyMade : (call : Call) (outcome : Outcome) (output : List ℕ)
     → MakesOutput call.words call.source outcome output → Type 0
 IsOnlyMade call outcome output made =
-    IsOnlyOutput (inputs_in call.words) made.program made.command output
+    IsOnlyOutput call.words made.program made.command output
 
 -- the one output that the words ask was made and written, and the reply is that of this outcome
 pub record HasMade (call : Call) : Type 0 where
@@ -168,9 +169,13 @@ pub record Promises (call : Call) : Type 0 where
   pub moves : Asked call Move → IfSome call.reply.moved (HasMoved call)
   pub ranges : Asked call Ranges → IfSome call.reply.moved (HasRanged call)
   pub divisions : Asked call Divisions → IfSome call.reply.moved (HasDivided call)
-  -- Under `tails` and `join` status 0 says that the program was rewritten, and its text was written.
+  -- Under `tails`, `join`, `thorough` and `passes` status 0 says that the program was rewritten, and its text was
+  -- written.
   pub tails : Asked call Tails → StatusIs call 0 → HasRewritten call LoopsTails
   pub joins : Asked call Join → StatusIs call 0 → HasRewritten call JoinsUnits
+  pub turns : Asked call Thorough → StatusIs call 0 → HasRewritten call TurnsThrough
+  pub chains : Asked call Passes → StatusIs call 0
+      → HasRewritten call (ChainsThrough (passes_in call.words))
   -- Under `run` the statuses 0, 3 and 4 say how the run stands; 3 and 4 come under `run` alone.
   pub reports : (steps : ℕ) → Asked call (Run steps) → StatusIn call (0 ∷ 3 ∷ 4 ∷ [])
       → HasRun call steps

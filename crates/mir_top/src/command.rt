@@ -3,8 +3,10 @@ ghost use Rattle.std.specs.Prelude.{◌≡◌, map, IfOk};
 ghost use Rattle.std.specs.List.{list_all};
 ghost use Rattle.mir_base.specs.Limits.{most_steps};
 ghost use Rattle.mir_base.specs.Words.{is_text};
-ghost use Rattle.mir_top.specs.Commands.{command_of, alone_of, run_of, trial_of, trial_with, at_most, step_count, is_input, input_value, inputs_in, word_bytes};
+ghost use Rattle.mir_top.specs.Commands.{command_of, alone_of, chain_of, run_of, trial_of, trial_with, at_most, step_count, is_input, input_value, inputs_in, word_bytes};
+ghost use Rattle.mir_top.specs.PassWords.{are_passes};
 
+use crate::pass_words::are_passes;
 use mir_base::{MOST_STEPS, MOST_UNITS, Memory, is_text};
 use mir_lex::{signed, unsigned};
 use std::alloc::Global;
@@ -27,6 +29,11 @@ pub enum Command {
     Tails,
     /// `join`: the canonical text of the program with its leaves joined into their callers.
     Join,
+    /// `thorough`: the canonical text of what turns of `tails`, `join`, `optimise`, `wanted` and `called` make of the
+    /// program until a turn changes nothing.
+    Thorough,
+    /// `passes [PASS ..]`: the canonical text of what these passes make one after another, from the first to the last.
+    Passes,
     /// `run STEPS [N ..]`: the report of the run of the program, with the inputs N, after so many steps or at its end.
     Run(u64),
     /// `trial NUMBER UNITS`: what the runs show of the program that NUMBER draws, with so many units, and of the target
@@ -56,6 +63,10 @@ impl Command {
                     alone(Command::Tails, arguments)
                 } else if is_text(b"join", word.as_bytes()) {
                     alone(Command::Join, arguments)
+                } else if is_text(b"thorough", word.as_bytes()) {
+                    alone(Command::Thorough, arguments)
+                } else if is_text(b"passes", word.as_bytes()) {
+                    chain(arguments)
                 } else if is_text(b"run", word.as_bytes()) {
                     run(arguments)
                 } else if is_text(b"trial", word.as_bytes()) {
@@ -97,6 +108,17 @@ fn alone(command: Command, arguments: &[String]) -> Option<Command>
     match arguments {
         [] => Some(command),
         [_, ..] => None,
+    }
+}
+
+/// The chain that the words after `passes` ask for.
+fn chain(arguments: &[String]) -> Option<Command>
+    ensures { result ≡ chain_of (word_bytes arguments.now) }
+{
+    if are_passes(arguments) {
+        Some(Command::Passes)
+    } else {
+        None
     }
 }
 

@@ -111,7 +111,7 @@ fn of_cause(cause: &Cause) -> ComplaintParts
     match cause {
         Cause::Usage => plain(
             1,
-            b"usage: mir optimise | stages | move | ranges | divisions | tails | join | run STEPS [N ..] | trial NUMBER UNITS\n",
+            b"usage: mir optimise | stages | move | ranges | divisions | tails | join | thorough | passes [PASS ..] | run STEPS [N ..] | trial NUMBER UNITS\n",
         ),
         Cause::Reading(fault) => of_reading(fault),
         Cause::Text(fault) => of_text(fault),

@@ -107,12 +107,14 @@ const CASES: [Case; 24] = [
 
 /// Cases of other commands: a loop that is entered at two places, reads and writes that fail, and a trial, which reads
 /// nothing, and whose writes fail.
-const OTHERS: [(&str, Case); 7] = [
+const OTHERS: [(&str, Case); 9] = [
     ("move", (Text(IRREDUCIBLE), Output(IRREDUCIBLE_OUTPUT))),
     ("ranges", (Writes(1, 10), Part(b"unit main\n"))),
     ("divisions", (Reads(1, 5), Line(6, b"read fault\n"))),
     ("tails", (Writes(1, 25), Part(SMALLEST_OUTPUT))),
     ("join", (Reads(1, 5), Line(6, b"read fault\n"))),
+    ("thorough", (Writes(1, 25), Part(SMALLEST_OUTPUT))),
+    ("passes sink", (Reads(1, 5), Line(6, b"read fault\n"))),
     (TRIAL, (Reads(1, 1), Output(TRIAL_OUTPUT))),
     (TRIAL, (Writes(1, 3), Part(TRIAL_OUTPUT))),
 ];

@@ -10,10 +10,13 @@
 
 mod call;
 mod cause;
+#[cfg(test)]
+mod chain_examples;
 mod command;
 mod complaint;
 #[cfg(test)]
 mod devices;
+mod dividing;
 mod ending;
 #[cfg(test)]
 mod examples;
@@ -25,6 +28,7 @@ mod making;
 #[cfg(test)]
 mod motion_examples;
 mod outcome;
+mod pass_words;
 mod ranges;
 #[cfg(test)]
 mod refusals;
@@ -46,6 +50,7 @@ pub use call::top;
 pub use cause::Cause;
 pub use command::Command;
 pub use complaint::{complain_of_memory, complain_of_write};
+pub use dividing::best_divisions;
 pub use ending::Ending;
 pub use faultless::faultless_top;
 pub use laws::{one_thing_is_due, text_has_one_reading};

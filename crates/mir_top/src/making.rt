@@ -2,23 +2,27 @@
 ghost use Rattle.std.specs.Prelude.{◌≡◌, IfOk, IfErr};
 ghost use Rattle.mir_base.specs.Shapes.{ProgramShape};
 ghost use Rattle.mir_base.specs.Text.{canonical_text};
-ghost use Rattle.mir_top.specs.Commands.{inputs_in, word_bytes};
+ghost use Rattle.mir_top.specs.Commands.{word_bytes};
 ghost use Rattle.mir_opt.specs.Stages.{AllKeep, KeepsProgram, graph_at};
 ghost use Rattle.mir_top.specs.Due.{Needs};
+ghost use Rattle.mir_top.specs.PassWords.{passes_in};
 ghost use Rattle.mir_top.specs.RangeTexts.{ShowsRanges};
 ghost use Rattle.mir_top.specs.StageTexts.{ShowsStages};
-ghost use Rattle.mir_top.specs.Outputs.{CannotMake, Divides, IsMadeBy, JoinsUnits, LoopsTails, MovesCode, Optimises};
+ghost use Rattle.mir_top.specs.Outputs.{CannotMake, ChainsThrough, Divides, IsMadeBy, JoinsUnits, LoopsTails, MovesCode, Optimises, TurnsThrough};
 
 use crate::command::inputs;
-use crate::ranges::{divisions_hold_least, moves_hold_least, text_of_ranges};
+use crate::pass_words::passes;
+use crate::ranges::{moves_hold_least, text_of_ranges};
 use crate::report_text::text_of_report;
 use crate::stages::text_of_stages;
 use crate::trial::trial;
-use crate::{Command, Outcome};
+use crate::{Command, Outcome, best_divisions};
 use mir_base::{Memory, Program};
 use mir_interp::{RunFault, run};
-use mir_opt::{MoveTrail, Trail, divisions, motion, optimise};
+use mir_opt::{MoveTrail, Trail, motion, optimise};
 use mir_print::print;
+use pass_chain::chain_program;
+use program_turns::thorough_program;
 use std::alloc::Global;
 use tail_loop::tail_program;
 use unit_join::join_program;
@@ -32,7 +36,8 @@ pub(crate) struct Made {
     pub(crate) output: Vec<u8>,
 }
 
-/// What the command makes of the program. The words are those of the command, for the inputs of a run.
+/// What the command makes of the program. The words are those of the command, for the inputs of a run and the passes of
+/// a chain.
 pub(crate) fn make(
     alloc: Global,
     command: Command,
@@ -40,9 +45,8 @@ pub(crate) fn make(
     program: &Program,
 ) -> Result<Made, RunFault>
     requires { Needs command program.now }
-    ensures made { IfOk result (IsMadeBy (inputs_in (word_bytes words.now)) program.now command) }
-    ensures stopped { IfErr result
-        (CannotMake (inputs_in (word_bytes words.now)) program.now command) }
+    ensures made { IfOk result (IsMadeBy (word_bytes words.now) program.now command) }
+    ensures stopped { IfErr result (CannotMake (word_bytes words.now) program.now command) }
 {
     match command {
         Command::Optimise => match optimised(alloc, program) {
@@ -94,10 +98,21 @@ pub(crate) fn make(
             }),
             Err(refusal) => Err(RunFault::Memory(refusal)),
         },
-        Command::Run(steps) => match inputs(alloc, words) {
-            Ok(inputs) => ran(alloc, program, &inputs, steps),
+        Command::Thorough => match turned(alloc, program) {
+            Ok(output) => Ok(Made {
+                outcome: Outcome::Turned,
+                output,
+            }),
             Err(refusal) => Err(RunFault::Memory(refusal)),
         },
+        Command::Passes => match chained(alloc, words, program) {
+            Ok(output) => Ok(Made {
+                outcome: Outcome::Chained,
+                output,
+            }),
+            Err(refusal) => Err(RunFault::Memory(refusal)),
+        },
+        Command::Run(steps) => ran(alloc, words, program, steps),
         Command::Trial(_, _) => match trial(alloc, program) {
             Ok(output) => Ok(Made {
                 outcome: Outcome::Compared,
@@ -171,8 +186,7 @@ fn divided(alloc: Global, program: &Program) -> Result<(MoveTrail, Vec<u8>), Mem
     ensures divides { IfOk result (λ made. Divides made.0) }
     ensures output { IfOk result (λ made. made.1.items ≡ canonical_text made.0.target) }
 {
-    let trail = divisions(alloc, program)?;
-    divisions_hold_least(&trail);
+    let trail = best_divisions(alloc, program)?;
     let output = print(alloc, &trail.target)?;
     Ok((trail, output))
 }
@@ -197,12 +211,47 @@ fn joined(alloc: Global, program: &Program) -> Result<Vec<u8>, Memory>
     Ok(output)
 }
 
-/// The report of the run of so many steps with these inputs.
-fn ran(alloc: Global, program: &Program, inputs: &[i64], steps: u64) -> Result<Made, RunFault>
-    ensures made { IfOk result (IsMadeBy inputs.now program.now (Command.Run steps)) }
-    ensures stopped { IfErr result (CannotMake inputs.now program.now (Command.Run steps)) }
+/// The text of what turns of passes make of the program until a turn changes nothing.
+fn turned(alloc: Global, program: &Program) -> Result<Vec<u8>, Memory>
+    ensures { IfOk result (λ output. (target : ProgramShape)
+        × TurnsThrough program.now target × (output.items ≡ canonical_text target)) }
 {
-    let report = match run(alloc, program, inputs, steps) {
+    let target = after_turns(alloc, program)?;
+    let output = print(alloc, &target)?;
+    Ok(output)
+}
+
+/// What turns of passes make of the program until a turn changes nothing.
+fn after_turns(alloc: Global, program: &Program) -> Result<Program, Memory>
+    ensures { IfOk result (TurnsThrough program.now) }
+{
+    let target = thorough_program(alloc, program)?;
+    Ok(target)
+}
+
+/// The text of what the passes that the words give make of the program one after another.
+fn chained(alloc: Global, words: &[String], program: &Program) -> Result<Vec<u8>, Memory>
+    ensures { IfOk result (λ output. (target : ProgramShape)
+        × ChainsThrough (passes_in (word_bytes words.now)) program.now target
+        × (output.items ≡ canonical_text target)) }
+{
+    let passes = passes(alloc, words)?;
+    let target = chain_program(alloc, &passes, program)?;
+    let output = print(alloc, &target)?;
+    Ok(output)
+}
+
+/// The report of the run of so many steps with the inputs that the words give.
+fn ran(alloc: Global, words: &[String], program: &Program, steps: u64) -> Result<Made, RunFault>
+    ensures made { IfOk result (IsMadeBy (word_bytes words.now) program.now (Command.Run steps)) }
+    ensures stopped { IfErr result
+        (CannotMake (word_bytes words.now) program.now (Command.Run steps)) }
+{
+    let inputs = match inputs(alloc, words) {
+        Ok(inputs) => inputs,
+        Err(refusal) => return Err(RunFault::Memory(refusal)),
+    };
+    let report = match run(alloc, program, &inputs, steps) {
         Ok(report) => report,
         Err(fault) => return Err(fault),
     };

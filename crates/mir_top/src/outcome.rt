@@ -24,6 +24,10 @@ pub enum Outcome {
     Tailed,
     /// It with its leaves joined into their callers.
     Joined,
+    /// What turns of passes made of it.
+    Turned,
+    /// What a chain of passes made of it.
+    Chained,
     /// The report of its run, which stands like this.
     Ran(Finish),
     /// How its trial compares it with its target.
@@ -67,6 +71,16 @@ impl Outcome {
                 moved: None,
             },
             Outcome::Joined => Reply {
+                status: 0,
+                trail: None,
+                moved: None,
+            },
+            Outcome::Turned => Reply {
+                status: 0,
+                trail: None,
+                moved: None,
+            },
+            Outcome::Chained => Reply {
                 status: 0,
                 trail: None,
                 moved: None,

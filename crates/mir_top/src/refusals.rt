@@ -221,6 +221,16 @@ divisions 1
 Tails
 tails 1
 join 1
+thorough 1
+Passes
+passes x
+passes Tails
+passes tails 1
+passes stages
+passes clean clean clean clean clean clean clean clean clean clean clean clean clean clean clean clean clean \
+clean clean clean clean clean clean clean clean clean clean clean clean clean clean clean clean clean clean \
+clean clean clean clean clean clean clean clean clean clean clean clean clean clean clean clean clean clean \
+clean clean clean clean clean clean clean clean clean clean clean clean
 run
 run x
 run 1000001

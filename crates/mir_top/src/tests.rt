@@ -1,4 +1,5 @@
 // Worked examples, byte for byte, and calls whose memory runs out.
+use crate::chain_examples::CHAIN_EXAMPLES;
 use crate::devices::{NO_FAULT, Seen, call, repeated};
 use crate::examples::EXAMPLES;
 use crate::hostile::{TRIAL, TRIAL_OUTPUT};
@@ -74,6 +75,7 @@ fn worked_examples(rt: HostRuntime) -> Result<(), Fail> {
         RUN_EXAMPLES,
         MOTION_EXAMPLES,
         SHARED_EXAMPLES,
+        CHAIN_EXAMPLES,
         REFUSALS,
     ] {
         assert_eq!(rt; first_wrong(rt.alloc(), examples)?, None);
@@ -98,7 +100,7 @@ fn stages_of_programs(rt: HostRuntime) -> Result<(), Fail> {
 #[test]
 fn other_words(rt: HostRuntime) -> Result<(), Fail> {
     let usage =
-        b"usage: mir optimise | stages | move | ranges | divisions | tails | join | run STEPS [N ..] | trial NUMBER UNITS\n";
+        b"usage: mir optimise | stages | move | ranges | divisions | tails | join | thorough | passes [PASS ..] | run STEPS [N ..] | trial NUMBER UNITS\n";
     for words in OTHER_WORDS.split('\n') {
         assert!(rt; leaves(rt.alloc(), words, b"", 1, usage)?, "with {words}");
     }
@@ -183,7 +185,7 @@ fn memory_that_is_refused(rt: HostRuntime) {
 }
 
 /// The words, a text and the output of calls whose memory is refused.
-const REFUSED_MEMORY: [(&str, &[u8], &[u8]); 8] = [
+const REFUSED_MEMORY: [(&str, &[u8], &[u8]); 10] = [
     ("optimise", SKIPS, CLEANED),
     ("move", SKIPS, CLEANED),
     ("run 9 0", SKIPS, b"1\nresult 0\nevals 0\n"),
@@ -192,6 +194,8 @@ const REFUSED_MEMORY: [(&str, &[u8], &[u8]); 8] = [
     ("divisions", EXPRESSIONS, DIVIDED),
     ("tails", CALLS, TAILS),
     ("join", CALLS, JOINED),
+    ("thorough", CALLS, TURNED),
+    ("passes tails join optimise called", CALLS, TURNED),
 ];
 
 /// A test that leads to a goto.
@@ -286,6 +290,18 @@ f: begin
 receive n(val)
 x <- n - 1
 return x
+end
+";
+
+/// And with both, and then all other passes.
+const TURNED: &[u8] = b"\
+main: begin
+receive n(val)
+L1: if n = 0 goto L2
+h3 <- n - 1
+n <- h3
+goto L1
+L2: return n
 end
 ";
 

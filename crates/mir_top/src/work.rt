@@ -97,6 +97,8 @@ fn trial_numbers(command: Command) -> Option<(u64, usize)>
         Command::Divisions => None,
         Command::Tails => None,
         Command::Join => None,
+        Command::Thorough => None,
+        Command::Passes => None,
         Command::Run(_) => None,
         Command::Trial(number, units) => Some((number, units)),
     }

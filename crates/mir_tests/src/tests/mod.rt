@@ -27,4 +27,5 @@ mod terms;
 mod text_examples;
 mod texts;
 mod trial;
+mod turn_examples;
 mod value_examples;

@@ -25,6 +25,7 @@ use std::alloc::Global;
 use std::mem;
 use std::test::Fail;
 use value_number::number;
+use wanted_bits::narrow;
 
 /// Each example.
 #[test]
@@ -82,6 +83,7 @@ fn after(alloc: Global, pass: &str, graph: &Graph) -> Result<Graph, Fail> {
         "fold" => Ok(fold(alloc, graph)?),
         "number" => Ok(number(alloc, graph)?),
         "copies" => Ok(copies(alloc, graph)?),
+        "narrow" => Ok(narrow(alloc, graph)?),
         "split" => Ok(split(alloc, graph)?),
         "round" => round_of(alloc, graph),
         "divide" => divided_of(alloc, graph),

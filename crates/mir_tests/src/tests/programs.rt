@@ -3,18 +3,19 @@ use crate::tests::leaf_examples::LEAF_EXAMPLES;
 use crate::tests::program_examples::PROGRAM_EXAMPLES;
 use crate::tests::shown::program_text;
 use crate::tests::support::program_of;
+use crate::tests::turn_examples::TURN_EXAMPLES;
 use mir_base::{Memory, Program};
 use mir_interp::{Report, RunFault, run};
+use pass_chain::{Pass, pass_program};
+use program_turns::thorough_program;
 use std::alloc::Global;
 use std::mem;
 use std::test::Fail;
-use tail_loop::tail_program;
-use unit_join::join_program;
 
 /// Each example.
 #[test]
 fn examples_of_programs(rt: HostRuntime) -> Result<(), Fail> {
-    for examples in [PROGRAM_EXAMPLES, LEAF_EXAMPLES] {
+    for examples in [PROGRAM_EXAMPLES, LEAF_EXAMPLES, TURN_EXAMPLES] {
         for example in examples.split("# ").skip(1) {
             let other = other_than(rt.alloc(), example)?;
             assert!(rt; other.is_empty(), "{example}makes otherwise:\n{other}");
@@ -61,12 +62,31 @@ fn next_of(alloc: Global, pass: &str, program: Program) -> Result<Program, Fail>
     next
 }
 
-/// What the pass of this name makes of a program.
+/// What the pass of this name makes of a program; after `thorough`, what its turns make.
 fn after(alloc: Global, pass: &str, program: &Program) -> Result<Program, Fail> {
-    match pass {
-        "tails" => Ok(tail_program(alloc, program)?),
-        "join" => Ok(join_program(alloc, program)?),
-        _ => Err("no such pass".into()),
+    if pass == "thorough" {
+        return Ok(thorough_program(alloc, program)?);
+    }
+    let pass = pass_named(pass).ok_or("no such pass")?;
+    Ok(pass_program(alloc, pass, program)?)
+}
+
+/// The pass of this name.
+fn pass_named(name: &str) -> Option<Pass> {
+    match name {
+        "tails" => Some(Pass::Tails),
+        "join" => Some(Pass::Join),
+        "optimise" => Some(Pass::Optimise),
+        "clean" => Some(Pass::Clean),
+        "fold" => Some(Pass::Fold),
+        "number" => Some(Pass::Number),
+        "copies" => Some(Pass::Copies),
+        "motion" => Some(Pass::Motion),
+        "divisions" => Some(Pass::Divisions),
+        "sink" => Some(Pass::Sink),
+        "wanted" => Some(Pass::Wanted),
+        "called" => Some(Pass::Called),
+        _ => None,
     }
 }
 

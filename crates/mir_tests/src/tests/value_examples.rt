@@ -442,4 +442,92 @@ $ lower split round
 4: skip to 1
 5: skip to 1
 6: i <- i + 1 to 2
+# a char is extended by its sign, and then a bit of it is wanted
+main: begin
+receive n(val)
+t <- n + 256
+s <- t shl 56
+c <- s shra 56
+m <- c and 255
+b <- m and 3
+i <- i + 1
+if n = 0 goto L
+print b
+L: return n
+end
+$ lower narrow
+0: start to 1
+1: t <- n to 2
+2: skip to 3
+3: c <- t to 4
+4: m <- c to 5
+5: b <- m and 3 to 6
+6: skip to 7
+7: if n = 0 to 9 else 8
+8: print b to 9
+9: return n
+# faint: read by one another alone
+main: begin
+receive n(val)
+L1: i <- i + j
+j <- i * 3
+n <- n - 1
+if n > 0 goto L1
+d <- i / n
+return n
+end
+$ lower narrow
+0: start to 1
+1: skip to 2
+2: skip to 3
+3: n <- n - 1 to 4
+4: if n > 0 to 1 else 5
+5: d <- i / n to 6
+6: return n
+# a short is kept where more bits are wanted than stay
+main: begin
+receive n(val)
+s <- n shl 48
+c <- s shra 48
+print c
+t <- n shl 48
+u <- t shr 48
+v <- u or 65536
+w <- v shl 60
+print w
+return 0
+end
+$ lower narrow
+0: start to 1
+1: s <- n shl 48 to 2
+2: c <- s shra 48 to 3
+3: print c to 4
+4: skip to 5
+5: u <- n to 6
+6: v <- u to 7
+7: w <- v shl 60 to 8
+8: print w to 9
+9: return 0
+# a mask on the left, and one that leaves what it is assigned to
+main: begin
+receive n(val)
+m <- 255 and n
+n <- n and 255
+s <- 256 + m
+b <- s and 3
+print b
+c <- n and 1
+print c
+return 0
+end
+$ lower narrow
+0: start to 1
+1: m <- n to 2
+2: skip to 3
+3: s <- m to 4
+4: b <- s and 3 to 5
+5: print b to 6
+6: c <- n and 1 to 7
+7: print c to 8
+8: return 0
 ";

@@ -11,4 +11,5 @@ returns-clause-moves c =
     let is = c.in_ok-trail.ensures in record {
       improves = improves_from (IsMoveLinked trail) (λ (p : ProgramShape). IsOnlyMoveTrail p trail) (All MotionIsBest trail.units) c.args.program.now trail.source trail.target is.source is.linked is.only is.keeps is.best;
       least = c.moves_hold_least.ensures;
+      divisions = is.divisions;
     }

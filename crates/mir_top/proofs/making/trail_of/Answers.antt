@@ -1,7 +1,6 @@
-use Rattle.std.specs.Prelude.{All}
 use Rattle.mir_base.specs.Shapes.{ProgramShape}
-use Rattle.mir_opt.specs.Best.{MovesBest}
 use Rattle.mir_opt.specs.Links.{IsLinked, IsOnlyTrail}
+use Rattle.mir_top.specs.Outputs.{ReachesBest}
 use Rattle.mir_top.proofs.MadeLaws.{improves_from}
 use Rattle.mir_top.proofs.making.trail_of.Goals as goal
 
@@ -9,4 +8,5 @@ pub returns-clause-optimises : goal.returns-clause-optimises
 returns-clause-optimises c =
     let trail = c.in_ok-trail.trail in
     let is = c.in_ok-trail.ensures in
-    improves_from (IsLinked trail) (λ (p : ProgramShape). IsOnlyTrail p trail) (All MovesBest trail.units) c.args.program.now trail.source trail.target is.source is.linked is.only is.keeps is.best
+    improves_from (IsLinked trail) (λ (p : ProgramShape). IsOnlyTrail p trail) (ReachesBest trail) c.args.program.now trail.source trail.target is.source is.linked is.only is.keeps
+    (record { moves = is.best; sinks = is.sinks; rounds = is.rounds; divisions = is.divisions; stay = is.stay })

@@ -3,7 +3,7 @@ use Rattle.mir_base.specs.Shapes.{ProgramShape}
 use Rattle.mir_opt.specs.Best.{DivisionsAreBest}
 use Rattle.mir_opt.specs.Links.{IsDivisionLinked, IsOnlyDivisionTrail}
 use Rattle.mir_top.proofs.MadeLaws.{improves_from}
-use Rattle.mir_top.proofs.making.divided.Goals as goal
+use Rattle.mir_top.proofs.dividing.best_divisions.Goals as goal
 
 pub returns-clause-divides : goal.returns-clause-divides
 returns-clause-divides c =
