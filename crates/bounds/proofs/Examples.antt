@@ -6,7 +6,7 @@ use Rattle.mir_base.specs.declared.operators.RelOp.TheVariants.{Eq as Equal, Ne 
 use Rattle.bounds.specs.declared.ends.End.TheVariants.{Min32, Zero, One, Max8, MaxU8, Max32, MaxU32}
 use Rattle.bounds.specs.declared.facts.Fact.TheVariants.{Never, Fixed, Between}
 use Rattle.bounds.specs.Ends.{floor, ceiling, floor_in, ceiling_in}
-use Rattle.bounds.specs.Facts.{joined}
+use Rattle.bounds.specs.Facts.{joined_fact}
 use Rattle.bounds.specs.Bounding.{bounds_of}
 use Rattle.bounds.specs.Narrowing.{narrowed}
 use Rattle.bounds.specs.Edges.{anything}
@@ -42,7 +42,7 @@ unfolding floor ceiling floor_in ceiling_in int_wrap
 in_loop = refl
 
 -- so one more stays a byte
-one_more : joined (Fixed (pos 0)) (bounds_of Add (Between Zero Max8) (Fixed (pos 1))) ≡ Between Zero MaxU8
+one_more : joined_fact (Fixed (pos 0)) (bounds_of Add (Between Zero Max8) (Fixed (pos 1))) ≡ Between Zero MaxU8
 unfolding floor ceiling floor_in ceiling_in int_wrap
 one_more = refl
 

@@ -11,7 +11,7 @@ use Rattle.bounds.specs.declared.ends.End.TheVariants.{Least, Greatest}
 use Rattle.bounds.specs.declared.facts.Fact.{Fact}
 use Rattle.bounds.specs.declared.spans.Span.{Span}
 use Rattle.bounds.specs.declared.facts.Fact.TheVariants.{Never, Fixed, Between}
-use Rattle.bounds.specs.Ends.{value, floor, ceiling}
+use Rattle.bounds.specs.Ends.{end_value, floor, ceiling}
 use Rattle.bounds.specs.Facts.{low_of, high_of}
 
 -- the number lies in the span
@@ -38,17 +38,17 @@ span_of x = span (low_of x) (high_of x)
 
 -- the number has 64 bits
 pub record IsInWord (z : ℤ) : Type 0 where
-  pub low : value Least ≤ℤ z
-  pub high : z ≤ℤ value Greatest
+  pub low : end_value Least ≤ℤ z
+  pub high : z ≤ℤ end_value Greatest
 
 -- the ends of the span have
-pub record IsWord (s : Span) : Type 0 where
+pub record IsWordSpan (s : Span) : Type 0 where
   pub low : IsInWord s.low
   pub high : IsInWord s.high
 
 -- all numbers of the span have 64 bits
 abbrev pub fits : Span → Bool
-fits s = int_le (value Least) s.low && int_le s.high (value Greatest)
+fits s = int_le (end_value Least) s.low && int_le s.high (end_value Greatest)
 
 -- the surest fact of a span of 64 bits: "never" of none, and the number of one
 abbrev pub surest : Span → Fact
@@ -151,7 +151,7 @@ span_and s t =
 -- `or` and `xor` of natural numbers: all bits below the length of the greater are 1
 abbrev pub span_or : Span → Span → Span
 span_or s t =
-    if is_natural s && is_natural t then span (pos 0) (value (ceiling (int_max s.high t.high)))
+    if is_natural s && is_natural t then span (pos 0) (end_value (ceiling (int_max s.high t.high)))
     else all
 
 -- the numbers of both are one

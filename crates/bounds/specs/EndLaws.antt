@@ -8,7 +8,7 @@ use Rattle.bounds.specs.declared.ends.End.{End}
 use Rattle.bounds.specs.declared.ends.End.TheVariants.{Least, Min32, Min16, Min8, MinusOne, Zero, One, Max8, MaxU8, Max16, MaxU16, Max32, MaxU32, Greatest}
 use Rattle.bounds.specs.declared.facts.Fact.{Fact}
 use Rattle.bounds.specs.declared.facts.Fact.TheVariants.{Never, Fixed, Between}
-use Rattle.bounds.specs.Ends.{index, value, floor_in, ceiling_in, floor, ceiling, descending, ascending}
+use Rattle.bounds.specs.Ends.{index, end_value, floor_in, ceiling_in, floor, ceiling, descending, ascending}
 use Rattle.bounds.specs.Facts.{low_of, high_of, BelowFact, Bounds}
 use Rattle.bounds.specs.FactLaws.{index_is_one}
 
@@ -29,7 +29,7 @@ is_le a b h = grind (arith, ints)
 -- ---- the numbers of ends
 
 -- no end is above the greatest number or below the least
-pub value_fits : (e : End) → FitsSigned w64 (value e)
+pub value_fits : (e : End) → FitsSigned w64 (end_value e)
 value_fits Least = record { sfits = omega arith }
 value_fits Min32 = record { sfits = omega arith }
 value_fits Min16 = record { sfits = omega arith }
@@ -46,28 +46,28 @@ value_fits MaxU32 = record { sfits = omega arith }
 value_fits Greatest = record { sfits = omega arith }
 
 -- a number of 64 bits is at least the least
-pub fits_low : (z : ℤ) → FitsSigned w64 z → value Least ≤ℤ z
+pub fits_low : (z : ℤ) → FitsSigned w64 z → end_value Least ≤ℤ z
 fits_low z fits = omega (arith, ints, fits.sfits)
 
 -- and at most the greatest
-pub fits_high : (z : ℤ) → FitsSigned w64 z → z ≤ℤ value Greatest
+pub fits_high : (z : ℤ) → FitsSigned w64 z → z ≤ℤ end_value Greatest
 fits_high z fits = omega (arith, ints, fits.sfits)
 
 -- ---- floors
 
 -- the floor is at most the number
-floor_in_low : (ends : List End) (z : ℤ) → value Least ≤ℤ z → value (floor_in ends z) ≤ℤ z
+floor_in_low : (ends : List End) (z : ℤ) → end_value Least ≤ℤ z → end_value (floor_in ends z) ≤ℤ z
 unfolding floor_in
 floor_in_low [] z low = low
-floor_in_low (e ∷ ends) z low = cases (floor_in_low ends z low) (int_le (value e) z) refl
+floor_in_low (e ∷ ends) z low = cases (floor_in_low ends z low) (int_le (end_value e) z) refl
   where
-    cases : value (floor_in ends z) ≤ℤ z → (b : Bool) → int_le (value e) z ≡ b
-        → value (if b then e else floor_in ends z) ≤ℤ z
+    cases : end_value (floor_in ends z) ≤ℤ z → (b : Bool) → int_le (end_value e) z ≡ b
+        → end_value (if b then e else floor_in ends z) ≤ℤ z
     cases rest true is = le_is _ _ is
     cases rest false is = rest
 
 -- the same of all ends
-pub floor_low : (z : ℤ) → value Least ≤ℤ z → value (floor z) ≤ℤ z
+pub floor_low : (z : ℤ) → end_value Least ≤ℤ z → end_value (floor z) ≤ℤ z
 unfolding floor
 floor_low z low = floor_in_low descending z low
 
@@ -96,31 +96,31 @@ both_right false true h = refl
 both_right false false h = h
 
 -- an end among these that is at most the number has no higher place than the floor
-floor_in_best : (ends : List End) (e : End) (z : ℤ) → descends e ends ≡ true → value e ≤ℤ z
+floor_in_best : (ends : List End) (e : End) (z : ℤ) → descends e ends ≡ true → end_value e ≤ℤ z
     → index e ≤ index (floor_in ends z)
 unfolding floor_in descends
 floor_in_best [] e z stands le = absurd (cc)
 floor_in_best (f ∷ ends) e z stands le =
-    cases (λ s. floor_in_best ends e z s le) (nat_eq (index e) (index f)) refl (int_le (value f) z) refl
+    cases (λ s. floor_in_best ends e z s le) (nat_eq (index e) (index f)) refl (int_le (end_value f) z) refl
   where
-    cases : (descends e ends ≡ true → index e ≤ index (floor_in ends z)) → (b : Bool) → nat_eq (index e) (index f) ≡ b → (c : Bool) → int_le (value f) z ≡ c
+    cases : (descends e ends ≡ true → index e ≤ index (floor_in ends z)) → (b : Bool) → nat_eq (index e) (index f) ≡ b → (c : Bool) → int_le (end_value f) z ≡ c
         → index e ≤ index (if c then f else floor_in ends z)
     cases on true is true is' = let same : index e ≡ index f = nat_eq_is _ _ is in omega (arith, same)
     cases on true is false is' =
         let same : e ≡ f = index_is_one e f (nat_eq_is _ _ is) in
-        let found : int_le (value f) z ≡ true = subst (λ g. int_le (value g) z ≡ true) same (is_le _ _ le) in absurd (cc)
+        let found : int_le (end_value f) z ≡ true = subst (λ g. int_le (end_value g) z ≡ true) same (is_le _ _ le) in absurd (cc)
     cases on false is c is' =
         let rest : (nat_le (index e) (index f) && descends e ends) ≡ true = subst
         (λ b. (if b then true else (nat_le (index e) (index f) && descends e ends)) ≡ true) is stands in
         further c is' (nat_le_is _ _ (both_left _ _ rest)) (both_right _ _ rest)
       where
-        further : (c : Bool) → int_le (value f) z ≡ c → index e ≤ index f → descends e ends ≡ true
+        further : (c : Bool) → int_le (end_value f) z ≡ c → index e ≤ index f → descends e ends ≡ true
             → index e ≤ index (if c then f else floor_in ends z)
         further true is' lower stands' = lower
         further false is' lower stands' = on stands'
 
 -- no end that is at most the number has a higher place than the floor
-pub floor_best : (e : End) (z : ℤ) → value e ≤ℤ z → index e ≤ index (floor z)
+pub floor_best : (e : End) (z : ℤ) → end_value e ≤ℤ z → index e ≤ index (floor z)
 unfolding floor descends
 floor_best Least z le = omega arith
 floor_best Min32 z le = floor_in_best descending Min32 z refl le
@@ -138,7 +138,7 @@ floor_best MaxU32 z le = floor_in_best descending MaxU32 z refl le
 floor_best Greatest z le = floor_in_best descending Greatest z refl le
 
 -- an end is its own floor
-floor_exact : (e : End) → floor (value e) ≡ e
+floor_exact : (e : End) → floor (end_value e) ≡ e
 unfolding floor floor_in
 floor_exact Least = refl
 floor_exact Min32 = refl
@@ -156,35 +156,35 @@ floor_exact MaxU32 = refl
 floor_exact Greatest = refl
 
 -- ends are in order as their places are
-pub index_mono : (e f : End) → value e ≤ℤ value f → index e ≤ index f
-index_mono e f le = subst (λ g. index e ≤ index g) (floor_exact f) (floor_best e (value f) le)
+pub index_mono : (e f : End) → end_value e ≤ℤ end_value f → index e ≤ index f
+index_mono e f le = subst (λ g. index e ≤ index g) (floor_exact f) (floor_best e (end_value f) le)
 
 -- and the other way
-pub value_mono : (e f : End) → index e ≤ index f → value e ≤ℤ value f
-value_mono e f le = cases (int_le (value e) (value f)) refl
+pub value_mono : (e f : End) → index e ≤ index f → end_value e ≤ℤ end_value f
+value_mono e f le = cases (int_le (end_value e) (end_value f)) refl
   where
-    cases : (b : Bool) → int_le (value e) (value f) ≡ b → value e ≤ℤ value f
+    cases : (b : Bool) → int_le (end_value e) (end_value f) ≡ b → end_value e ≤ℤ end_value f
     cases true is = le_is _ _ is
     cases false is =
         let back : index f ≤ index e = index_mono f e (gt_is _ _ is) in
         let same : e ≡ f = index_is_one e f (omega (arith, le, back)) in
-        subst (λ g. value e ≤ℤ value g) same (omega (arith, ints))
+        subst (λ g. end_value e ≤ℤ end_value g) same (omega (arith, ints))
 
 -- ---- ceilings
 
 -- the ceiling is at least the number
-ceiling_in_high : (ends : List End) (z : ℤ) → z ≤ℤ value Greatest → z ≤ℤ value (ceiling_in ends z)
+ceiling_in_high : (ends : List End) (z : ℤ) → z ≤ℤ end_value Greatest → z ≤ℤ end_value (ceiling_in ends z)
 unfolding ceiling_in
 ceiling_in_high [] z high = high
-ceiling_in_high (e ∷ ends) z high = cases (ceiling_in_high ends z high) (int_le z (value e)) refl
+ceiling_in_high (e ∷ ends) z high = cases (ceiling_in_high ends z high) (int_le z (end_value e)) refl
   where
-    cases : z ≤ℤ value (ceiling_in ends z) → (b : Bool) → int_le z (value e) ≡ b
-        → z ≤ℤ value (if b then e else ceiling_in ends z)
+    cases : z ≤ℤ end_value (ceiling_in ends z) → (b : Bool) → int_le z (end_value e) ≡ b
+        → z ≤ℤ end_value (if b then e else ceiling_in ends z)
     cases rest true is = le_is _ _ is
     cases rest false is = rest
 
 -- the same of all ends
-pub ceiling_high : (z : ℤ) → z ≤ℤ value Greatest → z ≤ℤ value (ceiling z)
+pub ceiling_high : (z : ℤ) → z ≤ℤ end_value Greatest → z ≤ℤ end_value (ceiling z)
 unfolding ceiling
 ceiling_high z high = ceiling_in_high ascending z high
 
@@ -194,25 +194,25 @@ ascends e [] = false
 ascends e (f ∷ ends) = if nat_eq (index e) (index f) then true else nat_le (index f) (index e) && ascends e ends
 
 -- an end among these that is at least the number has no lower place than the ceiling
-ceiling_in_best : (ends : List End) (e : End) (z : ℤ) → ascends e ends ≡ true → z ≤ℤ value e
+ceiling_in_best : (ends : List End) (e : End) (z : ℤ) → ascends e ends ≡ true → z ≤ℤ end_value e
     → index (ceiling_in ends z) ≤ index e
 unfolding ceiling_in ascends
 ceiling_in_best [] e z stands le = absurd (cc)
 ceiling_in_best (f ∷ ends) e z stands le =
-    cases (λ s. ceiling_in_best ends e z s le) (nat_eq (index e) (index f)) refl (int_le z (value f)) refl
+    cases (λ s. ceiling_in_best ends e z s le) (nat_eq (index e) (index f)) refl (int_le z (end_value f)) refl
   where
-    cases : (ascends e ends ≡ true → index (ceiling_in ends z) ≤ index e) → (b : Bool) → nat_eq (index e) (index f) ≡ b → (c : Bool) → int_le z (value f) ≡ c
+    cases : (ascends e ends ≡ true → index (ceiling_in ends z) ≤ index e) → (b : Bool) → nat_eq (index e) (index f) ≡ b → (c : Bool) → int_le z (end_value f) ≡ c
         → index (if c then f else ceiling_in ends z) ≤ index e
     cases on true is true is' = let same : index e ≡ index f = nat_eq_is _ _ is in omega (arith, same)
     cases on true is false is' =
         let same : e ≡ f = index_is_one e f (nat_eq_is _ _ is) in
-        let found : int_le z (value f) ≡ true = subst (λ g. int_le z (value g) ≡ true) same (is_le _ _ le) in absurd (cc)
+        let found : int_le z (end_value f) ≡ true = subst (λ g. int_le z (end_value g) ≡ true) same (is_le _ _ le) in absurd (cc)
     cases on false is c is' =
         let rest : (nat_le (index f) (index e) && ascends e ends) ≡ true = subst
         (λ b. (if b then true else (nat_le (index f) (index e) && ascends e ends)) ≡ true) is stands in
         further c is' (nat_le_is _ _ (both_left _ _ rest)) (both_right _ _ rest)
       where
-        further : (c : Bool) → int_le z (value f) ≡ c → index f ≤ index e → ascends e ends ≡ true
+        further : (c : Bool) → int_le z (end_value f) ≡ c → index f ≤ index e → ascends e ends ≡ true
             → index (if c then f else ceiling_in ends z) ≤ index e
         further true is' higher stands' = higher
         further false is' higher stands' = on stands'
@@ -235,7 +235,7 @@ top MaxU32 = omega arith
 top Greatest = omega arith
 
 -- no end that is at least the number has a lower place than the ceiling
-pub ceiling_best : (e : End) (z : ℤ) → z ≤ℤ value e → index (ceiling z) ≤ index e
+pub ceiling_best : (e : End) (z : ℤ) → z ≤ℤ end_value e → index (ceiling z) ≤ index e
 unfolding ceiling ascends
 ceiling_best Least z le = ceiling_in_best ascending Least z refl le
 ceiling_best Min32 z le = ceiling_in_best ascending Min32 z refl le
@@ -273,8 +273,8 @@ below_low (Fixed a) Never p = absurd p
 below_low (Between e f) Never p = absurd p
 below_low (Fixed a) (Fixed b) p = subst (λ c. wrapped c ≤ℤ wrapped a) p (omega (arith, ints))
 below_low (Fixed a) (Between g h) p =
-    let near : value g ≤ℤ value (floor (wrapped a)) = value_mono _ _ p.low in
-    let down : value (floor (wrapped a)) ≤ℤ wrapped a = floor_low _ (fits_low _ (wrapped_fits a)) in
+    let near : end_value g ≤ℤ end_value (floor (wrapped a)) = value_mono _ _ p.low in
+    let down : end_value (floor (wrapped a)) ≤ℤ wrapped a = floor_low _ (fits_low _ (wrapped_fits a)) in
     omega (arith, ints, near, down)
 below_low (Between e f) (Fixed b) p = absurd p
 below_low (Between e f) (Between g h) p = value_mono _ _ p.low
@@ -286,8 +286,8 @@ below_high (Fixed a) Never p = absurd p
 below_high (Between e f) Never p = absurd p
 below_high (Fixed a) (Fixed b) p = subst (λ c. wrapped a ≤ℤ wrapped c) p (omega (arith, ints))
 below_high (Fixed a) (Between g h) p =
-    let near : value (ceiling (wrapped a)) ≤ℤ value h = value_mono _ _ p.high in
-    let up : wrapped a ≤ℤ value (ceiling (wrapped a)) = ceiling_high _ (fits_high _ (wrapped_fits a)) in
+    let near : end_value (ceiling (wrapped a)) ≤ℤ end_value h = value_mono _ _ p.high in
+    let up : wrapped a ≤ℤ end_value (ceiling (wrapped a)) = ceiling_high _ (fits_high _ (wrapped_fits a)) in
     omega (arith, ints, near, up)
 below_high (Between e f) (Fixed b) p = absurd p
 below_high (Between e f) (Between g h) p = value_mono _ _ p.high
@@ -300,7 +300,7 @@ bounds_mono x y z p b =
     record { low = omega (arith, ints, low, b.low); high = omega (arith, ints, high, b.high) }
 
 -- an interval that reaches beyond the numbers of which a fact holds is above it
-pub reaches_by : (x : Fact) (e f : End) → value e ≤ℤ low_of x → high_of x ≤ℤ value f → BelowFact x (Between e f)
+pub reaches_by : (x : Fact) (e f : End) → end_value e ≤ℤ low_of x → high_of x ≤ℤ end_value f → BelowFact x (Between e f)
 reaches_by Never e f low high = tt
 reaches_by (Fixed c) e f low high = record { low = floor_best e _ low; high = ceiling_best f _ high }
 reaches_by (Between g h) e f low high = record { low = index_mono e g low; high = index_mono h f high }

@@ -21,21 +21,21 @@ index MaxU32 = 12
 index Greatest = 13
 
 -- the number that it is
-abbrev pub value : End → ℤ
-value Least = negsuc 9223372036854775807
-value Min32 = negsuc 2147483647
-value Min16 = negsuc 32767
-value Min8 = negsuc 127
-value MinusOne = negsuc 0
-value Zero = pos 0
-value One = pos 1
-value Max8 = pos 127
-value MaxU8 = pos 255
-value Max16 = pos 32767
-value MaxU16 = pos 65535
-value Max32 = pos 2147483647
-value MaxU32 = pos 4294967295
-value Greatest = pos 9223372036854775807
+abbrev pub end_value : End → ℤ
+end_value Least = negsuc 9223372036854775807
+end_value Min32 = negsuc 2147483647
+end_value Min16 = negsuc 32767
+end_value Min8 = negsuc 127
+end_value MinusOne = negsuc 0
+end_value Zero = pos 0
+end_value One = pos 1
+end_value Max8 = pos 127
+end_value MaxU8 = pos 255
+end_value Max16 = pos 32767
+end_value MaxU16 = pos 65535
+end_value Max32 = pos 2147483647
+end_value MaxU32 = pos 4294967295
+end_value Greatest = pos 9223372036854775807
 
 -- all but the least, from the greatest on
 abbrev pub descending : List End
@@ -50,12 +50,12 @@ ascending =
 -- the first of these ends that is at most z, or the least
 unfoldable pub floor_in : List End → ℤ → End
 floor_in [] z = Least
-floor_in (e ∷ ends) z = if int_le (value e) z then e else floor_in ends z
+floor_in (e ∷ ends) z = if int_le (end_value e) z then e else floor_in ends z
 
 -- the first of these ends that is at least z, or the greatest
 unfoldable pub ceiling_in : List End → ℤ → End
 ceiling_in [] z = Greatest
-ceiling_in (e ∷ ends) z = if int_le z (value e) then e else ceiling_in ends z
+ceiling_in (e ∷ ends) z = if int_le z (end_value e) then e else ceiling_in ends z
 
 -- the greatest end that is at most z
 unfoldable pub floor : ℤ → End

@@ -8,7 +8,7 @@ use Rattle.bounds.specs.declared.ends.End.TheVariants.{Least, Min32, Min16, Min8
 use Rattle.bounds.specs.declared.facts.Fact.{Fact}
 use Rattle.bounds.specs.declared.facts.Fact.TheVariants.{Never, Fixed, Between}
 use Rattle.bounds.specs.Ends.{index, lower, upper}
-use Rattle.bounds.specs.Facts.{low_end, high_end, Reaches, BelowFact, fact_rank, hull, joined}
+use Rattle.bounds.specs.Facts.{low_end, high_end, Reaches, BelowFact, fact_rank, hull, joined_fact}
 
 -- ---- ends go by their places
 
@@ -213,7 +213,7 @@ int_eq_same : (a : ℤ) → int_eq a a ≡ true
 int_eq_same a = grind (arith, ints)
 
 -- the join is the least upper bound
-pub fact_joins : (x y : Fact) → IsLeastUpper BelowFact x y (joined x y)
+pub fact_joins : (x y : Fact) → IsLeastUpper BelowFact x y (joined_fact x y)
 fact_joins Never y = record { left = tt; right = below_refl y; least = λ w p q. q }
 fact_joins (Fixed a) Never = record { left = refl; right = tt; least = λ w p q. p }
 fact_joins (Between g h) Never = record { left = below_refl (Between g h); right = tt; least = λ w p q. p }

@@ -6,19 +6,19 @@ use Rattle.bounds.specs.declared.ends.End.{End}
 use Rattle.bounds.specs.declared.ends.End.TheVariants.{Least, Greatest}
 use Rattle.bounds.specs.declared.facts.Fact.{Fact}
 use Rattle.bounds.specs.declared.facts.Fact.TheVariants.{Never, Fixed, Between}
-use Rattle.bounds.specs.Ends.{index, value, floor, ceiling, lower, upper}
+use Rattle.bounds.specs.Ends.{index, end_value, floor, ceiling, lower, upper}
 
 -- the least number of which a fact holds
 abbrev pub low_of : Fact → ℤ
-low_of Never = value Greatest
+low_of Never = end_value Greatest
 low_of (Fixed c) = wrapped c
-low_of (Between e f) = value e
+low_of (Between e f) = end_value e
 
 -- and the greatest
 abbrev pub high_of : Fact → ℤ
-high_of Never = value Least
+high_of Never = end_value Least
 high_of (Fixed c) = wrapped c
-high_of (Between e f) = value f
+high_of (Between e f) = end_value f
 
 -- the fact holds of the number
 pub record Bounds (fact : Fact) (z : ℤ) : Type 0 where
@@ -67,11 +67,11 @@ abbrev pub hull : Fact → Fact → Fact
 hull x y = Between (lower (low_end x) (low_end y)) (upper (high_end x) (high_end y))
 
 -- equal constants stay
-abbrev pub joined : Fact → Fact → Fact
-joined Never y = y
-joined (Fixed a) Never = Fixed a
-joined (Fixed a) (Fixed b) = if int_eq a b then Fixed a else hull (Fixed a) (Fixed b)
-joined (Fixed a) (Between e f) = hull (Fixed a) (Between e f)
-joined (Between e f) Never = Between e f
-joined (Between e f) (Fixed b) = hull (Between e f) (Fixed b)
-joined (Between e f) (Between g h) = hull (Between e f) (Between g h)
+abbrev pub joined_fact : Fact → Fact → Fact
+joined_fact Never y = y
+joined_fact (Fixed a) Never = Fixed a
+joined_fact (Fixed a) (Fixed b) = if int_eq a b then Fixed a else hull (Fixed a) (Fixed b)
+joined_fact (Fixed a) (Between e f) = hull (Fixed a) (Between e f)
+joined_fact (Between e f) Never = Between e f
+joined_fact (Between e f) (Fixed b) = hull (Between e f) (Fixed b)
+joined_fact (Between e f) (Between g h) = hull (Between e f) (Between g h)

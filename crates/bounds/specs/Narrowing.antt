@@ -6,7 +6,7 @@ use Rattle.mir_base.specs.declared.operators.RelOp.{RelOp}
 use Rattle.mir_base.specs.declared.operators.RelOp.TheVariants.{Eq, Ne, Lt, Le, Gt, Ge}
 use Rattle.bounds.specs.declared.ends.End.TheVariants.{Least, Greatest}
 use Rattle.bounds.specs.declared.facts.Fact.{Fact}
-use Rattle.bounds.specs.Ends.{value}
+use Rattle.bounds.specs.Ends.{end_value}
 use Rattle.bounds.specs.declared.spans.Span.{Span}
 use Rattle.bounds.specs.Bounding.{surest, span, span_of, are_one, may_equal}
 
@@ -33,10 +33,10 @@ span_where Eq s t = t
 span_where Ne s t =
     span (if is_low s t then s.low +ℤ pos 1 else s.low)
     (if is_high s t then s.high -ℤ pos 1 else s.high)
-span_where Lt s t = span (value Least) (t.high -ℤ pos 1)
-span_where Le s t = span (value Least) t.high
-span_where Gt s t = span (t.low +ℤ pos 1) (value Greatest)
-span_where Ge s t = span t.low (value Greatest)
+span_where Lt s t = span (end_value Least) (t.high -ℤ pos 1)
+span_where Le s t = span (end_value Least) t.high
+span_where Gt s t = span (t.low +ℤ pos 1) (end_value Greatest)
+span_where Ge s t = span t.low (end_value Greatest)
 
 -- the numbers of both spans
 abbrev pub meet : Span → Span → Span

@@ -8,7 +8,7 @@ use Rattle.mir_base.specs.declared.operators.RelOp.TheVariants.{Eq, Ne, Lt, Le, 
 use Rattle.mir_base.specs.Numbers.{relation_holds}
 use Rattle.bounds.specs.declared.ends.End.TheVariants.{Least, Greatest}
 use Rattle.bounds.specs.declared.facts.Fact.{Fact}
-use Rattle.bounds.specs.Ends.{value}
+use Rattle.bounds.specs.Ends.{end_value}
 use Rattle.bounds.specs.Facts.{low_of, high_of, BelowFact, Bounds}
 use Rattle.bounds.specs.EndLaws.{le_is, is_le, both_left, both_right, fits_low, fits_high, low_fits, high_fits, below_low, below_high}
 use Rattle.bounds.specs.declared.spans.Span.{Span}
@@ -75,8 +75,8 @@ pub narrowed_holds : (op : RelOp) (x y : Fact) (a b : ℤ) → FitsSigned w64 a 
     → relation_holds op a b ≡ true → Bounds (narrowed op x y) a
 narrowed_holds op x y a b f p q h =
     let there = where_holds op (span_of x) (span_of y) a b f (record { low = p.low; high = p.high }) (record { low = q.low; high = q.high }) h in
-    let low : value Least ≤ℤ low_of x = fits_low _ (low_fits x) in
-    let high : high_of x ≤ℤ value Greatest = fits_high _ (high_fits x) in
+    let low : end_value Least ≤ℤ low_of x = fits_low _ (low_fits x) in
+    let high : high_of x ≤ℤ end_value Greatest = fits_high _ (high_fits x) in
     surest_holds (meet (span_of x) (span_where op (span_of x) (span_of y))) a (omega (arith, ints, clamps, low))
     (omega (arith, ints, clamps, high)) f
     (record { low = omega (arith, ints, clamps, p.low, there.low); high = omega (arith, ints, clamps, p.high, there.high) })
@@ -148,8 +148,8 @@ narrowed_mono op x x' y y' p q =
     let v : Within (span_of x) (span_of x') = record { low = below_low x x' p; high = below_high x x' p } in
     let w : Within (span_of y) (span_of y') = record { low = below_low y y' q; high = below_high y y' q } in
     let there = where_mono op _ _ _ _ v w in
-    let low : value Least ≤ℤ low_of x' = fits_low _ (low_fits x') in
-    let high : high_of x' ≤ℤ value Greatest = fits_high _ (high_fits x') in
+    let low : end_value Least ≤ℤ low_of x' = fits_low _ (low_fits x') in
+    let high : high_of x' ≤ℤ end_value Greatest = fits_high _ (high_fits x') in
     surest_mono (meet (span_of x) (span_where op (span_of x) (span_of y)))
     (meet (span_of x') (span_where op (span_of x') (span_of y'))) (omega (arith, ints, clamps, low))
     (omega (arith, ints, clamps, high))

@@ -10,7 +10,7 @@ use Rattle.bounds.specs.declared.ends.End.TheVariants.{Greatest, Least}
 use Rattle.bounds.specs.declared.facts.Fact.{Fact}
 use Rattle.bounds.specs.declared.facts.Fact.TheVariants.{Between, Fixed, Never}
 use Rattle.bounds.specs.declared.spans.Span.{Span}
-use Rattle.bounds.specs.Ends.{ceiling, floor, value}
+use Rattle.bounds.specs.Ends.{ceiling, floor, end_value}
 use Rattle.bounds.specs.Facts.{high_of, low_of}
 use Rattle.bounds.specs.EndLaws.{both_left, both_right, ceiling_high, fits_high, fits_low, floor_low, high_fits, le_is, low_fits, is_le}
 use Rattle.bounds.specs.Bounding.{are_one, span_of, surest}
@@ -22,7 +22,7 @@ pub record IsPossible (x : Fact) : Type 0 where
   pub order : low_of x ≤ℤ high_of x
 
 -- the surest fact of a span that is not empty
-surest_possible : (s : Span) → value Least ≤ℤ s.low → s.high ≤ℤ value Greatest → s.low ≤ℤ s.high
+surest_possible : (s : Span) → end_value Least ≤ℤ s.low → s.high ≤ℤ end_value Greatest → s.low ≤ℤ s.high
     → IsPossible (surest s)
 surest_possible s low high some = cases _ refl (int_le s.high s.low)
   where
@@ -73,8 +73,8 @@ differ_possible s t p q may false is true is' =
     strict a b h = grind (arith, ints)
 
 -- the ends of what is left by a relation meet those of the first
-where_possible : (op : RelOp) (s t : Span) → s.low ≤ℤ s.high → t.low ≤ℤ t.high → value Least ≤ℤ s.low
-    → s.high ≤ℤ value Greatest → may_relate op s t ≡ true
+where_possible : (op : RelOp) (s t : Span) → s.low ≤ℤ s.high → t.low ≤ℤ t.high → end_value Least ≤ℤ s.low
+    → s.high ≤ℤ end_value Greatest → may_relate op s t ≡ true
     → int_max s.low (span_where op s t).low ≤ℤ int_min s.high (span_where op s t).high
 where_possible Eq s t p q l g may =
     let a : s.low ≤ℤ t.high = le_is _ _ (both_left _ (int_le t.low s.high) may) in
@@ -101,7 +101,7 @@ where_possible Ge s t p q l g may = let a : t.low ≤ℤ s.high = le_is _ _ may 
 pub narrowed_possible : (op : RelOp) (x y : Fact) → IsPossible x → IsPossible y
     → may_relate op (span_of x) (span_of y) ≡ true → IsPossible (narrowed op x y)
 narrowed_possible op x y p q may =
-    let low : value Least ≤ℤ low_of x = fits_low _ (low_fits x) in
-    let high : high_of x ≤ℤ value Greatest = fits_high _ (high_fits x) in
+    let low : end_value Least ≤ℤ low_of x = fits_low _ (low_fits x) in
+    let high : high_of x ≤ℤ end_value Greatest = fits_high _ (high_fits x) in
     surest_possible (meet (span_of x) (span_where op (span_of x) (span_of y))) (omega (arith, ints, clamps, low))
     (omega (arith, ints, clamps, high)) (where_possible op _ _ p.order q.order low high may)

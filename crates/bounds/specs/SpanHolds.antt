@@ -16,7 +16,7 @@ use Rattle.mir_base.specs.Numbers.{wrapped, unsigned, distance, truth, value_of_
 use Rattle.mir_base.specs.WordLaws.{bits_are}
 use Rattle.bounds.specs.declared.ends.End.{End}
 use Rattle.bounds.specs.declared.ends.End.TheVariants.{Least, Min32, Min16, Min8, MinusOne, Zero, One, Max8, MaxU8, Max16, MaxU16, Max32, MaxU32, Greatest}
-use Rattle.bounds.specs.Ends.{value, ceiling}
+use Rattle.bounds.specs.Ends.{end_value, ceiling}
 use Rattle.bounds.specs.EndLaws.{le_is, is_le, both_left, both_right, ceiling_high}
 use Rattle.bounds.specs.declared.spans.Span.{Span}
 use Rattle.bounds.specs.Bounding.{In, span, all, is_natural, is_positive, natural, are_distances, shifted_all, span_mul, span_div, span_mod, span_shl, span_shr, span_shra_by, span_shra, first_distance, depth, scaled, span_and, span_or, are_one, may_equal, span_lt, span_le, span_op, span_un_op}
@@ -51,8 +51,8 @@ guard_two false false s t z h k = all_holds z
 exact : (s : Span) (z : ℤ) → In s z → InIfFits s (wrapped z)
 exact s z h = record {
   in_span = λ p q.
-      let low : value Least ≤ℤ z = le_trans _ _ _ p h.low in
-      let high : z ≤ℤ value Greatest = le_trans _ _ _ h.high q in
+      let low : end_value Least ≤ℤ z = le_trans _ _ _ p h.low in
+      let high : z ≤ℤ end_value Greatest = le_trans _ _ _ h.high q in
       subst (In s) (sym (int_wrap_fits w64 z (fits_from z low high))) h;
 }
 
@@ -261,7 +261,7 @@ and_holds s t a b fit_a fit_b v w =
     at_right (negsuc b) fit w h = not_natural t b w h
 
 -- a natural end has ones alone: one more than it is a power of two
-pub ones_end : (e : End) → pos 0 ≤ℤ value e → (k : ℕ) × (value e +ℤ pos 1 ≡ pos (2 ^ k))
+pub ones_end : (e : End) → pos 0 ≤ℤ end_value e → (k : ℕ) × (end_value e +ℤ pos 1 ≡ pos (2 ^ k))
 ones_end Least le = absurd (omega (arith, ints, le))
 ones_end Min32 le = absurd (omega (arith, ints, le))
 ones_end Min16 le = absurd (omega (arith, ints, le))
@@ -279,8 +279,8 @@ ones_end Greatest le = (63, refl)
 
 -- what keeps numbers below powers of two keeps them at most such ends
 below_end : (f : ℕ → ℕ → ℕ) (a b : ℕ) (e : End)
-    → ((k a b : ℕ) → a < 2 ^ k → b < 2 ^ k → f a b < 2 ^ k) → pos a ≤ℤ value e → pos b ≤ℤ value e
-    → pos (f a b) ≤ℤ value e
+    → ((k a b : ℕ) → a < 2 ^ k → b < 2 ^ k → f a b < 2 ^ k) → pos a ≤ℤ end_value e → pos b ≤ℤ end_value e
+    → pos (f a b) ≤ℤ end_value e
 below_end f a b e keeps p q =
     let ones = ones_end e (omega (arith, ints, p)) in
     let left : a < 2 ^ ones.0 = omega (arith, ints, p, ones.1) in
@@ -289,19 +289,19 @@ below_end f a b e keeps p q =
 
 -- `or` and `xor`
 or_holds : (f : ℕ → ℕ → ℕ) (s t : Span) (a b : ℤ) → ((k a b : ℕ) → a < 2 ^ k → b < 2 ^ k → f a b < 2 ^ k)
-    → s.high ≤ℤ value Greatest → t.high ≤ℤ value Greatest
+    → s.high ≤ℤ end_value Greatest → t.high ≤ℤ end_value Greatest
     → FitsSigned w64 a → FitsSigned w64 b → In s a → In t b
     → InIfFits (span_or s t) (wrapped (pos (f (unsigned a) (unsigned b))))
 or_holds f s t (pos a) (pos b) keeps small small' fit_a fit_b v w =
     let same : unsigned (pos a) ≡ a = unsigned_is a fit_a in
     let same' : unsigned (pos b) ≡ b = unsigned_is b fit_b in
-    let near : int_max s.high t.high ≤ℤ value (ceiling (int_max s.high t.high)) = ceiling_high _
+    let near : int_max s.high t.high ≤ℤ end_value (ceiling (int_max s.high t.high)) = ceiling_high _
     (omega (arith, ints, clamps, small, small')) in
-    let left : pos (unsigned (pos a)) ≤ℤ value (ceiling (int_max s.high t.high)) =
+    let left : pos (unsigned (pos a)) ≤ℤ end_value (ceiling (int_max s.high t.high)) =
     omega (arith, ints, clamps, near, same, v.high) in
-    let right : pos (unsigned (pos b)) ≤ℤ value (ceiling (int_max s.high t.high)) =
+    let right : pos (unsigned (pos b)) ≤ℤ end_value (ceiling (int_max s.high t.high)) =
     omega (arith, ints, clamps, near, same', w.high) in
-    let both : In (span (pos 0) (value (ceiling (int_max s.high t.high)))) (pos (f (unsigned (pos a)) (unsigned (pos b)))) =
+    let both : In (span (pos 0) (end_value (ceiling (int_max s.high t.high)))) (pos (f (unsigned (pos a)) (unsigned (pos b)))) =
     record { low = omega (arith, ints); high = below_end f _ _ (ceiling (int_max s.high t.high)) keeps left right } in
     guard _ _ _ (λ h. exact _ _ both)
 or_holds f s t (negsuc a) b keeps small small' fit_a fit_b v w =
@@ -363,7 +363,7 @@ equal_means s t a b v w is =
     eq_is a b h = grind (arith, ints)
 
 -- each operator
-pub span_holds : (op : Op) (s t : Span) (a b : ℤ) → s.high ≤ℤ value Greatest → t.high ≤ℤ value Greatest
+pub span_holds : (op : Op) (s t : Span) (a b : ℤ) → s.high ≤ℤ end_value Greatest → t.high ≤ℤ end_value Greatest
     → FitsSigned w64 a → FitsSigned w64 b → In s a → In t b → InIfFits (span_op op s t) (value_of_op op a b)
 span_holds Add s t a b p q f g v w =
     exact _ _ (record { low = omega (arith, ints, v.low, w.low); high = omega (arith, ints, v.high, w.high) })

@@ -11,7 +11,7 @@ use Rattle.mir_base.specs.declared.operators.UnOp.{UnOp}
 use Rattle.mir_base.specs.declared.operators.UnOp.TheVariants.{Neg, Not}
 use Rattle.mir_base.specs.Numbers.{truth}
 use Rattle.bounds.specs.declared.ends.End.TheVariants.{Greatest}
-use Rattle.bounds.specs.Ends.{value}
+use Rattle.bounds.specs.Ends.{end_value}
 use Rattle.bounds.specs.EndLaws.{le_is, is_le, both_left, both_right, value_mono}
 use Rattle.bounds.specs.declared.spans.Span.{Span}
 use Rattle.bounds.specs.Bounding.{Within, span, all, is_natural, is_positive, natural, are_distances, shifted_all, span_mul, span_div, span_mod, span_shl, span_shr, span_shra_by, span_shra, first_distance, depth, scaled, span_and, span_or, are_one, may_equal, span_lt, span_le, span_op, span_un_op}
@@ -250,12 +250,12 @@ quotient_low : (n k : ℕ) → n / 2 ^ k ≤ n
 quotient_low n k = shr_le n k
 
 -- all natural numbers of 64 bits are below the greatest without a sign
-below_word : (z : ℤ) → z ≤ℤ value Greatest → natural z ≤ 18446744073709551615
+below_word : (z : ℤ) → z ≤ℤ end_value Greatest → natural z ≤ 18446744073709551615
 below_word (pos n) le = omega (arith, ints, le)
 below_word (negsuc n) le = omega arith
 
 -- the high end of a shift to the right
-shr_high : (b b' : Bool) (h h' : ℤ) (k k' : ℕ) → (b' ≡ true → b ≡ true) → h ≤ℤ h' → h ≤ℤ value Greatest → k' ≤ k
+shr_high : (b b' : Bool) (h h' : ℤ) (k k' : ℕ) → (b' ≡ true → b ≡ true) → h ≤ℤ h' → h ≤ℤ end_value Greatest → k' ≤ k
     → (if b then pos (natural h / 2 ^ k) else shifted_all k) ≤ℤ
     (if b' then pos (natural h' / 2 ^ k') else shifted_all k')
 shr_high true true h h' k k' on le small low =
@@ -273,7 +273,7 @@ shr_less true h h' k on le = pos_mono _ _ (omega (arith, quotient_low (natural h
 shr_less false h h' k on le = absurd (cc)
 
 -- shifts to the right of numbers without a sign
-shr_mono : (s s' t t' : Span) → s'.high ≤ℤ value Greatest → Within s s' → Within t t'
+shr_mono : (s s' t t' : Span) → s'.high ≤ℤ end_value Greatest → Within s s' → Within t t'
     → WithinIfFits (span_shr s t) (span_shr s' t')
 shr_mono s s' t t' small v w =
     guard_two _ _ _ _ _ _ _ _ (distances_stay t t' w) (least_stays (pos 0) s s' v)
@@ -302,11 +302,11 @@ and_mono s s' t t' v w =
     (λ k. lies _ _ (record { low = omega (arith, ints); high = w.high }))
 
 -- `or` and `xor`
-or_mono : (s s' t t' : Span) → s'.high ≤ℤ value Greatest → t'.high ≤ℤ value Greatest → Within s s' → Within t t'
+or_mono : (s s' t t' : Span) → s'.high ≤ℤ end_value Greatest → t'.high ≤ℤ end_value Greatest → Within s s' → Within t t'
     → WithinIfFits (span_or s t) (span_or s' t')
 or_mono s s' t t' small small' v w =
     let greater : int_max s.high t.high ≤ℤ int_max s'.high t'.high = omega (arith, ints, clamps, v.high, w.high) in
-    let least : int_max s'.high t'.high ≤ℤ value Greatest = omega (arith, ints, clamps, small, small') in
+    let least : int_max s'.high t'.high ≤ℤ end_value Greatest = omega (arith, ints, clamps, small, small') in
     guard _ _ _ _ (both_stay _ _ _ _ (least_stays (pos 0) s s' v) (least_stays (pos 0) t t' w))
     (λ h. lies _ _ (record {
       low = omega (arith, ints);
@@ -345,7 +345,7 @@ pub may_stay : (s s' t t' : Span) → Within s s' → Within t t' → may_equal 
 may_stay s s' t t' v w = both_stay _ _ _ _ (le_stays _ _ _ _ v.low w.high) (le_stays _ _ _ _ w.low v.high)
 
 -- each operator
-pub span_mono : (op : Op) (s s' t t' : Span) → s'.high ≤ℤ value Greatest → t'.high ≤ℤ value Greatest → Within s s'
+pub span_mono : (op : Op) (s s' t t' : Span) → s'.high ≤ℤ end_value Greatest → t'.high ≤ℤ end_value Greatest → Within s s'
     → Within t t' → WithinIfFits (span_op op s t) (span_op op s' t')
 span_mono Add s s' t t' p q v w =
     lies _ _ (record { low = omega (arith, ints, v.low, w.low); high = omega (arith, ints, v.high, w.high) })

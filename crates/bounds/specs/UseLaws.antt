@@ -13,13 +13,13 @@ use Rattle.mir_base.specs.Numbers.{wrapped, unsigned, distance, is_dividing, tra
 use Rattle.bounds.specs.declared.ends.End.{End}
 use Rattle.bounds.specs.declared.facts.Fact.{Fact}
 use Rattle.bounds.specs.declared.facts.Fact.TheVariants.{Between}
-use Rattle.bounds.specs.Ends.{value}
+use Rattle.bounds.specs.Ends.{end_value}
 use Rattle.bounds.specs.Facts.{low_of, high_of, Bounds}
 use Rattle.bounds.specs.RoundingLaws.{le_trans}
 use Rattle.bounds.specs.SpanHolds.{ones_end, unsigned_is}
 
 -- an interval of one number holds of that alone, as that of a comparison that is decided
-pub one_number : (e : End) (z : ℤ) → Bounds (Between e e) z → z ≡ value e
+pub one_number : (e : End) (z : ℤ) → Bounds (Between e e) z → z ≡ end_value e
 one_number e z h = omega (arith, ints, h.low, h.high)
 
 -- numbers above 0 are not found equal to it
@@ -78,15 +78,15 @@ masked n m k small ones =
     left ∙ blocks ∙ omega (arith, kept)
 
 -- an `and` with a number that has all bits of an interval of natural numbers, one by its high end, keeps its numbers
-pub and_keeps : (e f : End) (a m : ℤ) → FitsSigned w64 a → pos 0 ≤ℤ value e
-    → pos (bit_and (unsigned m) (unsigned_abs (value f))) ≡ value f → Bounds (Between e f) a
+pub and_keeps : (e f : End) (a m : ℤ) → FitsSigned w64 a → pos 0 ≤ℤ end_value e
+    → pos (bit_and (unsigned m) (unsigned_abs (end_value f))) ≡ end_value f → Bounds (Between e f) a
     → value_of_op And a m ≡ a
 and_keeps e f (negsuc a) m fits low ones h = absurd (omega (arith, ints, low, h.low))
 and_keeps e f (pos a) m fits low ones h =
-    let natural : pos 0 ≤ℤ value f = omega (arith, ints, h.high) in
+    let natural : pos 0 ≤ℤ end_value f = omega (arith, ints, h.high) in
     let power = ones_end f natural in
     let small : a < 2 ^ power.0 = omega (arith, ints, h.high, power.1) in
-    let end_is : value f ≡ pos (2 ^ power.0 - 1) = omega (arith, ints, power.1, pow_pos power.0) in
+    let end_is : end_value f ≡ pos (2 ^ power.0 - 1) = omega (arith, ints, power.1, pow_pos power.0) in
     let ones' : pos (bit_and (unsigned m) (2 ^ power.0 - 1)) ≡ pos (2 ^ power.0 - 1) =
     subst (λ z. pos (bit_and (unsigned m) (unsigned_abs z)) ≡ z) end_is ones in
     let bits : bit_and (unsigned m) (2 ^ power.0 - 1) ≡ 2 ^ power.0 - 1 = cc in

@@ -1,6 +1,6 @@
 // The ends that intervals have.
 ghost use Rattle.std.specs.Prelude.{◌≡◌, true, if◌then◌else◌, int_le};
-ghost use Rattle.bounds.specs.Ends.{ceiling, floor, index, lower, upper, value};
+ghost use Rattle.bounds.specs.Ends.{ceiling, floor, index, lower, upper, end_value};
 
 /// An end of an interval, in ascending order.
 #[derive(Clone, Copy, Debug, PartialEq, Eq)]
@@ -36,8 +36,8 @@ pub enum End {
 }
 
 /// The number that an end is.
-pub(crate) fn value(end: End) -> i64
-    ensures { result ≡ value end }
+pub(crate) fn end_value(end: End) -> i64
+    ensures { result ≡ end_value end }
 {
     match end {
         End::Least => -9_223_372_036_854_775_808,
@@ -124,9 +124,9 @@ pub(crate) fn floor(z: i64) -> End
 
 /// The end where it is at most the number, else another.
 fn if_at_most(end: End, z: i64, other: End) -> End
-    ensures { result ≡ (if int_le (value end) z then end else other) }
+    ensures { result ≡ (if int_le (end_value end) z then end else other) }
 {
-    if value(end) <= z { end } else { other }
+    if end_value(end) <= z { end } else { other }
 }
 
 /// The least end that is at least the number.
@@ -151,7 +151,7 @@ pub(crate) fn ceiling(z: i64) -> End
 
 /// The end where it is at least the number, else another.
 fn if_at_least(end: End, z: i64, other: End) -> End
-    ensures { result ≡ (if int_le z (value end) then end else other) }
+    ensures { result ≡ (if int_le z (end_value end) then end else other) }
 {
-    if z <= value(end) { end } else { other }
+    if z <= end_value(end) { end } else { other }
 }

@@ -1,7 +1,7 @@
 // What is known of a variable, and what is known where two paths meet.
 ghost use Rattle.std.specs.Prelude.{◌≡◌, ◌↔◌, false, true};
 ghost use Rattle.fix_solve.specs.Order.{IsLeastUpper};
-ghost use Rattle.bounds.specs.Facts.{BelowFact, fact_rank, high_end, hull, joined, low_end};
+ghost use Rattle.bounds.specs.Facts.{BelowFact, fact_rank, high_end, hull, joined_fact, low_end};
 ghost use Rattle.bounds.specs.FactLaws.{fact_laws, fact_size};
 
 use crate::ends::{End, are_same_ends, ceiling, floor, lower, upper};
@@ -20,8 +20,8 @@ pub enum Fact {
 
 /// What is known where two paths meet: equal constants stay, and else the least interval with such ends that holds
 /// both facts.
-pub(crate) fn joined(x: Fact, y: Fact) -> Fact
-    ensures { result ≡ joined x y }
+pub(crate) fn joined_fact(x: Fact, y: Fact) -> Fact
+    ensures { result ≡ joined_fact x y }
 {
     match x {
         Fact::Never => y,
@@ -103,7 +103,7 @@ impl Lattice for Fact {
 
     #[tactic(auto, using(crate::specs::FactLaws::fact_joins))]
     fn join_from(&mut self, other: &Self) -> bool {
-        let met = joined(*self, *other);
+        let met = joined_fact(*self, *other);
         if are_same(met, *self) {
             false
         } else {

@@ -14,7 +14,7 @@ ghost use Rattle.mir_base.specs.Frames.{Values};
 ghost use Rattle.mir_base.specs.Units.{test_holds};
 ghost use Rattle.bounds.specs.declared.ends.End.{End};
 ghost use Rattle.bounds.specs.declared.facts.Fact.TheVariants.{Between};
-ghost use Rattle.bounds.specs.Ends.{value};
+ghost use Rattle.bounds.specs.Ends.{end_value};
 ghost use Rattle.bounds.specs.Edges.{AreBounds, BelowFacts, fact_of_rhs, facts_along, may_go};
 ghost use Rattle.bounds.specs.Facts.{BelowFact, Bounds, high_of, low_of};
 ghost use Rattle.bounds.specs.Bounding.{bounds_of, bounds_of_un, span_of};
@@ -80,12 +80,12 @@ pub fn uses_hold()
         → (pos 1 ≤ℤ low_of y) ⊎ (high_of y ≤ℤ negsuc 0) → Bounds y b → traps op b ≡ false }
     ensures remainder { (x y : Fact) (a d : ℤ) → pos 0 ≤ℤ low_of x → high_of x <ℤ low_of y
         → Bounds x a → Bounds y d → value_of_op Mod a d ≡ a }
-    ensures masked { (e f : End) (a m : ℤ) → FitsSigned w64 a → pos 0 ≤ℤ value e
-        → pos (bit_and (unsigned m) (unsigned_abs (value f))) ≡ value f → Bounds (Between e f) a
-        → value_of_op And a m ≡ a }
+    ensures masked { (e f : End) (a m : ℤ) → FitsSigned w64 a → pos 0 ≤ℤ end_value e
+        → pos (bit_and (unsigned m) (unsigned_abs (end_value f))) ≡ end_value f
+        → Bounds (Between e f) a → value_of_op And a m ≡ a }
     ensures shifted { (a s : ℤ) → FitsSigned w64 (a *ℤ pos (2 ^ distance s))
         → value_of_op Shra (value_of_op Shl a s) s ≡ a }
-    ensures decided { (e : End) (z : ℤ) → Bounds (Between e e) z → z ≡ value e }
+    ensures decided { (e : End) (z : ℤ) → Bounds (Between e e) z → z ≡ end_value e }
     ensures lesser { (x y : Fact) (a b : ℤ) → high_of x ≤ℤ low_of y → Bounds x a → Bounds y b
         → value_of_op Min a b ≡ a }
     ensures greater { (x y : Fact) (a b : ℤ) → high_of y ≤ℤ low_of x → Bounds x a → Bounds y b

@@ -1,8 +1,8 @@
 // Between which numbers an operand lies where a relation holds.
 ghost use Rattle.std.specs.Prelude.{◌≡◌, ◌≤ℤ◌, ◌+ℤ◌, ◌-ℤ◌, if◌then◌else◌, pos};
 ghost use Rattle.bounds.specs.declared.ends.End.TheVariants.{Greatest, Least};
-ghost use Rattle.bounds.specs.Ends.{value};
-ghost use Rattle.bounds.specs.Bounding.{IsWord};
+ghost use Rattle.bounds.specs.Ends.{end_value};
+ghost use Rattle.bounds.specs.Bounding.{IsWordSpan};
 ghost use Rattle.bounds.specs.Narrowing.{is_high, is_low, may_relate, meet, span_where};
 
 use crate::spans::{Span, are_one, greater, lesser, may_equal};
@@ -10,11 +10,11 @@ use mir_base::RelOp;
 
 /// The numbers of the first span that are in the relation to one of the second.
 pub(crate) fn span_where(op: RelOp, s: Span, t: Span) -> Span
-    requires left { IsWord s }
-    requires right { IsWord t }
+    requires left { IsWordSpan s }
+    requires right { IsWordSpan t }
     ensures span { result ≡ span_where op s t }
-    ensures low { value Least ≤ℤ result.low }
-    ensures high { result.high ≤ℤ value Greatest }
+    ensures low { end_value Least ≤ℤ result.low }
+    ensures high { result.high ≤ℤ end_value Greatest }
 {
     match op {
         RelOp::Eq => t,
@@ -43,9 +43,9 @@ pub(crate) fn span_where(op: RelOp, s: Span, t: Span) -> Span
 
 /// The low end of the first span, or one more where all numbers of the second are that end.
 fn low_where_differs(s: Span, t: Span) -> i128
-    requires { IsWord s }
-    ensures value { result ≡ (if is_low s t then s.low +ℤ pos 1 else s.low) }
-    ensures low { value Least ≤ℤ result }
+    requires { IsWordSpan s }
+    ensures end_value { result ≡ (if is_low s t then s.low +ℤ pos 1 else s.low) }
+    ensures low { end_value Least ≤ℤ result }
 {
     if t.high <= s.low && s.low <= t.low {
         s.low + 1
@@ -56,9 +56,9 @@ fn low_where_differs(s: Span, t: Span) -> i128
 
 /// The high end, or one less.
 fn high_where_differs(s: Span, t: Span) -> i128
-    requires { IsWord s }
-    ensures value { result ≡ (if is_high s t then s.high -ℤ pos 1 else s.high) }
-    ensures high { result ≤ℤ value Greatest }
+    requires { IsWordSpan s }
+    ensures end_value { result ≡ (if is_high s t then s.high -ℤ pos 1 else s.high) }
+    ensures high { result ≤ℤ end_value Greatest }
 {
     if t.high <= s.high && s.high <= t.low {
         s.high - 1
@@ -69,10 +69,10 @@ fn high_where_differs(s: Span, t: Span) -> i128
 
 /// The numbers of both spans, of which the first has 64 bits.
 pub(crate) fn meet(s: Span, t: Span) -> Span
-    requires { IsWord s }
+    requires { IsWordSpan s }
     ensures meet { result ≡ meet s t }
-    ensures low { value Least ≤ℤ result.low }
-    ensures high { result.high ≤ℤ value Greatest }
+    ensures low { end_value Least ≤ℤ result.low }
+    ensures high { result.high ≤ℤ end_value Greatest }
 {
     Span {
         low: greater(s.low, t.low),

@@ -1,7 +1,7 @@
 // From the numbers between two ends to a fact.
 ghost use Rattle.std.specs.Prelude.{◌≡◌, ◌≤ℤ◌};
 ghost use Rattle.bounds.specs.declared.ends.End.TheVariants.{Greatest, Least};
-ghost use Rattle.bounds.specs.Ends.{ceiling, floor, value};
+ghost use Rattle.bounds.specs.Ends.{ceiling, floor, end_value};
 ghost use Rattle.bounds.specs.Bounding.{rounded, surest};
 
 use crate::ends::{End, ceiling, floor};
@@ -21,8 +21,8 @@ pub(crate) fn rounded(s: Span) -> Fact
 
 /// The surest fact of a span of 64 bits: "never" of none, and the number of one.
 pub(crate) fn surest(s: Span) -> Fact
-    requires low { value Least ≤ℤ s.low }
-    requires high { s.high ≤ℤ value Greatest }
+    requires low { end_value Least ≤ℤ s.low }
+    requires high { s.high ≤ℤ end_value Greatest }
     ensures { result ≡ surest s }
 {
     if s.high < s.low {
@@ -37,7 +37,7 @@ pub(crate) fn surest(s: Span) -> Fact
 /// The greatest end that is at most the number.
 #[tactic(auto, using(crate::specs::RoundingLaws::floor_top))]
 fn lowest(z: i128) -> End
-    requires { value Least ≤ℤ z }
+    requires { end_value Least ≤ℤ z }
     ensures { result ≡ floor z }
 {
     if z <= 9_223_372_036_854_775_807 {
@@ -50,7 +50,7 @@ fn lowest(z: i128) -> End
 /// The least end that is at least the number.
 #[tactic(auto, using(crate::specs::RoundingLaws::ceiling_bottom))]
 pub(crate) fn highest(z: i128) -> End
-    requires { z ≤ℤ value Greatest }
+    requires { z ≤ℤ end_value Greatest }
     ensures { result ≡ ceiling z }
 {
     if -9_223_372_036_854_775_808 <= z {

@@ -1,8 +1,8 @@
 // The facts of results, and of operands where a relation holds.
 ghost use Rattle.std.specs.Prelude.{◌≡◌, ◌≤ℤ◌};
-ghost use Rattle.bounds.specs.Ends.{value};
+ghost use Rattle.bounds.specs.Ends.{end_value};
 ghost use Rattle.bounds.specs.declared.facts.Fact.TheVariants.{Fixed};
-ghost use Rattle.bounds.specs.Bounding.{IsWord};
+ghost use Rattle.bounds.specs.Bounding.{IsWordSpan};
 ghost use Rattle.bounds.specs.declared.ends.End.TheVariants.{Greatest, Least};
 ghost use Rattle.bounds.specs.Narrowing.{may_relate, narrowed};
 ghost use Rattle.bounds.specs.Bounding.{bounds_of, bounds_of_un, rounded, span_of, span_op};

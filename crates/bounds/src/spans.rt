@@ -4,10 +4,10 @@ ghost use Rattle.mir_base.specs.declared.operators.Op.TheVariants.{Add, Eq, Max,
 ghost use Rattle.mir_base.specs.Numbers.{truth};
 ghost use Rattle.std.specs.Int.{int_div_euclid, int_max, int_min};
 ghost use Rattle.bounds.specs.declared.ends.End.TheVariants.{Greatest, Least};
-ghost use Rattle.bounds.specs.Ends.{ceiling, value};
-ghost use Rattle.bounds.specs.Bounding.{all, are_distances, are_one, is_natural, is_positive, may_equal, natural, span, span_and, span_div, span_le, span_lt, span_mod, span_mul, span_of, span_op, span_or, span_shl, span_shr, span_shra, span_shra_by, span_un_op, first_distance, depth, scaled, IsInWord, IsWord};
+ghost use Rattle.bounds.specs.Ends.{ceiling, end_value};
+ghost use Rattle.bounds.specs.Bounding.{all, are_distances, are_one, is_natural, is_positive, may_equal, natural, span, span_and, span_div, span_le, span_lt, span_mod, span_mul, span_of, span_op, span_or, span_shl, span_shr, span_shra, span_shra_by, span_un_op, first_distance, depth, scaled, IsInWord, IsWordSpan};
 
-use crate::ends::{End, ceiling, value};
+use crate::ends::{End, ceiling, end_value};
 use crate::facts::Fact;
 use crate::rounding::highest;
 use mir_base::{Op, UnOp};
@@ -24,7 +24,7 @@ pub struct Span {
 /// The numbers of which a fact holds.
 pub(crate) fn span_of(x: Fact) -> Span
     ensures span { result ≡ span_of x }
-    ensures word { IsWord result }
+    ensures word { IsWordSpan result }
 {
     match x {
         Fact::Never => Span {
@@ -36,8 +36,8 @@ pub(crate) fn span_of(x: Fact) -> Span
             high: c as i128,
         },
         Fact::Between(e, f) => Span {
-            low: value(e) as i128,
-            high: value(f) as i128,
+            low: end_value(e) as i128,
+            high: end_value(f) as i128,
         },
     }
 }
@@ -72,8 +72,8 @@ fn difference(a: i128, b: i128) -> i128
 
 /// Sums.
 fn span_add(s: Span, t: Span) -> Span
-    requires left { IsWord s }
-    requires right { IsWord t }
+    requires left { IsWordSpan s }
+    requires right { IsWordSpan t }
     ensures { result ≡ span_op Add s t }
 {
     Span {
@@ -84,8 +84,8 @@ fn span_add(s: Span, t: Span) -> Span
 
 /// Differences.
 fn span_sub(s: Span, t: Span) -> Span
-    requires left { IsWord s }
-    requires right { IsWord t }
+    requires left { IsWordSpan s }
+    requires right { IsWordSpan t }
     ensures { result ≡ span_op Sub s t }
 {
     Span {
@@ -236,7 +236,7 @@ pub(crate) fn may_equal(s: Span, t: Span) -> bool
 /// The number below 0 as one above, or 0 where it is not below.
 fn depth(z: i128) -> i128
     requires { IsInWord z }
-    ensures value { result ≡ pos (depth z) }
+    ensures end_value { result ≡ pos (depth z) }
     ensures low { pos 0 ≤ℤ result }
     ensures high { result ≤ℤ pos 9223372036854775808 }
 {
@@ -248,7 +248,7 @@ fn depth(z: i128) -> i128
 fn product(a: i128, b: i128) -> i128
     requires left { (pos 0 ≤ℤ a) × (a ≤ℤ pos 9223372036854775808) }
     requires right { (pos 0 ≤ℤ b) × (b ≤ℤ pos 9223372036854775808) }
-    ensures value { result ≡ pos (natural a * natural b) }
+    ensures end_value { result ≡ pos (natural a * natural b) }
     ensures high { result ≤ℤ pos 85070591730234615865843651857942052864 }
 {
     a * b
@@ -264,7 +264,7 @@ fn negated(a: i128) -> i128
 
 /// The span times at most n.
 fn scaled(s: Span, n: i128) -> Span
-    requires span { IsWord s }
+    requires span { IsWordSpan s }
     requires number { (pos 0 ≤ℤ n) × (n ≤ℤ pos 9223372036854775808) }
     ensures { result ≡ scaled s (natural n) }
 {
@@ -276,8 +276,8 @@ fn scaled(s: Span, n: i128) -> Span
 
 /// Products where an operand is natural.
 fn span_mul(s: Span, t: Span) -> Span
-    requires left { IsWord s }
-    requires right { IsWord t }
+    requires left { IsWordSpan s }
+    requires right { IsWordSpan t }
     ensures { result ≡ span_mul s t }
 {
     if is_natural(t) {
@@ -298,8 +298,8 @@ fn are_distances(s: Span) -> bool
 
 /// Quotients of natural numbers.
 fn span_div(s: Span, t: Span) -> Span
-    requires left { IsWord s }
-    requires right { IsWord t }
+    requires left { IsWordSpan s }
+    requires right { IsWordSpan t }
     ensures { result ≡ span_div s t }
 {
     if is_natural(s) && is_positive(t) {
@@ -324,7 +324,7 @@ fn quotient(a: i128, b: i128) -> i128
 
 /// Remainders.
 fn span_mod(s: Span, t: Span) -> Span
-    requires right { IsWord t }
+    requires right { IsWordSpan t }
     ensures { result ≡ span_mod s t }
 {
     if is_natural(s) {
@@ -348,14 +348,14 @@ fn span_mod(s: Span, t: Span) -> Span
 
 /// `or` and `xor` of natural numbers.
 fn span_or(s: Span, t: Span) -> Span
-    requires left { IsWord s }
-    requires right { IsWord t }
+    requires left { IsWordSpan s }
+    requires right { IsWordSpan t }
     ensures { result ≡ span_or s t }
 {
     if is_natural(s) && is_natural(t) {
         Span {
             low: 0,
-            high: value(highest(greater(s.high, t.high))) as i128,
+            high: end_value(highest(greater(s.high, t.high))) as i128,
         }
     } else {
         all()
@@ -365,7 +365,7 @@ fn span_or(s: Span, t: Span) -> Span
 /// 2 to the power k.
 fn power(k: i128) -> i128
     requires { (pos 0 ≤ℤ k) × (k ≤ℤ pos 63) }
-    ensures value { result ≡ pos (2 ^ natural k) }
+    ensures end_value { result ≡ pos (2 ^ natural k) }
     ensures low { pos 1 ≤ℤ result }
     ensures high { result ≤ℤ pos 9223372036854775808 }
 {
@@ -374,7 +374,7 @@ fn power(k: i128) -> i128
 
 /// Shifts to the left.
 fn span_shl(s: Span, t: Span) -> Span
-    requires left { IsWord s }
+    requires left { IsWordSpan s }
     ensures { result ≡ span_shl s t }
 {
     if are_distances(t) {
@@ -386,7 +386,7 @@ fn span_shl(s: Span, t: Span) -> Span
 
 /// The least distance of the span.
 fn first_distance(s: Span) -> i128
-    ensures value { result ≡ pos (first_distance s) }
+    ensures end_value { result ≡ pos (first_distance s) }
     ensures low { pos 0 ≤ℤ result }
     ensures high { result ≤ℤ pos 63 }
 {
@@ -457,8 +457,8 @@ fn shifted(z: i128, k: i128) -> i128
 
 /// Between which numbers the value of an operator lies.
 pub(crate) fn span_op(op: Op, s: Span, t: Span) -> Span
-    requires left { IsWord s }
-    requires right { IsWord t }
+    requires left { IsWordSpan s }
+    requires right { IsWordSpan t }
     ensures { result ≡ span_op op s t }
 {
     match op {
@@ -485,7 +485,7 @@ pub(crate) fn span_op(op: Op, s: Span, t: Span) -> Span
 
 /// Where the value of an operator on one number lies.
 pub(crate) fn span_un_op(op: UnOp, s: Span) -> Span
-    requires { IsWord s }
+    requires { IsWordSpan s }
     ensures { result ≡ span_un_op op s }
 {
     match op {
