@@ -1,0 +1,192 @@
+"""The code for LLVM that the kit makes of a crate, kept while it works, and what clang makes of that code.
+
+`rt` keeps nothing of it: `rt try` and `rt lib` write the code to a folder of their own below TMPDIR, and remove it with
+that folder. So they are given a TMPDIR that is watched, and a file that appears there gets a second name.
+"""
+
+import os
+import re
+import shlex
+import shutil
+import signal
+import subprocess
+import time
+from pathlib import Path
+
+TOP = Path(__file__).resolve().parent.parent
+CRATES = TOP / 'crates'
+
+# How often a look is taken at what the kit has made, in seconds.
+PAUSE = 0.05
+
+# Code of fewer bytes is the one by which the kit tries its clang, before it compiles the crate.
+TRIAL_SIZE = 100_000
+
+# For which machine clang compiles here.
+TARGET = ('--target=x86_64-unknown-linux-gnu', '-march=x86-64')
+
+# The program whose code is that of a library: a library is not built without proof, and a program's code has no exports.
+# Its `main` calls each of them, so that they are there.
+SCRATCH = 'mir_exports'
+EXPORT = re.compile(r'#\[unsafe\(no_mangle\)\]\npub extern "C" fn (\w+)\(([^)]*)\)')
+VALUES = {'Global': 'rt.alloc()', '&[u8]': 'b""', '&mut [u8]': '&mut [0u8; 1]', '&mut usize': '&mut 0'}
+
+
+class Fault(Exception):
+    """Why something could not be made, in a line or more."""
+
+
+def kit() -> Path:
+    """The folder of the kit."""
+    rt = shutil.which('rt')
+    if rt is None:
+        raise Fault('there is no rt here: the Rattle kit is needed')
+    return Path(rt).resolve().parent.parent
+
+
+def ran(words: list) -> bytes:
+    """What a command writes; where it fails, what it says is the fault."""
+    try:
+        done = subprocess.run(words, stdin=subprocess.DEVNULL, stdout=subprocess.PIPE, stderr=subprocess.PIPE)
+    except OSError as fault:
+        raise Fault(str(fault)) from fault
+    if done.returncode:
+        raise Fault((done.stdout + done.stderr).decode('utf-8', 'replace').strip() or f'{words[0]} failed')
+    return done.stdout
+
+
+def clang(*words) -> bytes:
+    """What the kit's clang writes."""
+    return ran([kit() / 'toolchain/bin/clang', *words])
+
+
+def whole_code(room: Path) -> list[Path]:
+    """The code that stands whole in a room: clang, which reads it, has begun to write what it makes of it."""
+    return [path for path in room.rglob('*.bc') if any(path.parent.glob('*.o*')) and path.stat().st_size > TRIAL_SIZE]
+
+
+def end_hint(rt: int) -> None:
+    """Ends the check of names that `rt try` runs beside its work, which tells early what a proof would refuse, and takes
+    as long as the work itself. It is a child of that `rt`."""
+    for path in Path(f'/proc/{rt}/task/{rt}/children').read_text().split():
+        try:
+            words = Path(f'/proc/{path}/cmdline').read_bytes().split(b'\0')
+            if words[0].endswith(b'/rattle') and b'no function' in words:
+                os.kill(int(path), signal.SIGTERM)
+        except OSError:
+            pass  # it has ended
+
+
+def kept_code(crate: Path, words: list[str], room: Path, to_its_end: bool = False) -> Path:
+    """The code that `rt` makes of a crate with these words. `rt` is ended as soon as the code is whole, or works on."""
+    kept, said, place = room / f'{crate.name}.bc', room / f'{crate.name}.said', room / crate.name
+    place.mkdir()
+    with open(said, 'wb') as out:
+        running = subprocess.Popen(['rt', *words], cwd=crate, stdin=subprocess.DEVNULL, stdout=out, stderr=out,
+                                   env={**os.environ, 'TMPDIR': str(place)})
+        try:
+            while running.poll() is None and (to_its_end or not kept.exists()):
+                time.sleep(PAUSE)
+                end_hint(running.pid)
+                for path in whole_code(place):
+                    if not kept.exists():
+                        os.link(path, kept)
+        finally:
+            if running.poll() is None:
+                running.terminate()
+            status = running.wait()
+    if not kept.exists() or to_its_end and status:
+        raise Fault(f'rt {words[0]} in {crate.name}:\n{said.read_text(errors="replace").strip()}')
+    return kept
+
+
+def exports() -> dict[str, list[str]]:
+    """The functions that mir_c exports, each with the types of its parameters."""
+    text = (CRATES / 'mir_c/src/lib.rt').read_text()
+    return {name: re.findall(r'\w+: ([^,\n]+)', row) for name, row in EXPORT.findall(text)}
+
+
+def scratch_repository(room: Path) -> Path:
+    """The folder of a program that has the exports of mir_c, in a repository of its own beside copies of all crates."""
+    top = room / 'scratch'
+    for path in CRATES.glob('*/src'):
+        for part in ('src', 'specs'):
+            if (path.parent / part).is_dir():
+                shutil.copytree(path.parent / part, top / 'crates' / path.parent.name / part)
+    listed = (TOP / 'crates.txt').read_text()
+    uses = re.search(r'^mir_c staticlib:(.*)', listed, re.MULTILINE)[1]
+    (top / 'crates.txt').write_text(f'{listed}{SCRATCH}:{uses}\n')
+    crate = top / 'crates' / SCRATCH
+    shutil.copytree(CRATES / 'mir_c/src', crate / 'src')
+    (crate / 'src/lib.rt').rename(crate / 'src/main.rt')
+    calls = [f'    let _status = {name}({", ".join(VALUES[kind] for kind in kinds)});'
+             for name, kinds in exports().items()]
+    with open(crate / 'src/main.rt', 'a') as program:
+        program.write('\n'.join(['', 'fn main(rt: HostRuntime) {', *calls, '}', '']))
+    return crate
+
+
+def tried_exports(room: Path) -> Path:
+    """The code of the library for C by `rt try`: that of the scratch program, with exports in the place of `main`."""
+    code = kept_code(scratch_repository(room), ['try'], room)
+    text = clang(*TARGET, '-S', '-emit-llvm', '-O0', '-x', 'ir', code, '-o', '-')
+    text = re.sub(rb'^define i32 @main\(', b'define internal i32 @main(', text, flags=re.MULTILINE)
+    for name in (name.encode() for name in exports()):
+        inner = b'@"%s::%s"' % (SCRATCH.encode(), name)
+        text, count = re.subn(rb'^define internal noundef i8 %s\(' % re.escape(inner), b'define zeroext i8 @%s(' % name,
+                              text, flags=re.MULTILINE)
+        if not count:
+            raise Fault(f'the code of {SCRATCH} has no {name.decode()}')
+        text = text.replace(inner, b'@' + name)
+    made = room / 'exports.ll'
+    made.write_bytes(text)
+    return made
+
+
+def compiled(code: Path, to: Path, *flags: str) -> Path:
+    """The object file that clang makes of code."""
+    clang(*TARGET, *flags, '-x', 'ir', '-c', code, '-o', to)
+    return to
+
+
+def linker() -> list[str]:
+    """The words that call the C compiler: those of CC, as `rt` has it, or else `cc` or `clang`."""
+    words = shlex.split(os.environ.get('CC') or '') or ['cc' if shutil.which('cc') else 'clang']
+    if shutil.which(words[0]) is None:
+        raise Fault(f'there is no C compiler {words[0]} here: set CC')
+    return words
+
+
+def linked(made: Path, to: Path) -> Path:
+    """The program that an object file is with the C code of the kit."""
+    ran([*linker(), made, *(kit() / 'c' / name for name in ('libos_c.a', 'liblibc_c.a')), '-lm', '-o', to])
+    return to
+
+
+def archive(objects: list[Path], room: Path, to: Path) -> Path:
+    """A static library of object files, or of those in other libraries, with the kit's calls of the heap."""
+    tool, parts = kit() / 'toolchain/bin/llvm-ar', []
+    for at, path in enumerate([*objects, kit() / 'c/liblibc_c.a']):
+        if path.suffix == '.a':
+            place = room / f'members{at}'
+            place.mkdir()
+            ran([tool, 'x', '--output', place, path])
+            parts += sorted(place.iterdir())
+        else:
+            parts.append(path)
+    ran([tool, 'rcs', to, *parts])
+    return to
+
+
+def shared(library: Path, to: Path) -> Path:
+    """The shared library of a static one, which needs the C library alone."""
+    ran([*linker(), '-shared', '-Wl,-z,defs', *(f'-Wl,-u,{name}' for name in exports()), library, '-o', to])
+    return to
+
+
+def answers(program: Path, crate: Path) -> bool:
+    """Whether a program writes for the stored run of its crate what is to be written."""
+    words = (crate / 'args').read_text().split() if (crate / 'args').exists() else []
+    with open(crate / 'stdin', 'rb') as given:
+        done = subprocess.run([program, *words], stdin=given, stdout=subprocess.PIPE)
+    return done.returncode == 0 and done.stdout == (crate / 'stdout').read_bytes()
