@@ -1,5 +1,6 @@
 """Programs in Bril for tools/test: what is refused with which line, and programs that a number draws."""
 
+import json
 import random
 from typing import Optional
 
@@ -22,13 +23,13 @@ REFUSED = {
     f'{HEAD}  print;\n}}\n': 'in @main, instruction 1 (`print`): an empty line',
     f'{HEAD}  x: int = const 9223372036854775808;\n}}\n':
         'in @main, instruction 1 (`x: int = const 9223372036854775808`): no integer of 64 bits',
-    f'{HEAD}  x: int = add n;\n}}\n': 'in @main, instruction 1 (`x: int = add n`): another number of arguments than 2',
+    f'{HEAD}  x: int = add n;\n}}\n': 'in @main, instruction 1 (`x: int = add n`): 2 arguments are wanted',
     f'{HEAD}  add n n;\n}}\n': 'in @main, instruction 1 (`add n n`): no variable for its value',
     f'{HEAD}  jmp .a;\n}}\n': 'in @main, instruction 1 (`jmp .a`): there is no label .a',
     f'{HEAD}.a:\n.a:\n}}\n': 'in @main: the label .a stands twice',
     f'{HEAD}  call @f n;\n}}\n': 'in @main, instruction 1 (`call @f n`): there is no function @f',
     f'{HEAD}  call @main;\n}}\n':
-        'in @main, instruction 1 (`call @main`): another number of arguments than the function has',
+        'in @main, instruction 1 (`call @main`): 1 argument is wanted',
     f'{HEAD}  x: int = call @main n;\n}}\n':
         'in @main, instruction 1 (`x: int = call @main n`): a variable for no value',
     f'{HEAD}}}\n@main {{\n}}\n': 'there are two functions @main',
@@ -41,6 +42,43 @@ REFUSED = {
     '{"functions": [}': 'line 1: no JSON: Expecting value',
     '{"functions": [{}]}': 'the JSON is no program of Bril',
     '': 'there is no function @main',
+}
+
+
+def json_of(*lines: dict, **others) -> str:
+    """A program as JSON whose `main` has these lines."""
+    return json.dumps({'functions': [{'name': 'main', 'instrs': lines}], **others})
+
+
+# What is no program although it is near one, and the line that tells so.
+NUMBER = {'op': 'const', 'dest': 'x', 'type': 'int'}
+MALFORMED = {
+    json_of({**NUMBER, 'value': [1]}): 'in @main: the value of x is a list or an object',
+    json_of({**NUMBER, 'value': {'a': 1}}): 'in @main: the value of x is a list or an object',
+    json_of(NUMBER): 'in @main, instruction 1 (`x: int = const`): a constant without a value',
+    json_of({**NUMBER, 'value': True}): 'in @main, instruction 1 (`x: int = const true`): a constant of another type',
+    '@main {\n  b: bool = const 5;\n}\n':
+        'in @main, instruction 1 (`b: bool = const 5`): a constant of another type',
+    '@main {\n  x: float = const 1.2.3;\n}\n': 'line 2: no Bril: `.3;`',
+    f'@main {{\n  x: int = const {5000 * "1"};\n}}\n': 'line 2: a number of more than 100 digits',
+    f'@main(x: {20000 * "ptr<"}int{20000 * ">"}) {{\n}}\n': 'line 1: a type of more than 64 names',
+    '{"functions":' + 20000 * '[': 'the JSON is nested too deeply',
+    '\f': 'line 1: no Bril: `\\x0c`',
+    json_of({'op': 'print', 'args': 'abc'}): 'the JSON is no program of Bril',
+    json_of(imports=[{'path': 'a.bril'}]): 'an import',
+    json_of({'label': '.a'}, {'op': 'jmp', 'labels': ['a']}):
+        'in @main, instruction 1 (`jmp .a`): there is no label .a',
+    json_of({'op': 'a\nb'}): 'in @main, instruction 1 (`a\\nb`): an operation that Bril does not have',
+}
+
+# What is not of Bril's core, and the line in which `bril_run.py` tells so before a run.
+NOT_RUN = {
+    '@main {\n  x: float = const 0.0;\n  print x;\n}\n':
+        'in @main, instruction 1 (`x: float = const 0.0`): floating point',
+    f'{HEAD}  print n;\n  x: int = mod n n;\n}}\n':
+        'in @main, instruction 2 (`x: int = mod n n`): an operation that Bril does not have',
+    f'{HEAD}  x: float = fadd n n;\n}}\n': 'in @main, instruction 1 (`x: float = fadd n n`): floating point',
+    '@main(c: char) {\n}\n': 'in @main: c: characters',
 }
 
 # What has no form in Bril, and the line that tells so.

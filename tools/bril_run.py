@@ -1,6 +1,7 @@
 #!/usr/bin/env python3
 """Runs programs in Bril, to be compared with `mir run`: arithmetic wraps at 64 bits, a division truncates, and a value
-of another type than its operation wants, a variable that is not set, and a divisor of 0 stop the run.
+of another type than its operation wants, a variable that is not set, and a divisor of 0 stop the run. What is not of
+Bril's core is refused before it, in one line with its function and its instruction, and status 1.
 
     tools/bril_run.py P.bril [N | true | false ..]
 
@@ -12,7 +13,7 @@ import sys
 from typing import NamedTuple, Optional, Union
 
 import mir_text
-from bril_text import ENDS, Function, Instruction, Label, program
+from bril_text import ENDS, Function, Instruction, Label, check_core, number_wanted, one_line, program
 
 Value = Union[int, bool]
 SUMS = {'add': lambda a, b: a + b, 'sub': lambda a, b: a - b, 'mul': lambda a, b: a * b}
@@ -76,7 +77,7 @@ def quotient(left: int, right: int) -> int:
 def computed(frame: Frame, one: Instruction) -> Value:
     """The value of an operation."""
     if one.op == 'const':
-        return one.value if one.type == 'bool' else wrapped(one.value)
+        return one.value
     of = None if one.op == 'id' else 'bool' if one.op in ('not', *LOGIC) else 'int'
     values = [frame.value(name, of) for name in one.args]
     if one.op in ('id', 'not'):
@@ -92,6 +93,7 @@ class Run:
     """A run, which goes on until it ends, stops or has run so many instructions."""
 
     def __init__(self, functions: list[Function]):
+        check_core(functions)
         self.functions = {function.name: function for function in functions}
         self.printed: list[list[Value]] = []
         self.count, self.result, self.frames = 0, None, []
@@ -101,7 +103,7 @@ class Run:
         stopped = None
         try:
             if len(inputs) != len(self.functions['main'].args):
-                raise Stopped(f'another number of inputs than {len(self.functions["main"].args)}')
+                raise Stopped(number_wanted(len(self.functions['main'].args), 'input'))
             self.frames = [Frame(self.functions['main'], inputs, None)]
             while self.frames and self.count < steps:
                 self.step(self.frames[-1])
@@ -180,7 +182,7 @@ def work() -> None:
         print(*map(spelled, values))
     print(f'total_dyn_inst: {found.count}', file=sys.stderr)
     if found.stopped:
-        print(f'stopped: {found.stopped}', file=sys.stderr)
+        print(f'stopped: {one_line(found.stopped)}', file=sys.stderr)
         sys.exit(2)
 
 

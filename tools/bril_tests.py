@@ -159,12 +159,20 @@ class Bril(unittest.TestCase):
 
     def test_what_has_no_form_is_refused(self):
         """What has no form gets one line with its function and instruction, the status 1 and no output."""
-        for name, cases in (('from_bril', bril_cases.REFUSED), ('to_bril', bril_cases.NO_BRIL)):
+        for name, cases in (('from_bril', {**bril_cases.REFUSED, **bril_cases.MALFORMED}),
+                            ('to_bril', bril_cases.NO_BRIL), ('bril_run.py', bril_cases.NOT_RUN)):
             for text, line in cases.items():
                 with self.subTest(line):
                     said = ran([tool(name)], text)
                     found = (said.returncode, said.stdout, said.stderr.decode())
-                    self.assertEqual(found, (1, b'', f'{name}: {line}\n'))
+                    self.assertEqual(found, (1, b'', f'{name.removesuffix(".py")}: {line}\n'))
+
+    def test_what_names_no_type_and_what_has_a_dot(self):
+        """A constant without a type has that of its value, and a label of JSON with a dot stays another one."""
+        said = ran([tool('bril_run.py')], '@main {\n  b = const true;\n  br b .l .m;\n.l:\n  print b;\n.m:\n}\n')
+        self.assertEqual((said.returncode, said.stdout), (0, b'true\n'))
+        text = bril_cases.json_of({'label': '.a'}, {'label': 'a'}, {'op': 'jmp', 'labels': ['.a']})
+        self.assertEqual(self.mir_of(text), ('main: begin\nv_a: a: goto v_a\nend\n', []))
 
     def test_json_is_that_of_bril(self):
         """The JSON of a program has the keys that Bril's tools have, and the text the same program."""

@@ -88,7 +88,10 @@ class Types:
             self.truths.add(place)
         else:
             self.counts(unit, operands)
-            self.truths.add(place) if is_relation(value) else self.numbers.add(place)
+            if is_relation(value):
+                self.truths.add(place)
+            else:
+                self.numbers.add(place)
 
 
 def is_relation(value: object) -> bool:

@@ -1,11 +1,14 @@
-"""Where boxes and edges of graphs stand in the pictures of `show`: by Graphviz (`dot`), and by layers without it."""
+"""Layouts by Graphviz (`dot`) for the pages of `show`, and how a page is put together. Where a page is given no layout
+of a graph, it lays it out by itself, by layers (`page/layers.js`)."""
 
+import json
+import re
 import shutil
 import subprocess
+from pathlib import Path
 from typing import NamedTuple, Optional
 
-from layers import Layout, by_layers
-
+PARTS = Path(__file__).resolve().parent / 'page'
 SECONDS = 300
 
 
@@ -16,9 +19,19 @@ class Graph(NamedTuple):
     edges: list
 
 
-def layouts(graphs: list) -> list:
-    """The layout of each graph."""
-    return by_dot(graphs) or [by_layers(*graph) for graph in graphs]
+def page_with(kind: str, title: str, data: dict, scripts: tuple) -> str:
+    """A page of a kind with its title as HTML, its data and the parts of its script. No text of the data is code."""
+    body, style, *texts = ((PARTS / file).read_text('utf-8') for file in (f'{kind}.html', f'{kind}.css', *scripts))
+    packed = json.dumps(data, separators=(',', ':')).replace('<', '\\u003c')
+    parts = {'TITLE': title, 'STYLE': style, 'DATA': packed, 'SCRIPT': '\n'.join(texts)}
+    return re.sub(r'\{\{(\w+)\}\}', lambda match: parts[match.group(1)], body)
+
+
+def given_layouts(graphs: list) -> list:
+    """The layouts by Graphviz of the different ones of these graphs, each with its graph; none where it is not here."""
+    distinct = list({json.dumps(graph): graph for graph in graphs}.values())
+    return [{'sizes': graph.sizes, 'edges': graph.edges, **layout}
+            for graph, layout in zip(distinct, by_dot(distinct) or [])]
 
 
 def by_dot(graphs: list) -> Optional[list]:
@@ -45,8 +58,9 @@ def words_of(graph: Graph) -> str:
     return '\n'.join(lines + ['}', ''])
 
 
-def of_plain(text: str, graph: Graph) -> Layout:
-    """A layout out of what Graphviz writes of it."""
+def of_plain(text: str, graph: Graph) -> dict:
+    """A layout out of what Graphviz writes of it: how wide and high it is, the middle of each box, and the way of each
+    edge as a path of SVG."""
     ways: dict = {}
     centres, wide, high = {}, 0.0, 0.0
 
@@ -64,4 +78,5 @@ def of_plain(text: str, graph: Graph) -> Layout:
             points = [place(*rest[at:at + 2]) for at in range(3, 3 + 2 * int(rest[2]), 2)]
             path = f'M{points[0][0]} {points[0][1]}C' + ' '.join(f'{x} {y}' for x, y in points[1:])
             ways.setdefault((int(rest[0]), int(rest[1])), []).append(path)
-    return Layout(wide * 72, high * 72, centres, [ways[edge].pop(0) for edge in graph.edges])
+    return {'wide': wide * 72, 'high': high * 72, 'centres': [centres[box] for box in range(len(graph.sizes))],
+            'ways': [ways[edge].pop(0) for edge in graph.edges]}

@@ -1,19 +1,17 @@
 """The page of a text of tables: what the passes find out, and why code moves. `show` writes it."""
 
 import html
-import json
-import re
 import subprocess
-from pathlib import Path
 
+from layouts import given_layouts, page_with
 from mir_text import Fault
-from tables_draw import draw
+from tables_graphs import graphs_of, laid
 from tables_text import Reader
 
-PARTS = Path(__file__).resolve().parent / 'page'
-
-# The parts of the script, in the order in which they stand on the page.
-SCRIPTS = ('graphs.js', 'passes.js', 'constants.js', 'runs.js', 'pictures.js', 'show.js', 'reader.js')
+# The parts of the script, in the order in which they stand on the page: those that show nothing, and the others.
+MODEL = ('layers.js', 'tables.js', 'beside.js', 'boxes.js', 'graphs.js', 'passes.js', 'columns.js', 'paths.js',
+         'constants.js', 'runs.js')
+SCRIPTS = (*MODEL, 'pictures.js', 'scroll.js', 'show.js', 'reader.js')
 
 # As many prints of a report stand on the page: no walk has more steps.
 PRINTS = 20_000
@@ -21,9 +19,10 @@ PRINTS = 20_000
 
 def unit_text(unit: dict, stage: dict) -> str:
     """The text of a unit at a stage: the layout of its graph, with numbers of nodes as labels."""
-    targets = {target for _, _, target in stage['lines']} - {None}
+    lines = laid(stage)
+    targets = {target for _, _, target in lines} - {None}
     text = f'{unit["name"]}: begin\n'
-    for number, words, target in stage['lines']:
+    for number, words, target in lines:
         if number in targets:
             targets.remove(number)
             text += f'n{number}:\n'
@@ -66,10 +65,7 @@ def run_of(units: list[dict], words: list[str], mir: str) -> dict:
 
 def page_of(text: str, name: str, words: list[str], mir: str) -> str:
     """The whole page of a text of tables. With words of a run it offers this run, and has what `mir run` reports."""
-    program = {'name': name, 'units': Reader().read(text)}
-    pictures = draw(program['units'])
-    program['runs'] = [run_of(program['units'], words, mir)] if words else []
-    data = json.dumps({'programs': [program], 'pictures': pictures}, separators=(',', ':'))
-    style, body, *scripts = ((PARTS / file).read_text('utf-8') for file in ('page.css', 'page.html', *SCRIPTS))
-    parts = {'TITLE': html.escape(name), 'STYLE': style, 'DATA': data.replace('<', '\\u003c'), 'SCRIPT': '\n'.join(scripts)}
-    return re.sub(r'\{\{(\w+)\}\}', lambda match: parts[match.group(1)], body)
+    units = Reader().read(text)
+    data = {'name': name, 'text': text, 'runs': [run_of(units, words, mir)] if words else [],
+            'layouts': given_layouts(graphs_of(units))}
+    return page_with('tables', html.escape(name), data, SCRIPTS)

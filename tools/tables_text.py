@@ -1,8 +1,7 @@
 """Texts of tables, as `mir_tables` writes them, read for the page that `show` makes of them.
 
-docs/TABLES.md has the lines. What a text is told by its neighbours is worked out here, so that the page has it at hand:
-which node of the stage before a node was, ends of chains, what is held up, and the terms of right sides. A text that is
-no tables is a `Fault`.
+docs/TABLES.md has the lines. A text that is no tables is a `Fault`; the page reads a text that is by itself
+(`page/tables.js`).
 """
 
 from mir_text import Fault
@@ -11,8 +10,8 @@ KINDS = ('start', 'skip', 'assign', 'print', 'guard', 'call', 'test', 'return')
 ITEMS = {'expression': 'motion', 'copy': 'copies', 'pattern': 'sink', 'variable': 'prune'}
 PASSES = ('clean', 'fold', 'number', 'copies', 'split', 'motion', 'sink', 'prune')
 
-# Where these stand in a node of a stage, which the page takes as a list.
-KIND, SUCCS, OLD, TEXT, SHARED = range(5)
+# Where these stand in a node of a stage, as on the page.
+KIND, SUCCS, _, TEXT, _ = range(5)
 
 
 class Reader:
@@ -42,8 +41,6 @@ class Reader:
             except Fault as fault:
                 raise Fault(f'line {number}: {fault}') from None
         check(self.units)
-        for unit in self.units:
-            complete(unit)
         return self.units
 
     def line_unit(self, rest: str) -> None:
@@ -168,143 +165,3 @@ def check(units: list[dict]) -> None:
             if not count or stage['nodes'][0][KIND] != 'start' or any(
                     not 0 < s < count for node in stage['nodes'] for s in node[SUCCS]):
                 raise Fault(f'unit {unit["name"]}, stage {stage["name"]}: a successor is no node')
-
-
-# ---- what the page has at hand
-
-def complete(unit: dict) -> None:
-    """Puts what the page has at hand beside what was read of a unit."""
-    for at, facts in enumerate(unit['passes']):
-        before, after = unit['stages'][at], unit['stages'][at + 1]
-        old = list(range(len(before['nodes'])))
-        if facts['name'] == 'clean':
-            old, facts['ends'] = cleaned(before['nodes'])
-        elif facts['name'] == 'fold':
-            old = [n for n, state in enumerate(facts.get('states', [])) if state is not None]
-        for number, node in enumerate(after['nodes']):
-            node[OLD] = old[number] if number < len(old) else None
-        if facts['name'] == 'number':
-            facts['rights'] = rights(before, after, facts)
-        elif facts['name'] == 'sink':
-            for item in facts.get('items', []):
-                item['rows'] = {'occurs': ''.join('01'[node[TEXT] == item['text']] for node in before['nodes']),
-                                **item['rows']}
-            facts['settled'] = settled(before['nodes'], {item['text'] for item in facts.get('items', [])})
-        elif facts['name'] == 'prune':
-            for item in facts.get('items', []):
-                live = item['rows'].get('live before', '')
-                item['rows']['live after'] = ''.join('01'[any(live[s:s + 1] == '1' for s in node[SUCCS])]
-                                                     for node in before['nodes'])
-
-
-def ends(nodes: list) -> list[int]:
-    """The end of the chain of Skips from each node."""
-    found = []
-    for n in range(len(nodes)):
-        seen: list[int] = []
-        while nodes[n][KIND] == 'skip' and n not in seen:
-            seen.append(n)
-            n = nodes[n][SUCCS][0]
-        found.append(min(seen[seen.index(n):]) if n in seen else n)
-    return found
-
-
-def cleaned(nodes: list) -> tuple[list[int], dict]:
-    """The nodes that are left where jumps are cleaned, in order, and the ends of chains at first and at last."""
-    nodes, first = list(nodes), ends(nodes)
-    last = first
-    while True:
-        equal = [n for n, node in enumerate(nodes) if node[KIND] == 'test' and len({last[s] for s in node[SUCCS]}) == 1]
-        if not equal:
-            break
-        for n in equal:
-            nodes[n] = ['skip', nodes[n][SUCCS][:1], *nodes[n][OLD:]]
-        last = ends(nodes)
-    reached, waiting = {0}, [0]
-    while waiting:
-        for s in (last[s] for s in nodes[waiting.pop()][SUCCS]):
-            if s not in reached:
-                reached.add(s)
-                waiting.append(s)
-    return sorted(reached), {'first': first, 'last': last}
-
-
-def names(words: str) -> list[str]:
-    """The variables of a right side or a test."""
-    parts = words.split(' ')
-    operands = parts if len(parts) == 1 else parts[1:] if len(parts) == 2 else [parts[0], parts[2]]
-    return [one for one in operands if one[0].isalpha()]
-
-
-def divides(right: str) -> bool:
-    """Whether a right side could trap."""
-    parts = right.split(' ')
-    return len(parts) == 3 and parts[1] in ('/', 'mod') and (parts[2][0].isalpha() or parts[2] == '0')
-
-
-def reads(node: list) -> list[str]:
-    """What a node reads."""
-    kind, text = node[KIND], node[TEXT]
-    if kind == 'assign':
-        return names(text.split(' <- ')[1])
-    if kind in ('test', 'guard'):
-        return names(text[3:].split(' trap ')[0])
-    if kind == 'call':
-        arguments = text[text.index(',(') + 2:-1]
-        return node[SHARED] + [one.split(',')[0] for one in arguments.split(';') if one[:1].isalpha()]
-    return node[SHARED] + names(text.split(' ')[1]) if kind in ('print', 'return') else []
-
-
-def sets(node: list) -> list[str]:
-    """What a node assigns."""
-    if node[KIND] == 'assign':
-        return [node[TEXT].split(' <- ')[0]]
-    if node[KIND] == 'call':
-        return node[SHARED] + ([node[TEXT].split(' <- ')[0]] if ' <- ' in node[TEXT] else [])
-    return []
-
-
-def settled(nodes: list, moving: set[str]) -> list[list]:
-    """The assignments that cannot move, each with the node before which it is put."""
-    entered = [0] * len(nodes)
-    for node in nodes:
-        for s in node[SUCCS]:
-            entered[s] += 1
-    found = set()
-    for node in nodes:
-        if node[KIND] != 'assign' or node[TEXT] in moving or divides(node[TEXT].split(' <- ')[1]):
-            continue
-        var, right = node[TEXT].split(' <- ')
-        n = node[SUCCS][0]
-        for _ in nodes:
-            if n == 0 or var in reads(nodes[n]) or set(sets(nodes[n])) & {var, *names(right)}:
-                found.add((n, node[TEXT]))
-                break
-            if nodes[n][KIND] != 'skip' or entered[nodes[n][SUCCS][0]] != 1:
-                break
-            n = nodes[n][SUCCS][0]
-    return [list(one) for one in sorted(found)]
-
-
-def rights(before: dict, after: dict, facts: dict) -> list[list]:
-    """For each node with a movable right side its number, the number of the term of it, and the variable that is taken."""
-    terms, found = facts.get('terms', []), []
-    at = {tuple(key): number for number, key in enumerate(terms)}
-    for n, node in enumerate(before['nodes']):
-        right = node[TEXT].split(' <- ')[-1]
-        parts = right.split(' ')
-        if node[KIND] != 'assign' or len(parts) == 1 or divides(right):
-            continue
-        root, numbers = facts['before'][n]
-
-        def number(operand: str) -> str:
-            """The number of the term of an operand."""
-            if not operand[0].isalpha():
-                return str(at.get(('number', operand), '-'))
-            kept = numbers[before['vars'].index(operand)]
-            return str(at.get(('leaf', operand, str(root)), '-') if kept is None else kept)
-
-        operator, operands = (parts[0], parts[1:]) if len(parts) == 2 else (parts[1], [parts[0], parts[2]])
-        taken = after['nodes'][n][TEXT].split(' <- ')[-1]
-        found.append([n, at.get((operator, *map(number, operands))), None if taken == right else taken])
-    return found

@@ -1,9 +1,11 @@
-'use strict';
 // ---- what the page is made of
 
-const DATA = JSON.parse(document.getElementById('data').textContent);
-const UNITS = DATA.programs.flatMap(program => program.units.map((unit,
-    at) => ({ ...unit, program, first: at === 0 })));
+// The units of the program, each with the program: its name, and runs of it with their reports.
+let UNITS = [];
+function takeProgram({ text, name, runs = [] }) {
+  const program = { name, runs };
+  UNITS = readTables(text).map((unit, at) => ({ ...unit, program, first: at === 0 }));
+}
 const $ = selector => document.querySelector(selector);
 const esc = text => String(text).replace(/[&<>"]/g,
   c => ({ '&': '&amp;', '<': '&lt;', '>': '&gt;', '"': '&quot;' })[c]);

@@ -11,11 +11,11 @@ const LEAST = 0.72;
 // A graph of many nodes, which had to be made much smaller to be seen as a whole, is drawn by blocks, unless the reader
 // wants it otherwise.
 const byBlocks = () => state.blocks ?? [passNow().before,
-  passNow().after].some(stage => DATA.pictures[stage.pictures[0]].h * 0.7 > Math.max(window.innerHeight - 200, 300));
+  passNow().after].some(stage => boxesOf(stage, false).high() * 0.7 > Math.max(window.innerHeight - 200, 300));
 
 // Draws a stage. `tell` says of each node: classes, style, pills before it, a mark behind it, its key and its text.
 function draw(stage, tell, options = {}) {
-  const picture = DATA.pictures[stage.pictures[byBlocks() ? 1 : 0]],
+  const picture = pictureOf(stage, byBlocks()),
     hot = new Set((options.hot || []).map(edge => edgeKey(...edge))),
     live = new Set((options.live || []).map(edge => edgeKey(...edge)));
   const walked = new Set((options.walked || []).map(edge => edgeKey(...edge)));
@@ -65,8 +65,8 @@ function draw(stage, tell, options = {}) {
 // ---- the text of a stage, laid out; each line has its node, and labels are node numbers
 
 function textOf(stage, key, mark) {
-  const targets = new Set(stage.lines.flatMap(line => line[2] === null ? [] : [line[2]])), labelled = new Set();
-  return stage.lines.map(([n, words, to]) => {
+  const targets = new Set(linesOf(stage).flatMap(line => line[2] === null ? [] : [line[2]])), labelled = new Set();
+  return linesOf(stage).map(([n, words, to]) => {
     const label = n !== 0 && targets.has(n) && !labelled.has(n) ? `n${n}: ` : '';
     labelled.add(n);
     if (words === null && n === 0) return '';

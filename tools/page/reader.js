@@ -54,8 +54,9 @@ function story(pass, n) {
 
 // ---- what is remembered in the address
 
-function remember() {
-  const pass = passNow(), parts = new URLSearchParams({ unit: label(unitNow()), pass: pass.after.name });
+// Where the reader is.
+function placeNow() {
+  const pass = passNow(), parts = new URLSearchParams({ unit: unitNow().name, pass: pass.after.name });
   if (state.item) parts.set('item', state.item);
   if (columnNow()) parts.set('col', columnNow().id);
   parts.set('node', state.node);
@@ -64,14 +65,18 @@ function remember() {
   if (state.run) { parts.set('run', state.run.join(',')); parts.set('at', state.at); }
   if (state.theme) parts.set('theme', state.theme);
   if (state.blocks !== null) parts.set('blocks', Number(state.blocks));
-  const hash = '#' + parts.toString();
+  return parts.toString();
+}
+
+function remember() {
+  const hash = '#' + placeNow();
   if (location.hash !== hash) try { history.replaceState(null, '', hash); } catch { /* a page without an address */ }
 }
 
-function recall() {
-  const parts = new URLSearchParams(location.hash.slice(1));
-  const at = UNITS.findIndex(unit => label(unit) === parts.get('unit'));
-  state.unit = Math.max(at, 0);
+// Goes to a place, as far as it is there.
+function recall(place) {
+  const parts = new URLSearchParams(place);
+  state.unit = Math.max(UNITS.findIndex(unit => unit.name === parts.get('unit')), 0);
   const passes = passesOf(unitNow()), pass = passes.findIndex(one => one.after.name === parts.get('pass'));
   state.pass = pass >= 0 ? pass : Math.max(passes.findIndex(one => one.name === 'motion'), 0);
   state.item = parts.has('item') ? Number(parts.get('item')) || 0 : bestItem(passNow());
@@ -83,12 +88,16 @@ function recall() {
   state.theme = parts.get('theme');
   state.blocks = parts.has('blocks') ? parts.get('blocks') === '1' : null;
   fillInputs();
-  if (parts.has('run')) {
-    try { state.run = parts.get('run') ? parts.get('run').split(',').map(one => BigInt(one)) : [];
-      } catch { state.run = null; }
-    state.at = Number(parts.get('at')) || 0;
-    (state.run || []).forEach((value, k) => { const box = $(`#run [name=in${k}]`); if (box) box.value = value; });
-  }
+  recallRun(parts);
+}
+
+// Goes to a step of a run, where the place has one.
+function recallRun(parts) {
+  state.run = null;
+  if (!parts.has('run')) return;
+  try { state.run = parts.get('run') ? parts.get('run').split(',').map(one => BigInt(one)) : []; } catch { return; }
+  state.at = Number(parts.get('at')) || 0;
+  state.run.forEach((value, k) => { const box = $(`#run [name=in${k}]`); if (box) box.value = value; });
 }
 
 // ---- what the reader does
@@ -219,9 +228,27 @@ document.addEventListener('keydown', event => {
   if (action && action() !== false) event.preventDefault();
 });
 window.addEventListener('resize', () => { fit(); inView(); });
-window.addEventListener('hashchange', () => { recall(); show(); });
+window.addEventListener('hashchange', () => { recall(location.hash.slice(1)); show(); });
 
-$('#program').textContent = DATA.programs.length > 1 ? 'program' : DATA.programs[0].name;
-$('#unit').innerHTML = UNITS.map((unit, at) => `<option value="${at}">${esc(label(unit))}</option>`).join('');
-recall();
-show();
+// So many pictures are kept for the next text.
+const MOST_PICTURES = 100;
+
+// Takes the tables of a program, and shows them where the reader was, at the same choice where there is one.
+function load(data) {
+  const place = UNITS.length ? placeNow() : location.hash.slice(1);
+  const chosen = UNITS.length ? itemsOf(passNow())[state.item]?.text : undefined;
+  takeProgram(data);
+  if (PICTURES.size > MOST_PICTURES) PICTURES.clear();
+  guesses.clear();
+  checked.clear();
+  document.title = $('#program').textContent = data.name;
+  $('#unit').innerHTML = UNITS.map((unit, at) => `<option value="${at}">${esc(unit.name)}</option>`).join('');
+  recall(place);
+  const same = itemsOf(passNow()).findIndex(item => item.text === chosen);
+  if (same >= 0) state.item = same;
+  show();
+}
+
+const GIVEN_DATA = JSON.parse($('#data').textContent);
+takeLayouts(GIVEN_DATA.layouts ?? []);
+if (GIVEN_DATA.text) load(GIVEN_DATA);

@@ -313,7 +313,7 @@ function fit() {
       svg.setAttribute('height', Math.round(h * scale));
     }
     box.style.maxHeight = window.innerWidth >= 900 ? `${room}px` : '';
-    box.querySelector('.here')?.scrollIntoView({ block: 'nearest', inline: 'nearest' });
+    bringIntoView(box, box.querySelector('.here'));
   }
   fitScale = scale;
 }
@@ -401,10 +401,10 @@ function openIndex() {
     UNITS.some(unit => passesOf(unit).some(pass => pass.title === name && pass.count)));
   short.sort((a, b) => order(a) - order(b));
   const rows = UNITS.map((unit,
-    at) => `<tr><th scope="row"><button type="button" data-unit="${at}" data-to="0">${esc(label(unit))}</button></th>`
+    at) => `<tr><th scope="row"><button type="button" data-unit="${at}" data-to="0">${esc(unit.name)}</button></th>`
     + short.map(name => {
     const pass = passesOf(unit).find(one => one.title === name);
-    return `<td>${!pass ? '' : pass.count ? `<button type="button" data-unit="${at}" data-to="${pass.at}" aria-label="${esc(label(unit))}, ${esc(name)}: ${pass.count} changed">${pass.count}</button>` : '<span class="quiet">·</span>'}</td>`;
+    return `<td>${!pass ? '' : pass.count ? `<button type="button" data-unit="${at}" data-to="${pass.at}" aria-label="${esc(unit.name)}, ${esc(name)}: ${pass.count} changed">${pass.count}</button>` : '<span class="quiet">·</span>'}</td>`;
   }).join('') + `<td class="moves">${passesOf(unit).filter(pass => pass.name === 'motion').flatMap(pass => itemsOf(pass).filter(item => item.temp).map(item => code(item.text))).join(', ') || '<span class="quiet">–</span>'}</td></tr>`)
     .join('');
   $('#index').innerHTML = `<h2>Which pass changed what</h2><div class="scroll"><table><thead><tr><th scope="col">unit</th>${short.map(name => `<th scope="col" class="tall"><span>${esc(name)}</span></th>`).join('')}<th scope="col">code motion moves</th></tr></thead><tbody>${rows}</tbody></table></div><p class="quiet">The numbers count nodes that changed, went or are new. Choose one to see why.</p><form method="dialog"><button>Close</button></form>`;
@@ -412,8 +412,6 @@ function openIndex() {
 }
 const order = name => { const at = Math.max(...UNITS.map(unit => passesOf(unit)
       .findIndex(pass => pass.title === name))); return at < 0 ? 99 : name === 'clean again' ? 98 : at; };
-const label = unit => DATA.programs.length > 1 ? (unit.program.units.length > 1
-  ? `${unit.program.name}: ${unit.name}` : unit.program.name) : unit.name;
 
 const KEYS = [['← →', 'step through what a pass finds out', 'ArrowLeft ArrowRight h l'],
   ['↑ ↓', 'another node (also k, j)', ''], ['[ ]', 'the pass before, the next pass', ''],
