@@ -19,12 +19,13 @@ class Trap(Exception):
 
 class Report(NamedTuple):
     """What a run came to: `ended`, `trapped` or `running`, its result where it ended and the number of its trap where one
-    was raised, what it printed, and how many operators its assignments evaluated."""
+    was raised, what it printed, how many operators its assignments evaluated, and the most frames that it had."""
 
     end: str
     result: Optional[int]
     printed: list[int]
     evaluations: int
+    frames: int
 
 
 def wrapped(value: int) -> int:
@@ -130,7 +131,7 @@ class Machine:
 
     def run(self, inputs: list[int], most: int) -> Report:
         """The run of the first unit on these inputs, for at most so many steps."""
-        code, printed, evaluations, stack, at = self.code[0], [], 0, [], 0
+        code, printed, evaluations, stack, at, frames = self.code[0], [], 0, [], 0, 1
         values = entered(code, [0] * self.shared, inputs)
         for _ in range(most):
             kind, function, reads, to = code.steps[at]
@@ -142,11 +143,11 @@ class Machine:
                 try:
                     values[to] = function(*[values[place] for place in reads])
                 except Trap:
-                    return Report('trapped', None, printed, evaluations)
+                    return Report('trapped', None, printed, evaluations, frames)
             elif kind in ('if', 'trap'):
                 holds = function(*[values[place] for place in reads]) if function else values[reads[0]]
                 if holds and kind == 'trap':
-                    return Report('trapped', to, printed, evaluations)
+                    return Report('trapped', to, printed, evaluations, frames)
                 at = to if holds else at
             elif kind == 'goto':
                 at = to
@@ -154,17 +155,18 @@ class Machine:
                 printed.append(values[reads[0]])
             elif kind == 'call':
                 stack.append((code, values, at, to))
+                frames = max(frames, len(stack) + 1)
                 code, at = self.code[function], 0
                 values = entered(code, values[:self.shared], [values[place] for place in reads])
             elif kind == 'return':
                 result = values[reads[0]]
                 if not stack:
-                    return Report('ended', result, printed, evaluations)
+                    return Report('ended', result, printed, evaluations, frames)
                 shared, (code, values, at, to) = values[:self.shared], stack.pop()
                 values[:self.shared] = shared
                 if to is not None:
                     values[to] = result
-        return Report('running', None, printed, evaluations)
+        return Report('running', None, printed, evaluations, frames)
 
 
 def entered(code: Code, shared: list[int], arguments: list[int]) -> list[int]:

@@ -195,7 +195,7 @@ class Bench:
         """What becomes of a program with some inputs."""
         wanted = self.native(program, entry, given)
         if wanted.end == 'running':
-            return Outcome(name, 'the native program does not end')
+            return Outcome(name, 'the native program takes more than the limit of 1 second')
         outcome = self.compared(Outcome(name, 'same'), wanted, text, given, self.folder / name)
         if outcome.state == 'same' and not outcome.is_long:
             for kind, read in left.items():

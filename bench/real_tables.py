@@ -5,6 +5,7 @@ import collections
 import native_times
 
 MARK = '<!-- bench/real.py -->'
+FEW = 20  # the mean of fewer times than these tells little
 WAYS = ('source', 'move', 'optimise', 'thorough', 'alike', 'all')
 HEADS = {
     'ends': '| Set | Programs | Same | Different | Refused | Not compared | As native programs |',
@@ -58,10 +59,13 @@ def lines(name: str, outcomes: list) -> list[str]:
 
 def time_rows(times: list[native_times.Times]) -> list[list]:
     """The rows of the table of times."""
-    found = native_times.summary(times)
-    ways = {level: [found.get(f'{way} {level}') for way in ('optimise', 'thorough')] for level in native_times.LEVELS}
-    return [[f'`{level}`', int(found[f'programs {level}']), *('' if one is None else f'{one:.2f}' for one in each)]
-            for level, each in ways.items()]
+    found, rows = native_times.summary(times), []
+    for level in native_times.LEVELS:
+        count = int(found[f'programs {level}'])
+        means = [found.get(f'{way} {level}') for way in ('optimise', 'thorough')]
+        note = ' (too few to tell)' if count < FEW else ''
+        rows.append([f'`{level}`', count, *('' if one is None else f'{one:.2f}{note}' for one in means)])
+    return rows
 
 
 def time_lines(times: list[native_times.Times]) -> list[str]:

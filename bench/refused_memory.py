@@ -124,6 +124,8 @@ CALLS = [
     Call(['move'], CALLING),
     Call(['stages'], CALLING),
     Call(['run', '1000', '3'], CALLING),
+    Call(['thorough'], CALLING),
+    Call('passes tails join clean fold number copies motion divisions sink wanted optimise called'.split(), CALLING),
     Call(['optimise'], squares(6)),
     Call(['move'], squares(6)),
     Call(['stages'], squares(3)),
