@@ -17,7 +17,7 @@ module _ (n : ℕ) (xs : List ℕ) (row : List Bool) (fx : FitsWords n xs) (view
   same_bits : m ≡ n
   same_bits = sym (row_len m ys other view') ∙ sym long ∙ row_len n xs row view
 
-  as_wide : Holds n ys other
+  pub as_wide : Holds n ys other
   as_wide = rw (← same_bits) (record { fits = fy; view = view' })
 
   pub words_long : length xs ≡ length ys

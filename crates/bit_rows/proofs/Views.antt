@@ -67,7 +67,7 @@ of_two_bits P a b c d (suc zero) (suc (suc y)) p q = absurd (omega arith)
 of_two_bits P a b c d (suc (suc x)) y p q = absurd (omega arith)
 
 -- numbers below 2 are equal if comparing them with 1 gives the same
-same_test : (x y : ℕ) → x < 2 → y < 2 → eqb x 1 ≡ eqb y 1 → x ≡ y
+pub same_test : (x y : ℕ) → x < 2 → y < 2 → eqb x 1 ≡ eqb y 1 → x ≡ y
 same_test = of_two_bits (λ x y. eqb x 1 ≡ eqb y 1 → x ≡ y) (λ e. refl) (λ e. absurd (cc)) (λ e. absurd (cc)) (λ e. refl)
 
 -- taking such a number from 1 negates it

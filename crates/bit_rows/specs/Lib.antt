@@ -1,4 +1,5 @@
 pub mod Bits
 pub mod BitLaws
 pub mod Words
+pub mod Marks
 pub mod Joinings

@@ -6,6 +6,7 @@
 #![tactic(auto)]
 
 mod joining;
+mod marked;
 mod packed;
 mod row;
 mod rows;

@@ -1,11 +1,13 @@
 // One row of truth values.
-ghost use Rattle.std.specs.Prelude.{◌≡◌, ◌<◌, ◌↔◌, false, IfOk, length, slice_index_or, replicate};
+ghost use Rattle.std.specs.Prelude.{◌≡◌, ◌<◌, ◌↔◌, false, IfOk, length, slice_index_or, slice_set, replicate};
 ghost use Rattle.bit_rows.specs.Bits.{or_bits, minus_bits, not_bits};
+ghost use Rattle.bit_rows.specs.Marks.{AreMarked, AreSettled, words_for};
 
 use crate::joining::Joining;
+use crate::marked::or_minus_marked_words;
 use crate::words::{
-    copy_of_words, flip_words, join_words, minus_then_or_words, or_minus_words,
-    or_then_minus_words, or_words, word_bit,
+    clear_words, copy_of_words, flip_words, join_words, minus_then_or_words, or_minus_words,
+    or_then_minus_words, or_words, set_word_bit, word_bit,
 };
 use crate::{Memory, RowView};
 use smallvec::SmallVec;
@@ -73,6 +75,21 @@ impl Row {
         word_bit(self.words.as_slice(), bit)
     }
 
+    /// Sets or clears the bit of a number, counted from 0. It does not allocate.
+    pub fn set(&mut self, bit: usize, value: bool)
+        requires { bit < length self.old }
+        ensures { self.new ≡ slice_set self.old bit value }
+    {
+        set_word_bit(self.words.as_mut_slice(), bit, value);
+    }
+
+    /// Each bit becomes false. It does not allocate.
+    pub fn clear(&mut self)
+        ensures { self.new ≡ replicate (length self.old) false }
+    {
+        clear_words(self.words.as_mut_slice());
+    }
+
     /// Becomes its disjunction with the other, and answers whether it changed. It does not allocate.
     pub fn or_from(&mut self, other: &RowView<'_>) -> bool
         requires { length self.old ≡ length other.now }
@@ -93,6 +110,36 @@ impl Row {
         ensures unchanged { (result ≡ false) ↔ (self.new ≡ self.old) }
     {
         or_minus_words(self.words.as_mut_slice(), other.words, less.words)
+    }
+
+    /// Becomes its disjunction with what another has and a third has not, and answers whether it changed. It looks only
+    /// at the words of 64 bits that are marked, since what the others bring is there already; its own words that change
+    /// are marked afterwards, with those that were. It does not allocate.
+    pub fn or_minus_marked(
+        &mut self,
+        other: &RowView<'_>,
+        less: &RowView<'_>,
+        marks: &RowView<'_>,
+        own_marks: &mut Row,
+    ) -> bool
+        requires other { length self.old ≡ length other.now }
+        requires less { length self.old ≡ length less.now }
+        requires marks { length marks.now ≡ words_for (length self.old) }
+        requires own_marks { length own_marks.old ≡ words_for (length self.old) }
+        requires settled { AreSettled marks.now other.now less.now self.old }
+        ensures or_minus { self.new ≡ or_bits self.old (minus_bits other.now less.now) }
+        ensures len { length self.new ≡ length self.old }
+        ensures unchanged { (result ≡ false) ↔ (self.new ≡ self.old) }
+        ensures marked { AreMarked own_marks.old self.old own_marks.new self.new }
+        ensures marks_len { length own_marks.new ≡ length own_marks.old }
+    {
+        or_minus_marked_words(
+            self.words.as_mut_slice(),
+            other.words,
+            less.words,
+            marks,
+            own_marks,
+        )
     }
 
     /// Gets what another has, and then loses what a third has, in one pass. It does not allocate.

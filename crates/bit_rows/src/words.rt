@@ -69,6 +69,15 @@ pub fn minus_then_or_words(into: &mut [u64], less: &[u64], more: &[u64])
     }
 }
 
+/// Each word becomes 0.
+pub fn clear_words(words: &mut [u64])
+    ensures { words.new ≡ replicate (length words.old) 0 }
+{
+    for i in 0..words.len() {
+        words[i] = 0;
+    }
+}
+
 /// Each word becomes its conjunction with the other's.
 fn and_words(into: &mut [u64], from: &[u64])
     requires { length into.old ≡ length from.now }

@@ -7,11 +7,12 @@ ghost use Rattle.fix_solve.specs.Order.{IsLeastUpper};
 ghost use Rattle.cond_const.specs.FactLists.{kept_state};
 ghost use Rattle.cond_const.specs.States.{BelowState, joined_each, size_of, state_where};
 ghost use Rattle.cond_const.specs.FlowLaws.{flow_laws};
+ghost use Rattle.fix_solve.specs.NewsFlows.{untold_laws};
 
 use crate::facts::Facts;
 use crate::states::BlockState;
 use crate::transfer::{may_pass, step};
-use fix_solve::{Flow, Steps};
+use fix_solve::{AllNews, Flow, Steps};
 use flow_graph::{Blocks, Graph};
 use mir_base::Memory;
 use std::alloc::Global;
@@ -59,17 +60,16 @@ impl<'a, L: Ledger> Flow for StateFlow<'a, L> {
     }
 
     #[tactic(auto, using(crate::specs::PassingLaws::length_first))]
-    fn height(&self) -> u64 {
-        self.zeros.len() as u64 + 1
-    }
-
-    #[tactic(auto, using(crate::specs::PassingLaws::length_first))]
     fn first(&self, alloc: Global, node: usize) -> Result<BlockState, Memory> {
         let mut state = BlockState::unreached(alloc, self.zeros.len())?;
         if node == self.entry {
             state.take(self.zeros);
         }
         Ok(state)
+    }
+
+    fn news(&self, _alloc: Global) -> Result<AllNews, Memory> {
+        Ok(AllNews)
     }
 
     fn push(
@@ -99,6 +99,8 @@ impl<'a, L: Ledger> Flow for StateFlow<'a, L> {
     }
 
     ghost laws = { flow_laws };
+
+    ghost news_laws = { λ f v. untold_laws };
 }
 
 impl<'a, L: Ledger> StateFlow<'a, L> {

@@ -5,7 +5,7 @@ ghost use Rattle.cond_const.specs.States.{Unreached, BelowState, is_reached, sta
 ghost use Rattle.cond_const.specs.StateLaws.{state_laws};
 
 use crate::facts::Facts;
-use fix_solve::Lattice;
+use fix_solve::{AllNews, Lattice};
 use mir_base::Memory;
 use std::alloc::Global;
 use std::marker::Model;
@@ -108,6 +108,8 @@ impl BlockState {
 }
 
 impl Lattice for BlockState {
+    type News = AllNews;
+
     ghost below = { BelowState };
 
     ghost size = { size_of };

@@ -91,7 +91,6 @@ module _ {L : Type 0} (f : SlotFlow L) where
     pub within : AllWithin f.graph.now.nodes
     pub use_rows : AreRows (length f.graph.now.nodes) f.bits f.uses.now
     pub kill_rows : AreRows (length f.graph.now.nodes) f.bits f.kills.now
-    pub height_is : f.height ≡ f.bits + f.bits
 
   -- the values are the least solution
   pub record SolvesSlots (values : List (List (Bool × Bool))) : Type 0 where

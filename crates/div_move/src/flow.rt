@@ -4,11 +4,12 @@ ghost use Rattle.bit_rows.specs.Bits.{row_of};
 ghost use Rattle.div_move.specs.Slots.{or_pairs, pairs};
 ghost use Rattle.div_move.specs.SlotFlow.{IsSlotFlow, arriving_at, down_row, slot_net};
 ghost use Rattle.div_move.specs.SlotFlowLaws.{slot_flow_laws};
+ghost use Rattle.fix_solve.specs.NewsFlows.{untold_laws};
 
 use crate::nodes::{halts, lacks, leads};
 use crate::slots::{RowPair, Slots, add_where, row_pair};
 use bit_rows::{RowView, Rows};
-use fix_solve::{Flow, Steps};
+use fix_solve::{AllNews, Flow, Steps};
 use flow_graph::{Edge, Edges, Graph};
 use mir_base::Memory;
 use std::alloc::Global;
@@ -18,8 +19,7 @@ use std::sync::ledger::Ledger;
 /// What is known of a node flows to its predecessors, so the edges are reversed and go in order of their targets.
 /// The value of a node says which of its slots are known to lead to a node that is down. Where a node is known to be
 /// down, for it uses the expression, or it neither kills it nor halts and all its slots are known, each slot that leads
-/// to it becomes known. A slot that a node lacks is known from the first. `uses` and `kills` have a row for each node,
-/// and `height` is twice the number of bits.
+/// to it becomes known. A slot that a node lacks is known from the first. `uses` and `kills` have a row for each node.
 #[derive(Drop)]
 pub(crate) struct SlotFlow<'a, L: Ledger> {
     pub(crate) graph: &'a Graph,
@@ -27,7 +27,6 @@ pub(crate) struct SlotFlow<'a, L: Ledger> {
     pub(crate) uses: &'a Rows,
     pub(crate) kills: &'a Rows,
     pub(crate) bits: usize,
-    pub(crate) height: usize,
     pub(crate) ledger: PhantomData<L>,
 }
 
@@ -57,16 +56,16 @@ impl<'a, L: Ledger> Flow for SlotFlow<'a, L> {
         self.edges.entering(node)
     }
 
-    fn height(&self) -> u64 {
-        self.height as u64
-    }
-
     fn first(&self, alloc: Global, node: usize) -> Result<Slots, Memory> {
         let first = lacks(self.graph, node, 0);
         let second = lacks(self.graph, node, 1);
         let known = row_pair(alloc, self.bits, first, second)?;
         let room = row_pair(alloc, self.bits, false, false)?;
         Ok(Slots { known, room })
+    }
+
+    fn news(&self, _alloc: Global) -> Result<AllNews, Memory> {
+        Ok(AllNews)
     }
 
     fn push(
@@ -91,6 +90,8 @@ impl<'a, L: Ledger> Flow for SlotFlow<'a, L> {
     }
 
     ghost laws = { slot_flow_laws };
+
+    ghost news_laws = { λ f v. untold_laws };
 }
 
 impl<'a, L: Ledger> SlotFlow<'a, L> {

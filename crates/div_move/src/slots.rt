@@ -5,7 +5,7 @@ ghost use Rattle.div_move.specs.Slots.{BelowSlots, pairs, slots_rank};
 ghost use Rattle.div_move.specs.SlotLaws.{slots_laws};
 
 use bit_rows::{Row, RowView};
-use fix_solve::Lattice;
+use fix_solve::{AllNews, Lattice};
 use mir_base::Memory;
 use std::alloc::Global;
 use std::marker::Model;
@@ -73,6 +73,8 @@ impl Slots {
 }
 
 impl Lattice for Slots {
+    type News = AllNews;
+
     ghost below = { BelowSlots };
 
     ghost size = { length };

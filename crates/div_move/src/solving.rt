@@ -1,5 +1,5 @@
 // Which nodes must come to which expressions.
-ghost use Rattle.std.specs.Prelude.{◌≡◌, ◌+◌, ◌<◌, length, IfOk};
+ghost use Rattle.std.specs.Prelude.{◌≡◌, ◌<◌, length, IfOk};
 ghost use Rattle.motion_rewrite.specs.Rows.{AreRowsWhere};
 ghost use Rattle.down_safe.specs.Busy.{AreSitesOf};
 ghost use Rattle.div_move.specs.MustCome.{MustComeTo};
@@ -12,13 +12,12 @@ use down_safe::Sites;
 use fix_solve::{Steps, Work, solve};
 use mir_base::Memory;
 use motion_rewrite::ExprTable;
-use std::alloc::{AllocError, Global};
+use std::alloc::Global;
 use std::marker::{Brand, PhantomData};
 use std::sync::ledger::{Blank, Ledger};
 
 /// At which nodes a run must come to each expression of the table before anything can be observed: one row for each
-/// node, one bit for each expression. It fails only with `Memory`, also where there are more expressions than any
-/// memory holds.
+/// node, one bit for each expression. It fails only with `Memory`.
 pub(crate) fn must_come_rows(
     alloc: Global,
     sites: &Sites<'_>,
@@ -28,9 +27,7 @@ pub(crate) fn must_come_rows(
     ensures { IfOk result
         (AreRowsWhere sites.now.graph.now table.now (MustComeTo sites.now.graph.now)) }
 {
-    let bits = table.len();
-    let height = bits.checked_add(bits).ok_or(AllocError)?;
-    let rows = rows_from::<Brand>(alloc, sites, table, height, Blank::new(1))?;
+    let rows = rows_from::<Brand>(alloc, sites, table, Blank::new(1))?;
     Ok(rows)
 }
 
@@ -39,14 +36,12 @@ fn rows_from<L: Ledger>(
     alloc: Global,
     sites: &Sites<'_>,
     table: &ExprTable,
-    height: usize,
     blank: Blank,
 ) -> Result<Rows, Memory>
     requires name { blank.name ≡ L.name }
     requires parts { blank.parts ≡ L.parts }
     requires some { 0 < blank.parts }
     requires sites { AreSitesOf sites.now table.now }
-    requires height { height ≡ length table.now + length table.now }
     ensures { IfOk result
         (AreRowsWhere sites.now.graph.now table.now (MustComeTo sites.now.graph.now)) }
 {
@@ -57,7 +52,6 @@ fn rows_from<L: Ledger>(
         uses: sites.uses,
         kills: sites.kills,
         bits: table.len(),
-        height,
         ledger: PhantomData,
     };
     let mut steps = Steps::<L>::new(blank);

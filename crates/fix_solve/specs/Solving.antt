@@ -1,5 +1,5 @@
 -- What holds while the solver runs, and how much it may still do. Cited by contracts.
-use Rattle.std.specs.Prelude.{◌≡◌, ℕ, suc, zero, ◌+◌, ◌-◌, ◌*◌, ◌<◌, Bool, false, if◌then◌else◌, List, length, slice_set, ◌↔◌}
+use Rattle.std.specs.Prelude.{◌≡◌, ℕ, suc, zero, ◌+◌, ◌-◌, ◌*◌, ◌<◌, Bool, false, if◌then◌else◌, List, length, slice_index_or, slice_set, ◌↔◌}
 use Rattle.node_list.specs.Lists.{Lists}
 use Rattle.fix_solve.specs.Order.{IsLeastUpper}
 use Rattle.fix_solve.specs.OrderWalks.{AreNodes}
@@ -14,6 +14,11 @@ pub record CanWait {V : Type 0} (waiting : Lists) (values : List V) (order : Lis
   pub one_list : IsOneList waiting
   pub nodes : waiting.nodes ≡ length values
   pub in_range : AreNodes (length values) order
+
+-- each value has news that fit it
+pub record HaveNews {V N : Type 0} (size : V → ℕ) (fits : N → ℕ → Type 0) (values : List V) (news : List N) : Type 0 where
+  pub long : length news ≡ length values
+  pub fit : (d : V) (c : N) (n : ℕ) → n < length values → fits (slice_index_or news n c) (size (slice_index_or values n d))
 
 -- the values lie above the first ones and arise, and they lie above the transfer along each edge that is done and whose
 -- source does not wait

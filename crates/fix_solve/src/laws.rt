@@ -2,13 +2,17 @@
 ghost use Rattle.std.specs.Prelude.{◌≡◌, ℕ, ◌+◌, ◌<◌, ◌↔◌, false, IfOk};
 ghost use Rattle.fix_solve.specs.Order.{OrderLaws, IsLeastUpper};
 ghost use Rattle.fix_solve.specs.Net.{Joins, JoinsItself, Net, NetLaws};
+ghost use Rattle.fix_solve.specs.NewsFlows.{Keeps, NewsLaws, Untold};
 
-use crate::{Memory, Steps};
+use crate::{Memory, News, Steps};
 use std::alloc::Global;
 use std::sync::ledger::Ledger as Counted;
 
 /// Values with an order, in which only values of one size are comparable. The rank rises strictly with the order.
 pub trait Lattice {
+    /// What of a value is news, where a flow tells it; else `AllNews`.
+    type News: News;
+
     ghost below: { Self → Self → Type 0 };
 
     ghost size: { Self → ℕ };
@@ -38,6 +42,10 @@ pub trait Flow {
     /// The flow as contracts see it.
     ghost net: { Self → Net Self.Value };
 
+    /// Along an edge, what is not among the news of the value at its source is already in the value at its target. A flow
+    /// that leaves this out tells no news.
+    ghost caught: { Self → ℕ → Self.Value.News → Self.Value → Self.Value → Type 0 } = { λ _. Untold };
+
     /// How many nodes there are. It does not allocate.
     fn nodes(&self) -> usize
         requires { valid self.now }
@@ -62,16 +70,16 @@ pub trait Flow {
         ensures start { result.0 ≡ (net self.now).start node }
         ensures stop { result.1 ≡ (net self.now).stop node };
 
-    /// A bound on the ranks of all values of this flow. It does not allocate.
-    fn height(&self) -> u64
-        requires { valid self.now }
-        ensures { result ≡ (net self.now).height };
-
     /// The value that a node begins with. It fails only with `Memory`.
     fn first(&self, alloc: Global, node: usize) -> Result<Self::Value, Memory>
         requires valid { valid self.now }
         requires in_range { node < (net self.now).nodes }
         ensures { IfOk result (λ value. value ≡ (net self.now).first node) };
+
+    /// News of a value of this flow, whatever they say. It fails only with `Memory`.
+    fn news(&self, alloc: Global) -> Result<<Self::Value as Lattice>::News, Memory>
+        requires { valid self.now }
+        ensures { IfOk result (λ news. Self.Value.News.fits news (net self.now).size) };
 
     /// Replaces `into` by its least upper bound with the transfer of `from` along the edge of this number and target,
     /// answers whether `into` changed, and adds one to the counter. It does not allocate.
@@ -107,6 +115,73 @@ pub trait Flow {
         ensures unchanged { (result ≡ false) ↔ (value.new ≡ value.old) }
         ensures counted { steps.new ≡ steps.old + 1 };
 
+    /// `push`, where what is not among the news of `from` is already in `into`. What `into` gets is among its own news
+    /// afterwards, with what was. It does not allocate.
+    ///
+    /// It need not look at what is no news; where a flow leaves it out, all is pushed.
+    fn push_news(
+        &self,
+        number: usize,
+        target: usize,
+        from: &Self::Value,
+        news: &<Self::Value as Lattice>::News,
+        into: &mut Self::Value,
+        into_news: &mut <Self::Value as Lattice>::News,
+        steps: &mut Steps<Self::Ledger>,
+    ) -> bool
+        requires valid { valid self.now }
+        requires in_range { number < (net self.now).edges }
+        requires target { target ≡ (net self.now).target number }
+        requires from_size { Self.Value.size from.now ≡ (net self.now).size }
+        requires into_size { Self.Value.size into.old ≡ (net self.now).size }
+        requires from_fit { Self.Value.News.fits news.now (net self.now).size }
+        requires into_fit { Self.Value.News.fits into_news.old (net self.now).size }
+        requires caught { caught self.now number news.now from.now into.old }
+        ensures joined { Joins Self.Value.below (net self.now) number from.now into.old into.new }
+        ensures unchanged { (result ≡ false) ↔ (into.new ≡ into.old) }
+        ensures keeps { Keeps (net self.now) (caught self.now) ((net self.now).target number)
+            into_news.old into.old into_news.new into.new }
+        ensures fit { Self.Value.News.fits into_news.new (net self.now).size }
+        ensures counted { steps.new ≡ steps.old + 1 }
+    {
+        let changed = self.push(number, target, from, into, steps);
+        if changed {
+            into_news.renew();
+        }
+        changed
+    }
+
+    /// `push_news` along an edge from a node to itself. It does not allocate.
+    fn push_self_news(
+        &self,
+        number: usize,
+        value: &mut Self::Value,
+        news: &mut <Self::Value as Lattice>::News,
+        steps: &mut Steps<Self::Ledger>,
+    ) -> bool
+        requires valid { valid self.now }
+        requires in_range { number < (net self.now).edges }
+        requires size { Self.Value.size value.old ≡ (net self.now).size }
+        requires fit { Self.Value.News.fits news.old (net self.now).size }
+        requires caught { caught self.now number news.old value.old value.old }
+        ensures joined { JoinsItself Self.Value.below (net self.now) number value.old value.new }
+        ensures unchanged { (result ≡ false) ↔ (value.new ≡ value.old) }
+        ensures keeps { Keeps (net self.now) (caught self.now) ((net self.now).target number)
+            news.old value.old news.new value.new }
+        ensures fit { Self.Value.News.fits news.new (net self.now).size }
+        ensures counted { steps.new ≡ steps.old + 1 }
+    {
+        let changed = self.push_self(number, value, steps);
+        if changed {
+            news.renew();
+        }
+        changed
+    }
+
     ghost laws: { (f : Self) → valid f
         → NetLaws Self.Value.below Self.Value.size Self.Value.rank (net f) };
+
+    ghost news_laws: { (f : Self) → valid f
+        → NewsLaws Self.Value.below Self.Value.size Self.Value.News.fits Self.Value.News.is_all
+        Self.Value.News.is_none (net f) (caught f) };
 }

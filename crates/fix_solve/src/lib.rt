@@ -4,15 +4,21 @@
 //! The theorem that this crate carries is the contract of `solve`: for every lawful lattice and flow it leaves the
 //! least solution, does not allocate, and makes at most as many pushes as there are edges, for each rank of a value and
 //! one more.
+//!
+//! A push may be told what of a value is news, that is, what may not have been pushed along this edge yet, so that it
+//! need not look at all of it (`push_news`). A flow for which that does not pay has the news `AllNews`, and says nothing
+//! of them.
 #![tactic(auto)]
 
 mod laws;
+mod news_kinds;
 mod order;
 mod pushes;
 mod steps;
 mod work;
 
 pub use laws::{Flow, Lattice};
+pub use news_kinds::{AllNews, News};
 pub use steps::Steps;
 pub use work::{Work, solve};
 

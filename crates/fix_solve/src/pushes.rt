@@ -1,15 +1,55 @@
 // The worklist: nodes are taken from the front, pushed along their edges, and targets that changed are put at the end.
-ghost use Rattle.std.specs.Prelude.{◌≡◌, ◌≢◌, ℕ, ◌+◌, ◌<◌, ◌≤◌, ◌||◌, true, length};
+ghost use Rattle.std.specs.Prelude.{◌≡◌, ◌≢◌, ℕ, ◌+◌, ◌<◌, ◌≤◌, ◌||◌, true, length, slice_index_or};
 ghost use Rattle.node_list.specs.Lists.{is_listed};
-ghost use Rattle.fix_solve.specs.Net.{AreOfSize, HoldsLeast};
+ghost use Rattle.fix_solve.specs.Net.{AreOfSize, HoldsFirst, HoldsLeast, most_pushes};
+ghost use Rattle.fix_solve.specs.NewsFlows.{AreAllNew, NewsFit, Telling};
 ghost use Rattle.fix_solve.specs.OrderWalks.{AreNodes};
-ghost use Rattle.fix_solve.specs.Solving.{AllDone, AllDoneBut, IsOneList, Pushed, Working, degree, nodes_left, pushes_left};
+ghost use Rattle.fix_solve.specs.Solving.{AllDone, AllDoneBut, HaveNews, CanWait, IsOneList, Pushed, Working, degree, nodes_left, pushes_left};
 
-use crate::{Flow, Lattice, Steps};
+use crate::{Flow, Lattice, News, Steps};
 use node_list::Links;
 
+/// Leaves the least solution, from the first values.
+pub(crate) fn solve_from<F: Flow>(
+    values: &mut [F::Value],
+    news: &mut [<F::Value as Lattice>::News],
+    waiting: &mut Links,
+    order: &[usize],
+    flow: &F,
+    steps: &mut Steps<F::Ledger>,
+)
+    requires valid { F.valid flow.now }
+    requires first { HoldsFirst (F.net flow.now) values.old }
+    requires can_wait { CanWait waiting.old values.old order.now }
+    requires have_news { HaveNews F.Value.size F.Value.News.fits values.old news.old }
+    ensures len { length values.new ≡ (F.net flow.now).nodes }
+    ensures can_wait { CanWait waiting.new values.new order.now }
+    ensures have_news { HaveNews F.Value.size F.Value.News.fits values.new news.new }
+    ensures sizes { AreOfSize F.Value.size (F.net flow.now) values.new }
+    ensures least { HoldsLeast F.Value.below (F.net flow.now) values.new }
+    ensures pushes { steps.new ≤ steps.old + most_pushes (F.net flow.now) }
+    ensures counts { steps.old ≤ steps.new }
+{
+    let nodes = values.len();
+    enlist_all(waiting, order, nodes);
+    renew_each(news);
+    drain(values, news, waiting, flow, steps);
+}
+
+/// Makes all of each value news.
+fn renew_each<N: News>(news: &mut [N])
+    ensures long { length news.new ≡ length news.old }
+    ensures fit { (nodes : ℕ) (size : ℕ) → NewsFit N.fits nodes size news.old
+        → NewsFit N.fits nodes size news.new }
+    ensures all { AreAllNew N.is_all news.new }
+{
+    for node in 0..news.len() {
+        news[node].renew();
+    }
+}
+
 /// Puts each node into the list: first these, from the last on, and then those that are left.
-pub(crate) fn enlist_all(waiting: &mut Links, order: &[usize], nodes: usize)
+fn enlist_all(waiting: &mut Links, order: &[usize], nodes: usize)
     requires one_list { IsOneList waiting.old }
     requires nodes { waiting.old.nodes ≡ nodes }
     requires in_range { AreNodes nodes order.now }
@@ -65,8 +105,9 @@ fn enlist_up(waiting: &mut Links, nodes: usize)
 }
 
 /// Visits the listed nodes until the list is empty.
-pub(crate) fn drain<F: Flow>(
+fn drain<F: Flow>(
     values: &mut [F::Value],
+    news: &mut [<F::Value as Lattice>::News],
     waiting: &mut Links,
     flow: &F,
     steps: &mut Steps<F::Ledger>,
@@ -76,8 +117,12 @@ pub(crate) fn drain<F: Flow>(
     requires nodes { waiting.old.nodes ≡ (F.net flow.now).nodes }
     requires working { Working F.Value.below (F.net flow.now) values.old
         (is_listed waiting.old.lists) AllDone }
+    requires fit { NewsFit F.Value.News.fits (F.net flow.now).nodes (F.net flow.now).size news.old }
+    requires telling { Telling (F.net flow.now) (F.caught flow.now) values.old news.old }
     ensures one_list { IsOneList waiting.new }
     ensures nodes { waiting.new.nodes ≡ (F.net flow.now).nodes }
+    ensures len { length values.new ≡ (F.net flow.now).nodes }
+    ensures fit { NewsFit F.Value.News.fits (F.net flow.now).nodes (F.net flow.now).size news.new }
     ensures sizes { AreOfSize F.Value.size (F.net flow.now) values.new }
     ensures least { HoldsLeast F.Value.below (F.net flow.now) values.new }
     ensures pushes { steps.new ≤ steps.old
@@ -85,13 +130,14 @@ pub(crate) fn drain<F: Flow>(
     ensures counts { steps.old ≤ steps.new }
 {
     while let Some(node) = waiting.pop_front(0) {
-        visit(values, waiting, flow, node, steps);
+        visit(values, news, waiting, flow, node, steps);
     }
 }
 
 /// Pushes along each edge that leaves a node, which was taken from the list, and lists the targets that changed.
 fn visit<F: Flow>(
     values: &mut [F::Value],
+    news: &mut [<F::Value as Lattice>::News],
     waiting: &mut Links,
     flow: &F,
     node: usize,
@@ -103,10 +149,14 @@ fn visit<F: Flow>(
     requires nodes { waiting.old.nodes ≡ (F.net flow.now).nodes }
     requires working { Working F.Value.below (F.net flow.now) values.old
         (is_listed waiting.old.lists) (AllDoneBut (F.net flow.now) node) }
+    requires fit { NewsFit F.Value.News.fits (F.net flow.now).nodes (F.net flow.now).size news.old }
+    requires telling { Telling (F.net flow.now) (F.caught flow.now) values.old news.old }
     ensures one_list { IsOneList waiting.new }
     ensures nodes { waiting.new.nodes ≡ waiting.old.nodes }
     ensures working { Working F.Value.below (F.net flow.now) values.new
         (is_listed waiting.new.lists) AllDone }
+    ensures fit { NewsFit F.Value.News.fits (F.net flow.now).nodes (F.net flow.now).size news.new }
+    ensures telling { Telling (F.net flow.now) (F.caught flow.now) values.new news.new }
     ensures pushes { steps.new
         + pushes_left (F.net flow.now) F.Value.rank values.new (is_listed waiting.new.lists)
         ≤ steps.old + degree (F.net flow.now) node
@@ -119,14 +169,19 @@ fn visit<F: Flow>(
     let (start, stop) = flow.out(node);
     for number in start..stop {
         let (source, target) = flow.edge(number);
-        let changed = push_along(values, flow, number, source, target, steps);
+        let changed = push_along(values, news, flow, number, source, target, steps);
         enlist(waiting, target, changed);
+    }
+    // Along an edge to itself the node may have changed: then it waits again, with all its news.
+    if !waiting.is_listed(node) {
+        news[node].settle();
     }
 }
 
 /// Pushes along one edge, from its source to its target, and answers whether the target changed.
 fn push_along<F: Flow>(
     values: &mut [F::Value],
+    news: &mut [<F::Value as Lattice>::News],
     flow: &F,
     number: usize,
     source: usize,
@@ -139,16 +194,38 @@ fn push_along<F: Flow>(
     requires target { target ≡ (F.net flow.now).target number }
     requires len { length values.old ≡ (F.net flow.now).nodes }
     requires sizes { AreOfSize F.Value.size (F.net flow.now) values.old }
+    requires fit { NewsFit F.Value.News.fits (F.net flow.now).nodes (F.net flow.now).size news.old }
+    requires telling { Telling (F.net flow.now) (F.caught flow.now) values.old news.old }
+    ensures fit { NewsFit F.Value.News.fits (F.net flow.now).nodes (F.net flow.now).size news.new }
+    ensures telling { Telling (F.net flow.now) (F.caught flow.now) values.new news.new }
     ensures pushed { Pushed F.Value.below (F.net flow.now) number values.old values.new result }
     ensures counted { steps.new ≡ steps.old + 1 }
 {
     if source == target {
-        flow.push_self(number, &mut values[target], steps)
+        flow.push_self_news(number, &mut values[target], &mut news[target], steps)
     } else if source < target {
         let (low, high) = values.split_at_mut(target);
-        flow.push(number, target, &low[source], &mut high[0], steps)
+        let (low_news, high_news) = news.split_at_mut(target);
+        flow.push_news(
+            number,
+            target,
+            &low[source],
+            &low_news[source],
+            &mut high[0],
+            &mut high_news[0],
+            steps,
+        )
     } else {
         let (low, high) = values.split_at_mut(source);
-        flow.push(number, target, &high[0], &mut low[target], steps)
+        let (low_news, high_news) = news.split_at_mut(source);
+        flow.push_news(
+            number,
+            target,
+            &high[0],
+            &high_news[0],
+            &mut low[target],
+            &mut low_news[target],
+            steps,
+        )
     }
 }

@@ -1,9 +1,10 @@
 // The values at the nodes, and the solver's call.
 ghost use Rattle.std.specs.Prelude.{◌≡◌, ◌+◌, ◌<◌, ◌≤◌, IfOk, length, slice_index_or};
+ghost use Rattle.fix_solve.specs.NewsFlows.{NewsFit};
 ghost use Rattle.fix_solve.specs.Net.{AreOfSize, HoldsFirst, HoldsLeast, most_pushes};
 
 use crate::order::order_of;
-use crate::pushes::{drain, enlist_all};
+use crate::pushes::solve_from;
 use crate::{Flow, Lattice, Memory, Steps};
 use node_list::Links;
 use std::alloc::Global;
@@ -11,24 +12,26 @@ use std::marker::Model;
 
 /// A value for each node. Contracts see it as the list of these.
 ///
-/// It also holds the list of the nodes that wait for a visit, and the order in which they are first visited, the
-/// last first, so that the solver does not allocate.
+/// It also holds what of each is news, the list of the nodes that wait for a visit, and the order in which they are first
+/// visited, the last first, so that the solver does not allocate.
 #[derive(Drop)]
 pub struct Work<V: Lattice> {
     values: Vec<V>,
+    news: Vec<V::News>,
     waiting: Links,
     order: Vec<usize>,
 }
 
 impl<V: Lattice> Model for Work<V> {
     ghost use Rattle.std.specs.Prelude.{List};
-    ghost use Rattle.fix_solve.specs.Solving.{CanWait};
+    ghost use Rattle.fix_solve.specs.Solving.{CanWait, HaveNews};
 
     ghost Value = { List V };
 
     ghost view = { λ work. work.values.items };
 
-    ghost invariant = { λ work. CanWait work.waiting work.values.items work.order.items };
+    ghost invariant = { λ work. CanWait work.waiting work.values.items work.order.items
+        × HaveNews V.size V.News.fits work.values.items work.news.items };
 }
 
 impl<V: Lattice + Drop> Work<V> {
@@ -37,15 +40,13 @@ impl<V: Lattice + Drop> Work<V> {
         requires { F.valid flow.now }
         ensures { IfOk result (λ work. HoldsFirst (F.net flow.now) work) }
     {
-        let nodes = flow.nodes();
-        let mut values = Vec::with_capacity(alloc, nodes)?;
-        for node in 0..nodes {
-            values.push(flow.first(alloc, node)?)?;
-        }
-        let waiting = Links::new(alloc, nodes, 1)?;
+        let values = first_values(alloc, flow)?;
+        let news = first_news(alloc, flow)?;
+        let waiting = Links::new(alloc, flow.nodes(), 1)?;
         let order = order_of(alloc, flow)?;
         Ok(Work {
             values,
+            news,
             waiting,
             order,
         })
@@ -58,6 +59,33 @@ impl<V: Lattice + Drop> Work<V> {
     {
         &self.values[node]
     }
+}
+
+/// The first value of each node.
+fn first_values<F: Flow>(alloc: Global, flow: &F) -> Result<Vec<F::Value>, Memory>
+    requires { F.valid flow.now }
+    ensures { IfOk result (λ values. HoldsFirst (F.net flow.now) values.items) }
+{
+    let nodes = flow.nodes();
+    let mut values = Vec::with_capacity(alloc, nodes)?;
+    for node in 0..nodes {
+        values.push(flow.first(alloc, node)?)?;
+    }
+    Ok(values)
+}
+
+/// News for the value of each node.
+fn first_news<F: Flow>(alloc: Global, flow: &F) -> Result<Vec<<F::Value as Lattice>::News>, Memory>
+    requires { F.valid flow.now }
+    ensures { IfOk result (λ news.
+        NewsFit F.Value.News.fits (F.net flow.now).nodes (F.net flow.now).size news.items) }
+{
+    let nodes = flow.nodes();
+    let mut news = Vec::with_capacity(alloc, nodes)?;
+    for _node in 0..nodes {
+        news.push(flow.news(alloc)?)?;
+    }
+    Ok(news)
 }
 
 /// Leaves the least values that lie above the first one at each node and above the transfer along each edge (the least
@@ -74,6 +102,12 @@ pub fn solve<F: Flow>(work: &mut Work<F::Value>, flow: &F, steps: &mut Steps<F::
     ensures pushes { steps.new ≤ steps.old + most_pushes (F.net flow.now) }
     ensures counts { steps.old ≤ steps.new }
 {
-    enlist_all(&mut work.waiting, &work.order, work.values.len());
-    drain(&mut work.values, &mut work.waiting, flow, steps);
+    solve_from(
+        &mut work.values,
+        &mut work.news,
+        &mut work.waiting,
+        &work.order,
+        flow,
+        steps,
+    );
 }

@@ -13,17 +13,10 @@ use Rattle.path_laws.specs.Leads.{Leads, at_seed, one_more}
 use Rattle.flow_graph.specs.FlowEdges.{StepAlong, edge_at}
 use Rattle.path_laws.specs.Nets.{IsBitFlow, bit_flow}
 use Rattle.path_laws.specs.Order.{BelowBits}
-use Rattle.path_laws.specs.OrderLaws.{below_length, or_joins}
+use Rattle.path_laws.specs.OrderLaws.{below_bit, below_length, or_joins}
 use Rattle.path_laws.specs.Paths.{has_bit}
 
--- the order of rows, place by place
-pub below_bit : (xs ys : List Bool) (k : ℕ) → BelowBits xs ys → get_or xs k false ≡ true → get_or ys k false ≡ true
-below_bit [] ys k p h = absurd (cc)
-below_bit (x ∷ xs) [] k p h = absurd p
-below_bit (x ∷ xs) (y ∷ ys) zero p h = p.0 h
-below_bit (x ∷ xs) (y ∷ ys) (suc k) p h = below_bit xs ys k p.1 h
-
--- and back: what holds at each place holds of the rows
+-- what holds at each place holds of the rows
 pub below_from_bits : (xs ys : List Bool) → length xs ≡ length ys → ((k : ℕ) → get_or xs k false ≡ true → get_or ys k false ≡ true) → BelowBits xs ys
 below_from_bits [] [] e h = tt
 below_from_bits [] (y ∷ ys) e h = absurd (omega (arith, e))

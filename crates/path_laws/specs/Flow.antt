@@ -2,6 +2,7 @@
 -- `BitFlow`.
 use Rattle.std.specs.Prelude.{◌≡◌, ℕ, ◌<◌, ◌↔◌, Bool, true, List, length}
 use Rattle.fix_solve.specs.Net.{Net, NetLaws}
+use Rattle.fix_solve.specs.NewsFlows.{NewsLaws}
 use Rattle.flow_graph.specs.declared.edges.Edge.{Edge}
 use Rattle.flow_graph.specs.FlowEdges.{StepAlong}
 use Rattle.flow_graph.specs.NumberTables.{number_at}
@@ -15,6 +16,7 @@ use Rattle.path_laws.specs.NetsLaws.{bit_laws}
 use Rattle.path_laws.specs.Order.{BelowBits, trues}
 use Rattle.path_laws.specs.Paths.{has_bit}
 use Rattle.path_laws.specs.Problem.{IsProblem, block_seeds}
+use Rattle.path_laws.specs.RowMarks.{AllMarked, AreMarksFor, NoneMarked, caught_along, caught_laws}
 
 -- the edges are in order of their sources, and the rows of seeds and of stops have one shape: one row for each block, so
 -- many bits
@@ -44,9 +46,17 @@ IsInOrder f = IsSeeded f.count f.between.now f.seeds f.stops.now f.bits
 abbrev pub net_of : {L : Type 0} → BitFlow L → Net (List Bool)
 net_of f = bit_flow f.count f.between.now.edges.items (number_at f.between.now.firsts.items) f.bits (seed_rows f.seeds) f.stops.now
 
+-- what is not news has been taken along an edge
+abbrev pub caught_in : {L : Type 0} → BitFlow L → ℕ → List Bool → List Bool → List Bool → Type 0
+caught_in f = caught_along f.between.now.edges.items f.stops.now
+
 -- it keeps the laws of flows
 pub flow_laws : {L : Type 0} (f : BitFlow L) → IsInOrder f → NetLaws BelowBits length trues (net_of f)
 flow_laws f is = bit_laws f.count f.between.now.edges.items (number_at f.between.now.firsts.items) f.bits (seed_rows f.seeds) f.stops.now is.listed.flow
+
+-- and those of news
+pub news_laws : {L : Type 0} (f : BitFlow L) → IsInOrder f → NewsLaws BelowBits length AreMarksFor AllMarked NoneMarked (net_of f) (caught_in f)
+news_laws f is = caught_laws f.count f.between.now.edges.items (number_at f.between.now.firsts.items) f.bits (seed_rows f.seeds) f.stops.now is.listed.flow
 
 -- of so many bits the rows say out of which blocks each comes over these edges: from a seed, over blocks of which none
 -- stops it

@@ -6,6 +6,7 @@ pub mod Leads
 pub mod LeadsLaws
 pub mod Nets
 pub mod NetsLaws
+pub mod RowMarks
 pub mod Flow
 pub mod Seeds
 pub mod SeedsLaws

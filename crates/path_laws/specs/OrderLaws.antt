@@ -2,7 +2,7 @@
 -- the crates above too.
 use Rattle.std.specs.Prelude.{◌≡◌, ◌≢◌, ◌<◌, ◌≤◌, Bool, true, false, not, ◌||◌, ◌&&◌, List, [], ◌∷◌, length, refl}
 use Rattle.std.proofs.lemmas.Bool.{and_parts, or_left, or_right}
-use Rattle.std.proofs.Common.{suc, sym, ◌∙◌, ◌⊎◌, inl, inr, arith}
+use Rattle.std.proofs.Common.{ℕ, zero, suc, get_or, sym, ◌∙◌, ◌⊎◌, inl, inr, arith}
 use Rattle.fix_solve.specs.Order.{OrderLaws, IsLeastUpper}
 use Rattle.bit_rows.specs.BitLaws.{length_minus}
 use Rattle.bit_rows.specs.Bits.{or_bits, minus_bits}
@@ -17,6 +17,13 @@ below_refl = pointwise_refl BelowBit (λ x h. h)
 -- and transitive
 pub below_trans : (xs ys zs : List Bool) → BelowBits xs ys → BelowBits ys zs → BelowBits xs zs
 below_trans = pointwise_trans BelowBit (λ x y z p q h. q (p h))
+
+-- place by place
+pub below_bit : (xs ys : List Bool) (k : ℕ) → BelowBits xs ys → get_or xs k false ≡ true → get_or ys k false ≡ true
+below_bit [] ys k p h = absurd (cc)
+below_bit (x ∷ xs) [] k p h = absurd p
+below_bit (x ∷ xs) (y ∷ ys) zero p h = p.0 h
+below_bit (x ∷ xs) (y ∷ ys) (suc k) p h = below_bit xs ys k p.1 h
 
 -- bits that imply each other are equal
 pub same_bit : (x y : Bool) → BelowBit x y → BelowBit y x → x ≡ y

@@ -1,13 +1,14 @@
 // Rows of bits as values of a flow over a list of edges.
 ghost use Rattle.std.specs.Prelude.{◌≡◌, ◌+◌, ◌*◌, ◌≤◌, length, IfOk, OnErr, OnOk};
 ghost use Rattle.bit_rows.specs.Bits.{row_of};
-ghost use Rattle.path_laws.specs.Flow.{AreOut, HasSeed, IsInOrder, IsSeeded, flow_laws, net_of, seed_rows};
+ghost use Rattle.path_laws.specs.Flow.{AreOut, HasSeed, IsInOrder, IsSeeded, caught_in, flow_laws, net_of, news_laws, seed_rows};
 ghost use Rattle.path_laws.specs.Order.{BelowBits, trues};
 ghost use Rattle.path_laws.specs.OrderLaws.{bits_laws};
 ghost use Rattle.path_laws.specs.Paths.{AreRows};
 
 use crate::between::BlockEdges;
 use crate::problems::Problem;
+use crate::row_news::RowNews;
 use crate::summaries::seed_of;
 use bit_rows::{Row, RowView, Rows};
 use fix_solve::{Flow, Lattice, Steps, Work, solve};
@@ -41,6 +42,8 @@ impl Bits {
 }
 
 impl Lattice for Bits {
+    type News = RowNews;
+
     ghost below = { BelowBits };
 
     ghost size = { length };
@@ -95,6 +98,8 @@ impl<'a, L: Ledger> Flow for BitFlow<'a, L> {
 
     ghost net = { net_of };
 
+    ghost caught = { caught_in };
+
     fn nodes(&self) -> usize {
         self.count
     }
@@ -112,13 +117,14 @@ impl<'a, L: Ledger> Flow for BitFlow<'a, L> {
         (self.between.firsts[node], self.between.firsts[node + 1])
     }
 
-    fn height(&self) -> u64 {
-        self.bits as u64
-    }
-
     fn first(&self, alloc: Global, node: usize) -> Result<Bits, Memory> {
         let row = seed_row(alloc, &self.seeds, node)?;
         Ok(Bits { row })
+    }
+
+    fn news(&self, alloc: Global) -> Result<RowNews, Memory> {
+        let news = RowNews::new(alloc, self.bits)?;
+        Ok(news)
     }
 
     fn push(
@@ -139,7 +145,30 @@ impl<'a, L: Ledger> Flow for BitFlow<'a, L> {
         false
     }
 
+    fn push_news(
+        &self,
+        number: usize,
+        target: usize,
+        from: &Bits,
+        news: &RowNews,
+        into: &mut Bits,
+        into_news: &mut RowNews,
+        steps: &mut Steps<L>,
+    ) -> bool {
+        if news.are_kept() {
+            steps.tick();
+            let stop = self.stops.row(target);
+            let marks = news.marks.view();
+            into.row
+                .or_minus_marked(&from.row.view(), &stop, &marks, &mut into_news.marks)
+        } else {
+            self.push(number, target, from, into, steps)
+        }
+    }
+
     ghost laws = { flow_laws };
+
+    ghost news_laws = { news_laws };
 }
 
 /// Which bits come out of each of so many blocks: from a seed, over blocks of which none stops them. There are so many

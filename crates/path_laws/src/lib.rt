@@ -25,6 +25,7 @@ mod joins;
 mod keyed;
 mod passing;
 mod problems;
+mod row_news;
 mod seeds;
 mod summaries;
 

@@ -6,11 +6,12 @@ ghost use Rattle.flow_graph.specs.FlowEdges.{edge_at};
 ghost use Rattle.wanted_bits.specs.BitsOrder.{HasFew};
 ghost use Rattle.wanted_bits.specs.Walking.{back_in, before_list};
 ghost use Rattle.wanted_bits.specs.WantedFlows.{IsWantedFlow, flow_laws, wanted_net_of};
+ghost use Rattle.fix_solve.specs.NewsFlows.{untold_laws};
 
 use crate::lists::{WantedList, raise_each};
 use crate::table::Shift;
 use crate::walking::walk_back;
-use fix_solve::{Flow, Steps};
+use fix_solve::{AllNews, Flow, Steps};
 use flow_graph::{Blocks, Graph};
 use mir_base::Memory;
 use path_laws::BlockEdges;
@@ -54,13 +55,13 @@ impl<'a, L: Ledger> Flow for WantedFlow<'a, L> {
         (self.between.firsts[node], self.between.firsts[node + 1])
     }
 
-    fn height(&self) -> u64 {
-        65 * self.graph.vars().len() as u64
-    }
-
     fn first(&self, alloc: Global, _node: usize) -> Result<WantedList, Memory> {
         let list = WantedList::zeros(alloc, self.graph.vars().len())?;
         Ok(list)
+    }
+
+    fn news(&self, _alloc: Global) -> Result<AllNews, Memory> {
+        Ok(AllNews)
     }
 
     fn push(
@@ -83,6 +84,8 @@ impl<'a, L: Ledger> Flow for WantedFlow<'a, L> {
     }
 
     ghost laws = { flow_laws };
+
+    ghost news_laws = { λ f v. untold_laws };
 }
 
 impl<'a, L: Ledger> WantedFlow<'a, L> {

@@ -2,7 +2,7 @@
 ghost use Rattle.std.specs.Prelude.{◌≡◌, ◌↔◌, ◌<◌, ◌≤◌, false, length, max, replicate, slice_set, slice_index_or, IfOk};
 ghost use Rattle.wanted_bits.specs.BitsOrder.{BelowLists, HasFew, joined_bits, lists_laws, lists_rank};
 
-use fix_solve::Lattice;
+use fix_solve::{AllNews, Lattice};
 use mir_base::Memory;
 use std::alloc::Global;
 use std::marker::Model;
@@ -47,6 +47,8 @@ impl WantedList {
 }
 
 impl Lattice for WantedList {
+    type News = AllNews;
+
     ghost below = { BelowLists };
 
     ghost size = { length };

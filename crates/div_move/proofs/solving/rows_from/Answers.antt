@@ -14,5 +14,4 @@ returns g c =
       within = within;
       use_rows = subst (λ k. AreRows (length sites.graph.now.nodes) k sites.uses.now) (sym long) c.requires.sites.uses_are.shape;
       kill_rows = subst (λ k. AreRows (length sites.graph.now.nodes) k sites.kills.now) (sym long) c.requires.sites.kills_are.shape;
-      height_is = omega (arith, long, c.requires.height);
     }) c.in_ok-work.work c.in_ok-work.ensures c.args.table.now long c.requires.sites.uses_are c.requires.sites.kills_are c.in_ok-rows.rows c.in_ok-rows.ensures

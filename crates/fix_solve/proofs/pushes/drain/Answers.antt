@@ -28,6 +28,8 @@ loop-node-preserved g c =
       one_list = c.visit.ensures.one_list;
       nodes = c.visit.ensures.nodes ∙ c.in-Some.ensures.nodes ∙ inv.nodes;
       working = c.visit.ensures.working;
+      fit = c.visit.ensures.fit;
+      telling = c.visit.ensures.telling;
       pushes = omega (arith, less.pushes, inv.pushes, c.visit.ensures.pushes);
     }
 

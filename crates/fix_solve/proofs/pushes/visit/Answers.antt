@@ -1,7 +1,8 @@
-use Rattle.std.proofs.Common.{◌≡◌, ◌+◌, ◌-◌, ◌<◌, ◌≤◌, arith, ◌∙◌}
+use Rattle.std.proofs.Common.{◌≡◌, ◌+◌, ◌-◌, ◌<◌, ◌≤◌, sym, arith, ◌∙◌}
 use Rattle.node_list.specs.Lists.{is_listed}
 use Rattle.fix_solve.specs.Solving.{pushes_left, nodes_left, degree}
-use Rattle.fix_solve.proofs.Visits.{working_push, load_after}
+use Rattle.fix_solve.proofs.Telling.{telling_settle}
+use Rattle.fix_solve.proofs.Visits.{working_push, working_ends, load_after}
 use Rattle.fix_solve.proofs.pushes.visit.Goals as goal
 
 pub loop-number-preserved : goal.loop-number-preserved
@@ -39,6 +40,20 @@ loop-number-preserved g c =
       one_list = c.enlist.ensures.one_list;
       nodes = c.enlist.ensures.nodes ∙ inv.nodes;
       working = push;
+      fit = c.push_along-changed.ensures.fit;
+      telling = c.push_along-changed.ensures.telling;
       pushes = omega arith;
       visits = omega arith;
     }
+
+pub returns-then-not-is_listed-clause-telling : goal.returns-then-not-is_listed-clause-telling
+returns-then-not-is_listed-clause-telling g c =
+    let net = g.F.Flow.net c.args.flow.now in
+    let laws = g.met.F.Flow.laws c.args.flow.now c.requires.valid in
+    let inv = c.loop-number.invariant in
+    let fl = is_listed c.loop-number.waiting.lists in
+    let over : c.out-start.result.1 ≤ c.loop-number.number = c.loop-number-test.false in
+    let stop_is : c.out-start.result.1 ≡ net.stop c.args.node = c.out-start.ensures.stop in
+    telling_settle g.F.Value.Lattice.below g.F.Value.Lattice.size g.F.Value.Lattice.rank g.met.F.Value.Lattice.laws net laws g.F.Value.News.News.fits g.F.Value.News.News.is_all g.F.Value.News.News.is_none (g.F.Flow.caught c.args.flow.now) (g.met.F.Flow.news_laws c.args.flow.now c.requires.valid) c.args.node c.loop-number.values c.loop-number.news c.settle.new.self fl c.requires.in_range inv.fit.long (sym c.is_listed.ensures.listed ∙ c.if-not-is_listed.true)
+    (c.settle.ensures.fits net.size (inv.fit.each c.index-news-node.result c.args.node c.requires.in_range)) c.settle.ensures.none
+    (working_ends g.F.Value.Lattice.below g.F.Value.Lattice.size g.F.Value.Lattice.rank g.met.F.Value.Lattice.laws net laws c.args.node c.loop-number.number c.loop-number.values fl (omega arith) inv.working) inv.telling

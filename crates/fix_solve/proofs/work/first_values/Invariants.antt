@@ -1,6 +1,6 @@
 use Rattle.std.proofs.Common.{◌≡◌, ℕ, ◌<◌, length}
 use Rattle.fix_solve.specs.Net.{value_at}
-use Rattle.fix_solve.proofs.work.Work.new.Given as goal
+use Rattle.fix_solve.proofs.work.first_values.Given as goal
 
 abbrev pub invariant-loop-node : goal.invariant-loop-node
 invariant-loop-node g l =

@@ -1,0 +1,102 @@
+-- What of a row is news, by its words: long rows have a mark for each word, and short rows have none, so that all of them
+-- is always news. Cited by the ghost members of `RowNews` and of `BitFlow`.
+use Rattle.std.specs.Prelude.{◌≡◌, ℕ, ◌/◌, ◌<◌, Bool, true, false, not, nat_le, if◌then◌else◌, List, length, replicate, slice_index_or}
+use Rattle.std.proofs.Common.{get_or, sym, ap, inl, inr, arith, ◌∙◌}
+use Rattle.std.proofs.lemmas.Bool.{and_from, cases_lt}
+use Rattle.std.proofs.lemmas.List.{get_or_past, get_or-map, get_or-replicate, length-map, length-replicate}
+use Rattle.std.proofs.lemmas.Option.{slice_get-get_or}
+use Rattle.fix_solve.specs.NewsFlows.{Keeps, NewsLaws}
+use Rattle.bit_rows.specs.BitLaws.{minus_bit}
+use Rattle.bit_rows.specs.Bits.{minus_bits, not_bits, row_bit, row_of}
+use Rattle.bit_rows.specs.Marks.{AreMarked, AreSettled, words_for}
+use Rattle.flow_graph.specs.declared.edges.Edge.{Edge}
+use Rattle.flow_graph.specs.FlowEdges.{edge_at}
+use Rattle.path_laws.specs.Nets.{IsBitFlow, bit_flow}
+use Rattle.path_laws.specs.Order.{BelowBits}
+use Rattle.path_laws.specs.OrderLaws.{below_bit, below_length}
+
+-- ---- marks
+
+-- how many marks rows of so many bits have
+abbrev pub marks_for : ℕ → ℕ
+marks_for bits = if nat_le bits 1024 then 0 else words_for bits
+
+-- they are as many
+abbrev pub AreMarksFor : List Bool → ℕ → Type 0
+AreMarksFor marks bits = length marks ≡ marks_for bits
+
+-- each word is marked
+abbrev pub AllMarked : List Bool → Type 0
+AllMarked marks = (k : ℕ) → slice_index_or marks k true ≡ true
+
+-- no word is
+abbrev pub NoneMarked : List Bool → Type 0
+NoneMarked marks = (k : ℕ) → row_bit marks k ≡ false
+
+-- ---- along an edge
+
+-- what a row has in words that are not marked, and the target of an edge does not stop, is in the row there
+abbrev pub caught_along : List Edge → List (List Bool) → ℕ → List Bool → List Bool → List Bool → Type 0
+caught_along edges bar e marks x w = AreSettled marks x (row_of bar (edge_at edges e).target) w
+
+-- this keeps the laws of news
+pub caught_laws : (nodes : ℕ) (edges : List Edge) (out : ℕ → ℕ) (bits : ℕ) (first bar : List (List Bool)) → IsBitFlow nodes edges out bits first bar
+    → NewsLaws BelowBits length AreMarksFor AllMarked NoneMarked (bit_flow nodes edges out bits first bar) (caught_along edges bar)
+caught_laws nodes edges out bits first bar valid = record {
+  all = λ e marks x w h all. record { each = λ b low off on free. let bad : true ≡ false = sym (all (b / 64)) ∙ off in absurd (cc) };
+  none = λ e marks x w h fit x_long w_long none below. record {
+    each = λ b low off on free.
+        let stop = row_of bar (edge_at edges e).target in
+        let inside = (valid.are.ends e (edge_at edges e) (slice_get-get_or edges e _ h)).1 in
+        let long : length x ≡ length stop = x_long ∙ sym (valid.bar_rows.each (edge_at edges e).target inside) in
+        below_bit (minus_bits x stop) w b below (minus_bit x stop b long ∙ and_from (get_or x b false) (not (get_or stop b false)) on (ap not free));
+  };
+  grows = λ e marks x w w' h caught below. record {
+    each = λ b low off on free. below_bit w w' b below (caught.each b (rw (below_length w w' below) low) off on free);
+  };
+}
+
+-- ---- what a push leaves
+
+module _ (nodes : ℕ) (edges : List Edge) (out : ℕ → ℕ) (bits : ℕ) (first bar : List (List Bool)) where
+  -- a row that changed only where it is marked
+  pub marked_keeps : (node : ℕ) (before old after new : List Bool) → AreMarked before old after new → Keeps (bit_flow nodes edges out bits first bar) (caught_along edges bar) node before old after new
+  marked_keeps node before old after new marked = record {
+    along = λ e w h same caught. record {
+      each = λ b low off on free.
+          let was = marked.each b off in
+          caught.each b low was.0 (sym was.1 ∙ on) free;
+    };
+  }
+
+-- where there are no marks all is marked
+pub unmarked_keeps : (before old after new : List Bool) → length after ≡ 0 → AreMarked before old after new
+unmarked_keeps before old after new none = record {
+  each = λ b off. let on : get_or after (b / 64) true ≡ true = get_or_past after (b / 64) true (omega arith) in let bad : true ≡ false = sym on ∙ off in absurd (cc);
+}
+
+-- ---- how many marks there are
+
+-- rows that have marks have one for each word
+pub marks_kept : (n bits : ℕ) → n ≡ marks_for bits → 0 < n → n ≡ words_for bits
+marks_kept n bits is some = marks_kept_at (nat_le bits 1024) n (words_for bits) is some
+  where
+    marks_kept_at : (few : Bool) (n count : ℕ) → n ≡ (if few then 0 else count) → 0 < n → n ≡ count
+    marks_kept_at true n count is some = absurd (omega (arith, is))
+    marks_kept_at false n count is some = is
+
+-- ---- all marks set, and none
+
+-- a row that was cleared and flipped
+pub all_marked : (n : ℕ) → AllMarked (not_bits (replicate n false))
+all_marked n k = elim (cases_lt k n) as (λ _. get_or (not_bits (replicate n false)) k true ≡ true) [
+  | inl within ↦ get_or-map not (replicate n false) k false true (rw length-replicate within) ∙ ap not (get_or-replicate n k false false within)
+  | inr past ↦ get_or_past (not_bits (replicate n false)) k true (rw (length-map, length-replicate) past)
+]
+
+-- and one that was cleared
+pub none_marked : (n : ℕ) → NoneMarked (replicate n false)
+none_marked n k = elim (cases_lt k n) as (λ _. get_or (replicate n false) k false ≡ false) [
+  | inl within ↦ get_or-replicate n k false false within
+  | inr past ↦ get_or_past (replicate n false) k false (rw length-replicate past)
+]
