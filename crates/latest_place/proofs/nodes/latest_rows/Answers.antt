@@ -1,4 +1,0 @@
-use Rattle.latest_place.proofs.nodes.latest_rows.Goals as goal
-
-pub returns-clause-bits : goal.returns-clause-bits
-returns-clause-bits c = λ n b h l. c.in_ok-rows.ensures.last n b h

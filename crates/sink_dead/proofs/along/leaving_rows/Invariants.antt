@@ -1,6 +1,0 @@
-use Rattle.sink_dead.specs.BlockRows.{AreRowsTo, leaves_own}
-use Rattle.sink_dead.specs.Over.{lists_of}
-use Rattle.sink_dead.proofs.along.leaving_rows.Given as goal
-
-abbrev pub invariant-loop-block : goal.invariant-loop-block
-invariant-loop-block l = AreRowsTo l.block (lists_of l.over) l.over.table.now (leaves_own l.over.graph.now) l.rows

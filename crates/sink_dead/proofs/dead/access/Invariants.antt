@@ -1,5 +1,0 @@
-use Rattle.sink_dead.proofs.Flagging.{AreAccessedBack}
-use Rattle.sink_dead.proofs.dead.access.Given as goal
-
-abbrev pub invariant-loop-back : goal.invariant-loop-back
-invariant-loop-back l = AreAccessedBack l.graph l.blocks.lists l.block l.list l.back l.reads l.assigns

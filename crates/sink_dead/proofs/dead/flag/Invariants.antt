@@ -1,5 +1,0 @@
-use Rattle.sink_dead.proofs.Flagging.{AreFlaggedBack}
-use Rattle.sink_dead.proofs.dead.flag.Given as goal
-
-abbrev pub invariant-loop-back : goal.invariant-loop-back
-invariant-loop-back l = AreFlaggedBack l.graph l.blocks.lists l.block l.list l.back l.live l.dead

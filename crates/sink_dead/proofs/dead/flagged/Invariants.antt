@@ -1,8 +1,0 @@
-use Rattle.sink_dead.specs.Dead.{AreFlaggedTo, AreLiveAfterFrom}
-use Rattle.sink_dead.proofs.dead.flagged.Given as goal
-
-abbrev pub invariant-loop-block : goal.invariant-loop-block
-invariant-loop-block l = record {
-  live : AreLiveAfterFrom l.graph l.blocks.lists l.block l.live;
-  dead : AreFlaggedTo l.graph l.blocks.lists l.block l.dead.items;
-}

@@ -1,5 +1,0 @@
-use Rattle.sink_dead.specs.Ends.{AreEndedTo}
-use Rattle.sink_dead.proofs.ends.inserted_rows.Given as goal
-
-abbrev pub invariant-loop-number : goal.invariant-loop-number
-invariant-loop-number l = AreEndedTo l.over l.number l.rows

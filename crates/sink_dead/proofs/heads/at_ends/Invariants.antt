@@ -1,5 +1,0 @@
-use Rattle.sink_dead.specs.Over.{ArePutAtEndsOver}
-use Rattle.sink_dead.proofs.heads.at_ends.Given as goal
-
-abbrev pub invariant-loop-block : goal.invariant-loop-block
-invariant-loop-block l = ArePutAtEndsOver l.over l.into l.leaves l.block l.initial.puts.items l.puts.items

@@ -1,6 +1,0 @@
-use Rattle.mir_base.specs.Frames.{shared_vars}
-use Rattle.sink_dead.specs.LiveRows.{IsMarkedAt}
-use Rattle.sink_dead.proofs.liveness.mark_globals.Given as goal
-
-abbrev pub invariant-loop-x : goal.invariant-loop-x
-invariant-loop-x l = IsMarkedAt l.value l.n (shared_vars l.x) l.initial.rows l.rows

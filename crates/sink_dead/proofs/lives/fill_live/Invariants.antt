@@ -1,9 +1,0 @@
-use Rattle.sink_dead.proofs.Flagging.{AreLiveBack}
-use Rattle.sink_dead.proofs.LiveNodes.{HaveLive}
-use Rattle.sink_dead.proofs.lives.fill_live.Given as goal
-
-abbrev pub invariant-loop-back : goal.invariant-loop-back
-invariant-loop-back l = record {
-  live : AreLiveBack l.graph l.blocks.lists l.block l.list l.back l.live;
-  rows : HaveLive l.graph l.blocks.lists l.block l.list l.back l.rows;
-}

@@ -1,6 +1,0 @@
-use Rattle.std.proofs.Common.{length}
-use Rattle.sink_dead.proofs.Found.{AreMovingUpTo}
-use Rattle.sink_dead.proofs.patterns.moving_patterns.Given as goal
-
-abbrev pub invariant-loop-node : goal.invariant-loop-node
-invariant-loop-node l = AreMovingUpTo l.graph (length l.graph.vars) l.nodes l.node-index l.found

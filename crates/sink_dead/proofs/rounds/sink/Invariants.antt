@@ -1,9 +1,0 @@
-use Rattle.std.proofs.Common.{◌-◌, length}
-use Rattle.sink_dead.proofs.RoundsSoFar.{AreSoFar}
-use Rattle.sink_dead.proofs.rounds.sink.Given as goal
-
-abbrev pub invariant-rounds : goal.invariant-rounds
-invariant-rounds l = AreSoFar l.graph l.rounds.items l.last
-
-abbrev pub decreases-rounds : goal.decreases-rounds
-decreases-rounds l = 15 - length l.rounds.items
