@@ -13,3 +13,5 @@ pub mod NarrowingLaws
 pub mod UseLaws
 pub mod EdgeLaws
 pub mod NonemptyLaws
+pub mod BoundRules
+pub mod BoundRuleLaws

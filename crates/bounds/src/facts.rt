@@ -5,7 +5,7 @@ ghost use Rattle.bounds.specs.Facts.{BelowFact, fact_rank, high_end, hull, joine
 ghost use Rattle.bounds.specs.FactLaws.{fact_laws, fact_size};
 
 use crate::ends::{End, are_same_ends, ceiling, floor, lower, upper};
-use fix_solve::Lattice;
+use fix_solve::{AllNews, Lattice};
 
 /// What is known of the value of a variable.
 #[derive(Clone, Copy, Debug, PartialEq, Eq)]
@@ -71,7 +71,7 @@ fn high_end(x: Fact) -> End
 }
 
 /// Whether two facts are one.
-fn are_same(x: Fact, y: Fact) -> bool
+pub(crate) fn are_same(x: Fact, y: Fact) -> bool
     ensures same { result ≡ true → x ≡ y }
     ensures differ { x ≡ y → result ≡ true }
 {
@@ -95,6 +95,8 @@ fn are_same(x: Fact, y: Fact) -> bool
 }
 
 impl Lattice for Fact {
+    type News = AllNews;
+
     ghost below = { BelowFact };
 
     ghost size = { fact_size };

@@ -3,16 +3,21 @@
 //! operands after a test.
 //!
 //! The theorem that this crate carries is the contract of `bounds_hold`: where the facts of the operands hold, so does
-//! the fact of the result, and the surer the operands are, the surer is the result.
+//! the fact of the result, and the surer the operands are, the surer is the result. Facts are also what `cond_flow` asks
+//! of what is known of variables: they implement its `Knowledge`, by rules that are lawful (`bound_laws`).
 #![tactic(auto)]
 
 mod ends;
 mod facts;
+mod knowing;
 mod laws;
 mod narrowing;
+mod reading;
 mod rounding;
 mod rules;
 mod spans;
+mod tests_of;
+mod uses;
 
 pub use ends::End;
 pub use facts::Fact;

@@ -1,0 +1,10 @@
+pub mod Nodewise
+pub mod Targets
+pub mod Steps
+pub mod Joins
+pub mod JoinCases
+pub mod Rewrites
+pub mod Sound
+pub mod Runs
+pub mod Shapes
+pub mod Whole

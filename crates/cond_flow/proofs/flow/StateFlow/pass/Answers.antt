@@ -1,0 +1,44 @@
+use Rattle.std.proofs.Common.{◌≡◌, ◌∙◌, ◌<◌, ◌-◌, ◌/◌, ◌%◌, length, [], slice_get, Some, sym, ap, subst, arith}
+use Rattle.std.proofs.lemmas.Option.{get_or_from_slice_get}
+use Rattle.flow_graph.specs.BlockLaws.{chain_some}
+use Rattle.cond_flow.specs.States.{Knows, Unreached}
+use Rattle.cond_flow.specs.Blockwise.{out_of}
+use Rattle.cond_flow.specs.Passing.{passed_along}
+use Rattle.cond_flow.specs.PassingLaws.{passing_laws}
+use Rattle.cond_flow.proofs.JoinCases.{out_none}
+use Rattle.cond_flow.proofs.Steps.{chain_at}
+use Rattle.cond_flow.proofs.flow.StateFlow.pass.Goals as goal
+
+pub last-requires : goal.last-requires
+last-requires g c = chain_some c.args.self.now.graph.now.nodes c.nodes-list.result.now (c.requires.valid.blocks.are.blocks (c.args.number / 2) c.nodes-list.result.now c.nodes-list.ensures).chain
+
+pub node-requires : goal.node-requires
+node-requires g c =
+    let nodes = c.args.self.now.graph.now.nodes in
+    let list = c.nodes-list.result.now in
+    let chain = (c.requires.valid.blocks.are.blocks (c.args.number / 2) list c.nodes-list.ensures).chain in
+    let some = chain_some nodes list chain in
+    subst (λ n. n < length nodes) (sym c.last.ensures) (chain_at nodes list (length list - 1) chain (omega (arith, some)))
+
+pub returns-then-may_pass : goal.returns-then-may_pass
+returns-then-may_pass g c =
+    let f = c.args.self.now in
+    let graph = f.graph.now in
+    let along = passed_along g.K.Knowledge.rules graph.shared graph.received in
+    let list = c.nodes-list.result.now in
+    let slot = c.args.number % 2 in
+    c.leave.ensures
+    ∙ ap (λ ks. out_of along graph.nodes list slot (Knows ks)) c.refill.ensures
+    ∙ ap (λ l. out_of along graph.nodes l slot (Knows c.args.known.now)) (sym (get_or_from_slice_get f.blocks.now.lists (c.args.number / 2) list [] c.nodes-list.ensures))
+
+pub returns-else-may_pass : goal.returns-else-may_pass
+returns-else-may_pass g c =
+    let f = c.args.self.now in
+    let graph = f.graph.now in
+    let along = passed_along g.K.Knowledge.rules graph.shared graph.received in
+    let laws = passing_laws g.met.K.Knowledge.laws.order g.met.K.Knowledge.laws.rising graph.shared graph.received in
+    let list = c.nodes-list.result.now in
+    let slot = c.args.number % 2 in
+    ap (λ ks. Unreached (length ks)) c.refill.ensures
+    ∙ out_none g.K.Knowledge.rules graph.shared graph.received laws graph.nodes list slot (Knows c.args.known.now) c.node.result.now (subst (λ n. slice_get graph.nodes n ≡ Some c.node.result.now) c.last.ensures c.node.ensures) (c.may_pass.ensures c.if-may_pass.false)
+    ∙ ap (λ l. out_of along graph.nodes l slot (Knows c.args.known.now)) (sym (get_or_from_slice_get f.blocks.now.lists (c.args.number / 2) list [] c.nodes-list.ensures))

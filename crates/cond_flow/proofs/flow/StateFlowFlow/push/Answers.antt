@@ -1,0 +1,14 @@
+use Rattle.std.proofs.Common.{◌/◌, ◌%◌, sym, ◌∙◌}
+use Rattle.cond_flow.specs.Blockwise.{block_at}
+use Rattle.cond_flow.specs.PassingLaws.{passing_laws}
+use Rattle.cond_flow.proofs.JoinCases.{pushes_none}
+use Rattle.cond_flow.proofs.flow.StateFlowFlow.push.Goals as goal
+
+pub returns-else-from-clause-joined : goal.returns-else-from-clause-joined
+returns-else-from-clause-joined g c =
+    let laws = g.met.K.Knowledge.laws in
+    let f = c.args.self.now in
+    let graph = f.graph.now in
+    let s = c.from.inside in
+    pushes_none laws.order (passing_laws laws.order laws.rising graph.shared graph.received) graph.nodes (block_at f.blocks.now.lists (c.args.number / 2)) (c.args.number % 2) c.args.into.now s.reached s.known.items c.args.from.now c.if-from.false c.from.view_is
+    (c.requires.into_size ∙ sym c.requires.from_size)

@@ -1,0 +1,51 @@
+use Rattle.std.proofs.Common.{◌/◌, ◌%◌, if◌then◌else◌, length, refl, sym, ap, ◌∙◌}
+use Rattle.cond_flow.specs.States.{Knows, joined_each, state_where}
+use Rattle.cond_flow.specs.Blockwise.{block_at, out_of}
+use Rattle.cond_flow.specs.Passing.{passed_along}
+use Rattle.cond_flow.specs.PassingLaws.{passing_laws}
+use Rattle.cond_flow.proofs.JoinCases.{known_is, leaves_long, passes_on, pushes_none, upper_of, where_long}
+use Rattle.cond_flow.proofs.flow.StateFlowFlow.push_self.Goals as goal
+
+pub join_where-requires : goal.join_where-requires
+join_where-requires g c =
+    let laws = g.met.K.Knowledge.laws in
+    let f = c.args.self.now in
+    let graph = f.graph.now in
+    let left = leaves_long laws.order (passing_laws laws.order laws.rising graph.shared graph.received) graph.nodes (block_at f.blocks.now.lists (c.args.number / 2)) (c.args.number % 2) c.pass-passes.result c.pass-passes.new.room.items (Knows c.as_slice.result.now) c.pass-passes.ensures in
+    ap length c.as_slice-then-value.ensures.value ∙ left ∙ ap length c.as_slice.ensures.value
+
+pub invariant_of-value : goal.invariant_of-value
+invariant_of-value g c =
+    let laws = g.met.K.Knowledge.laws in
+    let r = g.K.Knowledge.rules in
+    let f = c.args.self.now in
+    let graph = f.graph.now in
+    let s = c.value.inside in
+    let left = leaves_long laws.order (passing_laws laws.order laws.rising graph.shared graph.received) graph.nodes (block_at f.blocks.now.lists (c.args.number / 2)) (c.args.number % 2) c.pass-passes.result c.pass-passes.new.room.items (Knows c.as_slice.result.now) c.pass-passes.ensures in
+    let same = left ∙ ap length c.as_slice.ensures.value in
+    same ∙ sym (where_long r.joined r.top c.pass-passes.result s.known.items c.as_slice-then-value.result.now c.join_where.new.known.items c.join_where.ensures.joined (sym (ap length c.as_slice-then-value.ensures.value ∙ same)))
+
+pub returns-then-value-clause-joined : goal.returns-then-value-clause-joined
+returns-then-value-clause-joined g c =
+    let laws = g.met.K.Knowledge.laws in
+    let r = g.K.Knowledge.rules in
+    let f = c.args.self.now in
+    let graph = f.graph.now in
+    let s = c.value.inside in
+    let passed = c.pass-passes.new.room.items in
+    let list = block_at f.blocks.now.lists (c.args.number / 2) in
+    let left = leaves_long laws.order (passing_laws laws.order laws.rising graph.shared graph.received) graph.nodes list (c.args.number % 2) c.pass-passes.result passed (Knows c.as_slice.result.now) c.pass-passes.ensures in
+    let same = left ∙ ap length c.as_slice.ensures.value in
+    let out = out_of (passed_along r graph.shared graph.received) graph.nodes list (c.args.number % 2) in
+    upper_of laws.order (state_where s.reached s.known.items) c.args.value.now (state_where c.pass-passes.result passed) (out c.args.value.now) _ c.value.view_is
+    (c.pass-passes.ensures ∙ ap (λ ks. out (Knows ks)) c.as_slice.ensures.value ∙ ap out (known_is s.reached s.known.items c.args.value.now c.if-value.true c.value.view_is))
+    (passes_on laws.order s.reached s.known.items c.pass-passes.result passed c.join_where.new.known.items c.if-value.true (sym same)
+    (c.join_where.ensures.joined ∙ ap (λ l. if c.pass-passes.result then joined_each r.joined s.known.items l else s.known.items) c.as_slice-then-value.ensures.value))
+
+pub returns-else-value-clause-joined : goal.returns-else-value-clause-joined
+returns-else-value-clause-joined g c =
+    let laws = g.met.K.Knowledge.laws in
+    let f = c.args.self.now in
+    let graph = f.graph.now in
+    let s = c.value.inside in
+    pushes_none laws.order (passing_laws laws.order laws.rising graph.shared graph.received) graph.nodes (block_at f.blocks.now.lists (c.args.number / 2)) (c.args.number % 2) c.args.value.now s.reached s.known.items c.args.value.now c.if-value.false c.value.view_is refl

@@ -1,0 +1,13 @@
+pub mod States
+pub mod Rules
+pub mod Passing
+pub mod Becoming
+pub mod Blockwise
+pub mod Flows
+pub mod Solutions
+pub mod Rewriting
+pub mod Rewritten
+pub mod StateLaws
+pub mod PassingLaws
+pub mod FlowLaws
+pub mod BecomingLaws

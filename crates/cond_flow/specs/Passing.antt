@@ -1,0 +1,57 @@
+-- What is known after a node, and along which of its edges it passes. Cited by contracts.
+use Rattle.std.specs.Prelude.{ℕ, Bool, true, false, if◌then◌else◌, nat_eq, List, [], ◌∷◌, length, replicate, slice_set, Option, Some, None}
+use Rattle.mir_base.specs.Frames.{shared_vars}
+use Rattle.flow_graph.specs.declared.nodes.Node.{Node}
+use Rattle.flow_graph.specs.declared.nodes.Node.TheVariants.{Start, Skip, Assign, Print, Guard, Call, Test, Return}
+use Rattle.cond_flow.specs.Rules.{Rules}
+use Rattle.cond_flow.specs.States.{NodeState, Unreached, Knows}
+
+-- nothing is known of these variables any more
+abbrev pub all_set : {K : Type 0} → K → List ℕ → List K → List K
+all_set k [] known = known
+all_set k (x ∷ xs) known = all_set k xs (slice_set known x k)
+
+-- before Start: the globals may be anything, and the others are 0
+abbrev pub first_known : {K : Type 0} → Rules K → ℕ → ℕ → List K
+first_known rules shared size = all_set rules.top (shared_vars shared) (replicate size rules.zero)
+
+-- after Start: globals and received variables may be anything, and the others are 0
+abbrev pub start_known : {K : Type 0} → Rules K → ℕ → List ℕ → ℕ → List K
+start_known rules shared received size = all_set rules.top received (first_known rules shared size)
+
+-- after a call the globals and its variable may be anything
+abbrev pub after_call : {K : Type 0} → Rules K → ℕ → Option ℕ → List K → List K
+after_call rules shared None known = all_set rules.top (shared_vars shared) known
+after_call rules shared (Some x) known = slice_set (all_set rules.top (shared_vars shared) known) x rules.top
+
+-- what is known after a node, along the edge at this slot
+abbrev pub known_after : {K : Type 0} → Rules K → ℕ → List ℕ → Node → ℕ → List K → List K
+known_after rules shared received (Start next) slot known = start_known rules shared received (length known)
+known_after rules shared received (Skip next) slot known = known
+known_after rules shared received (Assign x rhs next) slot known = slice_set known x (rules.of_rhs known rhs)
+known_after rules shared received (Print a next) slot known = known
+known_after rules shared received (Guard test number next) slot known = known
+known_after rules shared received (Call into unit operands next) slot known = after_call rules shared into known
+known_after rules shared received (Test test taken other) slot known = rules.along test (nat_eq slot 0) known
+known_after rules shared received (Return a) slot known = known
+
+-- along the edge at this slot of a test, which it takes where it holds or where it does not
+abbrev pub passes_by : ℕ → Bool → Bool → Bool
+passes_by slot taken other = if nat_eq slot 0 then taken else if nat_eq slot 1 then other else false
+
+-- whether a node passes its state along the edge at this slot
+abbrev pub passes : {K : Type 0} → Rules K → Node → ℕ → List K → Bool
+passes rules (Start next) slot known = nat_eq slot 0
+passes rules (Skip next) slot known = nat_eq slot 0
+passes rules (Assign x rhs next) slot known = nat_eq slot 0
+passes rules (Print a next) slot known = nat_eq slot 0
+passes rules (Guard test number next) slot known = nat_eq slot 0
+passes rules (Call into unit operands next) slot known = nat_eq slot 0
+passes rules (Test test taken other) slot known = passes_by slot (rules.goes test true known) (rules.goes test false known)
+passes rules (Return a) slot known = false
+
+-- what passes along the edge at this slot of a node
+abbrev pub passed_along : {K : Type 0} → Rules K → ℕ → List ℕ → Node → ℕ → NodeState K → NodeState K
+passed_along rules shared received node slot (Unreached size) = Unreached size
+passed_along rules shared received node slot (Knows known) =
+    if passes rules node slot known then Knows (known_after rules shared received node slot known) else Unreached (length known)

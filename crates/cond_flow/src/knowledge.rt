@@ -1,0 +1,54 @@
+// What may be known of a variable, and the rules that go with it.
+ghost use Rattle.std.specs.Prelude.{◌≡◌, ℤ, true};
+ghost use Rattle.cond_flow.specs.Rules.{LawfulRules, Rules};
+
+use mir_base::{Operand, Rhs, Test};
+
+/// What is known of the value of one variable, with the rules by which it is found out and used. Lists have what is
+/// known of each variable, by the numbers of the variables. None of the functions allocates.
+pub trait Knowledge: Copy + Drop {
+    ghost below: { Self → Self → Type 0 };
+
+    ghost holds: { Self → ℤ → Type 0 };
+
+    ghost rules: { Rules Self };
+
+    /// What is known of any number.
+    fn top() -> Self
+        ensures { result ≡ rules.top };
+
+    /// What is known of 0.
+    fn zero() -> Self
+        ensures { result ≡ rules.zero };
+
+    /// What is known where two paths meet.
+    fn joined(self, other: Self) -> Self
+        ensures { result ≡ rules.joined self other };
+
+    /// Whether the same is known.
+    fn is_same(self, other: Self) -> bool
+        ensures same { result ≡ true → self ≡ other }
+        ensures differ { self ≡ other → result ≡ true };
+
+    /// What is known of a right side.
+    fn of_rhs(known: &[Self], rhs: Rhs) -> Self
+        ensures { result ≡ rules.of_rhs known.now rhs };
+
+    /// Whether a test may have this truth value.
+    fn goes(known: &[Self], test: Test, truth: bool) -> bool
+        ensures { result ≡ rules.goes test truth known.now };
+
+    /// Leaves what is known where a test has this truth value.
+    fn narrow(known: &mut [Self], test: Test, truth: bool)
+        ensures { known.new ≡ rules.along test truth known.old };
+
+    /// What an operand becomes.
+    fn operand(known: &[Self], a: Operand) -> Operand
+        ensures { result ≡ rules.operand known.now a };
+
+    /// What a right side becomes.
+    fn rhs(known: &[Self], rhs: Rhs) -> Rhs
+        ensures { result ≡ rules.rhs known.now rhs };
+
+    ghost laws: { LawfulRules below holds rules };
+}

@@ -1,0 +1,20 @@
+//! Conditional flow: what is known of variables before each node, found out and used by rules that a crate above hands
+//! in. In goes a graph; out comes the graph with what is known in the place of what is computed: operands and right
+//! sides become what the rules say, decided tests the way that they take, trap instructions that are never raised
+//! nothing, and nodes that are then not reached are dropped.
+//!
+//! The theorem that this crate carries is the contract of `rewritten`: by lawful rules the answer is the exact graph,
+//! made from the least states of the nodes, it does the same as the graph that goes in, and it evaluates no more
+//! operators.
+#![tactic(auto)]
+
+mod flow;
+mod knowledge;
+mod lists;
+mod rewriting;
+mod solving;
+mod states;
+mod transfer;
+
+pub use knowledge::Knowledge;
+pub use rewriting::rewritten;

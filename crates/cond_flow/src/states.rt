@@ -1,0 +1,84 @@
+// States of nodes, as they are kept where blocks begin.
+ghost use Rattle.std.specs.Prelude.{◌≡◌, ◌↔◌, false, true, length, IfOk};
+ghost use Rattle.fix_solve.specs.Order.{IsLeastUpper};
+ghost use Rattle.cond_flow.specs.States.{BelowState, is_reached, size_of, state_rank, state_where};
+ghost use Rattle.cond_flow.specs.StateLaws.{state_laws};
+
+use crate::Knowledge;
+use crate::lists::{copied, join_each, refill};
+use fix_solve::{AllNews, Lattice};
+use mir_base::Memory;
+use std::alloc::Global;
+use std::marker::Model;
+
+/// Whether a block is reached, what is known of each variable before it where it is, and room for as much, so that what
+/// passes along an edge needs no memory. Contracts see it as the state.
+#[derive(Drop)]
+pub(crate) struct BlockState<K: Knowledge> {
+    pub(crate) reached: bool,
+    pub(crate) known: Vec<K>,
+    pub(crate) room: Vec<K>,
+}
+
+impl<K: Knowledge> Model for BlockState<K> {
+    ghost use Rattle.std.specs.Prelude.{◌≡◌, length};
+    ghost use Rattle.cond_flow.specs.States.{NodeState, state_where};
+
+    ghost Value = { NodeState K };
+
+    ghost view = { λ s. state_where s.reached s.known.items };
+
+    ghost invariant = { λ s. length s.room.items ≡ length s.known.items };
+}
+
+impl<K: Knowledge> BlockState<K> {
+    /// The state by whether the block is reached and what is then known. It fails only with `Memory`.
+    pub(crate) fn of(alloc: Global, reached: bool, known: &[K]) -> Result<BlockState<K>, Memory>
+        ensures { IfOk result (λ state. state ≡ state_where reached known.now) }
+    {
+        let room = copied(alloc, known)?;
+        let known = copied(alloc, known)?;
+        Ok(BlockState {
+            reached,
+            known,
+            room,
+        })
+    }
+
+    /// Joins what is known where a path meets this one, or takes it where the block was not reached, and answers whether
+    /// the state changed.
+    pub(crate) fn meet(&mut self, known: &[K]) -> bool
+        requires { length known.now ≡ size_of self.old }
+        ensures joined { IsLeastUpper (BelowState K.below) self.old (state_where true known.now)
+            self.new }
+        ensures unchanged { (result ≡ false) ↔ (self.new ≡ self.old) }
+    {
+        if self.reached {
+            join_each(&mut self.known, known)
+        } else {
+            refill(&mut self.known, known);
+            self.reached = true;
+            true
+        }
+    }
+}
+
+impl<K: Knowledge> Lattice for BlockState<K> {
+    type News = AllNews;
+
+    ghost below = { BelowState K.below };
+
+    ghost size = { size_of };
+
+    ghost rank = { state_rank K.rules.rank };
+
+    fn join_from(&mut self, other: &Self) -> bool {
+        if other.reached {
+            self.meet(other.known.as_slice())
+        } else {
+            false
+        }
+    }
+
+    ghost laws = { state_laws K.laws.order };
+}
