@@ -1,13 +1,15 @@
 -- What the public call answers, said of lists that are equal.
-use Rattle.std.proofs.Common.{◌≡◌, ℕ, Bool, List, [], ◌∷◌, ◌++◌, map, flat_map, refl, sym, ap, ◌∙◌, subst}
+use Rattle.std.proofs.Common.{◌≡◌, ℕ, Bool, true, false, List, [], ◌∷◌, ◌++◌, map, flat_map, slice_get, Some, refl, sym, ap, ◌∙◌, subst}
 use Rattle.mir_base.specs.declared.instructions.Inst.{Inst}
 use Rattle.mir_base.specs.declared.instructions.Inst.TheVariants.{Receive, Assign, Goto, If, TrapIf, Call, Print, Return}
 use Rattle.mir_base.specs.Shapes.{IsProgram, IsTidy, ProgramShape, UnitShape, inst_vars, numbered_from}
 use Rattle.mir_sim.specs.MachineLaws.{programs_cheaper, programs_same, programs_shallower}
-use Rattle.program_pass.specs.PassPrograms.{KeepsRuns}
+use Rattle.flow_graph.specs.ListLaws.{cons_same}
+use Rattle.flow_graph.specs.Retained.{marked, marked_below}
+use Rattle.program_pass.specs.PassPrograms.{KeepsHeads, KeepsRuns, head_of, heads_of}
 use Rattle.called_units.specs.CalledFits.{called_fit}
-use Rattle.called_units.specs.CalledLaws.{marked_keep}
-use Rattle.called_units.specs.CalledUnits.{HasCalledUnits, MarkCalled, only_marked, redirected_call}
+use Rattle.called_units.specs.CalledLaws.{marked_keep, receives_stay}
+use Rattle.called_units.specs.CalledUnits.{HasCalledUnits, MarkCalled, at_first, only_marked, redirected_call, with_calls}
 
 -- the variables of a call are those of its operands, whatever it calls
 vars_stay : (to : ℕ → ℕ) (inst : Inst) → inst_vars (redirected_call to inst) ≡ inst_vars inst
@@ -39,6 +41,37 @@ module _ (source : ProgramShape) (marks marks' : List Bool) (are : MarkCalled so
   pub is_as : (target : ProgramShape) → target ≡ record { globals = source.globals; units = units } → HasCalledUnits source target
   is_as target is = record { marks = marks; are_marks = are; is = is ∙ ap (λ (l : List UnitShape). record { globals = source.globals; units = l }) (made ∙ ap (λ m. (only_marked m source).units) same) }
 
+-- a unit has its head, whatever numbers its calls have
+head_stays : (to : ℕ → ℕ) (unit : UnitShape) → head_of (with_calls to unit) ≡ head_of unit
+head_stays to unit = ap (λ (k : ℕ). record { name = unit.name; receives = k }) (receives_stay to unit.body)
+
+-- so have the marked ones
+marked_stay : (to : ℕ → ℕ) (marks : List Bool) (units : List UnitShape) → map head_of (map (with_calls to) (marked marks units)) ≡ marked marks (map head_of units)
+marked_stay to [] units = refl
+marked_stay to (true ∷ marks) [] = refl
+marked_stay to (false ∷ marks) [] = refl
+marked_stay to (true ∷ marks) (unit ∷ units) = cons_same (head_stays to unit) (marked_stay to marks units)
+marked_stay to (false ∷ marks) (unit ∷ units) = marked_stay to marks units
+
+-- the first one stays the first
+first_stays : {A : Type 0} → (marks : List Bool) (xs : List A) → slice_get marks 0 ≡ Some true → slice_get (marked marks xs) 0 ≡ slice_get xs 0
+first_stays [] xs is = cc
+first_stays (true ∷ marks) [] is = refl
+first_stays (true ∷ marks) (x ∷ xs) is = refl
+first_stays (false ∷ marks) xs is = cc
+
+-- the heads of the marked units
+marked_heads : (source : ProgramShape) → IsProgram source.globals source.units → (marks : List Bool) → MarkCalled source marks → KeepsHeads source (only_marked marks source)
+marked_heads source is marks are =
+    let heads = marked_stay (marked_below marks) marks source.units in
+    record {
+      globals = refl;
+      stay = marks;
+      long = are.long;
+      heads = heads;
+      entry = ap (λ l. slice_get l 0) heads ∙ first_stays marks (heads_of source) ((are.exact 0 is.some_unit).1 at_first);
+    }
+
 -- it keeps the runs
 pub keeps_as : (source target : ProgramShape) → IsProgram source.globals source.units → HasCalledUnits source target → KeepsRuns source target
 keeps_as source target is has =
@@ -47,4 +80,5 @@ keeps_as source target is has =
       same = programs_same source (only_marked has.marks source) keep;
       cheaper = programs_cheaper source (only_marked has.marks source) keep;
       shallower = programs_shallower source (only_marked has.marks source) keep;
+      heads = marked_heads source is has.marks has.are_marks;
     })

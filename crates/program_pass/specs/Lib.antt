@@ -9,8 +9,10 @@ pub mod GraphPrograms
 pub mod GraphProgramLaws
 pub mod StepLaws
 pub mod PassPrograms
+pub mod HeadLaws
 pub mod KeepsLaws
 pub mod RefitLaws
 pub mod PassProgramLaws
 pub mod UnitMakes
 pub mod PassOneLaws
+pub mod Steps

@@ -13,6 +13,7 @@ use Rattle.mir_sim.specs.MachineLaws.{keep_trans, programs_cheaper, programs_sam
 use Rattle.mir_sim.specs.Machines.{MachinesKeep}
 use Rattle.program_pass.specs.GraphPrograms.{GraphCallsFit, IsGraphProgram, ShareGlobals, graph_numbered, graph_machines, graph_or_empty, shared_in}
 use Rattle.program_pass.specs.GraphProgramLaws.{first_shares, graph_calls_fit}
+use Rattle.program_pass.specs.HeadLaws.{head_same, heads_same, heads_stay}
 use Rattle.program_pass.specs.RefitLaws.{Refits, called_fits, refit_program}
 use Rattle.program_pass.specs.PassPrograms.{AllPassed, KeepsRuns, PassRelation, UnitPassed}
 
@@ -227,10 +228,12 @@ module _ (Exact Between : PassRelation) where
         keep_trans (machine_at source) (graph_machines graphs) (machine_at target) front (keep_trans (graph_machines graphs) (graph_machines middles) (machine_at target) middle back)
 
     -- where the graphs in between keep the graphs, the target is the same, evaluates no more operators and is never
-    -- deeper
+    -- deeper, and has the heads of the source
     pub passes_keep : MachinesKeep (graph_machines graphs) (graph_machines middles) → KeepsRuns source target
     passes_keep middle = record {
       same = programs_same source target (all_keep middle);
       cheaper = programs_cheaper source target (all_keep middle);
       shallower = programs_shallower source target (all_keep middle);
+      heads = heads_stay source target globals (heads_same source.units target.units all.long (λ u s t e f.
+          let refits = made_refits s t u (all.units u s t e f) in head_same s t refits.name refits.receives));
     }

@@ -1,13 +1,14 @@
 -- Programs of whose units each is lowered, cleaned, put through one pass, cleaned and laid out, where the pass may add
 -- or take calls. Cited by contracts.
-use Rattle.std.specs.Prelude.{◌≡◌, ℕ, List, length, take, slice_get, Some}
+use Rattle.std.specs.Prelude.{◌≡◌, ℕ, Bool, List, length, map, take, slice_get, Some}
 use Rattle.mir_base.specs.Runs.{Cheaper, Same}
-use Rattle.mir_base.specs.Shapes.{ProgramShape, UnitShape}
+use Rattle.mir_base.specs.Shapes.{ProgramShape, UnitShape, receives_in}
 use Rattle.flow_graph.specs.Graphs.{AllWithin, CanMake, GraphShape, SharesVars}
 use Rattle.flow_graph.specs.Keeps.{AsGraph, AsUnit, Keeps}
 use Rattle.flow_graph.specs.Layouts.{IsLayout}
 use Rattle.flow_graph.specs.Lowered.{CanLower, IsLowered}
 use Rattle.flow_graph.specs.Passes.{GraphCalls, GraphCheaper, GraphSame}
+use Rattle.flow_graph.specs.Retained.{marked}
 use Rattle.jump_clean.specs.Cleaned.{IsClean}
 use Rattle.mir_sim.specs.Machines.{Shallower}
 
@@ -32,6 +33,10 @@ pub record IsPassedUnit (Exact : PassRelation) (unit : UnitShape) (number : ℕ)
 abbrev pub IsOnly : (ProgramShape → Type 0) → ProgramShape → Type 0
 IsOnly Is target = (other : ProgramShape) → Is other → target ≡ other
 
+-- and no other graph
+abbrev pub IsOnlyGraph : (GraphShape → Type 0) → GraphShape → Type 0
+IsOnlyGraph Is graph = (other : GraphShape) → Is other → graph ≡ other
+
 -- each unit of the source gives the unit of its number
 abbrev pub EachUnit : (UnitShape → ℕ → UnitShape → Type 0) → List UnitShape → List UnitShape → Type 0
 EachUnit Gives sources targets = (u : ℕ) (source target : UnitShape) → slice_get sources u ≡ Some source
@@ -43,11 +48,35 @@ pub record IsPassedProgram (Exact : PassRelation) (source target : ProgramShape)
   pub long : length target.units ≡ length source.units
   pub units : EachUnit (IsPassedUnit Exact) source.units target.units
 
--- the second is the same as the first, evaluates no more operators, and never has more frames
+-- what others see of a unit: its name, and how many arguments it receives
+pub record UnitHead : Type 0 where
+  pub name : List ℕ
+  pub receives : ℕ
+
+-- what they see of this one
+abbrev pub head_of : UnitShape → UnitHead
+head_of unit = record { name = unit.name; receives = receives_in unit.body }
+
+-- and of each unit of a program, by number
+abbrev pub heads_of : ProgramShape → List UnitHead
+heads_of program = map head_of program.units
+
+-- the second has the globals of the first, and units of the first in their order: each with its name and with as many
+-- receives, and the first of them first
+pub record KeepsHeads (first second : ProgramShape) : Type 0 where
+  pub globals : second.globals ≡ first.globals
+  pub stay : List Bool
+  pub long : length stay ≡ length first.units
+  pub heads : heads_of second ≡ marked stay (heads_of first)
+  pub entry : slice_get (heads_of second) 0 ≡ slice_get (heads_of first) 0
+
+-- the second is the same as the first, evaluates no more operators, and never has more frames; it has the globals of
+-- the first, and its units are some of the first's, as others see them
 pub record KeepsRuns (first second : ProgramShape) : Type 0 where
   pub same : Same first second
   pub cheaper : Cheaper first second
   pub shallower : Shallower first second
+  pub heads : KeepsHeads first second
 
 -- the target is this exact program, and no other is; it is the same, evaluates no more operators and never has more
 -- frames

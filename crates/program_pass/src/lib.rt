@@ -10,9 +10,11 @@
 mod marks;
 mod nodes;
 mod standing;
+mod steps;
 mod units;
 
 pub use marks::marks_of;
 pub use nodes::{copied_nodes, start_succ};
 pub use standing::{Put, plain_put, stand};
+pub use steps::{PassSteps, swept_steps};
 pub use units::{Front, laid_out, lowered_clean};

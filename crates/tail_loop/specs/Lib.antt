@@ -5,3 +5,4 @@ pub mod LoopValues
 pub mod TailStacks
 pub mod Widened
 pub mod OneLaws
+pub mod Positions

@@ -32,7 +32,13 @@ pub(crate) fn tail_calls(
 }
 
 /// Whether the node is such a call.
-fn is_tail_call(shared: usize, nodes: &[Node], ends: &[usize], unit: usize, n: usize) -> bool
+pub(crate) fn is_tail_call(
+    shared: usize,
+    nodes: &[Node],
+    ends: &[usize],
+    unit: usize,
+    n: usize,
+) -> bool
     requires within { AllWithin nodes.now }
     requires ends { AreEnds nodes.now ends.now }
     requires node { n < length nodes.now }

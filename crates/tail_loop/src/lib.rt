@@ -9,8 +9,11 @@
 
 mod calls;
 mod looping;
+mod positions;
 mod programs;
+mod steps;
 mod tails;
 
+pub use positions::{CallPosition, Position, call_positions};
 pub use programs::tail_program;
-pub use tails::tail;
+pub use steps::tail_steps;

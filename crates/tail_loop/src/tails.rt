@@ -1,6 +1,6 @@
 // Graphs with self tail calls as loops.
 ghost use Rattle.std.specs.Prelude.{◌≡◌, length, IfOk};
-ghost use Rattle.program_pass.specs.PassPrograms.{PassKeeps};
+ghost use Rattle.program_pass.specs.PassPrograms.{IsOnlyGraph, PassKeeps};
 ghost use Rattle.tail_loop.specs.Tails.{AreTailCalls, IsTailed, Looped, SelfCallsFit, temporaries};
 ghost use Rattle.tail_loop.specs.Widened.{HasTemporaries, TailMade};
 
@@ -19,9 +19,10 @@ use std::alloc::Global;
 /// Start leads. The temporaries are the same for all self tail calls, and there are none where there is no such call.
 /// Then the nodes that are not reached are dropped. Each call of the unit has as many arguments as the graph has
 /// received variables. It fails only with `Memory`.
-pub fn tail(alloc: Global, graph: &Graph, unit: usize) -> Result<Graph, Memory>
+pub(crate) fn tail(alloc: Global, graph: &Graph, unit: usize) -> Result<Graph, Memory>
     requires { SelfCallsFit graph.now.nodes unit (length graph.now.received) }
     ensures tailed { IfOk result (IsTailed graph.now unit) }
+    ensures only { IfOk result (IsOnlyGraph (IsTailed graph.now unit)) }
 
     // it does the same as a graph with loops, evaluates no more operators, and makes no other calls
     ensures keeps { IfOk result (PassKeeps (Looped unit) graph.now) }

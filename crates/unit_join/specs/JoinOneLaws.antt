@@ -1,21 +1,22 @@
--- A graph has one result of `join` with the same leaves, a program one list of leaves, and so one joined program. For
--- proofs only.
+-- A graph has one result with the same leaves, a program one list of leaves, and so one joined program. For proofs
+-- only.
 use Rattle.std.proofs.Common.{◌≡◌, ℕ, List, [], ◌∷◌, ◌++◌, length, slice_get, Option, Some, None, refl, sym, ap, ◌∙◌, subst, arith}
 use Rattle.mir_base.specs.declared.instructions.Operand.{Operand}
 use Rattle.mir_base.specs.Shapes.{ProgramShape, UnitShape}
 use Rattle.flow_graph.specs.declared.nodes.Node.{Node}
 use Rattle.flow_graph.specs.declared.nodes.Node.TheVariants.{Call}
 use Rattle.flow_graph.specs.Graphs.{GraphShape}
+use Rattle.flow_graph.specs.Layouts.{IsLayout}
 use Rattle.flow_graph.specs.Retained.{IsMade}
 use Rattle.flow_graph.specs.ListLaws.{some_at}
-use Rattle.flow_graph.specs.OneLaws.{lowered_is_one, made_is_one}
+use Rattle.flow_graph.specs.OneLaws.{layout_is_one, lowered_is_one, made_is_one}
 use Rattle.std.proofs.lemmas.Option.{slice_get_within}
 use Rattle.fresh_names.specs.FreshNameLaws.{names_are_one}
 use Rattle.jump_clean.specs.Cleaned.{IsClean}
 use Rattle.jump_clean.specs.CleanLaws.{clean_is_one}
 use Rattle.program_pass.specs.PassPrograms.{AllPassed, IsPassedProgram}
 use Rattle.unit_join.specs.JoinPrograms.{AreLeavesMade, IsJoinedProgram, LeafMade}
-use Rattle.unit_join.specs.Joins.{AreLeafCalls, AreLeavesOf, IsJoined, IsLeafCall, IsLeafOf, JoinedBetween, LeavesAreJoined, LeavesJoined, called_leaves, copies, copy_in, joined_by, leaf_at, nodes_with_leaf}
+use Rattle.unit_join.specs.Joins.{AreLeafCalls, AreLeavesOf, IsJoined, IsLaidOut, IsLeafCall, IsLeafOf, JoinedBetween, LeavesAreJoined, LeavesJoined, called_leaves, copies, copy_in, joined_by, leaf_at, nodes_with_leaf, short_or_left}
 use Rattle.flow_graph.specs.MemberLaws.{members_same}
 use Rattle.program_pass.specs.PassOneLaws.{places_same, program_one}
 
@@ -61,15 +62,28 @@ leaves_joined_one leaves units graph (n ∷ calls) nodes a b p q =
     leaves_joined_one leaves units graph calls (joined_by leaves units graph nodes n q.0) a b
     (subst (λ l. LeavesAreJoined leaves units graph calls l a) (by_one leaves units graph nodes n p.0 q.0) p.1) q.1
 
--- and a graph has one result
-pub joined_one : (leaves : List (Option GraphShape)) (unit : ℕ) (graph a b : GraphShape) → LeavesJoined leaves unit graph a → LeavesJoined leaves unit graph b → a ≡ b
-joined_one leaves unit graph a b p q =
+-- and a graph has one with its leaves joined
+pub graph_joined_one : (leaves : List (Option GraphShape)) (graph a b : GraphShape) → IsJoined graph leaves a → IsJoined graph leaves b → a ≡ b
+graph_joined_one leaves graph a b p q =
     let units = called_leaves leaves graph.nodes in
     let calls : p.calls ≡ q.calls = leaf_calls_one leaves graph.nodes p.calls q.calls p.are_calls q.are_calls in
     let names : p.names ≡ q.names = names_are_one graph.vars (copies leaves units) p.names q.names p.are_names q.are_names in
     let nodes : p.nodes ≡ q.nodes = leaves_joined_one leaves units graph p.calls graph.nodes p.nodes q.nodes p.are_joined (subst (λ c. LeavesAreJoined leaves units graph c graph.nodes q.nodes) (sym calls) q.are_joined) in
     made_is_one graph.name graph.shared (graph.vars ++ p.names) graph.received p.nodes a b p.made
     (subst (λ l. IsMade graph.name graph.shared (graph.vars ++ p.names) graph.received l b) (sym nodes) (subst (λ l. IsMade graph.name graph.shared (graph.vars ++ l) graph.received q.nodes b) (sym names) q.made))
+
+-- a graph has one unit
+unit_one : (graph : GraphShape) (a b : UnitShape) → IsLaidOut graph a → IsLaidOut graph b → a ≡ b
+unit_one graph a b p q =
+    let swept : p.swept ≡ q.swept = clean_is_one graph p.swept q.swept p.within p.is_swept q.is_swept in
+    layout_is_one p.swept a b p.is_laid (subst (λ g. IsLayout g b) (sym swept) q.is_laid)
+
+-- so a graph has one result
+pub joined_one : (leaves : List (Option GraphShape)) (unit : ℕ) (graph a b : GraphShape) → LeavesJoined leaves unit graph a → LeavesJoined leaves unit graph b → a ≡ b
+joined_one leaves unit graph a b p q =
+    let joined : p.joined ≡ q.joined = graph_joined_one leaves graph p.joined q.joined p.joins q.joins in
+    let laid : p.unit ≡ q.unit = unit_one p.joined p.unit q.unit p.laid (subst (λ g. IsLaidOut g q.unit) (sym joined) q.laid) in
+    p.is ∙ ap (λ (u : UnitShape). short_or_left u p.joined graph) laid ∙ ap (λ (g : GraphShape). short_or_left q.unit g graph) joined ∙ sym q.is
 
 -- ---- one list of leaves
 

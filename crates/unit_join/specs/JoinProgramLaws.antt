@@ -1,7 +1,10 @@
 -- Laws: joined leaves keep a program; the exact leaves; and what the calls of leaves hand over. For proofs only.
-use Rattle.std.proofs.Common.{◌≡◌, ℕ, ◌+◌, ◌≤◌, inl, inr, List, [], ◌∷◌, ◌++◌, length, length-append, slice_get, Option, Some, None, refl, sym, ap, ◌∙◌, subst, arith, le_refl}
+use Rattle.std.proofs.Common.{◌≡◌, ℕ, ◌+◌, ◌<◌, ◌≤◌, nat_lt, inl, inr, List, [], ◌∷◌, ◌++◌, length, length-append, slice_get, Option, Some, None, refl, sym, ap, ◌∙◌, subst, arith, le_refl}
+use Rattle.std.proofs.lemmas.Bool.{cond-false, cond-true}
+use Rattle.std.proofs.lemmas.Bool.Decides.{nat_tests}
 use Rattle.std.proofs.lemmas.List.{length_push}
 use Rattle.std.proofs.lemmas.Option.{slice_get_within}
+use Rattle.mir_base.specs.Limits.{most_insts}
 use Rattle.mir_base.specs.BelowLaws.{all_below_more}
 use Rattle.mir_base.specs.Shapes.{AllDiffer, BodyFits, IsProgram, ProgramShape, UnitShape, body_or_empty, receives_in}
 use Rattle.mir_base.specs.UnitRuns.{UnitCheaper, UnitSame}
@@ -10,18 +13,20 @@ use Rattle.flow_graph.specs.declared.nodes.Node.TheVariants.{Call}
 use Rattle.flow_graph.specs.Calls.{CallsAmong, NodesCall}
 use Rattle.flow_graph.specs.Graphs.{CanMake, GraphShape, node_vars}
 use Rattle.flow_graph.specs.Retained.{IsMade}
+use Rattle.flow_graph.specs.Keeps.{AsGraph}
+use Rattle.flow_graph.specs.KeepsLaws.{keeps_refl}
 use Rattle.flow_graph.specs.ListLaws.{get_push, some_at}
 use Rattle.flow_graph.specs.Machines.{graph_machine, machine_of}
 use Rattle.flow_graph.specs.OneLaws.{lowered_is_one}
 use Rattle.jump_clean.specs.CleanLaws.{clean_is_one}
 use Rattle.jump_clean.specs.Cleaned.{IsClean}
-use Rattle.program_pass.specs.PassPrograms.{AllPassed, LoweredClean, KeepsRuns, PassKeeps}
+use Rattle.program_pass.specs.PassPrograms.{AllPassed, CleanedLaid, LoweredClean, KeepsRuns, PassKeeps}
 use Rattle.program_pass.specs.PassProgramLaws.{at, between_at, graph_program, graphs, middles, passes_keep}
 use Rattle.program_pass.specs.RefitLaws.{called_fits}
 use Rattle.unit_join.specs.JoinLaws.{joined_calls, joined_can}
-use Rattle.unit_join.specs.JoinPrograms.{AreLeavesMade, EachLeaf, HasLeafCopies, JoinMade, LeafMade}
+use Rattle.unit_join.specs.JoinPrograms.{AreLeavesMade, EachLeaf, HasLeafCopies, JoinMade, JoinedLaid, LeafMade}
 use Rattle.unit_join.specs.JoinStacks.{joins_keep}
-use Rattle.unit_join.specs.Joins.{LeavesAreJoined, AreLeafCalls, AreLeaves, AreLeavesOf, IsJoined, IsLeafOf, LeavesJoined, JoinedBetween, JoinsLeaves, LeafCallsFit, LeavesCan, LeavesShare, NoLeafCalls, called_leaves, leaf_at, or_none}
+use Rattle.unit_join.specs.Joins.{LeavesAreJoined, AreLeafCalls, AreLeaves, AreLeavesOf, IsJoined, IsJoinedIfShort, IsLeafOf, LeavesJoined, JoinedBetween, JoinsLeaves, LeafCallsFit, LeavesCan, LeavesShare, NoLeafCalls, called_leaves, leaf_at, or_none, short_or_left}
 use Rattle.program_pass.specs.StoodLaws.{globals_stay, wide_can}
 
 -- ---- entries
@@ -155,7 +160,7 @@ keeps_joins graph leaves calls joined least are m = record {
   name = m.made.name_is;
   globals = globals_stay graph.shared graph.vars m.names joined least m.made.shared_is m.made.vars_are;
   middle = record { name = graph.name; shared = graph.shared; vars = graph.vars ++ m.names; received = graph.received; nodes = m.nodes };
-  between = record { calls = calls; are_calls = are; units = called_leaves leaves graph.nodes; are_joined = m.are_joined; shared = refl; received = refl };
+  between = record { calls = calls; are_calls = record { ordered = are.ordered; are = are.are }; units = called_leaves leaves graph.nodes; are_joined = m.are_joined; shared = refl; received = refl };
   shared = refl;
   received = refl;
   same = m.same;
@@ -163,3 +168,51 @@ keeps_joins graph leaves calls joined least are m = record {
   middle_calls = m.node_calls;
   calls = m.joined_calls;
 }
+
+-- a graph with no leaf joined keeps itself
+graph_stays : (leaves : List (Option GraphShape)) (graph : GraphShape) → PassKeeps (JoinsLeaves leaves) graph graph
+graph_stays leaves graph =
+    let itself = keeps_refl (AsGraph graph) in
+    record {
+      name = refl;
+      globals = refl;
+      middle = graph;
+      between = record { calls = []; are_calls = record { ordered = λ i j m n lt at at'. cc; are = λ n is. absurd is }; units = []; are_joined = refl; shared = refl; received = refl };
+      shared = refl;
+      received = refl;
+      same = itself.same;
+      cheaper = itself.cheaper;
+      middle_calls = λ called count c. c;
+      calls = λ called count c. c;
+    }
+
+-- ---- the unit
+
+module _ (leaves : List (Option GraphShape)) (graph joined : GraphShape) (unit : UnitShape) (joins : IsJoined graph leaves joined) (laid : CleanedLaid joined unit) where
+  -- by the length of the joined unit
+  if_short : (result : GraphShape) → result ≡ short_or_left unit joined graph → IsJoinedIfShort graph leaves result
+  if_short result is = record {
+    joined = joined;
+    joins = joins;
+    unit = unit;
+    laid = record { within = laid.within; swept = laid.swept; is_swept = laid.is_swept; is_laid = laid.is_laid };
+    is = is;
+  }
+
+  -- where it is short it is taken
+  pub short_taken : PassKeeps (JoinsLeaves leaves) graph joined → length unit.body ≤ most_insts → JoinedLaid leaves graph unit
+  short_taken keeps short = record {
+    passed = joined;
+    is = if_short joined (sym (cond-false (nat_lt most_insts (length unit.body)) graph joined (grind (arith, nat_tests))));
+    keeps = keeps;
+    laid = laid;
+  }
+
+  -- else the graph is left as it is
+  pub long_left : (left : UnitShape) → most_insts < length unit.body → CleanedLaid graph left → JoinedLaid leaves graph left
+  long_left left long stays = record {
+    passed = graph;
+    is = if_short graph (sym (cond-true (nat_lt most_insts (length unit.body)) graph joined (grind (arith, nat_tests))));
+    keeps = graph_stays leaves graph;
+    laid = stays;
+  }

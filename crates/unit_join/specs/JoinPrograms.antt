@@ -10,8 +10,8 @@ use Rattle.flow_graph.specs.Graphs.{GraphShape}
 use Rattle.flow_graph.specs.Retained.{IsMade}
 use Rattle.flow_graph.specs.Machines.{graph_machine, machine_of}
 use Rattle.fresh_names.specs.FreshNames.{AreTemporaryNames}
-use Rattle.program_pass.specs.PassPrograms.{AllPassed, IsPassedProgram, LoweredClean, PassedAt}
-use Rattle.unit_join.specs.Joins.{AreLeavesOf, IsLeafUnit, JoinedBetween, LeavesAreJoined, LeavesJoined, called_leaves, copies}
+use Rattle.program_pass.specs.PassPrograms.{AllPassed, CleanedLaid, IsPassedProgram, LoweredClean, PassKeeps, PassedAt}
+use Rattle.unit_join.specs.Joins.{AreLeavesOf, IsJoinedIfShort, IsLeafUnit, JoinedBetween, JoinsLeaves, LeavesAreJoined, LeavesJoined, called_leaves, copies}
 
 -- the entry of a unit: the graph of a leaf, which keeps it, and none of any other
 abbrev pub LeafMade : UnitShape → Option GraphShape → Type 0
@@ -48,7 +48,14 @@ pub record JoinMade (graph : GraphShape) (leaves : List (Option GraphShape)) (at
   pub node_calls : CallsAmong (NodesCall nodes) (NodesCall graph.nodes)
   pub joined_calls : CallsAmong (NodesCall joined.nodes) (NodesCall nodes)
 
--- the program with its leaves joined into their callers
+-- the unit of a graph with the leaves that it calls joined into it, or of the graph itself
+pub record JoinedLaid (leaves : List (Option GraphShape)) (graph : GraphShape) (unit : UnitShape) : Type 0 where
+  pub passed : GraphShape
+  pub is : IsJoinedIfShort graph leaves passed
+  pub keeps : PassKeeps (JoinsLeaves leaves) graph passed
+  pub laid : CleanedLaid passed unit
+
+-- the program with its leaves joined into their callers, but for callers that would be too long
 pub record IsJoinedProgram (source target : ProgramShape) : Type 0 where
   pub leaves : List (Option GraphShape)
   pub are_leaves : AreLeavesOf source.units leaves

@@ -5,11 +5,13 @@ use Rattle.mir_base.specs.declared.instructions.Operand.TheVariants.{Const}
 use Rattle.mir_base.specs.declared.instructions.Rhs.TheVariants.{Plain}
 use Rattle.flow_graph.specs.declared.nodes.Node.{Node}
 use Rattle.flow_graph.specs.declared.nodes.Node.TheVariants.{Start, Skip, Assign, Print, Guard, Call, Test, Return}
+use Rattle.mir_base.specs.Limits.{most_insts}
 use Rattle.mir_base.specs.Shapes.{UnitShape}
 use Rattle.flow_graph.specs.Calls.{BodyCalls, NodesCall}
-use Rattle.flow_graph.specs.Graphs.{CanMake, GraphShape, SharesVars}
+use Rattle.flow_graph.specs.Graphs.{AllWithin, CanMake, GraphShape, SharesVars}
 use Rattle.graph_edit.specs.Insertions.{Insertion}
 use Rattle.flow_graph.specs.Retained.{IsMade}
+use Rattle.flow_graph.specs.Layouts.{IsLayout}
 use Rattle.flow_graph.specs.Lowered.{IsLowered}
 use Rattle.flow_graph.specs.Numbering.{IsIn, is_in, renamed_operand, renamed_rhs, renamed_test, seen_after}
 use Rattle.flow_graph.specs.Plans.{start_succ}
@@ -44,6 +46,11 @@ pub record AreLeafCalls (leaves : List (Option GraphShape)) (nodes : List Node) 
   pub ordered : (i j m n : ℕ) → i < j → slice_get calls i ≡ Some m → slice_get calls j ≡ Some n → m < n
   pub are : (n : ℕ) → IsIn n calls → IsLeafCall leaves nodes n
   pub all : (n : ℕ) → IsLeafCall leaves nodes n → IsIn n calls
+
+-- these are some of the nodes that call leaves, in order of number
+pub record AreSomeLeafCalls (leaves : List (Option GraphShape)) (nodes : List Node) (calls : List ℕ) : Type 0 where
+  pub ordered : (i j m n : ℕ) → i < j → slice_get calls i ≡ Some m → slice_get calls j ≡ Some n → m < n
+  pub are : (n : ℕ) → IsIn n calls → IsLeafCall leaves nodes n
 
 -- the unit that a node calls, where it is a leaf
 abbrev pub if_leaf : ℕ → Option GraphShape → List ℕ
@@ -166,12 +173,34 @@ pub record IsJoined (graph : GraphShape) (leaves : List (Option GraphShape)) (jo
   pub are_joined : LeavesAreJoined leaves (called_leaves leaves graph.nodes) graph calls graph.nodes nodes
   pub made : IsMade graph.name graph.shared (graph.vars ++ names) graph.received nodes joined
 
+-- ---- units that would be too long
+
+-- the unit of a graph: cleaned and laid out
+pub record IsLaidOut (graph : GraphShape) (unit : UnitShape) : Type 0 where
+  pub within : AllWithin graph.nodes
+  pub swept : GraphShape
+  pub is_swept : IsClean graph swept
+  pub is_laid : IsLayout swept unit
+
+-- the joined graph; where its unit has more instructions than a unit of a text may have, the graph
+abbrev pub short_or_left : UnitShape → GraphShape → GraphShape → GraphShape
+short_or_left unit joined graph = if nat_lt most_insts (length unit.body) then graph else joined
+
+-- the graph with all leaves that it calls joined into it, or with none, where its unit would else be too long to be read
+-- again
+pub record IsJoinedIfShort (graph : GraphShape) (leaves : List (Option GraphShape)) (result : GraphShape) : Type 0 where
+  pub joined : GraphShape
+  pub joins : IsJoined graph leaves joined
+  pub unit : UnitShape
+  pub laid : IsLaidOut joined unit
+  pub is : result ≡ short_or_left unit joined graph
+
 -- ---- what is kept
 
--- the second graph is the first with its leaves joined, of whose nodes some may not be reached
+-- the second graph is the first with leaves in the places of some of its calls, of whose nodes some may not be reached
 pub record JoinsLeaves (leaves : List (Option GraphShape)) (graph : GraphShape) (joined : GraphShape) : Type 0 where
   pub calls : List ℕ
-  pub are_calls : AreLeafCalls leaves graph.nodes calls
+  pub are_calls : AreSomeLeafCalls leaves graph.nodes calls
   pub units : List ℕ
   pub are_joined : LeavesAreJoined leaves units graph calls graph.nodes joined.nodes
   pub shared : joined.shared ≡ graph.shared
@@ -222,9 +251,9 @@ pub record AreLeavesOf (units : List UnitShape) (leaves : List (Option GraphShap
   pub are : (u : ℕ) (unit : UnitShape) (entry : Option GraphShape) → slice_get units u ≡ Some unit
       → slice_get leaves u ≡ Some entry → IsLeafOf unit entry
 
--- the exact result of `join`, as the relation of a pass
+-- the exact result, as the relation of a pass
 abbrev pub LeavesJoined : List (Option GraphShape) → PassRelation
-LeavesJoined leaves unit graph joined = IsJoined graph leaves joined
+LeavesJoined leaves unit graph result = IsJoinedIfShort graph leaves result
 
 -- the nodes with leaves lie between
 abbrev pub JoinedBetween : List (Option GraphShape) → PassRelation

@@ -3,7 +3,7 @@ ghost use Rattle.std.specs.Prelude.{◌≡◌, ◌↔◌, ◌<◌, IfNone, IfOk,
 ghost use Rattle.unit_join.specs.JoinPrograms.{some_unit};
 ghost use Rattle.unit_join.specs.Joins.{AreLeafCalls, IsLeafCall, leaf_at, leaf_called};
 
-use crate::Leaves;
+use crate::leaves::Leaves;
 use flow_graph::{Graph, Node};
 use mir_base::Memory;
 use std::alloc::Global;

@@ -5,9 +5,9 @@ ghost use Rattle.unit_join.specs.CopyTables.{HasCopyNumbers, TakesInLeaves};
 ghost use Rattle.unit_join.specs.JoinPrograms.{some_unit};
 ghost use Rattle.unit_join.specs.Joins.{called_leaves, first_copy, leaf_at, leaf_vars};
 
-use crate::Leaves;
 use crate::calls::{leaf_at, leaf_called};
 use crate::copying::plus;
+use crate::leaves::Leaves;
 use flow_graph::Node;
 use mir_base::Memory;
 use std::alloc::Global;

@@ -5,10 +5,10 @@ ghost use Rattle.program_pass.specs.Puts.{insertions};
 ghost use Rattle.unit_join.specs.CopyTables.{HasCopyNumbers};
 ghost use Rattle.unit_join.specs.Joins.{AreLeafCalls, IsLeafCall, LeavesAreJoined, copy_number, entered, entry_assignments, joined_by, leaf_node, leaf_place, nodes_with_leaf, zeroed};
 
-use crate::Leaves;
 use crate::calls::leaf_at;
 use crate::copy_table::CopyTable;
 use crate::copying::{CopyNumbers, copy, leaf_node, leaf_place, plus};
+use crate::leaves::Leaves;
 use flow_graph::{Graph, Node};
 use mir_base::{Memory, Operand};
 use program_pass::{Put, copied_nodes, marks_of, plain_put, stand, start_succ};

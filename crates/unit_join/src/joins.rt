@@ -1,14 +1,14 @@
 // Graphs with leaves joined into them.
 ghost use Rattle.std.specs.Prelude.{◌≡◌, IfOk, length};
-ghost use Rattle.program_pass.specs.PassPrograms.{PassKeeps};
+ghost use Rattle.program_pass.specs.PassPrograms.{IsOnlyGraph, PassKeeps};
 ghost use Rattle.unit_join.specs.CopyTables.{HasCopyNumbers};
 ghost use Rattle.unit_join.specs.JoinPrograms.{HasLeafCopies, JoinMade};
 ghost use Rattle.unit_join.specs.Joins.{AreLeafCalls, IsJoined, JoinsLeaves, LeafCallsFit, LeavesShare, NoLeafCalls, called_leaves};
 
-use crate::Leaves;
 use crate::calls::leaf_calls;
 use crate::copy_table::CopyTable;
 use crate::joining::joined;
+use crate::leaves::Leaves;
 use flow_graph::Graph;
 use fresh_names::temporary_names;
 use graph_edit::Editor;
@@ -22,11 +22,12 @@ use std::alloc::Global;
 /// variables; its Returns give their value to the variable of the call, where there is one, and lead to where the call
 /// leads. Then the nodes that are not reached are dropped. Each call of a leaf has as many arguments as the leaf has
 /// received variables, no leaf makes a call, and each has as many globals as the graph. It fails only with `Memory`.
-pub fn join(alloc: Global, graph: &Graph, leaves: &Leaves) -> Result<Graph, Memory>
+pub(crate) fn join(alloc: Global, graph: &Graph, leaves: &Leaves) -> Result<Graph, Memory>
     requires fit { LeafCallsFit leaves.now.units graph.now.nodes }
     requires no_calls { NoLeafCalls leaves.now.units }
     requires globals { LeavesShare leaves.now.units graph.now.shared }
     ensures joined { IfOk result (IsJoined graph.now leaves.now.units) }
+    ensures only { IfOk result (IsOnlyGraph (IsJoined graph.now leaves.now.units)) }
 
     // it does the same as a graph with the leaves, evaluates no more operators, and makes no other calls
     ensures keeps { IfOk result (PassKeeps (JoinsLeaves leaves.now.units) graph.now) }

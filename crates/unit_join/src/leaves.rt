@@ -14,15 +14,15 @@ const MOST_INSTS: usize = 32;
 
 /// The leaves of a program: for each unit that is one its graph with clean jumps, and `None` for every other.
 #[derive(Drop)]
-pub struct Leaves {
+pub(crate) struct Leaves {
     /// The entries, by the numbers of the units.
-    pub units: Items<Option<Graph>>,
+    pub(crate) units: Items<Option<Graph>>,
 }
 
 impl Leaves {
     /// The leaves of the program: a unit is one where it has at most 32 instructions, receives included, and no call.
     /// It fails only with `Memory`.
-    pub fn of(alloc: Global, program: &Program) -> Result<Leaves, Memory>
+    pub(crate) fn of(alloc: Global, program: &Program) -> Result<Leaves, Memory>
         ensures leaves { IfOk result (λ leaves. AreLeavesOf program.now.units leaves.units) }
 
         // the graph of each leaf keeps its unit

@@ -1,17 +1,21 @@
 // Programs with leaves joined into their callers.
 ghost use Rattle.std.specs.Prelude.{◌<◌, IfOk, length};
 ghost use Rattle.program_pass.specs.PassPrograms.{IsOnly, KeepsRuns};
-ghost use Rattle.unit_join.specs.JoinPrograms.{AreLeavesMade, IsJoinedProgram, JoinedUnit, JoinedUnits};
+ghost use Rattle.unit_join.specs.JoinPrograms.{AreLeavesMade, IsJoinedProgram, JoinedLaid, JoinedUnit, JoinedUnits};
+ghost use Rattle.unit_join.specs.Joins.{LeafCallsFit, LeavesShare, NoLeafCalls};
 
-use crate::Leaves;
 use crate::joins::join;
-use mir_base::{Memory, Program, Unit as MirUnit};
+use crate::leaves::Leaves;
+use flow_graph::Graph;
+use mir_base::{MOST_INSTS, Memory, Program, Unit as MirUnit};
 use program_pass::{laid_out, lowered_clean};
 use std::alloc::Global;
 
 /// The program whose units are those of this one with its leaves joined into them: each unit is lowered, cleaned,
-/// joined with the leaves of the program, cleaned and laid out; the globals stay. Units that nobody calls any more
-/// stay. It is the same, evaluates no more operators, and never has more frames. It fails only with `Memory`.
+/// joined with the leaves of the program, cleaned and laid out; the globals stay. A unit that would then have more
+/// instructions than a unit of a text may have, 16,384, is left with no leaf joined into it, so that no join makes a unit
+/// too long to be read again. Units that nobody calls any more stay. The program is the same, evaluates no more
+/// operators, and never has more frames. It fails only with `Memory`.
 pub fn join_program(alloc: Global, program: &Program) -> Result<Program, Memory>
     ensures joined { IfOk result (IsJoinedProgram program.now) }
     ensures only { IfOk result (IsOnly (IsJoinedProgram program.now)) }
@@ -50,7 +54,23 @@ fn joined_unit(
 {
     program.fits_together();
     let front = lowered_clean(alloc, program.unit(number))?;
-    let joined = join(alloc, &front.cleaned, leaves)?;
-    let target = laid_out(alloc, &joined)?;
+    let target = joined_or_left(alloc, &front.cleaned, leaves)?;
     Ok(target)
+}
+
+/// The unit of the graph with the leaves that it calls joined into it; where that would be too long, the unit of the
+/// graph.
+fn joined_or_left(alloc: Global, graph: &Graph, leaves: &Leaves) -> Result<MirUnit, Memory>
+    requires fit { LeafCallsFit leaves.now.units graph.now.nodes }
+    requires no_calls { NoLeafCalls leaves.now.units }
+    requires globals { LeavesShare leaves.now.units graph.now.shared }
+    ensures { IfOk result (JoinedLaid leaves.now.units graph.now) }
+{
+    let joined = join(alloc, graph, leaves)?;
+    let unit = laid_out(alloc, &joined)?;
+    if unit.insts().len() <= MOST_INSTS {
+        return Ok(unit);
+    }
+    let left = laid_out(alloc, graph)?;
+    Ok(left)
 }

@@ -1,4 +1,5 @@
 use Rattle.std.proofs.Common.{◌≤◌, length, sym, subst}
+use Rattle.tail_loop.specs.OneLaws.{tailed_one}
 use Rattle.tail_loop.specs.Tails.{AreTailCalls}
 use Rattle.tail_loop.proofs.Makes.{is_tailed, keeps_loops}
 use Rattle.tail_loop.proofs.tails.tail.Goals as goal
@@ -16,3 +17,6 @@ pub returns-clause-keeps : goal.returns-clause-keeps
 returns-clause-keeps c =
     let least = subst (λ n. n ≤ length c.args.graph.now.vars) c.shared.ensures.value c.shared.ensures.shares.count in
     keeps_loops c.args.graph.now c.args.unit c.as_slice.result.now c.in_ok-tailed.tailed least (are_calls c) c.in_ok-tailed.ensures
+
+pub returns-clause-only : goal.returns-clause-only
+returns-clause-only c = λ other is. tailed_one c.args.unit c.args.graph.now c.in_ok-tailed.tailed other (is_tailed c.args.graph.now c.args.unit c.as_slice.result.now c.in_ok-tailed.tailed (are_calls c) c.in_ok-tailed.ensures) is

@@ -8,18 +8,19 @@ use Rattle.unit_join.proofs.programs.joined_unit.Goals as goal
 pub lowered_clean-requires : goal.lowered_clean-requires
 lowered_clean-requires c = fits_lower c.args.program.now.units c.args.program.now.globals c.unit.result.now c.unit.ensures.fits c.unit.ensures.shares
 
-pub join-requires-clause-fit : goal.join-requires-clause-fit
-join-requires-clause-fit c = leaf_calls_fit c.args.program.now.units c.args.leaves.now.units c.unit.result.now c.in_ok-front.front.lowered c.in_ok-front.front.cleaned c.requires.leaves c.unit.ensures.fits c.in_ok-front.ensures
+pub joined_or_left-requires-clause-fit : goal.joined_or_left-requires-clause-fit
+joined_or_left-requires-clause-fit c = leaf_calls_fit c.args.program.now.units c.args.leaves.now.units c.unit.result.now c.in_ok-front.front.lowered c.in_ok-front.front.cleaned c.requires.leaves c.unit.ensures.fits c.in_ok-front.ensures
 
-pub join-requires-clause-no_calls : goal.join-requires-clause-no_calls
-join-requires-clause-no_calls c = no_leaf_calls c.args.program.now.units c.args.leaves.now.units c.requires.leaves
+pub joined_or_left-requires-clause-no_calls : goal.joined_or_left-requires-clause-no_calls
+joined_or_left-requires-clause-no_calls c = no_leaf_calls c.args.program.now.units c.args.leaves.now.units c.requires.leaves
 
-pub join-requires-clause-globals : goal.join-requires-clause-globals
-join-requires-clause-globals c =
+pub joined_or_left-requires-clause-globals : goal.joined_or_left-requires-clause-globals
+joined_or_left-requires-clause-globals c =
     leaves_share c.args.program.now.globals c.args.program.now.units c.args.leaves.now.units c.in_ok-front.front.cleaned.shared c.fits_together.ensures (sym c.in_ok-front.ensures.keeps.same.shared ∙ c.unit.ensures.shares.count) c.requires.leaves
 
 pub returns : goal.returns
 returns c =
     let leaves = c.args.leaves.now.units in
-    passed_at (LeavesJoined leaves) (JoinedBetween leaves) c.args.program.now.units c.args.number c.unit.result.now c.in_ok-front.front.lowered c.in_ok-front.front.cleaned c.in_ok-joined.joined c.in_ok-target.target c.unit.ensures.unit c.in_ok-front.ensures
-    c.in_ok-joined.ensures.joined c.in_ok-joined.ensures.keeps c.in_ok-target.ensures
+    let made = c.in_ok-target.ensures in
+    passed_at (LeavesJoined leaves) (JoinedBetween leaves) c.args.program.now.units c.args.number c.unit.result.now c.in_ok-front.front.lowered c.in_ok-front.front.cleaned made.passed c.in_ok-target.target c.unit.ensures.unit c.in_ok-front.ensures
+    made.is made.keeps made.laid
