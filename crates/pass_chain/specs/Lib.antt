@@ -3,4 +3,4 @@ pub mod GraphPasses
 pub mod GraphPassLaws
 pub mod PassLaws
 pub mod ChainLaws
-pub mod GlobalLaws
+pub mod TrailLaws

@@ -1,17 +1,15 @@
 -- Laws of the passes over whole programs, and of the rounds of sinking: each has one result, which keeps runs. For proofs
 -- only.
-use Rattle.std.proofs.Common.{◌≡◌, true, false, if◌then◌else◌, List, refl, sym, ap, ◌∙◌, subst}
+use Rattle.std.proofs.Common.{◌≡◌, List, refl, sym, ap, ◌∙◌, subst}
 use Rattle.mir_base.specs.Shapes.{ProgramShape}
-use Rattle.mir_sim.specs.Machines.{Shallower}
 use Rattle.flow_graph.specs.Graphs.{GraphShape}
 use Rattle.flow_graph.specs.OneLaws.{same_graphs}
 use Rattle.edge_split.specs.Split.{IsEdgeSplit}
-use Rattle.sink_dead.specs.RoundGraphs.{AreOnlyRounds, AreRounds, last_round}
+use Rattle.sink_rounds.specs.RoundGraphs.{AreOnlyRounds, AreRounds, last_round}
 use Rattle.mir_opt.specs.Stages.{KeepsProgram}
-use Rattle.program_pass.specs.KeepsLaws.{keeps_refl}
-use Rattle.program_pass.specs.PassPrograms.{KeepsRuns, Rewrites}
-use Rattle.unit_join.specs.JoinPrograms.{IsJoinedProgram}
-use Rattle.pass_chain.specs.Passes.{HasTrail, JoinsIfShort, SunkInRounds, are_short, short_or_source}
+use Rattle.program_pass.specs.HeadLaws.{heads_stay}
+use Rattle.program_pass.specs.PassPrograms.{KeepsRuns, Rewrites, heads_of}
+use Rattle.pass_chain.specs.Passes.{HasTrail, SunkInRounds}
 
 -- ---- rounds of sinking
 
@@ -26,21 +24,16 @@ sinks_only graph split rounds splits only other s =
     let lists : s.rounds ≡ rounds = only s.rounds (subst (λ g. AreRounds g s.rounds) (sym same) s.are_rounds) in
     ap (λ g. last_round g rounds) same ∙ ap (last_round s.split) (sym lists) ∙ sym s.last
 
--- ---- leaves
-
--- where the joined program is the only one, so is what is taken, which keeps runs
-pub join_rewrites : (source joined target : ProgramShape) → Rewrites IsJoinedProgram source joined → target ≡ short_or_source source joined → Rewrites JoinsIfShort source target
-join_rewrites source joined target made is = record {
-  exact = record { joined = joined; joins = made.exact; is = is };
-  only = λ other j. is ∙ ap (short_or_source source) (made.only j.joined j.joins) ∙ sym j.is;
-  keeps = subst (KeepsRuns source) (sym is) (elim (are_short joined.units) as (λ short. KeepsRuns source (if short then joined else source)) [ true ↦ made.keeps | false ↦ keeps_refl source ]);
-}
-
 -- ---- trails
 
--- a target that is the same, evaluates no more operators and never has more frames
-pub keeps_runs : (source target : ProgramShape) → KeepsProgram source target → Shallower source target → KeepsRuns source target
-keeps_runs source target keeps shallower = record { same = keeps.same; cheaper = keeps.cheaper; shallower = shallower }
+-- what a target keeps of its source, unit by unit, with the heads of its units
+pub keeps_runs : (source target : ProgramShape) → KeepsProgram source target → target.globals ≡ source.globals → heads_of target ≡ heads_of source → KeepsRuns source target
+keeps_runs source target keeps globals heads = record {
+  same = keeps.same;
+  cheaper = keeps.cheaper;
+  shallower = keeps.shallower;
+  heads = heads_stay source target globals heads;
+}
 
 -- where a trail is the only one of its source, its target is the only one
 pub trail_rewrites : {T : Type 0} (source_of target_of : T → ProgramShape) (Linked : T → Type 0) (source : ProgramShape) (trail : T) → source_of trail ≡ source → Linked trail → ((other : T) → source_of other ≡ source → Linked other → trail ≡ other) → KeepsRuns source (target_of trail)

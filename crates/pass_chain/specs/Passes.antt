@@ -1,14 +1,14 @@
 -- What each pass makes of a program, in one table, and what a list of passes makes, one after another. Cited by
 -- contracts.
-use Rattle.std.specs.Prelude.{◌≡◌, Bool, true, false, if◌then◌else◌, nat_lt, List, [], ◌∷◌, length}
-use Rattle.mir_base.specs.Limits.{most_insts}
-use Rattle.mir_base.specs.Shapes.{ProgramShape, UnitShape}
+use Rattle.std.specs.Prelude.{◌≡◌, List, [], ◌∷◌}
+use Rattle.mir_base.specs.Shapes.{ProgramShape}
 use Rattle.flow_graph.specs.Graphs.{GraphShape}
 use Rattle.cond_const.specs.Folded.{IsFolded}
 use Rattle.value_number.specs.Numbered.{IsNumbered}
 use Rattle.copy_flow.specs.Copied.{IsCopied}
 use Rattle.edge_split.specs.Split.{IsEdgeSplit}
-use Rattle.sink_dead.specs.RoundGraphs.{AreRounds, last_round}
+use Rattle.sink_rounds.specs.RoundGraphs.{AreRounds, last_round}
+use Rattle.value_bounds.specs.Bounded.{IsBounded}
 use Rattle.wanted_bits.specs.Narrowed.{IsNarrowed}
 use Rattle.program_pass.specs.PassPrograms.{IsPassedProgram}
 use Rattle.tail_loop.specs.Tails.{Tailed}
@@ -18,7 +18,7 @@ use Rattle.mir_opt.specs.declared.trails.Trail.{Trail}
 use Rattle.mir_opt.specs.Links.{IsDivisionLinked, IsLinked, IsMoveLinked}
 use Rattle.called_units.specs.CalledUnits.{HasCalledUnits}
 use Rattle.pass_chain.specs.declared.passes.Pass.{Pass}
-use Rattle.pass_chain.specs.declared.passes.Pass.TheVariants.{Tails, Join, Optimise, Clean, Fold, Number, Copies, Motion, Divisions, Sink, Wanted, Called}
+use Rattle.pass_chain.specs.declared.passes.Pass.TheVariants.{Tails, Join, Optimise, Clean, Fold, Number, Copies, Motion, Divisions, Sink, Bounds, Wanted, Called}
 
 -- ---- passes on graphs
 
@@ -39,21 +39,6 @@ pub record SunkInRounds (graph result : GraphShape) : Type 0 where
   pub last : result ≡ last_round split rounds
 
 -- ---- passes over whole programs
-
--- no unit has more instructions than a unit of a text may have
-abbrev pub are_short : List UnitShape → Bool
-are_short [] = true
-are_short (unit ∷ units) = if nat_lt most_insts (length unit.body) then false else are_short units
-
--- the joined program; where a unit of it would be too long to be read again, the source
-abbrev pub short_or_source : ProgramShape → ProgramShape → ProgramShape
-short_or_source source joined = if are_short joined.units then joined else source
-
--- leaves are joined into their callers, where no unit of the result is too long; else the program stays as it is
-pub record JoinsIfShort (source target : ProgramShape) : Type 0 where
-  pub joined : ProgramShape
-  pub joins : IsJoinedProgram source joined
-  pub is : target ≡ short_or_source source joined
 
 -- there is such a trail from the source to the target
 pub record HasTrail {T : Type 0} (source_of target_of : T → ProgramShape) (Linked : T → Type 0)
@@ -80,7 +65,7 @@ HasDivisionsMoved = HasTrail {T = MoveTrail} (λ trail. trail.source) (λ trail.
 -- the target is the exact result of the pass on the source
 abbrev pub IsPassedBy : Pass → ProgramShape → ProgramShape → Type 0
 IsPassedBy Tails = IsPassedProgram Tailed
-IsPassedBy Join = JoinsIfShort
+IsPassedBy Join = IsJoinedProgram
 IsPassedBy Optimise = IsOptimised
 IsPassedBy Clean = PassesGraphs IsUnchanged
 IsPassedBy Fold = PassesGraphs IsFolded
@@ -89,6 +74,7 @@ IsPassedBy Copies = PassesGraphs IsCopied
 IsPassedBy Motion = IsMoved
 IsPassedBy Divisions = HasDivisionsMoved
 IsPassedBy Sink = PassesGraphs SunkInRounds
+IsPassedBy Bounds = PassesGraphs IsBounded
 IsPassedBy Wanted = PassesGraphs IsNarrowed
 IsPassedBy Called = HasCalledUnits
 

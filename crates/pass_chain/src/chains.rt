@@ -1,5 +1,5 @@
 // Passes one after another.
-ghost use Rattle.std.specs.Prelude.{◌≡◌, IfOk};
+ghost use Rattle.std.specs.Prelude.{IfOk};
 ghost use Rattle.program_pass.specs.PassPrograms.{IsOnly, KeepsRuns, Rewrites};
 ghost use Rattle.pass_chain.specs.Passes.{IsChained};
 
@@ -15,7 +15,6 @@ pub fn chain_program(alloc: Global, passes: &[Pass], program: &Program) -> Resul
     ensures chained { IfOk result (IsChained passes.now program.now) }
     ensures only { IfOk result (IsOnly (IsChained passes.now program.now)) }
     ensures keeps { IfOk result (KeepsRuns program.now) }
-    ensures globals { IfOk result (λ target. target.globals ≡ program.now.globals) }
 {
     let target = chained(alloc, passes, program)?;
     Ok(target)

@@ -4,7 +4,8 @@ ghost use Rattle.flow_graph.specs.Graphs.{GraphShape};
 ghost use Rattle.cond_const.specs.Folded.{IsFolded};
 ghost use Rattle.value_number.specs.Numbered.{IsNumbered};
 ghost use Rattle.copy_flow.specs.Copied.{IsCopied};
-ghost use Rattle.sink_dead.specs.RoundGraphs.{last_round};
+ghost use Rattle.sink_rounds.specs.RoundGraphs.{last_round};
+ghost use Rattle.value_bounds.specs.Bounded.{IsBounded};
 ghost use Rattle.wanted_bits.specs.Narrowed.{IsNarrowed};
 ghost use Rattle.pass_chain.specs.Passes.{IsUnchanged, SunkInRounds};
 ghost use Rattle.pass_chain.specs.GraphPasses.{IsMadeOf};
@@ -15,8 +16,9 @@ use edge_split::split;
 use flow_graph::Graph;
 use mir_base::{Memory, Unit as MirUnit};
 use program_pass::laid_out;
-use sink_dead::sink;
+use sink_rounds::rounds;
 use std::alloc::Global;
+use value_bounds::use_bounds;
 use value_number::number;
 use wanted_bits::narrow;
 
@@ -81,7 +83,7 @@ impl GraphPass for Copying {
     }
 }
 
-/// Rounds of sinking on the split graph, of `sink_dead`.
+/// Rounds of sinking on the split graph, of `sink_rounds`.
 pub(crate) struct Sinking;
 
 impl GraphPass for Sinking {
@@ -89,8 +91,8 @@ impl GraphPass for Sinking {
 
     fn unit_of(alloc: Global, graph: &Graph) -> Result<MirUnit, Memory> {
         let split = split(alloc, graph)?;
-        let sunk = sink(alloc, &split)?;
-        let unit = laid_out(alloc, last_round(&split, sunk.rounds.items()))?;
+        let rounds = rounds(alloc, &split)?;
+        let unit = laid_out(alloc, last_round(&split, rounds.graphs.items()))?;
         Ok(unit)
     }
 }
@@ -104,6 +106,19 @@ fn last_round<'a>(graph: &'a Graph, rounds: &'a [Graph]) -> &'a Graph
         last = round;
     }
     last
+}
+
+/// Bounds of values, of `value_bounds`.
+pub(crate) struct Bounding;
+
+impl GraphPass for Bounding {
+    ghost exact = { IsBounded };
+
+    fn unit_of(alloc: Global, graph: &Graph) -> Result<MirUnit, Memory> {
+        let bounded = use_bounds(alloc, graph)?;
+        let unit = laid_out(alloc, &bounded)?;
+        Ok(unit)
+    }
 }
 
 /// Wanted bits, of `wanted_bits`.

@@ -1,11 +1,11 @@
 // The passes, and what each makes of a program.
-ghost use Rattle.std.specs.Prelude.{◌≡◌, IfOk};
+ghost use Rattle.std.specs.Prelude.{IfOk};
 ghost use Rattle.program_pass.specs.PassPrograms.{IsOnly, KeepsRuns, Rewrites};
 ghost use Rattle.pass_chain.specs.Passes.{IsPassedBy};
 
-use crate::graph_passes::{Cleaning, Copying, Folding, Narrowing, Numbering, Sinking};
+use crate::graph_passes::{Bounding, Cleaning, Copying, Folding, Narrowing, Numbering, Sinking};
 use crate::over_units::program_through;
-use crate::whole::{divided, joined_if_short, looped, moved, optimised, with_called_units};
+use crate::whole::{divided, joined, looped, moved, optimised, with_called_units};
 use mir_base::{Memory, Program};
 use std::alloc::Global;
 
@@ -14,7 +14,7 @@ use std::alloc::Global;
 pub enum Pass {
     /// Self tail calls become loops.
     Tails,
-    /// Leaves are joined into their callers, where no unit of the result is too long to be read again.
+    /// Leaves are joined into their callers, but for units that would then be too long to be read again.
     Join,
     /// Each unit goes through all passes of `optimise`.
     Optimise,
@@ -32,6 +32,8 @@ pub enum Pass {
     Divisions,
     /// Assignments sink to where they are needed, in rounds, and dead ones go.
     Sink,
+    /// What the bounds of values decide stands in the place of what is computed.
+    Bounds,
     /// Operators that change no bit that is wanted go.
     Wanted,
     /// The units that no call leads to go.
@@ -41,16 +43,14 @@ pub enum Pass {
 /// What a pass makes of a program. It is the same, evaluates no more operators, and never has more frames. It fails only
 /// with `Memory`.
 ///
-/// `Tails` and `Called` make what `tail_program` and `called_program` make, and `Optimise`, `Motion` and `Divisions` the
-/// targets of `optimise`, `motion` and `divisions`. `Join` makes what `join_program` makes where no unit of that has more
-/// instructions than a unit of a text may have, 16,384; else the program stays as it is, so that no join makes a unit
-/// too long to be read again; other passes may. The others are passes on graphs: each unit is lowered, cleaned, passed, cleaned and laid out. `Clean`
-/// does nothing in between, and `Sink` splits the graph and then makes its rounds.
+/// `Tails`, `Join` and `Called` make what `tail_program`, `join_program` and `called_program` make, and `Optimise`,
+/// `Motion` and `Divisions` the targets of `optimise`, `motion` and `divisions`. The others are passes on graphs: each
+/// unit is lowered, cleaned, passed, cleaned and laid out. `Clean` does nothing in between, and `Sink` splits the graph
+/// and then makes its rounds.
 pub fn pass_program(alloc: Global, pass: Pass, program: &Program) -> Result<Program, Memory>
     ensures passed { IfOk result (IsPassedBy pass program.now) }
     ensures only { IfOk result (IsOnly (IsPassedBy pass program.now)) }
     ensures keeps { IfOk result (KeepsRuns program.now) }
-    ensures globals { IfOk result (λ target. target.globals ≡ program.now.globals) }
 {
     let target = passed(alloc, pass, program)?;
     Ok(target)
@@ -62,7 +62,7 @@ fn passed(alloc: Global, pass: Pass, program: &Program) -> Result<Program, Memor
 {
     match pass {
         Pass::Tails => looped(alloc, program),
-        Pass::Join => joined_if_short(alloc, program),
+        Pass::Join => joined(alloc, program),
         Pass::Optimise => optimised(alloc, program),
         Pass::Clean => program_through::<Cleaning>(alloc, program),
         Pass::Fold => program_through::<Folding>(alloc, program),
@@ -71,6 +71,7 @@ fn passed(alloc: Global, pass: Pass, program: &Program) -> Result<Program, Memor
         Pass::Motion => moved(alloc, program),
         Pass::Divisions => divided(alloc, program),
         Pass::Sink => program_through::<Sinking>(alloc, program),
+        Pass::Bounds => program_through::<Bounding>(alloc, program),
         Pass::Wanted => program_through::<Narrowing>(alloc, program),
         Pass::Called => with_called_units(alloc, program),
     }

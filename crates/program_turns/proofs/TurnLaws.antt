@@ -1,10 +1,9 @@
 -- A turn that changes the program leaves one turn fewer, and after one that changes nothing, or after the last, nothing
 -- is left but to take the program.
-use Rattle.std.proofs.Common.{◌≡◌, inl, inr, ℕ, zero, suc, refl, sym, ap, ◌∙◌, subst}
+use Rattle.std.proofs.Common.{◌≡◌, inl, inr, ℕ, suc, refl, sym, ◌∙◌, subst}
 use Rattle.mir_base.specs.Shapes.{ProgramShape}
 use Rattle.pass_chain.specs.Passes.{IsChained}
 use Rattle.pass_chain.specs.ChainLaws.{HasCome, at_last, one_more}
-use Rattle.pass_chain.specs.GlobalLaws.{HasGlobalsOf, chain_keeps_globals}
 use Rattle.program_pass.specs.PassPrograms.{IsOnly, KeepsRuns, Rewrites}
 use Rattle.program_turns.specs.Turns.{IsThorough, TurnsMake, turn}
 
@@ -34,13 +33,3 @@ module _ (source last next : ProgramShape) (left : ℕ) (come : HasCome (IsThoro
 -- no turn is left
 pub turns_end : (source last : ProgramShape) → HasCome (IsThorough source) source last (TurnsMake 0 last) → Rewrites IsThorough source last
 turns_end source last come = at_last IsThorough source last (TurnsMake 0 last) come refl (λ other m. sym m)
-
--- ---- globals
-
--- turns keep the globals
-pub turns_keep_globals : (turns : ℕ) (source target : ProgramShape) → TurnsMake turns source target → HasGlobalsOf source target
-turns_keep_globals zero source target is = ap (λ (p : ProgramShape). p.globals) is
-turns_keep_globals (suc turns) source target made = elim made.1.1 [
-  | inl stays ↦ ap (λ (p : ProgramShape). p.globals) stays.1
-  | inr goes ↦ turns_keep_globals turns made.0 target goes.1 ∙ chain_keeps_globals turn source made.0 made.1.0
-]

@@ -1,5 +1,5 @@
 // Turns until nothing changes.
-ghost use Rattle.std.specs.Prelude.{◌≡◌, IfOk};
+ghost use Rattle.std.specs.Prelude.{IfOk};
 ghost use Rattle.program_pass.specs.PassPrograms.{IsOnly, KeepsRuns, Rewrites};
 ghost use Rattle.program_turns.specs.Turns.{IsThorough};
 
@@ -10,16 +10,17 @@ use std::mem;
 use unit_equal::same_program;
 
 /// The passes of a turn, from the first to the last.
-pub const TURN: [Pass; 5] = [
+const TURN: [Pass; 6] = [
     Pass::Tails,
     Pass::Join,
     Pass::Optimise,
     Pass::Wanted,
+    Pass::Bounds,
     Pass::Called,
 ];
 
 /// The most turns that `thorough_program` makes.
-pub const MOST_TURNS: usize = 16;
+const MOST_TURNS: usize = 16;
 
 /// The program after turns until one changes nothing, at most `MOST_TURNS` of them: each is the chain of the passes of
 /// `TURN` on what the one before made. It is the same, evaluates no more operators, and never has more frames. It fails
@@ -28,7 +29,6 @@ pub fn thorough_program(alloc: Global, program: &Program) -> Result<Program, Mem
     ensures thorough { IfOk result (IsThorough program.now) }
     ensures only { IfOk result (IsOnly (IsThorough program.now)) }
     ensures keeps { IfOk result (KeepsRuns program.now) }
-    ensures globals { IfOk result (λ target. target.globals ≡ program.now.globals) }
 {
     let target = turns_of(alloc, program)?;
     Ok(target)

@@ -1,5 +1,5 @@
 use Rattle.std.proofs.Common.{◌≡◌, drop}
-use Rattle.sink_dead.specs.RoundGraphs.{last_round}
+use Rattle.sink_rounds.specs.RoundGraphs.{last_round}
 use Rattle.pass_chain.proofs.graph_passes.last_round.Given as goal
 
 abbrev pub invariant-loop-round : goal.invariant-loop-round
