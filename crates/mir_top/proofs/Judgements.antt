@@ -1,5 +1,5 @@
 -- A text is that of one program, or it is refused for one cause; so for words and a text one thing is due.
-use Rattle.std.proofs.Common.{◌≡◌, ◌≢◌, ◌<◌, ◌≤◌, ℕ, List, length, Option, None, Some, IsTrue, refl, sym, ◌∙◌, ap, subst, arith}
+use Rattle.std.proofs.Common.{◌≡◌, ◌≢◌, ◌<◌, ◌≤◌, ◌⊎◌, inl, inr, ℕ, ℤ, List, length, Option, None, Some, IsTrue, refl, sym, ◌∙◌, ap, subst, arith}
 use Rattle.mir_base.specs.Shapes.{ProgramShape}
 use Rattle.mir_base.specs.Runs.{run, inputs_of}
 use Rattle.mir_base.specs.Limits.{most_frames}
@@ -13,17 +13,18 @@ use Rattle.mir_valid.specs.Texts.{IsTextOf}
 use Rattle.mir_top.specs.declared.command.Command.{Command}
 use Rattle.mir_top.specs.declared.command.Command.TheVariants.{Optimise, Stages, Move, Ranges, Divisions, Tails, Join, Thorough, Passes, Run, Trial}
 use Rattle.mir_top.specs.declared.outcome.Outcome.{Outcome}
+use Rattle.mir_top.specs.declared.outcome.Outcome.TheVariants.{Optimised, Shown, Moved, Ranged, Divided}
 use Rattle.mir_top.specs.Calls.{reply_of}
 use Rattle.mir_top.specs.Commands.{command_of, inputs_in, reads_text, Reads}
 use Rattle.mir_top.specs.Complaints.{Complaint, wrong_inputs, deep, of_text, of_program}
 use Rattle.mir_top.specs.Due.{IsShortTextOf, WorksOn, IsRefused, long, unreadable, invalid, Refuses, no_command, no_text, wrong_number, too_deep, Completes, of_optimise, of_stages, of_move, of_ranges, of_divisions, of_tails, of_join, of_thorough, of_passes, of_run, of_trial, status_of_finish}
 use Rattle.mir_top.specs.PassWords.{passes_in}
-use Rattle.mir_top.specs.Outputs.{ChainsThrough, JoinsUnits, LoopsTails, Runs, TurnsThrough, reported, report_text, IsSummary, trail_summary, IsOnlyOutput, Makes, optimised, shown, moved, ranged, divided, tailed, joined, turned, chained, ran, compared}
+use Rattle.mir_top.specs.Outputs.{ChainsThrough, Divides, JoinsUnits, LoopsTails, MovesCode, Optimises, Runs, ShowsTrail, TurnsThrough, WritesReport, WritesSummary, WritesTarget, reported, IsSummary, trail_summary, IsOnlyOutput, Makes}
 use Rattle.mir_top.specs.Promises.{HasRead}
 use Rattle.mir_top.specs.RangeTexts.{ShowsRanges}
 use Rattle.mir_top.specs.StageTexts.{ShowsStages}
 use Rattle.mir_top.specs.Streams.{Stream, TookAll}
-use Rattle.mir_top.specs.Texts.{OneReading}
+use Rattle.mir_top.specs.Texts.{IsWritten, OneReading}
 use Rattle.mir_top.proofs.RangeLaws.{ranges_same}
 use Rattle.mir_top.proofs.ShownLaws.{stages_same}
 use Rattle.mir_top.proofs.Statuses.{is_of_run}
@@ -136,125 +137,57 @@ refuses_same laws words text _ other (too_deep n program asked on right above) a
 
 -- what a run makes
 pub runs_of : (words : List (List ℕ)) (program : ProgramShape) (command : Command) (outcome : Outcome) (output : List ℕ) (steps : ℕ) → Makes words program command outcome output → command ≡ Run steps
-    → Runs program (inputs_in words) steps × ((reply_of outcome).status ≡ status_of_finish (reported program (inputs_in words) steps).finish) × (output ≡ report_text (reported program (inputs_in words) steps))
-runs_of words program _ _ _ steps (optimised trail source optimises) is = absurd (cc)
-runs_of words program _ _ _ steps (shown trail source optimises text shows) is = absurd (cc)
-runs_of words program _ _ _ steps (moved trail source moves) is = absurd (cc)
-runs_of words program _ _ _ steps (ranged trail source moves text shows) is = absurd (cc)
-runs_of words program _ _ _ steps (divided trail source divides) is = absurd (cc)
-runs_of words program _ _ _ steps (tailed target rewrites) is = absurd (cc)
-runs_of words program _ _ _ steps (joined target rewrites) is = absurd (cc)
-runs_of words program _ _ _ steps (turned target rewrites) is = absurd (cc)
-runs_of words program _ _ _ steps (chained target rewrites) is = absurd (cc)
-runs_of words program _ _ _ steps (compared number units output is_summary) is = absurd (cc)
-runs_of words program _ _ _ steps (ran n runs report reports) is =
-    let same : n ≡ steps = cc in (
-      subst (Runs program (inputs_in words)) same runs,
-      ap (λ r. status_of_finish r.finish) reports ∙ ap (λ (k : ℕ). status_of_finish (reported program (inputs_in words) k).finish) same,
-      ap report_text reports ∙ ap (λ (k : ℕ). report_text (reported program (inputs_in words) k)) same,
-    )
+    → WritesReport program (inputs_in words) steps outcome output
+runs_of words program command outcome output steps makes is = subst (λ (c : Command). Makes words program c outcome output) is makes
+
+-- and its status
+pub report_status : (program : ProgramShape) (inputs : List ℤ) (steps : ℕ) (outcome : Outcome) (output : List ℕ) → WritesReport program inputs steps outcome output → (reply_of outcome).status ≡ status_of_finish (reported program inputs steps).finish
+report_status program inputs steps outcome output report = ap (λ (o : Outcome). (reply_of o).status) report.outcome_is
+
+-- a command is a run, or none
+run_or_none : (command : Command) → ((n : ℕ) × (command ≡ Run n)) ⊎ ((n : ℕ) → command ≡ Run n → ⊥)
+run_or_none Optimise = inr (λ n is. absurd (cc))
+run_or_none Stages = inr (λ n is. absurd (cc))
+run_or_none Move = inr (λ n is. absurd (cc))
+run_or_none Ranges = inr (λ n is. absurd (cc))
+run_or_none Divisions = inr (λ n is. absurd (cc))
+run_or_none Tails = inr (λ n is. absurd (cc))
+run_or_none Join = inr (λ n is. absurd (cc))
+run_or_none Thorough = inr (λ n is. absurd (cc))
+run_or_none Passes = inr (λ n is. absurd (cc))
+run_or_none (Run steps) = inl (steps, refl)
+run_or_none (Trial number units) = inr (λ n is. absurd (cc))
+
+-- what is made by a command that is no run has status 0
+status_of_text : (words : List (List ℕ)) (program : ProgramShape) (command : Command) (outcome : Outcome) (output : List ℕ) → Makes words program command outcome output → ((n : ℕ) → command ≡ Run n → ⊥) → (reply_of outcome).status ≡ 0
+status_of_text words program Optimise outcome output makes no_run = ap (λ (o : Outcome). (reply_of o).status) makes.outcome_is
+status_of_text words program Stages outcome output makes no_run = ap (λ (o : Outcome). (reply_of o).status) makes.outcome_is
+status_of_text words program Move outcome output makes no_run = ap (λ (o : Outcome). (reply_of o).status) makes.outcome_is
+status_of_text words program Ranges outcome output makes no_run = ap (λ (o : Outcome). (reply_of o).status) makes.outcome_is
+status_of_text words program Divisions outcome output makes no_run = ap (λ (o : Outcome). (reply_of o).status) makes.outcome_is
+status_of_text words program Tails outcome output makes no_run = ap (λ (o : Outcome). (reply_of o).status) makes.outcome_is
+status_of_text words program Join outcome output makes no_run = ap (λ (o : Outcome). (reply_of o).status) makes.outcome_is
+status_of_text words program Thorough outcome output makes no_run = ap (λ (o : Outcome). (reply_of o).status) makes.outcome_is
+status_of_text words program Passes outcome output makes no_run = ap (λ (o : Outcome). (reply_of o).status) makes.outcome_is
+status_of_text words program (Run steps) outcome output makes no_run = absurd (no_run steps refl)
+status_of_text words program (Trial number units) outcome output makes no_run = ap (λ (o : Outcome). (reply_of o).status) makes.outcome_is
 
 -- an outcome with status 3 or 4 is that of a run
 pub run_of_status : (words : List (List ℕ)) (program : ProgramShape) (command : Command) (outcome : Outcome) (output : List ℕ) → Makes words program command outcome output → is_of_run (reply_of outcome).status → (n : ℕ) × (command ≡ Run n)
-run_of_status words program _ _ _ (optimised trail source optimises) is = absurd is
-run_of_status words program _ _ _ (shown trail source optimises text shows) is = absurd is
-run_of_status words program _ _ _ (moved trail source moves) is = absurd is
-run_of_status words program _ _ _ (ranged trail source moves text shows) is = absurd is
-run_of_status words program _ _ _ (divided trail source divides) is = absurd is
-run_of_status words program _ _ _ (tailed target rewrites) is = absurd is
-run_of_status words program _ _ _ (joined target rewrites) is = absurd is
-run_of_status words program _ _ _ (turned target rewrites) is = absurd is
-run_of_status words program _ _ _ (chained target rewrites) is = absurd is
-run_of_status words program _ _ _ (compared number units output is_summary) is = absurd is
-run_of_status words program _ _ _ (ran n runs report reports) is = (n, refl)
+run_of_status words program command outcome output makes is = elim (run_or_none command) [
+  | inl run ↦ run
+  | inr none ↦ absurd (subst is_of_run (status_of_text words program command outcome output makes none) is)
+]
 
 -- what a trial makes
 pub summary_of : (words : List (List ℕ)) (program : ProgramShape) (command : Command) (outcome : Outcome) (output : List ℕ) (number units : ℕ) → Makes words program command outcome output → command ≡ Trial number units → IsSummary program output
-summary_of words program _ _ _ number units (optimised trail source optimises) is = absurd (cc)
-summary_of words program _ _ _ number units (shown trail source optimises text shows) is = absurd (cc)
-summary_of words program _ _ _ number units (moved trail source moves) is = absurd (cc)
-summary_of words program _ _ _ number units (ranged trail source moves text shows) is = absurd (cc)
-summary_of words program _ _ _ number units (divided trail source divides) is = absurd (cc)
-summary_of words program _ _ _ number units (tailed target rewrites) is = absurd (cc)
-summary_of words program _ _ _ number units (joined target rewrites) is = absurd (cc)
-summary_of words program _ _ _ number units (turned target rewrites) is = absurd (cc)
-summary_of words program _ _ _ number units (chained target rewrites) is = absurd (cc)
-summary_of words program _ _ _ number units (ran n runs report reports) is = absurd (cc)
-summary_of words program _ _ _ number units (compared other count output summary) is = summary
+summary_of words program command outcome output number units makes is =
+    let made : WritesSummary program outcome output = subst (λ (c : Command). Makes words program c outcome output) is makes in made.summary
 
 -- what a trial makes has status 0
 pub status_of_trial : (words : List (List ℕ)) (program : ProgramShape) (command : Command) (outcome : Outcome) (output : List ℕ) (number units : ℕ) → Makes words program command outcome output → command ≡ Trial number units → (reply_of outcome).status ≡ 0
-status_of_trial words program _ _ _ number units (optimised trail source optimises) is = refl
-status_of_trial words program _ _ _ number units (shown trail source optimises text shows) is = refl
-status_of_trial words program _ _ _ number units (moved trail source moves) is = refl
-status_of_trial words program _ _ _ number units (ranged trail source moves text shows) is = refl
-status_of_trial words program _ _ _ number units (divided trail source divides) is = refl
-status_of_trial words program _ _ _ number units (tailed target rewrites) is = refl
-status_of_trial words program _ _ _ number units (joined target rewrites) is = refl
-status_of_trial words program _ _ _ number units (turned target rewrites) is = refl
-status_of_trial words program _ _ _ number units (chained target rewrites) is = refl
-status_of_trial words program _ _ _ number units (ran n runs report reports) is = absurd (cc)
-status_of_trial words program _ _ _ number units (compared other count output summary) is = refl
-
--- what `tails` makes
-pub tailed_of : (words : List (List ℕ)) (program : ProgramShape) (command : Command) (outcome : Outcome) (output : List ℕ) → Makes words program command outcome output → command ≡ Tails
-    → ((reply_of outcome).status ≡ 0) × (target : ProgramShape) × LoopsTails program target × (output ≡ canonical_text target)
-tailed_of words program _ _ _ (optimised trail source optimises) is = absurd (cc)
-tailed_of words program _ _ _ (shown trail source optimises text shows) is = absurd (cc)
-tailed_of words program _ _ _ (moved trail source moves) is = absurd (cc)
-tailed_of words program _ _ _ (ranged trail source moves text shows) is = absurd (cc)
-tailed_of words program _ _ _ (divided trail source divides) is = absurd (cc)
-tailed_of words program _ _ _ (tailed target rewrites) is = (refl, target, rewrites, refl)
-tailed_of words program _ _ _ (joined target rewrites) is = absurd (cc)
-tailed_of words program _ _ _ (turned target rewrites) is = absurd (cc)
-tailed_of words program _ _ _ (chained target rewrites) is = absurd (cc)
-tailed_of words program _ _ _ (ran n runs report reports) is = absurd (cc)
-tailed_of words program _ _ _ (compared number units output is_summary) is = absurd (cc)
-
--- what `join` makes
-pub joined_of : (words : List (List ℕ)) (program : ProgramShape) (command : Command) (outcome : Outcome) (output : List ℕ) → Makes words program command outcome output → command ≡ Join
-    → ((reply_of outcome).status ≡ 0) × (target : ProgramShape) × JoinsUnits program target × (output ≡ canonical_text target)
-joined_of words program _ _ _ (optimised trail source optimises) is = absurd (cc)
-joined_of words program _ _ _ (shown trail source optimises text shows) is = absurd (cc)
-joined_of words program _ _ _ (moved trail source moves) is = absurd (cc)
-joined_of words program _ _ _ (ranged trail source moves text shows) is = absurd (cc)
-joined_of words program _ _ _ (divided trail source divides) is = absurd (cc)
-joined_of words program _ _ _ (tailed target rewrites) is = absurd (cc)
-joined_of words program _ _ _ (joined target rewrites) is = (refl, target, rewrites, refl)
-joined_of words program _ _ _ (turned target rewrites) is = absurd (cc)
-joined_of words program _ _ _ (chained target rewrites) is = absurd (cc)
-joined_of words program _ _ _ (ran n runs report reports) is = absurd (cc)
-joined_of words program _ _ _ (compared number units output is_summary) is = absurd (cc)
-
--- what `thorough` makes
-pub turned_of : (words : List (List ℕ)) (program : ProgramShape) (command : Command) (outcome : Outcome) (output : List ℕ) → Makes words program command outcome output → command ≡ Thorough
-    → ((reply_of outcome).status ≡ 0) × (target : ProgramShape) × TurnsThrough program target × (output ≡ canonical_text target)
-turned_of words program _ _ _ (optimised trail source optimises) is = absurd (cc)
-turned_of words program _ _ _ (shown trail source optimises text shows) is = absurd (cc)
-turned_of words program _ _ _ (moved trail source moves) is = absurd (cc)
-turned_of words program _ _ _ (ranged trail source moves text shows) is = absurd (cc)
-turned_of words program _ _ _ (divided trail source divides) is = absurd (cc)
-turned_of words program _ _ _ (tailed target rewrites) is = absurd (cc)
-turned_of words program _ _ _ (joined target rewrites) is = absurd (cc)
-turned_of words program _ _ _ (turned target rewrites) is = (refl, target, rewrites, refl)
-turned_of words program _ _ _ (chained target rewrites) is = absurd (cc)
-turned_of words program _ _ _ (ran n runs report reports) is = absurd (cc)
-turned_of words program _ _ _ (compared number units output is_summary) is = absurd (cc)
-
--- what `passes` makes
-pub chained_of : (words : List (List ℕ)) (program : ProgramShape) (command : Command) (outcome : Outcome) (output : List ℕ) → Makes words program command outcome output → command ≡ Passes
-    → ((reply_of outcome).status ≡ 0) × (target : ProgramShape) × ChainsThrough (passes_in words) program target × (output ≡ canonical_text target)
-chained_of words program _ _ _ (optimised trail source optimises) is = absurd (cc)
-chained_of words program _ _ _ (shown trail source optimises text shows) is = absurd (cc)
-chained_of words program _ _ _ (moved trail source moves) is = absurd (cc)
-chained_of words program _ _ _ (ranged trail source moves text shows) is = absurd (cc)
-chained_of words program _ _ _ (divided trail source divides) is = absurd (cc)
-chained_of words program _ _ _ (tailed target rewrites) is = absurd (cc)
-chained_of words program _ _ _ (joined target rewrites) is = absurd (cc)
-chained_of words program _ _ _ (turned target rewrites) is = absurd (cc)
-chained_of words program _ _ _ (chained target rewrites) is = (refl, target, rewrites, refl)
-chained_of words program _ _ _ (ran n runs report reports) is = absurd (cc)
-chained_of words program _ _ _ (compared number units output is_summary) is = absurd (cc)
+status_of_trial words program command outcome output number units makes is =
+    status_of_text words program command outcome output makes (λ n run. let e : Trial number units ≡ Run n = sym is ∙ run in absurd (cc))
 
 -- the words of a trial are not those of a command that reads the text
 pub trial_reads : (words : List (List ℕ)) (number units : ℕ) → command_of words ≡ Some (Trial number units) → Reads words → ⊥
@@ -270,12 +203,12 @@ makes_no_refusal laws words text command program outcome output _ asked on makes
     let is = same_command command (Run n) (command_of words) asked also in
     let runs = runs_of words program command outcome output n makes is in
     let same = program_same laws text program other (subst (λ (c : Command). WorksOn c text program) is on).parsed within.parsed in
-    wrong (runs.0.enough ∙ ap inputs_of same)
+    wrong (runs.runs.enough ∙ ap inputs_of same)
 makes_no_refusal laws words text command program outcome output _ asked on makes (too_deep n other also within right above) =
     let is = same_command command (Run n) (command_of words) asked also in
     let runs = runs_of words program command outcome output n makes is in
     let same = program_same laws text program other (subst (λ (c : Command). WorksOn c text program) is on).parsed within.parsed in
-    let shallow : (run other (inputs_in words) n).depth ≤ most_frames = subst (λ (p : ProgramShape). (run p (inputs_in words) n).depth ≤ most_frames) same runs.0.shallow in
+    let shallow : (run other (inputs_in words) n).depth ≤ most_frames = subst (λ (p : ProgramShape). (run p (inputs_in words) n).depth ≤ most_frames) same runs.runs.shallow in
     omega (arith, shallow, above)
 
 -- a command that is no run is refused for its text alone
@@ -308,20 +241,6 @@ completes_no_refusal laws words text _ complaint (of_run n program asked on runs
     let refused = refused_run laws words text n program complaint asked on refuses in
     let over = (refused.1 runs.enough).0 in let shallow = runs.shallow in omega (arith, over, shallow)
 
--- what is made by a command that is no run has status 0
-status_of_text : (words : List (List ℕ)) (program : ProgramShape) (command : Command) (outcome : Outcome) (output : List ℕ) → Makes words program command outcome output → ((n : ℕ) → command ≡ Run n → ⊥) → (reply_of outcome).status ≡ 0
-status_of_text words program _ _ _ (optimised trail source optimises) no_run = refl
-status_of_text words program _ _ _ (shown trail source optimises text shows) no_run = refl
-status_of_text words program _ _ _ (moved trail source moves) no_run = refl
-status_of_text words program _ _ _ (ranged trail source moves text shows) no_run = refl
-status_of_text words program _ _ _ (divided trail source divides) no_run = refl
-status_of_text words program _ _ _ (tailed target rewrites) no_run = refl
-status_of_text words program _ _ _ (joined target rewrites) no_run = refl
-status_of_text words program _ _ _ (turned target rewrites) no_run = refl
-status_of_text words program _ _ _ (chained target rewrites) no_run = refl
-status_of_text words program _ _ _ (compared number units output is_summary) no_run = refl
-status_of_text words program _ _ _ (ran n runs report reports) no_run = absurd (no_run n refl)
-
 -- what is made where an output is due has the status that is due
 pub completes_status : OneReading → (words : List (List ℕ)) (text : List ℕ) (status : ℕ) (command : Command) (program : ProgramShape) (outcome : Outcome) (output : List ℕ) → Completes words text status → command_of words ≡ Some command → WorksOn command text program
     → Makes words program command outcome output → (reply_of outcome).status ≡ status
@@ -348,7 +267,7 @@ completes_status laws words text _ command program outcome output (of_trial numb
 completes_status laws words text _ command program outcome output (of_run n other also within runs) asked on makes =
     let is = same_command command (Run n) (command_of words) asked also in
     let same = program_same laws text program other (subst (λ (c : Command). WorksOn c text program) is on).parsed within.parsed in
-    (runs_of words program command outcome output n makes is).1 ∙ ap (λ (p : ProgramShape). status_of_finish (reported p (inputs_in words) n).finish) same
+    report_status program (inputs_in words) n outcome output (runs_of words program command outcome output n makes is) ∙ ap (λ (p : ProgramShape). status_of_finish (reported p (inputs_in words) n).finish) same
 
 -- under a command that is no run an output is due with status 0
 due_of_text : (words : List (List ℕ)) (text : List ℕ) (command : Command) (status : ℕ) → command_of words ≡ Some command → ((n : ℕ) → command ≡ Run n → ⊥) → Completes words text status → 0 ≡ status
@@ -396,22 +315,52 @@ completes_same laws words text _ other (of_run n program asked on runs) due = du
 
 -- ---- outputs
 
+-- two texts of a program are one
+written_one : (program : ProgramShape) (one other : List ℕ) → IsWritten program one → IsWritten program other → one ≡ other
+written_one program one other p q = p.is ∙ sym q.is
+
+-- what is shown of the one trail of a program
+trail_output : {T : Type 0} (source_of : T → ProgramShape) (Reached : T → Type 0) (Shows : T → List ℕ → Type 0) (outcome_of : T → Outcome) (program : ProgramShape)
+    → ((trail other : T) → Reached trail → source_of other ≡ source_of trail → Reached other → trail ≡ other)
+    → ((trail : T) (one other : List ℕ) → Shows trail one → Shows trail other → one ≡ other)
+    → (outcome : Outcome) (one : List ℕ) → ShowsTrail source_of Reached Shows outcome_of program outcome one
+    → (again : Outcome) (other : List ℕ) → ShowsTrail source_of Reached Shows outcome_of program again other → one ≡ other
+trail_output source_of Reached Shows outcome_of program same one_text outcome one p again other q =
+    one_text p.trail one other p.shows (subst (λ t. Shows t other) (sym (same p.trail q.trail p.reached (q.source ∙ sym p.source) q.reached)) q.shows)
+
+-- and the text of the one program that is made
+target_output : (Gives : ProgramShape → ProgramShape → Type 0) (program : ProgramShape) → ((one other : ProgramShape) → Gives program one → Gives program other → one ≡ other)
+    → (outcome : Outcome) (one : List ℕ) → WritesTarget Gives program outcome one → (again : Outcome) (other : List ℕ) → WritesTarget Gives program again other → one ≡ other
+target_output Gives program same outcome one p again other q = p.written.is ∙ ap canonical_text (same p.target q.target p.gives q.gives) ∙ sym q.written.is
+
+-- trails
+optimises_one : (trail other : Trail) → Optimises trail → other.source ≡ trail.source → Optimises other → trail ≡ other
+optimises_one trail other p is q = p.only other is q.linked
+
+moves_one : (trail other : MoveTrail) → MovesCode trail → other.source ≡ trail.source → MovesCode other → trail ≡ other
+moves_one trail other p is q = p.improves.only other is q.improves.linked
+
+divides_one : (trail other : MoveTrail) → Divides trail → other.source ≡ trail.source → Divides other → trail ≡ other
+divides_one trail other p is q = p.improves.only other is q.improves.linked
+
 -- a command makes one output of a program
 pub only_output : (words : List (List ℕ)) (program : ProgramShape) (command : Command) (outcome : Outcome) (output : List ℕ) → Makes words program command outcome output → IsOnlyOutput words program command output
-only_output words program _ _ _ (optimised trail source optimises) _ _ (optimised other also improves) =
-    ap (λ (t : Trail). canonical_text t.target) (optimises.only other (also ∙ sym source) improves.linked)
-only_output words program _ _ _ (shown trail source optimises text shows) _ _ (shown other also improves text' shows') =
-    stages_same trail text text' shows (subst (λ (t : Trail). ShowsStages t text') (sym (optimises.only other (also ∙ sym source) improves.linked)) shows')
-only_output words program _ _ _ (moved trail source moves) _ _ (moved other also too) =
-    ap (λ (t : MoveTrail). canonical_text t.target) (moves.improves.only other (also ∙ sym source) too.improves.linked)
-only_output words program _ _ _ (ranged trail source moves text shows) _ _ (ranged other also too text' shows') =
-    ranges_same trail.units text text' shows (subst (λ (t : MoveTrail). ShowsRanges t.units text') (sym (moves.improves.only other (also ∙ sym source) too.improves.linked)) shows')
-only_output words program _ _ _ (divided trail source divides) _ _ (divided other also too) =
-    ap (λ (t : MoveTrail). canonical_text t.target) (divides.improves.only other (also ∙ sym source) too.improves.linked)
-only_output words program _ _ _ (tailed target rewrites) _ _ (tailed other also) = ap canonical_text (rewrites.only other also.exact)
-only_output words program _ _ _ (joined target rewrites) _ _ (joined other also) = ap canonical_text (rewrites.only other also.exact)
-only_output words program _ _ _ (turned target turns) _ _ (turned other also) = ap canonical_text (turns.rewrites.only other also.rewrites.exact)
-only_output words program _ _ _ (chained target rewrites) _ _ (chained other also) = ap canonical_text (rewrites.only other also.exact)
-only_output words program _ _ _ (compared number units output is) _ _ (compared _ _ other also) =
-    is.output_is ∙ ap trail_summary (is.optimises.only also.trail (also.source ∙ sym is.source) also.optimises.linked) ∙ sym also.output_is
-only_output words program _ _ _ (ran steps runs report reports) _ _ (ran _ again report' reports') = ap report_text (reports ∙ sym reports')
+only_output words program Optimise outcome output makes =
+    trail_output {T = Trail} (λ trail. trail.source) Optimises (λ trail. IsWritten trail.target) Optimised program optimises_one (λ trail. written_one trail.target) outcome output makes
+only_output words program Stages outcome output makes =
+    trail_output {T = Trail} (λ trail. trail.source) Optimises ShowsStages Shown program optimises_one stages_same outcome output makes
+only_output words program Move outcome output makes =
+    trail_output {T = MoveTrail} (λ trail. trail.source) MovesCode (λ trail. IsWritten trail.target) Moved program moves_one (λ trail. written_one trail.target) outcome output makes
+only_output words program Ranges outcome output makes =
+    trail_output {T = MoveTrail} (λ trail. trail.source) MovesCode (λ trail. ShowsRanges trail.units) Ranged program moves_one (λ trail. ranges_same trail.units) outcome output makes
+only_output words program Divisions outcome output makes =
+    trail_output {T = MoveTrail} (λ trail. trail.source) Divides (λ trail. IsWritten trail.target) Divided program divides_one (λ trail. written_one trail.target) outcome output makes
+only_output words program Tails outcome output makes = target_output LoopsTails program (λ one other p q. p.only other q.exact) outcome output makes
+only_output words program Join outcome output makes = target_output JoinsUnits program (λ one other p q. p.only other q.exact) outcome output makes
+only_output words program Thorough outcome output makes = target_output TurnsThrough program (λ one other p q. p.rewrites.only other q.rewrites.exact) outcome output makes
+only_output words program Passes outcome output makes = target_output (ChainsThrough (passes_in words)) program (λ one other p q. p.only other q.exact) outcome output makes
+only_output words program (Run steps) outcome output makes = λ again other also. makes.output_is ∙ sym also.output_is
+only_output words program (Trial number units) outcome output makes = λ again other also.
+    let p = makes.summary in
+    let q = also.summary in
+    p.output_is ∙ ap trail_summary (p.optimises.only q.trail (q.source ∙ sym p.source) q.optimises.linked) ∙ sym q.output_is

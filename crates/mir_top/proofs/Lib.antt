@@ -1,5 +1,6 @@
 mod MadeLaws
 mod TurnLaws
+mod ReportLaws
 mod Statuses
 mod ShownLaws
 mod RangeLaws

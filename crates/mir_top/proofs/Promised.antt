@@ -1,5 +1,5 @@
 -- What `top` promises, from how a call ends.
-use Rattle.std.proofs.Common.{◌≡◌, ◌<◌, ◌≤◌, ◌+◌, ◌⊎◌, inl, inr, ℕ, List, [], ◌∷◌, ◌++◌, length, Option, None, Some, IsSome, IfSome, is_some, Contains, refl, sym, ◌∙◌, ap, subst, arith, length-append}
+use Rattle.std.proofs.Common.{◌≡◌, ◌<◌, ◌≤◌, ◌+◌, ◌⊎◌, inl, inr, ℕ, List, [], ◌∷◌, ◌++◌, length, Option, None, Some, IsSome, IfSome, IsTrue, is_some, Contains, refl, sym, ◌∙◌, ap, subst, arith, length-append}
 use Rattle.std.proofs.lemmas.List.{append-nil}
 use Rattle.std.proofs.lemmas.Option.{IfSome_then}
 use Rattle.std.specs.Io.KnownBytes.{Consumes, IsAtEnd}
@@ -12,16 +12,17 @@ use Rattle.mir_top.specs.declared.command.Command.{Command}
 use Rattle.mir_top.specs.declared.command.Command.TheVariants.{Optimise, Stages, Move, Ranges, Divisions, Tails, Join, Thorough, Passes, Run, Trial}
 use Rattle.mir_top.specs.declared.outcome.Outcome.{Outcome}
 use Rattle.mir_top.specs.Calls.{Call, reply_of, refusal_with, HasReplied, MakesOutput, WorkedOn}
-use Rattle.mir_top.specs.Commands.{command_of, Asks, Reads}
+use Rattle.mir_top.specs.Commands.{command_of, inputs_in, reads_text, Asks, Reads}
 use Rattle.mir_top.specs.Complaints.{Complaint, usage, read_fault, write_fault, out_of_memory}
 use Rattle.mir_top.specs.Due.{IsShortTextOf, WorksOn, IsRefused, long, unreadable, invalid, Refuses, no_command, no_text, wrong_number, too_deep, Completes}
-use Rattle.mir_top.specs.Outputs.{ChainsThrough, JoinsUnits, LoopsTails, Makes, TurnsThrough}
+use Rattle.mir_top.specs.Outputs.{ChainsThrough, JoinsUnits, LoopsTails, Makes, TurnsThrough, WritesTarget}
 use Rattle.mir_top.specs.PassWords.{passes_in}
 use Rattle.mir_top.specs.Promises.{Promises, HasSeen, IsOnlyMade, StatusIs, Asked, HasDivided, HasOptimised, HasRanged, HasRewritten, HasShown, HasMoved, HasMade, HasCutShort, HasRun, HasTried, HasRefused, EndsBy, HasText}
 use Rattle.mir_top.specs.Streams.{Stream, Untouched, HasFailed, Took, Gave, Tried}
 use Rattle.mir_top.specs.Texts.{OneReading}
 use Rattle.mir_top.proofs.Endings.{EndingCase, ends_done, ends_cut, ends_failed, ends_out_of_memory, ends_refused, ends}
-use Rattle.mir_top.proofs.Judgements.{no_command_of, same_command, has_read, runs_of, run_of_status, summary_of, status_of_trial, tailed_of, joined_of, turned_of, chained_of, trial_reads, unread_refusal, refuses_same, makes_no_refusal, completes_no_refusal, completes_status, only_output}
+use Rattle.mir_top.proofs.Judgements.{no_command_of, same_command, has_read, runs_of, report_status, run_of_status, summary_of, status_of_trial, trial_reads, unread_refusal, refuses_same, makes_no_refusal, completes_no_refusal, completes_status, only_output}
+use Rattle.mir_top.proofs.ReportLaws.{reports_go_on}
 use Rattle.mir_top.proofs.Statuses.{is_success, is_refusal, is_of_run, is_silent, run_has, success_is, refusal_is, silent_is, refusal_no_success, success_no_refusal, success_no_silent, refusal_below, success_below, outcome_is_success, refuses_is_refusal}
 use Rattle.mir_top.proofs.Trails.{HasMotion, HasPasses, passes, motion, trail_has_output, trail_is_asked, trail_comes}
 
@@ -79,9 +80,10 @@ module _ (laws : OneReading) (call : Call) where
       record {
         program = made.program;
         read = has_read call.words call.source (Run steps) made.program made.program made.text refl asked made.worked.read (subst (λ (c : Command). WorksOn c made.text made.program) is made.worked.subject) refl;
-        runs = runs.0;
-        status = status_is _ has.reply ∙ runs.1;
-        written = subst (Gave call.out) runs.2 has.done.written;
+        runs = runs.runs;
+        status = status_is _ has.reply ∙ report_status made.program (inputs_in call.words) steps has.outcome has.done.output runs;
+        written = subst (Gave call.out) runs.output_is has.done.written;
+        goes_on = reports_go_on made.program (inputs_in call.words) steps;
       }
 
   -- under a trial with status 0 its program was tried
@@ -95,6 +97,7 @@ module _ (laws : OneReading) (call : Call) where
         trail = tried.trail;
         source = tried.source ∙ subst (λ (c : Command). WorksOn c made.text made.program) is made.worked.subject;
         improves = tried.optimises;
+        no_more = tried.no_more;
         written = subst (Gave call.out) tried.output_is has.done.written;
       }
 
@@ -273,7 +276,7 @@ module _ (laws : OneReading) (call : Call) where
   passes_come made (inr asked) = trail_comes passes call made Stages asked (inr refl)
 
   optimised_of : EndingCase call → Asked call Optimise → IfSome call.reply.trail (HasOptimised call)
-  optimised_of ends asked = IfSome_then call.reply.trail (trail_has_output passes call ends Optimise asked) (λ trail is. record { read = is.read; improves = is.improves; written = subst (Gave call.out) (is.is_output.0 refl) is.written })
+  optimised_of ends asked = IfSome_then call.reply.trail (trail_has_output passes call ends Optimise asked) (λ trail is. record { read = is.read; improves = is.improves; written = record { text = is.output; is = is.is_output.0 refl; gave = is.written } })
 
   shown_of : EndingCase call → Asked call Stages → IfSome call.reply.trail (HasShown call)
   shown_of ends asked = IfSome_then call.reply.trail (trail_has_output passes call ends Stages asked) (λ trail is. record { text = is.output; read = is.read; improves = is.improves; shows = is.is_output.1 refl; written = is.written })
@@ -294,7 +297,7 @@ module _ (laws : OneReading) (call : Call) where
 
   moved_of : EndingCase call → Asked call Move → IfSome call.reply.moved (HasMoved call)
   moved_of ends asked = IfSome_then call.reply.moved (trail_has_output motion call ends Move asked) (λ trail is.
-      let made = is.is_output.of_move refl in record { read = is.read; improves = made.0; written = subst (Gave call.out) made.1 is.written })
+      let made = is.is_output.of_move refl in record { read = is.read; improves = made.0; written = record { text = is.output; is = made.1; gave = is.written } })
 
   ranged_of : EndingCase call → Asked call Ranges → IfSome call.reply.moved (HasRanged call)
   ranged_of ends asked = IfSome_then call.reply.moved (trail_has_output motion call ends Ranges asked) (λ trail is.
@@ -302,64 +305,24 @@ module _ (laws : OneReading) (call : Call) where
 
   divided_of : EndingCase call → Asked call Divisions → IfSome call.reply.moved (HasDivided call)
   divided_of ends asked = IfSome_then call.reply.moved (trail_has_output motion call ends Divisions asked) (λ trail is.
-      let made = is.is_output.of_divisions refl in record { read = is.read; improves = made.0; written = subst (Gave call.out) made.1 is.written })
+      let made = is.is_output.of_divisions refl in record { read = is.read; improves = made.0; written = record { text = is.output; is = made.1; gave = is.written } })
 
-  -- ---- programs whose calls are rewritten
+  -- ---- programs that are rewritten
 
-  tails_of : EndingCase call → Asked call Tails → is_success call.reply.status → HasRewritten call LoopsTails
-  tails_of ends asked success =
+  -- what a command makes that writes a program alone
+  rewritten_of : EndingCase call → (command : Command) (Gives : ProgramShape → ProgramShape → Type 0) → ((program : ProgramShape) (outcome : Outcome) (output : List ℕ) → Makes call.words program command outcome output → WritesTarget Gives program outcome output)
+      → IsTrue (reads_text command) → Asked call command → is_success call.reply.status → HasRewritten call Gives
+  rewritten_of ends command Gives writes reads asked success =
       let has = (success_of ends success).0 in
       let made = has.done.made in
-      let is = same_command made.command Tails (command_of call.words) made.worked.asked asked in
-      let of = tailed_of call.words made.program made.command has.outcome has.done.output made.made is in
+      let is = same_command made.command command (command_of call.words) made.worked.asked asked in
+      let of = writes made.program has.outcome has.done.output (subst (λ (c : Command). Makes call.words made.program c has.outcome has.done.output) is made.made) in
       record {
         source = made.program;
-        target = of.1;
-        read = has_read call.words call.source Tails made.program made.program made.text refl asked made.worked.read (subst (λ (c : Command). WorksOn c made.text made.program) is made.worked.subject) refl;
-        rewrites = of.2;
-        written = subst (Gave call.out) of.3 has.done.written;
-      }
-
-  joins_of : EndingCase call → Asked call Join → is_success call.reply.status → HasRewritten call JoinsUnits
-  joins_of ends asked success =
-      let has = (success_of ends success).0 in
-      let made = has.done.made in
-      let is = same_command made.command Join (command_of call.words) made.worked.asked asked in
-      let of = joined_of call.words made.program made.command has.outcome has.done.output made.made is in
-      record {
-        source = made.program;
-        target = of.1;
-        read = has_read call.words call.source Join made.program made.program made.text refl asked made.worked.read (subst (λ (c : Command). WorksOn c made.text made.program) is made.worked.subject) refl;
-        rewrites = of.2;
-        written = subst (Gave call.out) of.3 has.done.written;
-      }
-
-  turns_of : EndingCase call → Asked call Thorough → is_success call.reply.status → HasRewritten call TurnsThrough
-  turns_of ends asked success =
-      let has = (success_of ends success).0 in
-      let made = has.done.made in
-      let is = same_command made.command Thorough (command_of call.words) made.worked.asked asked in
-      let of = turned_of call.words made.program made.command has.outcome has.done.output made.made is in
-      record {
-        source = made.program;
-        target = of.1;
-        read = has_read call.words call.source Thorough made.program made.program made.text refl asked made.worked.read (subst (λ (c : Command). WorksOn c made.text made.program) is made.worked.subject) refl;
-        rewrites = of.2;
-        written = subst (Gave call.out) of.3 has.done.written;
-      }
-
-  chains_of : EndingCase call → Asked call Passes → is_success call.reply.status → HasRewritten call (ChainsThrough (passes_in call.words))
-  chains_of ends asked success =
-      let has = (success_of ends success).0 in
-      let made = has.done.made in
-      let is = same_command made.command Passes (command_of call.words) made.worked.asked asked in
-      let of = chained_of call.words made.program made.command has.outcome has.done.output made.made is in
-      record {
-        source = made.program;
-        target = of.1;
-        read = has_read call.words call.source Passes made.program made.program made.text refl asked made.worked.read (subst (λ (c : Command). WorksOn c made.text made.program) is made.worked.subject) refl;
-        rewrites = of.2;
-        written = subst (Gave call.out) of.3 has.done.written;
+        target = of.target;
+        read = has_read call.words call.source command made.program made.program made.text reads asked made.worked.read (subst (λ (c : Command). WorksOn c made.text made.program) is made.worked.subject) refl;
+        gives = of.gives;
+        written = record { text = has.done.output; is = of.written; gave = has.done.written };
       }
 
   -- ---- all of them
@@ -376,10 +339,10 @@ module _ (laws : OneReading) (call : Call) where
     moves = moved_of whole;
     ranges = ranged_of whole;
     divisions = divided_of whole;
-    tails = λ asked at. tails_of whole asked (subst is_success (sym at) tt);
-    joins = λ asked at. joins_of whole asked (subst is_success (sym at) tt);
-    turns = λ asked at. turns_of whole asked (subst is_success (sym at) tt);
-    chains = λ asked at. chains_of whole asked (subst is_success (sym at) tt);
+    tails = λ asked at. rewritten_of whole Tails LoopsTails (λ program outcome output makes. makes) refl asked (subst is_success (sym at) tt);
+    joins = λ asked at. rewritten_of whole Join JoinsUnits (λ program outcome output makes. makes) refl asked (subst is_success (sym at) tt);
+    turns = λ asked at. rewritten_of whole Thorough TurnsThrough (λ program outcome output makes. makes) refl asked (subst is_success (sym at) tt);
+    chains = λ asked at. rewritten_of whole Passes (ChainsThrough (passes_in call.words)) (λ program outcome output makes. makes) refl asked (subst is_success (sym at) tt);
     reports = λ steps asked among. reports whole steps asked (success_is _ among);
     of_run = of_run whole;
     tries = λ number units asked at. tries whole number units asked (subst is_success (sym at) tt);

@@ -15,7 +15,7 @@ use Rattle.mir_valid.specs.declared.faults.ValidFault.{ValidFault}
 use Rattle.mir_valid.specs.declared.faults.ValidFault.TheVariants.{NoUnit, TooManyUnits, SameUnit, TooManyInsts, LateReceive, SameReceive, TooManyReceives, SameLabel, NoLabel, NoSuchUnit, WrongCount, SameGlobal, TooManyGlobals, GlobalReceive, BadTrap, Memory as NoMemoryForProgram}
 use Rattle.mir_valid.specs.Refusals.{IsValidMemory}
 use Rattle.mir_top.specs.declared.outcome.Outcome.{Outcome}
-use Rattle.mir_top.specs.declared.outcome.Outcome.TheVariants.{Optimised, Shown, Moved, Ranged, Divided, Tailed, Joined, Turned, Chained, Ran, Compared}
+use Rattle.mir_top.specs.declared.outcome.Outcome.TheVariants.{Optimised, Shown, Moved, Ranged, Divided, Rewritten, Ran, Compared}
 use Rattle.mir_top.specs.Calls.{reply_of}
 use Rattle.mir_top.specs.Complaints.{Complaint, of_text, of_program, out_of_memory}
 use Rattle.mir_top.specs.Due.{IsRefused, long, unreadable, invalid, Refuses, no_command, no_text, wrong_number, too_deep, status_of_finish}
@@ -114,10 +114,7 @@ outcome_is_success (Shown trail) = (0, omega arith, refl)
 outcome_is_success (Moved trail) = (0, omega arith, refl)
 outcome_is_success (Ranged trail) = (0, omega arith, refl)
 outcome_is_success (Divided trail) = (0, omega arith, refl)
-outcome_is_success Tailed = (0, omega arith, refl)
-outcome_is_success Joined = (0, omega arith, refl)
-outcome_is_success Turned = (0, omega arith, refl)
-outcome_is_success Chained = (0, omega arith, refl)
+outcome_is_success Rewritten = (0, omega arith, refl)
 outcome_is_success (Ran finish) = finish_is_success finish
 outcome_is_success Compared = (0, omega arith, refl)
 

@@ -1,22 +1,22 @@
--- The trail of all passes, and those of code motion and of the motion of divisions alone, by one set of lemmas: a trail comes exactly with status 0
--- under its commands, and with the output that each of them asks.
+-- The trail of all passes, and those of code motion and of the motion of divisions alone, by one set of lemmas: a trail
+-- comes exactly with status 0 under its commands, and with the output that each of them asks.
 use Rattle.std.proofs.Common.{◌≡◌, ◌⊎◌, inl, inr, ℕ, List, Option, None, Some, IsSome, IfSome, IsTrue, refl, sym, ◌∙◌, ap, subst}
 use Rattle.std.proofs.lemmas.Option.{IfSome_then}
 use Rattle.mir_base.specs.Shapes.{ProgramShape}
-use Rattle.mir_base.specs.Text.{canonical_text}
 use Rattle.mir_opt.specs.declared.trails.Trail.{Trail}
 use Rattle.mir_opt.specs.declared.trails.MoveTrail.{MoveTrail}
 use Rattle.mir_top.specs.declared.reply.Reply.{Reply}
 use Rattle.mir_top.specs.declared.command.Command.{Command}
-use Rattle.mir_top.specs.declared.command.Command.TheVariants.{Optimise, Stages, Move, Ranges, Divisions}
+use Rattle.mir_top.specs.declared.command.Command.TheVariants.{Optimise, Stages, Move, Ranges, Divisions, Tails, Join, Thorough, Passes, Run, Trial}
 use Rattle.mir_top.specs.declared.outcome.Outcome.{Outcome}
 use Rattle.mir_top.specs.Calls.{Call, reply_of, refusal_with, IsDone}
 use Rattle.mir_top.specs.Commands.{command_of, reads_text}
-use Rattle.mir_top.specs.Outputs.{Divides, Optimises, MovesCode, Makes, optimised, shown, moved, ranged, divided, tailed, joined, turned, chained, ran, compared}
+use Rattle.mir_top.specs.Outputs.{Divides, Optimises, MovesCode, Makes}
 use Rattle.mir_top.specs.Promises.{Asked, HasMade, HasRead, StatusIs}
 use Rattle.mir_top.specs.RangeTexts.{ShowsRanges}
 use Rattle.mir_top.specs.StageTexts.{ShowsStages}
 use Rattle.mir_top.specs.Streams.{Gave}
+use Rattle.mir_top.specs.Texts.{IsWritten}
 use Rattle.mir_top.proofs.Endings.{EndingCase, ends_done, ends_cut, ends_failed, ends_out_of_memory, ends_refused}
 use Rattle.mir_top.proofs.Judgements.{same_command, has_read}
 
@@ -43,51 +43,40 @@ HasPasses command = (command ≡ Optimise) ⊎ (command ≡ Stages)
 
 -- what they ask of it: the text of the target, and those of all stages
 abbrev pub IsPassesOutput : Trail → Command → List ℕ → Type 0
-IsPassesOutput trail command output = (command ≡ Optimise → output ≡ canonical_text trail.target) × (command ≡ Stages → ShowsStages trail output)
+IsPassesOutput trail command output = (command ≡ Optimise → IsWritten trail.target output) × (command ≡ Stages → ShowsStages trail output)
 
 -- both read the text
 passes_read : (command : Command) → HasPasses command → IsTrue (reads_text command)
 passes_read command (inl is) = subst (λ (c : Command). IsTrue (reads_text c)) (sym is) refl
 passes_read command (inr is) = subst (λ (c : Command). IsTrue (reads_text c)) (sym is) refl
 
--- of the outcomes those of the two alone have a trail of all passes, and it is of its making
-passes_of : (words : List (List ℕ)) (program : ProgramShape) (command : Command) (outcome : Outcome) (output : List ℕ) → Makes words program command outcome output
-    → IfSome (reply_of outcome).trail (IsTrailOf HasPasses (λ (t : Trail). t.source) Optimises IsPassesOutput program command outcome output)
-passes_of words program _ _ _ (optimised trail source optimises) = (refl, inl refl, source, optimises, (λ _. refl, λ is. absurd (cc)))
-passes_of words program _ _ _ (shown trail source optimises text shows) = (refl, inr refl, source, optimises, (λ is. absurd (cc), λ _. shows))
-passes_of words program _ _ _ (moved trail source moves) = tt
-passes_of words program _ _ _ (ranged trail source moves text shows) = tt
-passes_of words program _ _ _ (divided trail source divides) = tt
-passes_of words program _ _ _ (tailed target rewrites) = tt
-passes_of words program _ _ _ (joined target rewrites) = tt
-passes_of words program _ _ _ (turned target rewrites) = tt
-passes_of words program _ _ _ (chained target rewrites) = tt
-passes_of words program _ _ _ (ran n runs report reports) = tt
-passes_of words program _ _ _ (compared number units output is) = tt
+-- what an outcome says of such a trail
+abbrev SaysPasses : ProgramShape → Command → List ℕ → Outcome → Type 0
+SaysPasses program command output outcome = IfSome (reply_of outcome).trail (IsTrailOf HasPasses (λ (t : Trail). t.source) Optimises IsPassesOutput program command outcome output)
 
--- under the two the outcome is one of these, as the others are of other commands
+-- of the outcomes those of the two alone have a trail of all passes, and it is of its making
+passes_of : (words : List (List ℕ)) (program : ProgramShape) (command : Command) (outcome : Outcome) (output : List ℕ) → Makes words program command outcome output → SaysPasses program command output outcome
+passes_of words program Optimise outcome output makes = subst (SaysPasses program Optimise output) (sym makes.outcome_is) (refl, inl refl, makes.source, makes.reached, (λ _. makes.shows, λ is. absurd (cc)))
+passes_of words program Stages outcome output makes = subst (SaysPasses program Stages output) (sym makes.outcome_is) (refl, inr refl, makes.source, makes.reached, (λ is. absurd (cc), λ _. makes.shows))
+passes_of words program Move outcome output makes = subst (SaysPasses program Move output) (sym makes.outcome_is) tt
+passes_of words program Ranges outcome output makes = subst (SaysPasses program Ranges output) (sym makes.outcome_is) tt
+passes_of words program Divisions outcome output makes = subst (SaysPasses program Divisions output) (sym makes.outcome_is) tt
+passes_of words program Tails outcome output makes = subst (SaysPasses program Tails output) (sym makes.outcome_is) tt
+passes_of words program Join outcome output makes = subst (SaysPasses program Join output) (sym makes.outcome_is) tt
+passes_of words program Thorough outcome output makes = subst (SaysPasses program Thorough output) (sym makes.outcome_is) tt
+passes_of words program Passes outcome output makes = subst (SaysPasses program Passes output) (sym makes.outcome_is) tt
+passes_of words program (Run steps) outcome output makes = subst (SaysPasses program (Run steps) output) (sym makes.outcome_is) tt
+passes_of words program (Trial number units) outcome output makes = subst (SaysPasses program (Trial number units) output) (sym makes.outcome_is) tt
+
+-- under the two the outcome is one of these
 passes_come : (words : List (List ℕ)) (program : ProgramShape) (command : Command) (outcome : Outcome) (output : List ℕ) → Makes words program command outcome output
     → HasPasses command → IsSome (reply_of outcome).trail
-passes_come words program _ _ _ (optimised trail source optimises) is = refl
-passes_come words program _ _ _ (shown trail source optimises text shows) is = refl
-passes_come words program _ _ _ (moved trail source moves) (inl is) = absurd (cc)
-passes_come words program _ _ _ (moved trail source moves) (inr is) = absurd (cc)
-passes_come words program _ _ _ (ranged trail source moves text shows) (inl is) = absurd (cc)
-passes_come words program _ _ _ (ranged trail source moves text shows) (inr is) = absurd (cc)
-passes_come words program _ _ _ (divided trail source divides) (inl is) = absurd (cc)
-passes_come words program _ _ _ (divided trail source divides) (inr is) = absurd (cc)
-passes_come words program _ _ _ (tailed target rewrites) (inl is) = absurd (cc)
-passes_come words program _ _ _ (tailed target rewrites) (inr is) = absurd (cc)
-passes_come words program _ _ _ (joined target rewrites) (inl is) = absurd (cc)
-passes_come words program _ _ _ (joined target rewrites) (inr is) = absurd (cc)
-passes_come words program _ _ _ (turned target rewrites) (inl is) = absurd (cc)
-passes_come words program _ _ _ (turned target rewrites) (inr is) = absurd (cc)
-passes_come words program _ _ _ (chained target rewrites) (inl is) = absurd (cc)
-passes_come words program _ _ _ (chained target rewrites) (inr is) = absurd (cc)
-passes_come words program _ _ _ (ran n runs report reports) (inl is) = absurd (cc)
-passes_come words program _ _ _ (ran n runs report reports) (inr is) = absurd (cc)
-passes_come words program _ _ _ (compared number units output is_summary) (inl is) = absurd (cc)
-passes_come words program _ _ _ (compared number units output is_summary) (inr is) = absurd (cc)
+passes_come words program command outcome output makes (inl is) =
+    let made : Makes words program Optimise outcome output = subst (λ (c : Command). Makes words program c outcome output) is makes in
+    subst (λ (o : Outcome). IsSome (reply_of o).trail) (sym made.outcome_is) refl
+passes_come words program command outcome output makes (inr is) =
+    let made : Makes words program Stages outcome output = subst (λ (c : Command). Makes words program c outcome output) is makes in
+    subst (λ (o : Outcome). IsSome (reply_of o).trail) (sym made.outcome_is) refl
 
 -- so the field `trail` has the trail of both
 pub passes : HasTrails HasPasses (λ (a : Reply). a.trail) (λ (t : Trail). t.source) Optimises IsPassesOutput
@@ -101,9 +90,9 @@ HasMotion command = (command ≡ Move) ⊎ ((command ≡ Ranges) ⊎ (command �
 
 -- what they say and ask of it: the text of the target, or where its temporaries are held
 pub record IsMotionOutput (trail : MoveTrail) (command : Command) (output : List ℕ) : Type 0 where
-  pub of_move : command ≡ Move → MovesCode trail × (output ≡ canonical_text trail.target)
+  pub of_move : command ≡ Move → MovesCode trail × IsWritten trail.target output
   pub of_ranges : command ≡ Ranges → MovesCode trail × ShowsRanges trail.units output
-  pub of_divisions : command ≡ Divisions → Divides trail × (output ≡ canonical_text trail.target)
+  pub of_divisions : command ≡ Divisions → Divides trail × IsWritten trail.target output
 
 -- nothing is said of it whatever the command
 abbrev pub IsAny : MoveTrail → Type 0
@@ -115,51 +104,36 @@ motion_reads command (inl is) = subst (λ (c : Command). IsTrue (reads_text c)) 
 motion_reads command (inr (inl is)) = subst (λ (c : Command). IsTrue (reads_text c)) (sym is) refl
 motion_reads command (inr (inr is)) = subst (λ (c : Command). IsTrue (reads_text c)) (sym is) refl
 
--- of the outcomes those of the three alone have such a trail
-motion_of : (words : List (List ℕ)) (program : ProgramShape) (command : Command) (outcome : Outcome) (output : List ℕ) → Makes words program command outcome output
-    → IfSome (reply_of outcome).moved (IsTrailOf HasMotion (λ (t : MoveTrail). t.source) IsAny IsMotionOutput program command outcome output)
-motion_of words program _ _ _ (optimised trail source optimises) = tt
-motion_of words program _ _ _ (shown trail source optimises text shows) = tt
-motion_of words program _ _ _ (moved trail source moves) = (refl, inl refl, source, tt, record { of_move = λ _. (moves, refl); of_ranges = λ is. absurd (cc); of_divisions = λ is. absurd (cc) })
-motion_of words program _ _ _ (ranged trail source moves text shows) = (refl, inr (inl refl), source, tt, record { of_move = λ is. absurd (cc); of_ranges = λ _. (moves, shows); of_divisions = λ is. absurd (cc) })
-motion_of words program _ _ _ (divided trail source divides) = (refl, inr (inr refl), source, tt, record { of_move = λ is. absurd (cc); of_ranges = λ is. absurd (cc); of_divisions = λ _. (divides, refl) })
-motion_of words program _ _ _ (tailed target rewrites) = tt
-motion_of words program _ _ _ (joined target rewrites) = tt
-motion_of words program _ _ _ (turned target rewrites) = tt
-motion_of words program _ _ _ (chained target rewrites) = tt
-motion_of words program _ _ _ (ran n runs report reports) = tt
-motion_of words program _ _ _ (compared number units output is) = tt
+-- what an outcome says of such a trail
+abbrev SaysMotion : ProgramShape → Command → List ℕ → Outcome → Type 0
+SaysMotion program command output outcome = IfSome (reply_of outcome).moved (IsTrailOf HasMotion (λ (t : MoveTrail). t.source) IsAny IsMotionOutput program command outcome output)
 
--- under the three the outcome is one of these, as the others are of other commands
+-- of the outcomes those of the three alone have such a trail
+motion_of : (words : List (List ℕ)) (program : ProgramShape) (command : Command) (outcome : Outcome) (output : List ℕ) → Makes words program command outcome output → SaysMotion program command output outcome
+motion_of words program Optimise outcome output makes = subst (SaysMotion program Optimise output) (sym makes.outcome_is) tt
+motion_of words program Stages outcome output makes = subst (SaysMotion program Stages output) (sym makes.outcome_is) tt
+motion_of words program Move outcome output makes = subst (SaysMotion program Move output) (sym makes.outcome_is) (refl, inl refl, makes.source, tt, record { of_move = λ _. (makes.reached, makes.shows); of_ranges = λ is. absurd (cc); of_divisions = λ is. absurd (cc) })
+motion_of words program Ranges outcome output makes = subst (SaysMotion program Ranges output) (sym makes.outcome_is) (refl, inr (inl refl), makes.source, tt, record { of_move = λ is. absurd (cc); of_ranges = λ _. (makes.reached, makes.shows); of_divisions = λ is. absurd (cc) })
+motion_of words program Divisions outcome output makes = subst (SaysMotion program Divisions output) (sym makes.outcome_is) (refl, inr (inr refl), makes.source, tt, record { of_move = λ is. absurd (cc); of_ranges = λ is. absurd (cc); of_divisions = λ _. (makes.reached, makes.shows) })
+motion_of words program Tails outcome output makes = subst (SaysMotion program Tails output) (sym makes.outcome_is) tt
+motion_of words program Join outcome output makes = subst (SaysMotion program Join output) (sym makes.outcome_is) tt
+motion_of words program Thorough outcome output makes = subst (SaysMotion program Thorough output) (sym makes.outcome_is) tt
+motion_of words program Passes outcome output makes = subst (SaysMotion program Passes output) (sym makes.outcome_is) tt
+motion_of words program (Run steps) outcome output makes = subst (SaysMotion program (Run steps) output) (sym makes.outcome_is) tt
+motion_of words program (Trial number units) outcome output makes = subst (SaysMotion program (Trial number units) output) (sym makes.outcome_is) tt
+
+-- under the three the outcome is one of these
 motion_comes : (words : List (List ℕ)) (program : ProgramShape) (command : Command) (outcome : Outcome) (output : List ℕ) → Makes words program command outcome output
     → HasMotion command → IsSome (reply_of outcome).moved
-motion_comes words program _ _ _ (optimised trail source optimises) (inl is) = absurd (cc)
-motion_comes words program _ _ _ (optimised trail source optimises) (inr (inl is)) = absurd (cc)
-motion_comes words program _ _ _ (optimised trail source optimises) (inr (inr is)) = absurd (cc)
-motion_comes words program _ _ _ (shown trail source optimises text shows) (inl is) = absurd (cc)
-motion_comes words program _ _ _ (shown trail source optimises text shows) (inr (inl is)) = absurd (cc)
-motion_comes words program _ _ _ (shown trail source optimises text shows) (inr (inr is)) = absurd (cc)
-motion_comes words program _ _ _ (moved trail source moves) is = refl
-motion_comes words program _ _ _ (ranged trail source moves text shows) is = refl
-motion_comes words program _ _ _ (divided trail source divides) is = refl
-motion_comes words program _ _ _ (tailed target rewrites) (inl is) = absurd (cc)
-motion_comes words program _ _ _ (tailed target rewrites) (inr (inl is)) = absurd (cc)
-motion_comes words program _ _ _ (tailed target rewrites) (inr (inr is)) = absurd (cc)
-motion_comes words program _ _ _ (joined target rewrites) (inl is) = absurd (cc)
-motion_comes words program _ _ _ (joined target rewrites) (inr (inl is)) = absurd (cc)
-motion_comes words program _ _ _ (joined target rewrites) (inr (inr is)) = absurd (cc)
-motion_comes words program _ _ _ (turned target rewrites) (inl is) = absurd (cc)
-motion_comes words program _ _ _ (turned target rewrites) (inr (inl is)) = absurd (cc)
-motion_comes words program _ _ _ (turned target rewrites) (inr (inr is)) = absurd (cc)
-motion_comes words program _ _ _ (chained target rewrites) (inl is) = absurd (cc)
-motion_comes words program _ _ _ (chained target rewrites) (inr (inl is)) = absurd (cc)
-motion_comes words program _ _ _ (chained target rewrites) (inr (inr is)) = absurd (cc)
-motion_comes words program _ _ _ (ran n runs report reports) (inl is) = absurd (cc)
-motion_comes words program _ _ _ (ran n runs report reports) (inr (inl is)) = absurd (cc)
-motion_comes words program _ _ _ (ran n runs report reports) (inr (inr is)) = absurd (cc)
-motion_comes words program _ _ _ (compared number units output is_summary) (inl is) = absurd (cc)
-motion_comes words program _ _ _ (compared number units output is_summary) (inr (inl is)) = absurd (cc)
-motion_comes words program _ _ _ (compared number units output is_summary) (inr (inr is)) = absurd (cc)
+motion_comes words program command outcome output makes (inl is) =
+    let made : Makes words program Move outcome output = subst (λ (c : Command). Makes words program c outcome output) is makes in
+    subst (λ (o : Outcome). IsSome (reply_of o).moved) (sym made.outcome_is) refl
+motion_comes words program command outcome output makes (inr (inl is)) =
+    let made : Makes words program Ranges outcome output = subst (λ (c : Command). Makes words program c outcome output) is makes in
+    subst (λ (o : Outcome). IsSome (reply_of o).moved) (sym made.outcome_is) refl
+motion_comes words program command outcome output makes (inr (inr is)) =
+    let made : Makes words program Divisions outcome output = subst (λ (c : Command). Makes words program c outcome output) is makes in
+    subst (λ (o : Outcome). IsSome (reply_of o).moved) (sym made.outcome_is) refl
 
 -- so the field `moved` has the trail of all three
 pub motion : HasTrails HasMotion (λ (a : Reply). a.moved) (λ (t : MoveTrail). t.source) IsAny IsMotionOutput

@@ -19,7 +19,7 @@ comes_to_rest (suc more) source target made = elim made.1.1 [
   | inr goes ↦
       let rest = comes_to_rest more made.0 target goes.1 in record {
         count = suc rest.count;
-        turns = (made.0, made.1.0, rest.turns);
+        turns = (made.0, made.1.0, goes.0, rest.turns);
         few = omega (arith, rest.few);
         rests = λ fewer. rest.rests (omega (arith, fewer));
       }

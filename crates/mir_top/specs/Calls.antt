@@ -16,7 +16,7 @@ use Rattle.mir_top.specs.declared.command.Command.{Command}
 use Rattle.mir_top.specs.declared.ending.Ending.{Ending}
 use Rattle.mir_top.specs.declared.ending.Ending.TheVariants.{Done, CutShort, Prevented}
 use Rattle.mir_top.specs.declared.outcome.Outcome.{Outcome}
-use Rattle.mir_top.specs.declared.outcome.Outcome.TheVariants.{Optimised, Shown, Moved, Ranged, Divided, Tailed, Joined, Turned, Chained, Ran, Compared}
+use Rattle.mir_top.specs.declared.outcome.Outcome.TheVariants.{Optimised, Shown, Moved, Ranged, Divided, Rewritten, Ran, Compared}
 use Rattle.mir_top.specs.Commands.{command_of, Reads}
 use Rattle.mir_top.specs.Complaints.{Complaint, complaint_of, write_fault}
 use Rattle.mir_top.specs.Due.{WorksOn, status_of_finish}
@@ -41,10 +41,7 @@ reply_of (Shown trail) = record { status = 0; trail = Some trail; moved = None }
 reply_of (Moved trail) = record { status = 0; trail = None; moved = Some trail }
 reply_of (Ranged trail) = record { status = 0; trail = None; moved = Some trail }
 reply_of (Divided trail) = record { status = 0; trail = None; moved = Some trail }
-reply_of Tailed = record { status = 0; trail = None; moved = None }
-reply_of Joined = record { status = 0; trail = None; moved = None }
-reply_of Turned = record { status = 0; trail = None; moved = None }
-reply_of Chained = record { status = 0; trail = None; moved = None }
+reply_of Rewritten = record { status = 0; trail = None; moved = None }
 reply_of (Ran finish) = record { status = status_of_finish finish; trail = None; moved = None }
 reply_of Compared = record { status = 0; trail = None; moved = None }
 

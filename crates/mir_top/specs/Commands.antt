@@ -76,6 +76,10 @@ command_of (word ∷ arguments) =
 abbrev pub Asks : List (List ℕ) → Type 0
 Asks words = IsSome (command_of words)
 
+-- the words are those of a run
+abbrev pub AsksRun : List (List ℕ) → Type 0
+AsksRun words = (steps : ℕ) × (command_of words ≡ Some (Run steps))
+
 -- whether a command works on the text that the source gives
 abbrev pub reads_text : Command → Bool
 reads_text Optimise = true

@@ -11,18 +11,13 @@ use Rattle.mir_parse.specs.Spells.{IsTextRefusal}
 use Rattle.mir_sim.specs.Calls.{CallsHigher}
 use Rattle.mir_trial.specs.Trial.{trial_program}
 use Rattle.mir_valid.specs.declared.faults.ValidFault.{ValidFault}
-use Rattle.mir_valid.specs.Texts.{IsTextOf}
 use Rattle.mir_top.specs.declared.command.Command.{Command}
 use Rattle.mir_top.specs.declared.command.Command.TheVariants.{Optimise, Stages, Move, Ranges, Divisions, Tails, Join, Thorough, Passes, Run, Trial}
 use Rattle.mir_top.specs.Commands.{command_of, inputs_in, Reads}
 use Rattle.mir_top.specs.Complaints.{Complaint, usage, wrong_inputs, too_long, deep, of_text, of_program}
 use Rattle.mir_top.specs.Outputs.{Runs, reported}
 use Rattle.mir_top.specs.Texts.{IsInvalid}
-
--- the text is that of this program, and within the limit
-pub record IsShortTextOf (text : List ℕ) (program : ProgramShape) : Type 0 where
-  pub short : length text ≤ most_bytes
-  pub parsed : IsTextOf text program
+pub use Rattle.mir_top.specs.Texts.{IsShortTextOf}
 
 -- the program that a command works on: that of the text, and for `trial` the one that its numbers draw
 abbrev pub WorksOn : Command → List ℕ → ProgramShape → Type 0

@@ -5,8 +5,7 @@ use Rattle.std.specs.Fmt.{signed_decimal}
 use Rattle.mir_base.specs.declared.operators.Trap.TheVariants.{ZeroDivisor, Raised}
 use Rattle.mir_base.specs.Limits.{most_frames, most_steps}
 use Rattle.mir_base.specs.Shapes.{ProgramShape}
-use Rattle.mir_base.specs.Runs.{State, run, inputs_of}
-use Rattle.mir_base.specs.Text.{canonical_text}
+use Rattle.mir_base.specs.Runs.{IsPrefix, State, run, inputs_of}
 use Rattle.mir_interp.specs.declared.report.Finish.{Finish}
 use Rattle.mir_interp.specs.declared.report.Finish.TheVariants.{Running, Ended, Trapped}
 use Rattle.mir_interp.specs.declared.report.Report.{Report}
@@ -23,7 +22,7 @@ use Rattle.mir_opt.specs.Divisions.{DivisionsReachTarget, DivisionsStay, MotionK
 use Rattle.mir_opt.specs.Stages.{KeepsProgram}
 use Rattle.pass_chain.specs.declared.passes.Pass.{Pass}
 use Rattle.pass_chain.specs.Passes.{IsChained}
-use Rattle.program_pass.specs.PassPrograms.{IsPassedProgram, Rewrites}
+use Rattle.program_pass.specs.PassPrograms.{IsPassedProgram, Rewrites, heads_of}
 use Rattle.program_turns.specs.Turns.{IsThorough, turn}
 use Rattle.tail_loop.specs.Tails.{Tailed as IsTailed}
 use Rattle.unit_join.specs.JoinPrograms.{IsJoinedProgram}
@@ -31,23 +30,27 @@ use Rattle.mir_top.specs.Commands.{inputs_in}
 use Rattle.mir_top.specs.PassWords.{passes_in}
 use Rattle.mir_top.specs.RangeTexts.{UnitHoldsLeast, ShowsRanges}
 use Rattle.mir_top.specs.StageTexts.{ShowsStages}
+use Rattle.mir_top.specs.Texts.{IsWritten}
 use Rattle.mir_top.specs.declared.command.Command.{Command}
 use Rattle.mir_top.specs.declared.command.Command.TheVariants.{Optimise, Stages, Move, Ranges, Divisions, Tails, Join, Thorough, Passes, Run, Trial}
 use Rattle.mir_top.specs.declared.making.Made.{Made}
 use Rattle.mir_top.specs.declared.outcome.Outcome.{Outcome}
-use Rattle.mir_top.specs.declared.outcome.Outcome.TheVariants.{Optimised, Shown, Moved, Ranged, Divided, Tailed, Joined, Turned, Chained, Ran, Compared}
+use Rattle.mir_top.specs.declared.outcome.Outcome.TheVariants.{Optimised, Shown, Moved, Ranged, Divided, Rewritten, Ran, Compared}
 
 -- ---- trails
 
 -- from a program to its target: each part between them is the exact result of its pass, and no
 -- other parts are; the target does what the program does, whole and unit by unit, evaluates no more
--- operators over whole runs that end, never has more frames, and calls no other units; and what the
--- passes reach is the best
+-- operators over whole runs that end, never has more frames, and calls no other units; it has the
+-- globals of the program, and its units have their names and as many receives; and what the passes
+-- reach is the best
 pub record Improves
     (Linked Only Best : Type 0) (source target : ProgramShape) : Type 0 where
   pub linked : Linked
   pub only : Only
   pub keeps : KeepsProgram source target
+  pub globals : target.globals ≡ source.globals
+  pub heads : heads_of target ≡ heads_of source
   pub best : Best
 
 -- what all passes reach: in each unit the code motion is the best; sinking leaves no more of any plain or movable
@@ -89,13 +92,14 @@ LoopsTails = Rewrites (IsPassedProgram IsTailed)
 abbrev pub JoinsUnits : ProgramShape → ProgramShape → Type 0
 JoinsUnits = Rewrites IsJoinedProgram
 
--- so many turns lead from the source to the target
+-- so many turns lead from the source to the target, each of which changed the program
 abbrev pub AreTurns : ℕ → ProgramShape → ProgramShape → Type 0
 AreTurns zero source target = target ≡ source
 AreTurns (suc count) source target =
-    (next : ProgramShape) × IsChained turn source next × AreTurns count next target
+    (next : ProgramShape) × IsChained turn source next × (next ≢ source) × AreTurns count next target
 
--- the target is what at most so many turns lead to; where fewer do, one turn more changes nothing
+-- the target is what at most so many turns lead to, each of which changed the program; where fewer do, one turn more
+-- changes nothing
 pub record ComesToRest (most : ℕ) (source target : ProgramShape) : Type 0 where
   pub count : ℕ
   pub turns : AreTurns count source target
@@ -135,6 +139,11 @@ report_text report =
 abbrev pub reported : ProgramShape → List ℤ → ℕ → Report
 reported program inputs steps = report_of (run program inputs steps)
 
+-- a report of more steps goes on from one of fewer: it begins with its lines, and where the run was over it is the same
+pub record GoesOn (report later : Report) : Type 0 where
+  pub lines : IsPrefix report.lines later.lines
+  pub over : report.finish ≢ Running → later ≡ report
+
 -- the inputs are as many as the program receives, and the run stays within the most frames
 pub record Runs (program : ProgramShape) (inputs : List ℤ) (steps : ℕ) : Type 0 where
   pub enough : length inputs ≡ inputs_of program
@@ -173,49 +182,89 @@ trail_summary trail =
     summary_text trail.source trail.target
     (report_of (trial_run trail.source)) (report_of (trial_run trail.target))
 
+-- where the trial's runs of both end, that of the target has evaluated no more operators
+abbrev pub EvaluatesNoMore : Trail → Type 0
+EvaluatesNoMore trail = (one other : ℤ)
+    → (report_of (trial_run trail.source)).finish ≡ Ended one
+    → (report_of (trial_run trail.target)).finish ≡ Ended other
+    → (report_of (trial_run trail.target)).evals ≤ (report_of (trial_run trail.source)).evals
+
 -- the output is the summary of the trail of the program
 pub record IsSummary (program : ProgramShape) (output : List ℕ) : Type 0 where
   pub trail : Trail
   pub source : trail.source ≡ program
   pub optimises : Optimises trail
+  pub no_more : EvaluatesNoMore trail
   pub output_is : output ≡ trail_summary trail
 
 -- ---- by command
 
+-- the outcome and the output are those of a trail of the program, which has reached this, and of which this is shown
+pub record ShowsTrail {T : Type 0} (source_of : T → ProgramShape) (Reached : T → Type 0) (Shows : T → List ℕ → Type 0)
+    (outcome_of : T → Outcome) (program : ProgramShape) (outcome : Outcome) (output : List ℕ) : Type 0 where
+  pub trail : T
+  pub source : source_of trail ≡ program
+  pub reached : Reached trail
+  pub shows : Shows trail output
+  pub outcome_is : outcome ≡ outcome_of trail
+
+-- they are those of the text of a program that is made of this one
+pub record WritesTarget (Gives : ProgramShape → ProgramShape → Type 0)
+    (program : ProgramShape) (outcome : Outcome) (output : List ℕ) : Type 0 where
+  pub target : ProgramShape
+  pub gives : Gives program target
+  pub written : IsWritten target output
+  pub outcome_is : outcome ≡ Rewritten
+
+-- they are those of the report of a run
+pub record WritesReport (program : ProgramShape) (inputs : List ℤ) (steps : ℕ)
+    (outcome : Outcome) (output : List ℕ) : Type 0 where
+  pub runs : Runs program inputs steps
+  pub outcome_is : outcome ≡ Ran (reported program inputs steps).finish
+  pub output_is : output ≡ report_text (reported program inputs steps)
+
+-- they are those of a trial
+pub record WritesSummary (program : ProgramShape) (outcome : Outcome) (output : List ℕ) : Type 0 where
+  pub summary : IsSummary program output
+  pub outcome_is : outcome ≡ Compared
+
+-- the same of a trail of all passes
+abbrev pub ShowsPasses :
+    (Trail → List ℕ → Type 0) → (Trail → Outcome) → ProgramShape → Outcome → List ℕ → Type 0
+ShowsPasses = ShowsTrail {T = Trail} (λ trail. trail.source) Optimises
+
+-- and of a trail of motion alone
+abbrev pub ShowsMotion : (MoveTrail → Type 0) → (MoveTrail → List ℕ → Type 0) → (MoveTrail → Outcome)
+    → ProgramShape → Outcome → List ℕ → Type 0
+ShowsMotion = ShowsTrail {T = MoveTrail} (λ trail. trail.source)
+
 -- the command of these words makes this of the program, with this output: the words give the inputs of a run and the
 -- passes of a chain
-pub data Makes (words : List (List ℕ)) (program : ProgramShape)
-    : Command → Outcome → List ℕ → Type 0 where
-  optimised : (trail : Trail) → trail.source ≡ program → Optimises trail
-      → Makes words program Optimise (Optimised trail) (canonical_text trail.target)
-  shown : (trail : Trail) → trail.source ≡ program → Optimises trail
-      → (text : List ℕ) → ShowsStages trail text
-      → Makes words program Stages (Shown trail) text
-  moved : (trail : MoveTrail) → trail.source ≡ program → MovesCode trail
-      → Makes words program Move (Moved trail) (canonical_text trail.target)
-  ranged : (trail : MoveTrail) → trail.source ≡ program → MovesCode trail
-      → (text : List ℕ) → ShowsRanges trail.units text
-      → Makes words program Ranges (Ranged trail) text
-  divided : (trail : MoveTrail) → trail.source ≡ program → Divides trail
-      → Makes words program Divisions (Divided trail) (canonical_text trail.target)
-  tailed : (target : ProgramShape) → LoopsTails program target
-      → Makes words program Tails Tailed (canonical_text target)
-  joined : (target : ProgramShape) → JoinsUnits program target
-      → Makes words program Join Joined (canonical_text target)
-  turned : (target : ProgramShape) → TurnsThrough program target
-      → Makes words program Thorough Turned (canonical_text target)
-  chained : (target : ProgramShape) → ChainsThrough (passes_in words) program target
-      → Makes words program Passes Chained (canonical_text target)
-  ran : (steps : ℕ) → Runs program (inputs_in words) steps
-      → (report : Report) → report ≡ reported program (inputs_in words) steps
-      → Makes words program (Run steps) (Ran report.finish) (report_text report)
-  compared : (number units : ℕ) (output : List ℕ) → IsSummary program output
-      → Makes words program (Trial number units) Compared output
+abbrev pub Makes : List (List ℕ) → ProgramShape → Command → Outcome → List ℕ → Type 0
+Makes words program Optimise = ShowsPasses (λ trail. IsWritten trail.target) Optimised program
+Makes words program Stages = ShowsPasses ShowsStages Shown program
+Makes words program Move = ShowsMotion MovesCode (λ trail. IsWritten trail.target) Moved program
+Makes words program Ranges = ShowsMotion MovesCode (λ trail. ShowsRanges trail.units) Ranged program
+Makes words program Divisions = ShowsMotion Divides (λ trail. IsWritten trail.target) Divided program
+Makes words program Tails = WritesTarget LoopsTails program
+Makes words program Join = WritesTarget JoinsUnits program
+Makes words program Thorough = WritesTarget TurnsThrough program
+Makes words program Passes = WritesTarget (ChainsThrough (passes_in words)) program
+Makes words program (Run steps) = WritesReport program (inputs_in words) steps
+Makes words program (Trial number units) = WritesSummary program
 
 -- the same of the outcome and the output together
 abbrev pub IsMadeBy : List (List ℕ) → ProgramShape → Command → Made → Type 0
 IsMadeBy words program command made =
     Makes words program command made.outcome made.output.items
+
+-- a command whose output does not depend on the words behind its own makes this of the program
+abbrev pub IsMadeAlone : ProgramShape → Command → Made → Type 0
+IsMadeAlone = IsMadeBy []
+
+-- memory ran out
+abbrev pub IsWantOfMemory : RunFault → Type 0
+IsWantOfMemory fault = (refusal : AllocError) × (fault ≡ Memory refusal)
 
 -- the command of these words cannot make anything of the program, for this cause
 pub data CannotMake (words : List (List ℕ)) (program : ProgramShape) : Command → RunFault → Type 0 where

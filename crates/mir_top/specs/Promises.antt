@@ -1,9 +1,8 @@
 -- What `top` promises of every call. Cited by contracts.
-use Rattle.std.specs.Prelude.{ℕ, ◌≡◌, ◌+◌, ◌<◌, ◌≤◌, ◌↔◌, ◌⊎◌, List, [], ◌∷◌, length, Some, None, IsSome, IfSome, Contains}
+use Rattle.std.specs.Prelude.{ℕ, ◌≡◌, ◌+◌, ◌<◌, ◌≤◌, ◌↔◌, ◌⊎◌, Option, List, [], ◌∷◌, length, Some, None, IsSome, IfSome, Contains}
 use Rattle.std.specs.Io.KnownBytes.{IsAtEnd}
 use Rattle.mir_base.specs.Limits.{most_bytes}
 use Rattle.mir_base.specs.Shapes.{ProgramShape}
-use Rattle.mir_base.specs.Text.{canonical_text}
 use Rattle.mir_opt.specs.declared.trails.Trail.{Trail}
 use Rattle.mir_opt.specs.declared.trails.MoveTrail.{MoveTrail}
 use Rattle.mir_outside.specs.Transfer.{TakesAtMost}
@@ -15,11 +14,12 @@ use Rattle.mir_top.specs.Calls.{Call, reply_of, MakesOutput, IsDone, IsCutShort}
 use Rattle.mir_top.specs.Commands.{command_of, inputs_in, Asks, Reads}
 use Rattle.mir_top.specs.Complaints.{Complaint, read_fault, write_fault, out_of_memory}
 use Rattle.mir_top.specs.Due.{IsShortTextOf, Refuses, Completes, status_of_finish}
-use Rattle.mir_top.specs.Outputs.{ChainsThrough, Divides, JoinsUnits, LoopsTails, Optimises, MovesCode, Runs, TurnsThrough, reported, report_text, trail_summary, IsOnlyOutput}
+use Rattle.mir_top.specs.Outputs.{ChainsThrough, Divides, EvaluatesNoMore, GoesOn, JoinsUnits, LoopsTails, Optimises, MovesCode, Runs, TurnsThrough, reported, report_text, trail_summary, IsOnlyOutput}
 use Rattle.mir_top.specs.PassWords.{passes_in}
 use Rattle.mir_top.specs.RangeTexts.{ShowsRanges}
 use Rattle.mir_top.specs.StageTexts.{ShowsStages}
-use Rattle.mir_top.specs.Streams.{Stream, Untouched, HasFailed, Took, TookAll, Gave, Tried}
+use Rattle.mir_top.specs.Texts.{IsWritten}
+use Rattle.mir_top.specs.Streams.{Stream, StartsWith, Untouched, HasFailed, Took, TookAll, Gave, Tried}
 
 -- ---- what was read
 
@@ -58,12 +58,18 @@ pub record HasCutShort (call : Call) : Type 0 where
   pub cut : IsCutShort call.words call.source call.out
   pub only : IsOnlyMade call cut.outcome cut.output cut.made
 
--- the source was read, the target improves it, and its text was written, whole and nothing else
+-- a text of this program was written, whole and nothing else; within the limits it is read as this program alone
+pub record GaveProgram (stream : Stream) (program : ProgramShape) : Type 0 where
+  pub text : List ℕ
+  pub is : IsWritten program text
+  pub gave : Gave stream text
+
+-- the source was read, the target improves it, and its text was written
 pub record HasImproved
     (call : Call) (Improved : Type 0) (source target : ProgramShape) : Type 0 where
   pub read : HasRead call.source source
   pub improves : Improved
-  pub written : Gave call.out (canonical_text target)
+  pub written : GaveProgram call.out target
 
 -- this with source and target of the trail of all passes
 abbrev pub HasOptimised : Call → Trail → Type 0
@@ -93,15 +99,16 @@ pub record HasRanged (call : Call) (trail : MoveTrail) : Type 0 where
 abbrev pub HasDivided : Call → MoveTrail → Type 0
 HasDivided call trail = HasImproved call (Divides trail) trail.source trail.target
 
--- the program that was read was rewritten like this, and the text of the target was written, whole and nothing else
-pub record HasRewritten (call : Call) (Rewritten : ProgramShape → ProgramShape → Type 0) : Type 0 where
+-- the program that was read was rewritten like this, and the text of the target was written
+pub record HasRewritten (call : Call) (Gives : ProgramShape → ProgramShape → Type 0) : Type 0 where
   pub source : ProgramShape
   pub target : ProgramShape
   pub read : HasRead call.source source
-  pub rewrites : Rewritten source target
-  pub written : Gave call.out (canonical_text target)
+  pub gives : Gives source target
+  pub written : GaveProgram call.out target
 
--- the report of the run of the program that was read was written, and the status is that of its end
+-- the report of the run of the program that was read was written, and the status is that of its end; a report of more
+-- steps would go on from this one
 pub record HasRun (call : Call) (steps : ℕ) : Type 0 where
   pub program : ProgramShape
   pub read : HasRead call.source program
@@ -109,12 +116,16 @@ pub record HasRun (call : Call) (steps : ℕ) : Type 0 where
   pub status : call.reply.status
       ≡ status_of_finish (reported program (inputs_in call.words) steps).finish
   pub written : Gave call.out (report_text (reported program (inputs_in call.words) steps))
+  pub goes_on : (more : ℕ) → GoesOn (reported program (inputs_in call.words) steps)
+      (reported program (inputs_in call.words) (steps + more))
 
--- the summary of the trail of this program was written, whole and nothing else
+-- the summary of the trail of this program was written, whole and nothing else; where both runs end, that of the target
+-- has evaluated no more operators
 pub record HasTried (call : Call) (program : ProgramShape) : Type 0 where
   pub trail : Trail
   pub source : trail.source ≡ program
   pub improves : Optimises trail
+  pub no_more : EvaluatesNoMore trail
   pub written : Gave call.out (trail_summary trail)
 
 -- ---- what was refused
@@ -169,8 +180,8 @@ pub record Promises (call : Call) : Type 0 where
   pub moves : Asked call Move → IfSome call.reply.moved (HasMoved call)
   pub ranges : Asked call Ranges → IfSome call.reply.moved (HasRanged call)
   pub divisions : Asked call Divisions → IfSome call.reply.moved (HasDivided call)
-  -- Under `tails`, `join`, `thorough` and `passes` status 0 says that the program was rewritten, and its text was
-  -- written.
+  -- Under `tails`, `join`, `thorough` and `passes` status 0 says that the program was rewritten, and the text of what
+  -- came of it was written.
   pub tails : Asked call Tails → StatusIs call 0 → HasRewritten call LoopsTails
   pub joins : Asked call Join → StatusIs call 0 → HasRewritten call JoinsUnits
   pub turns : Asked call Thorough → StatusIs call 0 → HasRewritten call TurnsThrough
@@ -206,6 +217,14 @@ pub record Promises (call : Call) : Type 0 where
   pub complete : (text : List ℕ) (status : ℕ) → HasText call text
       → Completes call.words text status → StatusIn call (status ∷ 6 ∷ 7 ∷ 8 ∷ [])
 
--- a call with these words, of which all this holds, ended with this status
-abbrev pub IsStatusOfCall : List (List ℕ) → ℕ → Type 0
-IsStatusOfCall words status = (call : Call) × (call.words ≡ words) × Promises call × StatusIs call status
+-- a call with these words, of which all this holds, ended with this status; its source and its two outputs began with
+-- these bytes, as far as they can be observed, and without a fault
+pub record IsStatusOfCall
+    (words : List (List ℕ)) (source out err : Option (List ℕ)) (status : ℕ) : Type 0 where
+  pub call : Call
+  pub words_are : call.words ≡ words
+  pub source_starts : StartsWith call.source source
+  pub out_starts : StartsWith call.out out
+  pub err_starts : StartsWith call.err err
+  pub promises : Promises call
+  pub status_is : StatusIs call status

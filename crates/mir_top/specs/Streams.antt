@@ -25,6 +25,11 @@ stream_of bytes faults old new = record {
 abbrev pub without_fault : Option (List ℕ) → Option (List ℕ) → Stream
 without_fault old new = record { old = old; new = new; before = 0; after = 0 }
 
+-- a stream that begins with these bytes, as far as they can be observed, and in which no fault has occurred
+pub record StartsWith (stream : Stream) (bytes : Option (List ℕ)) : Type 0 where
+  pub bytes_are : stream.old ≡ bytes
+  pub no_fault : stream.before ≡ 0
+
 -- the bytes and the count are as before the call
 abbrev pub Untouched : Stream → Type 0
 Untouched stream = (stream.new ≡ stream.old) × (stream.after ≡ stream.before)

@@ -3,7 +3,7 @@ ghost use Rattle.std.specs.Prelude.{◌≡◌, map, IfOk};
 ghost use Rattle.std.specs.List.{list_all};
 ghost use Rattle.mir_base.specs.Limits.{most_steps};
 ghost use Rattle.mir_base.specs.Words.{is_text};
-ghost use Rattle.mir_top.specs.Commands.{command_of, alone_of, chain_of, run_of, trial_of, trial_with, at_most, step_count, is_input, input_value, inputs_in, word_bytes};
+ghost use Rattle.mir_top.specs.Commands.{AsksRun, command_of, alone_of, chain_of, run_of, trial_of, trial_with, at_most, step_count, is_input, input_value, inputs_in, word_bytes};
 ghost use Rattle.mir_top.specs.PassWords.{are_passes};
 
 use crate::pass_words::are_passes;
@@ -29,7 +29,7 @@ pub enum Command {
     Tails,
     /// `join`: the canonical text of the program with its leaves joined into their callers.
     Join,
-    /// `thorough`: the canonical text of what turns of `tails`, `join`, `optimise`, `wanted` and `called` make of the
+    /// `thorough`: the canonical text of what turns of `tails`, `join`, `optimise`, `wanted`, `bounds` and `called` make of the
     /// program until a turn changes nothing.
     Thorough,
     /// `passes [PASS ..]`: the canonical text of what these passes make one after another, from the first to the last.
@@ -81,6 +81,7 @@ impl Command {
 
 /// The inputs that the words of a run give. It fails only with `Memory`.
 pub(crate) fn inputs(alloc: Global, words: &[String]) -> Result<Vec<i64>, Memory>
+    requires { AsksRun (word_bytes words.now) }
     ensures { IfOk result (λ inputs. inputs.items ≡ inputs_in (word_bytes words.now)) }
 {
     match words {

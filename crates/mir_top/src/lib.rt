@@ -2,10 +2,11 @@
 //! the words ask.
 //!
 //! In go the words, the bytes of the source and memory; out come the bytes on the output, a line of complaint on the
-//! error output, a status, and the programs that were read and made. The theorem is on `top`: what is written is the
-//! canonical text of a program that is the same as the one that was read, and whose code motion evaluates nothing more
-//! often on any full path than an admissible placement does, or that of the program at each stage on the way to it, or
-//! the report of its run; and every other reply has its cause.
+//! error output, a status, and the programs that were read and made. The theorem is on `top`: where the words ask for a
+//! program, what is written is the canonical text of one that is the same as the one that was read; under `optimise`,
+//! `move`, `stages` and `ranges` its code motion evaluates nothing more often on any full path than an admissible
+//! placement does, and under `divisions` so it is of divisions. Else it is the text of each stage, of ranges, the report
+//! of a run or the summary of a trial; and every other reply has its cause.
 #![tactic(auto)]
 
 mod call;

@@ -1,26 +1,23 @@
 // From a program to the output.
-ghost use Rattle.std.specs.Prelude.{◌≡◌, IfOk, IfErr};
-ghost use Rattle.mir_base.specs.Shapes.{ProgramShape};
-ghost use Rattle.mir_base.specs.Text.{canonical_text};
-ghost use Rattle.mir_top.specs.Commands.{word_bytes};
+ghost use Rattle.std.specs.Prelude.{◌≡◌, IfOk, IfErr, Ok, Some};
 ghost use Rattle.mir_opt.specs.Stages.{AllKeep, KeepsProgram, graph_at};
-ghost use Rattle.mir_top.specs.Due.{Needs};
-ghost use Rattle.mir_top.specs.PassWords.{passes_in};
-ghost use Rattle.mir_top.specs.RangeTexts.{ShowsRanges};
-ghost use Rattle.mir_top.specs.StageTexts.{ShowsStages};
-ghost use Rattle.mir_top.specs.Outputs.{CannotMake, ChainsThrough, Divides, IsMadeBy, JoinsUnits, LoopsTails, MovesCode, Optimises, TurnsThrough};
+ghost use Rattle.mir_top.specs.Commands.{command_of, word_bytes};
+ghost use Rattle.mir_top.specs.Due.{CanBeTried, Needs};
+ghost use Rattle.mir_top.specs.Outputs.{CannotMake, IsMadeAlone, IsMadeBy, IsWantOfMemory, Optimises, TurnsThrough};
+ghost use Rattle.mir_top.specs.Texts.{IsWritten};
 
 use crate::command::inputs;
+use crate::dividing::best_motion;
 use crate::pass_words::passes;
-use crate::ranges::{moves_hold_least, text_of_ranges};
+use crate::ranges::text_of_ranges;
 use crate::report_text::text_of_report;
 use crate::stages::text_of_stages;
 use crate::trial::trial;
 use crate::{Command, Outcome, best_divisions};
 use mir_base::{Memory, Program};
 use mir_interp::{RunFault, run};
-use mir_opt::{MoveTrail, Trail, motion, optimise};
-use mir_print::print;
+use mir_opt::{Trail, optimise};
+use mir_print::{print, text_is_read_back};
 use pass_chain::chain_program;
 use program_turns::thorough_program;
 use std::alloc::Global;
@@ -44,94 +41,56 @@ pub(crate) fn make(
     words: &[String],
     program: &Program,
 ) -> Result<Made, RunFault>
-    requires { Needs command program.now }
+    requires asked { command_of (word_bytes words.now) ≡ Some command }
+    requires needs { Needs command program.now }
     ensures made { IfOk result (IsMadeBy (word_bytes words.now) program.now command) }
     ensures stopped { IfErr result (CannotMake (word_bytes words.now) program.now command) }
 {
     match command {
-        Command::Optimise => match optimised(alloc, program) {
-            Ok((trail, output)) => Ok(Made {
-                outcome: Outcome::Optimised(trail),
-                output,
-            }),
-            Err(refusal) => Err(RunFault::Memory(refusal)),
-        },
-        Command::Stages => match shown(alloc, program) {
-            Ok((trail, output)) => Ok(Made {
-                outcome: Outcome::Shown(trail),
-                output,
-            }),
-            Err(refusal) => Err(RunFault::Memory(refusal)),
-        },
-        Command::Move => match moved(alloc, program) {
-            Ok((trail, output)) => Ok(Made {
-                outcome: Outcome::Moved(trail),
-                output,
-            }),
-            Err(refusal) => Err(RunFault::Memory(refusal)),
-        },
-        Command::Ranges => match ranged(alloc, program) {
-            Ok((trail, output)) => Ok(Made {
-                outcome: Outcome::Ranged(trail),
-                output,
-            }),
-            Err(refusal) => Err(RunFault::Memory(refusal)),
-        },
-        Command::Divisions => match divided(alloc, program) {
-            Ok((trail, output)) => Ok(Made {
-                outcome: Outcome::Divided(trail),
-                output,
-            }),
-            Err(refusal) => Err(RunFault::Memory(refusal)),
-        },
-        Command::Tails => match tailed(alloc, program) {
-            Ok(output) => Ok(Made {
-                outcome: Outcome::Tailed,
-                output,
-            }),
-            Err(refusal) => Err(RunFault::Memory(refusal)),
-        },
-        Command::Join => match joined(alloc, program) {
-            Ok(output) => Ok(Made {
-                outcome: Outcome::Joined,
-                output,
-            }),
-            Err(refusal) => Err(RunFault::Memory(refusal)),
-        },
-        Command::Thorough => match turned(alloc, program) {
-            Ok(output) => Ok(Made {
-                outcome: Outcome::Turned,
-                output,
-            }),
-            Err(refusal) => Err(RunFault::Memory(refusal)),
-        },
-        Command::Passes => match chained(alloc, words, program) {
-            Ok(output) => Ok(Made {
-                outcome: Outcome::Chained,
-                output,
-            }),
-            Err(refusal) => Err(RunFault::Memory(refusal)),
-        },
+        Command::Optimise => or_stopped(optimised(alloc, program)),
+        Command::Stages => or_stopped(shown(alloc, program)),
+        Command::Move => or_stopped(moved(alloc, program)),
+        Command::Ranges => or_stopped(ranged(alloc, program)),
+        Command::Divisions => or_stopped(divided(alloc, program)),
+        Command::Tails => or_stopped(tailed(alloc, program)),
+        Command::Join => or_stopped(joined(alloc, program)),
+        Command::Thorough => or_stopped(turned(alloc, program)),
+        Command::Passes => or_stopped(chained(alloc, words, program)),
         Command::Run(steps) => ran(alloc, words, program, steps),
-        Command::Trial(_, _) => match trial(alloc, program) {
-            Ok(output) => Ok(Made {
-                outcome: Outcome::Compared,
-                output,
-            }),
-            Err(refusal) => Err(RunFault::Memory(refusal)),
-        },
+        Command::Trial(_, _) => or_stopped(tried(alloc, program)),
     }
 }
 
-/// What the passes make of the program, and the text of its target.
-fn optimised(alloc: Global, program: &Program) -> Result<(Trail, Vec<u8>), Memory>
-    ensures source { IfOk result (λ made. made.0.source ≡ program.now) }
-    ensures optimises { IfOk result (λ made. Optimises made.0) }
-    ensures output { IfOk result (λ made. made.1.items ≡ canonical_text made.0.target) }
+/// What was made, where nothing but want of memory could stop it.
+fn or_stopped(made: Result<Made, Memory>) -> Result<Made, RunFault>
+    ensures made { IfOk result (λ value. made ≡ Ok value) }
+    ensures stopped { IfErr result IsWantOfMemory }
+{
+    match made {
+        Ok(made) => Ok(made),
+        Err(refusal) => Err(RunFault::Memory(refusal)),
+    }
+}
+
+/// The canonical text of a program. It carries the theorem that within the limits this is read as the program.
+fn text_of(alloc: Global, program: &Program) -> Result<Vec<u8>, Memory>
+    ensures { IfOk result (λ text. IsWritten program.now text.items) }
+{
+    text_is_read_back(program);
+    let text = print(alloc, program)?;
+    Ok(text)
+}
+
+/// What the passes make of the program, with the text of its target.
+fn optimised(alloc: Global, program: &Program) -> Result<Made, Memory>
+    ensures { IfOk result (IsMadeAlone program.now Command.Optimise) }
 {
     let trail = trail_of(alloc, program)?;
-    let output = print(alloc, &trail.target)?;
-    Ok((trail, output))
+    let output = text_of(alloc, &trail.target)?;
+    Ok(Made {
+        outcome: Outcome::Optimised(trail),
+        output,
+    })
 }
 
 /// What the passes make of the program.
@@ -145,80 +104,91 @@ pub(crate) fn trail_of(alloc: Global, program: &Program) -> Result<Trail, Memory
     Ok(trail)
 }
 
-/// What the passes make of the program, and the texts of its stages.
-fn shown(alloc: Global, source: &Program) -> Result<(Trail, Vec<u8>), Memory>
-    ensures source { IfOk result (λ made. made.0.source ≡ source.now) }
-    ensures optimises { IfOk result (λ made. Optimises made.0) }
-    ensures output { IfOk result (λ made. ShowsStages made.0 made.1.items) }
+/// What the passes make of the program, with the texts of its stages.
+fn shown(alloc: Global, source: &Program) -> Result<Made, Memory>
+    ensures { IfOk result (IsMadeAlone source.now Command.Stages) }
 {
     let trail = trail_of(alloc, source)?;
     let output = text_of_stages(alloc, &trail)?;
-    Ok((trail, output))
+    Ok(Made {
+        outcome: Outcome::Shown(trail),
+        output,
+    })
 }
 
-/// What code motion alone makes of the program, and the text of its target.
-fn moved(alloc: Global, program: &Program) -> Result<(MoveTrail, Vec<u8>), Memory>
-    ensures source { IfOk result (λ made. made.0.source ≡ program.now) }
-    ensures moves { IfOk result (λ made. MovesCode made.0) }
-    ensures output { IfOk result (λ made. made.1.items ≡ canonical_text made.0.target) }
+/// What code motion alone makes of the program, with the text of its target.
+fn moved(alloc: Global, program: &Program) -> Result<Made, Memory>
+    ensures { IfOk result (IsMadeAlone program.now Command.Move) }
 {
-    let trail = motion(alloc, program)?;
-    moves_hold_least(&trail);
-    let output = print(alloc, &trail.target)?;
-    Ok((trail, output))
+    let trail = best_motion(alloc, program)?;
+    let output = text_of(alloc, &trail.target)?;
+    Ok(Made {
+        outcome: Outcome::Moved(trail),
+        output,
+    })
 }
 
-/// What code motion alone makes of the program, and the text of where its temporaries are held.
-fn ranged(alloc: Global, program: &Program) -> Result<(MoveTrail, Vec<u8>), Memory>
-    ensures source { IfOk result (λ made. made.0.source ≡ program.now) }
-    ensures moves { IfOk result (λ made. MovesCode made.0) }
-    ensures output { IfOk result (λ made. ShowsRanges made.0.units made.1.items) }
+/// What code motion alone makes of the program, with the text of where its temporaries are held.
+fn ranged(alloc: Global, program: &Program) -> Result<Made, Memory>
+    ensures { IfOk result (IsMadeAlone program.now Command.Ranges) }
 {
-    let trail = motion(alloc, program)?;
-    moves_hold_least(&trail);
+    let trail = best_motion(alloc, program)?;
     let output = text_of_ranges(alloc, &trail)?;
-    Ok((trail, output))
+    Ok(Made {
+        outcome: Outcome::Ranged(trail),
+        output,
+    })
 }
 
-/// What the motion of divisions alone makes of the program, and the text of its target.
-fn divided(alloc: Global, program: &Program) -> Result<(MoveTrail, Vec<u8>), Memory>
-    ensures source { IfOk result (λ made. made.0.source ≡ program.now) }
-    ensures divides { IfOk result (λ made. Divides made.0) }
-    ensures output { IfOk result (λ made. made.1.items ≡ canonical_text made.0.target) }
+/// What the motion of divisions alone makes of the program, with the text of its target.
+fn divided(alloc: Global, program: &Program) -> Result<Made, Memory>
+    ensures { IfOk result (IsMadeAlone program.now Command.Divisions) }
 {
     let trail = best_divisions(alloc, program)?;
-    let output = print(alloc, &trail.target)?;
-    Ok((trail, output))
+    let output = text_of(alloc, &trail.target)?;
+    Ok(Made {
+        outcome: Outcome::Divided(trail),
+        output,
+    })
+}
+
+/// The text of a program that was made of another.
+fn rewritten(alloc: Global, target: &Program) -> Result<Made, Memory>
+    ensures outcome { IfOk result (λ made. made.outcome ≡ Outcome.Rewritten) }
+    ensures output { IfOk result (λ made. IsWritten target.now made.output.items) }
+{
+    let output = text_of(alloc, target)?;
+    Ok(Made {
+        outcome: Outcome::Rewritten,
+        output,
+    })
 }
 
 /// The text of the program with self tail calls as loops.
-fn tailed(alloc: Global, program: &Program) -> Result<Vec<u8>, Memory>
-    ensures { IfOk result (λ output. (target : ProgramShape)
-        × LoopsTails program.now target × (output.items ≡ canonical_text target)) }
+fn tailed(alloc: Global, program: &Program) -> Result<Made, Memory>
+    ensures { IfOk result (IsMadeAlone program.now Command.Tails) }
 {
     let target = tail_program(alloc, program)?;
-    let output = print(alloc, &target)?;
-    Ok(output)
+    let made = rewritten(alloc, &target)?;
+    Ok(made)
 }
 
 /// The text of the program with its leaves joined into their callers.
-fn joined(alloc: Global, program: &Program) -> Result<Vec<u8>, Memory>
-    ensures { IfOk result (λ output. (target : ProgramShape)
-        × JoinsUnits program.now target × (output.items ≡ canonical_text target)) }
+fn joined(alloc: Global, program: &Program) -> Result<Made, Memory>
+    ensures { IfOk result (IsMadeAlone program.now Command.Join) }
 {
     let target = join_program(alloc, program)?;
-    let output = print(alloc, &target)?;
-    Ok(output)
+    let made = rewritten(alloc, &target)?;
+    Ok(made)
 }
 
 /// The text of what turns of passes make of the program until a turn changes nothing.
-fn turned(alloc: Global, program: &Program) -> Result<Vec<u8>, Memory>
-    ensures { IfOk result (λ output. (target : ProgramShape)
-        × TurnsThrough program.now target × (output.items ≡ canonical_text target)) }
+fn turned(alloc: Global, program: &Program) -> Result<Made, Memory>
+    ensures { IfOk result (IsMadeAlone program.now Command.Thorough) }
 {
     let target = after_turns(alloc, program)?;
-    let output = print(alloc, &target)?;
-    Ok(output)
+    let made = rewritten(alloc, &target)?;
+    Ok(made)
 }
 
 /// What turns of passes make of the program until a turn changes nothing.
@@ -230,19 +200,19 @@ fn after_turns(alloc: Global, program: &Program) -> Result<Program, Memory>
 }
 
 /// The text of what the passes that the words give make of the program one after another.
-fn chained(alloc: Global, words: &[String], program: &Program) -> Result<Vec<u8>, Memory>
-    ensures { IfOk result (λ output. (target : ProgramShape)
-        × ChainsThrough (passes_in (word_bytes words.now)) program.now target
-        × (output.items ≡ canonical_text target)) }
+fn chained(alloc: Global, words: &[String], program: &Program) -> Result<Made, Memory>
+    requires { command_of (word_bytes words.now) ≡ Some Command.Passes }
+    ensures { IfOk result (IsMadeBy (word_bytes words.now) program.now Command.Passes) }
 {
     let passes = passes(alloc, words)?;
     let target = chain_program(alloc, &passes, program)?;
-    let output = print(alloc, &target)?;
-    Ok(output)
+    let made = rewritten(alloc, &target)?;
+    Ok(made)
 }
 
 /// The report of the run of so many steps with the inputs that the words give.
 fn ran(alloc: Global, words: &[String], program: &Program, steps: u64) -> Result<Made, RunFault>
+    requires { command_of (word_bytes words.now) ≡ Some (Command.Run steps) }
     ensures made { IfOk result (IsMadeBy (word_bytes words.now) program.now (Command.Run steps)) }
     ensures stopped { IfErr result
         (CannotMake (word_bytes words.now) program.now (Command.Run steps)) }
@@ -262,4 +232,16 @@ fn ran(alloc: Global, words: &[String], program: &Program, steps: u64) -> Result
         }),
         Err(refusal) => Err(RunFault::Memory(refusal)),
     }
+}
+
+/// The summary of the trial of the program.
+fn tried(alloc: Global, program: &Program) -> Result<Made, Memory>
+    requires { CanBeTried program.now }
+    ensures { IfOk result (IsMadeAlone program.now (Command.Trial 0 0)) }
+{
+    let output = trial(alloc, program)?;
+    Ok(Made {
+        outcome: Outcome::Compared,
+        output,
+    })
 }

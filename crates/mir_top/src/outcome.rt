@@ -20,14 +20,8 @@ pub enum Outcome {
     Ranged(MoveTrail),
     /// What the motion of divisions alone made of it.
     Divided(MoveTrail),
-    /// It with self tail calls as loops.
-    Tailed,
-    /// It with its leaves joined into their callers.
-    Joined,
-    /// What turns of passes made of it.
-    Turned,
-    /// What a chain of passes made of it.
-    Chained,
+    /// The program that a command made of it that writes this alone.
+    Rewritten,
     /// The report of its run, which stands like this.
     Ran(Finish),
     /// How its trial compares it with its target.
@@ -65,22 +59,7 @@ impl Outcome {
                 trail: None,
                 moved: Some(trail),
             },
-            Outcome::Tailed => Reply {
-                status: 0,
-                trail: None,
-                moved: None,
-            },
-            Outcome::Joined => Reply {
-                status: 0,
-                trail: None,
-                moved: None,
-            },
-            Outcome::Turned => Reply {
-                status: 0,
-                trail: None,
-                moved: None,
-            },
-            Outcome::Chained => Reply {
+            Outcome::Rewritten => Reply {
                 status: 0,
                 trail: None,
                 moved: None,

@@ -1,10 +1,11 @@
 // The passes of a chain, by their words.
-ghost use Rattle.std.specs.Prelude.{◌≡◌, map, IfOk};
+ghost use Rattle.std.specs.Prelude.{◌≡◌, map, IfOk, Some};
 ghost use Rattle.std.specs.List.{list_all};
 ghost use Rattle.mir_base.specs.Words.{is_text};
-ghost use Rattle.mir_top.specs.Commands.{word_bytes};
+ghost use Rattle.mir_top.specs.Commands.{command_of, word_bytes};
 ghost use Rattle.mir_top.specs.PassWords.{are_passes, is_pass, most_passes, pass_of, pass_value, passes_in};
 
+use crate::Command;
 use mir_base::{Memory, is_text};
 use pass_chain::Pass;
 use std::alloc::Global;
@@ -21,6 +22,7 @@ pub(crate) fn are_passes(words: &[String]) -> bool
 
 /// The passes that the words of `passes` give. It fails only with `Memory`.
 pub(crate) fn passes(alloc: Global, words: &[String]) -> Result<Vec<Pass>, Memory>
+    requires { command_of (word_bytes words.now) ≡ Some Command.Passes }
     ensures { IfOk result (λ passes. passes.items ≡ passes_in (word_bytes words.now)) }
 {
     match words {
@@ -76,6 +78,8 @@ fn pass_of(word: &[u8]) -> Option<Pass>
         Some(Pass::Divisions)
     } else if is_text(b"sink", word) {
         Some(Pass::Sink)
+    } else if is_text(b"bounds", word) {
+        Some(Pass::Bounds)
     } else if is_text(b"wanted", word) {
         Some(Pass::Wanted)
     } else if is_text(b"called", word) {

@@ -180,7 +180,7 @@ fn count_of(bits: usize, rows: &Rows, counts: &[usize], number: usize) -> usize
     }
 }
 
-/// The number after this one.
+/// The number after this one. Where that passes the greatest `usize`, it fails with `Memory`.
 fn next_number(number: usize) -> Result<usize, Memory>
     ensures { IfOk result (λ next. next ≡ number + 1) }
 {

@@ -194,7 +194,7 @@ const REFUSED_MEMORY: [(&str, &[u8], &[u8]); 10] = [
     ("divisions", EXPRESSIONS, DIVIDED),
     ("tails", CALLS, TAILS),
     ("join", CALLS, JOINED),
-    ("thorough", CALLS, TURNED),
+    ("thorough", CALLS, BOUNDED),
     ("passes tails join optimise called", CALLS, TURNED),
 ];
 
@@ -302,6 +302,18 @@ h3 <- n - 1
 n <- h3
 goto L1
 L2: return n
+end
+";
+
+/// And where it is known that what is returned is 0.
+const BOUNDED: &[u8] = b"\
+main: begin
+receive n(val)
+L1: if n = 0 goto L2
+h3 <- n - 1
+n <- h3
+goto L1
+L2: return 0
 end
 ";
 

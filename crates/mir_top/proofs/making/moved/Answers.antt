@@ -1,15 +1,11 @@
-use Rattle.std.specs.Prelude.{All}
-use Rattle.mir_base.specs.Shapes.{ProgramShape}
-use Rattle.mir_opt.specs.Best.{MotionIsBest}
-use Rattle.mir_opt.specs.Links.{IsMoveLinked, IsOnlyMoveTrail}
-use Rattle.mir_top.proofs.MadeLaws.{improves_from}
+use Rattle.std.proofs.Common.{refl}
 use Rattle.mir_top.proofs.making.moved.Goals as goal
 
-pub returns-clause-moves : goal.returns-clause-moves
-returns-clause-moves c =
-    let trail = c.in_ok-trail.trail in
-    let is = c.in_ok-trail.ensures in record {
-      improves = improves_from (IsMoveLinked trail) (λ (p : ProgramShape). IsOnlyMoveTrail p trail) (All MotionIsBest trail.units) c.args.program.now trail.source trail.target is.source is.linked is.only is.keeps is.best;
-      least = c.moves_hold_least.ensures;
-      divisions = is.divisions;
-    }
+pub returns : goal.returns
+returns c = record {
+  trail = c.in_ok-trail.trail;
+  source = c.in_ok-trail.ensures.source;
+  reached = c.in_ok-trail.ensures.moves;
+  shows = c.in_ok-output.ensures;
+  outcome_is = refl;
+}
