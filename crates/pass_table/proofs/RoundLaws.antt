@@ -12,16 +12,16 @@ use Rattle.graph_edit.specs.InsertionSplit.{rewritten_split}
 use Rattle.motion_rewrite.specs.declared.placement.Placement.{Placement}
 use Rattle.motion_rewrite.specs.Flatten.{IsFlattened, by_placement}
 use Rattle.motion_rewrite.specs.Temporaries.{temporary}
-use Rattle.sink_dead.specs.declared.flow.GraphFlow.{GraphFlow}
-use Rattle.sink_dead.specs.GraphFlows.{IsFlowOf, same_flow}
-use Rattle.sink_dead.specs.Pruned.{IsDeadAt, IsPruned, pruned_from, removed_if}
-use Rattle.sink_dead.specs.PrunedLaws.{pruned_get, pruned_splits, pruned_succs}
-use Rattle.sink_dead.specs.RoundGraphs.{AreRounds, AreRoundsFrom, IsRound}
-use Rattle.sink_dead.specs.SunkGraphs.{IsSunk}
-use Rattle.sink_dead.specs.SunkLaws.{sunk_is_one}
+use Rattle.graph_edit.specs.declared.flow.GraphFlow.{GraphFlow}
+use Rattle.graph_edit.specs.GraphFlows.{IsFlowOf, same_flow}
+use Rattle.dead_code.specs.Pruned.{IsDeadAt, IsPruned, pruned_from, removed_if}
+use Rattle.dead_code.specs.PrunedLaws.{pruned_get, pruned_splits, pruned_succs}
+use Rattle.sink_rounds.specs.RoundGraphs.{AreRounds, AreRoundsFrom, IsRound}
+use Rattle.sink_code.specs.SunkGraphs.{IsSunk}
+use Rattle.sink_code.specs.SunkLaws.{sunk_is_one}
 use Rattle.mir_opt.specs.Stages.{after_rounds}
 use Rattle.pass_table.specs.Rounds.{became_skip}
-use Rattle.sink_dead.specs.Skips.{is_skip}
+use Rattle.graph_edit.specs.NodeKinds.{is_skip}
 
 -- ---- split graphs
 

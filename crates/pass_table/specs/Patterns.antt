@@ -1,12 +1,12 @@
 -- The lines of the patterns of a graph that can still move. Cited by contracts.
 use Rattle.std.specs.Prelude.{◌≡◌, ℕ, zero, suc, List, [], ◌++◌, codes, decimal, length, slice_get, Option, Some, None}
 use Rattle.flow_graph.specs.Graphs.{GraphShape}
-use Rattle.sink_dead.specs.declared.delaying.DelayedPatterns.{DelayedPatterns}
-use Rattle.sink_dead.specs.declared.patterns.Pattern.{Pattern}
-use Rattle.sink_dead.specs.Accesses.{blocks_at}
-use Rattle.sink_dead.specs.Delaying.{IsDelayedTo, IsInsertedAt}
-use Rattle.sink_dead.specs.Moving.{AreMoving}
-use Rattle.sink_dead.specs.PatternRows.{ArePatternRows, AreRowsTelling}
+use Rattle.sink_code.specs.declared.delaying.DelayedPatterns.{DelayedPatterns}
+use Rattle.sink_code.specs.declared.patterns.Pattern.{Pattern}
+use Rattle.graph_edit.specs.Accesses.{blocks_at}
+use Rattle.sink_code.specs.Delaying.{IsDelayedTo, IsInsertedAt}
+use Rattle.sink_code.specs.Moving.{AreMoving}
+use Rattle.sink_code.specs.PatternRows.{ArePatternRows, AreRowsTelling}
 use Rattle.pass_table.specs.declared.patterns.PatternLines.{PatternLines}
 use Rattle.table_text.specs.Lines.{assigned_text, field}
 use Rattle.table_text.specs.Rows.{HaveBit, bits_line}

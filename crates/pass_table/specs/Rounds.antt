@@ -3,10 +3,10 @@ use Rattle.std.specs.Prelude.{◌≡◌, ◌↔◌, ◌<◌, ℕ, zero, suc, ◌
 use Rattle.flow_graph.specs.declared.nodes.Node.{Node}
 use Rattle.flow_graph.specs.Graphs.{GraphShape}
 use Rattle.path_laws.specs.Paths.{HaveShape}
-use Rattle.sink_dead.specs.LiveRows.{TellLive}
-use Rattle.sink_dead.specs.Pruned.{IsDeadAt}
-use Rattle.sink_dead.specs.Skips.{is_skip}
-use Rattle.sink_dead.specs.SunkGraphs.{IsSunk}
+use Rattle.dead_code.specs.LiveRows.{TellLive}
+use Rattle.dead_code.specs.Pruned.{IsDeadAt}
+use Rattle.graph_edit.specs.NodeKinds.{is_skip}
+use Rattle.sink_code.specs.SunkGraphs.{IsSunk}
 use Rattle.mir_opt.specs.declared.stages.Stage.TheVariants.{Round}
 use Rattle.mir_opt.specs.declared.trails.UnitTrail.{UnitTrail}
 use Rattle.mir_opt.specs.Stages.{graph_at}

@@ -1,8 +1,8 @@
 -- A graph whose assignments have sunk, with its edges and its blocks. Cited by contracts of private functions.
 use Rattle.flow_graph.specs.Edges.{IsSplit}
 use Rattle.flow_graph.specs.Graphs.{GraphShape, IsGraph}
-use Rattle.sink_dead.specs.GraphFlows.{IsFlowOf}
-use Rattle.sink_dead.specs.SunkGraphs.{IsSunk}
+use Rattle.graph_edit.specs.GraphFlows.{IsFlowOf}
+use Rattle.sink_code.specs.SunkGraphs.{IsSunk}
 use Rattle.pass_table.specs.declared.rounds.Sinking.{Sinking}
 
 -- it is the graph in which the assignments of this one have sunk, it is split, and the edges and blocks are its own

@@ -17,7 +17,7 @@ IsUnitMotion unit = IsSafeMotion unit.copied unit.split unit.table unit.placemen
 -- and of what comes behind it too
 pub record IsUnitLinked (unit : UnitTrail) : Type 0 where
   pub motion : IsUnitMotion unit
-  pub back : IsBack unit.moved unit.recopied unit.sunk.rounds unit.swept
+  pub back : IsBack unit.moved unit.recopied unit.rounds.graphs unit.swept
 
 -- the text is that of the stage of this number among these
 pub record IsStageAt (units : List (List ℕ)) (unit : UnitTrail) (stages : List Stage) (number : ℕ)
@@ -32,6 +32,6 @@ pub record IsUnitText (units : List (List ℕ)) (unit : UnitTrail) (text : List 
   pub rounds : List ℕ
   pub last : List ℕ
   pub begins : InTurn (IsStageAt units unit before_rounds) (length before_rounds) front
-  pub sinks : InTurn (IsRoundAt units unit) (length unit.sunk.rounds) rounds
+  pub sinks : InTurn (IsRoundAt units unit) (length unit.rounds.graphs) rounds
   pub ends : IsStageText units unit Result last
   pub text_is : text ≡ unit_line unit.lowered.name ++ front ++ rounds ++ last

@@ -19,7 +19,7 @@ use bit_rows::{Row, Rows};
 use down_safe::{Busy, EveryPath, busy, busy_admits};
 use edge_split::split_splits;
 use flow_graph::Edges;
-use latest_place::{Late, late_of_busy};
+use latest_place::{Late, late};
 use live_range::{Held, held_edges, ranges};
 use mir_base::{Expr, Memory, Rhs};
 use mir_opt::UnitTrail;
@@ -108,7 +108,7 @@ fn place_rows(alloc: Global, unit: &UnitTrail, edges: &Edges) -> Result<PlaceRow
     ensures { IfOk result (ArePlaceRows unit.now) }
 {
     let busy = busy(alloc, &EveryPath, &unit.split, edges, &unit.table)?;
-    let late = late_of_busy(alloc, &EveryPath, &unit.split, edges, &unit.table, &busy)?;
+    let late = late(alloc, &EveryPath, &unit.split, edges, &unit.table, &busy)?;
     let ranges = busy_ranges(alloc, unit, edges, busy)?;
     Ok(PlaceRows {
         busy: ranges.busy,

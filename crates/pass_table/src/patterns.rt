@@ -9,7 +9,7 @@ ghost use Rattle.pass_table.specs.Patterns.{ArePatternsFound, HavePatternBit, Is
 use flow_graph::{Edges, Graph};
 use key_table::KeyTable;
 use mir_base::{Memory, Name};
-use sink_dead::{DelayedPatterns, Pattern};
+use sink_code::{DelayedPatterns, Pattern};
 use std::alloc::Global;
 use table_text::{Lines, put_assigned, put_bits, put_count};
 

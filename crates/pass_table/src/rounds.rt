@@ -3,9 +3,9 @@ ghost use Rattle.std.specs.Prelude.{◌≡◌, ◌<◌, ◌+◌, ◌&&◌, not, 
 ghost use Rattle.mir_base.specs.Appending.{AppendsOnOk};
 ghost use Rattle.flow_graph.specs.Edges.{IsSplit};
 ghost use Rattle.path_laws.specs.Paths.{HaveShape};
-ghost use Rattle.sink_dead.specs.GraphFlows.{IsFlowOf};
-ghost use Rattle.sink_dead.specs.Pruned.{IsPruned};
-ghost use Rattle.sink_dead.specs.Skips.{is_skip};
+ghost use Rattle.graph_edit.specs.GraphFlows.{IsFlowOf};
+ghost use Rattle.dead_code.specs.Pruned.{IsPruned};
+ghost use Rattle.graph_edit.specs.NodeKinds.{is_skip};
 ghost use Rattle.mir_opt.specs.declared.stages.Stage.TheVariants.{Round};
 ghost use Rattle.mir_opt.specs.Stages.{graph_at};
 ghost use Rattle.table_text.specs.Lines.{names_of_units};
@@ -17,11 +17,13 @@ ghost use Rattle.pass_table.specs.Units.{IsUnitLinked};
 
 use crate::stages::{put_round_finding, put_shown};
 use copy_flow::copied_splits;
+use dead_code::live_rows;
 use edge_split::split_splits;
 use flow_graph::{Graph, Node};
+use graph_edit::{GraphFlow, is_skip};
 use mir_base::{Memory, Name, Unit as MirUnit};
 use mir_opt::{Stage, UnitTrail};
-use sink_dead::{GraphFlow, live_rows_by, sunk_by};
+use sink_code::sunk;
 use std::alloc::Global;
 use table_text::{Lines, put_bits, put_count, put_graph, put_name};
 
@@ -34,12 +36,12 @@ pub(crate) fn put_rounds(
 ) -> Result<(), Memory>
     requires { IsUnitLinked unit.now }
     ensures { OnOk result (AppendsSome
-        (InTurn (IsRoundAt (names_of_units units.now) unit.now) (length unit.now.sunk.rounds))
+        (InTurn (IsRoundAt (names_of_units units.now) unit.now) (length unit.now.rounds.graphs))
         text.old text.new) }
 {
     sunk_is_split(unit);
     let mut flow = GraphFlow::of(alloc, unit.graph(Stage::Round(0)))?;
-    for number in 0..unit.sunk.rounds.items().len() {
+    for number in 0..unit.rounds.graphs.items().len() {
         flow = put_round(alloc, text, units, unit, number, number + 1, &flow)?;
     }
     Ok(())
@@ -67,7 +69,7 @@ fn put_round(
     flow: &GraphFlow,
 ) -> Result<GraphFlow, Memory>
     requires linked { IsUnitLinked unit.now }
-    requires number { number < length unit.now.sunk.rounds }
+    requires number { number < length unit.now.rounds.graphs }
     requires next { next ≡ number + 1 }
     requires split { IsSplit (graph_at unit.now (Round number)).nodes }
     requires flow { IsFlowOf (graph_at unit.now (Round number)).nodes flow.now }
@@ -104,7 +106,7 @@ fn sunk_with_flow(alloc: Global, graph: &Graph, flow: &GraphFlow) -> Result<Sink
     requires flow { IsFlowOf graph.now.nodes flow.now }
     ensures { IfOk result (IsSinkingOf graph.now) }
 {
-    let graph = sunk_by(alloc, graph, flow)?;
+    let graph = sunk(alloc, graph, flow)?;
     let flow = GraphFlow::of(alloc, &graph)?;
     let _nodes = graph.nodes();
     Ok(Sinking { graph, flow })
@@ -189,22 +191,6 @@ fn skip_byte(before: &Node, after: &Node) -> u8
     }
 }
 
-/// Whether a node is a Skip.
-fn is_skip(node: &Node) -> bool
-    ensures { result ≡ is_skip (Some node.now) }
-{
-    match node {
-        Node::Start(_) => false,
-        Node::Skip(_) => true,
-        Node::Assign(_, _, _) => false,
-        Node::Print(_, _) => false,
-        Node::Guard(_, _, _) => false,
-        Node::Call(_, _, _, _) => false,
-        Node::Test(_, _, _) => false,
-        Node::Return(_) => false,
-    }
-}
-
 // ---- live variables
 
 /// Appends the variables of a graph, each with the nodes before which it is live, by its edges and its blocks.
@@ -217,7 +203,7 @@ fn put_live(
     requires { IsFlowOf graph.now.nodes flow.now }
     ensures { OnOk result (AppendsSome (IsLiveText graph.now) text.old text.new) }
 {
-    let live = live_rows_by(alloc, graph, flow)?;
+    let live = live_rows(alloc, graph, flow)?;
     let lines = Lines::of(alloc, &live)?;
     put_variables(text, graph, &lines)?;
     Ok(())

@@ -4,10 +4,12 @@ ghost use Rattle.path_laws.specs.Paths.{HaveShape};
 
 use crate::tests::shown::{put_bit, put_rhs, put_var};
 use bit_rows::Rows;
+use dead_code::live_rows;
 use flow_graph::{Edges, Graph};
+use graph_edit::GraphFlow;
 use mir_base::{Memory, Name};
 use path_laws::some_successor;
-use sink_dead::{DelayedPatterns, live_rows};
+use sink_code::DelayedPatterns;
 use std::alloc::Global;
 use std::mem;
 
@@ -58,7 +60,10 @@ fn put_pattern(
 /// For each variable of a graph, a line with the nodes before which it is live, and one with those after which it is,
 /// that is before some successor.
 pub(crate) fn live_text(alloc: Global, graph: &Graph) -> Result<String, Memory> {
-    let live = live_rows(alloc, graph)?;
+    let flow = GraphFlow::of(alloc, graph)?;
+    let live = live_rows(alloc, graph, &flow);
+    mem::drop(flow);
+    let live = live?;
     let text = text_with(alloc, graph, &live);
     mem::drop(live);
     text

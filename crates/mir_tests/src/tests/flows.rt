@@ -3,8 +3,9 @@ ghost use Rattle.std.specs.Prelude.{◌≡◌, ◌<◌, ◌-◌, ◌+◌, false,
 ghost use Rattle.mir_tests.specs.Ladder.{Under, level, level_laws, level_size};
 ghost use Rattle.mir_tests.specs.Levels.{levels, levels_laws};
 ghost use Rattle.mir_tests.specs.Squares.{EachImplies, size_of_three, squares, squares_laws, three_laws, trues_of};
+ghost use Rattle.fix_solve.specs.NewsFlows.{untold_laws};
 
-use fix_solve::{Flow, Lattice, Memory, Steps, Work, solve};
+use fix_solve::{AllNews, Flow, Lattice, Memory, Steps, Work, solve};
 use std::alloc::Global;
 use std::cell::Cell;
 use std::marker::{Brand, Model, PhantomData};
@@ -26,6 +27,8 @@ impl Model for Level {
 }
 
 impl Lattice for Level {
+    type News = AllNews;
+
     ghost below = { Under };
 
     ghost size = { level_size };
@@ -93,10 +96,6 @@ impl<L: Ledger> Flow for Levels<L> {
         (start, stop)
     }
 
-    fn height(&self) -> u64 {
-        255
-    }
-
     fn first(&self, _alloc: Global, node: usize) -> Result<Level, Memory> {
         let level = if self.is_line {
             node
@@ -106,6 +105,10 @@ impl<L: Ledger> Flow for Levels<L> {
         Ok(Level {
             level: level as u64,
         })
+    }
+
+    fn news(&self, _alloc: Global) -> Result<AllNews, Memory> {
+        Ok(AllNews)
     }
 
     fn push(
@@ -126,6 +129,8 @@ impl<L: Ledger> Flow for Levels<L> {
     }
 
     ghost laws = { λ l v. levels_laws l.is_line l.length v };
+
+    ghost news_laws = { λ f v. untold_laws };
 }
 
 /// Three truth values.
@@ -145,6 +150,8 @@ impl Model for Marks {
 }
 
 impl Lattice for Marks {
+    type News = AllNews;
+
     ghost below = { EachImplies };
 
     ghost size = { size_of_three };
@@ -207,16 +214,16 @@ impl<L: Ledger> Flow for Squares<L> {
         (start, stop)
     }
 
-    fn height(&self) -> u64 {
-        3
-    }
-
     fn first(&self, _alloc: Global, node: usize) -> Result<Marks, Memory> {
         Ok(Marks {
             first: node == 5,
             second: node == 6,
             third: node == 8,
         })
+    }
+
+    fn news(&self, _alloc: Global) -> Result<AllNews, Memory> {
+        Ok(AllNews)
     }
 
     fn push(
@@ -239,6 +246,8 @@ impl<L: Ledger> Flow for Squares<L> {
     }
 
     ghost laws = { λ s v. squares_laws };
+
+    ghost news_laws = { λ f v. untold_laws };
 }
 
 /// The values after an edge: the third is given up on the way to the node that begins it.

@@ -1,5 +1,6 @@
 // One file for each layer.
 mod blocks;
+mod bound_examples;
 mod copied;
 mod delayed;
 mod edits;

@@ -1,5 +1,6 @@
 // What the passes make of small programs, and what they find out: the examples of `examples.rt`, `value_examples.rt`
 // and `row_examples.rt`.
+use crate::tests::bound_examples::BOUND_EXAMPLES;
 use crate::tests::copied::copies_text;
 use crate::tests::delayed::{delays_text, live_text};
 use crate::tests::edits::put_of;
@@ -20,17 +21,18 @@ use edge_split::split;
 use flow_graph::{Blocks, Edges, Graph, is_split};
 use jump_clean::clean;
 use mir_base::Memory;
-use sink_dead::round;
+use sink_rounds::round;
 use std::alloc::Global;
 use std::mem;
 use std::test::Fail;
+use value_bounds::use_bounds;
 use value_number::number;
 use wanted_bits::narrow;
 
 /// Each example.
 #[test]
 fn examples_of_passes(rt: HostRuntime) -> Result<(), Fail> {
-    for examples in [EXAMPLES, VALUE_EXAMPLES, ROW_EXAMPLES] {
+    for examples in [EXAMPLES, VALUE_EXAMPLES, BOUND_EXAMPLES, ROW_EXAMPLES] {
         for example in examples.split("# ").skip(1) {
             let other = other_than(rt.alloc(), example)?;
             assert!(rt; other.is_empty(), "{example}makes otherwise:\n{other}");
@@ -83,6 +85,7 @@ fn after(alloc: Global, pass: &str, graph: &Graph) -> Result<Graph, Fail> {
         "fold" => Ok(fold(alloc, graph)?),
         "number" => Ok(number(alloc, graph)?),
         "copies" => Ok(copies(alloc, graph)?),
+        "bounds" => Ok(use_bounds(alloc, graph)?),
         "narrow" => Ok(narrow(alloc, graph)?),
         "split" => Ok(split(alloc, graph)?),
         "round" => round_of(alloc, graph),

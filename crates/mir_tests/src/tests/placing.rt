@@ -4,7 +4,7 @@ ghost use Rattle.flow_graph.specs.Edges.{IsSplit, edges_of};
 
 use crate::tests::shown::put_bit;
 use bit_rows::Rows;
-use down_safe::{Busy, EveryPath, busy, busy_placement};
+use down_safe::{Busy, EveryPath, busy};
 use flow_graph::{Edges, Graph, is_split};
 use latest_place::{Late, late, lazy};
 use mir_base::Memory;
@@ -78,12 +78,57 @@ fn put_motion(
 {
     put_rows(shown, "used", use_rows(alloc, graph, table))?;
     put_rows(shown, "killed", kill_rows(alloc, graph, table))?;
-    put_busy(shown, busy(alloc, &EveryPath, graph, edges, table))?;
-    put_late(shown, late(alloc, &EveryPath, graph, edges, table))?;
-    let placement = busy_placement(alloc, &EveryPath, graph, edges, table);
-    put_placement(shown, "busy", placement)?;
+    put_equations(alloc, shown, graph, edges, table)?;
     let placement = lazy(alloc, &EveryPath, graph, edges, table);
     put_placement(shown, "lazy", placement)
+}
+
+/// Appends a line for each equation of the lazy placement, and the busy placement, which inserts where an expression is
+/// earliest and replaces each use.
+fn put_equations(
+    alloc: Global,
+    shown: &mut Shown,
+    graph: &Graph,
+    edges: &Edges,
+    table: &ExprTable,
+) -> Result<(), Memory>
+    requires split { IsSplit graph.now.nodes }
+    requires edges { edges.now ≡ edges_of graph.now.nodes }
+{
+    let busy = busy(alloc, &EveryPath, graph, edges, table)?;
+    let late = late(alloc, &EveryPath, graph, edges, table, &busy);
+    let put = put_safe_and_late(shown, &busy, late);
+    let Busy { uses, early, .. } = busy;
+    let placement = Placement {
+        insert: early,
+        replace: uses,
+    };
+    match put {
+        Ok(()) => put_placement(shown, "busy", Ok(placement)),
+        Err(memory) => {
+            mem::drop(placement);
+            Err(memory)
+        }
+    }
+}
+
+/// Appends a line each for where it is available, anticipatable and earliest, and where it is delayed, latest and
+/// isolated.
+fn put_safe_and_late(
+    shown: &mut Shown,
+    busy: &Busy,
+    late: Result<Late, Memory>,
+) -> Result<(), Memory> {
+    let late = late?;
+    let put = put_both_rows(shown, busy, &late);
+    mem::drop(late);
+    put
+}
+
+/// The same.
+fn put_both_rows(shown: &mut Shown, busy: &Busy, late: &Late) -> Result<(), Memory> {
+    put_busy_rows(shown, busy)?;
+    put_late_rows(shown, late)
 }
 
 /// Appends a line for rows that a call answers.
@@ -92,14 +137,6 @@ fn put_rows(shown: &mut Shown, name: &str, rows: Result<Rows, Memory>) -> Result
 }
 
 /// Appends a line each for where it is available, anticipatable and earliest.
-fn put_busy(shown: &mut Shown, busy: Result<Busy, Memory>) -> Result<(), Memory> {
-    let busy = busy?;
-    let put = put_busy_rows(shown, &busy);
-    mem::drop(busy);
-    put
-}
-
-/// The same.
 fn put_busy_rows(shown: &mut Shown, busy: &Busy) -> Result<(), Memory> {
     shown.put("available", &busy.up)?;
     shown.put("anticipatable", &busy.down)?;
@@ -107,14 +144,6 @@ fn put_busy_rows(shown: &mut Shown, busy: &Busy) -> Result<(), Memory> {
 }
 
 /// Appends a line each for where it is delayed, latest and isolated.
-fn put_late(shown: &mut Shown, late: Result<Late, Memory>) -> Result<(), Memory> {
-    let late = late?;
-    let put = put_late_rows(shown, &late);
-    mem::drop(late);
-    put
-}
-
-/// The same.
 fn put_late_rows(shown: &mut Shown, late: &Late) -> Result<(), Memory> {
     shown.put("delayed", &late.delayed)?;
     shown.put("latest", &late.latest)?;

@@ -84,6 +84,7 @@ fn pass_named(name: &str) -> Option<Pass> {
         "motion" => Some(Pass::Motion),
         "divisions" => Some(Pass::Divisions),
         "sink" => Some(Pass::Sink),
+        "bounds" => Some(Pass::Bounds),
         "wanted" => Some(Pass::Wanted),
         "called" => Some(Pass::Called),
         _ => None,

@@ -2,7 +2,7 @@
 use crate::tests::support::graph_of;
 use edge_split::split;
 use flow_graph::{Edges, Graph, is_split};
-use sink_dead::{round, sink};
+use sink_rounds::{round, rounds};
 use std::alloc::{AllocError, Global};
 use std::mem;
 use std::test::Fail;
@@ -49,14 +49,14 @@ fn rounds_on(alloc: Global, graph: &Graph) -> Result<(usize, bool), Fail> {
     if !splits {
         return Err("not split".into());
     }
-    let sunk = sink(alloc, graph)?;
-    let rounds = sunk.rounds.items();
-    let changed = match rounds.last() {
+    let made = rounds(alloc, graph)?;
+    let graphs = made.graphs.items();
+    let changed = match graphs.last() {
         Some(last) => would_change(alloc, last),
         None => Err("no round".into()),
     };
-    let count = rounds.len();
-    mem::drop(sunk);
+    let count = graphs.len();
+    mem::drop(made);
     Ok((count, changed?))
 }
 

@@ -83,7 +83,7 @@ return n
 L1: m <- n + k
 return m
 end
-$ tails join optimise wanted called
+$ tails join optimise wanted bounds called
 main: begin
 receive n(val)
 x <- first,(n,int)
@@ -100,7 +100,7 @@ receive k(val)
 if k = 2 goto L2
 x <- n
 L1: return x
-L2: h3 <- n + k
+L2: h3 <- n + 2
 x <- h3
 goto L1
 end
@@ -122,7 +122,7 @@ n <- n - 1
 goto L1
 L2: return s
 end
-$ tails join optimise wanted called
+$ tails join optimise wanted bounds called
 main: begin
 receive n(val)
 L1: if n = 0 goto L2

@@ -1,6 +1,6 @@
 use Rattle.std.proofs.Common.{length, refl, subst, sym}
 use Rattle.path_laws.specs.Paths.{HaveShape}
-use Rattle.sink_dead.specs.LiveRows.{TellLive}
+use Rattle.dead_code.specs.LiveRows.{TellLive}
 use Rattle.pass_table.specs.Rounds.{variables_below}
 use Rattle.pass_table.proofs.rounds.put_live.Goals as goal
 

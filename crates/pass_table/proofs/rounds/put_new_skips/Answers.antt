@@ -2,7 +2,7 @@ use Rattle.std.proofs.Common.{◌≡◌, ◌<◌, ◌++◌, ◌∷◌, [], ◌&&
 use Rattle.std.proofs.lemmas.Option.{slice_get_read}
 use Rattle.table_text.specs.Rows.{bit_byte}
 use Rattle.pass_table.specs.Rounds.{became_skip, flags_below}
-use Rattle.sink_dead.specs.Skips.{is_skip}
+use Rattle.graph_edit.specs.NodeKinds.{is_skip}
 use Rattle.pass_table.proofs.rounds.put_new_skips.Goals as goal
 
 -- the bit that is put is that of the next node

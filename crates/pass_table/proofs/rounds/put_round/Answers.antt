@@ -3,9 +3,9 @@ use Rattle.flow_graph.specs.Edges.{IsSplit, edges_of}
 use Rattle.flow_graph.specs.Graphs.{GraphShape}
 use Rattle.mir_opt.specs.declared.stages.Stage.TheVariants.{Round}
 use Rattle.mir_opt.specs.Stages.{graph_at}
-use Rattle.sink_dead.specs.GraphFlows.{IsFlowOf}
-use Rattle.sink_dead.specs.Pruned.{IsPruned}
-use Rattle.sink_dead.specs.RoundGraphs.{IsRound}
+use Rattle.graph_edit.specs.GraphFlows.{IsFlowOf}
+use Rattle.dead_code.specs.Pruned.{IsPruned}
+use Rattle.sink_rounds.specs.RoundGraphs.{IsRound}
 use Rattle.table_text.specs.Lines.{names_of_units}
 use Rattle.pass_table.specs.Rounds.{IsSunkText}
 use Rattle.pass_table.specs.Sinkings.{IsSinkingOf}
@@ -33,7 +33,7 @@ round c =
     let unit = c.args.unit.now in
     let n = c.args.number in
     let next : suc n ≡ c.args.next = omega (arith, c.requires.next) in
-    subst (λ k. IsRound (graph_at unit (Round n)) (graph_at unit (Round k))) next (round_at unit.recopied unit.sunk.rounds n c.requires.linked.back.sinks c.requires.number)
+    subst (λ k. IsRound (graph_at unit (Round n)) (graph_at unit (Round k))) next (round_at unit.recopied unit.rounds.graphs n c.requires.linked.back.sinks c.requires.number)
 
 -- the assignments of the graph before it have sunk
 is_sinking : (c : In_ok-sinking) → IsSinkingOf (graph_at c.args.unit.now (Round c.args.number)) c.in_ok-sinking.sinking

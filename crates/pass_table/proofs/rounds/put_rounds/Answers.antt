@@ -1,7 +1,7 @@
 use Rattle.std.proofs.Common.{◌<◌, List, length, subst, sym}
 use Rattle.flow_graph.specs.Edges.{IsSplit}
 use Rattle.flow_graph.specs.Graphs.{GraphShape}
-use Rattle.sink_dead.specs.GraphFlows.{IsFlowOf}
+use Rattle.graph_edit.specs.GraphFlows.{IsFlowOf}
 use Rattle.table_text.specs.Lines.{names_of_units}
 use Rattle.pass_table.specs.Rounds.{IsRoundAt}
 use Rattle.pass_table.proofs.RoundLaws.{before_first}
@@ -15,7 +15,7 @@ pub loop-number-init : goal.loop-number-init
 loop-number-init c =
     let unit = c.args.unit.now in (
       no_turn (IsRoundAt (names_of_units c.args.units.now) unit) c.args.text.now,
-      subst (λ (g : GraphShape). IsSplit g.nodes) (sym (before_first unit.recopied unit.sunk.rounds)) c.sunk_is_split.ensures,
+      subst (λ (g : GraphShape). IsSplit g.nodes) (sym (before_first unit.recopied unit.rounds.graphs)) c.sunk_is_split.ensures,
       subst (λ (g : GraphShape). IsFlowOf g.nodes c.in_ok-flow.flow) c.graph.ensures c.in_ok-flow.ensures,
     )
 

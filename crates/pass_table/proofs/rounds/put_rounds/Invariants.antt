@@ -1,5 +1,5 @@
 use Rattle.flow_graph.specs.Edges.{IsSplit}
-use Rattle.sink_dead.specs.GraphFlows.{IsFlowOf}
+use Rattle.graph_edit.specs.GraphFlows.{IsFlowOf}
 use Rattle.mir_opt.specs.declared.stages.Stage.TheVariants.{Round}
 use Rattle.mir_opt.specs.Stages.{graph_at}
 use Rattle.table_text.specs.Lines.{names_of_units}
