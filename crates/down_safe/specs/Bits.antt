@@ -32,5 +32,6 @@ abbrev pub AreFrontierRows : List (List Bool) → List (List Bool) → List (Lis
 AreFrontierRows kills up down rows = (n b : ℕ) → n < length kills → b < width kills → has_bit rows b n ≡ is_frontier (has_bit kills b n) (has_bit up b n) (has_bit down b n)
 
 -- the rows say where each bit is earliest
-abbrev pub AreEarliestRows : GraphShape → List (List Bool) → List (List Bool) → List (List Bool) → List (List Bool) → Type 0
+abbrev pub AreEarliestRows : GraphShape → List (List Bool) → List (List Bool) → List (List Bool)
+    → List (List Bool) → Type 0
 AreEarliestRows graph kills up down rows = Tell graph (width kills) rows (λ b. IsEarliestBit graph.nodes (has_bit kills b) (has_bit up b) (has_bit down b))

@@ -35,7 +35,8 @@ pub record AreBusyRows (graph : GraphShape) (table : List Expr) (Down : Expr →
   pub early : AreRowsWhere graph table (λ e. IsEarliest graph e (Down e)) busy.early
 
 -- the rows say where each expression of the table is used, and earliest
-pub record AreEarliestOf (graph : GraphShape) (table : List Expr) (Down : Expr → ℕ → Type 0) (earliest : EarlySites) : Type 0 where
+pub record AreEarliestOf (graph : GraphShape) (table : List Expr) (Down : Expr → ℕ → Type 0)
+    (earliest : EarlySites) : Type 0 where
   pub uses : AreRowsOf graph table (uses graph) earliest.uses
   pub early : AreRowsWhere graph table (λ e. IsEarliest graph e (Down e)) earliest.early
 

@@ -28,11 +28,13 @@ returns (node ∷ nodes) (suc n) lt none = returns nodes n (omega (arith, lt)) n
 
 module _ (graph : GraphShape) (e : Expr) where
   -- a node that does not use has no path to itself alone that ends well
-  not_alone : (n : ℕ) → n < length graph.nodes → IsAnticipatable graph e n → uses graph e n ≡ false → EndsWell graph.nodes (kills graph e) (n ∷ []) → ⊥
+  not_alone : (n : ℕ) → n < length graph.nodes → IsAnticipatable graph e n → uses graph e n ≡ false
+      → EndsWell graph.nodes (kills graph e) (n ∷ []) → ⊥
   not_alone n lt down unused ends = elim (down (n ∷ []) lt refl ends) [ inl used ↦ true≢false (sym used ∙ unused) | inr none ↦ none ]
 
   -- so it does not kill
-  keeps : (n : ℕ) → n < length graph.nodes → IsAnticipatable graph e n → uses graph e n ≡ false → kills graph e n ≡ false
+  keeps : (n : ℕ) → n < length graph.nodes → IsAnticipatable graph e n → uses graph e n ≡ false
+      → kills graph e n ≡ false
   keeps n lt down unused =
       elim (cases_Bool (kills graph e n)) [
         | inl kill ↦ absurd (not_alone n lt down unused (inl kill))
@@ -40,7 +42,8 @@ module _ (graph : GraphShape) (e : Expr) where
       ]
 
   -- and its successors are down: a path from one of them is the remainder of a path from the node
-  onward : (n s : ℕ) → IsAnticipatable graph e n → uses graph e n ≡ false → HasEdge graph.nodes n s → IsAnticipatable graph e s
+  onward : (n s : ℕ) → IsAnticipatable graph e n → uses graph e n ≡ false → HasEdge graph.nodes n s
+      → IsAnticipatable graph e s
   onward n s down unused edge [] is begins ends = absurd is
   onward n s down unused edge (k ∷ path) is begins ends =
       let to_k : HasEdge graph.nodes n k = subst (HasEdge graph.nodes n) (sym begins) edge in

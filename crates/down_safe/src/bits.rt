@@ -28,27 +28,9 @@ pub(crate) fn available_rows(alloc: Global, sites: &Sites<'_>) -> Result<Rows, M
     Ok(rows)
 }
 
-/// At which nodes each bit is earliest: it is down there, and some predecessor kills it or is neither up nor down.
+/// At which nodes each bit is earliest: it is down there, and some predecessor kills it or is neither up nor down. The
+/// rows of bits that are up become those of frontiers.
 pub(crate) fn early_rows(
-    alloc: Global,
-    sites: &Sites<'_>,
-    up: &Rows,
-    down: &Rows,
-) -> Result<Rows, Memory>
-    requires edges { sites.now.edges.now ≡ edges_of sites.now.graph.now.nodes }
-    requires kills { HaveShape sites.now.graph.now (width sites.now.kills.now) sites.now.kills.now }
-    requires up { HaveShape sites.now.graph.now (width sites.now.kills.now) up.now }
-    requires down { HaveShape sites.now.graph.now (width sites.now.kills.now) down.now }
-    ensures shape { IfOk result (HaveShape sites.now.graph.now (width sites.now.kills.now)) }
-    ensures early { IfOk result
-        (AreEarliestRows sites.now.graph.now sites.now.kills.now up.now down.now) }
-{
-    let frontier = up.copied(alloc)?;
-    early_rows_of(alloc, sites, frontier, down)
-}
-
-/// The same where the rows of bits that are up are not asked again, and become those of frontiers.
-pub(crate) fn early_rows_of(
     alloc: Global,
     sites: &Sites<'_>,
     up: Rows,

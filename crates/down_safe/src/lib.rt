@@ -9,12 +9,12 @@
 #![tactic(auto)]
 
 mod bits;
-mod nodes;
+mod equations;
 mod placement;
 mod rule;
 mod safety;
 
-pub use nodes::{busy, busy_over, earliest_over};
-pub use placement::{busy_admits, busy_placement};
+pub use equations::{busy, earliest_over};
+pub use placement::busy_admits;
 pub use rule::{DownRule, EveryPath};
 pub use safety::{Busy, EarlySites, Sites};

@@ -31,8 +31,7 @@ pub trait DownRule {
 }
 
 /// The rule of anticipatable expressions: a node is down where every path from it that ends at its first killing node,
-/// or at a Return with no killing node before it, has a use on it. It is the down-safety of Knoop, Ruething and
-/// Steffen, *Optimal Code Motion: Theory and Practice*, TOPLAS 1994.
+/// or at a Return with no killing node before it, has a use on it.
 #[derive(Clone, Copy, Debug, PartialEq, Eq)]
 pub struct EveryPath;
 

@@ -26,11 +26,32 @@ is_changed : (change : Change) (node : Node) → IsChanged change node
 is_changed change (Start next) = record { succs = refl; call = refl; start = λ s e. (next, refl); below = λ k fits b. b; moved = λ to. refl; unchanged = refl }
 is_changed change (Skip next) = record { succs = refl; call = refl; start = λ s e. cc; below = λ k fits b. b; moved = λ to. refl; unchanged = refl }
 is_changed Unchanged (Assign x rhs next) = record { succs = refl; call = refl; start = λ s e. cc; below = λ k fits b. b; moved = λ to. refl; unchanged = refl }
-is_changed (Replaced other) (Assign x rhs next) = record { succs = refl; call = refl; start = λ s e. cc; below = λ k fits b. (b.0, fits); moved = λ to. refl; unchanged = refl }
+is_changed (Replaced other) (Assign x rhs next) = record {
+  succs = refl;
+  call = refl;
+  start = λ s e. cc;
+  below = λ k fits b. (b.0, fits);
+  moved = λ to. refl;
+  unchanged = refl;
+}
 is_changed Removed (Assign x rhs next) = record { succs = refl; call = refl; start = λ s e. cc; below = λ k fits b. tt; moved = λ to. refl; unchanged = refl }
 is_changed change (Print a next) = record { succs = refl; call = refl; start = λ s e. cc; below = λ k fits b. b; moved = λ to. refl; unchanged = refl }
-is_changed change (Guard test number next) = record { succs = refl; call = refl; start = λ s e. cc; below = λ k fits b. b; moved = λ to. refl; unchanged = refl }
-is_changed change (Call into unit operands next) = record { succs = refl; call = refl; start = λ s e. cc; below = λ k fits b. b; moved = λ to. refl; unchanged = refl }
+is_changed change (Guard test number next) = record {
+  succs = refl;
+  call = refl;
+  start = λ s e. cc;
+  below = λ k fits b. b;
+  moved = λ to. refl;
+  unchanged = refl;
+}
+is_changed change (Call into unit operands next) = record {
+  succs = refl;
+  call = refl;
+  start = λ s e. cc;
+  below = λ k fits b. b;
+  moved = λ to. refl;
+  unchanged = refl;
+}
 is_changed change (Test test taken other) = record { succs = refl; call = refl; start = λ s e. cc; below = λ k fits b. b; moved = λ to. refl; unchanged = refl }
 is_changed change (Return a) = record { succs = refl; call = refl; start = λ s e. cc; below = λ k fits b. b; moved = λ to. refl; unchanged = refl }
 
@@ -47,11 +68,13 @@ pub changed_start : (change : Change) (node : Node) (s : ℕ) → changed change
 changed_start change node = let is = is_changed change node in is.start
 
 -- its variables are in range where those of the change are
-pub changed_below : (change : Change) (k : ℕ) → ChangeBelow k change → (node : Node) → AllBelow k (node_vars node) → AllBelow k (node_vars (changed change node))
+pub changed_below : (change : Change) (k : ℕ) → ChangeBelow k change → (node : Node)
+    → AllBelow k (node_vars node) → AllBelow k (node_vars (changed change node))
 changed_below change k fits node below = let is = is_changed change node in is.below k fits below
 
 -- it may be redirected before or after the change
-pub redirected_changed : (to : ℕ → ℕ) (change : Change) (node : Node) → redirected to (changed change node) ≡ changed change (redirected to node)
+pub redirected_changed : (to : ℕ → ℕ) (change : Change) (node : Node)
+    → redirected to (changed change node) ≡ changed change (redirected to node)
 redirected_changed to change node = let is = is_changed change node in is.moved to
 
 -- a kept node is the node
@@ -61,5 +84,6 @@ changed_not node = let is = is_changed Unchanged node in is.unchanged
 -- ---- a changed node with other numbers for its successors
 
 -- its successors have the other numbers
-pub rewritten_succs : (to : ℕ → ℕ) (change : Change) (node : Node) → node_succs (redirected to (changed change node)) ≡ map to (node_succs node)
+pub rewritten_succs : (to : ℕ → ℕ) (change : Change) (node : Node)
+    → node_succs (redirected to (changed change node)) ≡ map to (node_succs node)
 rewritten_succs to change node = redirected_succs to (changed change node) ∙ ap (map to) (changed_succs change node)

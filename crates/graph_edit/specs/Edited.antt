@@ -27,7 +27,8 @@ abbrev pub edited_nodes : List (List ℕ) → ℕ → List Node → List Node
 edited_nodes lists used nodes = edited_from lists 0 (take used nodes)
 
 -- so many of the nodes are used, the first ones, and the others are room; there is a list for each of `olds` nodes
-pub record HoldsEdits (vars : List (List ℕ)) (received : List ℕ) (nodes : List Node) (olds used : ℕ) (links : Lists) : Type 0 where
+pub record HoldsEdits (vars : List (List ℕ)) (received : List ℕ) (nodes : List Node) (olds used : ℕ)
+    (links : Lists) : Type 0 where
   pub room : used ≤ length nodes
   pub links_room : links.nodes ≡ length nodes
   pub count : length links.lists ≡ olds

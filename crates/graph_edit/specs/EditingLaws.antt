@@ -30,7 +30,10 @@ past_other node new n differ = ap (λ b. (if b then new else n)) (ne_eqb n node 
 
 -- ---- one node put before another
 
-module _ (vars : List (List ℕ)) (received : List ℕ) (nodes : List Node) (is_graph : IsGraph vars received nodes) (node x : ℕ) (rhs : Rhs) (some : 1 ≤ node) (within : node < length nodes) (var : x < length vars) (below : AllBelow (length vars) (rhs_vars rhs)) where
+module _ (vars : List (List ℕ)) (received : List ℕ) (nodes : List Node)
+    (is_graph : IsGraph vars received nodes) (node x : ℕ) (rhs : Rhs) (some : 1 ≤ node)
+    (within : node < length nodes) (var : x < length vars)
+    (below : AllBelow (length vars) (rhs_vars rhs)) where
   abbrev to : ℕ → ℕ
   to = past node (length nodes)
 
@@ -143,12 +146,14 @@ change_length zero change (node ∷ nodes) = refl
 change_length (suc n) change (node ∷ nodes) = ap suc (change_length n change nodes)
 
 -- and after a change of each node
-pub change_each_length : (changes : ℕ → Change) (count n : ℕ) (nodes : List Node) → length (change_each changes count n nodes) ≡ length nodes
+pub change_each_length : (changes : ℕ → Change) (count n : ℕ) (nodes : List Node)
+    → length (change_each changes count n nodes) ≡ length nodes
 change_each_length changes zero n nodes = refl
 change_each_length changes (suc count) n nodes = change_each_length changes count (suc n) (change_at n (changes n) nodes) ∙ change_length n (changes n) nodes
 
 -- each node has its successors
-pub change_succs : (n : ℕ) (change : Change) (nodes : List Node) (m : ℕ) → succs_of (slice_get (change_at n change nodes) m) ≡ succs_of (slice_get nodes m)
+pub change_succs : (n : ℕ) (change : Change) (nodes : List Node) (m : ℕ)
+    → succs_of (slice_get (change_at n change nodes) m) ≡ succs_of (slice_get nodes m)
 change_succs n change [] m = refl
 change_succs zero change (node ∷ nodes) zero = changed_succs change node
 change_succs zero change (node ∷ nodes) (suc m) = refl
@@ -156,7 +161,9 @@ change_succs (suc n) change (node ∷ nodes) zero = refl
 change_succs (suc n) change (node ∷ nodes) (suc m) = change_succs n change nodes m
 
 -- a node after the change is the old one or the old one changed
-change_get : (n : ℕ) (change : Change) (nodes : List Node) (m : ℕ) (found : Node) → slice_get (change_at n change nodes) m ≡ Some found → (old : Node) × (slice_get nodes m ≡ Some old) × ((found ≡ old) ⊎ (found ≡ changed change old))
+change_get : (n : ℕ) (change : Change) (nodes : List Node) (m : ℕ) (found : Node)
+    → slice_get (change_at n change nodes) m ≡ Some found
+    → (old : Node) × (slice_get nodes m ≡ Some old) × ((found ≡ old) ⊎ (found ≡ changed change old))
 change_get n change [] m found at = cc
 change_get zero change (node ∷ nodes) zero found at = (node, refl, inr (sym (same_Some (changed change node) found at)))
 change_get zero change (node ∷ nodes) (suc m) found at = (found, at, inl refl)
@@ -164,13 +171,16 @@ change_get (suc n) change (node ∷ nodes) zero found at = (found, at, inl refl)
 change_get (suc n) change (node ∷ nodes) (suc m) found at = change_get n change nodes m found at
 
 -- a change leaves Start as it is
-change_start : (n : ℕ) (change : Change) (nodes : List Node) (s : ℕ) → slice_get nodes 0 ≡ Some (Start s) → slice_get (change_at n change nodes) 0 ≡ Some (Start s)
+change_start : (n : ℕ) (change : Change) (nodes : List Node) (s : ℕ)
+    → slice_get nodes 0 ≡ Some (Start s) → slice_get (change_at n change nodes) 0 ≡ Some (Start s)
 change_start n change [] s at = cc
 change_start zero change (node ∷ nodes) s at = ap (λ q. Some (changed change q)) (same_Some node (Start s) at)
 change_start (suc n) change (node ∷ nodes) s at = at
 
 -- so the changed nodes are a graph
-pub change_graph : (vars : List (List ℕ)) (received : List ℕ) (nodes : List Node) (n : ℕ) (change : Change) → IsGraph vars received nodes → ChangeBelow (length vars) change → IsGraph vars received (change_at n change nodes)
+pub change_graph : (vars : List (List ℕ)) (received : List ℕ) (nodes : List Node) (n : ℕ) (change : Change)
+    → IsGraph vars received nodes → ChangeBelow (length vars) change
+    → IsGraph vars received (change_at n change nodes)
 change_graph vars received nodes n change is_graph fits =
     let can = is_graph.can in
     let long = change_length n change nodes in
@@ -199,7 +209,8 @@ change_graph vars received nodes n change is_graph fits =
     still m (along k slot s reached edge) = along k slot m (still k reached) (ap (λ l. slice_get l slot) (change_succs n change nodes k) ∙ edge)
 
 -- the other nodes stay, and so does one that is kept
-pub change_other : (n m : ℕ) (change : Change) (nodes : List Node) → (m ≡ n → ⊥) → slice_get (change_at n change nodes) m ≡ slice_get nodes m
+pub change_other : (n m : ℕ) (change : Change) (nodes : List Node) → (m ≡ n → ⊥)
+    → slice_get (change_at n change nodes) m ≡ slice_get nodes m
 change_other n m change [] differ = refl
 change_other zero zero change (node ∷ nodes) differ = absurd (differ refl)
 change_other zero (suc m) change (node ∷ nodes) differ = refl

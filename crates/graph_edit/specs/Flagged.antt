@@ -1,4 +1,4 @@
--- The graph in which each flagged assignment became a Skip. Cited by contracts, those of sink_dead too.
+-- The graph in which each flagged assignment became a Skip. Cited by contracts, those of dead_code and sink_rounds too.
 use Rattle.std.specs.Prelude.{ℕ, suc, Bool, true, false, List, [], ◌∷◌, slice_index_or}
 use Rattle.flow_graph.specs.declared.nodes.Node.{Node}
 use Rattle.flow_graph.specs.Graphs.{GraphShape}

@@ -1,5 +1,5 @@
--- Laws: the rewritten graph is a graph, and makes no calls but those of the graph. For proofs only, of
--- motion_rewrite.
+-- Laws: the rewritten graph is a graph, and makes no calls but those of the graph. For proofs only;
+-- the crates above cite them.
 use Rattle.std.proofs.Common.{◌≡◌, ℕ, zero, suc, ◌+◌, ◌-◌, ◌<◌, ◌≤◌, List, [], ◌∷◌, ◌++◌, length, slice_get, Some, inl, inr, sym, ap, ◌∙◌, subst, arith, length-append}
 use Rattle.std.proofs.lemmas.Bool.{cases_lt}
 use Rattle.std.proofs.lemmas.Option.{slice_get_within}
@@ -17,7 +17,8 @@ use Rattle.graph_edit.specs.InsertionNodes.{put_mono, place_found, rewritten_len
 -- ---- one insertion
 
 -- each of the insertions has its variables in range
-insertion_below : (k : ℕ) (puts : List Insertion) (j : ℕ) (put : Insertion) → InsertionsBelow k puts → slice_get puts j ≡ Some put → (put.var < k) × AllBelow k (rhs_vars put.rhs)
+insertion_below : (k : ℕ) (puts : List Insertion) (j : ℕ) (put : Insertion) → InsertionsBelow k puts
+    → slice_get puts j ≡ Some put → (put.var < k) × AllBelow k (rhs_vars put.rhs)
 insertion_below k [] j put below at_j = cc
 insertion_below k (first ∷ puts) zero put below at_j = let same : first ≡ put = cc in subst (λ (p : Insertion). (p.var < k) × AllBelow k (rhs_vars p.rhs)) same below.0
 insertion_below k (first ∷ puts) (suc j) put below at_j = insertion_below k puts j put below.1 at_j
@@ -47,7 +48,8 @@ module _ (r : Rewriting) (extra : List (List ℕ)) (graph : GraphShape) (fits : 
     | inr e ↦ (omega (arith, e.1, lt), omega (arith, e.0, e.1, put_mono r.inserts n (length nodes) lt, rewritten_length r nodes))
   ]
 
-  edge_within : CanMake graph.vars graph.received nodes → (m slot s : ℕ) → IsEdge raw m slot s → (1 ≤ s) × (s < length raw)
+  edge_within : CanMake graph.vars graph.received nodes → (m slot s : ℕ) → IsEdge raw m slot s
+      → (1 ≤ s) × (s < length raw)
   edge_within can m slot s edge =
       let long = rewritten_length r nodes in
       elim (edge_cases r nodes m slot s edge) [
@@ -67,7 +69,8 @@ module _ (r : Rewriting) (extra : List (List ℕ)) (graph : GraphShape) (fits : 
 
   -- ---- a graph can be made of the nodes
 
-  pub rewritten_can : CanMake graph.vars graph.received graph.nodes → CanMake (graph.vars ++ extra) graph.received (rewritten_nodes r graph.nodes)
+  pub rewritten_can : CanMake graph.vars graph.received graph.nodes
+      → CanMake (graph.vars ++ extra) graph.received (rewritten_nodes r graph.nodes)
   rewritten_can can =
       let all = length (graph.vars ++ extra) in
       let more : length graph.vars ≤ all = omega (arith, length-append graph.vars extra) in
@@ -93,7 +96,8 @@ module _ (r : Rewriting) (extra : List (List ℕ)) (graph : GraphShape) (fits : 
   -- ---- and of all of them
 
   module _ (is_graph : IsGraph graph.vars graph.received graph.nodes) where
-    chain_reached : (n j : ℕ) → n < length nodes → j < length (r.inserts n) → Reached raw (to n) → Reached raw (length nodes + (put_below r.inserts n + j))
+    chain_reached : (n j : ℕ) → n < length nodes → j < length (r.inserts n) → Reached raw (to n)
+        → Reached raw (length nodes + (put_below r.inserts n + j))
     chain_reached n zero below lt at = elim (entry_is r.inserts (length nodes) n) [
       | inl e ↦ absurd (omega (arith, e.0, lt))
       | inr e ↦ let is : to n ≡ length nodes + (put_below r.inserts n + 0) = omega (arith, e.1) in subst (Reached raw) is at
@@ -131,9 +135,11 @@ module _ (r : Rewriting) (extra : List (List ℕ)) (graph : GraphShape) (fits : 
 
     entry_reached : (n : ℕ) → Reached nodes n → Reached raw (to n)
     entry_reached n at_start = subst (Reached raw) (sym start_entry) at_start
-    entry_reached n (along m slot s reached edge) = along m slot (to n) (node_reached m (reached_within m reached) (entry_reached m reached)) (old_edge r nodes m slot n edge)
+    entry_reached n (along m slot s reached edge) =
+        along m slot (to n) (node_reached m (reached_within m reached) (entry_reached m reached)) (old_edge r nodes m slot n edge)
 
-    pub rewritten_reached : (n : ℕ) → n < length (rewritten_nodes r graph.nodes) → Reached (rewritten_nodes r graph.nodes) n
+    pub rewritten_reached : (n : ℕ) → n < length (rewritten_nodes r graph.nodes)
+        → Reached (rewritten_nodes r graph.nodes) n
     rewritten_reached n lt = elim (cases_lt n (length nodes)) [
       | inl old ↦ node_reached n old (entry_reached n (is_graph.reached n old))
       | inr ge ↦
@@ -148,7 +154,8 @@ module _ (r : Rewriting) (extra : List (List ℕ)) (graph : GraphShape) (fits : 
 -- ---- calls
 
 -- the new nodes call nothing, and the old ones call what they called
-pub rewritten_calls : (r : Rewriting) (nodes : List Node) (called count : ℕ) → NodesCall (rewritten_nodes r nodes) called count → NodesCall nodes called count
+pub rewritten_calls : (r : Rewriting) (nodes : List Node) (called count : ℕ)
+    → NodesCall (rewritten_nodes r nodes) called count → NodesCall nodes called count
 rewritten_calls r nodes called count c = elim (node_at r nodes c.number c.node c.here) [
   | inl o ↦ record {
     number = c.number;

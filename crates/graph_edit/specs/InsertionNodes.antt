@@ -1,5 +1,5 @@
 -- Laws of rewritten nodes: each is an old node, changed, or one of the new ones in the chain before an old node; and
--- which edges there are. For proofs only: the other files on insertions and motion_rewrite cite them.
+-- which edges there are. For proofs only; the crates above cite them.
 use Rattle.std.proofs.Common.{◌≡◌, ℕ, zero, suc, ◌+◌, ◌-◌, ◌<◌, ◌≤◌, List, [], ◌∷◌, ◌++◌, map, length, slice_get, Option, Some, None, option_map, ◌⊎◌, inl, inr, refl, sym, ap, ◌∙◌, subst, arith, length-append}
 use Rattle.std.proofs.lemmas.Option.{slice_get-map, slice_get_within, same_Some}
 use Rattle.std.proofs.lemmas.Bool.{cases_lt}
@@ -65,7 +65,9 @@ chain_length n k [] = refl
 chain_length n k (put ∷ puts) = ap suc (chain_length n (suc k) puts)
 
 -- a node of a chain is its assignment, and leads to the next or to node n
-chain_get : (n k : ℕ) (puts : List Insertion) (j : ℕ) (put : Insertion) → slice_get puts j ≡ Some put → (next : ℕ) × Link n k (length puts) j next × (slice_get (chain n k puts) j ≡ Some (Assign put.var put.rhs next))
+chain_get : (n k : ℕ) (puts : List Insertion) (j : ℕ) (put : Insertion)
+    → slice_get puts j ≡ Some put
+    → (next : ℕ) × Link n k (length puts) j next × (slice_get (chain n k puts) j ≡ Some (Assign put.var put.rhs next))
 chain_get n k [] j put at_j = cc
 chain_get n k (first ∷ puts) zero put at_j = (entry_among n (suc k) puts, leads puts, ap (λ (p : Insertion). Some (Assign p.var p.rhs (entry_among n (suc k) puts))) (same_Some first put at_j))
   where
@@ -81,7 +83,8 @@ module _ (inserts : ℕ → List Insertion) where
   more_below : (n : ℕ) → put_below inserts (suc n) ≡ put_below inserts n + length (inserts n)
   more_below n = refl
 
-  chains_length : (count n k : ℕ) → put_below inserts n + length (chains inserts count n k) ≡ put_below inserts (n + count)
+  chains_length : (count n k : ℕ)
+      → put_below inserts n + length (chains inserts count n k) ≡ put_below inserts (n + count)
   chains_length zero n k = let sum : n ≡ n + 0 = omega arith in let e = ap {B = ℕ} (put_below inserts) sum in omega (arith, e)
   chains_length (suc count) n k =
       let front = chain n k (inserts n) in
@@ -90,7 +93,9 @@ module _ (inserts : ℕ → List Insertion) where
       let e = ap {B = ℕ} (put_below inserts) sum in
       omega (arith, length-append front back, chain_length n k (inserts n), chains_length count (suc n) (k + length (inserts n)), e)
 
-  chains_get : (count n k d j : ℕ) → d < count → j < length (inserts (n + d)) → slice_get (chains inserts count n k) ((put_below inserts (n + d) - put_below inserts n) + j) ≡ slice_get (chain (n + d) (k + (put_below inserts (n + d) - put_below inserts n)) (inserts (n + d))) j
+  chains_get : (count n k d j : ℕ) → d < count → j < length (inserts (n + d))
+      → slice_get (chains inserts count n k) ((put_below inserts (n + d) - put_below inserts n) + j)
+      ≡ slice_get (chain (n + d) (k + (put_below inserts (n + d) - put_below inserts n)) (inserts (n + d))) j
   chains_get zero n k d j inside lt = absurd (omega (arith, inside))
   chains_get (suc count) n k zero j inside lt =
       let front = chain n k (inserts n) in
@@ -125,7 +130,9 @@ module _ (changes : ℕ → Change) (to : ℕ → ℕ) where
   olds_length k [] = refl
   olds_length k (node ∷ nodes) = ap suc (olds_length (suc k) nodes)
 
-  pub olds_get : (nodes : List Node) (k m : ℕ) → slice_get (olds changes to k nodes) m ≡ option_map (λ node. redirected to (changed (changes (k + m)) node)) (slice_get nodes m)
+  pub olds_get : (nodes : List Node) (k m : ℕ)
+      → slice_get (olds changes to k nodes) m
+      ≡ option_map (λ node. redirected to (changed (changes (k + m)) node)) (slice_get nodes m)
   olds_get [] k m = refl
   olds_get (node ∷ nodes) k zero = let sum : k ≡ k + 0 = omega arith in ap (λ q. Some (redirected to (changed (changes q) node))) sum
   olds_get (node ∷ nodes) k (suc m) =
@@ -135,10 +142,12 @@ module _ (changes : ℕ → Change) (to : ℕ → ℕ) where
 -- ---- the whole
 
 -- a number that has an edge has a node, and the edge is at a slot of it
-pub edge_node : (nodes : List Node) (m slot s : ℕ) → IsEdge nodes m slot s → (node : Node) × (slice_get nodes m ≡ Some node) × (slice_get (node_succs node) slot ≡ Some s)
+pub edge_node : (nodes : List Node) (m slot s : ℕ) → IsEdge nodes m slot s
+    → (node : Node) × (slice_get nodes m ≡ Some node) × (slice_get (node_succs node) slot ≡ Some s)
 edge_node nodes m slot s = from (slice_get nodes m)
   where
-    from : (o : Option Node) → slice_get (succs_of o) slot ≡ Some s → (node : Node) × (o ≡ Some node) × (slice_get (node_succs node) slot ≡ Some s)
+    from : (o : Option Node) → slice_get (succs_of o) slot ≡ Some s
+        → (node : Node) × (o ≡ Some node) × (slice_get (node_succs node) slot ≡ Some s)
     from None e = cc
     from (Some node) e = (node, refl, e)
 
@@ -173,7 +182,9 @@ module _ (r : Rewriting) (nodes : List Node) where
       let same = ap {B = ℕ} (put_below r.inserts) sum in
       omega (arith, length-append front back, olds_length r.changes to 0 nodes, chains_length r.inserts (length nodes) 0 (length nodes), same)
 
-  pub old_get : (m : ℕ) (old : Node) → slice_get nodes m ≡ Some old → slice_get (rewritten_nodes r nodes) m ≡ Some (redirected (entry r.inserts (length nodes)) (changed (r.changes m) old))
+  pub old_get : (m : ℕ) (old : Node) → slice_get nodes m ≡ Some old
+      → slice_get (rewritten_nodes r nodes) m
+      ≡ Some (redirected (entry r.inserts (length nodes)) (changed (r.changes m) old))
   old_get m old was =
       let front = olds r.changes to 0 nodes in
       let lt : m < length front = omega (arith, slice_get_within nodes m old was, olds_length r.changes to 0 nodes) in
@@ -184,7 +195,9 @@ module _ (r : Rewriting) (nodes : List Node) where
       ∙ ap (option_map (λ node. redirected to (changed (r.changes m) node))) was
 
   -- the new nodes before node n are its chain
-  pub chain_slice : (n j : ℕ) → n < length nodes → j < length (r.inserts n) → slice_get (rewritten_nodes r nodes) (length nodes + (put_below r.inserts n + j)) ≡ slice_get (chain n (length nodes + put_below r.inserts n) (r.inserts n)) j
+  pub chain_slice : (n j : ℕ) → n < length nodes → j < length (r.inserts n)
+      → slice_get (rewritten_nodes r nodes) (length nodes + (put_below r.inserts n + j))
+      ≡ slice_get (chain n (length nodes + put_below r.inserts n) (r.inserts n)) j
   chain_slice n j below within =
       let front = olds r.changes to 0 nodes in
       let back = chains r.inserts (length nodes) 0 (length nodes) in
@@ -198,7 +211,10 @@ module _ (r : Rewriting) (nodes : List Node) where
       ∙ ap (λ m. slice_get (chain m (length nodes + put_below r.inserts n) (r.inserts m)) j) (sym sum)
 
   -- the j-th new node before node n
-  pub new_get : (n j : ℕ) (put : Insertion) → n < length nodes → slice_get (r.inserts n) j ≡ Some put → (next : ℕ) × Link n (length nodes + put_below r.inserts n) (length (r.inserts n)) j next × (slice_get (rewritten_nodes r nodes) (length nodes + (put_below r.inserts n + j)) ≡ Some (Assign put.var put.rhs next))
+  pub new_get : (n j : ℕ) (put : Insertion) → n < length nodes
+      → slice_get (r.inserts n) j ≡ Some put
+      → (next : ℕ) × Link n (length nodes + put_below r.inserts n) (length (r.inserts n)) j next
+      × (slice_get (rewritten_nodes r nodes) (length nodes + (put_below r.inserts n + j)) ≡ Some (Assign put.var put.rhs next))
   new_get n j put below listed =
       let one = chain_get n (length nodes + put_below r.inserts n) (r.inserts n) j put listed in
       (one.0, one.1, chain_slice n j below (slice_get_within (r.inserts n) j put listed) ∙ one.2)
@@ -235,7 +251,8 @@ module _ (r : Rewriting) (nodes : List Node) where
     pub first : slot ≡ 0
     pub is : new.next ≡ s
 
-  pub old_edge : (m slot s : ℕ) → IsEdge nodes m slot s → IsEdge (rewritten_nodes r nodes) m slot (entry r.inserts (length nodes) s)
+  pub old_edge : (m slot s : ℕ) → IsEdge nodes m slot s
+      → IsEdge (rewritten_nodes r nodes) m slot (entry r.inserts (length nodes) s)
   old_edge m slot s edge =
       let node = edge_node nodes m slot s edge in
       ap (λ o. slice_get (succs_of o) slot) (old_get m node.0 node.1)
@@ -244,7 +261,9 @@ module _ (r : Rewriting) (nodes : List Node) where
       ∙ ap (option_map to) node.2
 
   -- the new nodes lead on to each other, and the last one to the node that they are put before
-  pub new_edge : (n j : ℕ) → n < length nodes → j < length (r.inserts n) → (s : ℕ) × HasEdge (rewritten_nodes r nodes) (length nodes + (put_below r.inserts n + j)) s × Link n (length nodes + put_below r.inserts n) (length (r.inserts n)) j s
+  pub new_edge : (n j : ℕ) → n < length nodes → j < length (r.inserts n)
+      → (s : ℕ) × HasEdge (rewritten_nodes r nodes) (length nodes + (put_below r.inserts n + j)) s
+      × Link n (length nodes + put_below r.inserts n) (length (r.inserts n)) j s
   new_edge n j below within =
       let put = some_at (r.inserts n) j within in
       let w = new_get n j put.0 below put.1 in
@@ -268,9 +287,13 @@ module _ (r : Rewriting) (nodes : List Node) where
       only next (suc slot) s e = cc
 
 -- a node is its own entry, or the first new node before it is
-pub entry_is : (inserts : ℕ → List Insertion) (nodes n : ℕ) → ((length (inserts n) ≡ 0) × (entry inserts nodes n ≡ n)) ⊎ ((0 < length (inserts n)) × (entry inserts nodes n ≡ nodes + put_below inserts n))
+pub entry_is : (inserts : ℕ → List Insertion) (nodes n : ℕ)
+    → ((length (inserts n) ≡ 0) × (entry inserts nodes n ≡ n))
+    ⊎ ((0 < length (inserts n)) × (entry inserts nodes n ≡ nodes + put_below inserts n))
 entry_is inserts nodes n = among (nodes + put_below inserts n) (inserts n)
   where
-    among : (first : ℕ) (puts : List Insertion) → ((length puts ≡ 0) × (entry_among n first puts ≡ n)) ⊎ ((0 < length puts) × (entry_among n first puts ≡ first))
+    among : (first : ℕ) (puts : List Insertion)
+        → ((length puts ≡ 0) × (entry_among n first puts ≡ n))
+        ⊎ ((0 < length puts) × (entry_among n first puts ≡ first))
     among first [] = inl (refl, refl)
     among first (put ∷ puts) = inr (omega arith, refl)

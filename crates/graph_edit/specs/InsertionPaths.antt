@@ -1,6 +1,6 @@
 -- Laws of paths of the rewritten graph: over each full path of the graph lies exactly one, through the same old nodes
 -- and the chains before them, and no other full paths are there; and what is assigned on it is a sum along the path.
--- For proofs only, of motion_rewrite and sink_dead.
+-- For proofs only; the crates above cite them.
 use Rattle.std.proofs.Common.{◌≡◌, ℕ, suc, ◌+◌, ◌<◌, ◌≤◌, true, if◌then◌else◌, nat_lt, filter, List, [], ◌∷◌, length, slice_get, Option, Some, None, option_map, refl, sym, ap, ◌∙◌, subst, arith}
 use Rattle.std.proofs.lemmas.Option.{slice_get_within}
 use Rattle.std.proofs.lemmas.Bool.{lt-ltb, le-ltb, false≢true}
@@ -30,15 +30,19 @@ IsInsertionChain nodes n k [] = Unit {0}
 IsInsertionChain nodes n k (put ∷ puts) = (slice_get nodes k ≡ Some (Assign put.var put.rhs (entry_among n (suc k) puts))) × IsInsertionChain nodes n (suc k) puts
 
 -- nodes that stand from k on as those of the chain form the insertion chain
-chain_from : (nodes : List Node) (n k : ℕ) (puts : List Insertion) → ((j : ℕ) → j < length puts → slice_get nodes (k + j) ≡ slice_get (chain n k puts) j) → IsInsertionChain nodes n k puts
+chain_from : (nodes : List Node) (n k : ℕ) (puts : List Insertion)
+    → ((j : ℕ) → j < length puts → slice_get nodes (k + j) ≡ slice_get (chain n k puts) j)
+    → IsInsertionChain nodes n k puts
 chain_from nodes n k [] are = tt
 chain_from nodes n k (put ∷ puts) are =
     let none : k ≡ k + 0 = omega arith in
     (ap (slice_get nodes) none ∙ are 0 (omega arith), chain_from nodes n (suc k) puts (λ j lt. (let more : suc k + j ≡ k + suc j = omega arith in ap (slice_get nodes) more ∙ are (suc j) (omega (arith, lt)))))
 
 -- the new nodes before a node are the chain of its insertions
-pub chain_is : (r : Rewriting) (nodes : List Node) (n : ℕ) → n < length nodes → IsInsertionChain (rewritten_nodes r nodes) n (length nodes + put_below r.inserts n) (r.inserts n)
-chain_is r nodes n below = chain_from (rewritten_nodes r nodes) n (length nodes + put_below r.inserts n) (r.inserts n) (λ j lt. (let same : (length nodes + put_below r.inserts n) + j ≡ length nodes + (put_below r.inserts n + j) = omega arith in ap (slice_get (rewritten_nodes r nodes)) same ∙ chain_slice r nodes n j below lt))
+pub chain_is : (r : Rewriting) (nodes : List Node) (n : ℕ) → n < length nodes
+    → IsInsertionChain (rewritten_nodes r nodes) n (length nodes + put_below r.inserts n) (r.inserts n)
+chain_is r nodes n below =
+    chain_from (rewritten_nodes r nodes) n (length nodes + put_below r.inserts n) (r.inserts n) (λ j lt. (let same : (length nodes + put_below r.inserts n) + j ≡ length nodes + (put_below r.inserts n + j) = omega arith in ap (slice_get (rewritten_nodes r nodes)) same ∙ chain_slice r nodes n j below lt))
 
 -- ---- one chain
 
@@ -55,7 +59,8 @@ return_is (Some (Test test taken other)) is = absurd (false≢true is)
 return_is (Some (Return a)) is = (a, refl)
 
 -- an old node stays in the path of the old nodes
-pub keep_old : (k n : ℕ) (path : List ℕ) → n < k → filter (λ m. nat_lt m k) (n ∷ path) ≡ n ∷ filter (λ m. nat_lt m k) path
+pub keep_old : (k n : ℕ) (path : List ℕ) → n < k
+    → filter (λ m. nat_lt m k) (n ∷ path) ≡ n ∷ filter (λ m. nat_lt m k) path
 keep_old k n path lt = ap (λ b. (if b then (n ∷ filter (λ m. nat_lt m k) path) else (filter (λ m. nat_lt m k) path))) (lt-ltb n k lt)
 
 -- a new node is left out of it
@@ -63,43 +68,54 @@ pub skip_new : (k n : ℕ) (path : List ℕ) → k ≤ n → filter (λ m. nat_l
 skip_new k n path le = ap (λ b. (if b then (n ∷ filter (λ m. nat_lt m k) path) else (filter (λ m. nat_lt m k) path))) (le-ltb n k le)
 
 -- the old nodes of a path through a chain are those of the path
-filter_through : (old k : ℕ) (puts : List Insertion) (path : List ℕ) → old ≤ k → filter (λ m. nat_lt m old) (through k puts path) ≡ filter (λ m. nat_lt m old) path
+filter_through : (old k : ℕ) (puts : List Insertion) (path : List ℕ) → old ≤ k
+    → filter (λ m. nat_lt m old) (through k puts path) ≡ filter (λ m. nat_lt m old) path
 filter_through old k [] path le = refl
 filter_through old k (put ∷ puts) path le = skip_new old k (through (suc k) puts path) le ∙ filter_through old (suc k) puts path (omega (arith, le))
 
 module _ (nodes : List Node) (n : ℕ) where
-  through_begins : (k : ℕ) (puts : List Insertion) (path : List ℕ) → Begins (entry_among n k puts) (through k puts (n ∷ path))
+  through_begins : (k : ℕ) (puts : List Insertion) (path : List ℕ)
+      → Begins (entry_among n k puts) (through k puts (n ∷ path))
   through_begins k [] path = refl
   through_begins k (put ∷ puts) path = refl
 
   -- a node before the chain
-  enters : (m k : ℕ) (puts : List Insertion) (path : List ℕ) → HasEdge nodes m (entry_among n k puts) → IsPath nodes (through k puts (n ∷ path)) → IsPath nodes (m ∷ through k puts (n ∷ path))
+  enters : (m k : ℕ) (puts : List Insertion) (path : List ℕ)
+      → HasEdge nodes m (entry_among n k puts) → IsPath nodes (through k puts (n ∷ path))
+      → IsPath nodes (m ∷ through k puts (n ∷ path))
   enters m k [] path edge is = (edge, is)
   enters m k (put ∷ puts) path edge is = (edge, is)
 
-  through_path : (k : ℕ) (puts : List Insertion) (path : List ℕ) → IsInsertionChain nodes n k puts → IsPath nodes (n ∷ path) → IsPath nodes (through k puts (n ∷ path))
+  through_path : (k : ℕ) (puts : List Insertion) (path : List ℕ) → IsInsertionChain nodes n k puts
+      → IsPath nodes (n ∷ path) → IsPath nodes (through k puts (n ∷ path))
   through_path k [] path c is = is
   through_path k (put ∷ puts) path c is = enters k (suc k) puts path (0, ap (λ o. slice_get (succs_of o) 0) c.0) (through_path (suc k) puts path c.1 is)
 
-  more_ends : (last m k : ℕ) (puts : List Insertion) (path : List ℕ) → Ends last (through k puts (n ∷ path)) → Ends last (m ∷ through k puts (n ∷ path))
+  more_ends : (last m k : ℕ) (puts : List Insertion) (path : List ℕ)
+      → Ends last (through k puts (n ∷ path)) → Ends last (m ∷ through k puts (n ∷ path))
   more_ends last m k [] path ends = ends
   more_ends last m k (put ∷ puts) path ends = ends
 
-  through_ends : (last k : ℕ) (puts : List Insertion) (path : List ℕ) → Ends last (n ∷ path) → Ends last (through k puts (n ∷ path))
+  through_ends : (last k : ℕ) (puts : List Insertion) (path : List ℕ) → Ends last (n ∷ path)
+      → Ends last (through k puts (n ∷ path))
   through_ends last k [] path ends = ends
   through_ends last k (put ∷ puts) path ends = more_ends last k (suc k) puts path (through_ends last (suc k) puts path ends)
 
 -- ---- sums
 
 -- a path through a chain weighs as much more as the assignments put
-through_weight : (weight : ℕ → Rhs → ℕ) (nodes : List Node) (n k : ℕ) (puts : List Insertion) (path : List ℕ) → IsInsertionChain nodes n k puts → sum_on (weight_at weight nodes) (through k puts path) ≡ weigh_all weight puts + sum_on (weight_at weight nodes) path
+through_weight : (weight : ℕ → Rhs → ℕ) (nodes : List Node) (n k : ℕ) (puts : List Insertion) (path : List ℕ)
+    → IsInsertionChain nodes n k puts
+    → sum_on (weight_at weight nodes) (through k puts path)
+    ≡ weigh_all weight puts + sum_on (weight_at weight nodes) path
 through_weight weight nodes n k [] path c = omega arith
 through_weight weight nodes n k (put ∷ puts) path c =
     let first : weight_at weight nodes k ≡ weight put.var put.rhs = ap (weigh weight) c.0 in
     omega (arith, first, through_weight weight nodes n (suc k) puts path c.1)
 
 -- a node weighs the same wherever its edges lead
-redirected_weight : (weight : ℕ → Rhs → ℕ) (to : ℕ → ℕ) (change : Change) (node : Node) → weigh weight (Some (redirected to (changed change node))) ≡ weigh weight (Some (changed change node))
+redirected_weight : (weight : ℕ → Rhs → ℕ) (to : ℕ → ℕ) (change : Change) (node : Node)
+    → weigh weight (Some (redirected to (changed change node))) ≡ weigh weight (Some (changed change node))
 redirected_weight weight to change (Start next) = refl
 redirected_weight weight to change (Skip next) = refl
 redirected_weight weight to Unchanged (Assign x rhs next) = refl
@@ -112,7 +128,8 @@ redirected_weight weight to change (Test test taken other) = refl
 redirected_weight weight to change (Return a) = refl
 
 -- and is a Return where it was one
-redirected_return : (to : ℕ → ℕ) (change : Change) (node : Node) → is_return (Some (redirected to (changed change node))) ≡ is_return (Some node)
+redirected_return : (to : ℕ → ℕ) (change : Change) (node : Node)
+    → is_return (Some (redirected to (changed change node))) ≡ is_return (Some node)
 redirected_return to change (Start next) = refl
 redirected_return to change (Skip next) = refl
 redirected_return to Unchanged (Assign x rhs next) = refl
@@ -146,7 +163,9 @@ module _ (r : Rewriting) (nodes : List Node) where
 
   -- The weight of the assignments on the corresponding path of a path is a sum along the path: at each node, of what is
   -- put before it and of what becomes of it
-  pub over_weight : (weight : ℕ → Rhs → ℕ) (path : List ℕ) → AllBelow (length nodes) path → sum_on (weight_at weight (rewritten_nodes r nodes)) (over_path r.inserts (length nodes) path) ≡ sum_on (new_weight_at weight r nodes) path
+  pub over_weight : (weight : ℕ → Rhs → ℕ) (path : List ℕ) → AllBelow (length nodes) path
+      → sum_on (weight_at weight (rewritten_nodes r nodes)) (over_path r.inserts (length nodes) path)
+      ≡ sum_on (new_weight_at weight r nodes) path
   over_weight weight [] within = refl
   over_weight weight (n ∷ path) within =
       let node = some_at nodes n within.0 in
@@ -154,7 +173,8 @@ module _ (r : Rewriting) (nodes : List Node) where
       let own : weight_at weight raw n ≡ weigh weight (option_map (changed (r.changes n)) (slice_get nodes n)) = ap (weigh weight) (old_get r nodes n node.0 node.1) ∙ redirected_weight weight to (r.changes n) node.0 ∙ ap (λ o. weigh weight (option_map (changed (r.changes n)) o)) (sym node.1) in
       omega (arith, chained, own, over_weight weight path within.1)
 
-  filter_over : (path : List ℕ) → AllBelow (length nodes) path → filter (λ m. nat_lt m (length nodes)) (over path) ≡ path
+  filter_over : (path : List ℕ) → AllBelow (length nodes) path
+      → filter (λ m. nat_lt m (length nodes)) (over path) ≡ path
   filter_over [] within = refl
   filter_over (n ∷ path) within =
       filter_through (length nodes) (first_new n) (r.inserts n) (n ∷ over path) (omega arith)
@@ -177,7 +197,8 @@ module _ (r : Rewriting) (nodes : List Node) where
 
   begins_over : to 0 ≡ 0 → (path : List ℕ) → Begins 0 path → Begins 0 (over path)
   begins_over start [] begins = begins
-  begins_over start (n ∷ path) begins = subst (λ k. Begins k (over (n ∷ path))) (ap to begins ∙ start) (through_begins raw n (first_new n) (r.inserts n) (over path))
+  begins_over start (n ∷ path) begins =
+      subst (λ k. Begins k (over (n ∷ path))) (ap to begins ∙ start) (through_begins raw n (first_new n) (r.inserts n) (over path))
 
   over_full : to 0 ≡ 0 → (path : List ℕ) → IsFullPath nodes path → IsOver nodes raw path (over path)
   over_full start path full =
@@ -218,7 +239,9 @@ module _ (r : Rewriting) (nodes : List Node) where
     stops : IsReturnAt nodes last
 
   module _ (within : AllWithin nodes) where
-    lies : (q : List ℕ) (last n k : ℕ) (puts : List Insertion) → IsInsertionChain raw n k puts → length nodes ≤ k → n < length nodes → IsPath raw (entry_among n k puts ∷ q) → Ends last (entry_among n k puts ∷ q) → IsReturnAt raw last → Lies n k puts q last
+    lies : (q : List ℕ) (last n k : ℕ) (puts : List Insertion) → IsInsertionChain raw n k puts
+        → length nodes ≤ k → n < length nodes → IsPath raw (entry_among n k puts ∷ q)
+        → Ends last (entry_among n k puts ∷ q) → IsReturnAt raw last → Lies n k puts q last
     lies [] last n k [] c above lt is ends returns = record {
       rest = [];
       same = keep_old (length nodes) n [] lt;
@@ -227,7 +250,8 @@ module _ (r : Rewriting) (nodes : List Node) where
       comes = ends;
       stops = subst (IsReturnAt nodes) ends (return_back n lt (subst (IsReturnAt raw) (sym ends) returns));
     }
-    lies [] last n k (put ∷ puts) c above lt is ends returns = absurd (false≢true (sym (ap is_return c.0) ∙ ap (λ m. is_return (slice_get raw m)) ends ∙ returns))
+    lies [] last n k (put ∷ puts) c above lt is ends returns =
+        absurd (false≢true (sym (ap is_return c.0) ∙ ap (λ m. is_return (slice_get raw m)) ends ∙ returns))
     lies (b ∷ q) last n k [] c above lt is ends returns =
         let m = edge_back n b lt is.0 in
         let m_in = within n m.1.0 m.0 m.1.1 in
@@ -254,7 +278,8 @@ module _ (r : Rewriting) (nodes : List Node) where
         }
 
     -- a full path from its second node on
-    lies_whole : to 0 ≡ 0 → 0 < length nodes → (b : ℕ) (q : List ℕ) (full : IsFullPath raw (b ∷ q)) → (b ≡ to 0) × Lies 0 (first_new 0) (r.inserts 0) q full.last
+    lies_whole : to 0 ≡ 0 → 0 < length nodes → (b : ℕ) (q : List ℕ) (full : IsFullPath raw (b ∷ q))
+        → (b ≡ to 0) × Lies 0 (first_new 0) (r.inserts 0) q full.last
     lies_whole start some b q full =
         let first : b ≡ to 0 = full.begins ∙ sym start in
         (first, lies q full.last 0 (first_new 0) (r.inserts 0) (chain_is r nodes 0 some) (omega arith) some (subst (λ u. IsPath raw (u ∷ q)) first full.is_path) (subst (λ u. Ends full.last (u ∷ q)) first full.ends) full.returns)
@@ -267,7 +292,8 @@ module _ (r : Rewriting) (nodes : List Node) where
         ap (λ u. u ∷ q) l.0 ∙ l.1.is ∙ ap over (sym whole)
 
     -- the old nodes of a full path of the result are one of the graph
-    under : to 0 ≡ 0 → 0 < length nodes → (other : List ℕ) → IsFullPath raw other → IsFullPath nodes (filter (λ n. nat_lt n (length nodes)) other)
+    under : to 0 ≡ 0 → 0 < length nodes → (other : List ℕ) → IsFullPath raw other
+        → IsFullPath nodes (filter (λ n. nat_lt n (length nodes)) other)
     under start some [] full = absurd full.begins
     under start some (b ∷ q) full =
         let l = lies_whole start some b q full in
@@ -276,15 +302,22 @@ module _ (r : Rewriting) (nodes : List Node) where
 
 -- ---- the laws
 
-module _ (r : Rewriting) (extra : List (List ℕ)) (graph : GraphShape) (fits : CanRewrite r extra graph) (is_graph : IsGraph graph.vars graph.received graph.nodes) where
+module _ (r : Rewriting) (extra : List (List ℕ)) (graph : GraphShape)
+    (fits : CanRewrite r extra graph) (is_graph : IsGraph graph.vars graph.received graph.nodes) where
   -- over each full path lies a path
-  pub rewritten_over : (path : List ℕ) → IsFullPath graph.nodes path → IsOver graph.nodes (rewritten_nodes r graph.nodes) path (over_path r.inserts (length graph.nodes) path)
+  pub rewritten_over : (path : List ℕ) → IsFullPath graph.nodes path
+      → IsOver graph.nodes (rewritten_nodes r graph.nodes) path (over_path r.inserts (length graph.nodes) path)
   rewritten_over path full = over_full r graph.nodes (start_entry r extra graph fits) path full
 
   -- and no other
-  pub rewritten_alone : (path other : List ℕ) → IsOver graph.nodes (rewritten_nodes r graph.nodes) path other → other ≡ over_path r.inserts (length graph.nodes) path
-  rewritten_alone path other is = alone r graph.nodes (λ m slot s edge. (is_graph.can.succs m slot s edge).1) (start_entry r extra graph fits) (slice_get_within graph.nodes 0 (Start is_graph.can.start.0) is_graph.can.start.1) path other is
+  pub rewritten_alone : (path other : List ℕ)
+      → IsOver graph.nodes (rewritten_nodes r graph.nodes) path other
+      → other ≡ over_path r.inserts (length graph.nodes) path
+  rewritten_alone path other is =
+      alone r graph.nodes (λ m slot s edge. (is_graph.can.succs m slot s edge).1) (start_entry r extra graph fits) (slice_get_within graph.nodes 0 (Start is_graph.can.start.0) is_graph.can.start.1) path other is
 
   -- and each full path of the result lies over one
-  pub rewritten_under : (other : List ℕ) → IsFullPath (rewritten_nodes r graph.nodes) other → IsFullPath graph.nodes (filter (λ n. nat_lt n (length graph.nodes)) other)
-  rewritten_under other full = under r graph.nodes (λ m slot s edge. (is_graph.can.succs m slot s edge).1) (start_entry r extra graph fits) (slice_get_within graph.nodes 0 (Start is_graph.can.start.0) is_graph.can.start.1) other full
+  pub rewritten_under : (other : List ℕ) → IsFullPath (rewritten_nodes r graph.nodes) other
+      → IsFullPath graph.nodes (filter (λ n. nat_lt n (length graph.nodes)) other)
+  rewritten_under other full =
+      under r graph.nodes (λ m slot s edge. (is_graph.can.succs m slot s edge).1) (start_entry r extra graph fits) (slice_get_within graph.nodes 0 (Start is_graph.can.start.0) is_graph.can.start.1) other full

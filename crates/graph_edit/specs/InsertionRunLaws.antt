@@ -1,6 +1,6 @@
 -- Laws: a rewriting that preserves a relation of values keeps what the graph does; it evaluates no more operators
 -- where it evaluates no more operators on each full path; and where a run of the graph goes along a path, that of the
--- result goes along the corresponding path of it. For proofs only, of motion_rewrite.
+-- result goes along the corresponding path of it. For proofs only; the crates above cite them.
 use Rattle.std.proofs.Common.{◌≡◌, ℕ, zero, suc, ◌+◌, ◌<◌, ◌≤◌, Bool, true, false, not, ◌&&◌, if◌then◌else◌, nat_eq, nat_lt, ◌||◌, List, [], ◌∷◌, ◌++◌, map, flat_map, reverse, length, slice_get, ℤ, Option, Some, None, option_map, ◌⊎◌, inl, inr, refl, sym, ap, ◌∙◌, subst, arith, le_refl, append_assoc}
 use Rattle.std.proofs.lemmas.List.{reverse-append}
 use Rattle.std.proofs.lemmas.Bool.{and_parts, or_parts, cases_Bool, cases_lt, ltb-false, ltb-true, not-true, true≢false}
@@ -51,26 +51,34 @@ module _ (shared : ℕ) (received : List ℕ) (nodes : List Node) where
   code_of = graph_code shared received nodes
 
   -- a new assignment that does not trap
-  one_goes_on : (a x next : ℕ) (rhs : Rhs) (f : Frame) → slice_get nodes a ≡ Some (Assign x rhs next) → rhs_traps f.values rhs ≡ false → code_of (at a f) ≡ Continues (rhs_count rhs) (at next (record f { values = with_value x (rhs_value f.values rhs) f.values }))
+  one_goes_on : (a x next : ℕ) (rhs : Rhs) (f : Frame)
+      → slice_get nodes a ≡ Some (Assign x rhs next) → rhs_traps f.values rhs ≡ false
+      → code_of (at a f)
+      ≡ Continues (rhs_count rhs) (at next (record f { values = with_value x (rhs_value f.values rhs) f.values }))
   one_goes_on a x next rhs f is untrapped =
       ap (λ o. node_transition shared received o (at a f)) is
       ∙ assign_is x rhs next (at a f)
       ∙ ap (λ b. (if b then Traps ZeroDivisor 1 else Continues (rhs_count rhs) (assigned x (rhs_value f.values rhs) next f))) untrapped
 
-  one_trap : (a x next : ℕ) (rhs : Rhs) (f : Frame) → slice_get nodes a ≡ Some (Assign x rhs next) → rhs_traps f.values rhs ≡ true → code_of (at a f) ≡ Traps ZeroDivisor 1
+  one_trap : (a x next : ℕ) (rhs : Rhs) (f : Frame) → slice_get nodes a ≡ Some (Assign x rhs next)
+      → rhs_traps f.values rhs ≡ true → code_of (at a f) ≡ Traps ZeroDivisor 1
   one_trap a x next rhs f is trap =
       ap (λ o. node_transition shared received o (at a f)) is
       ∙ assign_is x rhs next (at a f)
       ∙ ap (λ b. (if b then Traps ZeroDivisor 1 else Continues (rhs_count rhs) (assigned x (rhs_value f.values rhs) next f))) trap
 
-  chain_silent : (n k : ℕ) (puts : List Insertion) → IsInsertionChain nodes n k puts → (f : Frame) → none_traps puts f.values ≡ true → Silently code_of (length puts) (at (entry_among n k puts) f) (landed n puts f) (weigh_all counts puts)
+  chain_silent : (n k : ℕ) (puts : List Insertion) → IsInsertionChain nodes n k puts → (f : Frame)
+      → none_traps puts f.values ≡ true
+      → Silently code_of (length puts) (at (entry_among n k puts) f) (landed n puts f) (weigh_all counts puts)
   chain_silent n k [] c f untrapped = (refl, refl)
   chain_silent n k (put ∷ puts) c f untrapped =
       let g = record f { values = with_value put.var (rhs_value f.values put.rhs) f.values } in
       let both = and_parts _ _ untrapped in
       (at (entry_among n (suc k) puts) g, rhs_count put.rhs, weigh_all counts puts, one_goes_on k put.var (entry_among n (suc k) puts) put.rhs f c.0 (not-true _ both.0), chain_silent n (suc k) puts c.1 g both.1, refl)
 
-  chain_traps : (n k : ℕ) (puts : List Insertion) → IsInsertionChain nodes n k puts → (f : Frame) → none_traps puts f.values ≡ false → (steps : ℕ) × TrapsAfter code_of steps (at (entry_among n k puts) f)
+  chain_traps : (n k : ℕ) (puts : List Insertion) → IsInsertionChain nodes n k puts → (f : Frame)
+      → none_traps puts f.values ≡ false
+      → (steps : ℕ) × TrapsAfter code_of steps (at (entry_among n k puts) f)
   chain_traps n k [] c f trap = absurd (true≢false trap)
   chain_traps n k (put ∷ puts) c f trap = elim (cases_Bool (rhs_traps f.values put.rhs)) [
     | inl now ↦ (0, record { there = at k f; cost = 0; silent = (refl, refl); counted = 1; is = one_trap k put.var (entry_among n (suc k) puts) put.rhs f c.0 now })
@@ -94,7 +102,9 @@ module _ (shared : ℕ) (received : List ℕ) (nodes : List Node) where
 with_other : (x y : ℕ) (c : ℤ) (v : Values) (b : Bool) → b ≡ false → (if b then c else v y) ≡ v y
 with_other x y c v b e = ap (λ q. (if q then c else v y)) e
 
-module _ (r : Rewriting) (extra : List (List ℕ)) (graph : GraphShape) (Holds : ValueRelation) (fits : CanRewrite r extra graph) (is_graph : IsGraph graph.vars graph.received graph.nodes) (preserves : Preserves graph r Holds) where
+module _ (r : Rewriting) (extra : List (List ℕ)) (graph : GraphShape) (Holds : ValueRelation)
+    (fits : CanRewrite r extra graph) (is_graph : IsGraph graph.vars graph.received graph.nodes)
+    (preserves : Preserves graph r Holds) where
   abbrev nodes : List Node
   nodes = graph.nodes
 
@@ -161,7 +171,9 @@ module _ (r : Rewriting) (extra : List (List ℕ)) (graph : GraphShape) (Holds :
   -- ---- to a successor
 
   -- where the values are related before the successor, the two are near each other, or both will trap
-  settle : (n s : ℕ) (before : List ℕ) (x y : ℕ) (arguments : List ℤ) (v w : Values) → Trace nodes n before → HasEdge nodes n s → Holds s (n ∷ before) v w → x ≡ sum_on cost (n ∷ before) → y ≡ sum_on new_cost (n ∷ before)
+  settle : (n s : ℕ) (before : List ℕ) (x y : ℕ) (arguments : List ℤ) (v w : Values)
+      → Trace nodes n before → HasEdge nodes n s → Holds s (n ∷ before) v w
+      → x ≡ sum_on cost (n ∷ before) → y ≡ sum_on new_cost (n ∷ before)
       → Next (n ∷ before) x y (record { place = s; arguments = arguments; values = v }) (record { place = to s; arguments = arguments; values = w })
   settle n s before x y arguments v w trace edge holds is_x is_y = elim (cases_Bool (none_traps (r.inserts s) w)) [
     | inl untrapped ↦ inl (record { trace = goes_on n s before trace edge; place = refl; arguments = refl; first = λ none. absurd (omega (arith, none, (is_graph.can.succs n edge.0 s edge.1).0)); holds = λ some. holds; untrapped = untrapped; counted = is_x; counted' = is_y })
@@ -173,7 +185,9 @@ module _ (r : Rewriting) (extra : List (List ℕ)) (graph : GraphShape) (Holds :
   ]
 
   -- at a node: the first side with values v, the second after what is put before it
-  module _ (n : ℕ) (before : List ℕ) (x y : ℕ) (arguments : List ℤ) (v w : Values) (trace : Trace graph.nodes n before) (untrapped : none_traps (r.inserts n) w ≡ true) (counted : x ≡ sum_on cost before) (counted' : y ≡ sum_on new_cost before) where
+  module _ (n : ℕ) (before : List ℕ) (x y : ℕ) (arguments : List ℤ) (v w : Values)
+      (trace : Trace graph.nodes n before) (untrapped : none_traps (r.inserts n) w ≡ true)
+      (counted : x ≡ sum_on cost before) (counted' : y ≡ sum_on new_cost before) where
     abbrev w' : Values
     w' = values_after (r.inserts n) w
 
@@ -186,19 +200,24 @@ module _ (r : Rewriting) (extra : List (List ℕ)) (graph : GraphShape) (Holds :
     abbrev h : Frame
     h = record { place = n; arguments = arguments; values = values_after (r.inserts n) w }
 
-    onward : (node : Node) → slice_get nodes n ≡ Some node → (s slot x1 y1 : ℕ) (v1 w1 : Values) → slice_get (node_succs node) slot ≡ Some s → x1 ≡ x + weigh counts (Some node) → y1 ≡ y' + weigh counts (Some (changed (r.changes n) node)) → Holds s (n ∷ before) v1 w1
+    onward : (node : Node) → slice_get nodes n ≡ Some node → (s slot x1 y1 : ℕ) (v1 w1 : Values)
+        → slice_get (node_succs node) slot ≡ Some s → x1 ≡ x + weigh counts (Some node)
+        → y1 ≡ y' + weigh counts (Some (changed (r.changes n) node)) → Holds s (n ∷ before) v1 w1
         → Next (n ∷ before) x1 y1 (record { place = s; arguments = arguments; values = v1 }) (record { place = to s; arguments = arguments; values = w1 })
     onward node is s slot x1 y1 v1 w1 leads is_x is_y holds =
         let cost_is : cost n ≡ weigh counts (Some node) = ap (weigh counts) is in
         let new_cost_is : new_cost n ≡ weigh_all counts (r.inserts n) + weigh counts (Some (changed (r.changes n) node)) = ap (λ o. weigh_all counts (r.inserts n) + weigh counts (option_map (changed (r.changes n)) o)) is in
         settle n s before x1 y1 arguments v1 w1 trace (slot, ap (λ o. slice_get (succs_of o) slot) is ∙ leads) holds (omega (arith, counted, is_x, cost_is)) (omega (arith, counted', is_y, new_cost_is))
 
-    trapping : (c d : ℕ) (next next' : Frame) (b : Bool) → (b ≡ false → Next (n ∷ before) (x + c) (y' + d) next next') → Follows (n ∷ before) x y' (if b then Traps ZeroDivisor 1 else Continues c next) (if b then Traps ZeroDivisor 1 else Continues d next')
+    trapping : (c d : ℕ) (next next' : Frame) (b : Bool)
+        → (b ≡ false → Next (n ∷ before) (x + c) (y' + d) next next')
+        → Follows (n ∷ before) x y' (if b then Traps ZeroDivisor 1 else Continues c next) (if b then Traps ZeroDivisor 1 else Continues d next')
     trapping c d next next' true near = (1, refl)
     trapping c d next next' false near = (d, next', refl, near refl)
 
     -- an assignment on both sides
-    both_assign : (z : ℕ) (rhs other : Rhs) (s : ℕ) → rhs_traps v rhs ≡ rhs_traps w' other → (rhs_traps v rhs ≡ false → Next (n ∷ before) (x + rhs_count rhs) (y' + rhs_count other) (assigned z (rhs_value v rhs) s f) (assigned z (rhs_value w' other) (to s) h))
+    both_assign : (z : ℕ) (rhs other : Rhs) (s : ℕ) → rhs_traps v rhs ≡ rhs_traps w' other
+        → (rhs_traps v rhs ≡ false → Next (n ∷ before) (x + rhs_count rhs) (y' + rhs_count other) (assigned z (rhs_value v rhs) s f) (assigned z (rhs_value w' other) (to s) h))
         → Follows (n ∷ before) x y' (assign_transition z rhs s f) (assign_transition z other (to s) h)
     both_assign z rhs other s alike near =
         let next = assigned z (rhs_value v rhs) s f in
@@ -208,23 +227,32 @@ module _ (r : Rewriting) (extra : List (List ℕ)) (graph : GraphShape) (Holds :
 
     module _ (holds : Holds n before v w) where
       -- a node that is not changed, with the values after it
-      unchanged_next : (node : Node) → slice_get nodes n ≡ Some node → r.changes n ≡ Unchanged → (s slot x1 y1 : ℕ) (v1 w1 : Values) → slice_get (node_succs node) slot ≡ Some s → x1 ≡ x + weigh counts (Some node) → y1 ≡ y' + weigh counts (Some (changed Unchanged node)) → BothAssign (λ z. assigns graph z node) v (values_after (r.inserts n) w) v1 w1
+      unchanged_next : (node : Node) → slice_get nodes n ≡ Some node → r.changes n ≡ Unchanged
+          → (s slot x1 y1 : ℕ) (v1 w1 : Values) → slice_get (node_succs node) slot ≡ Some s
+          → x1 ≡ x + weigh counts (Some node)
+          → y1 ≡ y' + weigh counts (Some (changed Unchanged node))
+          → BothAssign (λ z. assigns graph z node) v (values_after (r.inserts n) w) v1 w1
           → Next (n ∷ before) x1 y1 (record { place = s; arguments = arguments; values = v1 }) (record { place = to s; arguments = arguments; values = w1 })
       unchanged_next node is unchanged s slot x1 y1 v1 w1 leads is_x is_y both =
           let edge : HasEdge nodes n s = (slot, ap (λ o. slice_get (succs_of o) slot) is ∙ leads) in
           onward node is s slot x1 y1 v1 w1 leads is_x (is_y ∙ ap (λ c. y' + weigh counts (Some (changed c node))) (sym unchanged)) (preserves.keeps n s node before v w v1 w1 trace is edge unchanged holds untrapped both)
 
-      none_assigned : (node : Node) → ((z : ℕ) → assigns graph z node ≡ false) → BothAssign (λ z. assigns graph z node) v w' v w'
+      none_assigned : (node : Node) → ((z : ℕ) → assigns graph z node ≡ false)
+          → BothAssign (λ z. assigns graph z node) v w' v w'
       none_assigned node none = record { same = λ z e. absurd (true≢false (sym e ∙ none z)); first_keeps = λ z e. refl; second_keeps = λ z e. refl }
 
-      one_assigned : (z : ℕ) (c d : ℤ) (node : Node) → c ≡ d → ((q : ℕ) → assigns graph q node ≡ nat_eq q z) → BothAssign (λ q. assigns graph q node) v w' (with_value z c v) (with_value z d w')
+      one_assigned : (z : ℕ) (c d : ℤ) (node : Node) → c ≡ d
+          → ((q : ℕ) → assigns graph q node ≡ nat_eq q z)
+          → BothAssign (λ q. assigns graph q node) v w' (with_value z c v) (with_value z d w')
       one_assigned z c d node same are = record {
         same = λ q e. (let is : nat_eq q z ≡ true = sym (are q) ∙ e in ap (λ b. (if b then c else v q)) is ∙ same ∙ sym (ap (λ b. (if b then d else w' q)) is));
         first_keeps = λ q e. with_other z q c v (nat_eq q z) (sym (are q) ∙ e);
         second_keeps = λ q e. with_other z q d w' (nat_eq q z) (sym (are q) ∙ e);
       }
 
-      follows_assign : (z : ℕ) (rhs : Rhs) (s : ℕ) → slice_get nodes n ≡ Some (Assign z rhs s) → (change : Change) → r.changes n ≡ change → Follows (n ∷ before) x y' (assign_transition z rhs s f) (node_transition graph.shared graph.received (Some (redirected to (changed_assign change z rhs s))) h)
+      follows_assign : (z : ℕ) (rhs : Rhs) (s : ℕ) → slice_get nodes n ≡ Some (Assign z rhs s)
+          → (change : Change) → r.changes n ≡ change
+          → Follows (n ∷ before) x y' (assign_transition z rhs s f) (node_transition graph.shared graph.received (Some (redirected to (changed_assign change z rhs s))) h)
       follows_assign z rhs s is Unchanged unchanged =
           let equal = preserves.reads n (Assign z rhs s) before v w trace is unchanged holds untrapped in
           both_assign z rhs rhs s (sym (traps_equal w' v rhs equal)) (λ no_trap. unchanged_next (Assign z rhs s) is unchanged s 0 (x + rhs_count rhs) (y' + rhs_count rhs) _ _ refl refl refl (one_assigned z (rhs_value v rhs) (rhs_value w' rhs) (Assign z rhs s) (sym (rhs_equal w' v rhs equal)) (λ q. refl)))
@@ -238,7 +266,8 @@ module _ (r : Rewriting) (extra : List (List ℕ)) (graph : GraphShape) (Holds :
           (0, at (to s) h, refl, onward (Assign z rhs s) is s 0 (x + rhs_count rhs) (y' + 0) _ _ refl refl (ap (λ c. y' + weigh counts (Some (changed_assign c z rhs s))) (sym change)) p.1)
 
       -- what a call assigns: the globals, and then its result
-      call_assigned : (into : Option ℕ) (unit : ℕ) (operands : List Operand) (s : ℕ) (answer : Answer) → length answer.globals ≡ graph.shared
+      call_assigned : (into : Option ℕ) (unit : ℕ) (operands : List Operand) (s : ℕ) (answer : Answer)
+          → length answer.globals ≡ graph.shared
           → BothAssign (λ z. assigns graph z (Call into unit operands s)) v w' (with_result into answer.value (with_first answer.globals v)) (with_result into answer.value (with_first answer.globals w'))
       call_assigned None unit operands s answer long = record {
         same = λ z e. with_first_same answer.globals v w' z (subst (λ k. z < k) (sym long) (ltb-true z graph.shared e));
@@ -257,15 +286,22 @@ module _ (r : Rewriting) (extra : List (List ℕ)) (graph : GraphShape) (Holds :
         second_keeps = λ z e. (let parts = or_parts (nat_lt z graph.shared) (nat_eq z q) e in with_other q z answer.value (with_first answer.globals w') (nat_eq z q) parts.1 ∙ with_first_other answer.globals w' z (subst (λ k. k ≤ z) (sym long) (ltb-false z graph.shared parts.0)));
       }
 
-      follows_call : (into : Option ℕ) (unit : ℕ) (operands : List Operand) (s : ℕ) → slice_get nodes n ≡ Some (Call into unit operands s) → r.changes n ≡ Unchanged → (answer : Answer) → IsCallAnswer (length (shared_values graph.shared v)) answer → Next (n ∷ before) x y' (resumed into answer (at s f)) (resumed into answer (at (to s) h))
+      follows_call : (into : Option ℕ) (unit : ℕ) (operands : List Operand) (s : ℕ)
+          → slice_get nodes n ≡ Some (Call into unit operands s) → r.changes n ≡ Unchanged
+          → (answer : Answer) → IsCallAnswer (length (shared_values graph.shared v)) answer
+          → Next (n ∷ before) x y' (resumed into answer (at s f)) (resumed into answer (at (to s) h))
       follows_call into unit operands s is unchanged answer fits =
           unchanged_next (Call into unit operands s) is unchanged s 0 x y' (with_result into answer.value (with_first answer.globals v)) (with_result into answer.value (with_first answer.globals w')) refl (omega arith) (omega arith) (call_assigned into unit operands s answer (fits.globals.long ∙ shared_long graph.shared v))
 
-      follows_test : (test : MirTest) (s o : ℕ) → slice_get nodes n ≡ Some (Test test s o) → r.changes n ≡ Unchanged → (b : Bool) → Follows (n ∷ before) x y' (Continues 0 (at (if b then s else o) f)) (Continues 0 (at (if b then to s else to o) h))
+      follows_test : (test : MirTest) (s o : ℕ) → slice_get nodes n ≡ Some (Test test s o)
+          → r.changes n ≡ Unchanged → (b : Bool)
+          → Follows (n ∷ before) x y' (Continues 0 (at (if b then s else o) f)) (Continues 0 (at (if b then to s else to o) h))
       follows_test test s o is unchanged true = (0, at (to s) h, refl, unchanged_next (Test test s o) is unchanged s 0 (x + 0) (y' + 0) v w' refl refl refl (none_assigned (Test test s o) (λ z. refl)))
       follows_test test s o is unchanged false = (0, at (to o) h, refl, unchanged_next (Test test s o) is unchanged o 1 (x + 0) (y' + 0) v w' refl refl refl (none_assigned (Test test s o) (λ z. refl)))
 
-      follows_guard : (test : MirTest) (number s : ℕ) → slice_get nodes n ≡ Some (Guard test number s) → r.changes n ≡ Unchanged → (b : Bool) → Follows (n ∷ before) x y' (if b then Traps (Raised number) 0 else Continues 0 (at s f)) (if b then Traps (Raised number) 0 else Continues 0 (at (to s) h))
+      follows_guard : (test : MirTest) (number s : ℕ)
+          → slice_get nodes n ≡ Some (Guard test number s) → r.changes n ≡ Unchanged → (b : Bool)
+          → Follows (n ∷ before) x y' (if b then Traps (Raised number) 0 else Continues 0 (at s f)) (if b then Traps (Raised number) 0 else Continues 0 (at (to s) h))
       follows_guard test number s is unchanged true = (0, refl)
       follows_guard test number s is unchanged false = (0, at (to s) h, refl, unchanged_next (Guard test number s) is unchanged s 0 (x + 0) (y' + 0) v w' refl refl refl (none_assigned (Guard test number s) (λ z. refl)))
 
@@ -282,12 +318,14 @@ module _ (r : Rewriting) (extra : List (List ℕ)) (graph : GraphShape) (Holds :
           ends (k ∷ []) last = refl
           ends (k ∷ l ∷ path) last = ends (l ∷ path) last
 
-          begins : (m : ℕ) (earlier : List ℕ) (path : List ℕ) → Trace nodes m earlier → Begins 0 (reverse earlier ++ m ∷ path)
+          begins : (m : ℕ) (earlier : List ℕ) (path : List ℕ) → Trace nodes m earlier
+              → Begins 0 (reverse earlier ++ m ∷ path)
           begins m earlier path from_start = refl
           begins m earlier path (goes_on k l first t edge) =
               subst (Begins 0) (sym (ap (λ l. l ++ m ∷ path) (reverse-append (k ∷ []) first) ∙ append_assoc (reverse first) (k ∷ []) (m ∷ path))) (begins k first (m ∷ path) t)
 
-          full : (earlier : List ℕ) (last : ℕ) → Trace nodes last earlier → IsReturnAt nodes last → IsFullPath nodes (reverse earlier ++ last ∷ [])
+          full : (earlier : List ℕ) (last : ℕ) → Trace nodes last earlier → IsReturnAt nodes last
+              → IsFullPath nodes (reverse earlier ++ last ∷ [])
           full earlier last t returns = record {
             is_path = trace_path nodes (trace_within 0 [] from_start) (λ m slot s edge. (is_graph.can.succs m slot s edge).1) last earlier t;
             begins = begins last earlier [] t;
@@ -297,7 +335,8 @@ module _ (r : Rewriting) (extra : List (List ℕ)) (graph : GraphShape) (Holds :
           }
 
       -- a node other than Start
-      follows : (node : Node) → slice_get nodes n ≡ Some node → 1 ≤ n → Follows (n ∷ before) x y' (node_transition graph.shared graph.received (Some node) f) (node_transition graph.shared graph.received (Some (redirected to (changed (r.changes n) node))) h)
+      follows : (node : Node) → slice_get nodes n ≡ Some node → 1 ≤ n
+          → Follows (n ∷ before) x y' (node_transition graph.shared graph.received (Some node) f) (node_transition graph.shared graph.received (Some (redirected to (changed (r.changes n) node))) h)
       follows (Start s) is some = absurd (omega (arith, some, is_graph.can.only n s is))
       follows (Assign z rhs s) is some = follows_assign z rhs s is (r.changes n) refl
       follows (Skip s) is some = elim (preserves.changes n (Skip s) is) [
@@ -343,7 +382,8 @@ module _ (r : Rewriting) (extra : List (List ℕ)) (graph : GraphShape) (Holds :
       ]
 
     -- Start, where both sides get the same values
-    follows_start : n ≡ 0 → w' ≡ v → Follows (n ∷ before) x y' (node_transition graph.shared graph.received (slice_get nodes n) f) (node_transition graph.shared graph.received (slice_get raw n) h)
+    follows_start : n ≡ 0 → w' ≡ v
+        → Follows (n ∷ before) x y' (node_transition graph.shared graph.received (slice_get nodes n) f) (node_transition graph.shared graph.received (slice_get raw n) h)
     follows_start zero_is same =
         let s = is_graph.can.start.0 in
         let is : slice_get nodes n ≡ Some (Start s) = ap (slice_get nodes) zero_is ∙ is_graph.can.start.1 in
@@ -360,10 +400,12 @@ module _ (r : Rewriting) (extra : List (List ℕ)) (graph : GraphShape) (Holds :
   -- ---- from near each other
 
   -- at Start, before which nothing is put, both sides have the same values
-  at_first : (before : List ℕ) (x y : ℕ) (f g : Frame) → NearAt before x y f g → f.place ≡ 0 → values_after (r.inserts f.place) g.values ≡ f.values
+  at_first : (before : List ℕ) (x y : ℕ) (f g : Frame) → NearAt before x y f g → f.place ≡ 0
+      → values_after (r.inserts f.place) g.values ≡ f.values
   at_first before x y f g near zero_is = ap (λ l. values_after l g.values) (ap r.inserts zero_is ∙ fits.at_start) ∙ near.first zero_is
 
-  moves : (before : List ℕ) (x y : ℕ) (f g : Frame) → NearAt before x y f g → Follows (f.place ∷ before) x (y + weigh_all counts (r.inserts f.place)) (code f) (code' (landed f.place (r.inserts f.place) g))
+  moves : (before : List ℕ) (x y : ℕ) (f g : Frame) → NearAt before x y f g
+      → Follows (f.place ∷ before) x (y + weigh_all counts (r.inserts f.place)) (code f) (code' (landed f.place (r.inserts f.place) g))
   moves before x y f g near =
       let n = f.place in
       let place = trace_within n before near.trace in
@@ -379,7 +421,16 @@ module _ (r : Rewriting) (extra : List (List ℕ)) (graph : GraphShape) (Holds :
       ])
 
   starts : (entry : CallEntry) → NearAt [] 0 0 (first_frame entry) (first_frame entry)
-  starts entry = record { trace = from_start; place = sym (start_entry r extra graph fits); arguments = refl; first = λ none. refl; holds = λ some. absurd (omega (arith, some)); untrapped = ap (λ l. none_traps l (first_frame entry).values) fits.at_start; counted = refl; counted' = refl }
+  starts entry = record {
+    trace = from_start;
+    place = sym (start_entry r extra graph fits);
+    arguments = refl;
+    first = λ none. refl;
+    holds = λ some. absurd (omega (arith, some));
+    untrapped = ap (λ l. none_traps l (first_frame entry).values) fits.at_start;
+    counted = refl;
+    counted' = refl;
+  }
 
   -- ---- the simulation
 
@@ -389,15 +440,33 @@ module _ (r : Rewriting) (extra : List (List ℕ)) (graph : GraphShape) (Holds :
   from_next : (path : List ℕ) (x y y1 : ℕ) (f g : Frame) → y ≡ y1 → Next path x y f g → (z : ℕ) × Near z x y1 f g
   from_next path x y y1 f g e next = elim next [ inl near ↦ (0, inl (path, subst (λ q. NearAt path x q f g) e near)) | inr trap ↦ (trap.0, inr trap.1) ]
 
-  from_follows : (path : List ℕ) (x y : ℕ) (h : Frame) (t : Transition) → Follows path x y t (code' h) → Responds (CountsNoMore r graph.nodes) Near code' 0 x y h t
+  from_follows : (path : List ℕ) (x y : ℕ) (h : Frame) (t : Transition)
+      → Follows path x y t (code' h) → Responds (CountsNoMore r graph.nodes) Near code' 0 x y h t
   from_follows path x y h (Continues n next) a = let q = from_next path (x + n) (y + a.0) (y + a.0) next a.1 refl a.3 in record { steps = 1; cost = a.0; there = a.1; silent = (a.1, a.0, 0, a.2, (refl, refl), omega arith); measure = q.0; related = q.1; moves = inl (le_refl 1) }
   from_follows path x y h (Prints v next) a = let q = from_next path x y (y + 0) next a.0 (omega arith) a.2 in record { steps = 0; cost = 0; there = h; silent = (refl, refl); second_next = a.0; is = a.1; measure = q.0; related = q.1 }
-  from_follows path x y h (Calls unit entry into next) a = record { steps = 0; cost = 0; there = h; silent = (refl, refl); second_into = into; second_next = a.0; is = a.1; related = λ answer fits. from_next path x y (y + 0) (resumed into answer next) (resumed into answer a.0) (omega arith) (a.2 answer fits) }
-  from_follows path x y h (Returns answer) a = record { steps = 0; cost = 0; there = h; silent = (refl, refl); is = a.0; cheaper = λ cheap. let least = a.1 cheap in omega (arith, least) }
+  from_follows path x y h (Calls unit entry into next) a = record {
+    steps = 0;
+    cost = 0;
+    there = h;
+    silent = (refl, refl);
+    second_into = into;
+    second_next = a.0;
+    is = a.1;
+    related = λ answer fits. from_next path x y (y + 0) (resumed into answer next) (resumed into answer a.0) (omega arith) (a.2 answer fits);
+  }
+  from_follows path x y h (Returns answer) a = record {
+    steps = 0;
+    cost = 0;
+    there = h;
+    silent = (refl, refl);
+    is = a.0;
+    cheaper = λ cheap. let least = a.1 cheap in omega (arith, least);
+  }
   from_follows path x y h (Traps kind n) a = record { steps = 0; cost = 0; there = h; silent = (refl, refl); counted = a.0; is = a.1 }
 
   -- both will trap: the second stays where it is until the first does
-  trap_responds : (z x y : ℕ) (f g : Frame) → BothTrap z f g → Responds (CountsNoMore r graph.nodes) Near code' z x y g (code f)
+  trap_responds : (z x y : ℕ) (f g : Frame) → BothTrap z f g
+      → Responds (CountsNoMore r graph.nodes) Near code' z x y g (code f)
   trap_responds zero x y f g b =
       let is : code f ≡ Traps ZeroDivisor b.first.counted = ap code b.first.silent.0 ∙ b.first.is in
       subst (Responds (CountsNoMore r graph.nodes) Near code' 0 x y g) (sym is) (record { steps = b.steps; cost = b.second.cost; there = b.second.there; silent = b.second.silent; counted = b.second.counted; is = b.second.is })
@@ -413,7 +482,9 @@ module _ (r : Rewriting) (extra : List (List ℕ)) (graph : GraphShape) (Holds :
         moves = inr (omega arith);
       })
 
-  near_silent : (f g : Frame) → f.place < length nodes → g.place ≡ to f.place → none_traps (r.inserts f.place) g.values ≡ true → Silently code' (length (r.inserts f.place)) g (landed f.place (r.inserts f.place) g) (weigh_all counts (r.inserts f.place))
+  near_silent : (f g : Frame) → f.place < length nodes → g.place ≡ to f.place
+      → none_traps (r.inserts f.place) g.values ≡ true
+      → Silently code' (length (r.inserts f.place)) g (landed f.place (r.inserts f.place) g) (weigh_all counts (r.inserts f.place))
   near_silent f g below e untrapped =
       let run = chain_silent graph.shared graph.received raw f.place (first_new f.place) (r.inserts f.place) (chain_is r nodes f.place below) g untrapped in
       let same : g ≡ at (to f.place) g = ap (λ q. at q g) e in
@@ -438,12 +509,16 @@ module _ (r : Rewriting) (extra : List (List ℕ)) (graph : GraphShape) (Holds :
   pub rewritten_same : UnitSame (graph_machine graph.shared graph.received graph.nodes) (graph_machine graph.shared graph.received (rewritten_nodes r graph.nodes))
   rewritten_same = simulated_same _ _ (CountsNoMore r graph.nodes) Near simulates
 
-  pub rewritten_cheaper : CountsNoMore r graph.nodes → UnitCheaper (graph_machine graph.shared graph.received graph.nodes) (graph_machine graph.shared graph.received (rewritten_nodes r graph.nodes))
+  pub rewritten_cheaper : CountsNoMore r graph.nodes
+      → UnitCheaper (graph_machine graph.shared graph.received graph.nodes) (graph_machine graph.shared graph.received (rewritten_nodes r graph.nodes))
   rewritten_cheaper cheap = simulated_cheaper _ _ (CountsNoMore r graph.nodes) Near simulates cheap
 
   -- ---- runs along paths
 
-  along_chain : (n k : ℕ) (puts : List Insertion) → IsInsertionChain raw n k puts → (rest : List ℕ) (g : Frame) (answers : List Answer) → none_traps puts g.values ≡ true → GoesAlong code' (n ∷ rest) (landed n puts g) answers → GoesAlong code' (through k puts (n ∷ rest)) (at (entry_among n k puts) g) answers
+  along_chain : (n k : ℕ) (puts : List Insertion) → IsInsertionChain raw n k puts
+      → (rest : List ℕ) (g : Frame) (answers : List Answer) → none_traps puts g.values ≡ true
+      → GoesAlong code' (n ∷ rest) (landed n puts g) answers
+      → GoesAlong code' (through k puts (n ∷ rest)) (at (entry_among n k puts) g) answers
   along_chain n k [] c rest g answers untrapped goes = goes
   along_chain n k (put ∷ puts) c rest g answers untrapped goes =
       let over = through (suc k) puts (n ∷ rest) in
@@ -452,7 +527,8 @@ module _ (r : Rewriting) (extra : List (List ℕ)) (graph : GraphShape) (Holds :
       (refl, subst (λ t. StepsAlong over (GoesAlong code' over) t answers) (sym (one_goes_on graph.shared graph.received raw k put.var (entry_among n (suc k) puts) put.rhs g c.0 (not-true _ both.0))) (along_chain n (suc k) puts c.1 rest h answers both.1 goes))
 
   -- no run that will trap goes along a path to a return
-  trap_returns : (z : ℕ) (path : List ℕ) (f : Frame) (answers : List Answer) → TrapsAfter code z f → GoesAlong code path f answers → ⊥
+  trap_returns : (z : ℕ) (path : List ℕ) (f : Frame) (answers : List Answer) → TrapsAfter code z f
+      → GoesAlong code path f answers → ⊥
   trap_returns z [] f answers t goes = goes
   trap_returns zero (n ∷ path) f answers t goes = subst (λ q. StepsAlong path (GoesAlong code path) q answers) (ap code t.silent.0 ∙ t.is) goes.1
   trap_returns (suc z) (n ∷ path) f answers t goes =
@@ -467,7 +543,11 @@ module _ (r : Rewriting) (extra : List (List ℕ)) (graph : GraphShape) (Holds :
   abbrev GoesOver : List ℕ → Type 0
   GoesOver path = (before : List ℕ) (x y : ℕ) (f g : Frame) (answers : List Answer) → AreAnswers graph.shared answers → Next before x y f g → GoesAlong code path f answers → GoesAlong code' (over_of path) g answers
 
-  steps_over : (path : List ℕ) → GoesOver path → (passed : List ℕ) (x y : ℕ) (t t' : Transition) (answers : List Answer) → AreAnswers graph.shared answers → HandsOver graph.shared t → Follows passed x y t t' → StepsAlong path (GoesAlong code path) t answers → StepsAlong (over_of path) (GoesAlong code' (over_of path)) t' answers
+  steps_over : (path : List ℕ) → GoesOver path
+      → (passed : List ℕ) (x y : ℕ) (t t' : Transition) (answers : List Answer)
+      → AreAnswers graph.shared answers → HandsOver graph.shared t → Follows passed x y t t'
+      → StepsAlong path (GoesAlong code path) t answers
+      → StepsAlong (over_of path) (GoesAlong code' (over_of path)) t' answers
   steps_over path ih passed x y (Continues n next) t' answers are hands moved steps =
       subst (λ t. StepsAlong (over_of path) (GoesAlong code' (over_of path)) t answers) (sym moved.2) (ih passed (x + n) (y + moved.0) next moved.1 answers are moved.3 steps)
   steps_over path ih passed x y (Prints v next) t' answers are hands moved steps =
@@ -493,5 +573,8 @@ module _ (r : Rewriting) (extra : List (List ℕ)) (graph : GraphShape) (Holds :
     | inr trap ↦ absurd (trap_returns trap.0 (n ∷ path) f answers trap.1.first goes)
   ]
 
-  pub rewritten_runs : (path : List ℕ) (entry : CallEntry) (answers : List Answer) → AreAnswers graph.shared answers → RunsAlong (graph_machine graph.shared graph.received graph.nodes) entry answers path → RunsAlong (graph_machine graph.shared graph.received (rewritten_nodes r graph.nodes)) entry answers (over_path r.inserts (length graph.nodes) path)
+  pub rewritten_runs : (path : List ℕ) (entry : CallEntry) (answers : List Answer)
+      → AreAnswers graph.shared answers
+      → RunsAlong (graph_machine graph.shared graph.received graph.nodes) entry answers path
+      → RunsAlong (graph_machine graph.shared graph.received (rewritten_nodes r graph.nodes)) entry answers (over_path r.inserts (length graph.nodes) path)
   rewritten_runs path entry answers are runs = goes_over path [] 0 0 (first_frame entry) (first_frame entry) answers are (inl (starts entry)) runs

@@ -53,23 +53,33 @@ pub record TrapsAfter (code : Code) (steps : ℕ) (frame : Frame) : Type 0 where
 -- The conditions on a rewriting and a relation of values. By them the rewritten graph does the same as the graph
 pub record Preserves (graph : GraphShape) (r : Rewriting) (Holds : ValueRelation) : Type 0 where
   -- only assignments are changed
-  pub changes : (n : ℕ) (node : Node) → slice_get graph.nodes n ≡ Some node → (r.changes n ≡ Unchanged) ⊎ ((x : ℕ) × (rhs : Rhs) × (next : ℕ) × (node ≡ Assign x rhs next))
+  pub changes : (n : ℕ) (node : Node) → slice_get graph.nodes n ≡ Some node
+      → (r.changes n ≡ Unchanged) ⊎ ((x : ℕ) × (rhs : Rhs) × (next : ℕ) × (node ≡ Assign x rhs next))
   -- it holds after Start, where the values of both sides are equal
   pub starts : (s : ℕ) (values : Values) → HasEdge graph.nodes 0 s → Holds s (0 ∷ []) values values
   -- where a new assignment traps, the graph traps too, after silent steps
-  pub traps : (n : ℕ) (before : List ℕ) (arguments : List ℤ) (v w : Values) → Trace graph.nodes n before → Holds n before v w → none_traps (r.inserts n) w ≡ false
+  pub traps : (n : ℕ) (before : List ℕ) (arguments : List ℤ) (v w : Values)
+      → Trace graph.nodes n before → Holds n before v w → none_traps (r.inserts n) w ≡ false
       → (steps : ℕ) × TrapsAfter (graph_code graph.shared graph.received graph.nodes) steps (record { place = n; arguments = arguments; values = v })
   -- what a node reads that is not changed has the same value on both sides
-  pub reads : (n : ℕ) (node : Node) (before : List ℕ) (v w : Values) → Trace graph.nodes n before → slice_get graph.nodes n ≡ Some node → r.changes n ≡ Unchanged → Holds n before v w → none_traps (r.inserts n) w ≡ true
+  pub reads : (n : ℕ) (node : Node) (before : List ℕ) (v w : Values) → Trace graph.nodes n before
+      → slice_get graph.nodes n ≡ Some node → r.changes n ≡ Unchanged → Holds n before v w
+      → none_traps (r.inserts n) w ≡ true
       → EqualOn (node_reads graph node) (values_after (r.inserts n) w) v
   -- and what it assigns keeps the relation
-  pub keeps : (n s : ℕ) (node : Node) (before : List ℕ) (v w v' w' : Values) → Trace graph.nodes n before → slice_get graph.nodes n ≡ Some node → HasEdge graph.nodes n s → r.changes n ≡ Unchanged → Holds n before v w → none_traps (r.inserts n) w ≡ true
+  pub keeps : (n s : ℕ) (node : Node) (before : List ℕ) (v w v' w' : Values)
+      → Trace graph.nodes n before → slice_get graph.nodes n ≡ Some node → HasEdge graph.nodes n s
+      → r.changes n ≡ Unchanged → Holds n before v w → none_traps (r.inserts n) w ≡ true
       → BothAssign (λ x. assigns graph x node) v (values_after (r.inserts n) w) v' w' → Holds s (n ∷ before) v' w'
   -- an assignment with another right side traps where the old one does, and else keeps the relation
-  pub replaces : (n s x : ℕ) (rhs other : Rhs) (before : List ℕ) (v w : Values) → Trace graph.nodes n before → slice_get graph.nodes n ≡ Some (Assign x rhs s) → r.changes n ≡ Replaced other → Holds n before v w → none_traps (r.inserts n) w ≡ true
+  pub replaces : (n s x : ℕ) (rhs other : Rhs) (before : List ℕ) (v w : Values)
+      → Trace graph.nodes n before → slice_get graph.nodes n ≡ Some (Assign x rhs s)
+      → r.changes n ≡ Replaced other → Holds n before v w → none_traps (r.inserts n) w ≡ true
       → (rhs_traps v rhs ≡ rhs_traps (values_after (r.inserts n) w) other) × (rhs_traps v rhs ≡ false → Holds s (n ∷ before) (with_value x (rhs_value v rhs) v) (with_value x (rhs_value (values_after (r.inserts n) w) other) (values_after (r.inserts n) w)))
   -- an assignment that is removed does not trap, and the relation is kept without it
-  pub removes : (n s x : ℕ) (rhs : Rhs) (before : List ℕ) (v w : Values) → Trace graph.nodes n before → slice_get graph.nodes n ≡ Some (Assign x rhs s) → r.changes n ≡ Removed → Holds n before v w → none_traps (r.inserts n) w ≡ true
+  pub removes : (n s x : ℕ) (rhs : Rhs) (before : List ℕ) (v w : Values)
+      → Trace graph.nodes n before → slice_get graph.nodes n ≡ Some (Assign x rhs s)
+      → r.changes n ≡ Removed → Holds n before v w → none_traps (r.inserts n) w ≡ true
       → (rhs_traps v rhs ≡ false) × Holds s (n ∷ before) (with_value x (rhs_value v rhs) v) (values_after (r.inserts n) w)
 
 -- ---- counts

@@ -1,14 +1,13 @@
 -- Law: a split graph stays split. What entered a node enters the first of the new nodes before it, and each other
--- node of a chain, and the node after it, is entered once. For proofs only, of motion_rewrite.
+-- node of a chain, and the node after it, is entered once. For proofs only; the crates above cite them.
 use Rattle.std.proofs.Common.{◌≡◌, ℕ, zero, suc, ◌+◌, ◌<◌, ◌≤◌, if◌then◌else◌, nat_eq, List, [], ◌∷◌, ◌++◌, map, length, slice_get, Some, ◌⊎◌, inl, inr, refl, sym, ap, ◌∙◌, subst, arith, append-nil, length-append}
-use Rattle.std.proofs.lemmas.Bool.{cases_eq, cases_lt, eq-eqb}
+use Rattle.std.proofs.lemmas.Bool.{cases_eq, cases_lt, eq-eqb, ne_eqb}
 use Rattle.std.proofs.lemmas.Option.{slice_get_within}
 use Rattle.flow_graph.specs.ListLaws.{get_left, get_right_at}
 use Rattle.flow_graph.specs.declared.nodes.Node.{Node}
 use Rattle.flow_graph.specs.declared.nodes.Node.TheVariants.{Skip}
 use Rattle.flow_graph.specs.Graphs.{node_succs, succs_of, AllWithin, IsEdge}
 use Rattle.flow_graph.specs.Edges.{leaving, edges_from, preds_among, preds_of, IsSplit}
-use Rattle.std.proofs.lemmas.Bool.{ne_eqb}
 use Rattle.flow_graph.specs.LeavingLaws.{edges_from_append}
 use Rattle.flow_graph.specs.PredLaws.{preds_append}
 use Rattle.graph_edit.specs.Insertions.{Insertion, Change, Rewriting, put_below, entry, olds, chains, rewritten_nodes}
@@ -18,14 +17,16 @@ use Rattle.graph_edit.specs.InsertionNodes.{olds_length, IsNewPlace, Link, place
 -- ---- no edge, and at most one
 
 -- where no successor is s, the node is no predecessor of s
-none_leaving : (s k : ℕ) (succs : List ℕ) → ((slot : ℕ) → slice_get succs slot ≡ Some s → ⊥) → preds_among s (leaving k succs) ≡ []
+none_leaving : (s k : ℕ) (succs : List ℕ) → ((slot : ℕ) → slice_get succs slot ≡ Some s → ⊥)
+    → preds_among s (leaving k succs) ≡ []
 none_leaving s k [] none = refl
 none_leaving s k (t ∷ succs) none =
     ap (λ b. (if b then k ∷ preds_among s (leaving k succs) else preds_among s (leaving k succs))) (ne_eqb t s (λ e. none 0 (ap Some e)))
     ∙ none_leaving s k succs (λ slot. none (suc slot))
 
 -- where no edge leads to s, it has no predecessors
-none_preds : (s k : ℕ) (nodes : List Node) → ((m slot : ℕ) → IsEdge nodes m slot s → ⊥) → preds_among s (edges_from k nodes) ≡ []
+none_preds : (s k : ℕ) (nodes : List Node) → ((m slot : ℕ) → IsEdge nodes m slot s → ⊥)
+    → preds_among s (edges_from k nodes) ≡ []
 none_preds s k [] none = refl
 none_preds s k (node ∷ nodes) none =
     preds_append s (leaving k (node_succs node)) (edges_from (suc k) nodes)
@@ -33,7 +34,10 @@ none_preds s k (node ∷ nodes) none =
     ∙ none_preds s (suc k) nodes (λ m. none (suc m))
 
 -- a node with one successor at most enters s by its first edge and by no other, or not at all
-first_leaves : (s k : ℕ) (succs : List ℕ) → ((slot t : ℕ) → slice_get succs slot ≡ Some t → slot ≡ 0) → ((slice_get succs 0 ≡ Some s) × (length (preds_among s (leaving k succs)) ≤ 1)) ⊎ ((slot : ℕ) → slice_get succs slot ≡ Some s → ⊥)
+first_leaves : (s k : ℕ) (succs : List ℕ)
+    → ((slot t : ℕ) → slice_get succs slot ≡ Some t → slot ≡ 0)
+    → ((slice_get succs 0 ≡ Some s) × (length (preds_among s (leaving k succs)) ≤ 1))
+    ⊎ ((slot : ℕ) → slice_get succs slot ≡ Some s → ⊥)
 first_leaves s k [] single = inr (λ slot e. cc)
 first_leaves s k (t ∷ u ∷ succs) single = absurd (omega (arith, single 1 u refl))
 first_leaves s k (t ∷ []) single = elim (cases_eq t s) [
@@ -46,7 +50,9 @@ first_leaves s k (t ∷ []) single = elim (cases_eq t s) [
     other differ (suc slot) e = cc
 
 -- where each node has at most one successor, and no two have this one
-few_preds : (s k : ℕ) (nodes : List Node) → ((m slot t : ℕ) → IsEdge nodes m slot t → slot ≡ 0) → ((m n : ℕ) → IsEdge nodes m 0 s → IsEdge nodes n 0 s → m ≡ n) → length (preds_among s (edges_from k nodes)) ≤ 1
+few_preds : (s k : ℕ) (nodes : List Node) → ((m slot t : ℕ) → IsEdge nodes m slot t → slot ≡ 0)
+    → ((m n : ℕ) → IsEdge nodes m 0 s → IsEdge nodes n 0 s → m ≡ n)
+    → length (preds_among s (edges_from k nodes)) ≤ 1
 few_preds s k [] single same = omega arith
 few_preds s k (node ∷ nodes) single same =
     let front = leaving k (node_succs node) in
@@ -71,14 +77,18 @@ few_preds s k (node ∷ nodes) single same =
 -- ---- other successors
 
 module _ (changes : ℕ → Change) (to : ℕ → ℕ) (s t : ℕ) where
-  moved_leaving : (k : ℕ) (succs : List ℕ) → ((slot u : ℕ) → slice_get succs slot ≡ Some u → nat_eq (to u) s ≡ nat_eq u t) → preds_among s (leaving k (map to succs)) ≡ preds_among t (leaving k succs)
+  moved_leaving : (k : ℕ) (succs : List ℕ)
+      → ((slot u : ℕ) → slice_get succs slot ≡ Some u → nat_eq (to u) s ≡ nat_eq u t)
+      → preds_among s (leaving k (map to succs)) ≡ preds_among t (leaving k succs)
   moved_leaving k [] as_before = refl
   moved_leaving k (u ∷ succs) as_before =
       ap (λ b. (if b then k ∷ preds_among s (leaving k (map to succs)) else preds_among s (leaving k (map to succs)))) (as_before 0 u refl)
       ∙ ap (λ l. (if nat_eq u t then k ∷ l else l)) (moved_leaving k succs (λ slot. as_before (suc slot)))
 
   -- where the edges that led to t are those that now lead to s
-  moved_preds : (k : ℕ) (nodes : List Node) → ((m slot u : ℕ) → IsEdge nodes m slot u → nat_eq (to u) s ≡ nat_eq u t) → preds_among s (edges_from k (olds changes to k nodes)) ≡ preds_among t (edges_from k nodes)
+  moved_preds : (k : ℕ) (nodes : List Node)
+      → ((m slot u : ℕ) → IsEdge nodes m slot u → nat_eq (to u) s ≡ nat_eq u t)
+      → preds_among s (edges_from k (olds changes to k nodes)) ≡ preds_among t (edges_from k nodes)
   moved_preds k [] as_before = refl
   moved_preds k (node ∷ nodes) as_before =
       ap (λ l. preds_among s (leaving k l ++ edges_from (suc k) (olds changes to (suc k) nodes))) (rewritten_succs to _ node)
@@ -103,7 +113,8 @@ module _ (inserts : ℕ → List Insertion) (nodes : ℕ) where
   ]
 
   -- a node is the entry of one of the first m, or of none
-  entry_of : (s m : ℕ) → ((t : ℕ) × (t < m) × (entry inserts nodes t ≡ s)) ⊎ ((t : ℕ) → t < m → entry inserts nodes t ≡ s → ⊥)
+  entry_of : (s m : ℕ)
+      → ((t : ℕ) × (t < m) × (entry inserts nodes t ≡ s)) ⊎ ((t : ℕ) → t < m → entry inserts nodes t ≡ s → ⊥)
   entry_of s zero = inr (λ t lt e. omega (arith, lt))
   entry_of s (suc m) = elim (entry_of s m) [
     | inl found ↦ inl (found.0, omega (arith, found.1), found.2)
@@ -193,12 +204,14 @@ module _ (r : Rewriting) (nodes : List Node) (within : AllWithin nodes) where
         | inr w ↦ absurd (omega (arith, w.new.at, lt, olds_length r.changes to 0 nodes))
       ]
 
-  preds_parts : (s : ℕ) → preds_of raw s ≡ preds_among s (edges_from 0 front) ++ preds_among s (edges_from (0 + length front) back)
+  preds_parts : (s : ℕ)
+      → preds_of raw s ≡ preds_among s (edges_from 0 front) ++ preds_among s (edges_from (0 + length front) back)
   preds_parts s =
       ap (preds_among s) (edges_from_append 0 front back) ∙ preds_append s (edges_from 0 front) (edges_from (0 + length front) back)
 
   -- what enters the entry of a node is what entered the node
-  pub entry_preds : (t : ℕ) → t < length nodes → preds_of (rewritten_nodes r nodes) (entry r.inserts (length nodes) t) ≡ preds_of nodes t
+  pub entry_preds : (t : ℕ) → t < length nodes
+      → preds_of (rewritten_nodes r nodes) (entry r.inserts (length nodes) t) ≡ preds_of nodes t
   entry_preds t lt =
       let kept = moved_preds r.changes to (to t) t 0 nodes (λ m slot u edge. same_target u (within m slot u edge)) in
       let none = none_preds (to t) (0 + length front) back (λ m slot edge. leads_to_no_entry r.inserts (length nodes) m (to t) t (new_target m slot (to t) edge).1 lt refl) in
@@ -220,7 +233,8 @@ module _ (r : Rewriting) (nodes : List Node) (within : AllWithin nodes) where
       omega (arith, parts, sum, none, few)
 
   -- a node that is entered more than once is an entry
-  many_preds : (s : ℕ) → 1 < length (preds_of raw s) → (t : ℕ) × (t < length nodes) × (to t ≡ s) × (preds_of raw s ≡ preds_of nodes t)
+  many_preds : (s : ℕ) → 1 < length (preds_of raw s)
+      → (t : ℕ) × (t < length nodes) × (to t ≡ s) × (preds_of raw s ≡ preds_of nodes t)
   many_preds s many = elim (entry_of r.inserts (length nodes) s (length nodes)) [
     | inl found ↦ (found.0, found.1, found.2, ap (preds_of raw) (sym found.2) ∙ entry_preds found.0 found.1)
     | inr none ↦ absurd (omega (arith, many, other_preds s none))

@@ -11,7 +11,8 @@ use Rattle.flow_graph.specs.Graphs.{AllWithin, succs_of}
 use Rattle.flow_graph.specs.Paths.{HasEdge}
 
 -- a list with at most one item has the same at two places
-only_item : (xs : List ℕ) (i j m k : ℕ) → (1 < length xs → ⊥) → slice_get xs i ≡ Some m → slice_get xs j ≡ Some k → m ≡ k
+only_item : (xs : List ℕ) (i j m k : ℕ) → (1 < length xs → ⊥) → slice_get xs i ≡ Some m
+    → slice_get xs j ≡ Some k → m ≡ k
 only_item [] i j m k few here there = absurd (none-some _ here)
 only_item (x ∷ []) zero zero m k few here there = cc
 only_item (x ∷ []) zero (suc j) m k few here there = absurd (none-some _ there)
@@ -27,7 +28,8 @@ one_or_skips nodes within split n = elim (dec_lt 1 (length (preds_of nodes n))) 
 ]
 
 -- so two nodes that lead to one node are one, or the first is a Skip to it
-pub joins : (nodes : List Node) → AllWithin nodes → IsSplit nodes → (m k n : ℕ) → HasEdge nodes m n → HasEdge nodes k n → (m ≡ k) ⊎ (slice_get nodes m ≡ Some (Skip n))
+pub joins : (nodes : List Node) → AllWithin nodes → IsSplit nodes → (m k n : ℕ) → HasEdge nodes m n
+    → HasEdge nodes k n → (m ≡ k) ⊎ (slice_get nodes m ≡ Some (Skip n))
 joins nodes within split m k n from_m from_k = elim (one_or_skips nodes within split n) [ inl one ↦ inl (one m k from_m from_k) | inr skips ↦ inr (skips m from_m) ]
 
 -- a Skip leads to one node

@@ -4,7 +4,7 @@ use Rattle.flow_graph.specs.Blocks.{AreBlocksOf}
 use Rattle.flow_graph.specs.Edges.{edges_of}
 use Rattle.path_laws.specs.Paths.{HaveShape}
 use Rattle.path_laws.specs.RowLaws.{as_wide}
-use Rattle.latest_place.specs.declared.nodes.Uses.{Uses}
+use Rattle.latest_place.specs.declared.equations.Uses.{Uses}
 use Rattle.latest_place.specs.Rows.{AreLikeUses}
 
 -- rows of one shape are like the uses

@@ -11,8 +11,8 @@ use Rattle.flow_graph.specs.Graphs.{GraphShape, succs_at}
 use Rattle.motion_rewrite.specs.Expressions.{uses}
 use Rattle.latest_place.specs.Parts.{AreNumbersBelow, AreSeenFrom, HasNumber, IsPassedOnce, IsSeenFrom, LeadsFrom, seen_again, seen_at}
 use Rattle.latest_place.specs.Stable.{split_bit}
-use Rattle.latest_place.specs.declared.once.Seen.{Seen}
-use Rattle.latest_place.specs.declared.once.Seen.TheVariants.{Never, Once, More}
+use Rattle.latest_place.specs.declared.once.SeenUse.{SeenUse}
+use Rattle.latest_place.specs.declared.once.SeenUse.TheVariants.{Never, Once, More}
 
 -- ---- one node more
 
@@ -34,7 +34,7 @@ module _ (graph : GraphShape) (n : ℕ) where
 
   module _ (e : Expr) where
     -- an expression that n does not use
-    unused_more : uses graph e n ≡ false → (s : Seen) → IsSeenFrom graph e (suc n) s → IsSeenFrom graph e n s
+    unused_more : uses graph e n ≡ false → (s : SeenUse) → IsSeenFrom graph e (suc n) s → IsSeenFrom graph e n s
     unused_more off Never seen = λ m low. elim (cases_eq m n) as (λ _. uses graph e m ≡ false) [ inl same ↦ rw same off | inr other ↦ seen m (from_n m low other) ]
     unused_more off Once seen = (
       seen.0,
@@ -51,7 +51,7 @@ module _ (graph : GraphShape) (n : ℕ) where
     unused_more off More seen = seen
 
     -- one that it uses
-    used_more : uses graph e n ≡ true → (passed : Bool) → (passed ≡ true → IsPassedOnce graph n) → (s : Seen) → IsSeenFrom graph e (suc n) s → IsSeenFrom graph e n (seen_again passed s)
+    used_more : uses graph e n ≡ true → (passed : Bool) → (passed ≡ true → IsPassedOnce graph n) → (s : SeenUse) → IsSeenFrom graph e (suc n) s → IsSeenFrom graph e n (seen_again passed s)
     used_more on true once Never seen = (
       n,
       record {
@@ -66,7 +66,7 @@ module _ (graph : GraphShape) (n : ℕ) where
     used_more on passed once More seen = tt
 
   -- so it is of all in the table
-  pub seen_more : (table : List Expr) (seen new : List Seen) (found : Option ℕ) (passed : Bool) (least : ℕ) → AreSeenFrom graph table (suc n) seen → LeadsFrom graph n least → (passed ≡ true → n < least)
+  pub seen_more : (table : List Expr) (seen new : List SeenUse) (found : Option ℕ) (passed : Bool) (least : ℕ) → AreSeenFrom graph table (suc n) seen → LeadsFrom graph n least → (passed ≡ true → n < least)
       → ((i : ℕ) (e : Expr) → slice_get table i ≡ Some e → (uses graph e n ≡ true) ↔ (found ≡ Some i)) → new ≡ seen_at seen passed found → AreSeenFrom graph table n new
   seen_more table seen new None passed least was leads above finds is = subst (AreSeenFrom graph table n) (sym is) (record {
     long = was.long;
@@ -87,13 +87,13 @@ module _ (graph : GraphShape) (n : ℕ) where
 -- ---- the numbers
 
 -- the numbers below this one, without those of expressions that were seen once
-pub record AreListedTo (seen : List Seen) (end : ℕ) (numbers : List ℕ) : Type 0 where
+pub record AreListedTo (seen : List SeenUse) (end : ℕ) (numbers : List ℕ) : Type 0 where
   pub below : AreNumbersBelow end numbers
   pub differ : AllDiffer numbers
   pub others : (i : ℕ) → i < end → (HasNumber i numbers → ⊥) → get_or seen i More ≡ Once
 
 -- at the start
-pub listed_none : (seen : List Seen) → AreListedTo seen 0 []
+pub listed_none : (seen : List SeenUse) → AreListedTo seen 0 []
 listed_none seen = record {
   below = λ k i at. absurd (let low = slice_get_within {A = ℕ} [] k i at in omega (arith, low));
   differ = λ i j low low' same. absurd (omega (arith, low));
@@ -101,7 +101,7 @@ listed_none seen = record {
 }
 
 -- one that is left out
-pub listed_out : (seen : List Seen) (end : ℕ) (numbers : List ℕ) → AreListedTo seen end numbers → get_or seen end More ≡ Once → AreListedTo seen (end + 1) numbers
+pub listed_out : (seen : List SeenUse) (end : ℕ) (numbers : List ℕ) → AreListedTo seen end numbers → get_or seen end More ≡ Once → AreListedTo seen (end + 1) numbers
 listed_out seen end numbers listed once = record {
   below = λ k i at. let low = listed.below k i at in omega (arith, low);
   differ = listed.differ;
@@ -109,7 +109,7 @@ listed_out seen end numbers listed once = record {
 }
 
 -- one that is put in
-pub listed_in : (seen : List Seen) (end : ℕ) (numbers : List ℕ) → AreListedTo seen end numbers → AreListedTo seen (end + 1) (numbers ++ end ∷ [])
+pub listed_in : (seen : List SeenUse) (end : ℕ) (numbers : List ℕ) → AreListedTo seen end numbers → AreListedTo seen (end + 1) (numbers ++ end ∷ [])
 listed_in seen end numbers listed = record {
   below = λ k i at. elim (get_push numbers end i k at) as (λ _. i < end + 1) [ inl old ↦ (let low = listed.below k i old in omega (arith, low)) | inr new ↦ (let same = new.1 in omega (arith, same)) ];
   differ = λ i j low low' same.

@@ -22,10 +22,12 @@ IsNeeded graph e Down n = (path : List ℕ) × IsPath graph.nodes (n ∷ path) �
 
 module _ (graph : GraphShape) (facts : SplitFacts graph) (e : Expr) (Down : ℕ → Type 0) where
   -- by the use at a successor, or by what a successor needs
-  pub needed_at_once : (n s : ℕ) → HasEdge graph.nodes n s → ¬ (IsLatest graph e Down s) → uses graph e s ≡ true → IsNeeded graph e Down n
+  pub needed_at_once : (n s : ℕ) → HasEdge graph.nodes n s → ¬ (IsLatest graph e Down s)
+      → uses graph e s ≡ true → IsNeeded graph e Down n
   needed_at_once n s edge not_latest used = (s ∷ [], (edge, facts.targets_below n s edge), (not_latest, used))
 
-  pub needed_later : (n s : ℕ) → HasEdge graph.nodes n s → ¬ (IsLatest graph e Down s) → IsNeeded graph e Down s → IsNeeded graph e Down n
+  pub needed_later : (n s : ℕ) → HasEdge graph.nodes n s → ¬ (IsLatest graph e Down s)
+      → IsNeeded graph e Down s → IsNeeded graph e Down n
   needed_later n s edge not_latest more = (s ∷ more.0, (edge, more.1), through more.0 more.2)
     where
       through : (path : List ℕ) → ComesToUse graph e Down path → ComesToUse graph e Down (s ∷ path)
@@ -47,7 +49,8 @@ module _ (graph : GraphShape) (facts : SplitFacts graph) (e : Expr) (Down : ℕ 
 
     module _ (p : Places) (is : IsLazy graph e Down p) where
       -- so before a node that is not latest, with a use ahead of it, an insertion has made e available
-      pub inserted_before : (n : ℕ) (before : List ℕ) → Trace graph.nodes n before → ¬ (IsLatest graph e Down n) → Ahead n → Behind n before
+      pub inserted_before : (n : ℕ) (before : List ℕ) → Trace graph.nodes n before
+          → ¬ (IsLatest graph e Down n) → Ahead n → Behind n before
           → IsAvailableAfter graph e (λ m. p.inserts m ≡ true) before
       inserted_before n before from_start not_latest ahead behind = elim behind [ inl d ↦ absurd (start_not_down d.0) | inr s ↦ absurd s ]
       inserted_before n before (goes_on m n0 path t edge) not_latest ahead behind =
@@ -80,8 +83,10 @@ module _ (graph : GraphShape) (facts : SplitFacts graph) (e : Expr) (Down : ℕ 
           needed : IsNeeded graph e Down m
           needed = elim ahead [ inl used ↦ needed_at_once m n edge not_latest used | inr more ↦ needed_later m n edge not_latest more ]
 
-          not_here : ¬ (IsAvailableAfter graph e (λ k. p.inserts k ≡ true) (m ∷ path)) → kills graph e m ≡ false → ¬ (IsLatest graph e Down m)
-          not_here none keeps latest = none (keeps, inl ((is.inserts_at m (facts.sources_below m n edge)).1 (latest, λ isolated. isolated needed.0 needed.1 needed.2)))
+          not_here : ¬ (IsAvailableAfter graph e (λ k. p.inserts k ≡ true) (m ∷ path))
+              → kills graph e m ≡ false → ¬ (IsLatest graph e Down m)
+          not_here none keeps latest =
+              none (keeps, inl ((is.inserts_at m (facts.sources_below m n edge)).1 (latest, λ isolated. isolated needed.0 needed.1 needed.2)))
 
       -- the theorem
       pub lazy_admissible : IsAdmissible graph e Down p
@@ -92,7 +97,9 @@ module _ (graph : GraphShape) (facts : SplitFacts graph) (e : Expr) (Down : ℕ 
               let reach = facts.reached n below in
               inr (delayed_down graph e Down laws n reach.0 reach.1 (((is.inserts_at n below).0 i).0.0 reach.0 reach.1))
 
-          available_at : (n : ℕ) (before : List ℕ) → p.replaces n ≡ true → Trace graph.nodes n before → (p.inserts n ≡ true) ⊎ IsAvailableAfter graph e (λ m. p.inserts m ≡ true) before
+          available_at : (n : ℕ) (before : List ℕ) → p.replaces n ≡ true
+              → Trace graph.nodes n before
+              → (p.inserts n ≡ true) ⊎ IsAvailableAfter graph e (λ m. p.inserts m ≡ true) before
           available_at n before r t =
               let below = trace_below graph facts n before t in
               stable_cases (IsLatest graph e Down n) (stable_of_dec (dec_or (dec_is (p.inserts n) true) (dec_reaches p.inserts (kills graph e) before)))

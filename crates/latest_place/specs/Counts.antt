@@ -11,7 +11,8 @@ abbrev pub evaluations_on : GraphShape → Expr → Places → List ℕ → ℕ
 evaluations_on graph e p nodes = sum_on (evaluations_at graph e p) nodes
 
 -- on the path whose nodes before the last one are these, the nearest first
-pub count_before : (graph : GraphShape) (e : Expr) (p : Places) (before : List ℕ) (n : ℕ) → count graph e p (reverse before ++ n ∷ []) ≡ evaluations_at graph e p n + evaluations_on graph e p before
+pub count_before : (graph : GraphShape) (e : Expr) (p : Places) (before : List ℕ) (n : ℕ)
+    → count graph e p (reverse before ++ n ∷ []) ≡ evaluations_at graph e p n + evaluations_on graph e p before
 count_before graph e p before n =
     let f : ℕ → ℕ = evaluations_at graph e p in
     let all = count_sum graph e p (reverse before ++ n ∷ []) in

@@ -24,7 +24,8 @@ IsAvailableFrom graph e p n = (before : List ℕ) → Trace graph.nodes n before
 abbrev pub IsPending : GraphShape → Expr → (ℕ → Type 0) → Places → ℕ → Type 0
 IsPending graph e Down p n = Down n × ¬ (IsAvailableFrom graph e p n)
 
-module _ (graph : GraphShape) (facts : SplitFacts graph) (e : Expr) (Down : ℕ → Type 0) (laws : DownLaws graph e Down) where
+module _ (graph : GraphShape) (facts : SplitFacts graph) (e : Expr) (Down : ℕ → Type 0)
+    (laws : DownLaws graph e Down) where
   -- where an insertion makes e available along a path to m, a use does, or m is down
   pub rises : (p : Places) → IsAdmissible graph e Down p → (m : ℕ) (before : List ℕ) → Trace graph.nodes m before
       → IsAvailableAfter graph e (λ k. p.inserts k ≡ true) before → IsAvailableAfter graph e (λ k. uses graph e k ≡ true) before ⊎ Down m
@@ -38,7 +39,8 @@ module _ (graph : GraphShape) (facts : SplitFacts graph) (e : Expr) (Down : ℕ 
       ])
 
   -- where e is available at n from the insertions, a predecessor of n is safe
-  pub safe_before : (p : Places) → IsAdmissible graph e Down p → (m n : ℕ) → HasEdge graph.nodes m n → IsAvailableFrom graph e p n → ¬ (¬ (IsSafe graph e Down m))
+  pub safe_before : (p : Places) → IsAdmissible graph e Down p → (m n : ℕ) → HasEdge graph.nodes m n
+      → IsAvailableFrom graph e p n → ¬ (¬ (IsSafe graph e Down m))
   safe_before p ok m n edge available unsafe = unsafe (inl up)
     where
       up : IsAvailable graph e m
@@ -50,7 +52,8 @@ module _ (graph : GraphShape) (facts : SplitFacts graph) (e : Expr) (Down : ℕ 
           ]
 
   -- where the expression is used and pending, the placement evaluates it
-  pub evaluates_use : (p : Places) → IsAdmissible graph e Down p → (n : ℕ) → IsPending graph e Down p n → uses graph e n ≡ true → 1 ≤ evaluations_at graph e p n
+  pub evaluates_use : (p : Places) → IsAdmissible graph e Down p → (n : ℕ)
+      → IsPending graph e Down p n → uses graph e n ≡ true → 1 ≤ evaluations_at graph e p n
   evaluates_use p ok n pending used =
       split_bit (p.inserts n)
       (λ i. rw i (omega arith))
@@ -59,16 +62,19 @@ module _ (graph : GraphShape) (facts : SplitFacts graph) (e : Expr) (Down : ℕ 
       (λ nr. rw (ni, used, nr) (omega arith)))
 
   -- so it does where it is pending and killed, or the path ends
-  pub evaluates_kill : (p : Places) → IsAdmissible graph e Down p → (n : ℕ) → n < length graph.nodes → IsPending graph e Down p n → kills graph e n ≡ true → 1 ≤ evaluations_at graph e p n
+  pub evaluates_kill : (p : Places) → IsAdmissible graph e Down p → (n : ℕ) → n < length graph.nodes
+      → IsPending graph e Down p n → kills graph e n ≡ true → 1 ≤ evaluations_at graph e p n
   evaluates_kill p ok n below pending kill =
       split_bit (uses graph e n) (evaluates_use p ok n pending) (λ unused. not_both kill (laws.keeps n below pending.0 unused))
 
-  pub evaluates_end : (p : Places) → IsAdmissible graph e Down p → (n : ℕ) → n < length graph.nodes → IsPending graph e Down p n → succs_at graph.nodes n ≡ [] → 1 ≤ evaluations_at graph e p n
+  pub evaluates_end : (p : Places) → IsAdmissible graph e Down p → (n : ℕ) → n < length graph.nodes
+      → IsPending graph e Down p n → succs_at graph.nodes n ≡ [] → 1 ≤ evaluations_at graph e p n
   evaluates_end p ok n below pending none =
       split_bit (uses graph e n) (evaluates_use p ok n pending) (λ unused. absurd (laws.continues n below pending.0 unused none))
 
   -- each predecessor of an earliest node kills or is not safe
-  pub cause : (m n : ℕ) → HasEdge graph.nodes m n → IsEarliest graph e Down n → (kills graph e m ≡ true) ⊎ ¬ (IsSafe graph e Down m)
+  pub cause : (m n : ℕ) → HasEdge graph.nodes m n → IsEarliest graph e Down n
+      → (kills graph e m ≡ true) ⊎ ¬ (IsSafe graph e Down m)
   cause m n edge early = elim (facts.one_or_skips n) [
     | inl one ↦ subst (λ k. (kills graph e k ≡ true) ⊎ ¬ (IsSafe graph e Down k)) (one early.1.0 m early.1.1 edge) early.1.2
     | inr skips ↦ elim early.1.2 [
@@ -78,7 +84,8 @@ module _ (graph : GraphShape) (facts : SplitFacts graph) (e : Expr) (Down : ℕ 
   ]
 
   -- an evaluation is pending at each earliest node
-  pub earliest_pending : (p : Places) → IsAdmissible graph e Down p → (m n : ℕ) (before : List ℕ) → Trace graph.nodes m before → HasEdge graph.nodes m n
+  pub earliest_pending : (p : Places) → IsAdmissible graph e Down p → (m n : ℕ) (before : List ℕ)
+      → Trace graph.nodes m before → HasEdge graph.nodes m n
       → IsEarliest graph e Down n → IsPending graph e Down p n
   earliest_pending p ok m n before t edge early = (
     early.0,
@@ -89,7 +96,8 @@ module _ (graph : GraphShape) (facts : SplitFacts graph) (e : Expr) (Down : ℕ 
   )
 
   -- what is pending at m and not evaluated there is pending at n
-  pub pending_on : (p : Places) → IsAdmissible graph e Down p → (m n : ℕ) → HasEdge graph.nodes m n → IsPending graph e Down p m → evaluations_at graph e p m ≡ 0 → IsPending graph e Down p n
+  pub pending_on : (p : Places) → IsAdmissible graph e Down p → (m n : ℕ) → HasEdge graph.nodes m n
+      → IsPending graph e Down p m → evaluations_at graph e p m ≡ 0 → IsPending graph e Down p n
   pending_on p ok m n edge pending none_here =
       split_bit (uses graph e m)
       (λ used. absurd (let h = evaluates_use p ok m pending used in omega arith))
@@ -102,18 +110,22 @@ module _ (graph : GraphShape) (facts : SplitFacts graph) (e : Expr) (Down : ℕ 
       )))
 
   -- delay goes back along an edge to a node that is not earliest
-  pub delayed_back : (m n : ℕ) → HasEdge graph.nodes m n → ¬ (IsEarliest graph e Down n) → IsDelayed graph e Down n → IsDelayed graph e Down m
+  pub delayed_back : (m n : ℕ) → HasEdge graph.nodes m n → ¬ (IsEarliest graph e Down n)
+      → IsDelayed graph e Down n → IsDelayed graph e Down m
   delayed_back m n edge late d before t = elim (d (m ∷ before) (goes_on m n before t edge)) [ inl early ↦ absurd (late early) | inr s ↦ s.1 ]
 
   -- and on along the only edge to a node
-  pub delayed_on : (m s : ℕ) → HasEdge graph.nodes m s → ((k : ℕ) → HasEdge graph.nodes k s → m ≡ k) → IsDelayed graph e Down m → uses graph e m ≡ false → IsDelayed graph e Down s
+  pub delayed_on : (m s : ℕ) → HasEdge graph.nodes m s → ((k : ℕ) → HasEdge graph.nodes k s → m ≡ k)
+      → IsDelayed graph e Down m → uses graph e m ≡ false → IsDelayed graph e Down s
   delayed_on m s edge only d unused before from_start = absurd (facts.start_unentered m edge)
   delayed_on m s edge only d unused before (goes_on k s0 earlier t edge') =
       let same = only k edge' in
       inr (subst (λ x. uses graph e x ≡ false) same unused, subst (λ x. IsDelayed graph e Down x) same d earlier t)
 
   -- so where the delay goes on to n, it does not end at m
-  pub not_latest : (m n : ℕ) (before : List ℕ) → Trace graph.nodes m before → HasEdge graph.nodes m n → ¬ (IsEarliest graph e Down n) → IsDelayed graph e Down n → ¬ (IsLatest graph e Down m)
+  pub not_latest : (m n : ℕ) (before : List ℕ) → Trace graph.nodes m before
+      → HasEdge graph.nodes m n → ¬ (IsEarliest graph e Down n) → IsDelayed graph e Down n
+      → ¬ (IsLatest graph e Down m)
   not_latest m n before t edge late d latest =
       elim (d (m ∷ before) (goes_on m n before t edge)) [
         | inl early ↦ late early
@@ -127,7 +139,8 @@ module _ (graph : GraphShape) (facts : SplitFacts graph) (e : Expr) (Down : ℕ 
       ]
 
   -- the lazy placement's edge: what is latest at m ends the delay
-  pub lazy_edge : (m n : ℕ) (before : List ℕ) → Trace graph.nodes m before → HasEdge graph.nodes m n → (l dm dn en : Bool)
+  pub lazy_edge : (m n : ℕ) (before : List ℕ) → Trace graph.nodes m before → HasEdge graph.nodes m n
+      → (l dm dn en : Bool)
       → Is l (IsLatest graph e Down m) → Is dm (IsDelayed graph e Down m) → Is dn (IsDelayed graph e Down n) → Is en (IsEarliest graph e Down n)
       → one_if l + one_if dn ≤ one_if dm + one_if en
   lazy_edge m n before t edge true false dn en l dm d early = absurd (dm l.0)
@@ -141,7 +154,8 @@ module _ (graph : GraphShape) (facts : SplitFacts graph) (e : Expr) (Down : ℕ 
 
   -- any admissible placement's edge: what is pending at m is evaluated there or pending at n, and so it is at an
   -- earliest node
-  pub other_edge : (p : Places) → IsAdmissible graph e Down p → (m n : ℕ) (before : List ℕ) → Trace graph.nodes m before → HasEdge graph.nodes m n → (en om on : Bool)
+  pub other_edge : (p : Places) → IsAdmissible graph e Down p → (m n : ℕ) (before : List ℕ)
+      → Trace graph.nodes m before → HasEdge graph.nodes m n → (en om on : Bool)
       → Is en (IsEarliest graph e Down n) → Is om (IsPending graph e Down p m) → Is on (IsPending graph e Down p n)
       → one_if en + one_if om ≤ evaluations_at graph e p m + one_if on
   other_edge p ok m n before t edge true om false early o o' = absurd (o' (earliest_pending p ok m n before t edge early))
@@ -155,7 +169,8 @@ module _ (graph : GraphShape) (facts : SplitFacts graph) (e : Expr) (Down : ℕ 
       stable_cases (evaluations_at graph e p m ≡ 0) (stable_le _ _) (λ z. absurd (o' (pending_on p ok m n edge o z))) (λ nz. omega arith)
 
   -- the lazy placement evaluates at latest nodes alone
-  pub lazy_evaluates : (p : Places) → IsLazy graph e Down p → (n : ℕ) → n < length graph.nodes → (l : Bool) → Is l (IsLatest graph e Down n) → evaluations_at graph e p n ≤ one_if l
+  pub lazy_evaluates : (p : Places) → IsLazy graph e Down p → (n : ℕ) → n < length graph.nodes
+      → (l : Bool) → Is l (IsLatest graph e Down n) → evaluations_at graph e p n ≤ one_if l
   lazy_evaluates p is n below false l =
       split_bit (p.inserts n) (λ i. absurd (l ((is.inserts_at n below).0 i).0)) (λ ni.
       split_bit (uses graph e n)

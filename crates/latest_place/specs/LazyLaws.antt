@@ -11,7 +11,9 @@ use Rattle.motion_rewrite.specs.declared.placement.Placement.{Placement}
 use Rattle.latest_place.specs.Lazy.{AreLazy}
 
 -- rows of equal shape that have the same bits are equal
-pub rows_are_one : (nodes bits : ℕ) (a b : List (List Bool)) → AreRows nodes bits a → AreRows nodes bits b → ((n i : ℕ) → n < nodes → i < bits → has_bit a i n ≡ has_bit b i n) → a ≡ b
+pub rows_are_one : (nodes bits : ℕ) (a b : List (List Bool)) → AreRows nodes bits a
+    → AreRows nodes bits b → ((n i : ℕ) → n < nodes → i < bits → has_bit a i n ≡ has_bit b i n)
+    → a ≡ b
 rows_are_one nodes bits a b p q same =
     ext_get_or [] a b (p.len ∙ sym q.len) (λ n lt.
     let within : n < nodes = omega (arith, lt, p.len) in

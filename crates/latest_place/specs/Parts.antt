@@ -12,8 +12,8 @@ use Rattle.motion_rewrite.specs.Expressions.{uses}
 use Rattle.motion_rewrite.specs.ExprTables.{ForEachExpr}
 use Rattle.motion_rewrite.specs.Placements.{places_of}
 use Rattle.latest_place.specs.Lazy.{IsLazy}
-use Rattle.latest_place.specs.declared.once.Seen.{Seen}
-use Rattle.latest_place.specs.declared.once.Seen.TheVariants.{Never, Once, More}
+use Rattle.latest_place.specs.declared.once.SeenUse.{SeenUse}
+use Rattle.latest_place.specs.declared.once.SeenUse.TheVariants.{Never, Once, More}
 
 -- ---- expressions that stay
 
@@ -29,13 +29,13 @@ pub record IsUsedOnceFrom (graph : GraphShape) (e : Expr) (from u : ℕ) : Type 
   pub passed : IsPassedOnce graph u
 
 -- what is known of an expression, where the nodes from this number on were seen
-abbrev pub IsSeenFrom : GraphShape → Expr → ℕ → Seen → Type 0
+abbrev pub IsSeenFrom : GraphShape → Expr → ℕ → SeenUse → Type 0
 IsSeenFrom graph e from Never = (n : ℕ) → from ≤ n → uses graph e n ≡ false
 IsSeenFrom graph e from Once = (u : ℕ) × IsUsedOnceFrom graph e from u
 IsSeenFrom graph e from More = Unit {0}
 
 -- so it is of each expression of the table
-pub record AreSeenFrom (graph : GraphShape) (table : List Expr) (from : ℕ) (seen : List Seen) : Type 0 where
+pub record AreSeenFrom (graph : GraphShape) (table : List Expr) (from : ℕ) (seen : List SeenUse) : Type 0 where
   pub long : length seen ≡ length table
   pub each : ForEachExpr table (λ i e. IsSeenFrom graph e from (slice_index_or seen i More))
 
@@ -44,14 +44,14 @@ abbrev pub LeadsFrom : GraphShape → ℕ → ℕ → Type 0
 LeadsFrom graph from least = (m s : ℕ) → from ≤ m → HasEdge graph.nodes m s → least ≤ s
 
 -- what is seen of an expression that a node uses, which may be passed once
-abbrev pub seen_again : Bool → Seen → Seen
+abbrev pub seen_again : Bool → SeenUse → SeenUse
 seen_again true Never = Once
 seen_again false Never = More
 seen_again passed Once = More
 seen_again passed More = More
 
 -- the same in the list, where a node uses the expression of this number
-abbrev pub seen_at : List Seen → Bool → Option ℕ → List Seen
+abbrev pub seen_at : List SeenUse → Bool → Option ℕ → List SeenUse
 seen_at seen passed None = seen
 seen_at seen passed (Some i) = slice_set seen i (seen_again passed (slice_index_or seen i More))
 

@@ -7,7 +7,7 @@ use Rattle.flow_graph.specs.Edges.{edges_of}
 use Rattle.flow_graph.specs.Graphs.{GraphShape}
 use Rattle.flow_graph.specs.Paths.{HasEdge}
 use Rattle.path_laws.specs.Paths.{BornAhead, BornBefore, HaveShape, Tell, has_bit, width}
-use Rattle.latest_place.specs.declared.nodes.Uses.{Uses}
+use Rattle.latest_place.specs.declared.equations.Uses.{Uses}
 
 -- ---- one bit
 

@@ -22,10 +22,13 @@ pub record SplitFacts (graph : GraphShape) : Type 0 where
   pub sources_below : (m n : ℕ) → HasEdge graph.nodes m n → m < length graph.nodes
   pub targets_below : (m n : ℕ) → HasEdge graph.nodes m n → n < length graph.nodes
   pub reached : (n : ℕ) → n < length graph.nodes → (before : List ℕ) × Trace graph.nodes n before
-  pub one_or_skips : (n : ℕ) → ((m k : ℕ) → HasEdge graph.nodes m n → HasEdge graph.nodes k n → m ≡ k) ⊎ ((m : ℕ) → HasEdge graph.nodes m n → slice_get graph.nodes m ≡ Some (Skip n))
+  pub one_or_skips : (n : ℕ)
+      → ((m k : ℕ) → HasEdge graph.nodes m n → HasEdge graph.nodes k n → m ≡ k)
+      ⊎ ((m : ℕ) → HasEdge graph.nodes m n → slice_get graph.nodes m ≡ Some (Skip n))
 
 -- so it is of every split graph
-pub split_facts : (graph : GraphShape) → IsGraph graph.vars graph.received graph.nodes → IsSplit graph.nodes → SplitFacts graph
+pub split_facts : (graph : GraphShape) → IsGraph graph.vars graph.received graph.nodes
+    → IsSplit graph.nodes → SplitFacts graph
 split_facts graph is_graph split = record {
   start_below = slice_get_within graph.nodes 0 _ is_graph.can.start.1;
   start_unentered = λ m edge. let above = (is_graph.can.succs m edge.0 0 edge.1).0 in absurd (omega arith);
@@ -38,6 +41,7 @@ split_facts graph is_graph split = record {
 }
 
 -- a node that has a trace is there
-pub trace_below : (graph : GraphShape) → SplitFacts graph → (n : ℕ) (before : List ℕ) → Trace graph.nodes n before → n < length graph.nodes
+pub trace_below : (graph : GraphShape) → SplitFacts graph → (n : ℕ) (before : List ℕ)
+    → Trace graph.nodes n before → n < length graph.nodes
 trace_below graph facts n before from_start = facts.start_below
 trace_below graph facts n before (goes_on m k earlier trace edge) = facts.targets_below m n edge

@@ -10,10 +10,10 @@
 #![tactic(auto)]
 
 mod delays;
-mod nodes;
+mod equations;
 mod once;
 mod parts;
 mod placement;
 
 pub use delays::Late;
-pub use placement::{late, late_of_busy, lazy};
+pub use placement::{late, lazy};

@@ -10,7 +10,7 @@ use std::alloc::Global;
 
 /// What is known of an expression once some nodes were seen.
 #[derive(Clone, Copy, Debug)]
-pub(crate) enum Seen {
+pub(crate) enum SeenUse {
     /// None of them uses it.
     Never,
     /// One of them uses it, and no path from there comes back to that node or to one of a lower number.
@@ -42,22 +42,22 @@ pub(crate) fn moving_numbers(
 }
 
 /// Whether an expression is such a one.
-fn is_once(seen: Seen) -> bool
-    ensures { (result ≡ true) ↔ (seen ≡ Seen.Once) }
+fn is_once(seen: SeenUse) -> bool
+    ensures { (result ≡ true) ↔ (seen ≡ SeenUse.Once) }
 {
     match seen {
-        Seen::Never => false,
-        Seen::Once => true,
-        Seen::More => false,
+        SeenUse::Never => false,
+        SeenUse::Once => true,
+        SeenUse::More => false,
     }
 }
 
 /// How each expression of the table is used: the nodes are seen from the last to the first.
-fn seen_uses(alloc: Global, graph: &Graph, table: &ExprTable) -> Result<Vec<Seen>, Memory>
+fn seen_uses(alloc: Global, graph: &Graph, table: &ExprTable) -> Result<Vec<SeenUse>, Memory>
     ensures { IfOk result (λ seen. AreSeenFrom graph.now table.now 0 seen.items) }
 {
     let nodes = graph.nodes();
-    let mut seen = vec![in alloc; Seen::Never; table.len()]?;
+    let mut seen = vec![in alloc; SeenUse::Never; table.len()]?;
     let mut least = nodes.len();
     for back in 0..nodes.len() {
         let node = nodes.len() - 1 - back;
@@ -86,7 +86,7 @@ fn least_succ(node: &Node, least: usize) -> usize
 
 /// Notes that a node uses the expression of this number, where there is one. `passed` says that no path comes back to
 /// the node.
-fn see(seen: &mut Vec<Seen>, number: Option<usize>, passed: bool)
+fn see(seen: &mut Vec<SeenUse>, number: Option<usize>, passed: bool)
     requires { IfSome number (λ i. i < length seen.old.items) }
     ensures { seen.new.items ≡ seen_at seen.old.items passed number }
 {
@@ -97,12 +97,12 @@ fn see(seen: &mut Vec<Seen>, number: Option<usize>, passed: bool)
 }
 
 /// What is seen of an expression that one node more uses.
-fn seen_again(passed: bool, seen: Seen) -> Seen
+fn seen_again(passed: bool, seen: SeenUse) -> SeenUse
     ensures { result ≡ seen_again passed seen }
 {
     match seen {
-        Seen::Never => { if passed { Seen::Once } else { Seen::More } }
-        Seen::Once => Seen::More,
-        Seen::More => Seen::More,
+        SeenUse::Never => { if passed { SeenUse::Once } else { SeenUse::More } }
+        SeenUse::Once => SeenUse::More,
+        SeenUse::More => SeenUse::More,
     }
 }

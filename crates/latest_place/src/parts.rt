@@ -2,6 +2,7 @@
 ghost use Rattle.std.specs.Prelude.{◌≡◌, ◌<◌, ◌≤◌, ◌++◌, ℕ, List, length, IfOk, OnOk};
 ghost use Rattle.mir_base.specs.Shapes.{AllDiffer};
 ghost use Rattle.bit_rows.specs.Bits.{row_of};
+ghost use Rattle.flow_graph.specs.Blocks.{AreBlocksOf};
 ghost use Rattle.flow_graph.specs.Edges.{IsSplit, edges_of};
 ghost use Rattle.path_laws.specs.Paths.{HaveShape};
 ghost use Rattle.latest_place.specs.Lazy.{IsLazyPlacement};
@@ -11,7 +12,7 @@ use crate::once::moving_numbers;
 use crate::placement::placed;
 use bit_rows::{RowView, Rows};
 use down_safe::DownRule;
-use flow_graph::{Edges, Graph};
+use flow_graph::{Blocks, Edges, Graph};
 use key_table::KeyTable;
 use mir_base::Memory;
 use motion_rewrite::{ExprTable, Placement};
@@ -21,25 +22,28 @@ use std::alloc::Global;
 /// tables.
 const PART: usize = 4096;
 
-/// The lazy placement of each expression of the table. Expressions that stay where they are are not asked for, and the
-/// others are placed part by part, unless the table is no longer than a part and nearly all of it is to be placed.
+/// The lazy placement of each expression of the table, with the blocks of the graph at hand. Expressions that stay where
+/// they are are not asked for, and the others are placed part by part, unless the table is no longer than a part and
+/// nearly all of it is to be placed.
 pub(crate) fn placed_by_parts<R: DownRule>(
     alloc: Global,
     rule: &R,
     graph: &Graph,
     edges: &Edges,
+    blocks: &Blocks,
     table: &ExprTable,
 ) -> Result<Placement, Memory>
     requires split { IsSplit graph.now.nodes }
     requires edges { edges.now ≡ edges_of graph.now.nodes }
+    requires blocks { AreBlocksOf graph.now.nodes blocks.now }
     ensures { IfOk result (IsLazyPlacement (R.is_down rule.now) graph.now table.now) }
 {
     let numbers = moving_numbers(alloc, graph, table)?;
     let staying = table.len().saturating_sub(numbers.len());
     if table.len() <= PART && staying <= table.len() / 8 {
-        placed(alloc, rule, graph, edges, table)
+        placed(alloc, rule, graph, edges, blocks, table)
     } else {
-        joined_parts(alloc, rule, graph, edges, table, numbers.as_slice())
+        joined_parts(alloc, rule, graph, edges, blocks, table, numbers.as_slice())
     }
 }
 
@@ -49,11 +53,13 @@ fn joined_parts<R: DownRule>(
     rule: &R,
     graph: &Graph,
     edges: &Edges,
+    blocks: &Blocks,
     table: &ExprTable,
     numbers: &[usize],
 ) -> Result<Placement, Memory>
     requires split { IsSplit graph.now.nodes }
     requires edges { edges.now ≡ edges_of graph.now.nodes }
+    requires blocks { AreBlocksOf graph.now.nodes blocks.now }
     requires numbers { AreToPlace graph.now table.now numbers.now }
     ensures { IfOk result (IsLazyPlacement (R.is_down rule.now) graph.now table.now) }
 {
@@ -66,7 +72,16 @@ fn joined_parts<R: DownRule>(
     while done < numbers.len() {
         let end = done.saturating_add(PART).min(numbers.len());
         let part = &numbers[done..end];
-        add_part(alloc, rule, graph, edges, table, part, &mut placement)?;
+        add_part(
+            alloc,
+            rule,
+            graph,
+            edges,
+            blocks,
+            table,
+            part,
+            &mut placement,
+        )?;
         done = end;
     }
     Ok(placement)
@@ -78,12 +93,14 @@ fn add_part<R: DownRule>(
     rule: &R,
     graph: &Graph,
     edges: &Edges,
+    blocks: &Blocks,
     table: &ExprTable,
     numbers: &[usize],
     placement: &mut Placement,
 ) -> Result<(), Memory>
     requires split { IsSplit graph.now.nodes }
     requires edges { edges.now ≡ edges_of graph.now.nodes }
+    requires blocks { AreBlocksOf graph.now.nodes blocks.now }
     requires below { AreNumbersBelow (length table.now) numbers.now }
     requires differ { AllDiffer numbers.now }
     requires inserts { HaveShape graph.now (length table.now) placement.old.insert }
@@ -94,7 +111,7 @@ fn add_part<R: DownRule>(
         (others ++ numbers.now) placement.new) }
 {
     let exprs = part_of(alloc, table, numbers)?;
-    let part = placed(alloc, rule, graph, edges, &exprs)?;
+    let part = placed(alloc, rule, graph, edges, blocks, &exprs)?;
     add_bits(&mut placement.insert, &part.insert, numbers);
     add_bits(&mut placement.replace, &part.replace, numbers);
     Ok(())

@@ -13,7 +13,8 @@ use Rattle.latest_place.specs.LazyLaws.{one_bit, rows_are_one}
 use Rattle.live_range.specs.Held.{AreHeldEdges, AreHeldLeast, IsHeld}
 
 -- two that tell the same are equal
-pub held_is_one : (graph : GraphShape) (table : List Expr) (p : Placement) (a b : List (List Bool)) → AreHeldEdges graph table p a → AreHeldEdges graph table p b → a ≡ b
+pub held_is_one : (graph : GraphShape) (table : List Expr) (p : Placement) (a b : List (List Bool))
+    → AreHeldEdges graph table p a → AreHeldEdges graph table p b → a ≡ b
 held_is_one graph table p a b one two =
     let edges = (edges_of graph.nodes).edges in
     rows_are_one (length edges) (length table) a b one.shape two.shape (λ k i k_in i_in.
@@ -26,6 +27,7 @@ even_rows count bits rows shape = record { each = λ n n_in. shape.each n (rw sh
 
 -- a placement of the table that is optimal for each of its expressions holds a temporary wherever one that is held
 -- least does
-pub least_of_placements : (graph : GraphShape) (table : List Expr) (Down : Expr → ℕ → Type 0) (p q : Placement) → AreHeldLeast graph table Down p → AreOptimal graph table Down q
+pub least_of_placements : (graph : GraphShape) (table : List Expr) (Down : Expr → ℕ → Type 0) (p q : Placement)
+    → AreHeldLeast graph table Down p → AreOptimal graph table Down q
     → (i : ℕ) (e : Expr) → slice_get table i ≡ Some e → (m n : ℕ) → IsHeld graph.nodes (places_of p i) m n → IsHeld graph.nodes (places_of q i) m n
 least_of_placements graph table Down p q least best i e at m n held = least i e at (places_of q i) (best i e at) m n held

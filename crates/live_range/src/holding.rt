@@ -60,8 +60,6 @@ pub fn held_edges<R: DownRule>(
 /// lazy one of the rule, as `lazy` of `latest_place` answers it. It fails only with `Memory`.
 ///
 /// Every placement that is optimal by the rule holds the temporary on these edges too: none keeps it alive shorter.
-/// That lazy code motion is best in this sense is of Knoop, Ruething and Steffen, *Optimal Code Motion: Theory and
-/// Practice*, TOPLAS 1994.
 pub fn ranges<R: DownRule>(
     alloc: Global,
     rule: &R,

@@ -11,7 +11,7 @@ use Rattle.flow_graph.specs.Graphs.{GraphShape}
 use Rattle.flow_graph.specs.ListLaws.{get_left}
 use Rattle.flow_graph.specs.Numbering.{renamed_operand}
 use Rattle.flow_graph.specs.Passes.{GraphDividesUnchanged}
-use Rattle.sink_dead.specs.RoundGraphs.{AreRounds, AreRoundsFrom, IsRound, last_round}
+use Rattle.sink_rounds.specs.RoundGraphs.{AreRounds, AreRoundsFrom, IsRound, last_round}
 use Rattle.cond_const.specs.Folding.{resolved}
 use Rattle.cond_const.specs.States.{is_reached}
 use Rattle.mir_opt.specs.declared.trails.MoveUnit.{MoveUnit}
@@ -45,7 +45,7 @@ unit_vars : (source : UnitShape) (unit : UnitTrail) → LinksUnit source unit �
 unit_vars source unit l =
     let before = l.motion.splits.vars_are ∙ l.front.copies.vars_are ∙ l.front.numbers.vars_are ∙ l.front.folds.made.vars_are ∙ l.start.cleans.made.vars_are ∙ l.start.lowers.made.vars_are in (
       l.motion.flattened.names,
-      l.back.sweeps.made.vars_are ∙ rounds_vars unit.recopied unit.sunk.rounds l.back.sinks ∙ l.back.copies.vars_are ∙ l.motion.flattened.vars_are ∙ ap (λ vars. vars ++ l.motion.flattened.names) before,
+      l.back.sweeps.made.vars_are ∙ rounds_vars unit.recopied unit.rounds.graphs l.back.sinks ∙ l.back.copies.vars_are ∙ l.motion.flattened.vars_are ∙ ap (λ vars. vars ++ l.motion.flattened.names) before,
     )
 
 -- so has that of code motion alone

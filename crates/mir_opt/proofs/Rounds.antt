@@ -4,7 +4,7 @@ use Rattle.flow_graph.specs.ListLaws.{some_at}
 use Rattle.flow_graph.specs.Graphs.{GraphShape}
 use Rattle.flow_graph.specs.Keeps.{AsGraph, Form, KeepInTurn, Keeps}
 use Rattle.flow_graph.specs.KeepsLaws.{keeps_trans}
-use Rattle.sink_dead.specs.RoundGraphs.{last_round}
+use Rattle.sink_rounds.specs.RoundGraphs.{last_round}
 use Rattle.mir_opt.specs.Stages.{after_rounds}
 
 -- after the last round it stays

@@ -10,9 +10,9 @@ use Rattle.motion_rewrite.specs.Over.{HasOverEach}
 use Rattle.motion_rewrite.specs.Placements.{AreOptimal, IsAnticipatable}
 use Rattle.div_move.specs.MustCome.{MustComeTo}
 use Rattle.div_move.specs.Moves.{InsertionsCome}
-use Rattle.sink_dead.specs.NoMore.{HasNoMore}
-use Rattle.sink_dead.specs.RoundGraphs.{last_round}
-use Rattle.sink_dead.specs.Steps.{AreBestSteps}
+use Rattle.graph_edit.specs.NoMore.{HasNoMore}
+use Rattle.sink_rounds.specs.RoundGraphs.{last_round}
+use Rattle.sink_rounds.specs.Steps.{AreBestSteps}
 use Rattle.mir_opt.specs.declared.trails.MoveUnit.{MoveUnit}
 use Rattle.mir_opt.specs.declared.trails.UnitTrail.{UnitTrail}
 
@@ -43,9 +43,9 @@ pub record DivisionsAreBest (unit : MoveUnit) : Type 0 where
 -- on the corresponding path of each full path the last round has no more of any plain or movable assignment than the
 -- graph before the rounds
 abbrev pub SinksNoMore : UnitTrail → Type 0
-SinksNoMore unit = HasNoMore unit.recopied (last_round unit.recopied unit.sunk.rounds)
+SinksNoMore unit = HasNoMore unit.recopied (last_round unit.recopied unit.rounds.graphs)
 
 -- each round is the best of all single steps from the graph before it: none leaves fewer of a plain or movable
 -- assignment on any full path; and where a round leaves the layout as it is, none leaves fewer than stand there
 abbrev pub RoundsAreBest : UnitTrail → Type 0
-RoundsAreBest unit = AreBestSteps unit.recopied unit.sunk.rounds
+RoundsAreBest unit = AreBestSteps unit.recopied unit.rounds.graphs

@@ -11,7 +11,7 @@ use Rattle.edge_split.specs.Split.{IsEdgeSplit}
 use Rattle.cond_const.specs.Folded.{IsFolded}
 use Rattle.value_number.specs.Numbered.{IsNumbered}
 use Rattle.copy_flow.specs.Copied.{IsCopied}
-use Rattle.sink_dead.specs.RoundGraphs.{AreRounds, last_round}
+use Rattle.sink_rounds.specs.RoundGraphs.{AreRounds, last_round}
 use Rattle.motion_rewrite.specs.declared.placement.Placement.{Placement}
 use Rattle.motion_rewrite.specs.Flatten.{IsFlattened}
 use Rattle.motion_rewrite.specs.Placements.{IsAnticipatable}
@@ -61,17 +61,17 @@ pub record IsBeforeMotion (cleaned folded numbered copied : GraphShape) : Type 0
   pub copies : IsCopied numbered copied
 
 -- what comes after it
-pub record IsBack (moved recopied : GraphShape) (sunk : List GraphShape) (swept : GraphShape) : Type 0 where
+pub record IsBack (moved recopied : GraphShape) (rounds : List GraphShape) (swept : GraphShape) : Type 0 where
   pub copies : IsCopied moved recopied
-  pub sinks : AreRounds recopied sunk
-  pub sweeps : IsClean (last_round recopied sunk) swept
+  pub sinks : AreRounds recopied rounds
+  pub sweeps : IsClean (last_round recopied rounds) swept
 
 -- the steps of one unit of the source
 pub record LinksUnit (source : UnitShape) (unit : UnitTrail) : Type 0 where
   pub start : IsStart source unit.lowered unit.cleaned
   pub front : IsBeforeMotion unit.cleaned unit.folded unit.numbered unit.copied
   pub motion : IsSafeMotion unit.copied unit.split unit.table unit.placement unit.moved
-  pub back : IsBack unit.moved unit.recopied unit.sunk.rounds unit.swept
+  pub back : IsBack unit.moved unit.recopied unit.rounds.graphs unit.swept
 
 -- and those of code motion alone
 pub record LinksMove (source : UnitShape) (unit : MoveUnit) : Type 0 where

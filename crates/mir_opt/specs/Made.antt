@@ -14,18 +14,19 @@ use Rattle.flow_graph.specs.Passes.{GraphDivides, GraphDividesUnchanged, GraphKe
 use Rattle.cond_const.specs.Folded.{KeepsDivisions}
 use Rattle.motion_rewrite.specs.Flatten.{IsFlattened}
 use Rattle.motion_rewrite.specs.ExprTables.{movable_exprs}
-use Rattle.sink_dead.specs.RoundGraphs.{last_round}
-use Rattle.sink_dead.specs.RoundsKept.{RoundKeeps, RoundsKeep}
-use Rattle.sink_dead.specs.Steps.{AreBestSteps}
+use Rattle.sink_rounds.specs.RoundGraphs.{last_round}
+use Rattle.sink_code.specs.RoundKept.{RoundKeeps}
+use Rattle.sink_rounds.specs.RoundsKept.{RoundsKeep}
+use Rattle.sink_rounds.specs.Steps.{AreBestSteps}
 use Rattle.latest_place.specs.Lazy.{IsLazyPlacement}
 use Rattle.div_move.specs.MustCome.{MustComeTo}
 use Rattle.div_move.specs.Moves.{InsertionsCome}
 use Rattle.mir_opt.specs.declared.back.Back.{Back}
-use Rattle.mir_opt.specs.declared.front.Front.{Front}
+use Rattle.mir_opt.specs.declared.front.FrontGraphs.{FrontGraphs}
 use Rattle.mir_opt.specs.declared.front.Lowered.{Lowered}
 use Rattle.mir_opt.specs.declared.front.Valued.{Valued}
 use Rattle.mir_opt.specs.declared.moving.Moved.{Moved}
-use Rattle.mir_opt.specs.declared.moving.Placed.{Placed}
+use Rattle.mir_opt.specs.declared.moving.PlacedCode.{PlacedCode}
 use Rattle.mir_opt.specs.declared.trails.MoveUnit.{MoveUnit}
 use Rattle.mir_opt.specs.declared.trails.UnitTrail.{UnitTrail}
 use Rattle.mir_opt.specs.declared.over_units.ProgramSteps.{ProgramSteps}
@@ -51,14 +52,16 @@ pub record MoveBest (source : UnitShape) (unit : MoveUnit) : Type 0 where
 
 -- the steps are linked, their code motion is the best, the graph of each stage keeps the unit, and those that are
 -- cleaned lead to nodes
-pub record UnitMade {T S : Type 0} (graph_of : T → S → GraphShape) (Links Best : UnitShape → T → Type 0) (Within : T → Type 0) (source : UnitShape) (unit : T) : Type 0 where
+pub record UnitMade {T S : Type 0} (graph_of : T → S → GraphShape)
+    (Links Best : UnitShape → T → Type 0) (Within : T → Type 0) (source : UnitShape) (unit : T) : Type 0 where
   pub linked : Links source unit
   pub best : Best source unit
   pub keeps : (stage : S) → Keeps (AsUnit source) (AsGraph (graph_of unit stage))
   pub within : Within unit
 
 -- of each unit of a program
-abbrev pub AllMade : {T S : Type 0} → (T → S → GraphShape) → (UnitShape → T → Type 0) → (UnitShape → T → Type 0) → (T → Type 0) → List UnitShape → List T → Type 0
+abbrev pub AllMade : {T S : Type 0} → (T → S → GraphShape) → (UnitShape → T → Type 0)
+    → (UnitShape → T → Type 0) → (T → Type 0) → List UnitShape → List T → Type 0
 AllMade graph_of Links Best Within sources units = AllZip (UnitMade graph_of Links Best Within) sources units
 
 -- the first steps: each graph keeps what comes before it
@@ -80,22 +83,23 @@ pub record ValuesMade (cleaned : GraphShape) (made : Valued) : Type 0 where
   pub copied_divides : GraphDivides made.folded made.copied
 
 -- the steps up to code motion
-pub record FrontMade (source : UnitShape) (made : Front) : Type 0 where
+pub record FrontMade (source : UnitShape) (made : FrontGraphs) : Type 0 where
   pub start : LoweredMade source made.start
   pub values : ValuesMade made.start.cleaned made.values
 
 -- and those after it
 pub record BackMade (moved : GraphShape) (made : Back) : Type 0 where
-  pub back : IsBack moved made.recopied made.sunk.rounds made.swept
+  pub back : IsBack moved made.recopied made.rounds.graphs made.swept
   pub recopied_keeps : GraphKeeps moved made.recopied
-  pub rounds_keep : RoundsKeep made.recopied made.sunk.rounds
-  pub last_keeps : RoundKeeps made.recopied (last_round made.recopied made.sunk.rounds)
-  pub rounds_best : AreBestSteps made.recopied made.sunk.rounds
-  pub swept_keeps : GraphKeeps (last_round made.recopied made.sunk.rounds) made.swept
+  pub rounds_keep : RoundsKeep made.recopied made.rounds.graphs
+  pub last_keeps : RoundKeeps made.recopied (last_round made.recopied made.rounds.graphs)
+  pub rounds_best : AreBestSteps made.recopied made.rounds.graphs
+  pub swept_keeps : GraphKeeps (last_round made.recopied made.rounds.graphs) made.swept
   pub divides : GraphDivides moved made.swept
 
 -- the rewriting of a split graph by the lazy placement of a table: the moved graph keeps it, and stays split
-pub record CodeMade (Down : GraphShape → Expr → ℕ → Type 0) (split : GraphShape) (table : List Expr) (made : Placed) : Type 0 where
+pub record CodeMade (Down : GraphShape → Expr → ℕ → Type 0) (split : GraphShape) (table : List Expr)
+    (made : PlacedCode) : Type 0 where
   pub placed : IsLazyPlacement Down split table made.placement
   pub flattened : IsFlattened split table made.placement made.moved
   pub best : IsBest Down split table made.placement made.moved
@@ -142,7 +146,9 @@ AllLayDivisions graph_of stage units targets = AllZip (λ unit target. Divisions
 
 -- what is made of the units of a program: the steps of each unit, and the program of the layouts of their last
 -- graphs, which keeps the program
-pub record ProgramMade {T S : Type 0} (graph_of : T → S → GraphShape) (last : S) (Links Best : UnitShape → T → Type 0) (Within : T → Type 0) (program : ProgramShape) (steps : ProgramSteps T) : Type 0 where
+pub record ProgramMade {T S : Type 0} (graph_of : T → S → GraphShape) (last : S)
+    (Links Best : UnitShape → T → Type 0) (Within : T → Type 0) (program : ProgramShape)
+    (steps : ProgramSteps T) : Type 0 where
   pub source : steps.source ≡ program
   pub made : AllMade graph_of Links Best Within program.units steps.units
   pub laid : AreLaid graph_of last steps.units steps.target.units

@@ -10,7 +10,7 @@ use Rattle.mir_sim.specs.Pairs.{AllUnitsSame}
 use Rattle.flow_graph.specs.Graphs.{AllWithin, GraphShape}
 use Rattle.flow_graph.specs.Keeps.{AsGraph, AsUnit, Keeps}
 use Rattle.flow_graph.specs.Layouts.{IsLayout}
-use Rattle.sink_dead.specs.RoundGraphs.{last_round}
+use Rattle.sink_rounds.specs.RoundGraphs.{last_round}
 use Rattle.mir_opt.specs.declared.stages.Stage.{Stage}
 use Rattle.mir_opt.specs.declared.stages.Stage.TheVariants.{Lower, Clean, Fold, Number, Copies, Split, Motion, CopiesAfterMotion, Round, Result}
 use Rattle.mir_opt.specs.declared.stages.MoveStage.{MoveStage}
@@ -34,7 +34,7 @@ graph_at unit Copies = unit.copied
 graph_at unit Split = unit.split
 graph_at unit Motion = unit.moved
 graph_at unit CopiesAfterMotion = unit.recopied
-graph_at unit (Round count) = after_rounds unit.recopied unit.sunk.rounds count
+graph_at unit (Round count) = after_rounds unit.recopied unit.rounds.graphs count
 graph_at unit Result = unit.swept
 
 -- the name of a stage
@@ -52,7 +52,7 @@ stage_name Result = codes "result"
 
 -- the greatest number of rounds that any of these units had
 abbrev pub longest_rounds : List UnitTrail → ℕ
-longest_rounds units = fold (λ most unit. max most (length unit.sunk.rounds)) 0 units
+longest_rounds units = fold (λ most unit. max most (length unit.rounds.graphs)) 0 units
 
 -- so many rounds
 abbrev pub first_rounds : ℕ → List Stage
@@ -77,7 +77,7 @@ move_graph_at unit moves.Result = unit.swept
 
 -- the edges of the graphs of a unit that are cleaned lead to nodes
 abbrev pub CleansWithin : UnitTrail → Type 0
-CleansWithin unit = AllWithin unit.lowered.nodes × AllWithin (last_round unit.recopied unit.sunk.rounds).nodes
+CleansWithin unit = AllWithin unit.lowered.nodes × AllWithin (last_round unit.recopied unit.rounds.graphs).nodes
 
 -- and of one whose code is moved alone
 abbrev pub MotionCleansWithin : MoveUnit → Type 0

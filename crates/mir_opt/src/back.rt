@@ -8,14 +8,14 @@ use copy_flow::copies;
 use flow_graph::Graph;
 use jump_clean::clean;
 use mir_base::Memory;
-use sink_dead::{Sunk, sink};
+use sink_rounds::{Rounds, rounds};
 use std::alloc::Global;
 
 /// The graphs of a unit after code motion.
 #[derive(Drop)]
 pub(crate) struct Back {
     pub(crate) recopied: Graph,
-    pub(crate) sunk: Sunk,
+    pub(crate) rounds: Rounds,
     pub(crate) swept: Graph,
 }
 
@@ -26,11 +26,11 @@ pub(crate) fn make_back(alloc: Global, moved: &Graph) -> Result<Back, Memory>
     ensures { IfOk result (BackMade moved.now) }
 {
     let recopied = copies(alloc, moved)?;
-    let sunk = sink(alloc, &recopied)?;
-    let swept = clean(alloc, last_round(&recopied, sunk.rounds.items()))?;
+    let rounds = rounds(alloc, &recopied)?;
+    let swept = clean(alloc, last_round(&recopied, rounds.graphs.items()))?;
     Ok(Back {
         recopied,
-        sunk,
+        rounds,
         swept,
     })
 }

@@ -45,7 +45,7 @@ impl UnitSteps for Optimising {
             placement: code.placement,
             moved: code.moved,
             recopied: back.recopied,
-            sunk: back.sunk,
+            rounds: back.rounds,
             swept: back.swept,
         })
     }

@@ -6,7 +6,7 @@ ghost use Rattle.mir_opt.specs.Links.{IsDivisionLinked, IsLinked, IsMoveLinked, 
 ghost use Rattle.mir_opt.specs.Stages.{AllKeep, AreLaid, KeepsProgram, graph_at, move_graph_at};
 
 use crate::chain::Optimising;
-use crate::motions::{Dividing, Moving};
+use crate::motions::{CodeMotion, DivisionMotion};
 use crate::over_units::{program_at, program_steps};
 use crate::{MoveStage, MoveTrail, Stage, Trail};
 use mir_base::{Memory, Program};
@@ -69,7 +69,7 @@ pub fn motion(alloc: Global, program: &Program) -> Result<MoveTrail, Memory>
     // its operands, and no two are one.
     ensures divisions { IfOk result MotionKeepsDivisions }
 {
-    let steps = program_steps::<Moving>(alloc, program, &MoveStage::Result)?;
+    let steps = program_steps::<CodeMotion>(alloc, program, &MoveStage::Result)?;
     Ok(MoveTrail {
         source: steps.source,
         units: steps.units,
@@ -95,7 +95,7 @@ pub fn divisions(alloc: Global, program: &Program) -> Result<MoveTrail, Memory>
     // and each is inserted only where a run is sure to come to that very division.
     ensures best { IfOk result (λ trail. All DivisionsAreBest trail.units) }
 {
-    let steps = program_steps::<Dividing>(alloc, program, &MoveStage::Result)?;
+    let steps = program_steps::<DivisionMotion>(alloc, program, &MoveStage::Result)?;
     Ok(MoveTrail {
         source: steps.source,
         units: steps.units,

@@ -12,13 +12,13 @@ use std::alloc::Global;
 use value_number::number;
 
 /// Makes the graph of a unit, cleans it, and replaces what is known. It fails only with `Memory`.
-pub(crate) fn make_front(alloc: Global, source: &MirUnit) -> Result<Front, Memory>
+pub(crate) fn make_front(alloc: Global, source: &MirUnit) -> Result<FrontGraphs, Memory>
     requires { CanLower source.now.shared source.now.body }
     ensures { IfOk result (FrontMade source.now) }
 {
     let start = lower_clean(alloc, source)?;
     let values = make_values(alloc, &start.cleaned)?;
-    Ok(Front { start, values })
+    Ok(FrontGraphs { start, values })
 }
 
 /// Makes the graph of a unit and cleans it. It fails only with `Memory`.
@@ -48,7 +48,7 @@ fn make_values(alloc: Global, cleaned: &Graph) -> Result<Valued, Memory>
 
 /// The graphs of a unit up to code motion.
 #[derive(Drop)]
-pub(crate) struct Front {
+pub(crate) struct FrontGraphs {
     pub(crate) start: Lowered,
     pub(crate) values: Valued,
 }

@@ -16,9 +16,9 @@ use mir_base::{Memory, Unit as MirUnit};
 use std::alloc::Global;
 
 /// The steps of `motion`.
-pub(crate) struct Moving;
+pub(crate) struct CodeMotion;
 
-impl UnitSteps for Moving {
+impl UnitSteps for CodeMotion {
     type Unit = MoveUnit;
 
     type Stage = MoveStage;
@@ -55,9 +55,9 @@ impl UnitSteps for Moving {
 }
 
 /// The steps of `divisions`.
-pub(crate) struct Dividing;
+pub(crate) struct DivisionMotion;
 
-impl UnitSteps for Dividing {
+impl UnitSteps for DivisionMotion {
     type Unit = MoveUnit;
 
     type Stage = MoveStage;

@@ -61,9 +61,9 @@ pub(crate) fn move_divisions(alloc: Global, graph: &Graph) -> Result<Moved, Memo
     })
 }
 
-/// A placement, and the graph that is rewritten by it.
+/// The lazy placement of the movable expressions of a split graph, and the graph rewritten by it.
 #[derive(Drop)]
-struct Placed {
+struct PlacedCode {
     placement: Placement,
     moved: Graph,
 }
@@ -74,7 +74,7 @@ fn place_code<R: DownRule>(
     rule: &R,
     split: &Graph,
     table: &ExprTable,
-) -> Result<Placed, Memory>
+) -> Result<PlacedCode, Memory>
     requires split { IsSplit split.now.nodes }
     requires movable { AreMovable (length split.now.vars) table.now }
     ensures { IfOk result (CodeMade (R.is_down rule.now) split.now table.now) }
@@ -82,5 +82,5 @@ fn place_code<R: DownRule>(
     let edges = Edges::of(alloc, split)?;
     let placement = lazy(alloc, rule, split, &edges, table)?;
     let moved = flatten(alloc, split, table, &placement)?;
-    Ok(Placed { placement, moved })
+    Ok(PlacedCode { placement, moved })
 }

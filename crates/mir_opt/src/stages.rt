@@ -1,7 +1,7 @@
 // The stages of the passes, and the graph of a unit at each.
 ghost use Rattle.std.specs.Prelude.{◌≡◌, ◌++◌, IfOk, OnOk};
 ghost use Rattle.mir_base.specs.Appending.{AppendsOnOk};
-ghost use Rattle.sink_dead.specs.RoundGraphs.{last_round};
+ghost use Rattle.sink_rounds.specs.RoundGraphs.{last_round};
 ghost use Rattle.mir_opt.specs.Stages.{after_rounds, first_rounds, graph_at, longest_rounds, move_graph_at, stage_name, stages_in};
 
 use crate::{MoveUnit, Trail, UnitTrail};
@@ -73,7 +73,7 @@ fn longest_rounds(units: &[UnitTrail]) -> usize
 {
     let mut most = 0;
     for unit in units {
-        most = most.max(unit.sunk.rounds.items().len());
+        most = most.max(unit.rounds.graphs.items().len());
     }
     most
 }
@@ -131,7 +131,7 @@ impl UnitTrail {
             Stage::Split => &self.split,
             Stage::Motion => &self.moved,
             Stage::CopiesAfterMotion => &self.recopied,
-            Stage::Round(count) => after_rounds(&self.recopied, self.sunk.rounds.items(), count),
+            Stage::Round(count) => after_rounds(&self.recopied, self.rounds.graphs.items(), count),
             Stage::Result => &self.swept,
         }
     }

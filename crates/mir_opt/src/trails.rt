@@ -2,7 +2,7 @@
 use flow_graph::Graph;
 use mir_base::{Items, Program};
 use motion_rewrite::{ExprTable, Placement};
-use sink_dead::Sunk;
+use sink_rounds::Rounds;
 
 /// What the passes of `optimise` made of one unit, in their order.
 #[derive(Drop)]
@@ -28,7 +28,7 @@ pub struct UnitTrail {
     /// `moved` with the sources of copies in their place.
     pub recopied: Graph,
     /// What each round of sinking made of it, one to sixteen graphs.
-    pub sunk: Sunk,
+    pub rounds: Rounds,
     /// The last of these with clean jumps.
     pub swept: Graph,
 }

@@ -6,7 +6,7 @@ use Rattle.mir_base.specs.declared.instructions.Expr.{Expr}
 use Rattle.mir_base.specs.Shapes.{AllBelow}
 use Rattle.mir_base.specs.ExpressionVars.{rhs_of}
 use Rattle.flow_graph.specs.declared.nodes.Node.{Node}
-use Rattle.graph_edit.specs.EditingOrder.{rewritten_alike}
+use Rattle.motion_rewrite.specs.EditingOrder.{rewritten_alike}
 use Rattle.flow_graph.specs.Graphs.{AllWithin}
 use Rattle.graph_edit.specs.Insertions.{Replaced}
 use Rattle.path_laws.specs.Paths.{AreRows}

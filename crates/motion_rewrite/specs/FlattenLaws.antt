@@ -8,7 +8,8 @@ use Rattle.motion_rewrite.specs.declared.placement.Placement.{Placement}
 use Rattle.motion_rewrite.specs.Flatten.{IsFlattened}
 
 -- there is one graph
-pub flattened_is_one : (graph : GraphShape) (table : List Expr) (p : Placement) (a b : GraphShape) → IsFlattened graph table p a → IsFlattened graph table p b → a ≡ b
+pub flattened_is_one : (graph : GraphShape) (table : List Expr) (p : Placement) (a b : GraphShape)
+    → IsFlattened graph table p a → IsFlattened graph table p b → a ≡ b
 flattened_is_one graph table p a b f g =
     let names = names_are_one _ _ f.names g.names f.are_names g.are_names in
     same_graphs a b (f.name_is ∙ sym g.name_is) (f.shared_is ∙ sym g.shared_is) (f.vars_are ∙ ap (λ l. graph.vars ++ l) names ∙ sym g.vars_are) (f.received_are ∙ sym g.received_are) (f.nodes_are ∙ sym g.nodes_are)

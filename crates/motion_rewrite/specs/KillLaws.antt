@@ -10,5 +10,6 @@ use Rattle.graph_edit.specs.VarLaws.{NoneAssigned, none_assigned}
 use Rattle.motion_rewrite.specs.Expressions.{node_kills}
 
 -- what does not kill e assigns none of the variables that e reads
-pub kills_none : (graph : GraphShape) (e : Expr) (node : Node) → node_kills graph e (Some node) ≡ false → NoneAssigned graph node (expr_vars e)
+pub kills_none : (graph : GraphShape) (e : Expr) (node : Node)
+    → node_kills graph e (Some node) ≡ false → NoneAssigned graph node (expr_vars e)
 kills_none graph e node kept = none_assigned graph node (expr_vars e) (or_parts (is_start node) (list_any (λ x. assigns graph x node) (expr_vars e)) kept).1

@@ -10,4 +10,5 @@ pub mod Temporaries
 pub mod Flatten
 pub mod Edits
 pub mod Over
+pub mod EditingOrder
 pub mod FlattenLaws

@@ -44,7 +44,8 @@ module _ (graph : GraphShape) (e : Expr) (Down : ℕ → Type 0) (laws : DownLaw
 -- ---- counts
 
 -- what a placement counts on a path is the sum of its evaluations at the nodes
-pub count_sum : (graph : GraphShape) (e : Expr) (p : Places) (path : List ℕ) → count graph e p path ≡ sum_on (evaluations_at graph e p) path
+pub count_sum : (graph : GraphShape) (e : Expr) (p : Places) (path : List ℕ)
+    → count graph e p path ≡ sum_on (evaluations_at graph e p) path
 count_sum graph e p path =
     let inserts = count_sums p.inserts path in
     let kept = count_sums (λ n. uses graph e n && not (p.replaces n)) path in
@@ -70,9 +71,13 @@ module _ (graph : GraphShape) (e : Expr) (Down : ℕ → Type 0) where
       ∙ sym (count_sums (uses graph e) path)
 
   -- so no optimal one counts more
-  pub optimal_no_dearer : (p : Places) → IsOptimal graph e Down p → (path : List ℕ) → IsFullPath graph.nodes path → count graph e p path ≤ count_by (uses graph e) path
+  pub optimal_no_dearer : (p : Places) → IsOptimal graph e Down p → (path : List ℕ)
+      → IsFullPath graph.nodes path → count graph e p path ≤ count_by (uses graph e) path
   optimal_no_dearer p best path full = omega (arith, best.least nowhere nowhere_admissible path full, nowhere_counts path)
 
 -- nor does a placement that is optimal for each expression of its table
-pub optimal_is_no_dearer : (graph : GraphShape) (table : List Expr) (Down : Expr → ℕ → Type 0) (p : Placement) → AreOptimal graph table Down p → IsNoDearer graph table p
-optimal_is_no_dearer graph table Down p best = record { no_dearer = λ i e at path full. optimal_no_dearer graph e (Down e) (places_of p i) (best i e at) path full }
+pub optimal_is_no_dearer : (graph : GraphShape) (table : List Expr) (Down : Expr → ℕ → Type 0) (p : Placement)
+    → AreOptimal graph table Down p → IsNoDearer graph table p
+optimal_is_no_dearer graph table Down p best = record {
+  no_dearer = λ i e at path full. optimal_no_dearer graph e (Down e) (places_of p i) (best i e at) path full;
+}

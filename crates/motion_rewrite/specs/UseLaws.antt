@@ -11,11 +11,13 @@ use Rattle.flow_graph.specs.Graphs.{GraphShape, rhs_at}
 use Rattle.motion_rewrite.specs.Expressions.{uses}
 
 -- a node uses e exactly where it assigns e
-pub assign_uses : (graph : GraphShape) (e : Expr) (n x next : ℕ) → slice_get graph.nodes n ≡ Some (Assign x (rhs_of e) next) → uses graph e n ≡ true
+pub assign_uses : (graph : GraphShape) (e : Expr) (n x next : ℕ)
+    → slice_get graph.nodes n ≡ Some (Assign x (rhs_of e) next) → uses graph e n ≡ true
 assign_uses graph e n x next here = ap (λ o. is_expr e (rhs_at o)) here ∙ of_rhs e e ∙ expr_itself e
 
 -- what has e as its right side assigns e
-node_assigns : (e : Expr) (o : Option Node) → is_expr e (rhs_at o) ≡ true → (x : ℕ) × (next : ℕ) × (o ≡ Some (Assign x (rhs_of e) next))
+node_assigns : (e : Expr) (o : Option Node) → is_expr e (rhs_at o) ≡ true
+    → (x : ℕ) × (next : ℕ) × (o ≡ Some (Assign x (rhs_of e) next))
 node_assigns e None is = absurd (false≢true is)
 node_assigns e (Some (Start next)) is = absurd (false≢true is)
 node_assigns e (Some (Skip next)) is = absurd (false≢true is)
@@ -27,7 +29,8 @@ node_assigns e (Some (Test test taken other)) is = absurd (false≢true is)
 node_assigns e (Some (Return a)) is = absurd (false≢true is)
 
 -- so a node that uses e assigns e
-pub uses_assign : (graph : GraphShape) (e : Expr) (n : ℕ) → uses graph e n ≡ true → (x : ℕ) × (next : ℕ) × (slice_get graph.nodes n ≡ Some (Assign x (rhs_of e) next))
+pub uses_assign : (graph : GraphShape) (e : Expr) (n : ℕ) → uses graph e n ≡ true
+    → (x : ℕ) × (next : ℕ) × (slice_get graph.nodes n ≡ Some (Assign x (rhs_of e) next))
 uses_assign graph e n is = node_assigns e (slice_get graph.nodes n) is
 
 -- two expressions that one node uses are one

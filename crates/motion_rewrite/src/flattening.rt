@@ -30,8 +30,7 @@ use std::alloc::Global;
 /// The expressions are movable and over the graph's variables; the placement has one row for each node and one bit for
 /// each expression, and for each no insertion stands before Start, and each replaced node uses the expression, which an
 /// insertion makes available there on every path to it. So it is with every placement that is admissible by some down
-/// rule. It fails only with `Memory`. The rewriting is that of Knoop, Ruething and Steffen, *Optimal Code Motion:
-/// Theory and Practice*, TOPLAS 1994, for nodes of one instruction.
+/// rule. It fails only with `Memory`.
 pub fn flatten(
     alloc: Global,
     graph: &Graph,

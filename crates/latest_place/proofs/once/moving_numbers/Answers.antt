@@ -1,7 +1,7 @@
 use Rattle.std.proofs.Common.{◌≡◌, ◌+◌, ◌∙◌, ℕ, slice_get, Some, Vec, Global, refl, ap, sym, subst, arith}
 use Rattle.std.proofs.lemmas.Option.{get_or_from_slice_get, slice_get-get_or, slice_get_within}
 use Rattle.latest_place.specs.Parts.{IsSeenFrom}
-use Rattle.latest_place.specs.declared.once.Seen.TheVariants.{More}
+use Rattle.latest_place.specs.declared.once.SeenUse.TheVariants.{More}
 use Rattle.latest_place.proofs.Moving.{AreListedTo, listed_in, listed_none, listed_out}
 use Rattle.latest_place.proofs.once.moving_numbers.Goals as goal
 use Rattle.latest_place.proofs.once.moving_numbers.Goals.{then-not-is_once+in_ok-push, else-not-is_once}

@@ -1,6 +1,6 @@
 use Rattle.std.proofs.Common.{◌≡◌, ℕ, ◌+◌, ◌∷◌, drop, get_or, length, ap, sym, ◌∙◌, subst, arith}
 use Rattle.graph_edit.specs.Editing.{graph_put_all}
-use Rattle.graph_edit.specs.EditingOrder.{put_length}
+use Rattle.motion_rewrite.specs.EditingOrder.{put_length}
 use Rattle.flow_graph.specs.Graphs.{GraphShape}
 use Rattle.graph_edit.specs.Insertions.{InsertionsBelow}
 use Rattle.motion_rewrite.specs.Flatten.{insertions_of, set_from}

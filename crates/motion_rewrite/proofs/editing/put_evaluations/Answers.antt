@@ -1,6 +1,6 @@
 use Rattle.std.proofs.Common.{◌≡◌, ℕ, suc, ◌+◌, ◌-◌, get_or, length, ap, sym, ◌∙◌, arith}
 use Rattle.graph_edit.specs.Editing.{put_all, put_each}
-use Rattle.graph_edit.specs.EditingOrder.{put_all_length}
+use Rattle.motion_rewrite.specs.EditingOrder.{put_all_length}
 use Rattle.flow_graph.specs.Graphs.{GraphShape}
 use Rattle.motion_rewrite.specs.Flatten.{inserted, inserted_below, insertions_of, set_from}
 use Rattle.motion_rewrite.proofs.RowNumbers.{inserted_mono}

@@ -2,7 +2,7 @@ use Rattle.std.proofs.Common.{◌≡◌, ◌∙◌, ◌<◌, ◌++◌, ℕ, List
 use Rattle.std.proofs.lemmas.Option.{get_or_from_slice_get}
 use Rattle.graph_edit.specs.Editing.{change_each, put_each, is_assignment}
 use Rattle.graph_edit.specs.EditingLaws.{change_each_length}
-use Rattle.graph_edit.specs.EditingOrder.{edited_in_order}
+use Rattle.motion_rewrite.specs.EditingOrder.{edited_in_order}
 use Rattle.flow_graph.specs.Graphs.{GraphShape, AllWithin}
 use Rattle.graph_edit.specs.Insertions.{CanRewrite, ChangeBelow, InsertionsBelow}
 use Rattle.path_laws.specs.Paths.{AreRows}

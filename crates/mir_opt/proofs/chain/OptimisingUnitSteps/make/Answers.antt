@@ -5,8 +5,8 @@ use Rattle.flow_graph.specs.DividingLaws.{stay_trans, unchanged_stay}
 use Rattle.flow_graph.specs.Keeps.{AsGraph, AsUnit, Form, KeepInTurn, Keeps}
 use Rattle.flow_graph.specs.KeepsLaws.{chain_keeps}
 use Rattle.flow_graph.specs.Passes.{GraphDivides}
-use Rattle.sink_dead.specs.RoundGraphs.{last_round}
-use Rattle.sink_dead.specs.RoundLaws.{rounds_in_turn}
+use Rattle.sink_rounds.specs.RoundGraphs.{last_round}
+use Rattle.sink_rounds.specs.RoundLaws.{rounds_in_turn}
 use Rattle.mir_opt.specs.declared.stages.Stage.TheVariants.{Lower, Clean, Fold, Number, Copies, Split, Motion, CopiesAfterMotion, Round, Result}
 use Rattle.mir_opt.proofs.Rounds.{rounds_keep}
 use Rattle.mir_opt.proofs.chain.OptimisingUnitSteps.make.Goals as goal
@@ -23,7 +23,7 @@ returns c =
     let front = c.in_ok-front.ensures in
     let after = c.in_ok-back.ensures in
     let source : Form = AsUnit c.args.source.now in
-    let stages : List Form = AsGraph start.lowered ∷ AsGraph start.cleaned ∷ AsGraph values.folded ∷ AsGraph values.numbered ∷ AsGraph values.copied ∷ AsGraph code.split ∷ AsGraph code.moved ∷ AsGraph back.recopied ∷ AsGraph (last_round back.recopied back.sunk.rounds) ∷ AsGraph back.swept ∷ [] in
+    let stages : List Form = AsGraph start.lowered ∷ AsGraph start.cleaned ∷ AsGraph values.folded ∷ AsGraph values.numbered ∷ AsGraph values.copied ∷ AsGraph code.split ∷ AsGraph code.moved ∷ AsGraph back.recopied ∷ AsGraph (last_round back.recopied back.rounds.graphs) ∷ AsGraph back.swept ∷ [] in
     let passes : KeepInTurn source stages = (front.start.lowered_keeps, (front.start.cleaned_keeps, (front.values.folded_keeps, (front.values.numbered_keeps, (front.values.copied_keeps, (c.in_ok-code.ensures.split_keeps, (c.in_ok-code.ensures.moved_keeps, (after.recopied_keeps, (after.last_keeps.keeps, (after.swept_keeps, tt)))))))))) in
     let keep : All (Keeps source) stages = chain_keeps source stages passes in
     let rest : GraphDivides values.folded back.swept =
@@ -46,7 +46,7 @@ returns c =
         | Split ↦ keep 5 source (omega arith)
         | Motion ↦ keep 6 source (omega arith)
         | CopiesAfterMotion ↦ keep 7 source (omega arith)
-        | Round count ↦ rounds_keep source back.recopied back.sunk.rounds (keep 7 source (omega arith)) (rounds_in_turn back.recopied back.sunk.rounds after.rounds_keep) count
+        | Round count ↦ rounds_keep source back.recopied back.rounds.graphs (keep 7 source (omega arith)) (rounds_in_turn back.recopied back.rounds.graphs after.rounds_keep) count
         | Result ↦ keep 9 source (omega arith)
       ];
       within = (front.start.within, after.last_keeps.within);

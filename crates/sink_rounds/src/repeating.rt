@@ -1,0 +1,146 @@
+// Rounds of sinking and pruning.
+ghost use Rattle.std.specs.Prelude.{IfOk};
+ghost use Rattle.flow_graph.specs.Edges.{IsSplit};
+ghost use Rattle.flow_graph.specs.Layouts.{IsLayout};
+ghost use Rattle.graph_edit.specs.GraphFlows.{IsFlowOf};
+ghost use Rattle.sink_rounds.specs.RoundGraphs.{AreOnlyRounds, AreRounds, IsOnlyRound, IsRound, KeepsGlobals, SaysChanged, last_round};
+ghost use Rattle.sink_code.specs.RoundKept.{RoundKeeps};
+ghost use Rattle.sink_rounds.specs.RoundsKept.{RoundsKeep};
+ghost use Rattle.sink_rounds.specs.Steps.{AreBestSteps, IsBestStep};
+ghost use Rattle.sink_rounds.specs.RoundsMade.{IsMadeRound, IsPrunedRound};
+
+use crate::answers::{Round, Rounds};
+use dead_code::pruned;
+use flow_graph::{Graph, layout};
+use graph_edit::GraphFlow;
+use mir_base::{Items, Memory, Unit as MirUnit};
+use sink_code::sunk;
+use std::alloc::Global;
+use std::mem;
+use unit_equal::same_unit;
+
+/// The most rounds that `rounds` makes.
+pub const MOST_ROUNDS: usize = 16;
+
+/// One round on a split graph: its assignments sink, and then the dead ones become Skips. `changed` is false exactly
+/// where the old and the new graph have one layout. It fails only with `Memory`.
+pub fn round(alloc: Global, graph: &Graph) -> Result<Round, Memory>
+    requires { IsSplit graph.now.nodes }
+    ensures exact { IfOk result (λ round. IsRound graph.now round.graph) }
+    ensures changed { IfOk result (λ round. SaysChanged graph.now round.graph round.changed) }
+
+    // there is no other such graph
+    ensures only { IfOk result (λ round. IsOnlyRound graph.now round.graph) }
+    ensures keeps { IfOk result (λ round. RoundKeeps graph.now round.graph) }
+
+    // no last assignment of a global before a call or a return is removed
+    ensures globals { IfOk result (λ round. KeepsGlobals graph.now round.graph) }
+
+    // no step of sinking and removal leaves fewer of a plain or movable assignment on any full path
+    ensures best { IfOk result (λ round. IsBestStep graph.now round.graph) }
+{
+    let made = first_round(alloc, graph)?;
+    Ok(Round {
+        graph: made.graph,
+        changed: made.changed,
+    })
+}
+
+/// The rounds of a split graph: the first is a round of the graph, and each other one of the one before. There are one
+/// to `MOST_ROUNDS`. Only the last may have the layout of the graph before it, and it has unless there are
+/// `MOST_ROUNDS`. It fails only with `Memory`.
+pub fn rounds(alloc: Global, graph: &Graph) -> Result<Rounds, Memory>
+    requires { IsSplit graph.now.nodes }
+    ensures rounds { IfOk result (λ rounds. AreRounds graph.now rounds.graphs) }
+
+    // there are no other such graphs
+    ensures only { IfOk result (λ rounds. AreOnlyRounds graph.now rounds.graphs) }
+    ensures keeps { IfOk result (λ rounds. RoundsKeep graph.now rounds.graphs) }
+
+    // the last of them keeps of the graph what one round does
+    ensures last { IfOk result (λ rounds. RoundKeeps graph.now (last_round graph.now rounds.graphs)) }
+
+    // on no full path does a step from the graph before one of them leave fewer of any than that one does
+    ensures best { IfOk result (λ rounds. AreBestSteps graph.now rounds.graphs) }
+{
+    let mut last = first_round(alloc, graph)?;
+    let mut rounds = Vec::new(alloc);
+    'rounds: while last.changed && rounds.len() < MOST_ROUNDS - 1 {
+        let next = next_round(alloc, &last.graph, &last.flow, &last.unit)?;
+        rounds.push(mem::replace(&mut last, next).graph)?;
+    }
+    rounds.push(last.graph)?;
+    Ok(Rounds {
+        graphs: Items::of(rounds),
+    })
+}
+
+/// A round with its edges, its blocks and its layout.
+#[derive(Drop)]
+struct MadeRound {
+    graph: Graph,
+    flow: GraphFlow,
+    unit: MirUnit,
+    changed: bool,
+}
+
+/// The first round of a graph.
+fn first_round(alloc: Global, graph: &Graph) -> Result<MadeRound, Memory>
+    requires { IsSplit graph.now.nodes }
+    ensures { IfOk result (IsMadeRound graph.now) }
+{
+    let unit = layout(alloc, graph)?;
+    let flow = GraphFlow::of(alloc, graph)?;
+    let made = next_round(alloc, graph, &flow, &unit)?;
+    Ok(made)
+}
+
+/// One round on a graph, whose edges and blocks are `flow`, and whose layout is `unit`.
+fn next_round(
+    alloc: Global,
+    graph: &Graph,
+    flow: &GraphFlow,
+    unit: &MirUnit,
+) -> Result<MadeRound, Memory>
+    requires split { IsSplit graph.now.nodes }
+    requires flow { IsFlowOf graph.now.nodes flow.now }
+    requires unit { IsLayout graph.now unit.now }
+    ensures { IfOk result (IsMadeRound graph.now) }
+{
+    let _nodes = graph.nodes();
+    let _shared = graph.shared();
+    let made = sunk_and_pruned(alloc, graph, flow)?;
+    let _made = made.graph.nodes();
+    let laid = layout(alloc, &made.graph)?;
+    let changed = !same_unit(unit, &laid);
+    let PrunedRound { graph, flow } = made;
+    Ok(MadeRound {
+        graph,
+        flow,
+        unit: laid,
+        changed,
+    })
+}
+
+/// A round with its edges and its blocks.
+#[derive(Drop)]
+struct PrunedRound {
+    graph: Graph,
+    flow: GraphFlow,
+}
+
+/// The graph whose assignments have sunk, without the dead ones. These leave its edges and blocks as they are.
+fn sunk_and_pruned(alloc: Global, graph: &Graph, flow: &GraphFlow) -> Result<PrunedRound, Memory>
+    requires split { IsSplit graph.now.nodes }
+    requires flow { IsFlowOf graph.now.nodes flow.now }
+    ensures { IfOk result (IsPrunedRound graph.now) }
+{
+    let sunk = sunk(alloc, graph, flow)?;
+    let flow = GraphFlow::of(alloc, &sunk)?;
+    let pruned = pruned(alloc, sunk, &flow)?;
+    let _nodes = pruned.nodes();
+    Ok(PrunedRound {
+        graph: pruned,
+        flow,
+    })
+}
