@@ -77,12 +77,12 @@ def end_hint(rt: int) -> None:
             pass  # it has ended
 
 
-def kept_code(crate: Path, words: list[str], room: Path, to_its_end: bool = False) -> Path:
-    """The code that `rt` makes of a crate with these words. `rt` is ended as soon as the code is whole, or works on."""
+def kept_code(crate: Path, words: list, room: Path, to_its_end: bool = False) -> Path:
+    """The code that a command of the kit makes of a crate. It is ended as soon as the code is whole, or works on."""
     kept, said, place = room / f'{crate.name}.bc', room / f'{crate.name}.said', room / crate.name
     place.mkdir()
     with open(said, 'wb') as out:
-        running = subprocess.Popen(['rt', *words], cwd=crate, stdin=subprocess.DEVNULL, stdout=out, stderr=out,
+        running = subprocess.Popen(words, cwd=crate, stdin=subprocess.DEVNULL, stdout=out, stderr=out,
                                    env={**os.environ, 'TMPDIR': str(place)})
         try:
             while running.poll() is None and (to_its_end or not kept.exists()):
@@ -96,7 +96,7 @@ def kept_code(crate: Path, words: list[str], room: Path, to_its_end: bool = Fals
                 running.terminate()
             status = running.wait()
     if not kept.exists() or to_its_end and status:
-        raise Fault(f'rt {words[0]} in {crate.name}:\n{said.read_text(errors="replace").strip()}')
+        raise Fault(f'{Path(words[0]).name} {words[1]} in {crate.name}:\n{said.read_text(errors="replace").strip()}')
     return kept
 
 
@@ -128,7 +128,7 @@ def scratch_repository(room: Path) -> Path:
 
 def tried_exports(room: Path) -> Path:
     """The code of the library for C by `rt try`: that of the scratch program, with exports in the place of `main`."""
-    code = kept_code(scratch_repository(room), ['try'], room)
+    code = kept_code(scratch_repository(room), ['rt', 'try'], room)
     text = clang(*TARGET, '-S', '-emit-llvm', '-O0', '-x', 'ir', code, '-o', '-')
     text = re.sub(rb'^define i32 @main\(', b'define internal i32 @main(', text, flags=re.MULTILINE)
     for name in (name.encode() for name in exports()):
@@ -141,6 +141,48 @@ def tried_exports(room: Path) -> Path:
     made = room / 'exports.ll'
     made.write_bytes(text)
     return made
+
+
+def uses_of(listed: str, crate: str) -> list[str]:
+    """The crates and the libraries of the kit that a crate names in the text of crates.txt."""
+    found = re.search(rf'^{crate}(?: [\w =]*)?:(.*)', listed, re.MULTILINE)
+    return found[1].split('#')[0].split() if found else []
+
+
+def below(listed: str, crate: str) -> list[str]:
+    """The crates of the repository that a crate stands on, each once."""
+    found: list[str] = []
+    for name in uses_of(listed, crate):
+        if re.search(rf'^{name}\b.*:', listed, re.MULTILINE):
+            found += [one for one in [*below(listed, name), name] if one not in found]
+    return found
+
+
+def over_gate(crate: Path, to: Path) -> list:
+    """The words that build a static library over the libraries that `rt ci` has proved and left in the crates' out/. `rt
+    lib` does not take these: it proves them again, unless `rt check` has kept its work on them. Where it has, in this
+    checkout, `rt ci` puts that work back in the place of its own, with a stamp of what it is of, and `rt lib` takes it."""
+    listed, libraries = (crate.parent.parent / 'crates.txt').read_text(), kit() / 'rattle'
+    own = below(listed, crate.name)
+    if any((crate.parent / name / 'out/rlib/stamp').exists() for name in own):
+        return ['rt', 'lib']
+    places = {name: crate.parent / name / 'out/rlib' / f'{name}.rlib' for name in own}
+    lacking = [name for name, path in places.items() if not path.exists()]
+    if lacking:
+        raise Fault(f'{crate.name}: rt ci has left no library {lacking[0]}')
+    direct = uses_of(listed, crate.name)
+    of_kit = ['std', *(name for name in direct if name not in own)]
+    words = [kit() / 'bin/rattle', 'build', '--crate-name', crate.name, 'src/lib.rt']
+    for name in of_kit:
+        words += ['--extern', f'{name}={kit()}/rlibs/{name}.rlib']
+    words += ['-L', f'dependency={kit()}/rlibs']
+    for name in (name for name in direct if name in own):
+        words += ['--extern', f'{name}={places[name]}']
+    for path in places.values():
+        words += ['-L', f'dependency={path.parent}']
+    return [*words, '--antt-project', libraries / 'logic/antt-project.json', '--logic-built', kit() / 'logic_built',
+            '--links', f'{crate.name}=', '--crate-type', 'staticlib', '--jobs', '1', '--toolchain', kit() / 'toolchain',
+            '--backend', 'llvm', '-o', to]
 
 
 def compiled(code: Path, to: Path, *flags: str) -> Path:

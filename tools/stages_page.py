@@ -10,7 +10,7 @@ from layouts import Graph, given_layouts, page_with
 from mir_text import Fault, Stage, Unit, program
 
 # The parts of the script, in the order in which they stand on the page.
-SCRIPTS = ('units.js', 'layers.js', 'compare.js', 'drawing.js', 'scroll.js', 'stages.js')
+SCRIPTS = ('units.js', 'layers.js', 'compare.js', 'drawing.js', 'scroll.js', 'loading.js', 'stages.js')
 
 # How wide a letter and how high a line is, and what a box has beside and over its lines, as in `drawing.js`.
 LETTER, LINE, SIDE, OVER = 8.5, 20, 10, 5
@@ -40,13 +40,13 @@ def report_of(stage: Stage, words: list[str], mir: str) -> dict:
     return {'stage': stage.name, 'evaluations': evaluations[-1] if evaluations else '-', 'report': told}
 
 
-def page_of(text: str, found: list[Stage], name: str, words: list[str], mir: str) -> str:
+def page_of(text: str, found: list[Stage], name: str, words: list[str], mir: str, reasons: str = '') -> str:
     """The whole page of a text of stages, of a program whose name may be empty. With words of a run it has the reports
-    of the source and of the result."""
+    of the source and of the result; with the name of a page of tables its marked lines lead there."""
     title = f'Stages of {name}' if name else 'Stages'
     rows = [report_of(stage, words, mir) for stage in (found[0], found[-1])] if words else []
     data = {'text': text, 'title': title, 'runs': [{'words': ' '.join(words), 'rows': rows}] if words else [],
-            'layouts': given_layouts([graph_of(unit) for stage in found for unit in stage.units])}
+            'reasons': reasons, 'layouts': given_layouts([graph_of(unit) for stage in found for unit in stage.units])}
     return page_with('stages', html.escape(title), data, SCRIPTS)
 
 

@@ -6,12 +6,13 @@ import subprocess
 from layouts import given_layouts, page_with
 from mir_text import Fault
 from tables_graphs import graphs_of, laid
-from tables_text import Reader
+from tables_text import read_all
 
 # The parts of the script, in the order in which they stand on the page: those that show nothing, and the others.
 MODEL = ('layers.js', 'tables.js', 'beside.js', 'boxes.js', 'graphs.js', 'passes.js', 'columns.js', 'paths.js',
-         'constants.js', 'runs.js')
-SCRIPTS = (*MODEL, 'pictures.js', 'scroll.js', 'show.js', 'reader.js')
+         'constants.js', 'runs.js', 'verdicts.js', 'definitions.js')
+SCRIPTS = (*MODEL, 'pictures.js', 'scroll.js', 'loading.js', 'show.js', 'grid.js', 'quizzing.js', 'running.js',
+           'contents.js', 'reader.js')
 
 # As many prints of a report stand on the page: no walk has more steps.
 PRINTS = 20_000
@@ -64,8 +65,9 @@ def run_of(units: list[dict], words: list[str], mir: str) -> dict:
 
 
 def page_of(text: str, name: str, words: list[str], mir: str) -> str:
-    """The whole page of a text of tables. With words of a run it offers this run, and has what `mir run` reports."""
-    units = Reader().read(text)
-    data = {'name': name, 'text': text, 'runs': [run_of(units, words, mir)] if words else [],
-            'layouts': given_layouts(graphs_of(units))}
+    """The whole page of a text of tables, or of several one after another, of several commands. With words of a run it
+    offers this run of the first, and has what `mir run` reports."""
+    commands = read_all(text)
+    data = {'name': name, 'text': text, 'runs': [run_of(commands[0], words, mir)] if words else [],
+            'layouts': given_layouts([graph for units in commands for graph in graphs_of(units)])}
     return page_with('tables', html.escape(name), data, SCRIPTS)

@@ -4,11 +4,19 @@ docs/TABLES.md has the lines. A text that is no tables is a `Fault`; the page re
 (`page/tables.js`).
 """
 
+import re
+
 from mir_text import Fault
 
 KINDS = ('start', 'skip', 'assign', 'print', 'guard', 'call', 'test', 'return')
-ITEMS = {'expression': 'motion', 'copy': 'copies', 'pattern': 'sink', 'variable': 'prune'}
-PASSES = ('clean', 'fold', 'number', 'copies', 'split', 'motion', 'sink', 'prune')
+ITEMS = {'expression': ('motion', 'divisions'), 'copy': ('copies',), 'pattern': ('sink',), 'variable': ('prune',)}
+PASSES = ('clean', 'fold', 'number', 'copies', 'split', 'motion', 'sink', 'prune', 'divisions', 'tails', 'join')
+
+# The first line of a text, with the word of the command whose tables it has; none stands for `optimise`.
+HEAD = re.compile(r'^tables 1(?: (?:divisions|tails|join))?$', re.MULTILINE)
+
+# What a call is in tail position or not, or what becomes of it.
+POSITIONS = ('loop', 'tail', 'dropped', 'global', 'then', 'joined', 'stays')
 
 # Where these stand in a node of a stage, as on the page.
 KIND, SUCCS, _, TEXT, _ = range(5)
@@ -19,12 +27,13 @@ class Reader:
 
     def __init__(self) -> None:
         self.units: list[dict] = []
+        self.bodies: list[dict] = []
         self.stage = self.facts = self.item = None
 
     def read(self, text: str) -> list[dict]:
         """Reads a whole text, and answers its units."""
         lines = text.split('\n')
-        if lines[0] != 'tables 1':
+        if not HEAD.fullmatch(lines[0]):
             raise Fault('line 1: no tables of version 1')
         for number, line in enumerate(lines[1:], 2):
             word, _, rest = line.partition(' ')
@@ -42,6 +51,21 @@ class Reader:
                 raise Fault(f'line {number}: {fault}') from None
         check(self.units)
         return self.units
+
+    def line_body(self, rest: str) -> None:
+        """What is told of a unit as a whole."""
+        name, count, *why = rest.split()
+        if why[0] not in ('leaf', 'long', 'calls') or self.units:
+            raise Fault('unexpected')
+        self.bodies.append({'name': name, 'count': int(count), 'why': why})
+
+    def line_call(self, rest: str) -> None:
+        """What is told of a call."""
+        number, name, position, *after = rest.split()
+        if self.stage['nodes'][int(number)][KIND] != 'call' or position not in POSITIONS or len(after) != (position == 'then'):
+            raise Fault('unexpected')
+        self.facts.setdefault('calls', []).append({'n': int(number), 'name': name, 'position': position,
+                                                   'next': int(after[0]) if after else None})
 
     def line_unit(self, rest: str) -> None:
         """The name of a unit."""
@@ -101,7 +125,7 @@ class Reader:
 
     def put_item(self, word: str, rest: str) -> None:
         """An expression, a copy, a pattern or a variable."""
-        if self.facts['name'] != ITEMS[word]:
+        if self.facts['name'] not in ITEMS[word]:
             raise Fault(f'{word} in pass {self.facts["name"]}')
         items = self.facts.setdefault('items', [])
         number, text = rest.split(' ', 1)
@@ -151,6 +175,27 @@ class Reader:
         if int(number) != len(before):
             raise Fault('out of order')
         before.append([int(root), [None if one == '-' else int(one) for one in held]])
+
+
+def texts_of(text: str) -> list[str]:
+    """The texts of tables that stand one after another in one."""
+    heads = [match.start() for match in HEAD.finditer(text)]
+    if not heads or heads[0]:
+        raise Fault('line 1: no tables of version 1')
+    return [text[start:end] for start, end in zip(heads, [*heads[1:], len(text)])]
+
+
+def read_all(text: str) -> list[list[dict]]:
+    """The units of each of the texts that stand one after another in one."""
+    units, line = [], 0
+    for one in texts_of(text):
+        try:
+            units.append(Reader().read(one))
+        except Fault as fault:
+            told = re.fullmatch(r'line (\d+): (.*)', str(fault))
+            raise Fault(f'line {int(told[1]) + line}: {told[2]}' if told else str(fault)) from None
+        line += one.count('\n')
+    return units
 
 
 def check(units: list[dict]) -> None:

@@ -1,12 +1,65 @@
-"""Calls of the tools, for their tests and for bench/: as programs, and as modules."""
+"""Calls of the tools, for their tests and for bench/: as programs, and as modules; and what their tests share."""
 
 import importlib.machinery
 import importlib.util
 import subprocess
+import types
 from pathlib import Path
 
 TOOLS = Path(__file__).resolve().parent
 TOP = TOOLS.parent
+
+# The programs that are tried, and the folder of the library for C.
+GIVEN = types.SimpleNamespace(mir=str(TOP / 'mir'), tables='', library=TOP / 'build')
+
+EXAMPLES = sorted(TOP.glob('examples/*.mir'))
+
+THREE_UNITS = '''main: begin
+receive n(val)
+again: if n <= 0 goto done
+x <- twice,(n,int)
+call show,(x,int)
+n <- n - 1
+goto again
+done: return n
+end
+twice: begin
+receive a(val)
+b <- a + a
+return b
+end
+show: begin
+receive a(val)
+print a
+end
+'''
+
+# Comments and names that would be something else in a page or a picture.
+ODD = '''|| <script>alert(1)</script> "]; evil -> b0; <!--
+script: begin
+receive style(val)
+if style < 1 goto digraph
+print style
+digraph: end
+'''
+
+BAD = {
+    'print 1': 'line 1: unexpected',
+    '': 'no unit',
+    'main: begin\n?\nend': 'line 2: bad byte',
+    'main: begin\nx <- 9223372036854775808\nend': 'line 2: bad number',
+    'main: begin\ngoto L\nend': 'line 2: no such label',
+    'main: begin\nprint 1\nreceive a(val)\nend': 'line 3: late receive',
+    'main: begin\nx <- main,(x,int)\nend': 'line 2: wrong number of arguments',
+    'global g\nglobal g\nmain: begin\nend': 'line 2: global named twice',
+    ''.join(f'global g{at}\n' for at in range(65)) + 'main: begin\nend': 'line 65: too many globals',
+    'global g\nmain: begin\nreceive g(val)\nend': 'line 3: global received',
+    'main: begin\nif 1 trap -1\nend': 'line 2: bad trap number',
+    'main: begin\nif 1 trap x\nend': 'line 2: unexpected',
+    'global': 'line 1: unexpected',
+    'global g': 'no unit',
+    'main: begin': 'text ends inside a unit',
+}
 
 
 def ran(words: list[str], text: str = '') -> subprocess.CompletedProcess:
@@ -25,3 +78,10 @@ def module_of(name: str):
     made = importlib.util.module_from_spec(importlib.util.spec_from_loader(name, loader))
     loader.exec_module(made)
     return made
+
+
+def stages_of(text: str) -> str:
+    """What `mir stages` writes for a text."""
+    said = ran([GIVEN.mir, 'stages'], text)
+    assert said.returncode == 0, said.stderr
+    return said.stdout.decode('latin-1')

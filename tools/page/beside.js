@@ -10,15 +10,29 @@ function lazily(object, name, make) {
   } });
 }
 
+// The nodes that are still reached where calls become loops or the code of leaves: a loop leads to the first node, and
+// code that never returns leads nowhere. The others are dropped, and those that are left are numbered anew.
+function reachedBeyondCalls(nodes, calls, units, at) {
+  const leads = nodes.map(node => node[SUCCS]), reached = new Set([0]);
+  for (const { n, name, position } of calls) {
+    const callee = units.find(unit => unit.name === name);
+    if (position === 'loop') leads[n] = nodes[0][SUCCS];
+    if (position === 'joined' && !callee.stages[at].nodes.some(node => node[KIND] === 'return')) leads[n] = [];
+  }
+  for (const n of reached) for (const s of leads[n]) reached.add(s);
+  return [...reached].sort((one, other) => one - other);
+}
+
 // A string of bits, one for each node.
 const bitsFor = (nodes, holds) => nodes.map(node => holds(node) ? '1' : '0').join('');
 
 // Puts beside what was read of a pass what the page has at hand.
-function complete(unit, facts, at) {
+function complete(unit, facts, at, units) {
   const before = unit.stages[at], after = unit.stages[at + 1], { items } = facts;
   let old = before.nodes.map((_, n) => n);
   if (facts.name === 'clean') [old, facts.ends] = cleaned(before.nodes);
   if (facts.name === 'fold') old = old.filter(n => facts.states?.[n]);
+  if (facts.calls) old = reachedBeyondCalls(before.nodes, facts.calls, units, at);
   after.nodes.forEach((node, number) => { node[OLD] = old[number] ?? null; });
   if (facts.name === 'number') lazily(facts, 'rights', () => rightsOf(before, after, facts));
   if (facts.name === 'sink') {

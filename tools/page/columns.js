@@ -77,7 +77,7 @@ const COLUMNS = {
         `${code(item.text)} holds where every path has this assignment, and neither variable is assigned since.`,
         n => everyPathTo(out, into, n, bits[n], p => born(p) ? 'good' : stop(p) ? 'bad' : 'on', { has: 'has this copy',
           bad: p => p === 0 ? 'this copy is not made on it'
-            : `${N(p)} assigns ${code(parsed(pass.before.nodes[p]).setsOf([v, w]).join(', '))}, and the copy is not made again` }),
+            : `${N(p)} ${changing(pass.before.nodes[p], [v, w])}, and the copy is not made again` }),
             item.text);
       one.id = item.text;
       return one;
@@ -107,35 +107,38 @@ const COLUMNS = {
         html: P.used[n] ? `The right side of ${N(n)} is ${e}.`
           : `${N(n)} does not evaluate ${e}${parsed(nodes[n]).op && nodes[n][0] === 'assign' ? ', which is compared as it is written' : ''}.` })),
       column('killed', P.killed,
-        `A node <b>kills</b> ${e} where it assigns one of its operands, or is Start: an older value is worth nothing then.`,
+        `A node <b>kills</b> ${e} where it assigns one of its operands, may change one by a call, or is Start: an older value is worth nothing then.`,
         n => ({ yes: n === 0 || parsed(nodes[n]).setsOf(rightVars(item.text)).length > 0,
         html: P.killed[n]
-          ? `${N(n)} ${n ? `assigns ${code(parsed(nodes[n]).setsOf(rightVars(item.text)).join(', '))}` : 'is Start'}.`
+          ? `${N(n)} ${n ? changing(nodes[n], rightVars(item.text)) : 'is Start'}.`
           : `${N(n)} assigns no operand of ${e}.` })),
       column('available', P.available,
         `${e} is <b>available</b> before a node where every path from Start has evaluated it, with no change of an operand since.`,
         n => everyPathTo(out, into, n, P.available[n], p => P.killed[p] ? 'bad' : P.used[p] ? 'good' : 'on',
           { has: `has evaluated ${e} by then`, bad: p => p
-            ? `${N(p)} assigns ${code(parsed(nodes[p]).setsOf(rightVars(item.text)).join(', '))}, and nothing evaluates ${e} after it`
+            ? `${N(p)} ${changing(nodes[p], rightVars(item.text))}, and nothing evaluates ${e} after it`
             : `nothing evaluates ${e} on it` })),
       column('anticipatable', P.anticipatable,
         `${e} is <b>anticipatable</b> where every path from the node that comes to a change of an operand, or to a Return, has evaluated it by then.`,
         n => P.everyPathFrom(n)),
+      ...pass.name !== 'divisions' ? [] : [column('sure', P.down,
+        `${e} is <b>sure</b> where each run from the node comes to it within some number of nodes, and before that nothing is seen, no operand changes and no other division is made.`,
+        n => P.whyDown(n))],
       column('earliest', P.earliest,
-        `<b>Earliest</b>: anticipatable here, but on some edge into the node it could not stand higher up. The busy placement inserts here.`,
+        `<b>Earliest</b>: ${P.rule} here, but on some edge into the node it could not stand higher up.${pass.name === 'motion' ? ' The busy placement inserts here.' : ''}`,
         n => {
-        if (!P.anticipatable[n]) return { ...P.everyPathFrom(n), yes: false,
-          html: `It is not even anticipatable. ${P.everyPathFrom(n).html}` };
+        if (!P.down[n]) return { ...P.whyDown(n), yes: false,
+          html: `It is not even ${P.rule}. ${P.whyDown(n).html}` };
         const p = into[n].find(P.blocking);
         if (p === undefined) return { yes: false,
-          html: `Each predecessor (${list(into[n])}) is safe and kills nothing, so it could stand there as well.`,
+          html: `At each predecessor (${list(into[n])}) it is available or ${P.rule}, and none of them kills it, so it could stand there as well.`,
           edges: into[n].map(q => [q, n]) };
         if (P.killed[p]) return { yes: true,
-          html: `At ${N(p)} it would be worth nothing: that node ${p ? `assigns ${code(parsed(nodes[p]).setsOf(rightVars(item.text)).join(', '))}` : 'is Start, where the variables get their values'}.`,
+          html: `At ${N(p)} it would be worth nothing: that node ${p ? changing(nodes[p], rightVars(item.text)) : 'is Start, where the variables get their values'}.`,
           edges: [[p, n]], bad: p };
-        const bad = P.everyPathFrom(p);
+        const bad = P.whyDown(p);
         return { yes: true,
-          html: `It must not stand at ${N(p)}, where it is neither available nor anticipatable. ${bad.html}`,
+          html: `It must not stand at ${N(p)}, where it is neither available nor ${P.rule}. ${bad.html}`,
           path: bad.path, edges: [[p, n]], bad: p };
       }),
       column('delayed', P.delayed,
@@ -199,6 +202,23 @@ const COLUMNS = {
     ];
   },
 
+  divisions(pass, item) { return COLUMNS.motion(pass, item); },
+
+  tails(pass) {
+    const of = new Map((pass.facts.calls ?? []).map(call => [call.n, call]));
+    const say = { loop: 'loop', tail: 'tail, of another unit', dropped: 'answer dropped', global: 'answer to a global' };
+    return [values('position', pass.before.nodes.map((_, n) => !of.has(n) ? '' : say[of.get(n).position] ?? `then ${of.get(n).next}`),
+      'A call is in <b>tail position</b> where its answer is returned next. Where it calls the unit itself it becomes a loop.',
+      n => of.has(n) ? callTold(pass, of.get(n)) : { html: `${N(n)} is no call.` }, 'position', true)];
+  },
+
+  join(pass) {
+    const of = new Map((pass.facts.calls ?? []).map(call => [call.n, call]));
+    return [values('joined', pass.before.nodes.map((_, n) => of.get(n)?.position ?? ''),
+      'A <b>leaf</b> has at most 32 instructions and calls no unit: its code stands in the place of each call.',
+      n => of.has(n) ? callTold(pass, of.get(n)) : { html: `${N(n)} is no call.` }, 'becomes', true)];
+  },
+
   sink(pass, item) {
     if (!item) return [];
     const { nodes } = pass.before, { out, into } = edgesOf(pass.before);
@@ -208,7 +228,7 @@ const COLUMNS = {
     const blocks = n => {
       const one = parsed(nodes[n]);
       return n === 0 ? 'is Start' : one.reads.includes(x) ? `reads ${code(x)}`
-        : `assigns ${code(one.setsOf([x, ...rightVars(t)]).join(', '))}`;
+        : changing(nodes[n], [x, ...rightVars(t)]);
     };
     const whyDelayed = n => everyPathTo(out, into, n, delayed[n],
       q => occurs[q] ? 'good' : blocked[q] ? 'bad' : 'on', { has: `brings ${p} with it`,
@@ -257,7 +277,7 @@ const COLUMNS = {
       column('read', read, `The nodes that read ${x}.`,
         n => ({ yes: read[n], html: read[n] ? `${N(n)} reads ${x}.` : `${N(n)} does not read ${x}.` })),
       column('assigned', sets, `The nodes that assign ${x}.`,
-        n => ({ yes: sets[n], html: sets[n] ? `${N(n)} assigns ${x}.` : `${N(n)} does not assign ${x}.` })),
+        n => ({ yes: sets[n], html: sets[n] ? `${N(n)} ${changing(nodes[n], [item.text])}.` : `${N(n)} does not assign ${x}.` })),
       column('live before', before,
         `${x} is <b>live</b> before a node where some path reads it before it is assigned.`,
         n => read[n] ? { yes: true, html: `${N(n)} reads it.`, good: [n] }

@@ -2,16 +2,31 @@
 
 // The units of the program, each with the program: its name, and runs of it with their reports.
 let UNITS = [];
+
+// The texts of the commands of `mir` whose tables there are, each with the units that are read of it when it is shown.
+let COMMANDS = [];
 function takeProgram({ text, name, runs = [] }) {
-  const program = { name, runs };
-  UNITS = readTables(text).map((unit, at) => ({ ...unit, program, first: at === 0 }));
+  COMMANDS = textsOf(text).map((one, at) => ({ ...one, program: { name, runs: at ? [] : runs }, units: null }));
+  takeCommand(0);
 }
+function takeCommand(at) {
+  const command = COMMANDS[at];
+  command.units ??= readTables(command.text).map((unit, number) =>
+    ({ ...unit, program: command.program, first: number === 0 }));
+  UNITS = command.units;
+}
+
+// Whether a pass moves evaluations: all that may move, or divisions.
+const isMotion = pass => pass.name === 'motion' || pass.name === 'divisions';
+
+// The passes to which the page goes first, in the tables of each command.
+const MAIN = ['motion', 'divisions', 'tails', 'join'];
 const $ = selector => document.querySelector(selector);
 const esc = text => String(text).replace(/[&<>"]/g,
   c => ({ '&': '&amp;', '<': '&lt;', '>': '&gt;', '"': '&quot;' })[c]);
 const range = count => [...Array(count).keys()];
 const code = text => `<code>${esc(text)}</code>`;
-const state = { unit: 0, pass: 0, item: 0, col: 0, node: 1, view: 'graph', quiz: false, run: null, at: 0, zoom: 0,
+const state = { unit: 0, pass: 0, item: 0, col: 0, node: 1, view: 'graph', quiz: false, run: null, at: 0, root: 0, command: 0, zoom: 0,
   theme: null, blocks: null };
 
 // the passes: what each is called, and what it does in one sentence
@@ -23,24 +38,31 @@ const SAY = {
   copies: ['copies', 'Where v is a copy of w, w is read in the place of v, so that the copy may die.'],
   split: ['split', 'Each edge into a join gets a Skip: a place of its own for an evaluation that only this edge needs.'],
   motion: ['motion', 'Each expression is evaluated as late as can be and, on every path, as rarely as any admissible placement can.'],
+  divisions: ['divisions', 'Each division is evaluated as late as can be and as rarely as can be, where each run is sure to come to it before anything is seen.'],
+  tails: ['tails', 'A call of the unit itself whose answer is returned next becomes a jump to its beginning.'],
+  join: ['join', 'A call of a leaf, a small unit that calls none, becomes the code of that unit.'],
   sink: ['sink', 'An assignment is put off along each path to where its value is needed.'],
   prune: ['prune', 'An assignment whose variable nobody reads before it is assigned again goes away.'],
 };
 const HUES = { used: 212, killed: 2, available: 140, anticipatable: 178, earliest: 30, delayed: 50, latest: 14,
   isolated: 268,
-  inserted: 322, replaced: 238, after: 90, held: 150, occurs: 212, blocked: 2, 'live before': 150,
+  sure: 178, inserted: 322, replaced: 238, after: 90, held: 150, occurs: 212, blocked: 2, 'live before': 150,
     'live after': 178, dead: 2,
   read: 212, assigned: 30, join: 30, reached: 140 };
 
-// the same as equations, where they are; `in` and `out` are all predecessors and all successors
+// the same as equations, where they are; `in` and `out` are all predecessors and all successors. Code motion and divisions
+// share them but for the rule by which an evaluation may stand at a node.
+const OF_MOTION = rule => ({ available: 'not Start, and every pred: not killed, and used or available',
+  anticipatable: 'used; or not killed, no Return, and every succ: anticipatable',
+  earliest: `${rule}, and some pred: killed, or neither available nor ${rule}`,
+  delayed: 'earliest; or, not Start, every pred: delayed and not used',
+  latest: 'delayed, and used or some succ: not delayed', isolated: 'every succ: latest, or isolated and not used',
+  inserted: 'latest and not isolated', replaced: 'used, and not both latest and isolated',
+  held: 'an edge to a node that is not inserted, and is replaced with a Return behind it, or has an edge that is held' });
 const RULE = {
-  motion: { available: 'not Start, and every pred: not killed, and used or available',
-    anticipatable: 'used; or not killed, no Return, and every succ: anticipatable',
-    earliest: 'anticipatable, and some pred: killed, or neither available nor anticipatable',
-    delayed: 'earliest; or, not Start, every pred: delayed and not used',
-      latest: 'delayed, and used or some succ: not delayed', isolated: 'every succ: latest, or isolated and not used',
-      inserted: 'latest and not isolated', replaced: 'used, and not both latest and isolated',
-    held: 'an edge to a node that is not inserted, and is replaced with a Return behind it, or has an edge that is held' },
+  motion: OF_MOTION('anticipatable'),
+  divisions: { ...OF_MOTION('sure'),
+    sure: 'used; or neither killed, nor a print, a trap instruction, a call, a Return or another division, and every succ: sure within fewer nodes' },
   sink: { delayed: 'not Start, and every pred: occurs, or delayed and not blocked',
     inserted: 'delayed, and blocked or some succ: not delayed' },
   prune: { 'live before': 'read, or not assigned and live after', 'live after': 'some succ: live before',
@@ -74,7 +96,7 @@ function parsed(node) {
     else [found.op, found.args] = [words[1], [words[0], words[2]]];
   } else if (kind === 'print' || kind === 'return') found.args = [text.split(' ')[1]];
   found.reads = [...shared, ...found.args.filter(isVar)];
-  found.sets = [...(kind === 'call' ? shared : []), ...(found.into ? [found.into] : [])];
+  found.sets = [...new Set([...(kind === 'call' ? shared : []), ...(found.into ? [found.into] : [])])];
   // which of some variables it assigns
   found.setsOf = names => found.sets.filter(name => names.includes(name));
   Object.defineProperty(node, 'parsed', { value: found });

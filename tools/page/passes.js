@@ -19,7 +19,8 @@ function passesOf(unit) {
     stage.nodes.forEach((node, m) => {
       let to = m;
       for (let steps = 0; steps <= stage.nodes.length && pass.old[to] === null; steps++) to = stage.nodes[to][1][0];
-      if (to !== m && node[0] === 'assign') pass.puts[pass.old[to]].push(m);
+      // (code that is joined may turn in a loop and come to no node of before)
+      if (to !== m && node[0] === 'assign' && pass.old[to] !== null) pass.puts[pass.old[to]].push(m);
     });
     keepUnmoved(pass);
     pass.old.forEach((old, m) => { if (old === null) pass.fresh.push(m); else if (old >= 0) pass.became[old] = m; });
@@ -27,17 +28,26 @@ function passesOf(unit) {
       const m = pass.became[n];
       return m === null ? 'gone' : stage.nodes[m][3] !== node[3] || stage.nodes[m][0] !== node[0] ? 'changed' : 'same';
     });
-    // Skips count where they are the point of the pass
-    const counts = node => node[0] !== 'skip' || facts.name === 'clean' || facts.name === 'split';
+    // what writes text counts: a Skip does not
+    const counts = node => node[0] !== 'skip';
     pass.count = pass.first ? 0 : before.nodes.filter((node, n) => pass.change[n] !== 'same' && counts(node))
       .length + pass.fresh.filter(m => counts(stage.nodes[m])).length;
-    pass.told = pass.first ? 'as read' : !pass.count ? 'no change' : facts.name === 'prune'
-      ? `${pass.count} dead` : facts.name === 'split' ? `${pass.count} new` : facts.name === 'clean' &&
-      pass.change.includes('gone') ? `${pass.count} dropped` : `${pass.count} changed`;
+    pass.told = pass.first ? 'as read' : pass.count ? `${pass.count} ${facts.name === 'prune' ? 'dead'
+      : facts.name === 'clean' && !pass.change.includes('changed') ? 'dropped' : 'changed'}`
+      : instructionsOf(unit, before) === instructionsOf(unit, stage) ? 'no change' : 'jumps alone';
     return pass;
   });
   Object.defineProperty(unit, 'made', { value: made });
   return made;
+}
+
+// The text of a stage, in which it makes no difference which number a label has.
+function instructionsOf(unit, stage) {
+  const numbers = new Map();
+  return unitText(unit, stage).replace(/^n\d+(?=:$)|(?<=^goto |^if .* goto )n\d+$/gm, label => {
+    if (!numbers.has(label)) numbers.set(label, numbers.size);
+    return `n${numbers.get(label)}`;
+  });
 }
 
 // An assignment that keeps its place among the others is the same one, and stays. Nodes that stay and joins part the
@@ -85,7 +95,7 @@ function termText(terms, at, depth = 0) {
 
 // The choices of a pass: expressions, patterns or variables.
 const itemsOf = pass => pass.facts.items || [];
-const KIND_OF_ITEM = { motion: 'expression', sink: 'pattern', prune: 'variable' };
+const KIND_OF_ITEM = { motion: 'expression', divisions: 'division', sink: 'pattern', prune: 'variable' };
 
 // The columns of a pass for one choice. A column has for each node a bit or a value, a sentence, and an answer to `why`.
 function columnsOf(pass, number) {
@@ -125,7 +135,7 @@ function did(pass) {
   const some = (ns, tell) => ns.slice(0, 4).map(tell).join('; ') + (ns.length > 4 ? `; and ${ns.length - 4} more` : '');
   const parts = [];
   if (pass.first) return '';
-  if (pass.name === 'motion') {
+  if (isMotion(pass)) {
     itemsOf(pass).forEach(item => {
       const inserted = where(bitsOf(item.rows, 'inserted')), replaced = where(bitsOf(item.rows, 'replaced'));
       if (inserted.length) parts.push(`${code(item.text)} is evaluated into ${code(item.temp)} before ${list(inserted)}, and read at ${list(replaced)}`);
@@ -150,7 +160,7 @@ function did(pass) {
 }
 
 function whyNothing(pass) {
-  if (pass.first || pass.name === 'motion') return '';
+  if (pass.first || isMotion(pass)) return '';
   if (pass.name === 'sink' && !itemsOf(pass).length) return pass.facts.settled?.length
     ? 'Each assignment is needed by the very node that follows, or by one behind Skips: it is held up and cannot move.'
     : 'There is no assignment that may move.';
@@ -160,25 +170,6 @@ function whyNothing(pass) {
     number: 'No right side has a term that a variable already has.',
       copies: itemsOf(pass).length ? 'No node reads a variable where it is a copy.' : 'There is no copy in this graph.',
     split: 'No node is entered by more than one edge.',
+      tails: 'No call of the unit itself is in tail position.', join: 'No call is one of a leaf.',
       prune: 'Each assigned value is read by somebody.' }[pass.name] || '';
-}
-
-// Why an expression stays where it is.
-function whyStays(pass, item) {
-  const P = problem(pass, item), e = code(item.text);
-  const inserted = where(P.inserted);
-  if (inserted.length) return '';
-  const uses = where(P.used);
-  const told = uses.map(n => {
-    const first = [...new Set([n, ...reach(P.into, n,
-          m => P.delayed[m] && !P.earliest[m])])].filter(m => P.earliest[m] && P.delayed[m]);
-    const top = P.earliest[n] ? n : first[0];
-    const p = top === undefined ? undefined : P.into[top].find(P.blocking);
-    if (p === undefined) return '';
-    const above = P.killed[p] ? (p === 0 ? 'above it is Start'
-      : `${N(p)} changes ${code(parsed(pass.before.nodes[p]).setsOf(rightVars(item.text)).join(', '))}`)
-      : P.everyPathFrom(p).html;
-    return `${N(n)}: the highest place is ${N(top)}, since ${P.killed[p] ? above : `it must not stand at ${N(p)}. ${above}`}${P.killed[p] ? '.' : ''}`;
-  }).filter(Boolean);
-  return `${e} stays where it is: each of its uses is the only reader of its value. ${told.join(' ')}`;
 }

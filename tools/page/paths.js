@@ -36,15 +36,18 @@ function problem(pass, item) {
   for (const name of ['used', 'killed', 'available', 'anticipatable', 'earliest', 'delayed', 'latest', 'isolated',
       'inserted', 'replaced']) P[name] = bitsOf(item.rows, name);
   const e = code(item.text);
-  P.blocking = p => P.killed[p] || !(P.available[p] || P.anticipatable[p]);
+  // by which rule it may stand at a node: code motion asks whether it is anticipatable, that of divisions whether it is sure
+  P.rule = pass.name === 'divisions' ? 'sure' : 'anticipatable';
+  P.down = bitsOf(item.rows, P.rule);
+  P.blocking = p => P.killed[p] || !(P.available[p] || P.down[p]);
+  P.whyDown = n => pass.name === 'divisions' ? whySure(pass, item, P, n) : P.everyPathFrom(n);
   P.everyPathFrom = n => {
     if (P.used[n]) return { yes: true, html: `${N(n)} itself uses it.`, good: [n] };
     const bad = m => !P.used[m] && (P.killed[m] || nodes[m][0] === 'return');
     const path = bad(n) ? [n] : pathOn(out, n, bad, m => !P.used[m]);
     if (path) {
       const last = path.at(-1);
-      const how = P.killed[last] ? (last
-        ? `${path.length > 1 ? 'assigns' : 'assigns'} ${code(parsed(nodes[last]).setsOf(rightVars(item.text)).join(', '))}`
+      const how = P.killed[last] ? (last ? changing(nodes[last], rightVars(item.text))
         : 'is Start, where the variables get their values') : 'returns';
       return { yes: false, html: path.length > 1
         ? `Along ${arrows(path)} the unit ${how} without having used ${e}.`
@@ -108,6 +111,40 @@ function problem(pass, item) {
   return P;
 }
 
+// What of a node would be seen before a division, or happen in its place, were it moved up over the node; or null.
+function hindrance(node, right) {
+  const one = parsed(node);
+  if (['print', 'call', 'return'].includes(node[0])) return { print: 'prints', call: 'calls a unit', return: 'returns' }[node[0]];
+  if (node[0] === 'guard') return 'may trap with a number';
+  if (node[0] === 'start') return 'is Start';
+  if (one.kind === 'assign' && divides(one) && one.right !== right) return `makes another division, ${code(one.right)}`;
+  return one.setsOf(rightVars(right)).length ? changing(node, rightVars(right)) : null;
+}
+
+// Whether each run from a node is sure to come to a division within some number of nodes, and why.
+function whySure(pass, item, P, n) {
+  const { nodes } = pass.before, e = code(item.text), stops = m => !P.used[m] && hindrance(nodes[m], item.text) !== null;
+  if (P.used[n]) return { yes: true, html: `${N(n)} itself uses it.`, good: [n] };
+  const path = stops(n) ? [n] : pathOn(P.out, n, stops, m => !P.used[m]);
+  if (path) return { yes: false, html: `${path.length > 1 ? `Along ${arrows(path)} one comes to ${N(path.at(-1))}, which` : N(n)} `
+    + `${hindrance(nodes[path.at(-1)], item.text)}, before ${e}.`, path, bad: path.at(-1) };
+  const turn = turnFrom(P, n);
+  if (turn) return { yes: false, html: `Along ${arrows(turn)} a run may turn for ever, and never come to ${e}.`, path: turn };
+  const region = [...reach(P.out, n, m => !P.used[m])].filter(m => P.used[m]);
+  return { yes: true, html: `Each run from ${N(n)} comes to ${list(region.sort((a, b) => a - b))} before anything is seen.`,
+    good: region };
+}
+
+// A path from a node into a loop, and around it, on which nothing is used.
+function turnFrom(P, n) {
+  const inside = [n, ...reach(P.out, n, m => !P.used[m])].filter(m => !P.used[m]);
+  for (const m of inside) {
+    const around = pathOn(P.out, m, s => s === m, s => !P.used[s]);
+    if (around) return [...pathTo(P.out, n, s => s === m, s => !P.used[s]).slice(0, -1), ...around];
+  }
+  return null;
+}
+
 // The edges of a stage, in order of the node that they leave; of a test the one that is taken stands first.
 const allEdges = stage => stage.nodes.flatMap((node, n) => node[1].map(s => [n, s]));
 
@@ -146,7 +183,8 @@ function disagreeing(pass, number) {
         same] of [['busy inserted', 'earliest'], ['busy replaced', 'used']])
       bitsOf(item.rows, name).forEach((bit, n) => { bits++;
           if (bit !== (item.rows[same][n] === '1')) found.push([name, n]); });
-    if (pass.name === 'motion' && item && pass.before.nodes.length <= 160) for (const which of ['', 'busy ']) {
+    const placements = { motion: ['', 'busy '], divisions: [''] }[pass.name] ?? [];
+    if (item && pass.before.nodes.length <= 160) for (const which of placements) {
       const own = new Set(livesOn(pass.before, bitsOf(item.rows, `${which}inserted`),
         bitsOf(item.rows, `${which}replaced`)).map(edge => edge.join('>')));
       allEdges(pass.before).forEach((edge, at) => { bits++;

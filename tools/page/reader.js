@@ -7,7 +7,7 @@ function tellingNode(pass, one) {
       pass.puts[n].length : one.values[n] !== '' && n > 0 && one.values[n] !== one.values[n - 1]);
     return at < 0 ? state.node : at;
   }
-  const bits = name => pass.name === 'motion' ||
+  const bits = name => isMotion(pass) ||
     pass.name === 'sink' ? bitsOf(itemsOf(pass)[state.item].rows, name) : [];
   const skip = n => pass.before.nodes[n][0] === 'skip', used = bits('used'), latest = bits('latest'),
     yes = where(one.bits);
@@ -57,12 +57,13 @@ function story(pass, n) {
 // Where the reader is.
 function placeNow() {
   const pass = passNow(), parts = new URLSearchParams({ unit: unitNow().name, pass: pass.after.name });
+  if (state.command) parts.set('of', COMMANDS[state.command].word);
   if (state.item) parts.set('item', state.item);
   if (columnNow()) parts.set('col', columnNow().id);
   parts.set('node', state.node);
   if (state.view !== 'graph') parts.set('view', state.view);
   if (state.quiz) parts.set('quiz', 1);
-  if (state.run) { parts.set('run', state.run.join(',')); parts.set('at', state.at); }
+  if (state.run) { parts.set('from', rootNow().name); parts.set('run', state.run.join(',')); parts.set('at', state.at); }
   if (state.theme) parts.set('theme', state.theme);
   if (state.blocks !== null) parts.set('blocks', Number(state.blocks));
   return parts.toString();
@@ -73,12 +74,30 @@ function remember() {
   if (location.hash !== hash) try { history.replaceState(null, '', hash); } catch { /* a page without an address */ }
 }
 
+// The units of the tables that are shown, to be chosen.
+function fillUnits() {
+  $('#unit').innerHTML = UNITS.map((unit, at) => `<option value="${at}">${esc(unit.name)}</option>`).join('');
+}
+
+// Goes to the tables of another command, at the same unit.
+function goCommand(to) {
+  if (to === state.command || !COMMANDS[to]) return;
+  const { name } = unitNow();
+  state.command = to;
+  takeCommand(to);
+  fillUnits();
+  goUnit(Math.max(UNITS.findIndex(unit => unit.name === name), 0));
+}
+
 // Goes to a place, as far as it is there.
 function recall(place) {
-  const parts = new URLSearchParams(place);
+  const parts = new URLSearchParams(place), command = COMMANDS.findIndex(one => one.word === parts.get('of'));
+  state.command = Math.max(command, 0);
+  takeCommand(state.command);
+  fillUnits();
   state.unit = Math.max(UNITS.findIndex(unit => unit.name === parts.get('unit')), 0);
   const passes = passesOf(unitNow()), pass = passes.findIndex(one => one.after.name === parts.get('pass'));
-  state.pass = pass >= 0 ? pass : Math.max(passes.findIndex(one => one.name === 'motion'), 0);
+  state.pass = pass >= 0 ? pass : Math.max(passes.findIndex(one => MAIN.includes(one.name)), 0);
   state.item = parts.has('item') ? Number(parts.get('item')) || 0 : bestItem(passNow());
   state.node = Number(parts.get('node') ?? 1) || 0;
   clamp();
@@ -87,8 +106,49 @@ function recall(place) {
   state.quiz = parts.get('quiz') === '1';
   state.theme = parts.get('theme');
   state.blocks = parts.has('blocks') ? parts.get('blocks') === '1' : null;
+  if (parts.has('line')) goLine(parts);
   fillInputs();
   recallRun(parts);
+}
+
+// Goes to the reason of a line that a stage of `mir stages` has and the one before has not, or the other way round: there
+// a round is one stage, here its assignments sink first.
+function goLine(parts) {
+  const name = parts.get('pass'), isNew = parts.get('side') === 'after', nth = Number(parts.get('nth')) || 0;
+  const text = parts.get('line').replace(/^(\w+: )+/, '').replace(/ ?\bgoto \w+$/, '');
+  for (const pass of passesOf(unitNow())) {
+    if (![name, name.replace('round', 'sunk')].includes(pass.after.name) || pass.first) continue;
+    const found = (isNew ? newLines : goneLines)(pass, text)[nth];
+    if (!found) continue;
+    Object.assign(state, { pass: pass.at, node: found.n, col: 0 });
+    state.item = Math.max(itemsOf(pass).findIndex(item => found.isItem?.(item)), 0);
+    const col = columnsNow().findIndex(one => one.id === found.col);
+    state.col = col < 0 ? columnsNow().length - 1 : col;
+    return;
+  }
+}
+
+// Of a text the nodes that a pass makes anew or changes into it, each with the choice and the column that tell why.
+function newLines(pass, text) {
+  const made = inTextOrder(pass.after, range(pass.after.nodes.length)).filter(m => pass.after.nodes[m][3] === text);
+  const [into] = text.split(' <- ');
+  return made.flatMap(m => {
+    const n = pass.old[m] ?? pass.puts.findIndex(those => those.includes(m));
+    if (n < 0 || pass.old[m] !== null && pass.change[n] === 'same') return [];
+    if (isMotion(pass)) return [{ n, isItem: item => item.temp !== null && (item.temp === into ||
+      text.endsWith(` <- ${item.temp}`)), col: pass.old[m] === null ? 'inserted' : 'replaced' }];
+    return [{ n, isItem: item => pass.name === 'sink' && item.text === text, col: pass.name === 'sink' ? 'inserted' : 'after' }];
+  });
+}
+
+// Of a text the nodes that a pass changes or drops.
+function goneLines(pass, text) {
+  const gone = inTextOrder(pass.before, range(pass.before.nodes.length)).filter(n => pass.before.nodes[n][3] === text &&
+    pass.change[n] !== 'same');
+  const [into, right] = text.split(' <- ');
+  const told = { motion: { isItem: item => item.text === right, col: 'replaced' }, sink: { isItem: item => item.text === text,
+    col: 'occurs' }, prune: { isItem: item => item.text === into, col: 'dead' }, number: { col: 'holder' } };
+  return gone.map(n => ({ n, ...told[pass.name] ?? { col: 'after' } }));
 }
 
 // Goes to a step of a run, where the place has one.
@@ -97,33 +157,16 @@ function recallRun(parts) {
   if (!parts.has('run')) return;
   try { state.run = parts.get('run') ? parts.get('run').split(',').map(one => BigInt(one)) : []; } catch { return; }
   state.at = Number(parts.get('at')) || 0;
+  const { unit } = state, root = UNITS.findIndex(one => one.name === parts.get('from'));
+  if (root >= 0 && root !== unit) {
+    state.unit = root;
+    fillInputs();
+    state.unit = unit;
+  }
   state.run.forEach((value, k) => { const box = $(`#run [name=in${k}]`); if (box) box.value = value; });
 }
 
 // ---- what the reader does
-
-function guessAt(n) {
-  const guess = guesses.get(guessKey()) || {};
-  guess[n] = !guess[n];
-  guesses.set(guessKey(), guess);
-  state.node = n;
-  show(true);
-}
-
-function check() {
-  if (!columnNow()?.bits) return;
-  checked.add(guessKey());
-  const guess = guesses.get(guessKey()) || {}, wrong = columnNow()
-    .bits.findIndex((bit, n) => bit !== Boolean(guess[n]));
-  if (wrong >= 0) state.node = wrong;
-  show(true);
-}
-
-function toggleQuiz() {
-  state.quiz = !state.quiz;
-  if (state.quiz) { checked.clear(); guesses.clear(); }
-  show();
-}
 
 function toggleTheme() {
   const dark = state.theme ? state.theme === 'dark' : matchMedia('(prefers-color-scheme: dark)').matches;
@@ -140,10 +183,11 @@ function toggleRun() {
 }
 
 document.addEventListener('click', event => {
-  const at = event.target.closest('[data-go], [data-pass], [data-item], [data-col], [data-view], [data-zoom], [data-unit], [data-report], g.node, button');
+  const at = event.target.closest('[data-go], [data-pass], [data-item], [data-col], [data-view], [data-zoom], [data-unit], [data-report], [data-command], g.node, button');
   if (!at) return;
   if (at.dataset.go !== undefined) { state.node = Number(at.dataset.go); show(); }
   else if (at.dataset.pass !== undefined) goPass(Number(at.dataset.pass));
+  else if (at.dataset.command !== undefined) goCommand(Number(at.dataset.command));
   else if (at.dataset.item !== undefined) { state.item = Number(at.dataset.item); show(); }
   else if (at.tagName === 'TD') {
     const n = Number(at.parentElement.dataset.n), col = Number(at.dataset.col);
@@ -169,14 +213,14 @@ document.addEventListener('click', event => {
     }
   } else ({ 'b-index': openIndex, 'b-quiz': toggleQuiz, 'b-run': toggleRun, 'b-theme': toggleTheme,
     'b-keys': openKeys, blocks: toggleBlocks, check, again() { checked.delete(guessKey()); show(); },
-    'b-left': ACTIONS.ArrowLeft, 'b-right': ACTIONS.ArrowRight, back() { state.at--; show(); },
-      on() { state.at++; show(); } })[at.id]?.();
+    sheet: printSheet, handin: handIn, answers: giveAnswers,
+    'b-left': ACTIONS.ArrowLeft, 'b-right': ACTIONS.ArrowRight, back: ACTIONS[','], on: ACTIONS['.'] })[at.id]?.();
 });
 
 $('#unit').addEventListener('change', event => goUnit(Number(event.target.value)));
 $('#run').addEventListener('submit', event => { event.preventDefault(); startRun(readRun()); });
-$('#run').addEventListener('input', event => { if (event.target.id === 'at') { state.at = Number(event.target.value);
-      show(); } });
+$('#run').addEventListener('input', event => { if (event.target.id === 'at')
+  goStep(Number(event.target.value)); });
 
 // A node under the pointer or with the focus is lit wherever it stands.
 function light(event) {
@@ -203,21 +247,40 @@ function stepItem(by) {
   show(true);
 }
 
+// Goes so many rows down the table.
+function goNode(rows) {
+  state.node = nodeBy(rows);
+  show(true);
+}
+
+// Does what is for a quiz alone, and what is for a run.
+function inQuiz(action) {
+  if (!state.quiz) return false;
+  action();
+  return true;
+}
+function inRun(action) {
+  if (!state.run) return false;
+  action();
+  return true;
+}
+
 const view = id => () => { state.view = state.view === id ? 'graph' : id; show(); };
 const ACTIONS = {
   ArrowRight: () => { state.col++; show(true); }, ArrowLeft: () => { state.col--; show(true); },
-  ArrowDown: () => { state.node++; show(true); }, ArrowUp: () => { state.node--; show(true); },
-  Home: () => { state.node = 0; show(true); }, End: () => { state.node = 1e9; show(true); },
+  ArrowDown: () => goNode(1), ArrowUp: () => goNode(-1), Home: () => goNode(-Infinity), End: () => goNode(Infinity),
   ']': () => stepPass(1), '[': () => stepPass(-1), '}': () => stepPass(1, true), '{': () => stepPass(-1, true),
     PageDown: () => click(1), PageUp: () => click(-1),
   e: () => stepItem(1), E: () => stepItem(-1), n: () => goUnit(state.unit + 1), p: () => goUnit(state.unit - 1),
-  c: toggleBlocks, g: view('graph'), x: view('text'), a: view('both'), b: view('busy'), r: toggleRun, q: toggleQuiz,
-    t: toggleTheme, i: openIndex, '?': openKeys,
-  '.': () => { state.at++; show(); }, ',': () => { state.at--; show(); }, '+': () => { state.zoom++; fit(); },
+  c: toggleBlocks, g: view('graph'), x: view('text'), a: view('both'), b: view('busy'), v: view('verdicts'),
+    r: toggleRun, q: toggleQuiz, w: printSheet, o: () => inQuiz(handIn), O: () => inQuiz(giveAnswers), t: toggleTheme, i: openIndex, '?': openKeys,
+  '.': () => inRun(() => goStep(state.at + 1)), ',': () => inRun(() => goStep(state.at - 1)),
+  '>': () => inRun(() => stepOver(1)), '<': () => inRun(() => stepOver(-1)), '+': () => { state.zoom++; fit(); },
     '-': () => { state.zoom--; fit(); }, 0: () => { state.zoom = 0; fit(); },
   ' ': () => { if (state.quiz && hidden(state.col) && columnNow()?.bits) guessAt(state.node); else return false; },
   Enter: () => { if (state.quiz && hidden(state.col)) check(); else return false; },
 };
+for (const key of ['1', '2', '3', '4']) ACTIONS[key] = () => goCommand(Number(key) - 1);
 Object.assign(ACTIONS, { l: ACTIONS.ArrowRight, h: ACTIONS.ArrowLeft, j: ACTIONS.ArrowDown, k: ACTIONS.ArrowUp });
 document.addEventListener('keydown', event => {
   if (event.ctrlKey || event.altKey || event.metaKey || $('dialog[open]')) return;
@@ -233,22 +296,27 @@ window.addEventListener('hashchange', () => { recall(location.hash.slice(1)); sh
 // So many pictures are kept for the next text.
 const MOST_PICTURES = 100;
 
-// Takes the tables of a program, and shows them where the reader was, at the same choice where there is one.
-function load(data) {
-  const place = UNITS.length ? placeNow() : location.hash.slice(1);
+// Takes the tables of a program, and shows them where the reader was, at the same choice where there is one, or at the
+// place that comes with them.
+function load(data) { return worked(data.text.length, () => taken(data)); }
+
+// What `load` does, once it has told of it.
+function taken(data) {
+  const place = data.place ?? (UNITS.length ? placeNow() : location.hash.slice(1));
   const chosen = UNITS.length ? itemsOf(passNow())[state.item]?.text : undefined;
   takeProgram(data);
   if (PICTURES.size > MOST_PICTURES) PICTURES.clear();
-  guesses.clear();
-  checked.clear();
+  for (const one of [guesses, checked, firsts]) one.clear();
   document.title = $('#program').textContent = data.name;
-  $('#unit').innerHTML = UNITS.map((unit, at) => `<option value="${at}">${esc(unit.name)}</option>`).join('');
   recall(place);
-  const same = itemsOf(passNow()).findIndex(item => item.text === chosen);
+  const same = data.place ? -1 : itemsOf(passNow()).findIndex(item => item.text === chosen);
   if (same >= 0) state.item = same;
   show();
 }
 
-const GIVEN_DATA = JSON.parse($('#data').textContent);
-takeLayouts(GIVEN_DATA.layouts ?? []);
-if (GIVEN_DATA.text) load(GIVEN_DATA);
+const ON_PAGE = $('#data').textContent;
+worked(ON_PAGE.length, () => {
+  const data = JSON.parse(ON_PAGE);
+  takeLayouts(data.layouts ?? []);
+  if (data.text) taken(data);
+});

@@ -3,8 +3,12 @@
 
 const $ = selector => document.querySelector(selector);
 
-// The stages with the texts of their units; the names of the units; what was made so far; and where the reader is.
-let STAGES = [], UNIT_NAMES = [], made = new Map();
+// What stands for the page of tables where this page is in a frame of the playground, which has it.
+const PARENT = 'tables';
+
+// The stages with the texts of their units; the names of the units; what was made so far; the page of tables that tells
+// why, or none; and where the reader is.
+let STAGES = [], UNIT_NAMES = [], made = new Map(), REASONS = '';
 const state = { stage: 0, unit: 0, folded: true };
 
 // What a unit is at a stage, and what it was at the stage before, where there is one.
@@ -46,13 +50,37 @@ function viewAt(stage, unit) {
   return kept.view;
 }
 
+// What is said of a stage that changed nothing in a unit, and of a unit in which no stage changed anything.
+function nothingAt(stage, unit) {
+  if (STAGES.every(({ name }, at) => at === 0 || name === 'lower' || isSame(at, unit))) return '<p class="nothing">No pass found anything in this unit.</p>';
+  return isSame(stage, unit) ? '<p class="nothing">This pass changed nothing in this unit.</p>' : '';
+}
+
+// Makes a link of each marked line, where there is a page of tables, to the place in it that tells why: of the unit and the
+// stage of now, the line and which one it is of the lines that are the same but for labels.
+function linkReasons() {
+  if (!REASONS) return;
+  const seen = new Map(), unit = UNIT_NAMES[state.unit], pass = STAGES[state.stage].name;
+  for (const line of document.querySelectorAll('#view pre ins, #view pre del')) {
+    const side = line.matches('ins') ? 'after' : 'before', text = line.textContent;
+    const bare = `${side} ${text.replace(LABEL, '').replace(TARGET, ' goto')}`, nth = seen.get(bare) ?? 0;
+    seen.set(bare, nth + 1);
+    const place = new URLSearchParams({ unit, pass, line: text, side, nth }).toString(), link = document.createElement('a');
+    Object.assign(link, { href: `${REASONS}#${place}`, className: 'reason', title: 'why: in the tables' });
+    link.dataset.place = place;
+    link.append(...line.childNodes);
+    line.append(link);
+  }
+}
+
 // Whether a unit is at a stage what it was before, but for labels. The first stage is no change.
 const isSame = (stage, unit) => stage > 0 && (textsAt(stage, unit)[0] === textsAt(stage, unit)[1]
   || comparedAt(stage, unit).same);
 
 // Shows the stage and the unit of now.
 function show() {
-  $('#view').innerHTML = viewAt(state.stage, state.unit);
+  $('#view').innerHTML = nothingAt(state.stage, state.unit) + viewAt(state.stage, state.unit);
+  linkReasons();
   document.body.classList.toggle('folded', state.folded);
   $('#fold').checked = state.folded;
   $('#unit').value = state.unit;
@@ -110,7 +138,11 @@ function alignedStages(text) {
 
 // Takes a text of stages, and shows it where the reader was: at the stage and the unit of these names. A note may stand
 // beside each stage.
-function load({ text, title, runs = [], notes = [] }) {
+function load(data) { return worked(data.text.length, () => taken(data)); }
+
+// What `load` does, once it has told of it.
+function taken({ text, title, runs = [], notes = [], reasons = '' }) {
+  REASONS = reasons;
   const was = STAGES.length ? [STAGES[state.stage].name, UNIT_NAMES[state.unit]] : [];
   STAGES = alignedStages(text);
   UNIT_NAMES = STAGES[0].texts.map(unit => unitOf(linesIn(unit)).name);
@@ -143,8 +175,17 @@ function open() {
     event.preventDefault();
     KEYS[event.key]();
   });
-  const data = JSON.parse($('#data').textContent);
-  takeLayouts(data.layouts ?? []);
-  if (data.text) load(data);
+  $('#view').addEventListener('click', event => {
+    const place = event.target.closest('a.reason')?.dataset.place;
+    if (place === undefined || REASONS !== PARENT) return;
+    event.preventDefault();
+    window.parent.openReason(place);
+  });
+  const given = $('#data').textContent;
+  worked(given.length, () => {
+    const data = JSON.parse(given);
+    takeLayouts(data.layouts ?? []);
+    if (data.text) taken(data);
+  });
 }
 open();

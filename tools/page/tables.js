@@ -17,16 +17,19 @@ function cut(line, count) {
 }
 const wordsOf = line => line.split(' ').filter(Boolean);
 
-// Reads the lines of a text; what it has read is in `units`.
+// The first line of a text, with the word of the command whose tables it has; none stands for `optimise`.
+const HEAD = /^tables 1(?: (divisions|tails|join))?$/m;
+
+// Reads the lines of a text; what it has read is in `units`, and in `bodies` what is told of whole units.
 class TablesReader {
   constructor() {
-    Object.assign(this, { units: [], stage: null, facts: null, item: null, known: new Map() });
+    Object.assign(this, { units: [], bodies: [], stage: null, facts: null, item: null, known: new Map() });
   }
 
   // Reads a whole text, and answers its units.
   read(text) {
     const lines = text.split('\n');
-    if (lines[0] !== 'tables 1') throw new Error('no tables of version 1');
+    if (!HEAD.test(lines[0])) throw new Error('no tables of version 1');
     for (const line of lines.slice(1)) {
       const at = line.indexOf(' '), word = at < 0 ? line : line.slice(0, at);
       if (Object.hasOwn(LINES, word)) LINES[word](this, line.slice(word.length + 1));
@@ -82,6 +85,15 @@ const LINES = {
     reader.item = null;
     reader.units.at(-1).passes.push(reader.facts);
   },
+  body(reader, rest) {
+    const [name, count, ...why] = wordsOf(rest), at = why.indexOf('calls');
+    reader.bodies.push({ name, count: Number(count), isLeaf: why[0] === 'leaf', isLong: why[0] === 'long',
+      calls: at < 0 ? null : why[at + 1] });
+  },
+  call({ facts }, rest) {
+    const [n, name, position, next] = wordsOf(rest);
+    (facts.calls ??= []).push({ n: Number(n), name, position, next: next === undefined ? null : Number(next) });
+  },
   row(reader, rest) { reader.putRow('rows', rest); },
   edges(reader, rest) { reader.putRow('edges', rest); },
   expression(reader, rest) {
@@ -102,9 +114,17 @@ const LINES = {
   },
 };
 
-// The units of a text of tables, with what each tells of its neighbours.
+// The units of a text of tables, with what each tells of its neighbours, and what the text tells of whole units.
 function readTables(text) {
-  const units = new TablesReader().read(text);
-  for (const unit of units) unit.passes.forEach((facts, at) => complete(unit, facts, at));
+  const reader = new TablesReader(), units = reader.read(text);
+  for (const unit of units) {
+    unit.bodies = reader.bodies;
+    unit.passes.forEach((facts, at) => complete(unit, facts, at, units));
+  }
   return units;
+}
+
+// The texts that stand one after another in one, each with the word of its command.
+function textsOf(text) {
+  return text.split(/^(?=tables 1(?: \w+)?$)/m).map(one => ({ word: one.match(HEAD)?.[1] ?? 'optimise', text: one }));
 }

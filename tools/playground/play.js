@@ -96,9 +96,19 @@ async function showPage(name, answer, turn) {
   const frame = await frameOf(name);
   if (turn !== caller.newest) return;
   showFrame(frame);
+  const place = name === 'tables' ? reason : null;
+  if (place !== null) reason = null;
   const named = state.example.replace(/\.mir$/, '') || 'program';
-  frame.contentWindow.load({ text: answer.out, name: named, title: `Stages of ${named}` });
+  await frame.contentWindow.load({ text: answer.out, name: named, title: `Stages of ${named}`, reasons: 'tables',
+    ...place === null ? {} : { place } });
 }
+
+// Where the page of tables is to go when it is shown next; and how the page of stages leads there.
+let reason = null;
+window.openReason = place => {
+  reason = place;
+  choose('tables');
+};
 
 // How a run ends, by its status.
 const ENDS = { 0: 'ended', 3: 'trapped', 4: 'goes on after these steps', 5: 'too many frames' };
