@@ -2,13 +2,16 @@
 """Measures the seconds, the memory and the page faults that README.md beside this file shows, and puts them there.
 
     bench/fill.py [--mir PATH] [--repeat N] [--show] [--counts]
+    bench/fill.py --all [--mir PATH] [--repeat N] [--csmith N] [--gcc FOLDER]
 
 A cell is filled by the head of its column and the workload and size of its row: `Time s`, `Memory MB`, `A second`,
 `x time` and `x memory`; `move: s` and `move: MB`, and the same of `optimise`, of the workload with this command behind
 its name; `mir s`, `opt s` and `mir / opt`, where `opt` is here. All other cells stay, and so does the text but for what
 the start takes and the sentence on minor page faults. With `--counts` it measures no time and counts instructions by
 callgrind: `Instructions`, `x at half`, `move: millions` and the like, the columns of the commands beside `move`, and
-the sentence on the other workloads. With `--show` the new page is printed and not written. The program is the one that
+the sentence on the other workloads. With `--all` it does both, one after the other, and before them has the scripts
+beside it put in what they count and measure (`fill_scripts.py`), so that no number of the page is older than another;
+csmith draws N programs a set, and the tests of GCC are those of FOLDER. With `--show` the new page is printed and not written. The program is the one that
 the gate built where no other is named; of each call the least time of N is taken, the greatest peak and the most page
 faults. It runs on Linux alone, with Python's standard library.
 """
@@ -17,6 +20,7 @@ import argparse
 import functools
 import re
 import shutil
+import subprocess
 import sys
 import tempfile
 from pathlib import Path
@@ -25,6 +29,7 @@ from typing import Callable, Optional
 sys.dont_write_bytecode = True
 
 import against_llvm  # noqa: E402
+import fill_scripts  # noqa: E402
 import run  # noqa: E402
 
 PAGE = Path(__file__).resolve().parent / 'README.md'
@@ -172,6 +177,23 @@ def told(text: str, meter: Meter) -> str:
     return text[:begin] + re.sub(r'`([\w-]+)` [\d,.]+\d,(\s)[\d.]+\d', of, text[begin:end]) + text[end:]
 
 
+def fill(given: argparse.Namespace, counts: bool) -> str:
+    """The page with what is measured here, times or counts."""
+    with tempfile.TemporaryDirectory(prefix='mir-bench-') as folder:
+        return filled(PAGE.read_text(encoding='utf-8'), Meter(given.mir, given.repeat, Path(folder), counts))
+
+
+def fill_all(given: argparse.Namespace) -> None:
+    """Puts all numbers of the page in, one kind after the other."""
+    fill_scripts.real(given.mir, given.csmith, given.gcc)
+    page = PAGE.read_text(encoding='utf-8')
+    for part in (fill_scripts.run_beside, fill_scripts.bril):
+        page = part(page, given.mir)
+    PAGE.write_text(fill_scripts.rounds(page, given.mir, given.csmith), encoding='utf-8')
+    for counts in (False, True):
+        PAGE.write_text(fill(given, counts), encoding='utf-8')
+
+
 def main() -> int:
     """Fills the page."""
     words = argparse.ArgumentParser(description=__doc__.split('\n')[0])
@@ -179,10 +201,15 @@ def main() -> int:
     words.add_argument('--repeat', type=int, default=11, metavar='N', help='take the least time of N calls (11)')
     words.add_argument('--show', action='store_true', help='print the page, and do not write it')
     words.add_argument('--counts', action='store_true', help='count instructions, by callgrind, and measure no time')
+    words.add_argument('--all', action='store_true', help='all numbers of the page, with those of other scripts')
+    words.add_argument('--csmith', type=int, default=560, metavar='N', help='with --all: programs of csmith a set (560)')
+    words.add_argument('--gcc', nargs='*', default=[], metavar='FOLDER', help='with --all: the tests of GCC')
     given = words.parse_args()
     run.adopt_orphans()
-    with tempfile.TemporaryDirectory(prefix='mir-bench-') as folder:
-        page = filled(PAGE.read_text(encoding='utf-8'), Meter(given.mir, given.repeat, Path(folder), given.counts))
+    if given.all:
+        fill_all(given)
+        return 0
+    page = fill(given, given.counts)
     if given.show:
         print(page, end='')
     else:
@@ -193,5 +220,5 @@ def main() -> int:
 if __name__ == '__main__':
     try:
         sys.exit(main())
-    except (run.Failure, OSError) as failure:
+    except (run.Failure, OSError, subprocess.CalledProcessError) as failure:
         sys.exit(f'bench/fill.py: {failure}')

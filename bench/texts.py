@@ -354,3 +354,52 @@ def small_leaves(leaves: int, calls: int) -> tuple[str, str]:
         joined.append(f'{a} <- x\n{b} <- y\n{c} <- 0\n{c} <- {a} + {leaf}\n{c} <- {c} * {b}\nif {c} < 0 goto {label}\n'
                       f'{c} <- {c} - {a}\nprint {c}\n{label}: x <- {c}\n')
     return head + ''.join(text) + rest, head + ''.join(joined) + rest
+
+
+def reversed_copies(unit: str, count: int) -> str:
+    """A unit of a loop that copies so many variables, each to the next, from the last on, and jumps over a print before
+    each copy; and prints of all of them. What one turn of the loop finds out of a variable the next finds out of the one
+    after it."""
+    body = ''.join(f'if a > {number} goto K{number}\nprint i\nK{number}: v{number} <- v{number - 1}\n'
+                   for number in range(count, 0, -1))
+    prints = ''.join(f'print v{number}\n' for number in range(count + 1))
+    return f'{unit}: begin\nreceive a(val)\nreceive v0(val)\ntop: i <- i + 1\n{body}if i < a goto top\n{prints}end\n'
+
+
+def nests_tested_first(unit: str, depth: int) -> str:
+    """A unit of so many loops within each other, each of which is tested before its body and has one product of its own.
+    Their counters are not set back, so that a run ends."""
+    heads = ''.join(f'L{number}: if i{number} > a goto E{number}\nx{number} <- b * {number}\ni{number} <- i{number} + 1\n'
+                    for number in range(depth))
+    ends = ''.join(f'goto L{number}\nE{number}: ' for number in range(depth - 1, -1, -1))
+    return f'{unit}: begin\nreceive a(val)\nreceive b(val)\n{heads}{ends}return x0\nend\n'
+
+
+def nests_tested_last(unit: str, depth: int) -> str:
+    """The same with loops that are tested after their bodies."""
+    heads = ''.join(f'L{number}: x{number} <- b * {number}\n' for number in range(depth))
+    ends = ''.join(f'i{number} <- i{number} + 1\nif i{number} < a goto L{number}\n' for number in range(depth - 1, -1, -1))
+    return f'{unit}: begin\nreceive a(val)\nreceive b(val)\n{heads}{ends}return x0\nend\n'
+
+
+def joins_with_prints(unit: str, count: int) -> str:
+    """A unit of so many joins in a row, each with a variable of its own that is assigned on one way to it, and printed."""
+    joins = ''.join(f'if a > {number} goto L{number}\nv{number} <- a\nL{number}: print v{number}\n' for number in range(count))
+    return f'{unit}: begin\nreceive a(val)\n{joins}end\n'
+
+
+def sums_used_at_exits(unit: str, count: int) -> str:
+    """A unit of so many sums, each of the variable before it, from the last on, and so many exits to one place where all
+    are printed. What is not used before an exit is computed on the way to it, so what is written grows with the square."""
+    sums = ''.join(f'v{number} <- v{number - 1} + 1\n' for number in range(count, 0, -1))
+    exits = ''.join(f'if a > {number} goto out\nprint v{number}\n' for number in range(1, count + 1))
+    prints = ''.join(f'print v{number}\n' for number in range(1, count + 1))
+    return f'{unit}: begin\nreceive a(val)\n{sums}{exits}out: print a\n{prints}end\n'
+
+
+def tail_calls_over_names(unit: str, names: int, calls: int) -> str:
+    """A unit of so many variables and so many calls of itself, whose results are returned."""
+    sums = ''.join(f'v{number} <- a + {number}\n' for number in range(names))
+    tests = ''.join(f'if a > {number} goto K{number}\na <- a + 1\nr <- {unit},(a,int)\nreturn r\nK{number}: '
+                    for number in range(calls))
+    return f'{unit}: begin\nreceive a(val)\n{sums}{tests}print v{names - 1}\nend\n'

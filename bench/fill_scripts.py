@@ -1,0 +1,59 @@
+"""What `fill.py --all` puts into README.md beside what it measures itself: the numbers that other scripts print."""
+
+import re
+import subprocess
+import sys
+from pathlib import Path
+
+FOLDER = Path(__file__).resolve().parent
+DRAWN = ('divisions', 'wanted', 'chains')
+MOST_ROUNDS = 16
+
+
+def said(mir: str, script: str, *words: str) -> str:
+    """What a script of this folder prints of this program; where it fails, so does this."""
+    print(f'bench/fill.py: {script} {" ".join(words)}', file=sys.stderr, flush=True)
+    return subprocess.run([sys.executable, str(FOLDER / script), '--mir', mir, *words], check=True,
+                          stdout=subprocess.PIPE, text=True).stdout
+
+
+def number(text: str, what: str) -> str:
+    """The number before some words of a script's closing line."""
+    return re.search(rf'([\d,]+) {what}', text)[1]
+
+
+def run_beside(page: str, mir: str) -> str:
+    """The page with the table of drawn programs that are run beside what is made of them."""
+    for name in DRAWN:
+        told = said(mir, f'{name}.py').rstrip().split('\n')[-1]
+        cells = [number(told, what) for what in ('runs', 'ended', 'trapped', 'running', 'ended with', 'differences')]
+        row = re.compile(rf'^(\| `{name}\.py` \| [^|]* \|).*$', re.M)
+        page = row.sub(lambda found: found[1] + ''.join(f' {cell} |' for cell in cells), page)
+    return page
+
+
+def rounds(page: str, mir: str, csmith: int) -> str:
+    """The page with the table of how many rounds of sinking are made."""
+    for line in said(mir, 'rounds.py', '--csmith', str(csmith)).rstrip().split('\n'):
+        counts = dict(re.findall(r'(\d+): ([\d,]+)', line.split(':', 1)[1]))
+        kind = 'C programs of csmith' if 'csmith' in line else 'drawn programs'
+        cells = [counts.get(str(each), '') for each in range(1, MOST_ROUNDS + 1)]
+        row = re.compile(rf'^\| [\d,]+ {kind} \|.*$', re.M)
+        filled = f'| {number(line, "(?:drawn )?programs")} {kind} |' + ''.join(f' {cell} |' if cell else ' |' for cell in cells)
+        page = row.sub(lambda _, filled=filled: filled, page)
+    return page
+
+
+def bril(page: str, mir: str) -> str:
+    """The page with the block of the programs in Bril."""
+    begin = page.index('$ bench/bril.py --mir ./mir\n')
+    end = page.index('```', begin)
+    return page[:begin] + '$ bench/bril.py --mir ./mir\n' + said(mir, 'bril.py') + page[end:]
+
+
+def real(mir: str, csmith: int, gcc: list[str]) -> None:
+    """Has `real.py` put its tables into the page."""
+    said(mir, 'real.py', '--csmith', str(csmith), '--set', 'small', 'large', 'inputs', 'examples', '--fill')
+    said(mir, 'real.py', '--csmith', str(csmith), '--set', 'turns', '--fill')
+    if gcc:
+        said(mir, 'real.py', '--gcc', *gcc, '--fill')
