@@ -4,21 +4,23 @@ use Rattle.std.proofs.Common.{◌≡◌, ℕ, zero, suc, ◌<◌, Bool, false, n
 use Rattle.std.proofs.lemmas.List.{get_or-map, length-map}
 use Rattle.bit_rows.specs.Bits.{zip_with, or_bits, and_bits, minus_bits, not_bits}
 
--- as long as the two, and at each place what it makes of theirs
+-- a row that is made of two bit by bit is as long as they are
 pub length_zip_with : (f : Bool → Bool → Bool) (xs ys : List Bool) → length xs ≡ length ys → length (zip_with f xs ys) ≡ length xs
 length_zip_with f [] ys e = refl
 length_zip_with f (x ∷ xs) [] e = absurd (omega (arith, e))
 length_zip_with f (x ∷ xs) (y ∷ ys) e = ap suc (length_zip_with f xs ys (let e' : suc (length xs) ≡ suc (length ys) = e in omega arith))
 
 -- a row made from two bit by bit has at each index the operation of their bits
-pub get_or_zip_with : (f : Bool → Bool → Bool) (xs ys : List Bool) (k : ℕ) → length xs ≡ length ys → k < length xs → get_or (zip_with f xs ys) k false ≡ f (get_or xs k false) (get_or ys k false)
+pub get_or_zip_with : (f : Bool → Bool → Bool) (xs ys : List Bool) (k : ℕ) → length xs ≡ length ys → k < length xs
+    → get_or (zip_with f xs ys) k false ≡ f (get_or xs k false) (get_or ys k false)
 get_or_zip_with f [] ys k e h = absurd (let h' : k < 0 = h in omega arith)
 get_or_zip_with f (x ∷ xs) [] k e h = absurd (omega (arith, e))
 get_or_zip_with f (x ∷ xs) (y ∷ ys) zero e h = refl
 get_or_zip_with f (x ∷ xs) (y ∷ ys) (suc k) e h = get_or_zip_with f xs ys k (let e' : suc (length xs) ≡ suc (length ys) = e in omega arith) (let h' : suc k < suc (length xs) = h in omega arith)
 
 -- past the end all are false, so what is false of two false places needs no bound
-pub zip_bit : (f : Bool → Bool → Bool) → f false false ≡ false → (xs ys : List Bool) (k : ℕ) → length xs ≡ length ys → get_or (zip_with f xs ys) k false ≡ f (get_or xs k false) (get_or ys k false)
+pub zip_bit : (f : Bool → Bool → Bool) → f false false ≡ false → (xs ys : List Bool) (k : ℕ) → length xs ≡ length ys
+    → get_or (zip_with f xs ys) k false ≡ f (get_or xs k false) (get_or ys k false)
 zip_bit f off [] [] k e = sym off
 zip_bit f off [] (y ∷ ys) k e = absurd (omega (arith, e))
 zip_bit f off (x ∷ xs) [] k e = absurd (omega (arith, e))

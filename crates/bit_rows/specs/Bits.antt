@@ -9,19 +9,19 @@ zip_with f [] ys = []
 zip_with f (x ∷ xs) [] = []
 zip_with f (x ∷ xs) (y ∷ ys) = f x y ∷ zip_with f xs ys
 
--- true where either is
+-- the row that is true where one of the two is, or both are
 abbrev pub or_bits : List Bool → List Bool → List Bool
 or_bits = zip_with (λ x y. x || y)
 
--- true where both are
+-- the row that is true where both are
 abbrev pub and_bits : List Bool → List Bool → List Bool
 and_bits = zip_with (λ x y. x && y)
 
--- true where the first is and the second is not
+-- the row that is true where the first is and the second is not
 abbrev pub minus_bits : List Bool → List Bool → List Bool
 minus_bits = zip_with (λ x y. x && not y)
 
--- true where it is not
+-- the row that is true where this one is not
 abbrev pub not_bits : List Bool → List Bool
 not_bits = map not
 
@@ -44,7 +44,8 @@ abbrev pub row_of : List (List Bool) → ℕ → List Bool
 row_of rows row = slice_index_or rows row []
 
 -- the rows, where one has become what an operation makes of it and of a row of others
-abbrev pub with_row_by : (List Bool → List Bool → List Bool) → List (List Bool) → ℕ → List (List Bool) → ℕ
+abbrev pub with_row_by : (List Bool → List Bool → List Bool) → List (List Bool) → ℕ
+    → List (List Bool) → ℕ
     → List (List Bool)
 with_row_by op rows row others from = slice_set rows row (op (row_of rows row) (row_of others from))
 
@@ -58,12 +59,14 @@ pub record AreAlike (rows other : List (List Bool)) : Type 0 where
   pub each : (n : ℕ) → n < length rows → length (row_of other n) ≡ length (row_of rows n)
 
 -- each row is made of the old one and that of the other, also past the last row
-abbrev pub EachRow : (List Bool → List Bool → List Bool) → List (List Bool) → List (List Bool) → List (List Bool)
+abbrev pub EachRow : (List Bool → List Bool → List Bool) → List (List Bool) → List (List Bool)
+    → List (List Bool)
     → Type 0
 EachRow f old other new = (n : ℕ) → row_of new n ≡ f (row_of old n) (row_of other n)
 
 -- each bit is made of the old one and that of the other, also past the last row and bit
-abbrev pub EachBit : (Bool → Bool → Bool) → List (List Bool) → List (List Bool) → List (List Bool) → Type 0
+abbrev pub EachBit : (Bool → Bool → Bool) → List (List Bool) → List (List Bool) → List (List Bool)
+    → Type 0
 EachBit f old other new = (n b : ℕ)
     → row_bit (row_of new n) b ≡ f (row_bit (row_of old n) b) (row_bit (row_of other n) b)
 

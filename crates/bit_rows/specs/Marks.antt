@@ -14,18 +14,24 @@ in_marked marks b = slice_index_or marks (b / 64) true
 
 -- what a row has and a second has not is in a third already, but in words that are marked
 pub record AreSettled (marks from less into : List Bool) : Type 0 where
-  pub each : (b : ℕ) → b < length into → in_marked marks b ≡ false → row_bit from b ≡ true → row_bit less b ≡ false → row_bit into b ≡ true
+  pub each : (b : ℕ) → b < length into → in_marked marks b ≡ false → row_bit from b ≡ true
+      → row_bit less b ≡ false → row_bit into b ≡ true
 
 -- a row changed only in words that are marked, and those that were marked are
 pub record AreMarked (before old after new : List Bool) : Type 0 where
-  pub each : (b : ℕ) → in_marked after b ≡ false → (in_marked before b ≡ false) × (row_bit new b ≡ row_bit old b)
+  pub each : (b : ℕ) → in_marked after b ≡ false
+      → (in_marked before b ≡ false) × (row_bit new b ≡ row_bit old b)
 
 -- ---- of words
 
 -- what words have and others have not is in a third list's already, but in words that are marked
 pub record AreSettledWords (marks : List Bool) (from less into : List ℕ) : Type 0 where
-  pub each : (k : ℕ) → k < length into → row_bit marks k ≡ false → bit_or (slice_index into k) (minus_word (slice_index from k) (slice_index less k)) ≡ slice_index into k
+  pub each : (k : ℕ) → k < length into → row_bit marks k ≡ false
+      → bit_or (slice_index into k) (minus_word (slice_index from k) (slice_index less k))
+      ≡ slice_index into k
 
 -- only words that are marked changed, and those that were marked are
-pub record AreMarkedWords (before : List Bool) (old : List ℕ) (after : List Bool) (new : List ℕ) : Type 0 where
-  pub each : (k : ℕ) → row_bit after k ≡ false → (row_bit before k ≡ false) × (slice_index new k ≡ slice_index old k)
+pub record AreMarkedWords (before : List Bool) (old : List ℕ) (after : List Bool)
+    (new : List ℕ) : Type 0 where
+  pub each : (k : ℕ) → row_bit after k ≡ false
+      → (row_bit before k ≡ false) × (slice_index new k ≡ slice_index old k)

@@ -27,25 +27,32 @@ minus_word x y = bit_and x (bit_not w64 y)
 
 -- of so many words each is made of the old one and another list's by the operator
 abbrev pub EachWord : (ℕ → ℕ → ℕ) → ℕ → List ℕ → List ℕ → List ℕ → Type 0
-EachWord op len old other new = (k : ℕ) → k < len → slice_index new k ≡ op (slice_index old k) (slice_index other k)
+EachWord op len old other new = (k : ℕ) → k < len
+    → slice_index new k ≡ op (slice_index old k) (slice_index other k)
 
 -- each is made of the old one, and of what another list's has and a third one's has not
 abbrev pub EachOrMinus : ℕ → List ℕ → List ℕ → List ℕ → List ℕ → Type 0
-EachOrMinus len old other less new = (k : ℕ) → k < len → slice_index new k ≡ bit_or (slice_index old k) (minus_word (slice_index other k) (slice_index less k))
+EachOrMinus len old other less new = (k : ℕ) → k < len
+    → slice_index new k
+    ≡ bit_or (slice_index old k) (minus_word (slice_index other k) (slice_index less k))
 
 -- each is made of the old one, and of what another list's or a third one's has and a fourth one's has not
 abbrev pub EachOrPassed : ℕ → List ℕ → List ℕ → List ℕ → List ℕ → List ℕ → Type 0
-EachOrPassed len old other more less new = (k : ℕ) → k < len → slice_index new k ≡ bit_or (slice_index old k) (minus_word (bit_or (slice_index other k) (slice_index more k)) (slice_index less k))
+EachOrPassed len old other more less new = (k : ℕ) → k < len
+    → slice_index new k
+    ≡ bit_or (slice_index old k) (minus_word (bit_or (slice_index other k) (slice_index more k)) (slice_index less k))
 
 -- each is made of the old one and another list's by the first operator, and of that and a third list's by the second
 abbrev pub EachByTwo : (ℕ → ℕ → ℕ) → (ℕ → ℕ → ℕ) → ℕ → List ℕ → List ℕ → List ℕ → List ℕ → Type 0
-EachByTwo op next len old other third new = (k : ℕ) → k < len → slice_index new k ≡ next (op (slice_index old k) (slice_index other k)) (slice_index third k)
+EachByTwo op next len old other third new = (k : ℕ) → k < len
+    → slice_index new k ≡ next (op (slice_index old k) (slice_index other k)) (slice_index third k)
 
 -- after the old words stand these without the bits of others
 pub record AddsWithout (old words less new : List ℕ) : Type 0 where
   pub len : length new ≡ length old + length words
   pub before : (k : ℕ) → k < length old → slice_index new k ≡ slice_index old k
-  pub added : (k : ℕ) → k < length words → slice_index new (length old + k) ≡ minus_word (slice_index words k) (slice_index less k)
+  pub added : (k : ℕ) → k < length words
+      → slice_index new (length old + k) ≡ minus_word (slice_index words k) (slice_index less k)
 
 -- a word with one bit set or cleared
 abbrev pub with_bit : ℕ → ℕ → Bool → ℕ
@@ -61,7 +68,8 @@ used_bits n word = 2 ^ min 64 (n - 64 * word) - 1
 
 -- of so many words each bit below n is the opposite of the old one, and those past n are not set
 abbrev pub AreFlipped : ℕ → ℕ → List ℕ → List ℕ → Type 0
-AreFlipped n len old new = (k : ℕ) → k < len → slice_index new k ≡ bit_and (bit_not w64 (slice_index old k)) (used_bits n k)
+AreFlipped n len old new = (k : ℕ) → k < len
+    → slice_index new k ≡ bit_and (bit_not w64 (slice_index old k)) (used_bits n k)
 
 -- ---- rows in words
 

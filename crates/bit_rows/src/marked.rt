@@ -28,10 +28,10 @@ pub fn or_minus_marked_words(
     let mut changed = false;
     let mut at = 0;
     while let Some(word) = marks.next_true(at) {
-        let rises = or_minus_word(into, from, less, word);
-        let marked = into_marks.get(word);
-        into_marks.set(word, marked | rises);
-        changed = changed | rises;
+        if or_minus_word(into, from, less, word) {
+            into_marks.set(word, true);
+            changed = true;
+        }
         at = word + 1;
     }
     changed

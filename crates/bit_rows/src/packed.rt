@@ -27,7 +27,7 @@ pub fn join_row(how: Joining, into: &mut [u64], stride: usize, row: usize, from:
     join_words(how, &mut into[at..at + stride], from);
 }
 
-/// The words of a row become their disjunction with what others have and third ones have not.
+/// The words of row `row` get the bits that are 1 in `from` and 0 in `less`; a row has `stride` words.
 #[tactic(auto, using(crate::proofs::Splices::rewrites, crate::proofs::Splices::rewritten_here))]
 pub fn or_minus_row(into: &mut [u64], stride: usize, row: usize, from: &[u64], less: &[u64])
     requires within { stride * row + stride ≤ length into.old }
@@ -41,7 +41,7 @@ pub fn or_minus_row(into: &mut [u64], stride: usize, row: usize, from: &[u64], l
     let _changed = or_minus_words(&mut into[at..at + stride], from, less);
 }
 
-/// The words of a row become their disjunction with what those of a second row have and others have not.
+/// The words of row `row` get the bits that are 1 in row `from` and 0 in `less`; a row has `stride` words.
 pub fn or_minus_rows(words: &mut [u64], stride: usize, row: usize, from: usize, less: &[u64])
     requires row { stride * row + stride ≤ length words.old }
     requires from { stride * from + stride ≤ length words.old }

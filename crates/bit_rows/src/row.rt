@@ -1,5 +1,5 @@
 // One row of truth values.
-ghost use Rattle.std.specs.Prelude.{◌≡◌, ◌<◌, ◌↔◌, false, IfOk, length, slice_index_or, slice_set, replicate};
+ghost use Rattle.std.specs.Prelude.{◌≡◌, ◌<◌, ◌↔◌, [], false, IfOk, length, slice_index_or, slice_set, replicate};
 ghost use Rattle.bit_rows.specs.Bits.{or_bits, minus_bits, not_bits};
 ghost use Rattle.bit_rows.specs.Marks.{AreMarked, AreSettled, words_for};
 
@@ -46,6 +46,17 @@ impl Row {
         })
     }
 
+    /// A row of no bit. It does not allocate.
+    #[inline(always)]
+    pub fn empty(alloc: Global) -> Row
+        ensures { result ≡ [] }
+    {
+        Row {
+            bits: 0,
+            words: SmallVec::new(alloc),
+        }
+    }
+
     /// A copy of a row. It fails only with `Memory`.
     #[inline(always)]
     pub fn of(alloc: Global, row: &RowView<'_>) -> Result<Row, Memory>
@@ -90,7 +101,8 @@ impl Row {
         clear_words(self.words.as_mut_slice());
     }
 
-    /// Becomes its disjunction with the other, and answers whether it changed. It does not allocate.
+    /// Each bit becomes true that is true in `other`, which has as many bits. It answers whether one changed, and does
+    /// not allocate.
     pub fn or_from(&mut self, other: &RowView<'_>) -> bool
         requires { length self.old ≡ length other.now }
         ensures or { self.new ≡ or_bits self.old other.now }
@@ -100,8 +112,8 @@ impl Row {
         or_words(self.words.as_mut_slice(), other.words)
     }
 
-    /// Becomes its disjunction with what another has and a third has not, in one pass, and answers whether it changed.
-    /// It does not allocate.
+    /// Each bit becomes true that is true in `other` and false in `less`, in one pass; all three have equally many
+    /// bits. It answers whether one changed, and does not allocate.
     pub fn or_minus_from(&mut self, other: &RowView<'_>, less: &RowView<'_>) -> bool
         requires other { length self.old ≡ length other.now }
         requires less { length self.old ≡ length less.now }

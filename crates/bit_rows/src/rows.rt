@@ -148,7 +148,7 @@ impl Rows {
         set_row_bit(&mut self.words, self.stride, row, bit, value);
     }
 
-    /// The row becomes its disjunction with another. It does not allocate.
+    /// In row number `row` each bit becomes true that is true in `from`, which has as many bits. It does not allocate.
     pub fn or_from(&mut self, row: usize, from: &RowView<'_>)
         requires row { row < length self.old }
         requires equally_long { length (row_of self.old row) ≡ length from.now }
@@ -157,7 +157,7 @@ impl Rows {
         self.join_from(row, from, Joining::Or);
     }
 
-    /// The row keeps what is not in another. It does not allocate.
+    /// In row number `row` each bit becomes false that is true in `from`, which has as many bits. It does not allocate.
     pub fn minus_from(&mut self, row: usize, from: &RowView<'_>)
         requires row { row < length self.old }
         requires equally_long { length (row_of self.old row) ≡ length from.now }
@@ -166,7 +166,8 @@ impl Rows {
         self.join_from(row, from, Joining::Minus);
     }
 
-    /// The row becomes its conjunction with another. It does not allocate.
+    /// In row number `row` each bit becomes false that is false in `from`, which has as many bits. It does not
+    /// allocate.
     pub fn and_from(&mut self, row: usize, from: &RowView<'_>)
         requires row { row < length self.old }
         requires equally_long { length (row_of self.old row) ≡ length from.now }
@@ -224,7 +225,8 @@ impl Rows {
         );
     }
 
-    /// The row becomes its disjunction with a row of the other. It does not allocate.
+    /// In row number `row` each bit becomes true that is true in row number `from` of `other`. The two rows have
+    /// equally many bits. It does not allocate.
     pub fn or_into(&mut self, row: usize, other: &Rows, from: usize)
         requires row { row < length self.old }
         requires from { from < length other.now }
@@ -234,7 +236,8 @@ impl Rows {
         self.or_from(row, &other.row(from));
     }
 
-    /// The row becomes its conjunction with a row of the other. It does not allocate.
+    /// In row number `row` each bit becomes false that is false in row number `from` of `other`. The two rows have
+    /// equally many bits. It does not allocate.
     pub fn and_into(&mut self, row: usize, other: &Rows, from: usize)
         requires row { row < length self.old }
         requires from { from < length other.now }
@@ -244,7 +247,8 @@ impl Rows {
         self.and_from(row, &other.row(from));
     }
 
-    /// The row keeps what is not in a row of the other. It does not allocate.
+    /// In row number `row` each bit becomes false that is true in row number `from` of `other`. The two rows have
+    /// equally many bits. It does not allocate.
     pub fn minus_into(&mut self, row: usize, other: &Rows, from: usize)
         requires row { row < length self.old }
         requires from { from < length other.now }
@@ -254,7 +258,8 @@ impl Rows {
         self.minus_from(row, &other.row(from));
     }
 
-    /// Whether the row has the same bits as a row of the other. It does not allocate.
+    /// Whether row number `row` has the same bits as row number `from` of `other`, which has as many. It does not
+    /// allocate.
     pub fn row_eq(&self, row: usize, other: &Rows, from: usize) -> bool
         requires row { row < length self.now }
         requires from { from < length other.now }

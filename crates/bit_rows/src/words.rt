@@ -10,7 +10,7 @@ use crate::joining::Joining;
 use smallvec::SmallVec;
 use std::alloc::{AllocError, Global};
 
-/// Each word becomes its disjunction with the other's. It answers whether one changed.
+/// Each word of `into` gets the bits that are 1 in the same word of `from`. It answers whether one changed.
 pub fn or_words(into: &mut [u64], from: &[u64]) -> bool
     requires { length into.old ≡ length from.now }
     ensures len { length into.new ≡ length into.old }
@@ -26,7 +26,7 @@ pub fn or_words(into: &mut [u64], from: &[u64]) -> bool
     changed
 }
 
-/// Each word becomes its disjunction with what another has and a third has not. It answers whether one changed.
+/// Each word of `into` gets the bits that are 1 in `from` and 0 in `less`. It answers whether one changed.
 pub fn or_minus_words(into: &mut [u64], from: &[u64], less: &[u64]) -> bool
     requires from { length into.old ≡ length from.now }
     requires less { length into.old ≡ length less.now }
@@ -43,7 +43,7 @@ pub fn or_minus_words(into: &mut [u64], from: &[u64], less: &[u64]) -> bool
     changed
 }
 
-/// Each word gets the bits of another's, and then loses those of a third.
+/// Each word of `into` gets the bits of `more`, and then loses those of `less`.
 pub fn or_then_minus_words(into: &mut [u64], more: &[u64], less: &[u64])
     requires more { length into.old ≡ length more.now }
     requires less { length into.old ≡ length less.now }
@@ -56,7 +56,7 @@ pub fn or_then_minus_words(into: &mut [u64], more: &[u64], less: &[u64])
     }
 }
 
-/// Each word loses the bits of another's, and then gets those of a third.
+/// Each word of `into` loses the bits of `less`, and then gets those of `more`.
 pub fn minus_then_or_words(into: &mut [u64], less: &[u64], more: &[u64])
     requires less { length into.old ≡ length less.now }
     requires more { length into.old ≡ length more.now }
@@ -243,7 +243,7 @@ pub fn word_at(words: &[u64], number: usize) -> u64
     words[number]
 }
 
-/// One bit of the words.
+/// Bit number `bit` of the words, 64 to a word, from the lowest of the first word on.
 pub fn word_bit(words: &[u64], bit: usize) -> bool
     requires { bit < 64 * length words.now }
     ensures { result ≡ bit_of words.now bit }
@@ -266,7 +266,8 @@ fn next_in_word(word: u64, from: usize) -> Option<usize>
     }
 }
 
-/// The first set bit of the words from number `from` on. Words that are 0 are passed over.
+/// The number of the first bit that is 1 among those from number `from` on, counted through all words, 64 to a word;
+/// `None` where there is none. Words that are 0 are passed over whole.
 pub fn next_set(words: &[u64], from: usize) -> Option<usize>
     requires { 64 * length words.now ≤ 2 ^ 64 }
     ensures found { IfSome result (IsTrueFrom (bit_of words.now) (64 * length words.now) from) }

@@ -16,19 +16,24 @@ pub record CanWait {V : Type 0} (waiting : Lists) (values : List V) (order : Lis
   pub in_range : AreNodes (length values) order
 
 -- each value has news that fit it
-pub record HaveNews {V N : Type 0} (size : V → ℕ) (fits : N → ℕ → Type 0) (values : List V) (news : List N) : Type 0 where
+pub record HaveNews {V N : Type 0} (size : V → ℕ) (fits : N → ℕ → Type 0) (values : List V)
+    (news : List N) : Type 0 where
   pub long : length news ≡ length values
-  pub fit : (d : V) (c : N) (n : ℕ) → n < length values → fits (slice_index_or news n c) (size (slice_index_or values n d))
+  pub fit : (d : V) (c : N) (n : ℕ) → n < length values
+      → fits (slice_index_or news n c) (size (slice_index_or values n d))
 
 -- the values lie above the first ones and arise, and they lie above the transfer along each edge that is done and whose
 -- source does not wait
-pub record Solving {V : Type 0} (below : V → V → Type 0) (net : Net V) (values : ℕ → V) (waits : ℕ → Bool) (done : ℕ → Type 0) : Type 0 where
+pub record Solving {V : Type 0} (below : V → V → Type 0) (net : Net V) (values : ℕ → V)
+    (waits : ℕ → Bool) (done : ℕ → Type 0) : Type 0 where
   pub above_first : (n : ℕ) → n < net.nodes → below (net.first n) (values n)
   pub arises : (n : ℕ) → n < net.nodes → Arises below net n (values n)
-  pub above_done : (e : ℕ) → e < net.edges → waits (net.source e) ≡ false → done e → below (net.transfer e (values (net.source e))) (values (net.target e))
+  pub above_done : (e : ℕ) → e < net.edges → waits (net.source e) ≡ false → done e
+      → below (net.transfer e (values (net.source e))) (values (net.target e))
 
 -- a value for each node, of which that holds
-pub record Working {V : Type 0} (below : V → V → Type 0) (net : Net V) (values : List V) (waits : ℕ → Bool) (done : ℕ → Type 0) : Type 0 where
+pub record Working {V : Type 0} (below : V → V → Type 0) (net : Net V) (values : List V)
+    (waits : ℕ → Bool) (done : ℕ → Type 0) : Type 0 where
   pub len : length values ≡ net.nodes
   pub solving : Solving below net (value_at net values) waits done
 
@@ -41,7 +46,8 @@ abbrev pub AllDoneBut : {V : Type 0} → Net V → ℕ → ℕ → Type 0
 AllDoneBut net node e = net.source e ≡ node → e < net.start node
 
 -- what a push along an edge leaves, and whether it changed the target
-pub record Pushed {V : Type 0} (below : V → V → Type 0) (net : Net V) (number : ℕ) (before after : List V) (changes : Bool) : Type 0 where
+pub record Pushed {V : Type 0} (below : V → V → Type 0) (net : Net V) (number : ℕ)
+    (before after : List V) (changes : Bool) : Type 0 where
   pub joined : IsLeastUpper below (value_at net before (net.target number)) (net.transfer number (value_at net before (net.source number))) (value_at net after (net.target number))
   pub others : after ≡ slice_set before (net.target number) (value_at net after (net.target number))
   pub unchanged : (changes ≡ false) ↔ (value_at net after (net.target number) ≡ value_at net before (net.target number))
@@ -55,7 +61,7 @@ sum_below f (suc n) = sum_below f n + f n
 abbrev pub visits_left : ℕ → Bool → ℕ → ℕ
 visits_left height waits rank = (if waits then 1 else 0) + (height - rank)
 
--- the sum of these over the nodes, each with a weight
+-- how often nodes may still be visited, added up over the nodes, each visit with the weight of its node
 abbrev pub load : {V : Type 0} → Net V → (V → ℕ) → (ℕ → ℕ) → (ℕ → V) → (ℕ → Bool) → ℕ
 load net rank weight values waits = sum_below (λ n. weight n * visits_left net.height (waits n) (rank (values n))) net.nodes
 

@@ -74,7 +74,7 @@ fn first_values<F: Flow>(alloc: Global, flow: &F) -> Result<Vec<F::Value>, Memor
     Ok(values)
 }
 
-/// News for the value of each node.
+/// For each node a record of news that fits a value of the flow's size.
 fn first_news<F: Flow>(alloc: Global, flow: &F) -> Result<Vec<<F::Value as Lattice>::News>, Memory>
     requires { F.valid flow.now }
     ensures { IfOk result (λ news.

@@ -48,7 +48,8 @@ pub record IsAheadOf (against : Bool) (lists : List (List ℕ)) (b n : ℕ) : Ty
   pub ahead : IsAhead against n list
 
 -- an edge from a block comes from the node ahead of it, and enters the block of a node that steps back to that one
-pub record IsBetween (against : Bool) (nodes : List Node) (lists : List (List ℕ)) (edge : Edge) : Type 0 where
+pub record IsBetween (against : Bool) (nodes : List Node) (lists : List (List ℕ))
+    (edge : Edge) : Type 0 where
   pub within : edge.target < length lists
   pub from : ℕ
   pub to : ℕ
@@ -57,23 +58,33 @@ pub record IsBetween (against : Bool) (nodes : List Node) (lists : List (List �
   pub step : steps_of against nodes to from
 
 -- the edges that leave this block
-pub record AreOutFrom (against : Bool) (nodes : List Node) (lists : List (List ℕ)) (block from : ℕ) (out : List Edge) : Type 0 where
+pub record AreOutFrom (against : Bool) (nodes : List Node) (lists : List (List ℕ)) (block from : ℕ)
+    (out : List Edge) : Type 0 where
   pub few : length out ≤ count_at against from (edges_from 0 nodes)
   pub source : (e : ℕ) (edge : Edge) → slice_get out e ≡ Some edge → edge.source ≡ block
-  pub sound : (e : ℕ) (edge : Edge) → slice_get out e ≡ Some edge → IsBetween against nodes lists edge
-  pub complete : (to : ℕ) → steps_of against nodes to from → (e : ℕ) × (edge : Edge) × (slice_get out e ≡ Some edge) × StandsIn lists edge.target to
+  pub sound : (e : ℕ) (edge : Edge) → slice_get out e ≡ Some edge
+      → IsBetween against nodes lists edge
+  pub complete : (to : ℕ) → steps_of against nodes to from
+      → (e : ℕ) × (edge : Edge) × (slice_get out e ≡ Some edge) × StandsIn lists edge.target to
 
 -- the edges that leave the blocks below this number, in order of these, and the number of the first edge of each
-pub record AreBetween (against : Bool) (nodes : List Node) (lists : List (List ℕ)) (below : ℕ) (edges : List Edge) (firsts : List ℕ) : Type 0 where
+pub record AreBetween (against : Bool) (nodes : List Node) (lists : List (List ℕ)) (below : ℕ)
+    (edges : List Edge) (firsts : List ℕ) : Type 0 where
   pub few : length edges ≤ out_below against lists (edges_from 0 nodes) below
   pub long : length firsts ≡ below + 1
   pub last : number_at firsts below ≡ length edges
   pub under : (n : ℕ) → number_at firsts n ≤ length edges
   pub source : (e : ℕ) (edge : Edge) → slice_get edges e ≡ Some edge → edge.source < below
-  pub only : (e n : ℕ) (edge : Edge) → slice_get edges e ≡ Some edge → number_at firsts n ≤ e → e < number_at firsts (suc n) → edge.source ≡ n
-  pub stands : (e : ℕ) (edge : Edge) → slice_get edges e ≡ Some edge → (number_at firsts edge.source ≤ e) × (e < number_at firsts (suc edge.source))
-  pub sound : (e : ℕ) (edge : Edge) → slice_get edges e ≡ Some edge → IsBetween against nodes lists edge
-  pub complete : (b from to : ℕ) → b < below → IsAheadOf against lists b from → steps_of against nodes to from → (e : ℕ) × (edge : Edge) × (slice_get edges e ≡ Some edge) × (edge.source ≡ b) × StandsIn lists edge.target to
+  pub only : (e n : ℕ) (edge : Edge) → slice_get edges e ≡ Some edge → number_at firsts n ≤ e
+      → e < number_at firsts (suc n) → edge.source ≡ n
+  pub stands : (e : ℕ) (edge : Edge) → slice_get edges e ≡ Some edge
+      → (number_at firsts edge.source ≤ e) × (e < number_at firsts (suc edge.source))
+  pub sound : (e : ℕ) (edge : Edge) → slice_get edges e ≡ Some edge
+      → IsBetween against nodes lists edge
+  pub complete : (b from to : ℕ) → b < below → IsAheadOf against lists b from
+      → steps_of against nodes to from
+      → (e : ℕ) × (edge : Edge) × (slice_get edges e ≡ Some edge) × (edge.source ≡ b)
+      × StandsIn lists edge.target to
 
 -- the edges that leave all blocks
 abbrev pub AreBlockEdges : Bool → List Node → List (List ℕ) → BlockEdges → Type 0
@@ -81,14 +92,19 @@ AreBlockEdges against nodes lists made = AreBetween against nodes lists (length 
 
 -- to a list of edges those are added that leave this block, whose last node in the order of the flow is `from`
 abbrev pub AddsOut : Bool → GraphShape → BlocksShape → ℕ → ℕ → List Edge → List Edge → Type 0
-AddsOut against graph blocks block from old new = (out : List Edge) × (new ≡ old ++ out) × AreOutFrom against graph.nodes blocks.lists block from out
+AddsOut against graph blocks block from old new = (out : List Edge) × (new ≡ old ++ out)
+    × AreOutFrom against graph.nodes blocks.lists block from out
 
 -- those of them whose numbers in the flow go from this one up to that one, at the end of a list
-pub record AreOutTo (against : Bool) (nodes : List Node) (lists : List (List ℕ)) (block from first number : ℕ) (before list : List Edge) : Type 0 where
+pub record AreOutTo (against : Bool) (nodes : List Node) (lists : List (List ℕ))
+    (block from first number : ℕ) (before list : List Edge) : Type 0 where
   pub out : List Edge
   pub list_is : list ≡ before ++ out
   pub many : first + length out ≡ number
   pub most : number ≤ first_out against nodes (suc from)
   pub source : (e : ℕ) (edge : Edge) → slice_get out e ≡ Some edge → edge.source ≡ block
-  pub sound : (e : ℕ) (edge : Edge) → slice_get out e ≡ Some edge → IsBetween against nodes lists edge
-  pub complete : (e : ℕ) → first ≤ e → e < number → (i : ℕ) × (edge : Edge) × (slice_get out i ≡ Some edge) × StandsIn lists edge.target (edge_at (flow_edges against nodes) e).target
+  pub sound : (e : ℕ) (edge : Edge) → slice_get out e ≡ Some edge
+      → IsBetween against nodes lists edge
+  pub complete : (e : ℕ) → first ≤ e → e < number
+      → (i : ℕ) × (edge : Edge) × (slice_get out i ≡ Some edge)
+      × StandsIn lists edge.target (edge_at (flow_edges against nodes) e).target

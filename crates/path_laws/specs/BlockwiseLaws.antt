@@ -21,7 +21,8 @@ apart false false true false false = refl
 apart false false false k a = refl
 
 -- what comes out of a path: what it seeds itself, and what comes to it where none of its nodes bars that
-pub passed_apart : (seed bar : ℕ → Bool) (path : List ℕ) (x : Bool) → passed_all seed bar x path ≡ (passed_all seed bar false path || (x && not (list_any bar path)))
+pub passed_apart : (seed bar : ℕ → Bool) (path : List ℕ) (x : Bool)
+    → passed_all seed bar x path ≡ (passed_all seed bar false path || (x && not (list_any bar path)))
 passed_apart seed bar [] x = sym (and-true x)
 passed_apart seed bar (n ∷ path) x =
     let first = passed_apart seed bar path (passed seed bar n x) in
@@ -34,7 +35,8 @@ passed_append seed bar [] ys x = refl
 passed_append seed bar (n ∷ xs) ys x = passed_append seed bar xs ys (passed seed bar n x)
 
 -- and one that goes on by one node
-pub passed_next : (seed bar : ℕ → Bool) (xs : List ℕ) (i n : ℕ) (x : Bool) → slice_get xs i ≡ Some n → passed_all seed bar x (take (suc i) xs) ≡ passed seed bar n (passed_all seed bar x (take i xs))
+pub passed_next : (seed bar : ℕ → Bool) (xs : List ℕ) (i n : ℕ) (x : Bool) → slice_get xs i ≡ Some n
+    → passed_all seed bar x (take (suc i) xs) ≡ passed seed bar n (passed_all seed bar x (take i xs))
 passed_next seed bar xs i n x e = ap (passed_all seed bar x) (take_next xs i n e) ∙ passed_append seed bar (take i xs) (n ∷ []) x
 
 -- ---- the complement
@@ -56,13 +58,15 @@ unpassed false true false = refl
 unpassed false false true = refl
 unpassed false false false = refl
 
--- a bit that is not the other is so past the same nodes
+-- what is denied twice is as it was
 twice : (a : Bool) → a ≡ not (not a)
 twice true = refl
 twice false = refl
 
--- where it does not come, past a list
-pub passed_complement : (born stop : ℕ → Bool) (path : List ℕ) (x : Bool) → passed_all (λ n. stop n && not (born n)) born x path ≡ not (passed_all born stop (not x) path)
+-- past a list of nodes the complement is passed on in the same way: its seeds are the stops without the births, and
+-- births bar it
+pub passed_complement : (born stop : ℕ → Bool) (path : List ℕ) (x : Bool)
+    → passed_all (λ n. stop n && not (born n)) born x path ≡ not (passed_all born stop (not x) path)
 passed_complement born stop [] x = twice x
 passed_complement born stop (n ∷ path) x =
     let here = unpassed (born n) (stop n) x in

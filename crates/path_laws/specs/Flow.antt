@@ -30,11 +30,13 @@ seed_rows (OfRows rows) = rows.now
 
 -- a block has seeds
 abbrev pub HasSeed : Seeds → ℕ → Type 0
-HasSeed (OfProblem problem) block = IsProblem problem.now × (block < length problem.now.blocks.now.lists)
+HasSeed (OfProblem problem) block = IsProblem problem.now
+    × (block < length problem.now.blocks.now.lists)
 HasSeed (OfRows rows) block = block < length rows.now
 
 -- the edges between so many blocks are in order of their sources, each block has seeds, and the rows have one shape
-pub record IsSeeded (count : ℕ) (between : BlockEdges) (seeds : Seeds) (stops : List (List Bool)) (bits : ℕ) : Type 0 where
+pub record IsSeeded (count : ℕ) (between : BlockEdges) (seeds : Seeds) (stops : List (List Bool))
+    (bits : ℕ) : Type 0 where
   pub listed : IsListedFlow count between.edges.items between.firsts.items bits (seed_rows seeds) stops
   pub seeds_are : (block : ℕ) → block < count → HasSeed seeds block
 
@@ -61,4 +63,5 @@ news_laws f is = caught_laws f.count f.between.now.edges.items (number_at f.betw
 -- of so many bits the rows say out of which blocks each comes over these edges: from a seed, over blocks of which none
 -- stops it
 abbrev pub AreOut : List Edge → List (List Bool) → List (List Bool) → ℕ → List (List Bool) → Type 0
-AreOut edges seeds stops bits rows = (c b : ℕ) → c < length seeds → b < bits → (has_bit rows b c ≡ true) ↔ Leads (StepAlong edges) (has_bit seeds b) (has_bit stops b) c
+AreOut edges seeds stops bits rows = (c b : ℕ) → c < length seeds → b < bits
+    → (has_bit rows b c ≡ true) ↔ Leads (StepAlong edges) (has_bit seeds b) (has_bit stops b) c

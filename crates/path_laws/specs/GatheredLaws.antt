@@ -9,12 +9,14 @@ use Rattle.key_table.specs.KeyLaws.{put_differs}
 
 module _ {K : Type 0} (key_of : Node → Option K) where
   -- one node more at the end
-  takes_last : (nodes : List Node) (node : Node) (old keys new : List K) → TakesKeys key_of nodes old keys → IsWithSome keys (key_of node) new → TakesKeys key_of (nodes ++ node ∷ []) old new
+  takes_last : (nodes : List Node) (node : Node) (old keys new : List K) → TakesKeys key_of nodes old keys
+      → IsWithSome keys (key_of node) new → TakesKeys key_of (nodes ++ node ∷ []) old new
   takes_last [] node old keys new same put = (new, subst (λ l. IsWithSome l (key_of node) new) same put, refl)
   takes_last (first ∷ nodes) node old keys new taken put = (taken.0, taken.1, takes_last nodes node taken.0 keys new taken.2 put)
 
   -- the keys of the first nodes, and of one more
-  pub takes_more : (nodes : List Node) (i : ℕ) (node : Node) (found : Option K) (old keys new : List K) → i < length nodes → node ≡ get_or nodes i node → found ≡ key_of node
+  pub takes_more : (nodes : List Node) (i : ℕ) (node : Node) (found : Option K) (old keys new : List K)
+      → i < length nodes → node ≡ get_or nodes i node → found ≡ key_of node
       → IsWithSome keys found new → TakesKeys key_of (take i nodes) old keys → TakesKeys key_of (take (i + 1) nodes) old new
   takes_more nodes i node found old keys new i_in is f put taken =
       subst (λ l. TakesKeys key_of l old new) (sym (take_more nodes i node i_in ∙ ap (λ n. take i nodes ++ n ∷ []) (sym is)))

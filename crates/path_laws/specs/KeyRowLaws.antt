@@ -24,7 +24,8 @@ false_bit (suc n) zero = refl
 false_bit (suc n) (suc k) = false_bit n k
 
 -- rows of false ones
-pub false_rows : (count bits : ℕ) (rows : List (List Bool)) → rows ≡ replicate count (replicate bits false) → AreRows count bits rows × ((n i : ℕ) → n < count → has_bit rows i n ≡ false)
+pub false_rows : (count bits : ℕ) (rows : List (List Bool)) → rows ≡ replicate count (replicate bits false)
+    → AreRows count bits rows × ((n i : ℕ) → n < count → has_bit rows i n ≡ false)
 false_rows count bits rows is = (
   record {
     len = ap length is ∙ length-replicate count (replicate bits false);
@@ -136,7 +137,8 @@ module _ {K : Type 0} where
         }
 
     -- all of them
-    pub keyed_all : (n : ℕ) (rows : List (List Bool)) → length nodes ≤ n → AreKeyed key_of keys nodes n rows → AreKeyRowsWhere (length nodes) keys (HasKey key_of nodes) rows
+    pub keyed_all : (n : ℕ) (rows : List (List Bool)) → length nodes ≤ n → AreKeyed key_of keys nodes n rows
+        → AreKeyRowsWhere (length nodes) keys (HasKey key_of nodes) rows
     keyed_all n rows late is = record { shape = is.shape; bits = λ m i k m_in at. is.done m i k (omega (arith, m_in, late)) at }
 
   -- where the test says what the statement does
@@ -158,7 +160,8 @@ last_row [] row = refl
 last_row (r ∷ rows) row = last_row rows row
 
 -- a row of false ones at the end, flipped
-pub last_flipped : (rows : List (List Bool)) (bits n : ℕ) → n ≡ length rows → set (rows ++ replicate bits false ∷ []) n (not_bits (row_of (rows ++ replicate bits false ∷ []) n)) ≡ rows ++ replicate bits true ∷ []
+pub last_flipped : (rows : List (List Bool)) (bits n : ℕ) → n ≡ length rows
+    → set (rows ++ replicate bits false ∷ []) n (not_bits (row_of (rows ++ replicate bits false ∷ []) n)) ≡ rows ++ replicate bits true ∷ []
 last_flipped rows bits n is =
     ap (λ k. set (rows ++ replicate bits false ∷ []) k (not_bits (row_of (rows ++ replicate bits false ∷ []) k))) is
     ∙ ap (λ r. set (rows ++ replicate bits false ∷ []) (length rows) (not_bits r)) (last_row rows (replicate bits false))
@@ -166,17 +169,20 @@ last_flipped rows bits n is =
     ∙ ap (λ r. rows ++ r ∷ []) (not_falses bits)
 
 -- a row at the end, joined with another
-pub last_joined : (rows : List (List Bool)) (row other : List Bool) (n : ℕ) → n ≡ length rows → set (rows ++ row ∷ []) n (or_bits (row_of (rows ++ row ∷ []) n) other) ≡ rows ++ or_bits row other ∷ []
+pub last_joined : (rows : List (List Bool)) (row other : List Bool) (n : ℕ) → n ≡ length rows
+    → set (rows ++ row ∷ []) n (or_bits (row_of (rows ++ row ∷ []) n) other) ≡ rows ++ or_bits row other ∷ []
 last_joined rows row other n is =
     ap (λ k. set (rows ++ row ∷ []) k (or_bits (row_of (rows ++ row ∷ []) k) other)) is
     ∙ ap (λ r. set (rows ++ row ∷ []) (length rows) (or_bits r other)) (last_row rows row)
     ∙ set-append_seam rows row [] (or_bits row other)
 
 -- with a row of as many bits at the end the rows are equally long
-pub longer : (bits : ℕ) (rows new : List (List Bool)) (row : List Bool) → AreEquallyLong bits rows → length row ≡ bits → new ≡ rows ++ row ∷ [] → AreEquallyLong bits new
+pub longer : (bits : ℕ) (rows new : List (List Bool)) (row : List Bool) → AreEquallyLong bits rows → length row ≡ bits
+    → new ≡ rows ++ row ∷ [] → AreEquallyLong bits new
 longer bits rows new row long is put = subst (AreEquallyLong bits) (sym put) (record { each = each rows long.each })
   where
-    each : (rs : List (List Bool)) → ((k : ℕ) → k < length rs → length (row_of rs k) ≡ bits) → (k : ℕ) → k < length (rs ++ row ∷ []) → length (row_of (rs ++ row ∷ []) k) ≡ bits
+    each : (rs : List (List Bool)) → ((k : ℕ) → k < length rs → length (row_of rs k) ≡ bits) → (k : ℕ)
+        → k < length (rs ++ row ∷ []) → length (row_of (rs ++ row ∷ []) k) ≡ bits
     each [] old zero lt = is
     each [] old (suc k) lt = absurd (omega (arith, lt))
     each (r ∷ rs) old zero lt = old 0 (omega arith)
@@ -189,7 +195,8 @@ row_at row (first ∷ nodes) zero node at = ap row (same_Some first node at)
 row_at row (first ∷ nodes) (suc n) node at = row_at row nodes n node at
 
 -- the rows of one node more
-pub rows_more : (row : Node → List Bool) (nodes : List Node) (i : ℕ) (node : Node) (rows new : List (List Bool)) → i < length nodes → node ≡ get_or nodes i node → rows ≡ map row (take i nodes)
+pub rows_more : (row : Node → List Bool) (nodes : List Node) (i : ℕ) (node : Node) (rows new : List (List Bool))
+    → i < length nodes → node ≡ get_or nodes i node → rows ≡ map row (take i nodes)
     → new ≡ rows ++ row node ∷ [] → new ≡ map row (take (i + 1) nodes)
 rows_more row nodes i node rows new i_in is before put =
     put ∙ ap (λ r. r ++ row node ∷ []) before
@@ -198,14 +205,17 @@ rows_more row nodes i node rows new i_in is before put =
 -- ---- what nodes assign
 
 -- joined rows are as long
-pub joined_long : (by_var : List (List Bool)) (bits n : ℕ) → n ≤ length by_var → ((x : ℕ) → x < length by_var → length (row_of by_var x) ≡ bits) → length (joined_rows by_var bits n) ≡ bits
+pub joined_long : (by_var : List (List Bool)) (bits n : ℕ) → n ≤ length by_var
+    → ((x : ℕ) → x < length by_var → length (row_of by_var x) ≡ bits) → length (joined_rows by_var bits n) ≡ bits
 joined_long by_var bits zero few each = length-replicate bits false
 joined_long by_var bits (suc n) few each =
     let long = joined_long by_var bits n (omega (arith, few)) each in
     length_or (joined_rows by_var bits n) (row_of by_var n) (long ∙ sym (each n (omega (arith, few)))) ∙ long
 
 -- and have the bits that one of them has
-joined_bit : (by_var : List (List Bool)) (bits i n : ℕ) (of_var : ℕ → Bool) → n ≤ length by_var → ((x : ℕ) → x < length by_var → length (row_of by_var x) ≡ bits) → ((x : ℕ) → x < length by_var → has_bit by_var i x ≡ of_var x)
+joined_bit : (by_var : List (List Bool)) (bits i n : ℕ) (of_var : ℕ → Bool) → n ≤ length by_var
+    → ((x : ℕ) → x < length by_var → length (row_of by_var x) ≡ bits)
+    → ((x : ℕ) → x < length by_var → has_bit by_var i x ≡ of_var x)
     → get_or (joined_rows by_var bits n) i false ≡ any_below of_var n
 joined_bit by_var bits i zero of_var few each are = false_bit bits i
 joined_bit by_var bits i (suc n) of_var few each are =
@@ -215,7 +225,10 @@ joined_bit by_var bits i (suc n) of_var few each are =
     ∙ ap (λ b. any_below of_var n || b) (are n low)
 
 -- the row of a node has its bits
-pub assigned_long : (at_start : Bool) (shared : ℕ) (by_var : List (List Bool)) (bits : ℕ) (node : Option Node) → shared ≤ length by_var → ((x : ℕ) → x < length by_var → length (row_of by_var x) ≡ bits) → ((n : Node) → node ≡ Some n → AllBelow (length by_var) (node_vars n)) → length (assigned_row at_start shared by_var bits node) ≡ bits
+pub assigned_long : (at_start : Bool) (shared : ℕ) (by_var : List (List Bool)) (bits : ℕ) (node : Option Node)
+    → shared ≤ length by_var → ((x : ℕ) → x < length by_var → length (row_of by_var x) ≡ bits)
+    → ((n : Node) → node ≡ Some n → AllBelow (length by_var) (node_vars n))
+    → length (assigned_row at_start shared by_var bits node) ≡ bits
 assigned_long at_start shared by_var bits None few each below = length-replicate bits false
 assigned_long at_start shared by_var bits (Some (Start next)) few each below = length-replicate bits at_start
 assigned_long at_start shared by_var bits (Some (Skip next)) few each below = length-replicate bits false
@@ -230,7 +243,10 @@ assigned_long at_start shared by_var bits (Some (Test test taken other)) few eac
 assigned_long at_start shared by_var bits (Some (Return a)) few each below = length-replicate bits false
 
 -- a bit of it is that of the variable
-pub assigned_bit : (at_start : Bool) (shared : ℕ) (by_var : List (List Bool)) (bits i : ℕ) (of_var : ℕ → Bool) (node : Option Node) → i < bits → shared ≤ length by_var → ((x : ℕ) → x < length by_var → length (row_of by_var x) ≡ bits) → ((x : ℕ) → x < length by_var → has_bit by_var i x ≡ of_var x) → ((n : Node) → node ≡ Some n → AllBelow (length by_var) (node_vars n))
+pub assigned_bit : (at_start : Bool) (shared : ℕ) (by_var : List (List Bool)) (bits i : ℕ) (of_var : ℕ → Bool) (node : Option Node)
+    → i < bits → shared ≤ length by_var → ((x : ℕ) → x < length by_var → length (row_of by_var x) ≡ bits)
+    → ((x : ℕ) → x < length by_var → has_bit by_var i x ≡ of_var x)
+    → ((n : Node) → node ≡ Some n → AllBelow (length by_var) (node_vars n))
     → get_or (assigned_row at_start shared by_var bits node) i false ≡ any_assigned at_start shared of_var node
 assigned_bit at_start shared by_var bits i of_var None i_in few each are below = false_bit bits i
 assigned_bit at_start shared by_var bits i of_var (Some (Start next)) i_in few each are below = get_or-replicate bits i at_start false i_in
@@ -248,7 +264,9 @@ assigned_bit at_start shared by_var bits i of_var (Some (Test test taken other))
 assigned_bit at_start shared by_var bits i of_var (Some (Return a)) i_in few each are below = false_bit bits i
 
 -- so the rows of what nodes assign have a bit for each key of which the rows by variables have one
-pub assigned_keys : {K : Type 0} (at_start : Bool) (shared : ℕ) (by_var : List (List Bool)) (nodes : List Node) (keys : List K) (of_var : K → ℕ → Bool) (rows : List (List Bool)) → shared ≤ length by_var → ((x : ℕ) → x < length by_var → length (row_of by_var x) ≡ length keys) → HaveVarsBelow (length by_var) nodes
+pub assigned_keys : {K : Type 0} (at_start : Bool) (shared : ℕ) (by_var : List (List Bool)) (nodes : List Node) (keys : List K) (of_var : K → ℕ → Bool) (rows : List (List Bool))
+    → shared ≤ length by_var → ((x : ℕ) → x < length by_var → length (row_of by_var x) ≡ length keys)
+    → HaveVarsBelow (length by_var) nodes
     → ((x i : ℕ) (k : K) → x < length by_var → slice_get keys i ≡ Some k → has_bit by_var i x ≡ of_var k x) → AreRows (length nodes) (length keys) rows → AreAssignedRows at_start shared by_var (length keys) nodes rows
     → AreKeyRows (length nodes) keys (λ k n. any_assigned at_start shared (of_var k) (slice_get nodes n)) rows
 assigned_keys at_start shared by_var nodes keys of_var rows few each below bits shape are = record {
@@ -259,5 +277,6 @@ assigned_keys at_start shared by_var nodes keys of_var rows few each below bits 
 }
 
 -- rows by a test are those by one that is equal to it
-pub same_test : {K : Type 0} (count : ℕ) (keys : List K) (test holds : K → ℕ → Bool) (rows : List (List Bool)) → ((k : K) (n : ℕ) → test k n ≡ holds k n) → AreKeyRows count keys test rows → AreKeyRows count keys holds rows
+pub same_test : {K : Type 0} (count : ℕ) (keys : List K) (test holds : K → ℕ → Bool) (rows : List (List Bool))
+    → ((k : K) (n : ℕ) → test k n ≡ holds k n) → AreKeyRows count keys test rows → AreKeyRows count keys holds rows
 same_test count keys test holds rows same are = record { shape = are.shape; bits = λ n i k n_in at. are.bits n i k n_in at ∙ same k n }

@@ -8,14 +8,18 @@ use Rattle.flow_graph.specs.Numbering.{is_in}
 use Rattle.path_laws.specs.Paths.{AreRows, has_bit}
 
 -- so many rows, with a bit for each key: whether the test holds of the key and the number of the row
-pub record AreKeyRows {K : Type 0} (count : ℕ) (keys : List K) (holds : K → ℕ → Bool) (rows : List (List Bool)) : Type 0 where
+pub record AreKeyRows {K : Type 0} (count : ℕ) (keys : List K) (holds : K → ℕ → Bool)
+    (rows : List (List Bool)) : Type 0 where
   pub shape : AreRows count (length keys) rows
-  pub bits : (n i : ℕ) (k : K) → n < count → slice_get keys i ≡ Some k → has_bit rows i n ≡ holds k n
+  pub bits : (n i : ℕ) (k : K) → n < count → slice_get keys i ≡ Some k
+      → has_bit rows i n ≡ holds k n
 
 -- the same of a statement in place of a test
-pub record AreKeyRowsWhere {K : Type 0} (count : ℕ) (keys : List K) (Holds : K → ℕ → Type 0) (rows : List (List Bool)) : Type 0 where
+pub record AreKeyRowsWhere {K : Type 0} (count : ℕ) (keys : List K) (Holds : K → ℕ → Type 0)
+    (rows : List (List Bool)) : Type 0 where
   pub shape : AreRows count (length keys) rows
-  pub bits : (n i : ℕ) (k : K) → n < count → slice_get keys i ≡ Some k → (has_bit rows i n ≡ true) ↔ Holds k n
+  pub bits : (n i : ℕ) (k : K) → n < count → slice_get keys i ≡ Some k
+      → (has_bit rows i n ≡ true) ↔ Holds k n
 
 -- ---- keys of nodes
 
@@ -34,7 +38,8 @@ HasKey key_of nodes k n = key_in key_of (slice_get nodes n) ≡ Some k
 pub record SetsBitAt (number : ℕ) (vars : List ℕ) (old new : List (List Bool)) : Type 0 where
   pub len : length new ≡ length old
   pub each : (x : ℕ) → length (row_of new x) ≡ length (row_of old x)
-  pub bits : (x i : ℕ) → x < length old → has_bit new i x ≡ (has_bit old i x || (nat_eq number i && is_in x vars))
+  pub bits : (x i : ℕ) → x < length old
+      → has_bit new i x ≡ (has_bit old i x || (nat_eq number i && is_in x vars))
 
 -- ---- what nodes assign
 
@@ -78,4 +83,5 @@ assigned_row at_start shared by_var bits node = of_assigned (replicate bits at_s
 
 -- each row is that of its node
 abbrev pub AreAssignedRows : Bool → ℕ → List (List Bool) → ℕ → List Node → List (List Bool) → Type 0
-AreAssignedRows at_start shared by_var bits nodes rows = (n : ℕ) → n < length nodes → row_of rows n ≡ assigned_row at_start shared by_var bits (slice_get nodes n)
+AreAssignedRows at_start shared by_var bits nodes rows = (n : ℕ) → n < length nodes
+    → row_of rows n ≡ assigned_row at_start shared by_var bits (slice_get nodes n)

@@ -16,14 +16,17 @@ steps_of false nodes m n = HasEdge nodes n m
 
 -- some node one step on from node n has the bit
 abbrev pub SomeStep : Bool → List Node → List (List Bool) → ℕ → ℕ → Type 0
-SomeStep against nodes rows bit n = (m : ℕ) × steps_of against nodes n m × (has_bit rows bit m ≡ true)
+SomeStep against nodes rows bit n = (m : ℕ) × steps_of against nodes n m
+    × (has_bit rows bit m ≡ true)
 
 -- so many rows, each of so many bits, tell at which nodes each bit is true one step on
-pub record TellSteps (against : Bool) (nodes : List Node) (bits : ℕ) (rows : List (List Bool)) (count : ℕ) (all : List (List Bool)) : Type 0 where
+pub record TellSteps (against : Bool) (nodes : List Node) (bits : ℕ) (rows : List (List Bool))
+    (count : ℕ) (all : List (List Bool)) : Type 0 where
   pub shape : AreRows count bits all
   pub are : (n b : ℕ) → n < count → (has_bit all b n ≡ true) ↔ SomeStep against nodes rows b n
 
 -- so many rows, each of so many bits, tell which nodes are the last ones with each bit
-pub record TellLasts (nodes : List Node) (bits : ℕ) (rows stop : List (List Bool)) (count : ℕ) (all : List (List Bool)) : Type 0 where
+pub record TellLasts (nodes : List Node) (bits : ℕ) (rows stop : List (List Bool)) (count : ℕ)
+    (all : List (List Bool)) : Type 0 where
   pub shape : AreRows count bits all
   pub are : (n b : ℕ) → n < count → (has_bit all b n ≡ true) ↔ IsLastNode nodes rows stop b n

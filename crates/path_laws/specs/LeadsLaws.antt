@@ -13,7 +13,8 @@ use Rattle.flow_graph.specs.Graphs.{AllWithin}
 use Rattle.path_laws.specs.Leads.{steps_of}
 
 -- an edge of the flow is a step back to its source
-pub flow_step : (against : Bool) (nodes : List Node) (e : ℕ) → e < length (flow_edges against nodes) → steps_of against nodes (edge_at (flow_edges against nodes) e).target (edge_at (flow_edges against nodes) e).source
+pub flow_step : (against : Bool) (nodes : List Node) (e : ℕ) → e < length (flow_edges against nodes)
+    → steps_of against nodes (edge_at (flow_edges against nodes) e).target (edge_at (flow_edges against nodes) e).source
 flow_step true nodes e h =
     let edge = edge_at (flow_edges true nodes) e in
     let back = reversed_from (by_target (length nodes) (edges_from 0 nodes)) e edge (slice_get-get_or (flow_edges true nodes) e _ h) in

@@ -9,7 +9,8 @@ use Rattle.path_laws.specs.Paths.{AreRows}
 
 -- values are rows of so many bits; what is true at the source of an edge flows on to its target, where that one does
 -- not bar it
-abbrev pub bit_flow : ℕ → List Edge → (ℕ → ℕ) → ℕ → List (List Bool) → List (List Bool) → Net (List Bool)
+abbrev pub bit_flow : ℕ → List Edge → (ℕ → ℕ) → ℕ → List (List Bool) → List (List Bool)
+    → Net (List Bool)
 bit_flow nodes edges out bits first bar = record {
   nodes = nodes;
   edges = length edges;
@@ -24,12 +25,14 @@ bit_flow nodes edges out bits first bar = record {
 }
 
 -- the edges are in order of their sources, and the rows have one shape
-pub record IsBitFlow (nodes : ℕ) (edges : List Edge) (out : ℕ → ℕ) (bits : ℕ) (first bar : List (List Bool)) : Type 0 where
+pub record IsBitFlow (nodes : ℕ) (edges : List Edge) (out : ℕ → ℕ) (bits : ℕ)
+    (first bar : List (List Bool)) : Type 0 where
   pub are : AreFlowEdges nodes edges out
   pub first_rows : AreRows nodes bits first
   pub bar_rows : AreRows nodes bits bar
 
 -- the numbers are a table
-pub record IsListedFlow (nodes : ℕ) (edges : List Edge) (firsts : List ℕ) (bits : ℕ) (first bar : List (List Bool)) : Type 0 where
+pub record IsListedFlow (nodes : ℕ) (edges : List Edge) (firsts : List ℕ) (bits : ℕ)
+    (first bar : List (List Bool)) : Type 0 where
   pub long : length firsts ≡ suc nodes
   pub flow : IsBitFlow nodes edges (number_at firsts) bits first bar

@@ -122,5 +122,6 @@ pub loop_joins : (xs ys : List Bool) → length xs ≡ length ys → IsLeastUppe
 loop_joins xs ys e = record { left = below_refl xs; right = minus_below xs ys e; least = λ zs p q. p }
 
 -- what another edge brings
-pub push_joins : (old from bar : List Bool) → length from ≡ length old → length bar ≡ length old → IsLeastUpper BelowBits old (minus_bits from bar) (or_bits old (minus_bits from bar))
+pub push_joins : (old from bar : List Bool) → length from ≡ length old → length bar ≡ length old
+    → IsLeastUpper BelowBits old (minus_bits from bar) (or_bits old (minus_bits from bar))
 push_joins old from bar e d = or_joins old (minus_bits from bar) (sym (length_minus from bar (e ∙ sym d) ∙ e))

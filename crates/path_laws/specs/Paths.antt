@@ -24,11 +24,13 @@ HaveShape graph bits rows = AreRows (length graph.nodes) bits rows
 
 -- of so many bits, the rows tell at which nodes of the graph each holds
 abbrev pub Tell : GraphShape → ℕ → List (List Bool) → (ℕ → ℕ → Type 0) → Type 0
-Tell graph bits rows Holds = (n b : ℕ) → n < length graph.nodes → b < bits → (has_bit rows b n ≡ true) ↔ Holds b n
+Tell graph bits rows Holds = (n b : ℕ) → n < length graph.nodes → b < bits
+    → (has_bit rows b n ≡ true) ↔ Holds b n
 
 -- the rows tell at which nodes of the graph each bit holds, whatever its index
 abbrev pub TellEach : GraphShape → (ℕ → ℕ → Type 0) → List (List Bool) → Type 0
-TellEach graph Holds rows = (n b : ℕ) → n < length graph.nodes → (has_bit rows b n ≡ true) ↔ Holds b n
+TellEach graph Holds rows = (n b : ℕ) → n < length graph.nodes
+    → (has_bit rows b n ≡ true) ↔ Holds b n
 
 -- ---- every path to a node
 
@@ -42,7 +44,8 @@ abbrev pub BornBefore : List Node → (ℕ → Bool) → (ℕ → Bool) → ℕ 
 BornBefore nodes born stop n = (before : List ℕ) → Trace nodes n before → Since born stop before
 
 -- the rows tell at which nodes each bit is so, for the bits that these rows bear and stop
-abbrev pub AreBornBefore : GraphShape → List (List Bool) → List (List Bool) → List (List Bool) → Type 0
+abbrev pub AreBornBefore : GraphShape → List (List Bool) → List (List Bool) → List (List Bool)
+    → Type 0
 AreBornBefore graph born stop rows =
     Tell graph (width born) rows (λ b n. BornBefore graph.nodes (has_bit born b) (has_bit stop b) n)
 
@@ -61,11 +64,13 @@ Meets born (n ∷ path) = (born n ≡ true) ⊎ Meets born path
 
 -- so it is on every path from node n that ends so
 abbrev pub BornAfter : List Node → (ℕ → Bool) → (ℕ → Bool) → ℕ → Type 0
-BornAfter nodes born stop n = (path : List ℕ) → IsPath nodes path → Begins n path → EndsWell nodes stop path
+BornAfter nodes born stop n = (path : List ℕ) → IsPath nodes path → Begins n path
+    → EndsWell nodes stop path
     → Meets born path
 
 -- the rows tell at which nodes each bit is so
-abbrev pub AreBornAfter : GraphShape → List (List Bool) → List (List Bool) → List (List Bool) → Type 0
+abbrev pub AreBornAfter : GraphShape → List (List Bool) → List (List Bool) → List (List Bool)
+    → Type 0
 AreBornAfter graph born stop rows =
     Tell graph (width born) rows (λ b n. BornAfter graph.nodes (has_bit born b) (has_bit stop b) n)
 
@@ -85,7 +90,8 @@ pub record BornAhead (nodes : List Node) (born stop : ℕ → Bool) (n : ℕ) : 
   pub ends : EndsBorn born stop path
 
 -- the rows tell at which nodes each bit is so
-abbrev pub AreBornAhead : GraphShape → List (List Bool) → List (List Bool) → List (List Bool) → Type 0
+abbrev pub AreBornAhead : GraphShape → List (List Bool) → List (List Bool) → List (List Bool)
+    → Type 0
 AreBornAhead graph born stop rows =
     Tell graph (width born) rows (λ b n. BornAhead graph.nodes (has_bit born b) (has_bit stop b) n)
 

@@ -74,12 +74,14 @@ HaveBarred p count rows = AreBarredByPaths count p.bits (orders p) (is_barred p)
 
 -- these rows say to which blocks each bit comes over these edges from a block that seeds it
 abbrev pub AreLed : Problem → List Edge → List (List Bool) → Type 0
-AreLed p edges rows = (c b : ℕ) → c < length p.blocks.now.lists → b < p.bits → (has_bit rows b c ≡ true) ↔ Leads (StepAlong edges) (λ k. passed_all (is_seed p b) (is_barred p b) false (orders p k)) (λ k. list_any (is_barred p b) (orders p k)) c
+AreLed p edges rows = (c b : ℕ) → c < length p.blocks.now.lists → b < p.bits
+    → (has_bit rows b c ≡ true) ↔ Leads (StepAlong edges) (λ k. passed_all (is_seed p b) (is_barred p b) false (orders p k)) (λ k. list_any (is_barred p b) (orders p k)) c
 
 -- rows of nodes as the answers begin
 pub record AreInitial (p : Problem) (rows : List (List Bool)) : Type 0 where
   pub shape : HaveShape p.graph.now p.bits rows
-  pub are : (n b : ℕ) → n < length p.graph.now.nodes → b < p.bits → has_bit rows b n ≡ initial_bit p.against (is_seed p b) n
+  pub are : (n b : ℕ) → n < length p.graph.now.nodes → b < p.bits
+      → has_bit rows b n ≡ initial_bit p.against (is_seed p b) n
 
 -- rows of nodes to which bits of the answers are joined
 abbrev pub GrowTo : Problem → List (List Bool) → Type 0
@@ -91,15 +93,20 @@ HasWhole p rows n = IsWhole p.against p.graph.now.nodes p.bits (is_seed p) (is_b
 
 -- nor of that at the first node of each block
 abbrev pub HaveFirsts : Problem → List (List Bool) → Type 0
-HaveFirsts p rows = (c n : ℕ) → c < length p.blocks.now.lists → slice_get (orders p c) 0 ≡ Some n → HasWhole p rows n
+HaveFirsts p rows = (c n : ℕ) → c < length p.blocks.now.lists → slice_get (orders p c) 0 ≡ Some n
+    → HasWhole p rows n
 
 -- nor of those at the nodes of the blocks below this number
 abbrev pub HaveBlocks : Problem → ℕ → List (List Bool) → Type 0
-HaveBlocks p block rows = (c i n : ℕ) → c < block → slice_get (orders p c) i ≡ Some n → HasWhole p rows n
+HaveBlocks p block rows = (c i n : ℕ) → c < block → slice_get (orders p c) i ≡ Some n
+    → HasWhole p rows n
 
 -- what comes over this edge is joined to the row of the first node of the block to which it leads
-abbrev pub TakesIn : Problem → Edge → List (List Bool) → List (List Bool) → List (List Bool) → Type 0
-TakesIn p edge work rows after = (n : ℕ) × (slice_get (orders p edge.target) 0 ≡ Some n) × (n < length p.graph.now.nodes) × Joined p.bits rows after n (λ b. brought p.against (is_barred p b) n (has_bit work b edge.source))
+abbrev pub TakesIn : Problem → Edge → List (List Bool) → List (List Bool) → List (List Bool)
+    → Type 0
+TakesIn p edge work rows after = (n : ℕ) × (slice_get (orders p edge.target) 0 ≡ Some n)
+    × (n < length p.graph.now.nodes)
+    × Joined p.bits rows after n (λ b. brought p.against (is_barred p b) n (has_bit work b edge.source))
 
 -- what the row of a node brings to that of the next of its block is joined to that one
 abbrev pub HandsOn : Problem → ℕ → ℕ → List (List Bool) → List (List Bool) → Type 0
@@ -126,7 +133,8 @@ HasBetween p made = AreBlockEdges p.against p.graph.now.nodes p.blocks.now.lists
 
 -- this list has all edges between the blocks of the problem, in order of their sources
 abbrev pub AreAllBetween : Problem → List Edge → Type 0
-AreAllBetween p edges = (firsts : List ℕ) × AreBetween p.against p.graph.now.nodes p.blocks.now.lists (length p.blocks.now.lists) edges firsts
+AreAllBetween p edges = (firsts : List ℕ)
+    × AreBetween p.against p.graph.now.nodes p.blocks.now.lists (length p.blocks.now.lists) edges firsts
 
 -- by how much the counter may rise by pushes along these edges
 abbrev pub room_along : Problem → BlockEdges → ℕ

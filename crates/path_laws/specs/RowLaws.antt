@@ -13,7 +13,8 @@ pub record Written (rows after : List (List Bool)) (node : ℕ) (row : List Bool
   pub others : (n : ℕ) → n ≢ node → row_of after n ≡ row_of rows n
 
 -- to one row these of so many bits are joined, and the others are as before
-pub record Joined (bits : ℕ) (rows after : List (List Bool)) (node : ℕ) (bit : ℕ → Bool) : Type 0 where
+pub record Joined (bits : ℕ) (rows after : List (List Bool)) (node : ℕ)
+    (bit : ℕ → Bool) : Type 0 where
   pub len : length after ≡ length rows
   pub long : length (row_of after node) ≡ length (row_of rows node)
   pub here : (b : ℕ) → b < bits → has_bit after b node ≡ (has_bit rows b node || bit b)
@@ -28,7 +29,9 @@ put rows after node row h is = record {
 }
 
 -- a row that was written is made anew from itself
-pub remade : (rows put after : List (List Bool)) (node : ℕ) (row : List Bool) (f : List Bool → List Bool) → node < length rows → Written rows put node row → after ≡ set put node (f (row_of put node)) → Written rows after node (f row)
+pub remade : (rows put after : List (List Bool)) (node : ℕ) (row : List Bool) (f : List Bool → List Bool)
+    → node < length rows → Written rows put node row → after ≡ set put node (f (row_of put node))
+    → Written rows after node (f row)
 remade rows put after node row f h made is =
     let new = f (row_of put node) in
     let at : row_of after node ≡ new = rw is (get_or-set_same put node new [] (rw made.len h)) in
@@ -41,11 +44,14 @@ remade rows put after node row f h made is =
     }
 
 -- a row is put, and then made anew from itself
-pub written : (rows put after : List (List Bool)) (node : ℕ) (row : List Bool) (f : List Bool → List Bool) → node < length rows → put ≡ set rows node row → after ≡ set put node (f (row_of put node)) → Written rows after node (f row)
+pub written : (rows put after : List (List Bool)) (node : ℕ) (row : List Bool) (f : List Bool → List Bool)
+    → node < length rows → put ≡ set rows node row → after ≡ set put node (f (row_of put node))
+    → Written rows after node (f row)
 written rows mid after node row f h put_is after_is = remade rows mid after node row f h (put rows mid node row h put_is) after_is
 
 -- writing a row of the right length keeps the shape
-pub written_shape : (nodes bits node : ℕ) (rows after : List (List Bool)) (row : List Bool) → AreRows nodes bits rows → Written rows after node row → length row ≡ bits → AreRows nodes bits after
+pub written_shape : (nodes bits node : ℕ) (rows after : List (List Bool)) (row : List Bool) → AreRows nodes bits rows
+    → Written rows after node row → length row ≡ bits → AreRows nodes bits after
 written_shape nodes bits node rows after row shape made long = record {
   len = made.len ∙ shape.len;
   each = λ n h. elim (cases_eq n node) as (λ _. length (row_of after n) ≡ bits) [
@@ -64,7 +70,7 @@ width_is nodes bits n rows shape h = shape.each 0 (omega (arith, h))
 pub as_wide : (nodes bits : ℕ) (first rows : List (List Bool)) → AreRows nodes bits first → AreRows nodes bits rows → AreRows nodes (width first) rows
 as_wide nodes bits first rows shape is = record { len = is.len; each = λ n h. is.each n h ∙ sym (width_is nodes bits n first shape h) }
 
--- and back
+-- and rows that have the width of the first ones have so many bits
 pub rows_as_many : (nodes bits : ℕ) (first rows : List (List Bool)) → AreRows nodes bits first → AreRows nodes (width first) rows → AreRows nodes bits rows
 rows_as_many nodes bits first rows shape is = record { len = is.len; each = λ n h. is.each n h ∙ width_is nodes bits n first shape h }
 

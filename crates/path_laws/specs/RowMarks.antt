@@ -1,8 +1,8 @@
 -- What of a row is news, by its words: long rows have a mark for each word, and short rows have none, so that all of them
 -- is always news. Cited by the ghost members of `RowNews` and of `BitFlow`.
 use Rattle.std.specs.Prelude.{◌≡◌, ℕ, ◌/◌, ◌<◌, Bool, true, false, not, nat_le, if◌then◌else◌, List, length, replicate, slice_index_or}
-use Rattle.std.proofs.Common.{get_or, sym, ap, inl, inr, arith, ◌∙◌}
-use Rattle.std.proofs.lemmas.Bool.{and_from, cases_lt}
+use Rattle.std.proofs.Common.{◌+◌, ◌*◌, get_or, refl, sym, ap, inl, inr, arith, ◌∙◌}
+use Rattle.std.proofs.lemmas.Bool.{and_from, cases_Bool, cases_lt, lt-leb}
 use Rattle.std.proofs.lemmas.List.{get_or_past, get_or-map, get_or-replicate, length-map, length-replicate}
 use Rattle.std.proofs.lemmas.Option.{slice_get-get_or}
 use Rattle.fix_solve.specs.NewsFlows.{Keeps, NewsLaws}
@@ -36,7 +36,8 @@ NoneMarked marks = (k : ℕ) → row_bit marks k ≡ false
 -- ---- along an edge
 
 -- what a row has in words that are not marked, and the target of an edge does not stop, is in the row there
-abbrev pub caught_along : List Edge → List (List Bool) → ℕ → List Bool → List Bool → List Bool → Type 0
+abbrev pub caught_along : List Edge → List (List Bool) → ℕ → List Bool → List Bool → List Bool
+    → Type 0
 caught_along edges bar e marks x w = AreSettled marks x (row_of bar (edge_at edges e).target) w
 
 -- this keeps the laws of news
@@ -60,7 +61,8 @@ caught_laws nodes edges out bits first bar valid = record {
 
 module _ (nodes : ℕ) (edges : List Edge) (out : ℕ → ℕ) (bits : ℕ) (first bar : List (List Bool)) where
   -- a row that changed only where it is marked
-  pub marked_keeps : (node : ℕ) (before old after new : List Bool) → AreMarked before old after new → Keeps (bit_flow nodes edges out bits first bar) (caught_along edges bar) node before old after new
+  pub marked_keeps : (node : ℕ) (before old after new : List Bool) → AreMarked before old after new
+      → Keeps (bit_flow nodes edges out bits first bar) (caught_along edges bar) node before old after new
   marked_keeps node before old after new marked = record {
     along = λ e w h same caught. record {
       each = λ b low off on free.
@@ -69,21 +71,31 @@ module _ (nodes : ℕ) (edges : List Edge) (out : ℕ → ℕ) (bits : ℕ) (fir
     };
   }
 
--- where there are no marks all is marked
-pub unmarked_keeps : (before old after new : List Bool) → length after ≡ 0 → AreMarked before old after new
-unmarked_keeps before old after new none = record {
-  each = λ b off. let on : get_or after (b / 64) true ≡ true = get_or_past after (b / 64) true (omega arith) in let bad : true ≡ false = sym on ∙ off in absurd (cc);
+-- where all is marked anything may have changed
+pub all_keep : (before old after new : List Bool) → AllMarked after → AreMarked before old after new
+all_keep before old after new all = record {
+  each = λ b off. let bad : true ≡ false = sym (all (b / 64)) ∙ off in absurd (cc);
 }
+
+-- and all stays marked
+pub all_stay : (before old after new : List Bool) → AreMarked before old after new → AllMarked before → AllMarked after
+all_stay before old after new marked all k = elim (cases_Bool (get_or after k true)) as (λ _. get_or after k true ≡ true) [
+  | inl on ↦ on
+  | inr off ↦
+      let word : 64 * k / 64 ≡ k = omega arith in
+      let was = (marked.each (64 * k) (rw word off)).0 in
+      let bad : true ≡ false = sym (all k) ∙ (rw word at was) in absurd (cc)
+]
 
 -- ---- how many marks there are
 
--- rows that have marks have one for each word
-pub marks_kept : (n bits : ℕ) → n ≡ marks_for bits → 0 < n → n ≡ words_for bits
-marks_kept n bits is some = marks_kept_at (nat_le bits 1024) n (words_for bits) is some
+-- long rows have one for each word
+pub marks_of_long : (bits : ℕ) → 1024 < bits → marks_for bits ≡ words_for bits
+marks_of_long bits long = marks_of_long_at (nat_le bits 1024) (words_for bits) (lt-leb bits 1024 long)
   where
-    marks_kept_at : (few : Bool) (n count : ℕ) → n ≡ (if few then 0 else count) → 0 < n → n ≡ count
-    marks_kept_at true n count is some = absurd (omega (arith, is))
-    marks_kept_at false n count is some = is
+    marks_of_long_at : (few : Bool) (count : ℕ) → few ≡ false → (if few then 0 else count) ≡ count
+    marks_of_long_at true count off = absurd (cc)
+    marks_of_long_at false count off = refl
 
 -- ---- all marks set, and none
 
@@ -100,3 +112,7 @@ none_marked n k = elim (cases_lt k n) as (λ _. get_or (replicate n false) k fal
   | inl within ↦ get_or-replicate n k false false within
   | inr past ↦ get_or_past (replicate n false) k false (rw length-replicate past)
 ]
+
+-- so was a list of none
+pub none_of_none : (marks : List Bool) → length marks ≡ 0 → NoneMarked marks
+none_of_none marks none k = get_or_past marks k false (omega (arith, none))

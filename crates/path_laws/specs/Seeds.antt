@@ -25,7 +25,8 @@ seed_row true against nodes born stop n = minus_bits (ending_row against nodes (
 seed_row false against nodes born stop n = row_of born n
 
 -- the seeds of all nodes
-abbrev pub seeds_of : Bool → Bool → List Node → List (List Bool) → List (List Bool) → List (List Bool)
+abbrev pub seeds_of : Bool → Bool → List Node → List (List Bool) → List (List Bool)
+    → List (List Bool)
 seeds_of true against nodes born stop = map (seed_row true against nodes born stop) (range_with_len 0 (length nodes))
 seeds_of false against nodes born stop = born
 
@@ -35,24 +36,28 @@ bars_of true born stop = born
 bars_of false born stop = stop
 
 -- the edges are those of the graph, and the rows have one shape
-pub record IsPathFlow (nodes : List Node) (edges : EdgesShape) (bits : ℕ) (born stop : List (List Bool)) : Type 0 where
+pub record IsPathFlow (nodes : List Node) (edges : EdgesShape) (bits : ℕ)
+    (born stop : List (List Bool)) : Type 0 where
   pub within : AllWithin nodes
   pub edges_are : edges ≡ edges_of nodes
   pub born_rows : AreRows (length nodes) bits born
   pub stop_rows : AreRows (length nodes) bits stop
 
 -- the same for as many bits as the rows of births have
-pub record AreFlowRows (graph : GraphShape) (edges : EdgesShape) (born stop : List (List Bool)) : Type 0 where
+pub record AreFlowRows (graph : GraphShape) (edges : EdgesShape)
+    (born stop : List (List Bool)) : Type 0 where
   pub edges_are : edges ≡ edges_of graph.nodes
   pub born_rows : HaveShape graph (width born) born
   pub stop_rows : HaveShape graph (width born) stop
 
--- and the blocks are those of the graph
-pub record IsPathProblem (nodes : List Node) (edges : EdgesShape) (blocks : BlocksShape) (bits : ℕ) (born stop : List (List Bool)) : Type 0 where
+-- the edges are those of the graph, the rows have one shape, and the blocks are those of the graph
+pub record IsPathProblem (nodes : List Node) (edges : EdgesShape) (blocks : BlocksShape) (bits : ℕ)
+    (born stop : List (List Bool)) : Type 0 where
   pub flow : IsPathFlow nodes edges bits born stop
   pub blocks_are : AreBlocksOf nodes blocks
 
 -- a row after a node: its seeds, and what came that it does not bar
-abbrev pub passed_row : Bool → Bool → List Node → List (List Bool) → List (List Bool) → ℕ → List Bool → List Bool
+abbrev pub passed_row : Bool → Bool → List Node → List (List Bool) → List (List Bool) → ℕ
+    → List Bool → List Bool
 passed_row true against nodes born stop n row = if is_end against nodes n then not_bits (row_of born n) else minus_bits (or_bits row (row_of stop n)) (row_of born n)
 passed_row false against nodes born stop n row = or_bits (minus_bits row (row_of stop n)) (row_of born n)

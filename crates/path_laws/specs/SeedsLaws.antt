@@ -15,7 +15,8 @@ length_ending true stop = length-replicate (length stop) true
 length_ending false stop = refl
 
 -- the seeds of one node
-pub seed_is : (every against : Bool) (nodes : List Node) (born stop : List (List Bool)) (n : ℕ) → n < length nodes → row_of (seeds_of every against nodes born stop) n ≡ seed_row every against nodes born stop n
+pub seed_is : (every against : Bool) (nodes : List Node) (born stop : List (List Bool)) (n : ℕ) → n < length nodes
+    → row_of (seeds_of every against nodes born stop) n ≡ seed_row every against nodes born stop n
 seed_is true against nodes born stop n h = get_or-map-range_with_len (seed_row true against nodes born stop) 0 (length nodes) n n [] h (omega arith)
 seed_is false against nodes born stop n h = refl
 

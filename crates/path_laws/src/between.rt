@@ -18,8 +18,9 @@ pub struct BlockEdges {
     pub firsts: Vec<usize>,
 }
 
-/// The edges of the flow that leave blocks: along the edges of the graph from their last nodes, `against` them from
-/// their first. `edges` and `blocks` are those of `graph`. It fails only with `Memory`.
+/// The edges from block to block, for a flow over blocks: along the edges of the graph each leaves the last node of its
+/// block; `against` them each is turned round, and leaves the first. `edges` and `blocks` are those of `graph`. It
+/// fails only with `Memory`.
 pub fn edges_between(
     alloc: Global,
     graph: &Graph,

@@ -8,7 +8,7 @@ ghost use Rattle.path_laws.specs.Paths.{AreRows};
 
 use crate::between::BlockEdges;
 use crate::problems::Problem;
-use crate::row_news::RowNews;
+use crate::row_news::{MOST_SHORT, RowNews};
 use crate::summaries::seed_of;
 use bit_rows::{Row, RowView, Rows};
 use fix_solve::{Flow, Lattice, Steps, Work, solve};
@@ -155,15 +155,14 @@ impl<'a, L: Ledger> Flow for BitFlow<'a, L> {
         into_news: &mut RowNews,
         steps: &mut Steps<L>,
     ) -> bool {
-        if news.are_kept() {
-            steps.tick();
-            let stop = self.stops.row(target);
-            let marks = news.marks.view();
-            into.row
-                .or_minus_marked(&from.row.view(), &stop, &marks, &mut into_news.marks)
-        } else {
-            self.push(number, target, from, into, steps)
+        if self.bits <= MOST_SHORT || (news.are_all() && into_news.are_all()) {
+            return self.push(number, target, from, into, steps);
         }
+        steps.tick();
+        let stop = self.stops.row(target);
+        let marks = news.marks.view();
+        into.row
+            .or_minus_marked(&from.row.view(), &stop, &marks, &mut into_news.marks)
     }
 
     ghost laws = { flow_laws };
