@@ -12,7 +12,7 @@ use Rattle.div_move.specs.MustCome.{MustComeTo}
 use Rattle.div_move.specs.Moves.{InsertionsCome}
 use Rattle.graph_edit.specs.NoMore.{HasNoMore}
 use Rattle.sink_rounds.specs.RoundGraphs.{last_round}
-use Rattle.sink_rounds.specs.Steps.{AreBestSteps}
+use Rattle.sink_best.specs.Lists.{AreBestRounds}
 use Rattle.mir_opt.specs.declared.trails.MoveUnit.{MoveUnit}
 use Rattle.mir_opt.specs.declared.trails.UnitTrail.{UnitTrail}
 
@@ -46,6 +46,7 @@ abbrev pub SinksNoMore : UnitTrail → Type 0
 SinksNoMore unit = HasNoMore unit.recopied (last_round unit.recopied unit.rounds.graphs)
 
 -- each round is the best of all single steps from the graph before it: none leaves fewer of a plain or movable
--- assignment on any full path; and where a round leaves the layout as it is, none leaves fewer than stand there
+-- assignment on any full path; and where a round leaves the layout as it is, none leaves fewer than stand there, and no
+-- list of steps from the graph before the rounds, of any length, leaves fewer than that round
 abbrev pub RoundsAreBest : UnitTrail → Type 0
-RoundsAreBest unit = AreBestSteps unit.recopied unit.rounds.graphs
+RoundsAreBest unit = AreBestRounds unit.recopied unit.rounds.graphs

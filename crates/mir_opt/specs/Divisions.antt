@@ -32,7 +32,8 @@ pub record DivisionsStay (unit : UnitTrail) : Type 0 where
 
 -- control can come to the instruction at this place, which assigns to the variable x, by this operator, what these
 -- operands give, and divides
-pub record IsDivision (body : List Inst) (place x : ℕ) (op : Op) (left right : Operand) : Type 0 where
+pub record IsDivision (body : List Inst) (place x : ℕ) (op : Op)
+    (left right : Operand) : Type 0 where
   pub reached : IsReachedPlace body place
   pub divides : InstDivides body place x op left right
 
@@ -44,7 +45,8 @@ pub record DivisionsUnchanged (source target : UnitShape) : Type 0 where
   pub stays : (p x : ℕ) (op : Op) (left right : Operand) → IsDivision source.body p x op left right
       → DividesAs to source.vars target (place p) x op left right
   pub apart : (p q x y : ℕ) (op other : Op) (a b c d : Operand)
-      → IsDivision source.body p x op a b → IsDivision source.body q y other c d → place p ≡ place q → p ≡ q
+      → IsDivision source.body p x op a b → IsDivision source.body q y other c d → place p
+      ≡ place q → p ≡ q
 
 -- by these states of the nodes node n is reached, and the divisor may be 0 there
 pub record MayDivideByZero (states : ℕ → NodeState) (n : ℕ) (divisor : Operand) : Type 0 where
@@ -54,7 +56,8 @@ pub record MayDivideByZero (states : ℕ → NodeState) (n : ℕ) (divisor : Ope
 
 -- the instruction at this place of the unit divides by this operator, whatever its operands are, and assigns to the
 -- variable x, which has another number there, by which it has the name that it had
-pub record DividesInto (to : ℕ → ℕ) (old : List (List ℕ)) (unit : UnitShape) (place x : ℕ) (op : Op) : Type 0 where
+pub record DividesInto (to : ℕ → ℕ) (old : List (List ℕ)) (unit : UnitShape) (place x : ℕ)
+    (op : Op) : Type 0 where
   pub left : Operand
   pub right : Operand
   pub is : InstDivides unit.body place (to x) op left right
@@ -65,7 +68,8 @@ pub record DividesInto (to : ℕ → ℕ) (old : List (List ℕ)) (unit : UnitSh
 -- the target, with its variable and its operator; and no two of these are one
 pub record DivisionsKept (source : UnitShape) (unit : UnitTrail) (target : UnitShape) : Type 0 where
   pub node : ℕ → ℕ
-  pub at_node : (p x : ℕ) (op : Op) (left right : Operand) → IsDivision source.body p x op left right
+  pub at_node : (p x : ℕ) (op : Op) (left right : Operand)
+      → IsDivision source.body p x op left right
       → DividesOf unit.cleaned.nodes (node p) x op left right
   pub in_order : (p q x y : ℕ) (op other : Op) (a b c d : Operand)
       → IsDivision source.body p x op a b → IsDivision source.body q y other c d → p < q → node p < node q
@@ -77,7 +81,8 @@ pub record DivisionsKept (source : UnitShape) (unit : UnitTrail) (target : UnitS
       → MayDivideByZero states (node p) right → DividesInto to source.vars target (place p) x op
   pub apart : (p q x y : ℕ) (op other : Op) (a b c d : Operand)
       → IsDivision source.body p x op a b → IsDivision source.body q y other c d
-      → MayDivideByZero states (node p) b → MayDivideByZero states (node q) d → place p ≡ place q → p ≡ q
+      → MayDivideByZero states (node p) b → MayDivideByZero states (node q) d → place p
+      ≡ place q → p ≡ q
 
 -- so it is in the unit of each number, after all passes
 abbrev pub DivisionsReachTarget : Trail → Type 0
@@ -87,5 +92,6 @@ DivisionsReachTarget trail = (n : ℕ) (source target : UnitShape) (unit : UnitT
 
 -- and after code motion alone
 abbrev pub MotionKeepsDivisions : MoveTrail → Type 0
-MotionKeepsDivisions trail = (n : ℕ) (source target : UnitShape) → slice_get trail.source.units n ≡ Some source
+MotionKeepsDivisions trail = (n : ℕ) (source target : UnitShape)
+    → slice_get trail.source.units n ≡ Some source
     → slice_get trail.target.units n ≡ Some target → DivisionsUnchanged source target

@@ -61,7 +61,8 @@ pub record IsBeforeMotion (cleaned folded numbered copied : GraphShape) : Type 0
   pub copies : IsCopied numbered copied
 
 -- what comes after it
-pub record IsBack (moved recopied : GraphShape) (rounds : List GraphShape) (swept : GraphShape) : Type 0 where
+pub record IsBack (moved recopied : GraphShape) (rounds : List GraphShape)
+    (swept : GraphShape) : Type 0 where
   pub copies : IsCopied moved recopied
   pub sinks : AreRounds recopied rounds
   pub sweeps : IsClean (last_round recopied rounds) swept
@@ -109,15 +110,18 @@ IsDivisionLinked trail = AllLinked move_graph_at moves.Result LinksDivision trai
 
 -- no other trail of the program is linked
 abbrev pub IsOnlyTrail : ProgramShape → Trail → Type 0
-IsOnlyTrail program trail = (other : Trail) → other.source ≡ program → IsLinked other → trail ≡ other
+IsOnlyTrail program trail = (other : Trail) → other.source ≡ program → IsLinked other
+    → trail ≡ other
 
 -- no other move trail of the program is linked
 abbrev pub IsOnlyMoveTrail : ProgramShape → MoveTrail → Type 0
-IsOnlyMoveTrail program trail = (other : MoveTrail) → other.source ≡ program → IsMoveLinked other → trail ≡ other
+IsOnlyMoveTrail program trail = (other : MoveTrail) → other.source ≡ program → IsMoveLinked other
+    → trail ≡ other
 
 -- no other division trail of the program is linked
 abbrev pub IsOnlyDivisionTrail : ProgramShape → MoveTrail → Type 0
-IsOnlyDivisionTrail program trail = (other : MoveTrail) → other.source ≡ program → IsDivisionLinked other
+IsOnlyDivisionTrail program trail = (other : MoveTrail) → other.source ≡ program
+    → IsDivisionLinked other
     → trail ≡ other
 
 -- a unit of the source has no two values of linked steps, where those of one lead to nodes

@@ -17,7 +17,7 @@ use Rattle.motion_rewrite.specs.ExprTables.{movable_exprs}
 use Rattle.sink_rounds.specs.RoundGraphs.{last_round}
 use Rattle.sink_code.specs.RoundKept.{RoundKeeps}
 use Rattle.sink_rounds.specs.RoundsKept.{RoundsKeep}
-use Rattle.sink_rounds.specs.Steps.{AreBestSteps}
+use Rattle.sink_best.specs.Lists.{AreBestRounds}
 use Rattle.latest_place.specs.Lazy.{IsLazyPlacement}
 use Rattle.div_move.specs.MustCome.{MustComeTo}
 use Rattle.div_move.specs.Moves.{InsertionsCome}
@@ -36,7 +36,8 @@ use Rattle.mir_opt.specs.Links.{IsBack, IsBeforeMotion, IsDivisionMotion, IsMoti
 use Rattle.mir_opt.specs.Stages.{AreLaid, KeepsProgram}
 
 -- after all passes the code motion of a unit is the best, divisions stay, the last round has no more of any assignment
--- than the graph before the rounds, and each round is the best of all steps
+-- than the graph before the rounds, each round is the best of all steps, and the last of all lists of steps where the
+-- rounds come to rest
 pub record UnitBest (source : UnitShape) (unit : UnitTrail) : Type 0 where
   pub moves : MovesBest unit
   pub lowers : DivisionsLowered source unit.lowered
@@ -59,7 +60,7 @@ pub record UnitMade {T S : Type 0} (graph_of : T → S → GraphShape)
   pub keeps : (stage : S) → Keeps (AsUnit source) (AsGraph (graph_of unit stage))
   pub within : Within unit
 
--- of each unit of a program
+-- so it is of the steps of each unit of a program
 abbrev pub AllMade : {T S : Type 0} → (T → S → GraphShape) → (UnitShape → T → Type 0)
     → (UnitShape → T → Type 0) → (T → Type 0) → List UnitShape → List T → Type 0
 AllMade graph_of Links Best Within sources units = AllZip (UnitMade graph_of Links Best Within) sources units
@@ -93,7 +94,7 @@ pub record BackMade (moved : GraphShape) (made : Back) : Type 0 where
   pub recopied_keeps : GraphKeeps moved made.recopied
   pub rounds_keep : RoundsKeep made.recopied made.rounds.graphs
   pub last_keeps : RoundKeeps made.recopied (last_round made.recopied made.rounds.graphs)
-  pub rounds_best : AreBestSteps made.recopied made.rounds.graphs
+  pub rounds_best : AreBestRounds made.recopied made.rounds.graphs
   pub swept_keeps : GraphKeeps (last_round made.recopied made.rounds.graphs) made.swept
   pub divides : GraphDivides moved made.swept
 
@@ -108,7 +109,8 @@ pub record CodeMade (Down : GraphShape → Expr → ℕ → Type 0) (split : Gra
   pub divides : GraphDividesUnchanged split made.moved
 
 -- code motion by a down rule on a graph: each graph keeps the one before
-pub record MotionMade (Down : GraphShape → Expr → ℕ → Type 0) (graph : GraphShape) (made : Moved) : Type 0 where
+pub record MotionMade (Down : GraphShape → Expr → ℕ → Type 0) (graph : GraphShape)
+    (made : Moved) : Type 0 where
   pub motion : IsMotion movable_exprs Down graph made.split made.table made.placement made.moved
   pub best : IsBest Down made.split made.table made.placement made.moved
   pub is_split : IsSplit made.moved.nodes
@@ -141,7 +143,8 @@ abbrev pub AllLaidOut : {T S : Type 0} → (T → S → GraphShape) → S → Li
 AllLaidOut graph_of stage units targets = AllZip (λ unit target. IsLaidOut (graph_of unit stage) target) units targets
 
 -- each division of the graphs at a stage is an instruction of the unit of its number
-abbrev pub AllLayDivisions : {T S : Type 0} → (T → S → GraphShape) → S → List T → List UnitShape → Type 0
+abbrev pub AllLayDivisions : {T S : Type 0} → (T → S → GraphShape) → S → List T → List UnitShape
+    → Type 0
 AllLayDivisions graph_of stage units targets = AllZip (λ unit target. DivisionsLaid (graph_of unit stage) target) units targets
 
 -- what is made of the units of a program: the steps of each unit, and the program of the layouts of their last

@@ -264,7 +264,8 @@ zip_is_one R S one (x ∷ xs) (y ∷ ys) [] z z' = absurd z'
 zip_is_one R S one (x ∷ xs) (y ∷ ys) (y' ∷ ys') z z' = cons_same (one x y y' z.0 z'.0) (zip_is_one R S one xs ys ys' z.1 z'.1)
 
 -- where a unit has one trail, a program has one list of trails, and one target
-pub record OneTrail {T : Type 0} (units units' : List T) (target target' : ProgramShape) : Type 0 where
+pub record OneTrail {T : Type 0} (units units' : List T)
+    (target target' : ProgramShape) : Type 0 where
   pub units_are : units ≡ units'
   pub target_is : target ≡ target'
 

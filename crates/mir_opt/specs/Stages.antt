@@ -77,7 +77,8 @@ move_graph_at unit moves.Result = unit.swept
 
 -- the edges of the graphs of a unit that are cleaned lead to nodes
 abbrev pub CleansWithin : UnitTrail → Type 0
-CleansWithin unit = AllWithin unit.lowered.nodes × AllWithin (last_round unit.recopied unit.rounds.graphs).nodes
+CleansWithin unit = AllWithin unit.lowered.nodes
+    × AllWithin (last_round unit.recopied unit.rounds.graphs).nodes
 
 -- and of one whose code is moved alone
 abbrev pub MotionCleansWithin : MoveUnit → Type 0

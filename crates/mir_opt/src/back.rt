@@ -26,6 +26,9 @@ pub(crate) fn make_back(alloc: Global, moved: &Graph) -> Result<Back, Memory>
     ensures { IfOk result (BackMade moved.now) }
 {
     let recopied = copies(alloc, moved)?;
+    // That it is a graph is what the law on lists of steps asks for.
+    let _nodes = recopied.nodes();
+    let _shared = recopied.shared();
     let rounds = rounds(alloc, &recopied)?;
     let swept = clean(alloc, last_round(&recopied, rounds.graphs.items()))?;
     Ok(Back {

@@ -57,7 +57,7 @@ const BEFORE_ROUNDS: [Stage; 8] = [
     Stage::CopiesAfterMotion,
 ];
 
-/// Puts so many rounds at the end.
+/// Appends the stages of so many rounds, from round 1 on.
 fn put_rounds(stages: &mut Vec<Stage>, rounds: usize) -> Result<(), Memory>
     ensures { OnOk result (stages.new.items ≡ stages.old.items ++ first_rounds rounds) }
 {

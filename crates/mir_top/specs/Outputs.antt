@@ -54,7 +54,8 @@ pub record Improves
   pub best : Best
 
 -- what all passes reach: in each unit the code motion is the best; sinking leaves no more of any plain or movable
--- assignment on any full path, each round no more than any single step; and each division stays
+-- assignment on any full path, each round no more than any single step, and the last no more than any list of steps where
+-- the rounds come to rest; and each division stays
 pub record ReachesBest (trail : Trail) : Type 0 where
   pub moves : All MovesBest trail.units
   pub sinks : All SinksNoMore trail.units
@@ -224,7 +225,8 @@ pub record WritesReport (program : ProgramShape) (inputs : List ℤ) (steps : �
   pub output_is : output ≡ report_text (reported program inputs steps)
 
 -- they are those of a trial
-pub record WritesSummary (program : ProgramShape) (outcome : Outcome) (output : List ℕ) : Type 0 where
+pub record WritesSummary (program : ProgramShape) (outcome : Outcome)
+    (output : List ℕ) : Type 0 where
   pub summary : IsSummary program output
   pub outcome_is : outcome ≡ Compared
 
@@ -234,7 +236,8 @@ abbrev pub ShowsPasses :
 ShowsPasses = ShowsTrail {T = Trail} (λ trail. trail.source) Optimises
 
 -- and of a trail of motion alone
-abbrev pub ShowsMotion : (MoveTrail → Type 0) → (MoveTrail → List ℕ → Type 0) → (MoveTrail → Outcome)
+abbrev pub ShowsMotion : (MoveTrail → Type 0) → (MoveTrail → List ℕ → Type 0)
+    → (MoveTrail → Outcome)
     → ProgramShape → Outcome → List ℕ → Type 0
 ShowsMotion = ShowsTrail {T = MoveTrail} (λ trail. trail.source)
 
@@ -267,7 +270,8 @@ abbrev pub IsWantOfMemory : RunFault → Type 0
 IsWantOfMemory fault = (refusal : AllocError) × (fault ≡ Memory refusal)
 
 -- the command of these words cannot make anything of the program, for this cause
-pub data CannotMake (words : List (List ℕ)) (program : ProgramShape) : Command → RunFault → Type 0 where
+pub data CannotMake (words : List (List ℕ))
+    (program : ProgramShape) : Command → RunFault → Type 0 where
   too_few_or_many : (steps : ℕ) → length (inputs_in words) ≢ inputs_of program
       → CannotMake words program (Run steps) (WrongInputs (inputs_of program))
   too_many_frames : (steps : ℕ) → length (inputs_in words) ≡ inputs_of program

@@ -1,0 +1,12 @@
+pub mod Ends
+pub mod Walks
+pub mod Images
+pub mod Order
+pub mod Passing
+pub mod Keeping
+pub mod Kept
+pub mod Composed
+pub mod Sunk
+pub mod SunkAbove
+pub mod Removed
+pub mod Counts

@@ -1,0 +1,16 @@
+pub mod Lists
+pub mod GraphWalks
+pub mod Chains
+pub mod OneSinking
+pub mod Ways
+pub mod Bodies
+pub mod OneLift
+pub mod OneRemoval
+pub mod Over
+pub mod Counting
+pub mod Reading
+pub mod Made
+pub mod NoPassing
+pub mod Orbits
+pub mod Rest
+pub mod AtRest
