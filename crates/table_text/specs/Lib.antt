@@ -3,3 +3,4 @@ pub mod Lines
 pub mod Nodes
 pub mod Rows
 pub mod Turns
+pub mod TurnLaws

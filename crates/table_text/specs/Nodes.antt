@@ -62,3 +62,7 @@ variables_text vars received =
 abbrev pub graph_text : List (List ℕ) → GraphShape → List ℕ
 graph_text units graph =
     globals_text graph.shared ++ variables_text graph.vars graph.received ++ node_lines units graph.vars 0 graph.nodes
+
+-- the same behind the name of its stage
+abbrev pub stage_text : List (List ℕ) → List ℕ → GraphShape → List ℕ
+stage_text units name graph = codes "stage " ++ name ++ codes "\n" ++ graph_text units graph

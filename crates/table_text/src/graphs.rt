@@ -2,7 +2,7 @@
 ghost use Rattle.std.specs.Prelude.{flat_map};
 ghost use Rattle.mir_base.specs.Appending.{AppendsOnOk};
 ghost use Rattle.table_text.specs.Lines.{name_field, unit_line, names_of_units};
-ghost use Rattle.table_text.specs.Nodes.{globals_text, graph_text, node_lines, variables_text};
+ghost use Rattle.table_text.specs.Nodes.{globals_text, graph_text, node_lines, stage_text, variables_text};
 
 use crate::fields::{put_count, put_names};
 use crate::nodes::put_node;
@@ -29,6 +29,22 @@ pub fn put_graph(text: &mut Vec<u8>, units: &[MirUnit], graph: &Graph) -> Result
     put_globals(text, graph.shared())?;
     put_variables(text, graph.vars(), graph.received())?;
     put_nodes(text, units, graph)
+}
+
+/// The same behind the name of its stage.
+pub fn put_stage(
+    text: &mut Vec<u8>,
+    units: &[MirUnit],
+    name: &[u8],
+    graph: &Graph,
+) -> Result<(), Memory>
+    ensures { AppendsOnOk result text.old text.new
+        (stage_text (names_of_units units.now) name.now graph.now) }
+{
+    text.extend_from_slice(b"stage ")?;
+    text.extend_from_slice(name)?;
+    text.extend_from_slice(b"\n")?;
+    put_graph(text, units, graph)
 }
 
 /// The number of globals.

@@ -7,15 +7,15 @@
 //! of what it is given, and no others.
 #![tactic(auto)]
 
+mod columns;
 mod fields;
 mod graphs;
-mod lines;
 mod nodes;
 mod operands;
 mod rows;
 
+pub use columns::Columns;
 pub use fields::{put_count, put_field};
-pub use graphs::{put_graph, put_unit};
-pub use lines::Lines;
-pub use operands::{put_assigned, put_name, put_right};
+pub use graphs::{put_graph, put_stage, put_unit};
+pub use operands::{put_assigned, put_name, put_right, put_unit_field};
 pub use rows::{put_bits, put_edge_bits};

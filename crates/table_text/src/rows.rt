@@ -4,12 +4,12 @@ ghost use Rattle.mir_base.specs.Appending.{AppendsOnOk};
 ghost use Rattle.table_text.specs.Columns.{column_below, word_bit};
 ghost use Rattle.table_text.specs.Rows.{HaveBit, bit_byte, bits_below, bits_line, edge_bits_line};
 
-use crate::lines::Lines;
+use crate::columns::Columns;
 use mir_base::Memory;
 use std::alloc::AllocError;
 
 /// The bit of this number of all rows, with the title of the line. A row stands for a node.
-pub fn put_bits(text: &mut Vec<u8>, lines: &Lines, bit: usize, title: &[u8]) -> Result<(), Memory>
+pub fn put_bits(text: &mut Vec<u8>, lines: &Columns, bit: usize, title: &[u8]) -> Result<(), Memory>
     requires { HaveBit lines.now bit }
     ensures { AppendsOnOk result text.old text.new (bits_line lines.now bit title.now) }
 {
@@ -21,7 +21,7 @@ pub fn put_bits(text: &mut Vec<u8>, lines: &Lines, bit: usize, title: &[u8]) -> 
 /// The same where a row stands for an edge.
 pub fn put_edge_bits(
     text: &mut Vec<u8>,
-    lines: &Lines,
+    lines: &Columns,
     bit: usize,
     title: &[u8],
 ) -> Result<(), Memory>
@@ -36,7 +36,7 @@ pub fn put_edge_bits(
 /// The bit of this number of all rows. It is not drawn into those that call it, so that what it takes is counted by
 /// itself.
 #[inline(never)]
-fn put_each(text: &mut Vec<u8>, lines: &Lines, bit: usize) -> Result<(), Memory>
+fn put_each(text: &mut Vec<u8>, lines: &Columns, bit: usize) -> Result<(), Memory>
     requires { HaveBit lines.now bit }
     ensures { AppendsOnOk result text.old text.new (bits_below lines.now bit (length lines.now)) }
 {

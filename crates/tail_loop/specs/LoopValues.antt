@@ -31,7 +31,8 @@ saved_old [] first x w lt = refl
 saved_old (a ∷ operands) first x w lt = saved_old operands (suc first) x (with_value first (operand_value w a) w) (omega (arith, lt)) ∙ with_other first x (operand_value w a) w (λ same. omega (arith, same, lt))
 
 -- each temporary has its argument
-saved_new : (vars : ℕ) (v : Values) (operands : List Operand) (first : ℕ) (w : Values) → vars ≤ first → AllBelow vars (flat_map operand_vars operands) → ((y : ℕ) → y < vars → v y ≡ w y)
+saved_new : (vars : ℕ) (v : Values) (operands : List Operand) (first : ℕ) (w : Values) → vars ≤ first
+    → AllBelow vars (flat_map operand_vars operands) → ((y : ℕ) → y < vars → v y ≡ w y)
     → (j : ℕ) → j < length operands → values_after (saved first operands) w (first + j) ≡ slice_index_or (map (operand_value v) operands) j (pos 0)
 saved_new vars v [] first w ge below same j lt = absurd (omega (arith, lt))
 saved_new vars v (a ∷ operands) first w ge below same zero lt =
@@ -55,7 +56,8 @@ moved_out (y ∷ ys) first x w out =
     moved_out ys (suc first) x (with_value y (w first) w) apart.1 ∙ with_other y x (w first) w apart.0
 
 -- and they get what a frame receives, where the temporaries have the arguments
-moved_in : (vars : ℕ) (arguments : List ℤ) (xs : List ℕ) (first i x : ℕ) (w u : Values) → AllBelow vars xs → vars ≤ first → ((j : ℕ) → j < length xs → w (first + j) ≡ slice_index_or arguments (i + j) (pos 0))
+moved_in : (vars : ℕ) (arguments : List ℤ) (xs : List ℕ) (first i x : ℕ) (w u : Values) → AllBelow vars xs
+    → vars ≤ first → ((j : ℕ) → j < length xs → w (first + j) ≡ slice_index_or arguments (i + j) (pos 0))
     → is_in x xs ≡ true → values_after (moved first xs) w x ≡ received_from i xs arguments u x
 moved_in vars arguments [] first i x w u below ge hold there = cc
 moved_in vars arguments (y ∷ ys) first i x w u below ge hold there =
@@ -108,7 +110,7 @@ cleared_low received (suc count) y x w lt =
     (λ is. cleared_low received count (suc y) x w (omega (arith, lt)))
     (λ is. cleared_low received count (suc y) x (zeroed y w) (omega (arith, lt)) ∙ with_other y x (wrapped (pos 0)) w (λ same. omega (arith, same, lt)))
 
--- what is 0 stays 0
+-- a variable that is 0 stays 0 through the assignments that clear the others
 cleared_zero : (received : List ℕ) (count y x : ℕ) (w : Values) → w x ≡ pos 0 → values_after (cleared received y count) w x ≡ pos 0
 cleared_zero received zero y x w is = is
 cleared_zero received (suc count) y x w is =
@@ -117,7 +119,8 @@ cleared_zero received (suc count) y x w is =
     (λ out. cleared_zero received count (suc y) x (zeroed y w) (zeroed_zero y x w (apart_or_not x y) (λ apart. is)))
 
 -- any other becomes 0
-cleared_out : (received : List ℕ) (count y x : ℕ) (w : Values) → is_in x received ≡ false → y ≤ x → x < y + count → values_after (cleared received y count) w x ≡ pos 0
+cleared_out : (received : List ℕ) (count y x : ℕ) (w : Values) → is_in x received ≡ false → y ≤ x → x < y + count
+    → values_after (cleared received y count) w x ≡ pos 0
 cleared_out received zero y x w out ge lt = absurd (omega (arith, ge, lt))
 cleared_out received (suc count) y x w out ge lt =
     put_or_not (λ puts. values_after puts w x ≡ pos 0) (is_in y received) (zero_put y) (cleared received (suc y) count)
@@ -151,7 +154,9 @@ loop_plain shared vars received operands =
     plain_append (saved vars operands) (moved vars received ++ cleared received shared (vars - shared)) (saved_plain operands vars) (plain_append (moved vars received) (cleared received shared (vars - shared)) (moved_plain received vars) (cleared_plain received (vars - shared) shared))
 
 -- the variables get the values of a frame that has received these arguments, with the globals as they are
-pub loop_values : (shared vars : ℕ) (received : List ℕ) (operands : List Operand) (v w : Values) → AllBelow vars received → AllBelow vars (flat_map operand_vars operands) → length operands ≡ length received → ((y : ℕ) → y < vars → v y ≡ w y)
+pub loop_values : (shared vars : ℕ) (received : List ℕ) (operands : List Operand) (v w : Values)
+    → AllBelow vars received → AllBelow vars (flat_map operand_vars operands) → length operands ≡ length received
+    → ((y : ℕ) → y < vars → v y ≡ w y)
     → (x : ℕ) → x < vars → values_after (loop_assignments shared vars received operands) w x ≡ received_from 0 received (map (operand_value v) operands) (with_first (shared_values shared v) all_zero) x
 loop_values shared vars received operands v w received_below below long same x lt =
     let w1 : Values = values_after (saved vars operands) w in

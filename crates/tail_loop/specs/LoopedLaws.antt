@@ -24,13 +24,16 @@ use Rattle.program_pass.specs.StoodLaws.{below_append, stood_calls, stood_can}
 -- ---- the assignments of a self tail call
 
 -- those of the temporaries
-saved_below : (vars all : ℕ) (operands : List Operand) (first : ℕ) → vars ≤ all → AllBelow vars (flat_map operand_vars operands) → first + length operands ≤ all → InsertionsBelow all (saved first operands)
+saved_below : (vars all : ℕ) (operands : List Operand) (first : ℕ) → vars ≤ all
+    → AllBelow vars (flat_map operand_vars operands) → first + length operands ≤ all
+    → InsertionsBelow all (saved first operands)
 saved_below vars all [] first le below room = tt
 saved_below vars all (a ∷ operands) first le below room =
     ((omega (arith, room), all_below_more vars all (operand_vars a) le (all_below_left vars (operand_vars a) (flat_map operand_vars operands) below)), saved_below vars all operands (suc first) le (all_below_right vars (operand_vars a) (flat_map operand_vars operands) below) (omega (arith, room)))
 
 -- those of the received variables
-moved_below : (vars all : ℕ) (received : List ℕ) (first : ℕ) → vars ≤ all → AllBelow vars received → first + length received ≤ all → InsertionsBelow all (moved first received)
+moved_below : (vars all : ℕ) (received : List ℕ) (first : ℕ) → vars ≤ all → AllBelow vars received
+    → first + length received ≤ all → InsertionsBelow all (moved first received)
 moved_below vars all [] first le below room = tt
 moved_below vars all (x ∷ received) first le below room = let lt = below.0 in ((omega (arith, lt, le), (omega (arith, room), tt)), moved_below vars all received (suc first) le below.1 (omega (arith, room)))
 
@@ -43,7 +46,9 @@ cleared_below all received (suc count) y room =
     (λ is. ((omega (arith, room), tt), cleared_below all received count (suc y) (omega (arith, room))))
 
 -- they are of variables of the graph and of its temporaries
-pub loop_below : (shared vars all : ℕ) (received : List ℕ) (operands : List Operand) → shared ≤ vars → vars + length received ≤ all → AllBelow vars received → AllBelow vars (flat_map operand_vars operands) → length operands ≡ length received → InsertionsBelow all (loop_assignments shared vars received operands)
+pub loop_below : (shared vars all : ℕ) (received : List ℕ) (operands : List Operand) → shared ≤ vars
+    → vars + length received ≤ all → AllBelow vars received → AllBelow vars (flat_map operand_vars operands)
+    → length operands ≡ length received → InsertionsBelow all (loop_assignments shared vars received operands)
 loop_below shared vars all received operands least room received_below operands_below long =
     below_append all (saved vars operands) (moved vars received ++ cleared received shared (vars - shared)) (saved_below vars all operands vars (omega (arith, room)) operands_below (omega (arith, room, long)))
     (below_append all (moved vars received) (cleared received shared (vars - shared)) (moved_below vars all received vars (omega (arith, room)) received_below (omega (arith, room))) (cleared_below all received (vars - shared) shared (omega (arith, room, least))))
@@ -55,7 +60,9 @@ module _ (graph : GraphShape) (unit : ℕ) (names : List (List ℕ)) (can : CanM
   all_vars = graph.vars ++ names
 
   -- the assignments of a self tail call are in range, where there are temporaries for the received variables
-  call_below : length names ≡ length graph.received → (n : ℕ) (operands : List Operand) → IsTailCall graph.shared graph.nodes unit n operands → InsertionsBelow (length all_vars) (loop_assignments graph.shared (length graph.vars) graph.received operands)
+  call_below : length names ≡ length graph.received → (n : ℕ) (operands : List Operand)
+      → IsTailCall graph.shared graph.nodes unit n operands
+      → InsertionsBelow (length all_vars) (loop_assignments graph.shared (length graph.vars) graph.received operands)
   call_below temps n operands call =
       let below = can.below n (Call (Some call.into) unit operands call.next) call.is in
       let long = fit (length operands) (record { number = n; node = Call (Some call.into) unit operands call.next; here = call.is; calls = refl }) in
@@ -76,7 +83,10 @@ module _ (graph : GraphShape) (unit : ℕ) (names : List (List ℕ)) (can : CanM
       (omega (arith, is, one), omega (arith, is, lt))
 
   -- a graph can be made of the nodes with loops, by one after the other
-  pub looped_can : (calls : List ℕ) (nodes looped : List Node) → ((n : ℕ) (more : List ℕ) → calls ≡ n ∷ more → length names ≡ length graph.received) → length graph.nodes ≤ length nodes → CanMake all_vars graph.received nodes → AreLooped graph unit calls nodes looped → CanMake all_vars graph.received looped
+  pub looped_can : (calls : List ℕ) (nodes looped : List Node)
+      → ((n : ℕ) (more : List ℕ) → calls ≡ n ∷ more → length names ≡ length graph.received)
+      → length graph.nodes ≤ length nodes → CanMake all_vars graph.received nodes
+      → AreLooped graph unit calls nodes looped → CanMake all_vars graph.received looped
   looped_can [] nodes looped temps le made are = subst (CanMake all_vars graph.received) (sym are) made
   looped_can (n ∷ calls) nodes looped temps le made are =
       let puts = loop_assignments graph.shared (length graph.vars) graph.received are.0 in
@@ -89,7 +99,10 @@ module _ (graph : GraphShape) (unit : ℕ) (names : List (List ℕ)) (can : CanM
       looped_can calls (stood nodes n puts end) looped (λ m more e. enough) (omega (arith, le, stood_long nodes n puts end)) next are.2
 
   -- and they make no calls but those of the graph
-  pub looped_calls : (calls : List ℕ) (nodes looped : List Node) → ((n : ℕ) (more : List ℕ) → calls ≡ n ∷ more → length names ≡ length graph.received) → length graph.nodes ≤ length nodes → AreLooped graph unit calls nodes looped → (called count : ℕ) → NodesCall looped called count → NodesCall nodes called count
+  pub looped_calls : (calls : List ℕ) (nodes looped : List Node)
+      → ((n : ℕ) (more : List ℕ) → calls ≡ n ∷ more → length names ≡ length graph.received)
+      → length graph.nodes ≤ length nodes → AreLooped graph unit calls nodes looped → (called count : ℕ)
+      → NodesCall looped called count → NodesCall nodes called count
   looped_calls [] nodes looped temps le are called count c = subst (λ l. NodesCall l called count) are c
   looped_calls (n ∷ calls) nodes looped temps le are called count c =
       let puts = loop_assignments graph.shared (length graph.vars) graph.received are.0 in

@@ -29,7 +29,8 @@ tail_calls_one : (shared : ℕ) (nodes : List Node) (unit : ℕ) (a b : List ℕ
 tail_calls_one shared nodes unit a b p q = members_same a b p.ordered q.ordered (λ n is. q.all n (p.are n is)) (λ n is. p.all n (q.are n is))
 
 -- these become one list of loops, since a node has one list of arguments
-looped_one : (graph : GraphShape) (unit : ℕ) (calls : List ℕ) (nodes a b : List Node) → AreLooped graph unit calls nodes a → AreLooped graph unit calls nodes b → a ≡ b
+looped_one : (graph : GraphShape) (unit : ℕ) (calls : List ℕ) (nodes a b : List Node)
+    → AreLooped graph unit calls nodes a → AreLooped graph unit calls nodes b → a ≡ b
 looped_one graph unit [] nodes a b p q = p ∙ sym q
 looped_one graph unit (n ∷ calls) nodes a b p q =
     let both : Some (Call (Some p.1.into) unit p.0 p.1.next) ≡ Some (Call (Some q.1.into) unit q.0 q.1.next) = sym p.1.is ∙ q.1.is in

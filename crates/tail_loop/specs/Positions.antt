@@ -41,8 +41,10 @@ pub record LeadsElsewhere (shared : ℕ) (nodes : List Node) (n called there : �
 abbrev pub HasPosition : ℕ → List Node → ℕ → ℕ → ℕ → Position → Type 0
 HasPosition shared nodes unit n called Loop = (called ≡ unit) × HasTailCall shared nodes called n
 HasPosition shared nodes unit n called Tail = (called ≢ unit) × HasTailCall shared nodes called n
-HasPosition shared nodes unit n called Dropped = DropsAnswer nodes n called × ¬ HasTailCall shared nodes called n
-HasPosition shared nodes unit n called Global = AnswersGlobal shared nodes n called × ¬ HasTailCall shared nodes called n
+HasPosition shared nodes unit n called Dropped = DropsAnswer nodes n called
+    × ¬ HasTailCall shared nodes called n
+HasPosition shared nodes unit n called Global = AnswersGlobal shared nodes n called
+    × ¬ HasTailCall shared nodes called n
 HasPosition shared nodes unit n called (Then there) =
     LeadsElsewhere shared nodes n called there × ¬ HasTailCall shared nodes called n
 
@@ -54,11 +56,13 @@ IsCallPosition shared nodes unit n (Some call) = HasPosition shared nodes unit n
 
 -- so it is of the first nodes
 abbrev pub EachCallPosition : ℕ → List Node → ℕ → List (Option CallPosition) → Type 0
-EachCallPosition shared nodes unit calls = (n : ℕ) (call : Option CallPosition) → slice_get calls n ≡ Some call
+EachCallPosition shared nodes unit calls = (n : ℕ) (call : Option CallPosition)
+    → slice_get calls n ≡ Some call
     → IsCallPosition shared nodes unit n call
 
 -- and of all nodes of the graph of the unit of this number
-pub record AreCallPositions (graph : GraphShape) (unit : ℕ) (calls : List (Option CallPosition)) : Type 0 where
+pub record AreCallPositions (graph : GraphShape) (unit : ℕ)
+    (calls : List (Option CallPosition)) : Type 0 where
   pub long : length calls ≡ length graph.nodes
   pub are : EachCallPosition graph.shared graph.nodes unit calls
 

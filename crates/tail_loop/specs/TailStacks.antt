@@ -36,7 +36,8 @@ use Rattle.flow_graph.specs.MemberLaws.{in_or_not, place_of_member}
 
 module _ (graph : GraphShape) (unit : ℕ) where
   -- all nodes stay but these calls
-  looped_kept : (calls : List ℕ) (nodes looped : List Node) → AreLooped graph unit calls nodes looped → (m : ℕ) → m < length nodes → (IsIn m calls → ⊥) → slice_get looped m ≡ slice_get nodes m
+  looped_kept : (calls : List ℕ) (nodes looped : List Node) → AreLooped graph unit calls nodes looped → (m : ℕ)
+      → m < length nodes → (IsIn m calls → ⊥) → slice_get looped m ≡ slice_get nodes m
   looped_kept [] nodes looped are m lt out = ap (λ l. slice_get l m) are
   looped_kept (n ∷ calls) nodes looped are m lt out =
       let puts = loop_assignments graph.shared (length graph.vars) graph.received are.0 in
@@ -57,7 +58,9 @@ module _ (graph : GraphShape) (unit : ℕ) where
   Apart (n ∷ calls) = (IsIn n calls → ⊥) × Apart calls
 
   -- the assignments of each of these calls stand in its place
-  looped_stands : (calls : List ℕ) (nodes looped : List Node) → Apart calls → ((n : ℕ) → IsIn n calls → n < length nodes) → AreLooped graph unit calls nodes looped → (n : ℕ) → IsIn n calls → Stands looped n
+  looped_stands : (calls : List ℕ) (nodes looped : List Node) → Apart calls
+      → ((n : ℕ) → IsIn n calls → n < length nodes) → AreLooped graph unit calls nodes looped → (n : ℕ) → IsIn n calls
+      → Stands looped n
   looped_stands [] nodes looped apart within are n there = absurd there
   looped_stands (m ∷ calls) nodes looped apart within are n (inl same) =
       let puts = loop_assignments graph.shared (length graph.vars) graph.received are.0 in
@@ -121,7 +124,7 @@ module _ (graphs looped : List GraphShape) (program : IsGraphProgram graphs) (lo
   Over (p ∷ ps) [] = Waits p × Over ps []
   Over (p ∷ ps) (q ∷ qs) = (SameCaller p q × Over ps qs) ⊎ (Waits p × Over ps (q ∷ qs))
 
-  -- one that waits more
+  -- one more caller that waits stands above where the rest does
   over_waits : (p : Caller) (ps qs : List Caller) → Waits p → Over ps qs → Over (p ∷ ps) qs
   over_waits p ps [] waits over = (waits, over)
   over_waits p ps (q ∷ qs) waits over = inr (waits, over)
@@ -155,13 +158,15 @@ module _ (graphs looped : List GraphShape) (program : IsGraphProgram graphs) (lo
   shared = shared_in graphs
 
   -- the globals that were handed back to one that waits are those that it hands back
-  globals_back : (answer : Answer) (x : ℕ) (values : Values) → length answer.globals ≡ shared → shared ≤ x → shared_values shared (with_value x answer.value (with_first answer.globals values)) ≡ answer.globals
+  globals_back : (answer : Answer) (x : ℕ) (values : Values) → length answer.globals ≡ shared → shared ≤ x
+      → shared_values shared (with_value x answer.value (with_first answer.globals values)) ≡ answer.globals
   globals_back answer x values long own =
       shared_equal shared shared (with_value x answer.value (with_first answer.globals values)) (with_first answer.globals values) (le_refl shared) (λ y lt. with_other x y answer.value (with_first answer.globals values) (λ same. omega (arith, same, lt, own)))
       ∙ first_shared shared answer.globals values long
 
   -- one that waits hands the answer on
-  waiting_returns : (answer : Answer) (p : Caller) (ps : List Caller) → length answer.globals ≡ shared → Waits p → (k : ℕ) × StepsLead codes k (returned answer (p ∷ ps)) (returned answer ps) [] 0 0
+  waiting_returns : (answer : Answer) (p : Caller) (ps : List Caller) → length answer.globals ≡ shared → Waits p
+      → (k : ℕ) × StepsLead codes k (returned answer (p ∷ ps)) (returned answer ps) [] 0 0
   waiting_returns answer p ps long waits =
       let graph = graph_numbered graphs p.unit in
       let alike : graph.shared ≡ shared = program.globals p.unit waits.there in
@@ -180,7 +185,8 @@ module _ (graphs looped : List GraphShape) (program : IsGraphProgram graphs) (lo
       )
 
   -- after one that waits
-  unwound_more : (answer : Answer) (p : Caller) (ps qs : List Caller) → length answer.globals ≡ shared → Waits p → Unwound answer ps qs → Unwound answer (p ∷ ps) qs
+  unwound_more : (answer : Answer) (p : Caller) (ps qs : List Caller) → length answer.globals ≡ shared → Waits p
+      → Unwound answer ps qs → Unwound answer (p ∷ ps) qs
   unwound_more answer p ps qs long waits u =
       let first = waiting_returns answer p ps long waits in
       record {
@@ -288,7 +294,8 @@ module _ (graphs looped : List GraphShape) (program : IsGraphProgram graphs) (lo
   -- ---- any step
 
   -- a node that stays
-  node_meets : (z u : ℕ) (f g : Frame) (ps qs : List Caller) (o : Option Node) → (lt : u < length graphs) → Over ps qs → AgreeIn u f g → slice_get (graph_numbered graphs u).nodes f.place ≡ o → (IsIn f.place (loops u lt).calls → ⊥)
+  node_meets : (z u : ℕ) (f g : Frame) (ps qs : List Caller) (o : Option Node) → (lt : u < length graphs) → Over ps qs
+      → AgreeIn u f g → slice_get (graph_numbered graphs u).nodes f.place ≡ o → (IsIn f.place (loops u lt).calls → ⊥)
       → MeetsAgain Related codes codes' z (record { unit = u; frame = f; callers = ps }) (record { unit = u; frame = g; callers = qs })
   node_meets z u f g ps qs None lt over agree here out = absurd (past (slice_get-get_or (graph_numbered graphs u).nodes f.place (Start 0) agree.within))
     where

@@ -26,7 +26,8 @@ pub record ReturnsNext (nodes : List Node) (n x : ℕ) : Type 0 where
 
 -- Node n calls the unit with these arguments, and then returns what it answers. Of the variables the first `shared` are
 -- globals, and the answer goes to none of them
-pub record IsTailCall (shared : ℕ) (nodes : List Node) (unit n : ℕ) (operands : List Operand) : Type 0 where
+pub record IsTailCall (shared : ℕ) (nodes : List Node) (unit n : ℕ)
+    (operands : List Operand) : Type 0 where
   pub into : ℕ
   pub next : ℕ
   pub is : slice_get nodes n ≡ Some (Call (Some into) unit operands next)
@@ -35,11 +36,13 @@ pub record IsTailCall (shared : ℕ) (nodes : List Node) (unit n : ℕ) (operand
 
 -- node n is a self tail call
 abbrev pub HasTailCall : ℕ → List Node → ℕ → ℕ → Type 0
-HasTailCall shared nodes unit n = (operands : List Operand) × IsTailCall shared nodes unit n operands
+HasTailCall shared nodes unit n = (operands : List Operand)
+    × IsTailCall shared nodes unit n operands
 
 -- these are the nodes that are such calls, in order of number
 pub record AreTailCalls (shared : ℕ) (nodes : List Node) (unit : ℕ) (calls : List ℕ) : Type 0 where
-  pub ordered : (i j m n : ℕ) → i < j → slice_get calls i ≡ Some m → slice_get calls j ≡ Some n → m < n
+  pub ordered : (i j m n : ℕ) → i < j → slice_get calls i ≡ Some m → slice_get calls j ≡ Some n
+      → m < n
   pub are : (n : ℕ) → IsIn n calls → HasTailCall shared nodes unit n
   pub all : (n : ℕ) → HasTailCall shared nodes unit n → IsIn n calls
 

@@ -19,7 +19,8 @@ pub record HasTemporaries (graph : GraphShape) (calls : List ℕ) (wide : GraphS
 
 -- the graph with these self tail calls as loops: what is made of the nodes with loops, of which the reached ones are
 -- kept
-pub record TailMade (graph : GraphShape) (unit : ℕ) (calls : List ℕ) (tailed : GraphShape) : Type 0 where
+pub record TailMade (graph : GraphShape) (unit : ℕ) (calls : List ℕ)
+    (tailed : GraphShape) : Type 0 where
   pub names : List (List ℕ)
   pub are_names : AreTemporaryNames graph.vars (temporaries graph calls) names
   pub nodes : List Node

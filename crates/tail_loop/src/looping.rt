@@ -11,7 +11,8 @@ use mir_base::{Memory, Operand};
 use program_pass::{Put, copied_nodes, marks_of, plain_put, stand, start_succ};
 use std::alloc::{AllocError, Global};
 
-/// The nodes, of which the self tail calls have given way to their assignments.
+/// The nodes of the graph, with its assignments in the place of each self tail call; new nodes have the next numbers. It
+/// fails only with `Memory`.
 pub(crate) fn looped(
     alloc: Global,
     graph: &Graph,
@@ -69,7 +70,7 @@ fn saved_operands(alloc: Global, operands: &[Operand], first: usize) -> Result<V
     Ok(puts)
 }
 
-/// The received variables get the variables from number `first` on.
+/// Adds assignments to the received variables, in order, of the variables from number `first` on.
 fn push_moved(puts: &mut Vec<Put>, first: usize, received: &[usize]) -> Result<(), Memory>
     ensures { OnOk result
         (insertions puts.new.items ≡ insertions puts.old.items ++ moved first received.now) }

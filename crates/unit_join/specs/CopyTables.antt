@@ -14,7 +14,8 @@ first_if_called leaves (u ∷ units) first unit =
     else first_if_called leaves units (first + leaf_vars (leaf_at leaves u)) unit
 
 -- the table has the copies of its leaves, in a graph with so many variables
-pub record HasCopyNumbers (leaves : List (Option GraphShape)) (vars : ℕ) (table : CopyTable) : Type 0 where
+pub record HasCopyNumbers (leaves : List (Option GraphShape)) (vars : ℕ)
+    (table : CopyTable) : Type 0 where
   pub long : length table.firsts.items ≡ length leaves
   pub firsts : (u : ℕ) → u < length leaves
       → slice_get table.firsts.items u ≡ Some (first_if_called leaves table.units.items vars u)

@@ -31,12 +31,14 @@ use Rattle.program_pass.specs.StoodLaws.{IsNew, below_append, stood_node}
 -- ---- variables in range
 
 -- an operand, a right side and a test with copies for their variables
-operand_below : (copy : ℕ → ℕ) (count all : ℕ) → ((x : ℕ) → x < count → copy x < all) → (a : Operand) → AllBelow count (operand_vars a) → AllBelow all (operand_vars (renamed_operand copy a))
+operand_below : (copy : ℕ → ℕ) (count all : ℕ) → ((x : ℕ) → x < count → copy x < all) → (a : Operand)
+    → AllBelow count (operand_vars a) → AllBelow all (operand_vars (renamed_operand copy a))
 operand_below copy count all low (Var x) below = (low x below.0, tt)
 operand_below copy count all low (Const c) below = tt
 
 -- a right side
-rhs_below : (copy : ℕ → ℕ) (count all : ℕ) → ((x : ℕ) → x < count → copy x < all) → (rhs : Rhs) → AllBelow count (rhs_vars rhs) → AllBelow all (rhs_vars (renamed_rhs copy rhs))
+rhs_below : (copy : ℕ → ℕ) (count all : ℕ) → ((x : ℕ) → x < count → copy x < all) → (rhs : Rhs)
+    → AllBelow count (rhs_vars rhs) → AllBelow all (rhs_vars (renamed_rhs copy rhs))
 rhs_below copy count all low (Plain a) below = operand_below copy count all low a below
 rhs_below copy count all low (Unary op a) below = operand_below copy count all low a below
 rhs_below copy count all low (Binary op a b) below =
@@ -44,7 +46,8 @@ rhs_below copy count all low (Binary op a b) below =
     (operand_below copy count all low b (all_below_right count (operand_vars a) (operand_vars b) below))
 
 -- a test
-test_below : (copy : ℕ → ℕ) (count all : ℕ) → ((x : ℕ) → x < count → copy x < all) → (test : Condition) → AllBelow count (test_vars test) → AllBelow all (test_vars (renamed_test copy test))
+test_below : (copy : ℕ → ℕ) (count all : ℕ) → ((x : ℕ) → x < count → copy x < all) → (test : Condition)
+    → AllBelow count (test_vars test) → AllBelow all (test_vars (renamed_test copy test))
 test_below copy count all low (Rel op a b) below =
     all_below_append all (operand_vars (renamed_operand copy a)) (operand_vars (renamed_operand copy b)) (operand_below copy count all low a (all_below_left count (operand_vars a) (operand_vars b) below))
     (operand_below copy count all low b (all_below_right count (operand_vars a) (operand_vars b) below))
@@ -52,14 +55,17 @@ test_below copy count all low (Holds a) below = operand_below copy count all low
 test_below copy count all low (Fails a) below = operand_below copy count all low a below
 
 -- the assignments of a call
-entered_below : (copy : ℕ → ℕ) (vars count all : ℕ) → vars ≤ all → ((x : ℕ) → x < count → copy x < all) → (received : List ℕ) (operands : List Operand) → AllBelow count received → AllBelow vars (flat_map operand_vars operands) → InsertionsBelow all (entered copy received operands)
+entered_below : (copy : ℕ → ℕ) (vars count all : ℕ) → vars ≤ all → ((x : ℕ) → x < count → copy x < all)
+    → (received : List ℕ) (operands : List Operand) → AllBelow count received
+    → AllBelow vars (flat_map operand_vars operands) → InsertionsBelow all (entered copy received operands)
 entered_below copy vars count all le low [] operands below read = tt
 entered_below copy vars count all le low (x ∷ received) [] below read = tt
 entered_below copy vars count all le low (x ∷ received) (a ∷ operands) below read =
     ((low x below.0, all_below_more vars all (operand_vars a) le (all_below_left vars (operand_vars a) (flat_map operand_vars operands) read)), entered_below copy vars count all le low received operands below.1 (all_below_right vars (operand_vars a) (flat_map operand_vars operands) read))
 
 -- those that become 0
-zeroed_below : (copy : ℕ → ℕ) (bound all : ℕ) → ((x : ℕ) → x < bound → copy x < all) → (received : List ℕ) (count y : ℕ) → y + count ≤ bound → InsertionsBelow all (zeroed copy received y count)
+zeroed_below : (copy : ℕ → ℕ) (bound all : ℕ) → ((x : ℕ) → x < bound → copy x < all)
+    → (received : List ℕ) (count y : ℕ) → y + count ≤ bound → InsertionsBelow all (zeroed copy received y count)
 zeroed_below copy bound all low received zero y room = tt
 zeroed_below copy bound all low received (suc count) y room =
     put_or_not (InsertionsBelow all) (is_in y received) (record { var = copy y; rhs = Plain (Const (pos 0)) }) (zeroed copy received (suc y) count)
@@ -83,7 +89,8 @@ module _ (vars all : ℕ) (copy : ℕ → ℕ) (leaf : GraphShape) (le : vars �
     no_start : (s : ℕ) → node ≡ Start s → ⊥
 
   -- one successor
-  only_one : (first last next to : ℕ) → (to ≡ next) ⊎ ((first ≤ to) × (to < last)) → (slot s : ℕ) → slice_get (to ∷ []) slot ≡ Some s → (s ≡ next) ⊎ ((first ≤ s) × (s < last))
+  only_one : (first last next to : ℕ) → (to ≡ next) ⊎ ((first ≤ to) × (to < last)) → (slot s : ℕ)
+      → slice_get (to ∷ []) slot ≡ Some s → (s ≡ next) ⊎ ((first ≤ s) × (s < last))
   only_one first last next to range zero s e = let same : to ≡ s = cc in subst (λ n. (n ≡ next) ⊎ ((first ≤ n) × (n < last))) same range
   only_one first last next to range (suc slot) s e = cc
 
@@ -92,11 +99,14 @@ module _ (vars all : ℕ) (copy : ℕ → ℕ) (leaf : GraphShape) (le : vars �
   place_within first m range = let ge = range.0 in let lt = range.1 in (omega arith, omega (arith, ge, lt))
 
   -- what a Return becomes
-  returned_is : (first last next : ℕ) (into : Option ℕ) (a : Operand) → AllBelow all (into_vars into) → AllBelow all (operand_vars a) → IsLeafNode first last next (returned_node into a next)
+  returned_is : (first last next : ℕ) (into : Option ℕ) (a : Operand) → AllBelow all (into_vars into)
+      → AllBelow all (operand_vars a) → IsLeafNode first last next (returned_node into a next)
   returned_is first last next None a into_below below = record { succs = λ slot s e. only_one first last next next (inl refl) slot s e; below = tt; call = refl; no_start = λ s e. cc }
   returned_is first last next (Some x) a into_below below = record { succs = λ slot s e. only_one first last next next (inl refl) slot s e; below = (into_below.0, below); call = refl; no_start = λ s e. cc }
 
-  leaf_node_is : (first next : ℕ) (into : Option ℕ) (node : Node) → AllBelow all (into_vars into) → ((slot s : ℕ) → slice_get (node_succs node) slot ≡ Some s → (1 ≤ s) × (s < length leaf.nodes)) → AllBelow (length leaf.vars) (node_vars node)
+  leaf_node_is : (first next : ℕ) (into : Option ℕ) (node : Node) → AllBelow all (into_vars into)
+      → ((slot s : ℕ) → slice_get (node_succs node) slot ≡ Some s → (1 ≤ s) × (s < length leaf.nodes))
+      → AllBelow (length leaf.vars) (node_vars node)
       → IsLeafNode first (first + (length leaf.nodes - 1)) next (leaf_node copy (leaf_place first) into next node)
   leaf_node_is first next into (Start succ) into_below succs below = record { succs = λ slot s e. only_one first (first + (length leaf.nodes - 1)) next (leaf_place first succ) (inr (place_within first succ (succs 0 succ refl))) slot s e; below = tt; call = refl; no_start = λ s e. cc }
   leaf_node_is first next into (Skip succ) into_below succs below = record { succs = λ slot s e. only_one first (first + (length leaf.nodes - 1)) next (leaf_place first succ) (inr (place_within first succ (succs 0 succ refl))) slot s e; below = tt; call = refl; no_start = λ s e. cc }
@@ -106,7 +116,8 @@ module _ (vars all : ℕ) (copy : ℕ → ℕ) (leaf : GraphShape) (le : vars �
   leaf_node_is first next into (Call into' unit operands succ) into_below succs below = record { succs = λ slot s e. only_one first (first + (length leaf.nodes - 1)) next (leaf_place first succ) (inr (place_within first succ (succs 0 succ refl))) slot s e; below = tt; call = refl; no_start = λ s e. cc }
   leaf_node_is first next into (Test test taken other) into_below succs below = record { succs = λ slot s e. two slot s e; below = test_below copy (length leaf.vars) all low test below; call = refl; no_start = λ s e. cc }
     where
-      two : (slot s : ℕ) → slice_get (leaf_place first taken ∷ leaf_place first other ∷ []) slot ≡ Some s → (s ≡ next) ⊎ ((first ≤ s) × (s < first + (length leaf.nodes - 1)))
+      two : (slot s : ℕ) → slice_get (leaf_place first taken ∷ leaf_place first other ∷ []) slot ≡ Some s
+          → (s ≡ next) ⊎ ((first ≤ s) × (s < first + (length leaf.nodes - 1)))
       two zero s e = let same : leaf_place first taken ≡ s = cc in inr (subst (λ n. (first ≤ n) × (n < first + (length leaf.nodes - 1))) same (place_within first taken (succs 0 taken refl)))
       two (suc zero) s e = let same : leaf_place first other ≡ s = cc in inr (subst (λ n. (first ≤ n) × (n < first + (length leaf.nodes - 1))) same (place_within first other (succs 1 other refl)))
       two (suc (suc slot)) s e = cc
@@ -124,7 +135,8 @@ in_back x (y ∷ xs) ys there = ap (λ b. nat_eq y x || b) (in_back x xs ys ther
     or_true false = refl
 
 -- what one item gives is among what all give
-in_flat : {A : Type 0} (f : A → List ℕ) (xs : List A) (n : ℕ) (item : A) (x : ℕ) → slice_get xs n ≡ Some item → is_in x (f item) ≡ true → is_in x (flat_map f xs) ≡ true
+in_flat : {A : Type 0} (f : A → List ℕ) (xs : List A) (n : ℕ) (item : A) (x : ℕ) → slice_get xs n ≡ Some item
+    → is_in x (f item) ≡ true → is_in x (flat_map f xs) ≡ true
 in_flat f [] n item x at there = cc
 in_flat f (y ∷ xs) zero item x at there = let same : y ≡ item = cc in is_in_first x (f y) (flat_map f xs) (ap (λ z. is_in x (f z)) same ∙ there)
 in_flat f (y ∷ xs) (suc n) item x at there = in_back x (f y) (flat_map f xs) (in_flat f xs n item x at there)
@@ -139,7 +151,9 @@ seen_all seen [] x there = cc
 seen_all seen (y ∷ ys) x there = chosen (is_in y seen) refl (nat_eq y x) refl there
     (λ within. seen_all seen ys x within) (λ within. seen_all (seen ++ y ∷ []) ys x within)
   where
-    chosen : (b : Bool) → is_in y seen ≡ b → (c : Bool) → nat_eq y x ≡ c → nat_eq y x || is_in x ys ≡ true → (is_in x ys ≡ true → is_in x (seen_after seen ys) ≡ true) → (is_in x ys ≡ true → is_in x (seen_after (seen ++ y ∷ []) ys) ≡ true)
+    chosen : (b : Bool) → is_in y seen ≡ b → (c : Bool) → nat_eq y x ≡ c → nat_eq y x || is_in x ys ≡ true
+        → (is_in x ys ≡ true → is_in x (seen_after seen ys) ≡ true)
+        → (is_in x ys ≡ true → is_in x (seen_after (seen ++ y ∷ []) ys) ≡ true)
         → is_in x (if b then seen_after seen ys else seen_after (seen ++ y ∷ []) ys) ≡ true
     chosen true b_is true c_is e old new = let same : y ≡ x = eqb-true y x c_is in seen_stays seen ys x (ap (λ z. is_in z seen) (sym same) ∙ b_is)
     chosen true b_is false c_is e old new = old (sym (ap (λ c. c || is_in x ys) c_is) ∙ e)
@@ -152,11 +166,13 @@ called_in leaves nodes n c = seen_all [] (flat_map (leaf_called leaves) nodes) c
     (in_flat (leaf_called leaves) nodes n (Call c.into c.unit c.operands c.next) c.unit c.is (ap (λ o. is_in c.unit (if_leaf c.unit o)) c.leaf_is ∙ ap (λ b. b || false) (eq-eqb c.unit c.unit refl)))
 
 -- the copies of a unit that is called are among all copies
-copies_low : (leaves : List (Option GraphShape)) (units : List ℕ) (first unit : ℕ) → is_in unit units ≡ true → first_copy leaves units first unit + leaf_vars (leaf_at leaves unit) ≤ first + copies leaves units
+copies_low : (leaves : List (Option GraphShape)) (units : List ℕ) (first unit : ℕ) → is_in unit units ≡ true
+    → first_copy leaves units first unit + leaf_vars (leaf_at leaves unit) ≤ first + copies leaves units
 copies_low leaves [] first unit there = cc
 copies_low leaves (u ∷ units) first unit there = chosen (nat_eq u unit) refl there (λ within. copies_low leaves units (first + leaf_vars (leaf_at leaves u)) unit within)
   where
-    chosen : (b : Bool) → nat_eq u unit ≡ b → nat_eq u unit || is_in unit units ≡ true → (is_in unit units ≡ true → first_copy leaves units (first + leaf_vars (leaf_at leaves u)) unit + leaf_vars (leaf_at leaves unit) ≤ (first + leaf_vars (leaf_at leaves u)) + copies leaves units)
+    chosen : (b : Bool) → nat_eq u unit ≡ b → nat_eq u unit || is_in unit units ≡ true
+        → (is_in unit units ≡ true → first_copy leaves units (first + leaf_vars (leaf_at leaves u)) unit + leaf_vars (leaf_at leaves unit) ≤ (first + leaf_vars (leaf_at leaves u)) + copies leaves units)
         → (if b then first else first_copy leaves units (first + leaf_vars (leaf_at leaves u)) unit) + leaf_vars (leaf_at leaves unit) ≤ first + (leaf_vars (leaf_at leaves u) + copies leaves units)
     chosen true is e rest = let same : leaf_vars (leaf_at leaves u) ≡ leaf_vars (leaf_at leaves unit) = ap (λ z. leaf_vars (leaf_at leaves z)) (eqb-true u unit is) in omega (arith, same)
     chosen false is e rest = let le = rest (sym (ap (λ c. c || is_in unit units) is) ∙ e) in omega (arith, le)
@@ -175,7 +191,8 @@ module _ (leaves : List (Option GraphShape)) (graph : GraphShape) (names : List 
   vars_le = omega (arith, length-append graph.vars names)
 
   -- and so are the copies of a leaf that is called
-  copy_low : (n : ℕ) (c : IsLeafCall leaves graph.nodes n) (x : ℕ) → x < length c.leaf.vars → copy_in graph.shared leaves units (length graph.vars) c.unit x < length all_vars
+  copy_low : (n : ℕ) (c : IsLeafCall leaves graph.nodes n) (x : ℕ) → x < length c.leaf.vars
+      → copy_in graph.shared leaves units (length graph.vars) c.unit x < length all_vars
   copy_low n c x lt = elim (cases_lt x graph.shared) [
     | inl global ↦
         let is = copy_global graph.shared (first_copy leaves units (length graph.vars) c.unit) x global in
@@ -189,7 +206,8 @@ module _ (leaves : List (Option GraphShape)) (graph : GraphShape) (names : List 
   ]
 
   -- the assignments of a call are in range
-  call_below : (n : ℕ) (c : IsLeafCall leaves graph.nodes n) → InsertionsBelow (length all_vars) (entry_assignments (copy_in graph.shared leaves units (length graph.vars) c.unit) c.leaf c.operands)
+  call_below : (n : ℕ) (c : IsLeafCall leaves graph.nodes n)
+      → InsertionsBelow (length all_vars) (entry_assignments (copy_in graph.shared leaves units (length graph.vars) c.unit) c.leaf c.operands)
   call_below n c =
       entry_below (length graph.vars) (length all_vars) (copy_in graph.shared leaves units (length graph.vars) c.unit) c.leaf vars_le (copy_low n c) (leaves_can c.unit c.leaf c.leaf_is).0 (leaves_can c.unit c.leaf c.leaf_is).1.count c.operands
       (all_below_right (length graph.vars) (into_vars c.into) (flat_map operand_vars c.operands) (can.below n (Call c.into c.unit c.operands c.next) c.is))
@@ -256,7 +274,8 @@ module _ (leaves : List (Option GraphShape)) (graph : GraphShape) (names : List 
         (omega arith, omega (arith, is, ge, lt'))
 
     -- a graph can be made of them
-    with_leaf_can : length graph.nodes ≤ length nodes → CanMake all_vars graph.received nodes → CanMake all_vars graph.received (with_leaf leaves units graph nodes n c)
+    with_leaf_can : length graph.nodes ≤ length nodes → CanMake all_vars graph.received nodes
+        → CanMake all_vars graph.received (with_leaf leaves units graph nodes n c)
     with_leaf_can le made =
         let later = call_later n c in
         record {
@@ -272,7 +291,8 @@ module _ (leaves : List (Option GraphShape)) (graph : GraphShape) (names : List 
           names = made.names;
         }
       where
-        succs_at : (m slot s : ℕ) (o : Option Node) → slice_get (with_leaf leaves units graph nodes n c) m ≡ o → slice_get (succs_of o) slot ≡ Some s → (1 ≤ s) × (s < length (with_leaf leaves units graph nodes n c))
+        succs_at : (m slot s : ℕ) (o : Option Node) → slice_get (with_leaf leaves units graph nodes n c) m ≡ o
+            → slice_get (succs_of o) slot ≡ Some s → (1 ≤ s) × (s < length (with_leaf leaves units graph nodes n c))
         succs_at m slot s None e edge = cc
         succs_at m slot s (Some node) e edge =
             let total = all_long in
@@ -308,15 +328,19 @@ module _ (leaves : List (Option GraphShape)) (graph : GraphShape) (names : List 
         none_is_some e = cc
 
   -- a graph can be made of the nodes with leaves, by one after the other
-  pub joined_can : (calls : List ℕ) (nodes joined : List Node) → length graph.nodes ≤ length nodes → CanMake all_vars graph.received nodes → LeavesAreJoined leaves units graph calls nodes joined → CanMake all_vars graph.received joined
+  pub joined_can : (calls : List ℕ) (nodes joined : List Node) → length graph.nodes ≤ length nodes
+      → CanMake all_vars graph.received nodes → LeavesAreJoined leaves units graph calls nodes joined
+      → CanMake all_vars graph.received joined
   joined_can [] nodes joined le made are = subst (CanMake all_vars graph.received) (sym are) made
   joined_can (n ∷ calls) nodes joined le made are =
       let there = slice_get_within graph.nodes n (Call are.0.into are.0.unit are.0.operands are.0.next) are.0.is in
       let lt : n < length nodes = omega (arith, there, le) in
       joined_can calls (with_leaf leaves units graph nodes n are.0) joined (omega (arith, le, with_leaf_long leaves units graph nodes n are.0)) (with_leaf_can nodes n are.0 lt le made) are.1
 
-  -- and they make no calls but those of the graph
-  pub joined_calls : (calls : List ℕ) (nodes joined : List Node) → length graph.nodes ≤ length nodes → LeavesAreJoined leaves units graph calls nodes joined → (called count : ℕ) → NodesCall joined called count → NodesCall nodes called count
+  -- nodes with leaves in the places of calls make no calls but those of the graph
+  pub joined_calls : (calls : List ℕ) (nodes joined : List Node) → length graph.nodes ≤ length nodes
+      → LeavesAreJoined leaves units graph calls nodes joined → (called count : ℕ) → NodesCall joined called count
+      → NodesCall nodes called count
   joined_calls [] nodes joined le are called count c = subst (λ l. NodesCall l called count) are c
   joined_calls (n ∷ calls) nodes joined le are called count c =
       let there = slice_get_within graph.nodes n (Call are.0.into are.0.unit are.0.operands are.0.next) are.0.is in

@@ -27,7 +27,8 @@ leaf_calls_one : (leaves : List (Option GraphShape)) (nodes : List Node) (a b : 
 leaf_calls_one leaves nodes a b p q = members_same a b p.ordered q.ordered (λ n is. q.all n (p.are n is)) (λ n is. p.all n (q.are n is))
 
 -- what a node calls is one leaf, with one list of arguments
-by_one : (leaves : List (Option GraphShape)) (units : List ℕ) (graph : GraphShape) (nodes : List Node) (n : ℕ) (p q : IsLeafCall leaves graph.nodes n) → joined_by leaves units graph nodes n p ≡ joined_by leaves units graph nodes n q
+by_one : (leaves : List (Option GraphShape)) (units : List ℕ) (graph : GraphShape) (nodes : List Node) (n : ℕ) (p q : IsLeafCall leaves graph.nodes n)
+    → joined_by leaves units graph nodes n p ≡ joined_by leaves units graph nodes n q
 by_one leaves units graph nodes n p q = unit_same p.into q.into p.unit q.unit p.operands q.operands p.next q.next p.leaf q.leaf into unit operands next leaf
   where
     both : Some (Call p.into p.unit p.operands p.next) ≡ Some (Call q.into q.unit q.operands q.next)
@@ -51,12 +52,14 @@ by_one leaves units graph nodes n p q = unit_same p.into q.into p.unit q.unit p.
     nodes_of : Option ℕ → ℕ → List Operand → ℕ → GraphShape → List Node
     nodes_of i u o s l = nodes_with_leaf nodes n (copy_in graph.shared leaves units (length graph.vars) u) l i o s
 
-    unit_same : (i i' : Option ℕ) (u u' : ℕ) (o o' : List Operand) (s s' : ℕ) (l l' : GraphShape) → i ≡ i' → u ≡ u' → o ≡ o' → s ≡ s' → l ≡ l' → nodes_of i u o s l ≡ nodes_of i' u' o' s' l'
+    unit_same : (i i' : Option ℕ) (u u' : ℕ) (o o' : List Operand) (s s' : ℕ) (l l' : GraphShape) → i ≡ i' → u ≡ u'
+        → o ≡ o' → s ≡ s' → l ≡ l' → nodes_of i u o s l ≡ nodes_of i' u' o' s' l'
     unit_same i i' u u' o o' s s' l l' a b c d e =
         ap (λ x. nodes_of x u o s l) a ∙ ap (λ x. nodes_of i' x o s l) b ∙ ap (λ x. nodes_of i' u' x s l) c ∙ ap (λ x. nodes_of i' u' o' x l) d ∙ ap (nodes_of i' u' o' s') e
 
 -- so the calls give way to one list of nodes
-leaves_joined_one : (leaves : List (Option GraphShape)) (units : List ℕ) (graph : GraphShape) (calls : List ℕ) (nodes a b : List Node) → LeavesAreJoined leaves units graph calls nodes a → LeavesAreJoined leaves units graph calls nodes b → a ≡ b
+leaves_joined_one : (leaves : List (Option GraphShape)) (units : List ℕ) (graph : GraphShape) (calls : List ℕ) (nodes a b : List Node)
+    → LeavesAreJoined leaves units graph calls nodes a → LeavesAreJoined leaves units graph calls nodes b → a ≡ b
 leaves_joined_one leaves units graph [] nodes a b p q = p ∙ sym q
 leaves_joined_one leaves units graph (n ∷ calls) nodes a b p q =
     leaves_joined_one leaves units graph calls (joined_by leaves units graph nodes n q.0) a b
@@ -79,7 +82,8 @@ unit_one graph a b p q =
     layout_is_one p.swept a b p.is_laid (subst (λ g. IsLayout g b) (sym swept) q.is_laid)
 
 -- so a graph has one result
-pub joined_one : (leaves : List (Option GraphShape)) (unit : ℕ) (graph a b : GraphShape) → LeavesJoined leaves unit graph a → LeavesJoined leaves unit graph b → a ≡ b
+pub joined_one : (leaves : List (Option GraphShape)) (unit : ℕ) (graph a b : GraphShape)
+    → LeavesJoined leaves unit graph a → LeavesJoined leaves unit graph b → a ≡ b
 joined_one leaves unit graph a b p q =
     let joined : p.joined ≡ q.joined = graph_joined_one leaves graph p.joined q.joined p.joins q.joins in
     let laid : p.unit ≡ q.unit = unit_one p.joined p.unit q.unit p.laid (subst (λ g. IsLaidOut g q.unit) (sym joined) q.laid) in
@@ -105,7 +109,10 @@ leaves_one units a b p q = places_same a b (p.long ∙ sym q.long) (λ u x y at 
 -- ---- one program
 
 -- a joined program that was made is the only one
-pub joined_program_one : (leaves : List (Option GraphShape)) (source target other : ProgramShape) → target.globals ≡ source.globals → AreLeavesMade source.units leaves → AllPassed (LeavesJoined leaves) (JoinedBetween leaves) source.units target.units → IsJoinedProgram source other → target ≡ other
+pub joined_program_one : (leaves : List (Option GraphShape)) (source target other : ProgramShape)
+    → target.globals ≡ source.globals → AreLeavesMade source.units leaves
+    → AllPassed (LeavesJoined leaves) (JoinedBetween leaves) source.units target.units → IsJoinedProgram source other
+    → target ≡ other
 joined_program_one leaves source target other globals made passed is =
     let same : leaves ≡ is.leaves = leaves_one source.units leaves is.leaves made is.are_leaves in
     program_one (LeavesJoined leaves) (JoinedBetween leaves) (joined_one leaves) source target other globals passed (subst (λ l. IsPassedProgram (LeavesJoined l) source other) (sym same) is.passed)

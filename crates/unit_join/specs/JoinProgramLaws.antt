@@ -47,7 +47,8 @@ record HasLeaf (units : List UnitShape) (leaf : GraphShape) (u : ℕ) : Type 0 w
   made : LeafMade unit (Some leaf)
 
 -- each leaf has these
-has_leaf : (units : List UnitShape) (leaves : List (Option GraphShape)) → AreLeavesMade units leaves → (u : ℕ) (leaf : GraphShape) → leaf_at leaves u ≡ Some leaf → HasLeaf units leaf u
+has_leaf : (units : List UnitShape) (leaves : List (Option GraphShape)) → AreLeavesMade units leaves
+    → (u : ℕ) (leaf : GraphShape) → leaf_at leaves u ≡ Some leaf → HasLeaf units leaf u
 has_leaf units leaves are u leaf is =
     let entry = entry_at leaves u leaf is in
     let within = slice_get_within leaves u (Some leaf) entry in
@@ -61,7 +62,8 @@ no_leaf_calls units leaves are u leaf called count is c =
     has.made.0.no_calls called count (has.made.2.keeps.calls called count c)
 
 -- the globals of a program are those of each leaf
-pub leaves_share : (globals : List (List ℕ)) (units : List UnitShape) (leaves : List (Option GraphShape)) (shared : ℕ) → IsProgram globals units → shared ≡ length globals → AreLeavesMade units leaves → LeavesShare leaves shared
+pub leaves_share : (globals : List (List ℕ)) (units : List UnitShape) (leaves : List (Option GraphShape)) (shared : ℕ)
+    → IsProgram globals units → shared ≡ length globals → AreLeavesMade units leaves → LeavesShare leaves shared
 leaves_share globals units leaves shared program count are u leaf is =
     let has = has_leaf units leaves are u leaf is in
     sym has.made.2.keeps.same.shared ∙ (program.shares u has.unit has.unit_at).count ∙ sym count
@@ -75,7 +77,9 @@ leaves_of units leaves are = record { long = are.long; are = λ u unit entry at 
     exact unit (Some leaf) made = (made.0, made.1, made.2.is_lowered, made.2.is_cleaned)
 
 -- one more entry
-pub each_leaf : (units : List UnitShape) (leaves leaves' : List (Option GraphShape)) (number : ℕ) (unit : UnitShape) (entry : Option GraphShape) → length leaves ≡ number → EachLeaf units leaves → slice_get units number ≡ Some unit → LeafMade unit entry → leaves' ≡ leaves ++ entry ∷ [] → EachLeaf units leaves'
+pub each_leaf : (units : List UnitShape) (leaves leaves' : List (Option GraphShape)) (number : ℕ) (unit : UnitShape) (entry : Option GraphShape)
+    → length leaves ≡ number → EachLeaf units leaves → slice_get units number ≡ Some unit → LeafMade unit entry
+    → leaves' ≡ leaves ++ entry ∷ [] → EachLeaf units leaves'
 each_leaf units leaves leaves' number unit entry long each unit_at made is u other e at at' = elim (get_push leaves entry e u (sym (ap (λ l. slice_get l u) is) ∙ at')) [
   | inl old ↦ each u other e at old
   | inr last ↦
@@ -86,11 +90,14 @@ each_leaf units leaves leaves' number unit entry long each unit_at made is u oth
 ]
 
 -- and their number
-pub leaves_more : (leaves leaves' : List (Option GraphShape)) (number : ℕ) (entry : Option GraphShape) → length leaves ≡ number → leaves' ≡ leaves ++ entry ∷ [] → length leaves' ≡ number + 1
+pub leaves_more : (leaves leaves' : List (Option GraphShape)) (number : ℕ) (entry : Option GraphShape)
+    → length leaves ≡ number → leaves' ≡ leaves ++ entry ∷ [] → length leaves' ≡ number + 1
 leaves_more leaves leaves' number entry long is = ap (λ l. length l) is ∙ length_push leaves entry ∙ ap (λ n. n + 1) long
 
 -- the calls of leaves hand over what these receive
-pub leaf_calls_fit : (units : List UnitShape) (leaves : List (Option GraphShape)) (unit : UnitShape) (lowered cleaned : GraphShape) → AreLeavesMade units leaves → BodyFits units unit.body → LoweredClean unit lowered cleaned → LeafCallsFit leaves cleaned.nodes
+pub leaf_calls_fit : (units : List UnitShape) (leaves : List (Option GraphShape)) (unit : UnitShape) (lowered cleaned : GraphShape)
+    → AreLeavesMade units leaves → BodyFits units unit.body → LoweredClean unit lowered cleaned
+    → LeafCallsFit leaves cleaned.nodes
 leaf_calls_fit units leaves unit lowered cleaned are fits front n c =
     let fit = called_fits units unit.body c.unit (length c.operands) fits (front.keeps.calls c.unit (length c.operands) (record { number = n; node = Call c.into c.unit c.operands c.next; here = c.is; calls = refl })) in
     let has = has_leaf units leaves are c.unit c.leaf c.leaf_is in
@@ -137,7 +144,10 @@ module _ (graph : GraphShape) (leaves : List (Option GraphShape)) (calls : List 
       (joined_can leaves graph w.names can leaves_can w.are_names.long least share calls graph.nodes nodes (le_refl (length graph.nodes)) (wide_can graph.vars w.names graph.received graph.nodes can w.differ) joined)
 
   -- and this graph does the same as they
-  pub join_made : (made : GraphShape) → IsMade wide.name wide.shared wide.vars wide.received nodes made → UnitSame (graph_machine wide.shared wide.received nodes) (machine_of made) → UnitCheaper (graph_machine wide.shared wide.received nodes) (machine_of made) → CallsAmong (NodesCall made.nodes) (NodesCall nodes) → JoinMade graph leaves calls made
+  pub join_made : (made : GraphShape) → IsMade wide.name wide.shared wide.vars wide.received nodes made
+      → UnitSame (graph_machine wide.shared wide.received nodes) (machine_of made)
+      → UnitCheaper (graph_machine wide.shared wide.received nodes) (machine_of made)
+      → CallsAmong (NodesCall made.nodes) (NodesCall nodes) → JoinMade graph leaves calls made
   join_made made is same cheaper among = record {
     names = w.names;
     are_names = w.are_names;
@@ -151,11 +161,14 @@ module _ (graph : GraphShape) (leaves : List (Option GraphShape)) (calls : List 
   }
 
 -- the exact graph
-pub is_joined : (graph : GraphShape) (leaves : List (Option GraphShape)) (calls : List ℕ) (joined : GraphShape) → AreLeafCalls leaves graph.nodes calls → JoinMade graph leaves calls joined → IsJoined graph leaves joined
+pub is_joined : (graph : GraphShape) (leaves : List (Option GraphShape)) (calls : List ℕ) (joined : GraphShape)
+    → AreLeafCalls leaves graph.nodes calls → JoinMade graph leaves calls joined → IsJoined graph leaves joined
 is_joined graph leaves calls joined are m = record { calls = calls; are_calls = are; names = m.names; are_names = m.are_names; nodes = m.nodes; are_joined = m.are_joined; made = m.made }
 
 -- and what it keeps
-pub keeps_joins : (graph : GraphShape) (leaves : List (Option GraphShape)) (calls : List ℕ) (joined : GraphShape) → graph.shared ≤ length graph.vars → AreLeafCalls leaves graph.nodes calls → JoinMade graph leaves calls joined → PassKeeps (JoinsLeaves leaves) graph joined
+pub keeps_joins : (graph : GraphShape) (leaves : List (Option GraphShape)) (calls : List ℕ) (joined : GraphShape)
+    → graph.shared ≤ length graph.vars → AreLeafCalls leaves graph.nodes calls → JoinMade graph leaves calls joined
+    → PassKeeps (JoinsLeaves leaves) graph joined
 keeps_joins graph leaves calls joined least are m = record {
   name = m.made.name_is;
   globals = globals_stay graph.shared graph.vars m.names joined least m.made.shared_is m.made.vars_are;

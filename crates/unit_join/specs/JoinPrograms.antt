@@ -16,11 +16,13 @@ use Rattle.unit_join.specs.Joins.{AreLeavesOf, IsJoinedIfShort, IsLeafUnit, Join
 -- the entry of a unit: the graph of a leaf, which keeps it, and none of any other
 abbrev pub LeafMade : UnitShape → Option GraphShape → Type 0
 LeafMade unit None = IsLeafUnit unit → ⊥
-LeafMade unit (Some leaf) = IsLeafUnit unit × (lowered : GraphShape) × LoweredClean unit lowered leaf
+LeafMade unit (Some leaf) = IsLeafUnit unit × (lowered : GraphShape)
+    × LoweredClean unit lowered leaf
 
 -- those of the first units of a program
 abbrev pub EachLeaf : List UnitShape → List (Option GraphShape) → Type 0
-EachLeaf units leaves = (u : ℕ) (unit : UnitShape) (entry : Option GraphShape) → slice_get units u ≡ Some unit
+EachLeaf units leaves = (u : ℕ) (unit : UnitShape) (entry : Option GraphShape)
+    → slice_get units u ≡ Some unit
     → slice_get leaves u ≡ Some entry → LeafMade unit entry
 
 -- the leaves of a program, with what they keep
@@ -29,7 +31,8 @@ pub record AreLeavesMade (units : List UnitShape) (leaves : List (Option GraphSh
   pub are : EachLeaf units leaves
 
 -- the graph with the copies of the variables of the leaves that it calls after its own
-pub record HasLeafCopies (graph : GraphShape) (leaves : List (Option GraphShape)) (wide : GraphShape) : Type 0 where
+pub record HasLeafCopies (graph : GraphShape) (leaves : List (Option GraphShape))
+    (wide : GraphShape) : Type 0 where
   pub names : List (List ℕ)
   pub are_names : AreTemporaryNames graph.vars (copies leaves (called_leaves leaves graph.nodes)) names
   pub differ : AllDiffer (graph.vars ++ names)
@@ -49,7 +52,8 @@ pub record JoinMade (graph : GraphShape) (leaves : List (Option GraphShape)) (at
   pub joined_calls : CallsAmong (NodesCall joined.nodes) (NodesCall nodes)
 
 -- the unit of a graph with the leaves that it calls joined into it, or of the graph itself
-pub record JoinedLaid (leaves : List (Option GraphShape)) (graph : GraphShape) (unit : UnitShape) : Type 0 where
+pub record JoinedLaid (leaves : List (Option GraphShape)) (graph : GraphShape)
+    (unit : UnitShape) : Type 0 where
   pub passed : GraphShape
   pub is : IsJoinedIfShort graph leaves passed
   pub keeps : PassKeeps (JoinsLeaves leaves) graph passed

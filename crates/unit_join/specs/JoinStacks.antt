@@ -168,11 +168,13 @@ module _ (graphs joined : List GraphShape) (leaves : List (Option GraphShape)) (
   leaf_alike : (u n : ℕ) → Exists u → (call : IsLeafCall leaves (graph_numbered graphs u).nodes n) → call.leaf.shared ≡ (graph_numbered graphs u).shared
   leaf_alike u n lt call = sym (ap (λ (g : GraphShape). g.shared) (leaf_is u n call)) ∙ program.globals call.unit (leaf_exists u n call) ∙ sym (program.globals u lt)
 
-  leaf_code : (u n : ℕ) (call : IsLeafCall leaves (graph_numbered graphs u).nodes n) (f : Frame) → codes call.unit f ≡ graph_code call.leaf.shared call.leaf.received call.leaf.nodes f
+  leaf_code : (u n : ℕ) (call : IsLeafCall leaves (graph_numbered graphs u).nodes n) (f : Frame)
+      → codes call.unit f ≡ graph_code call.leaf.shared call.leaf.received call.leaf.nodes f
   leaf_code u n call f = ap (λ (g : GraphShape). graph_code g.shared g.received g.nodes f) (leaf_is u n call)
 
   -- where a call of a leaf leads
-  call_next : (u n : ℕ) → Exists u → (call : IsLeafCall leaves (graph_numbered graphs u).nodes n) → (1 ≤ call.next) × (call.next < length (graph_numbered graphs u).nodes)
+  call_next : (u n : ℕ) → Exists u → (call : IsLeafCall leaves (graph_numbered graphs u).nodes n)
+      → (1 ≤ call.next) × (call.next < length (graph_numbered graphs u).nodes)
   call_next u n lt call = (program.are u lt).succs n 0 call.next (ap (λ o. slice_get (succs_of o) 0) call.is)
 
   -- the call and the receives of the leaf's frame stand for the assignments
@@ -252,7 +254,8 @@ module _ (graphs joined : List GraphShape) (leaves : List (Option GraphShape)) (
 
   -- ---- a node that stays
 
-  node_meets : (z u : ℕ) (f g : Frame) (ps qs : List Caller) (o : Option Node) → (lt : Exists u) → SameCallers ps qs → AgreeIn u f g → slice_get (graph_numbered graphs u).nodes f.place ≡ o → (IsIn f.place (joins u lt).calls → ⊥)
+  node_meets : (z u : ℕ) (f g : Frame) (ps qs : List Caller) (o : Option Node) → (lt : Exists u) → SameCallers ps qs
+      → AgreeIn u f g → slice_get (graph_numbered graphs u).nodes f.place ≡ o → (IsIn f.place (joins u lt).calls → ⊥)
       → MeetsAgain Related codes codes' z (record { unit = u; frame = f; callers = ps }) (record { unit = u; frame = g; callers = qs })
   node_meets z u f g ps qs None lt same agree here out = absurd (past (slice_get-get_or (graph_numbered graphs u).nodes f.place (Start 0) agree.within))
     where
@@ -278,7 +281,9 @@ module _ (graphs joined : List GraphShape) (leaves : List (Option GraphShape)) (
   -- ---- both sides go on from within a leaf
 
   -- one step of each that shows the same
-  one_each : (z u u' : ℕ) (f g : Frame) (ps qs : List Caller) (to to' : Control) (prints : List ℤ) (n : ℕ) → StepsLead codes 1 (Running u f ps) to prints n 0 → StepsLead codes' 1 (Running u' g qs) to' prints n 0 → Abreast Related 0 to to'
+  one_each : (z u u' : ℕ) (f g : Frame) (ps qs : List Caller) (to to' : Control) (prints : List ℤ) (n : ℕ)
+      → StepsLead codes 1 (Running u f ps) to prints n 0 → StepsLead codes' 1 (Running u' g qs) to' prints n 0
+      → Abreast Related 0 to to'
       → MeetsAgain Related codes codes' z (record { unit = u; frame = f; callers = ps }) (record { unit = u'; frame = g; callers = qs })
   one_each z u u' f g ps qs to to' prints n leads leads' abreast = record {
     steps = 1;
@@ -301,19 +306,25 @@ module _ (graphs joined : List GraphShape) (leaves : List (Option GraphShape)) (
   }
 
   -- a silent step of each
-  both_go_on : (z u u' : ℕ) (f g : Frame) (ps qs : List Caller) (n : ℕ) (next next' : Frame) → codes u f ≡ Continues n next → codes' u' g ≡ Continues n next' → Related 0 (record { unit = u; frame = next; callers = ps }) (record { unit = u'; frame = next'; callers = qs })
+  both_go_on : (z u u' : ℕ) (f g : Frame) (ps qs : List Caller) (n : ℕ) (next next' : Frame)
+      → codes u f ≡ Continues n next → codes' u' g ≡ Continues n next'
+      → Related 0 (record { unit = u; frame = next; callers = ps }) (record { unit = u'; frame = next'; callers = qs })
       → MeetsAgain Related codes codes' z (record { unit = u; frame = f; callers = ps }) (record { unit = u'; frame = g; callers = qs })
   both_go_on z u u' f g ps qs n next next' is is' related =
       one_each z u u' f g ps qs (Running u next ps) (Running u' next' qs) [] n (leads_step codes u f ps (Continues n next) is) (leads_step codes' u' g qs (Continues n next') is') related
 
   -- a print of each
-  both_print : (z u u' : ℕ) (f g : Frame) (ps qs : List Caller) (v : ℤ) (next next' : Frame) → codes u f ≡ Prints v next → codes' u' g ≡ Prints v next' → Related 0 (record { unit = u; frame = next; callers = ps }) (record { unit = u'; frame = next'; callers = qs })
+  both_print : (z u u' : ℕ) (f g : Frame) (ps qs : List Caller) (v : ℤ) (next next' : Frame)
+      → codes u f ≡ Prints v next → codes' u' g ≡ Prints v next'
+      → Related 0 (record { unit = u; frame = next; callers = ps }) (record { unit = u'; frame = next'; callers = qs })
       → MeetsAgain Related codes codes' z (record { unit = u; frame = f; callers = ps }) (record { unit = u'; frame = g; callers = qs })
   both_print z u u' f g ps qs v next next' is is' related =
       one_each z u u' f g ps qs (Running u next ps) (Running u' next' qs) (v ∷ []) 0 (leads_step codes u f ps (Prints v next) is) (leads_step codes' u' g qs (Prints v next') is') related
 
   -- a trap of each
-  both_trap : (z u u' : ℕ) (f g : Frame) (ps qs : List Caller) (kind : Trap) (n : ℕ) → codes u f ≡ Traps kind n → codes' u' g ≡ Traps kind n → MeetsAgain Related codes codes' z (record { unit = u; frame = f; callers = ps }) (record { unit = u'; frame = g; callers = qs })
+  both_trap : (z u u' : ℕ) (f g : Frame) (ps qs : List Caller) (kind : Trap) (n : ℕ) → codes u f ≡ Traps kind n
+      → codes' u' g ≡ Traps kind n
+      → MeetsAgain Related codes codes' z (record { unit = u; frame = f; callers = ps }) (record { unit = u'; frame = g; callers = qs })
   both_trap z u u' f g ps qs kind n is is' =
       one_each z u u' f g ps qs (Stopped kind) (Stopped kind) [] n (leads_step codes u f ps (Traps kind n) is) (leads_step codes' u' g qs (Traps kind n) is') refl
 
@@ -345,15 +356,20 @@ module _ (graphs joined : List GraphShape) (leaves : List (Option GraphShape)) (
     first_does : (node : Node) → slice_get leaf.nodes f.place ≡ Some node → codes v f ≡ node_transition leaf.shared leaf.received (Some node) f
     first_does node here = ap (λ u. codes u f) i.is_unit ∙ leaf_code p.unit i.n i.leaf.call f ∙ ap (λ o. node_transition leaf.shared leaf.received o f) here
 
-    second_does : (node : Node) → slice_get leaf.nodes f.place ≡ Some node → codes' p.unit g ≡ node_transition (graph_numbered joined p.unit).shared (graph_numbered joined p.unit).received (Some (leaf_node to place i.leaf.call.into i.leaf.call.next node)) g
+    second_does : (node : Node) → slice_get leaf.nodes f.place ≡ Some node
+        → codes' p.unit g ≡ node_transition (graph_numbered joined p.unit).shared (graph_numbered joined p.unit).received (Some (leaf_node to place i.leaf.call.into i.leaf.call.next node)) g
     second_does node here = ap (λ o. node_transition (graph_numbered joined p.unit).shared (graph_numbered joined p.unit).received o g) (ap (slice_get (graph_numbered joined p.unit).nodes) i.place ∙ i.leaf.nodes f.place node i.later here)
 
     -- a successor is a node of the leaf, and not its first
-    succ_within : (node : Node) → slice_get leaf.nodes f.place ≡ Some node → (slot s : ℕ) → slice_get (succs_of (Some node)) slot ≡ Some s → (1 ≤ s) × (s < length leaf.nodes)
+    succ_within : (node : Node) → slice_get leaf.nodes f.place ≡ Some node → (slot s : ℕ)
+        → slice_get (succs_of (Some node)) slot ≡ Some s → (1 ≤ s) × (s < length leaf.nodes)
     succ_within node here slot s edge = can.succs f.place slot s (ap (λ o. slice_get (succs_of o) slot) here ∙ edge)
 
     -- they go on within the leaf
-    on_within : (s : ℕ) (next next' : Frame) → (1 ≤ s) × (s < length leaf.nodes) → next.place ≡ s → next'.place ≡ place s → ((x : ℕ) → (graph_numbered graphs p.unit).shared ≤ x → x < length (graph_numbered graphs p.unit).vars → next'.values x ≡ g.values x) → CopiesHold to (length leaf.vars) next.values next'.values
+    on_within : (s : ℕ) (next next' : Frame) → (1 ≤ s) × (s < length leaf.nodes) → next.place ≡ s
+        → next'.place ≡ place s
+        → ((x : ℕ) → (graph_numbered graphs p.unit).shared ≤ x → x < length (graph_numbered graphs p.unit).vars → next'.values x ≡ g.values x)
+        → CopiesHold to (length leaf.vars) next.values next'.values
         → Related 0 (record { unit = v; frame = next; callers = p ∷ ps }) (record { unit = p.unit; frame = next'; callers = qs })
     on_within s next next' range here here' outer inner = inr (record {
       there = i.there;
@@ -372,7 +388,8 @@ module _ (graphs joined : List GraphShape) (leaves : List (Option GraphShape)) (
     })
 
     -- with values as they are
-    on_kept : (s : ℕ) → (1 ≤ s) × (s < length leaf.nodes) → Related 0 (record { unit = v; frame = at s f; callers = p ∷ ps }) (record { unit = p.unit; frame = at (place s) g; callers = qs })
+    on_kept : (s : ℕ) → (1 ≤ s) × (s < length leaf.nodes)
+        → Related 0 (record { unit = v; frame = at s f; callers = p ∷ ps }) (record { unit = p.unit; frame = at (place s) g; callers = qs })
     on_kept s range = on_within s (at s f) (at (place s) g) range refl refl (λ x own lt. refl) i.inner
 
     -- a copy is no variable of the caller that is no global
@@ -387,7 +404,8 @@ module _ (graphs joined : List GraphShape) (leaves : List (Option GraphShape)) (
     to_one = copy_one leaves (joins p.unit i.there).units (graph_numbered graphs p.unit) (least p.unit i.there) i.leaf.call.unit
 
     -- with another value of a variable and of its copy
-    on_assigned : (s x : ℕ) (a b : ℤ) → b ≡ a → (1 ≤ s) × (s < length leaf.nodes) → Related 0 (record { unit = v; frame = assigned x a s f; callers = p ∷ ps }) (record { unit = p.unit; frame = assigned (to x) b (place s) g; callers = qs })
+    on_assigned : (s x : ℕ) (a b : ℤ) → b ≡ a → (1 ≤ s) × (s < length leaf.nodes)
+        → Related 0 (record { unit = v; frame = assigned x a s f; callers = p ∷ ps }) (record { unit = p.unit; frame = assigned (to x) b (place s) g; callers = qs })
     on_assigned s x a b same range = on_within s (assigned x a s f) (assigned (to x) b (place s) g) range refl refl (λ y own lt. with_other (to x) y b g.values (apart x y own lt))
         (set_copied to (length leaf.vars) f.values g.values i.inner to_one x a b same)
 
@@ -417,7 +435,8 @@ module _ (graphs joined : List GraphShape) (leaves : List (Option GraphShape)) (
         both_go_on z v p.unit f g (p ∷ ps) qs (rhs_count rhs) next next' first second (on_assigned s x (rhs_value f.values rhs) (rhs_value g.values (renamed_rhs to rhs)) (rhs_copied to (length leaf.vars) f.values g.values i.inner rhs below.1) (succ_within (Assign x rhs s) here 0 s refl))
 
     -- a test
-    test_meets : (test : Condition) (taken other : ℕ) (b : Bool) → test_holds f.values test ≡ b → slice_get leaf.nodes f.place ≡ Some (Test test taken other) → Meet
+    test_meets : (test : Condition) (taken other : ℕ) (b : Bool) → test_holds f.values test ≡ b
+        → slice_get leaf.nodes f.place ≡ Some (Test test taken other) → Meet
     test_meets test taken other true holds here =
         let below = can.below f.place (Test test taken other) here in
         let holds' = test_copied to (length leaf.vars) f.values g.values i.inner test below ∙ holds in
@@ -465,7 +484,9 @@ module _ (graphs joined : List GraphShape) (leaves : List (Option GraphShape)) (
     ]
 
     -- after the return the second frame is that of the caller
-    returns_to : (answer : Answer) (next' : Frame) → next'.place ≡ i.leaf.call.next → ((x : ℕ) → x < length (graph_numbered graphs p.unit).vars → (resumed p.into answer p.frame).values x ≡ next'.values x) → codes v f ≡ Returns answer → codes' p.unit g ≡ Continues 0 next' → Meet
+    returns_to : (answer : Answer) (next' : Frame) → next'.place ≡ i.leaf.call.next
+        → ((x : ℕ) → x < length (graph_numbered graphs p.unit).vars → (resumed p.into answer p.frame).values x ≡ next'.values x)
+        → codes v f ≡ Returns answer → codes' p.unit g ≡ Continues 0 next' → Meet
     returns_to answer next' here values first second =
         let range = call_next p.unit i.n i.there i.leaf.call in
         let back : Frame = resumed p.into answer p.frame in
@@ -540,7 +561,8 @@ module _ (graphs joined : List GraphShape) (leaves : List (Option GraphShape)) (
         | inr out ↦ node_meets z from.unit from.frame from'.frame from.callers from'.callers (slice_get graph.nodes from.frame.place) r.there r.callers r.frames refl out
       ])
 
-  inside_stack : (z : ℕ) (v : ℕ) (f : Frame) (ps : List Caller) (from' : Stack) → InsideOf f v ps from' → MeetsAgain Related codes codes' z (record { unit = v; frame = f; callers = ps }) from'
+  inside_stack : (z : ℕ) (v : ℕ) (f : Frame) (ps : List Caller) (from' : Stack) → InsideOf f v ps from'
+      → MeetsAgain Related codes codes' z (record { unit = v; frame = f; callers = ps }) from'
   inside_stack z v f [] from' i = absurd i
   inside_stack z v f (p ∷ ps) from' i =
       let same : record { unit = p.unit; frame = from'.frame; callers = from'.callers } ≡ from' = ap (λ u. record { unit = u; frame = from'.frame; callers = from'.callers }) (sym i.unit) in

@@ -104,7 +104,8 @@ module _ (copy : ℕ → ℕ) (shared vars : ℕ) (one : (x y : ℕ) → copy x 
   no_copy x y own lt same = let ge = above_vars x own in omega (arith, lt, same, ge)
 
   -- the caller's variables stay
-  entered_keeps : (received : List ℕ) (operands : List Operand) (w : Values) (y : ℕ) → AreOwn shared received → y < vars → values_after (entered copy received operands) w y ≡ w y
+  entered_keeps : (received : List ℕ) (operands : List Operand) (w : Values) (y : ℕ) → AreOwn shared received
+      → y < vars → values_after (entered copy received operands) w y ≡ w y
   entered_keeps [] operands w y own lt = refl
   entered_keeps (x ∷ received) [] w y own lt = refl
   entered_keeps (x ∷ received) (a ∷ operands) w y own lt = entered_keeps received operands (with_value (copy x) (operand_value w a) w) y own.1 lt ∙ with_other (copy x) y (operand_value w a) w (no_copy x y own.0 lt)
@@ -117,7 +118,8 @@ module _ (copy : ℕ → ℕ) (shared vars : ℕ) (one : (x y : ℕ) → copy x 
       (λ is. zeroed_keeps received count (suc x) (with_value (copy x) (wrapped (pos 0)) w) y (omega (arith, own)) lt ∙ with_other (copy x) y (wrapped (pos 0)) w (no_copy x y own lt))
 
   -- the copy of a variable that is not received stays
-  entered_out : (received : List ℕ) (operands : List Operand) (w : Values) (x : ℕ) → is_in x received ≡ false → values_after (entered copy received operands) w (copy x) ≡ w (copy x)
+  entered_out : (received : List ℕ) (operands : List Operand) (w : Values) (x : ℕ) → is_in x received ≡ false
+      → values_after (entered copy received operands) w (copy x) ≡ w (copy x)
   entered_out [] operands w x out = refl
   entered_out (y ∷ received) [] w x out = refl
   entered_out (y ∷ received) (a ∷ operands) w x out =
@@ -125,7 +127,9 @@ module _ (copy : ℕ → ℕ) (shared vars : ℕ) (one : (x y : ℕ) → copy x 
       entered_out received operands (with_value (copy y) (operand_value w a) w) x apart.1 ∙ with_other (copy y) (copy x) (operand_value w a) w (λ e. apart.0 (one x y e))
 
   -- that of a received one gets what a frame receives
-  entered_in : (v : Values) (arguments : List ℤ) (received : List ℕ) (operands : List Operand) (i x : ℕ) (w u : Values) → AreOwn shared received → AllBelow vars (flat_map operand_vars operands) → ((y : ℕ) → y < vars → v y ≡ w y) → length operands ≡ length received
+  entered_in : (v : Values) (arguments : List ℤ) (received : List ℕ) (operands : List Operand) (i x : ℕ) (w u : Values)
+      → AreOwn shared received → AllBelow vars (flat_map operand_vars operands) → ((y : ℕ) → y < vars → v y ≡ w y)
+      → length operands ≡ length received
       → ((j : ℕ) (a : Operand) → slice_get operands j ≡ Some a → slice_index_or arguments (i + j) (pos 0) ≡ operand_value v a) → is_in x received ≡ true
       → values_after (entered copy received operands) w (copy x) ≡ received_from i received arguments u x
   entered_in v arguments [] operands i x w u own below same long hold there = cc
@@ -168,7 +172,8 @@ module _ (copy : ℕ → ℕ) (shared vars : ℕ) (one : (x y : ℕ) → copy x 
       ]))
 
   -- any other becomes 0
-  zeroed_out : (received : List ℕ) (count y x : ℕ) (w : Values) → is_in x received ≡ false → y ≤ x → x < y + count → values_after (zeroed copy received y count) w (copy x) ≡ pos 0
+  zeroed_out : (received : List ℕ) (count y x : ℕ) (w : Values) → is_in x received ≡ false → y ≤ x → x < y + count
+      → values_after (zeroed copy received y count) w (copy x) ≡ pos 0
   zeroed_out received zero y x w out ge lt = absurd (omega (arith, ge, lt))
   zeroed_out received (suc count) y x w out ge lt =
       put_or_not (λ puts. values_after puts w (copy x) ≡ pos 0) (is_in y received) (record { var = copy y; rhs = Plain (Const (pos 0)) }) (zeroed copy received (suc y) count)
@@ -180,7 +185,9 @@ module _ (copy : ℕ → ℕ) (shared vars : ℕ) (one : (x y : ℕ) → copy x 
 
   -- the caller's variables stay, and the copies get the values of a frame that has received the arguments, with the
   -- globals as they are
-  pub entry_keeps : (received : List ℕ) (count : ℕ) (operands : List Operand) (w : Values) (y : ℕ) → AreOwn shared received → y < vars → values_after (entered copy received operands ++ zeroed copy received shared count) w y ≡ w y
+  pub entry_keeps : (received : List ℕ) (count : ℕ) (operands : List Operand) (w : Values) (y : ℕ)
+      → AreOwn shared received → y < vars
+      → values_after (entered copy received operands ++ zeroed copy received shared count) w y ≡ w y
   entry_keeps received count operands w y own lt =
       ap (λ u. u y) (values_append (entered copy received operands) (zeroed copy received shared count) w)
       ∙ zeroed_keeps received count shared (values_after (entered copy received operands) w) y (le_refl shared) lt ∙ entered_keeps received operands w y own lt
@@ -190,7 +197,9 @@ module _ (copy : ℕ → ℕ) (shared vars : ℕ) (one : (x y : ℕ) → copy x 
   own_out [] x own lt = refl
   own_out (y ∷ received) x own lt = ap (λ b. b || is_in x received) (ne_eqb y x (λ same. let low = own.0 in omega (arith, same, low, lt))) ∙ own_out received x own.1 lt
 
-  pub entry_copies : (received : List ℕ) (count : ℕ) (operands : List Operand) (v w : Values) → shared ≤ vars → AreOwn shared received → AllBelow vars (flat_map operand_vars operands) → ((y : ℕ) → y < vars → v y ≡ w y) → length operands ≡ length received
+  pub entry_copies : (received : List ℕ) (count : ℕ) (operands : List Operand) (v w : Values) → shared ≤ vars
+      → AreOwn shared received → AllBelow vars (flat_map operand_vars operands) → ((y : ℕ) → y < vars → v y ≡ w y)
+      → length operands ≡ length received
       → CopiesHold copy (shared + count) (received_from 0 received (map (operand_value v) operands) (with_first (shared_values shared v) all_zero)) (values_after (entered copy received operands ++ zeroed copy received shared count) w)
   entry_copies received count operands v w least own below same long x lt =
       let w1 : Values = values_after (entered copy received operands) w in
@@ -212,7 +221,8 @@ module _ (copy : ℕ → ℕ) (shared vars : ℕ) (one : (x y : ℕ) → copy x 
             ]
       ]
     where
-      argument_is : (u : Values) (args : List Operand) (j : ℕ) (a : Operand) → slice_get args j ≡ Some a → slice_index_or (map (operand_value u) args) j (pos 0) ≡ operand_value u a
+      argument_is : (u : Values) (args : List Operand) (j : ℕ) (a : Operand) → slice_get args j ≡ Some a
+          → slice_index_or (map (operand_value u) args) j (pos 0) ≡ operand_value u a
       argument_is u [] j a at = cc
       argument_is u (b ∷ args) zero a at = let is : b ≡ a = cc in ap (operand_value u) is
       argument_is u (b ∷ args) (suc j) a at = argument_is u args j a at
@@ -232,5 +242,6 @@ zeroed_plain copy received (suc count) x =
     put_or_not ArePlain (is_in x received) (record { var = copy x; rhs = Plain (Const (pos 0)) }) (zeroed copy received (suc x) count) (λ is. zeroed_plain copy received count (suc x)) (λ is. ((Const (pos 0), refl), zeroed_plain copy received count (suc x)))
 
 -- all of them
-pub entry_plain : (copy : ℕ → ℕ) (shared : ℕ) (received : List ℕ) (count : ℕ) (operands : List Operand) → ArePlain (entered copy received operands ++ zeroed copy received shared count)
+pub entry_plain : (copy : ℕ → ℕ) (shared : ℕ) (received : List ℕ) (count : ℕ) (operands : List Operand)
+    → ArePlain (entered copy received operands ++ zeroed copy received shared count)
 entry_plain copy shared received count operands = plain_append (entered copy received operands) (zeroed copy received shared count) (entered_plain copy received operands) (zeroed_plain copy received count shared)

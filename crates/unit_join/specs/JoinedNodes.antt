@@ -23,7 +23,9 @@ first_above : (leaves : List (Option GraphShape)) (units : List ℕ) (first unit
 first_above leaves [] first unit = le_refl first
 first_above leaves (u ∷ units) first unit = chosen (nat_eq u unit) (first_above leaves units (first + leaf_vars (leaf_at leaves u)) unit)
   where
-    chosen : (b : Bool) → first + leaf_vars (leaf_at leaves u) ≤ first_copy leaves units (first + leaf_vars (leaf_at leaves u)) unit → first ≤ (if b then first else first_copy leaves units (first + leaf_vars (leaf_at leaves u)) unit)
+    chosen : (b : Bool)
+        → first + leaf_vars (leaf_at leaves u) ≤ first_copy leaves units (first + leaf_vars (leaf_at leaves u)) unit
+        → first ≤ (if b then first else first_copy leaves units (first + leaf_vars (leaf_at leaves u)) unit)
     chosen true le = le_refl first
     chosen false le = omega (arith, le)
 
@@ -63,7 +65,8 @@ module _ (leaves : List (Option GraphShape)) (units : List ℕ) (graph : GraphSh
       omega (arith, more, all)
 
   -- the other nodes stay
-  pub with_leaf_kept : (nodes : List Node) (n : ℕ) (c : IsLeafCall leaves graph.nodes n) (m : ℕ) → (m ≡ n → ⊥) → m < length nodes → slice_get (with_leaf nodes n c) m ≡ slice_get nodes m
+  pub with_leaf_kept : (nodes : List Node) (n : ℕ) (c : IsLeafCall leaves graph.nodes n) (m : ℕ) → (m ≡ n → ⊥)
+      → m < length nodes → slice_get (with_leaf nodes n c) m ≡ slice_get nodes m
   with_leaf_kept nodes n c m apart lt =
       let puts = entry_assignments (copy c.unit) c.leaf c.operands in
       let first = first_place (length nodes) puts in
@@ -72,7 +75,9 @@ module _ (leaves : List (Option GraphShape)) (units : List ℕ) (graph : GraphSh
       get_left (stood nodes n puts end) (map (leaf_node (copy c.unit) (leaf_place first) c.into c.next) (drop 1 c.leaf.nodes)) m (omega (arith, lt, more)) ∙ stood_kept nodes n puts end m apart lt
 
   -- all nodes stay but these calls
-  pub joined_kept : (calls : List ℕ) (nodes joined : List Node) → LeavesAreJoined leaves units graph calls nodes joined → (m : ℕ) → m < length nodes → (IsIn m calls → ⊥) → slice_get joined m ≡ slice_get nodes m
+  pub joined_kept : (calls : List ℕ) (nodes joined : List Node)
+      → LeavesAreJoined leaves units graph calls nodes joined → (m : ℕ) → m < length nodes → (IsIn m calls → ⊥)
+      → slice_get joined m ≡ slice_get nodes m
   joined_kept [] nodes joined are m lt out = ap (λ l. slice_get l m) are
   joined_kept (n ∷ calls) nodes joined are m lt out =
       joined_kept calls (with_leaf nodes n are.0) joined are.1 m (omega (arith, lt, with_leaf_long nodes n are.0)) (λ there. out (inr there))
@@ -84,7 +89,8 @@ module _ (leaves : List (Option GraphShape)) (units : List ℕ) (graph : GraphSh
     pub fresh : ℕ
     pub first : ℕ
     pub stands : StandsAt joined n fresh (entry_assignments (copy call.unit) call.leaf call.operands) (leaf_place first (start_succ (slice_get call.leaf.nodes 0)))
-    pub nodes : (m : ℕ) (node : Node) → 1 ≤ m → slice_get call.leaf.nodes m ≡ Some node → slice_get joined (leaf_place first m) ≡ Some (leaf_node (copy call.unit) (leaf_place first) call.into call.next node)
+    pub nodes : (m : ℕ) (node : Node) → 1 ≤ m → slice_get call.leaf.nodes m ≡ Some node
+        → slice_get joined (leaf_place first m) ≡ Some (leaf_node (copy call.unit) (leaf_place first) call.into call.next node)
 
   -- none of the numbers is one of those after it
   abbrev pub Apart : List ℕ → Type 0
@@ -92,7 +98,10 @@ module _ (leaves : List (Option GraphShape)) (units : List ℕ) (graph : GraphSh
   Apart (n ∷ calls) = (IsIn n calls → ⊥) × Apart calls
 
   -- the leaf stands in the place of the call, also where more follows that keeps these nodes
-  leaf_stands : (nodes joined : List Node) (n : ℕ) (c : IsLeafCall leaves graph.nodes n) → n < length nodes → slice_get joined n ≡ slice_get (with_leaf nodes n c) n → ((m : ℕ) → length nodes ≤ m → m < length (with_leaf nodes n c) → slice_get joined m ≡ slice_get (with_leaf nodes n c) m) → LeafStands joined n
+  leaf_stands : (nodes joined : List Node) (n : ℕ) (c : IsLeafCall leaves graph.nodes n) → n < length nodes
+      → slice_get joined n ≡ slice_get (with_leaf nodes n c) n
+      → ((m : ℕ) → length nodes ≤ m → m < length (with_leaf nodes n c) → slice_get joined m ≡ slice_get (with_leaf nodes n c) m)
+      → LeafStands joined n
   leaf_stands nodes joined n c lt here same =
       let puts = entry_assignments (copy c.unit) c.leaf c.operands in
       let first = first_place (length nodes) puts in
@@ -118,7 +127,9 @@ module _ (leaves : List (Option GraphShape)) (units : List ℕ) (graph : GraphSh
       }
 
   -- each of these leaves stands in the place of its call
-  pub joined_stands : (calls : List ℕ) (nodes joined : List Node) → Apart calls → ((n : ℕ) → IsIn n calls → n < length nodes) → LeavesAreJoined leaves units graph calls nodes joined → (n : ℕ) → IsIn n calls → LeafStands joined n
+  pub joined_stands : (calls : List ℕ) (nodes joined : List Node) → Apart calls
+      → ((n : ℕ) → IsIn n calls → n < length nodes) → LeavesAreJoined leaves units graph calls nodes joined → (n : ℕ)
+      → IsIn n calls → LeafStands joined n
   joined_stands [] nodes joined apart within are n there = absurd there
   joined_stands (m ∷ calls) nodes joined apart within are n (inl same) =
       let lt : m < length nodes = within m (inl refl) in

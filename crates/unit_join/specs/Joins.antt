@@ -42,14 +42,18 @@ pub record IsLeafCall (leaves : List (Option GraphShape)) (nodes : List Node) (n
   pub leaf_is : leaf_at leaves unit ≡ Some leaf
 
 -- these are the nodes that call leaves, in order of number
-pub record AreLeafCalls (leaves : List (Option GraphShape)) (nodes : List Node) (calls : List ℕ) : Type 0 where
-  pub ordered : (i j m n : ℕ) → i < j → slice_get calls i ≡ Some m → slice_get calls j ≡ Some n → m < n
+pub record AreLeafCalls (leaves : List (Option GraphShape)) (nodes : List Node)
+    (calls : List ℕ) : Type 0 where
+  pub ordered : (i j m n : ℕ) → i < j → slice_get calls i ≡ Some m → slice_get calls j ≡ Some n
+      → m < n
   pub are : (n : ℕ) → IsIn n calls → IsLeafCall leaves nodes n
   pub all : (n : ℕ) → IsLeafCall leaves nodes n → IsIn n calls
 
 -- these are some of the nodes that call leaves, in order of number
-pub record AreSomeLeafCalls (leaves : List (Option GraphShape)) (nodes : List Node) (calls : List ℕ) : Type 0 where
-  pub ordered : (i j m n : ℕ) → i < j → slice_get calls i ≡ Some m → slice_get calls j ≡ Some n → m < n
+pub record AreSomeLeafCalls (leaves : List (Option GraphShape)) (nodes : List Node)
+    (calls : List ℕ) : Type 0 where
+  pub ordered : (i j m n : ℕ) → i < j → slice_get calls i ≡ Some m → slice_get calls j ≡ Some n
+      → m < n
   pub are : (n : ℕ) → IsIn n calls → IsLeafCall leaves nodes n
 
 -- the unit that a node calls, where it is a leaf
@@ -141,7 +145,8 @@ first_place nodes puts = nodes + (length puts - 1)
 
 -- The nodes with the leaf in the place of node n: its assignments, which lead on to the node that stands for the
 -- successor of the leaf's Start, and then the nodes of the leaf without its Start
-abbrev pub nodes_with_leaf : List Node → ℕ → (ℕ → ℕ) → GraphShape → Option ℕ → List Operand → ℕ → List Node
+abbrev pub nodes_with_leaf : List Node → ℕ → (ℕ → ℕ) → GraphShape → Option ℕ → List Operand → ℕ
+    → List Node
 nodes_with_leaf nodes n copy leaf into operands next =
     stood nodes n (entry_assignments copy leaf operands)
     (leaf_place (first_place (length nodes) (entry_assignments copy leaf operands))
@@ -150,21 +155,24 @@ nodes_with_leaf nodes n copy leaf into operands next =
     (drop 1 leaf.nodes)
 
 -- the nodes with the leaf of a call of the graph in its place
-abbrev pub joined_by : (leaves : List (Option GraphShape)) (units : List ℕ) (graph : GraphShape) → List Node → (n : ℕ)
+abbrev pub joined_by : (leaves : List (Option GraphShape)) (units : List ℕ) (graph : GraphShape)
+    → List Node → (n : ℕ)
     → IsLeafCall leaves graph.nodes n → List Node
 joined_by leaves units graph nodes n c =
     nodes_with_leaf nodes n
     (copy_in graph.shared leaves units (length graph.vars) c.unit) c.leaf c.into c.operands c.next
 
 -- one after the other, each of these calls of the graph gives way to the leaf that it calls
-abbrev pub LeavesAreJoined : List (Option GraphShape) → List ℕ → GraphShape → List ℕ → List Node → List Node → Type 0
+abbrev pub LeavesAreJoined : List (Option GraphShape) → List ℕ → GraphShape → List ℕ → List Node
+    → List Node → Type 0
 LeavesAreJoined leaves units graph [] nodes joined = joined ≡ nodes
 LeavesAreJoined leaves units graph (n ∷ calls) nodes joined =
     (c : IsLeafCall leaves graph.nodes n)
     × LeavesAreJoined leaves units graph calls (joined_by leaves units graph nodes n c) joined
 
 -- the graph with the leaves that it calls joined into it, of whose nodes those that are reached are kept
-pub record IsJoined (graph : GraphShape) (leaves : List (Option GraphShape)) (joined : GraphShape) : Type 0 where
+pub record IsJoined (graph : GraphShape) (leaves : List (Option GraphShape))
+    (joined : GraphShape) : Type 0 where
   pub calls : List ℕ
   pub are_calls : AreLeafCalls leaves graph.nodes calls
   pub names : List (List ℕ)
@@ -188,7 +196,8 @@ short_or_left unit joined graph = if nat_lt most_insts (length unit.body) then g
 
 -- the graph with all leaves that it calls joined into it, or with none, where its unit would else be too long to be read
 -- again
-pub record IsJoinedIfShort (graph : GraphShape) (leaves : List (Option GraphShape)) (result : GraphShape) : Type 0 where
+pub record IsJoinedIfShort (graph : GraphShape) (leaves : List (Option GraphShape))
+    (result : GraphShape) : Type 0 where
   pub joined : GraphShape
   pub joins : IsJoined graph leaves joined
   pub unit : UnitShape
@@ -198,7 +207,8 @@ pub record IsJoinedIfShort (graph : GraphShape) (leaves : List (Option GraphShap
 -- ---- what is kept
 
 -- the second graph is the first with leaves in the places of some of its calls, of whose nodes some may not be reached
-pub record JoinsLeaves (leaves : List (Option GraphShape)) (graph : GraphShape) (joined : GraphShape) : Type 0 where
+pub record JoinsLeaves (leaves : List (Option GraphShape)) (graph : GraphShape)
+    (joined : GraphShape) : Type 0 where
   pub calls : List ℕ
   pub are_calls : AreSomeLeafCalls leaves graph.nodes calls
   pub units : List ℕ
@@ -208,7 +218,8 @@ pub record JoinsLeaves (leaves : List (Option GraphShape)) (graph : GraphShape) 
 
 -- the leaves of a program of graphs: each entry is the graph of its unit, which makes no call
 pub record AreLeaves (graphs : List GraphShape) (leaves : List (Option GraphShape)) : Type 0 where
-  pub is : (u : ℕ) (leaf : GraphShape) → leaf_at leaves u ≡ Some leaf → slice_get graphs u ≡ Some leaf
+  pub is : (u : ℕ) (leaf : GraphShape) → leaf_at leaves u ≡ Some leaf
+      → slice_get graphs u ≡ Some leaf
   pub no_calls : (u : ℕ) (leaf : GraphShape) → leaf_at leaves u ≡ Some leaf
       → (n : ℕ) (into : Option ℕ) (unit : ℕ) (operands : List Operand) (next : ℕ)
       → slice_get leaf.nodes n ≡ Some (Call into unit operands next) → ⊥
@@ -217,7 +228,8 @@ pub record AreLeaves (graphs : List GraphShape) (leaves : List (Option GraphShap
 
 -- each call of a leaf hands over as many arguments as the leaf receives
 abbrev pub LeafCallsFit : List (Option GraphShape) → List Node → Type 0
-LeafCallsFit leaves nodes = (n : ℕ) (c : IsLeafCall leaves nodes n) → length c.operands ≡ length c.leaf.received
+LeafCallsFit leaves nodes = (n : ℕ) (c : IsLeafCall leaves nodes n)
+    → length c.operands ≡ length c.leaf.received
 
 -- no leaf makes a call
 abbrev pub NoLeafCalls : List (Option GraphShape) → Type 0
@@ -226,7 +238,8 @@ NoLeafCalls leaves = (u : ℕ) (leaf : GraphShape) (called count : ℕ) → leaf
 
 -- the graph and each leaf have equally many globals
 abbrev pub LeavesShare : List (Option GraphShape) → ℕ → Type 0
-LeavesShare leaves shared = (u : ℕ) (leaf : GraphShape) → leaf_at leaves u ≡ Some leaf → leaf.shared ≡ shared
+LeavesShare leaves shared = (u : ℕ) (leaf : GraphShape) → leaf_at leaves u ≡ Some leaf
+    → leaf.shared ≡ shared
 
 -- a graph can be made of each leaf, whose globals are variables of it and are not received
 abbrev pub LeavesCan : List (Option GraphShape) → Type 0
@@ -243,7 +256,8 @@ pub record IsLeafUnit (unit : UnitShape) : Type 0 where
 -- the entry of a unit: the cleaned lowering of a leaf, and none of any other
 abbrev pub IsLeafOf : UnitShape → Option GraphShape → Type 0
 IsLeafOf unit None = IsLeafUnit unit → ⊥
-IsLeafOf unit (Some leaf) = IsLeafUnit unit × (lowered : GraphShape) × IsLowered unit lowered × IsClean lowered leaf
+IsLeafOf unit (Some leaf) = IsLeafUnit unit × (lowered : GraphShape) × IsLowered unit lowered
+    × IsClean lowered leaf
 
 -- the leaves of a program
 pub record AreLeavesOf (units : List UnitShape) (leaves : List (Option GraphShape)) : Type 0 where

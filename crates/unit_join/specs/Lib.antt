@@ -7,3 +7,5 @@ pub mod JoinPrograms
 pub mod JoinProgramLaws
 pub mod JoinOneLaws
 pub mod CopyTables
+pub mod LeafTests
+pub mod JoinSteps

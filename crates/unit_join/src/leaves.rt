@@ -14,15 +14,15 @@ const MOST_INSTS: usize = 32;
 
 /// The leaves of a program: for each unit that is one its graph with clean jumps, and `None` for every other.
 #[derive(Drop)]
-pub(crate) struct Leaves {
+pub struct Leaves {
     /// The entries, by the numbers of the units.
-    pub(crate) units: Items<Option<Graph>>,
+    pub units: Items<Option<Graph>>,
 }
 
 impl Leaves {
     /// The leaves of the program: a unit is one where it has at most 32 instructions, receives included, and no call.
     /// It fails only with `Memory`.
-    pub(crate) fn of(alloc: Global, program: &Program) -> Result<Leaves, Memory>
+    pub fn of(alloc: Global, program: &Program) -> Result<Leaves, Memory>
         ensures leaves { IfOk result (λ leaves. AreLeavesOf program.now.units leaves.units) }
 
         // the graph of each leaf keeps its unit
@@ -84,7 +84,7 @@ fn is_leaf(unit: &MirUnit) -> bool
 }
 
 /// Whether there are at most as many instructions as a leaf has.
-fn is_short(insts: &[Inst]) -> bool
+pub(crate) fn is_short(insts: &[Inst]) -> bool
     ensures { IsTrue result ↔ (length insts.now ≤ 32) }
 {
     insts.len() <= MOST_INSTS

@@ -1,0 +1,68 @@
+-- The text of the tables of self tail calls. Cited by contracts, those of the crates above too.
+use Rattle.std.specs.Prelude.{◌≡◌, ℕ, zero, suc, List, [], ◌++◌, codes, decimal, length, slice_get, Option, Some, None}
+use Rattle.mir_base.specs.Shapes.{ProgramShape, UnitShape}
+use Rattle.program_pass.specs.declared.steps.PassSteps.{PassSteps}
+use Rattle.program_pass.specs.Steps.{ArePassSteps}
+use Rattle.table_text.specs.Lines.{field, name_field, names_of_units}
+use Rattle.table_text.specs.Turns.{InTurn}
+use Rattle.tail_loop.specs.declared.positions.CallPosition.{CallPosition}
+use Rattle.tail_loop.specs.declared.positions.Position.{Position}
+use Rattle.tail_loop.specs.declared.positions.Position.TheVariants.{Loop, Tail, Dropped, Global, Then}
+use Rattle.tail_loop.specs.Positions.{AreCallPositions}
+use Rattle.tail_loop.specs.Tails.{Tailed}
+use Rattle.call_table.specs.Steps.{back_text, front_text}
+
+-- ---- calls
+
+-- how a call stands, behind a blank
+abbrev pub position_text : Position → List ℕ
+position_text Loop = field (codes "loop")
+position_text Tail = field (codes "tail")
+position_text Dropped = field (codes "dropped")
+position_text Global = field (codes "global")
+position_text (Then node) = codes " then" ++ field (decimal node)
+
+-- the line of a call: its node, the unit that it calls, and how it stands
+abbrev pub call_line : List (List ℕ) → ℕ → CallPosition → List ℕ
+call_line names node call =
+    codes "call" ++ field (decimal node) ++ name_field names call.unit ++ position_text call.position ++ codes "\n"
+
+-- the line of a node, where it is a call
+abbrev pub entry_line : List (List ℕ) → ℕ → Option CallPosition → List ℕ
+entry_line names node None = []
+entry_line names node (Some call) = call_line names node call
+
+-- the same of an entry that may be absent
+abbrev pub line_at : List (List ℕ) → ℕ → Option (Option CallPosition) → List ℕ
+line_at names node None = []
+line_at names node (Some entry) = entry_line names node entry
+
+-- the lines of the first nodes, of which there are so many
+abbrev pub calls_below : List (List ℕ) → List (Option CallPosition) → ℕ → List ℕ
+calls_below names calls zero = []
+calls_below names calls (suc n) = calls_below names calls n ++ line_at names n (slice_get calls n)
+
+-- ---- units
+
+-- the graphs of a unit on its way to loops, and between them how its calls stand
+abbrev pub tailed_text : List (List ℕ) → PassSteps → List (Option CallPosition) → List ℕ
+tailed_text names steps calls =
+    front_text names steps ++ codes "pass tails\n" ++ calls_below names calls (length calls)
+    ++ back_text names (codes "tails") steps
+
+-- the text is that of the unit of this number among these: of the graphs that the pass makes of it, and of how each
+-- call of its cleaned graph stands
+pub record IsTailedAt (units : List UnitShape) (number : ℕ) (text : List ℕ) : Type 0 where
+  pub unit : UnitShape
+  pub steps : PassSteps
+  pub calls : List (Option CallPosition)
+  pub stands : slice_get units number ≡ Some unit
+  pub steps_are : ArePassSteps Tailed unit number steps
+  pub calls_are : AreCallPositions steps.cleaned number calls
+  pub text_is : text ≡ tailed_text (names_of_units units) steps calls
+
+-- the text is that of each unit of the program in turn
+pub record ShowsTails (program : ProgramShape) (text : List ℕ) : Type 0 where
+  pub units : List ℕ
+  pub are : InTurn (IsTailedAt program.units) (length program.units) units
+  pub text_is : text ≡ codes "tables 1 tails\n" ++ units

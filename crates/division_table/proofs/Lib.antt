@@ -1,0 +1,2 @@
+mod ColumnBits
+mod TrailLaws

@@ -1,0 +1,23 @@
+use Rattle.std.proofs.Common.{◌∙◌, ap, subst, sym, Some}
+use Rattle.std.proofs.lemmas.Option.{slice_get-get_or}
+use Rattle.table_text.specs.Lines.{names_of_units}
+use Rattle.division_table.specs.Trails.{IsDividedAt}
+use Rattle.division_table.specs.Rows.{IsUnitDivision}
+use Rattle.table_text.specs.TurnLaws.{next_turn}
+use Rattle.division_table.proofs.trails.put_units.Goals as goal
+
+pub put_divided-requires : goal.put_divided-requires
+put_divided-requires c =
+    let unit = c.index-units-number.result in
+    subst IsUnitDivision (sym c.index-units-number.is) (c.requires c.loop-number.number unit c.loop-number-test.true)
+
+-- the unit whose tables are put is the next one
+pub loop-number-preserved : goal.loop-number-preserved
+loop-number-preserved c =
+    let units = c.args.units.now in
+    let n = c.loop-number.number in
+    let unit = c.index-units-number.result in
+    let put = c.in_ok-put_divided.ensures in
+    let at = slice_get-get_or units n unit c.loop-number-test.true ∙ ap Some (sym c.index-units-number.is) in
+    next_turn (IsDividedAt (names_of_units c.args.sources.now) units) n c.args.text.now c.loop-number.text c.put_divided.new.text c.loop-number.invariant
+    (put.0, record { unit = unit; stands = at; is = put.1 }, put.2)

@@ -1,0 +1,5 @@
+pub mod Columns
+pub mod Expressions
+pub mod Rows
+pub mod Trails
+pub mod Units
