@@ -5,8 +5,8 @@
 //! `mir_call::call_tables` promise.
 #![tactic(auto)]
 
-ghost use Rattle.std.specs.Prelude.{◌≡◌, ◌≢◌};
-ghost use Rattle.mir_call.specs.Answers.{HasAnswered, HasTabled, IsAnswer};
+ghost use Rattle.std.specs.Prelude.{◌≡◌, ◌≢◌, []};
+ghost use Rattle.mir_call.specs.Answers.{HasAnswered, IsAnswer, IsTableAnswer};
 
 use mir_call::{CallAnswer, call_tables, call_top};
 use std::alloc::Global;
@@ -46,14 +46,14 @@ pub extern "C" fn mir_tables_call(
     line: &mut [u8],
     line_length: &mut usize,
 ) -> u8
-    ensures answers { HasAnswered (HasTabled text.now) out.old out.new line.old line.new (record {
+    ensures answers { HasAnswered (IsTableAnswer [] text.now) out.old out.new line.old line.new (record {
       status = result;
       output = out_length.new;
       complaint = line_length.new;
     }) }
     ensures no_read_fault { result ≢ 6 }
 {
-    let answer = call_tables(alloc, text, out, line);
+    let answer = call_tables(alloc, b"", text, out, line);
     told(answer, out_length, line_length)
 }
 

@@ -1,7 +1,7 @@
 -- What a call over memory answers: what `top` or `tables` did, and what of it stands in the rooms of the caller. Cited
 -- by contracts.
-use Rattle.std.specs.Prelude.{ℕ, ◌≡◌, ◌⊎◌, List, [], ◌++◌, length, take, drop, Some, unwrap_or}
-use Rattle.mir_table.specs.Promises.{TextPromises}
+use Rattle.std.specs.Prelude.{ℕ, ◌≡◌, ◌⊎◌, List, [], ◌∷◌, ◌++◌, length, take, drop, Some, unwrap_or}
+use Rattle.mir_table.specs.Promises.{TablePromises}
 use Rattle.mir_top.specs.Complaints.{out_of_memory}
 use Rattle.mir_top.specs.Promises.{Promises}
 use Rattle.mir_top.specs.Streams.{Stream, stream_of, without_fault, Tried, Untouched}
@@ -41,16 +41,23 @@ abbrev pub IsAnswer : List ℕ → List ℕ → Stream → Stream → ℕ → Ty
 IsAnswer bytes text out err status =
     HasCalled (unwrap_or (words_in bytes) []) text out err status ⊎ HasNoMemory out err status
 
--- a call of `tables` without words, whose source has this text and never fails, ended with this status: all promises of
--- `tables` hold of it
-pub record HasTabled (text : List ℕ) (out err : Stream) (status : ℕ) : Type 0 where
+-- a call of `tables` with these words, whose source has this text and never fails, ended with this status: all promises
+-- of `tables` hold of it
+pub record HasTabled
+    (words : List (List ℕ)) (text : List ℕ) (out err : Stream) (status : ℕ) : Type 0 where
   pub left : List ℕ
-  pub promises : TextPromises (record {
+  pub promises : TablePromises words (record {
     source = without_fault (Some text) (Some left);
     out = out;
     err = err;
     status = status;
   })
+
+-- `tables` was called with the words that the bytes spell, and with one empty word, which asks for no tables, where they
+-- spell none; or there was no memory for the words
+abbrev pub IsTableAnswer : List ℕ → List ℕ → Stream → Stream → ℕ → Type 0
+IsTableAnswer bytes text out err status =
+    HasTabled (unwrap_or (words_in bytes) ([] ∷ [])) text out err status ⊎ HasNoMemory out err status
 
 -- ---- what stands in the rooms
 

@@ -1,1 +1,3 @@
+pub mod Further
+pub mod Kinds
 pub mod Promises

@@ -10,6 +10,9 @@ pub(crate) fn complain_of_usage<E: Sink>(err: &mut E) -> u8
     ensures status { result ≡ table_usage.status }
     ensures told { Tried (stream_of E.written E.faults err.old err.new) table_usage.line }
 {
-    let _ = write_all(err, b"usage: mir_tables\n");
+    let _ = write_all(
+        err,
+        b"usage: mir_tables [optimise | divisions | tails | join]\n",
+    );
     1
 }

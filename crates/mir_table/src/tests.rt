@@ -1,7 +1,7 @@
 // Calls of `tables` over devices in memory.
-use crate::all_passes::ALL_PASSES;
 use crate::examples::{EXAMPLES, SMALLEST_TABLES};
 use crate::tables;
+use crate::word_examples::{DIVISIONS, JOINS, TAILS};
 use mir_outside::{MemSink, MemSource};
 use std::alloc::{AllocError, Global};
 use std::test::Fail;
@@ -42,13 +42,23 @@ fn has_lines(text: &[u8], piece: &[u8]) -> bool {
     false
 }
 
-/// The first example whose tables have not the lines that it wants. An example is a name, a text, and behind each line
-/// `$` lines that stand in the tables one after the other.
-fn first_wrong<'a>(alloc: Global, examples: &'a str) -> Result<Option<&'a str>, Fail> {
+/// The word, where it is not empty.
+fn words_of(alloc: Global, word: &str) -> Result<Vec<String>, AllocError> {
+    let mut words = Vec::new(alloc);
+    if !word.is_empty() {
+        words.push(String::from_str(alloc, word)?)?;
+    }
+    Ok(words)
+}
+
+/// The first example whose tables of this word, or of none where it is empty, have not the lines that it wants. An
+/// example is a name, a text, and behind each line `$` lines that stand in the tables one after the other.
+fn first_wrong<'a>(alloc: Global, word: &str, examples: &'a str) -> Result<Option<&'a str>, Fail> {
+    let words = words_of(alloc, word)?;
     for example in examples.split("# ").skip(1) {
         let (_, example) = example.split_once('\n').ok_or("no name")?;
         let (text, wanted) = example.split_once("$\n").ok_or("no lines")?;
-        let seen = call(alloc, &[], text.as_bytes(), 0)?;
+        let seen = call(alloc, &words, text.as_bytes(), 0)?;
         if seen.status != 0 {
             return Ok(Some(example));
         }
@@ -64,8 +74,16 @@ fn first_wrong<'a>(alloc: Global, examples: &'a str) -> Result<Option<&'a str>, 
 /// Programs, with lines of their tables.
 #[test]
 fn tables_of_examples(rt: HostRuntime) -> Result<(), Fail> {
-    assert_eq!(rt; first_wrong(rt.alloc(), EXAMPLES)?, None);
-    assert_eq!(rt; first_wrong(rt.alloc(), ALL_PASSES)?, None);
+    assert_eq!(rt; first_wrong(rt.alloc(), "", EXAMPLES)?, None);
+    Ok(())
+}
+
+/// Programs, with lines of the tables of single commands.
+#[test]
+fn tables_of_words(rt: HostRuntime) -> Result<(), Fail> {
+    assert_eq!(rt; first_wrong(rt.alloc(), "divisions", DIVISIONS)?, None);
+    assert_eq!(rt; first_wrong(rt.alloc(), "tails", TAILS)?, None);
+    assert_eq!(rt; first_wrong(rt.alloc(), "join", JOINS)?, None);
     Ok(())
 }
 
@@ -76,13 +94,19 @@ fn whole_calls(rt: HostRuntime) -> Result<(), Fail> {
     let smallest = b"main: begin\nend\n";
     let whole = call(alloc, &[], smallest, 0)?;
     assert!(rt; whole.left(0, SMALLEST_TABLES.as_bytes(), b""));
+    let named = call(alloc, &words_of(alloc, "optimise")?, smallest, 0)?;
+    assert!(rt; named.left(0, SMALLEST_TABLES.as_bytes(), b""));
     let failed = call(alloc, &[], smallest, 1)?;
     assert!(rt; failed.left(7, b"", b"write fault\n"));
     let refused = call(alloc, &[], b"main: begin\n", 0)?;
     assert!(rt; refused.left(2, b"", b"text ends inside a unit\n"));
-    let mut words = Vec::new(alloc);
-    words.push(String::from_str(alloc, "move")?)?;
-    let usage = call(alloc, &words, smallest, 0)?;
-    assert!(rt; usage.left(1, b"", b"usage: mir_tables\n"));
+    let usage = call(alloc, &words_of(alloc, "move")?, smallest, 0)?;
+    assert!(rt;
+        usage.left(
+            1,
+            b"",
+            b"usage: mir_tables [optimise | divisions | tails | join]\n"
+        )
+    );
     Ok(())
 }

@@ -2,35 +2,50 @@
 //! and ends with the status that this answers. Where it cannot get the words it writes nothing, and ends with status 8
 //! if memory ran out and with status 1 otherwise.
 //!
-//! The theorem is on `status`: the status is that of a call with these words of which all promises of `tables` hold.
-//! That `main` ends with it no clause says.
+//! The theorem is on `status`: the status is that of a call with these words of which all promises of `tables` hold, and
+//! whose source and sinks began with what std says of the three streams, without a fault; it is 1 where the words ask for
+//! no tables, and at most 8. That there is such a call is said, and not that it was made on these streams. No clause says
+//! that these are the words of the command line and the streams of the process, nor that `main` ends with the status.
 #![tactic(auto)]
 
-ghost use Rattle.std.specs.Prelude.{◌≡◌, ◌≢◌, ◌≤◌, []};
+ghost use Rattle.std.specs.Prelude.{◌≡◌, ◌≤◌, None};
 ghost use Rattle.mir_top.specs.Commands.{word_bytes};
+ghost use Rattle.mir_table.specs.Kinds.{kind_of};
 ghost use Rattle.mir_table.specs.Promises.{IsStatusOfTables};
 
 use mir_outside::{StdSink, StdSource, status_without_words, words};
 use mir_table::tables;
+use std::alloc::Global;
+use std::io::{Read, Write};
 use std::process::ExitCode;
 
 /// Ends with the status of the call with the words of the command line.
 fn main(rt: HostRuntime) -> ExitCode {
     match words(&rt) {
-        Ok(words) => ExitCode::from(status(&rt, &words)),
+        Ok(words) => {
+            let (input, output, errors) = (rt.stdin(), rt.stdout(), rt.stderr());
+            ExitCode::from(status(rt.alloc(), &words, input, output, errors))
+        }
         Err(refused) => ExitCode::from(status_without_words(refused.kind())),
     }
 }
 
-/// The status of `tables` over the standard streams: it is that of a call of which all promises of `tables` hold. With
-/// words it is 1.
-fn status(rt: &HostRuntime, words: &[String]) -> u8
-    ensures call { IsStatusOfTables (word_bytes words.now) result }
-    ensures usage { word_bytes words.now ≢ [] → result ≡ 1 }
+/// The status of `tables` over these streams: it is that of a call of which all promises of `tables` hold, and whose
+/// source and sinks began with what is known of the streams. With words that ask for no tables it is 1.
+fn status<R: Read + Drop, W: Write + Drop, E: Write + Drop>(
+    alloc: Global,
+    words: &[String],
+    input: R,
+    output: W,
+    errors: E,
+) -> u8
+    ensures call { IsStatusOfTables (word_bytes words.now)
+        (R.remaining input) (W.contents output) (E.contents errors) result }
+    ensures usage { kind_of (word_bytes words.now) ≡ None → result ≡ 1 }
     ensures most { result ≤ 8 }
 {
-    let mut source = StdSource::new(rt.stdin());
-    let mut out = StdSink::new(rt.stdout());
-    let mut err = StdSink::new(rt.stderr());
-    tables(rt.alloc(), words, &mut source, &mut out, &mut err)
+    let mut source = StdSource::new(input);
+    let mut out = StdSink::new(output);
+    let mut err = StdSink::new(errors);
+    tables(alloc, words, &mut source, &mut out, &mut err)
 }

@@ -3,4 +3,3 @@ mod MotionBits
 mod MotionLineLaws
 mod RoundLaws
 mod TrailLaws
-mod TurnLaws

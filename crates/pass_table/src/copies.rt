@@ -11,14 +11,14 @@ use flow_graph::Graph;
 use key_table::KeyTable;
 use mir_base::{Memory, Name};
 use std::alloc::Global;
-use table_text::{Lines, put_bits, put_count, put_name};
+use table_text::{Columns, put_bits, put_count, put_name};
 
 /// Appends the copies of a graph, each with the nodes before which it holds.
 pub(crate) fn put_copies(alloc: Global, text: &mut Vec<u8>, graph: &Graph) -> Result<(), Memory>
     ensures { OnOk result (AppendsSome (IsCopiesText graph.now) text.old text.new) }
 {
     let copies = HeldCopies::of(alloc, graph)?;
-    let held = Lines::of(alloc, &copies.held)?;
+    let held = Columns::of(alloc, &copies.held)?;
     put_each(text, graph, &copies.table, &held)?;
     Ok(())
 }
@@ -28,7 +28,7 @@ fn put_each(
     text: &mut Vec<u8>,
     graph: &Graph,
     table: &KeyTable<VarCopy>,
-    held: &Lines,
+    held: &Columns,
 ) -> Result<(), Memory>
     requires { AreHeldRows graph.now table.now held.now }
     ensures { AppendsOnOk result text.old text.new
@@ -44,7 +44,7 @@ fn put_each(
 fn put_copy(
     text: &mut Vec<u8>,
     vars: &[Name],
-    held: &Lines,
+    held: &Columns,
     number: usize,
     copy: &VarCopy,
 ) -> Result<(), Memory>

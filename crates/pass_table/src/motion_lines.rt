@@ -9,7 +9,7 @@ use latest_place::Late;
 use mir_base::Memory;
 use motion_rewrite::Placement;
 use std::alloc::Global;
-use table_text::Lines;
+use table_text::Columns;
 
 /// The lines of all that code motion finds out of the expressions of a unit, and of its placement.
 #[derive(Drop)]
@@ -26,39 +26,39 @@ pub(crate) struct MotionLines {
 #[derive(Drop)]
 pub(crate) struct SafeLines {
     /// Where an expression is used; the busy placement replaces it there.
-    pub(crate) uses: Lines,
+    pub(crate) uses: Columns,
     /// Where it is killed.
-    pub(crate) kills: Lines,
+    pub(crate) kills: Columns,
     /// Where it is available.
-    pub(crate) up: Lines,
+    pub(crate) up: Columns,
     /// Where it is anticipatable.
-    pub(crate) down: Lines,
+    pub(crate) down: Columns,
     /// Where it is earliest; the busy placement inserts it there.
-    pub(crate) early: Lines,
+    pub(crate) early: Columns,
 }
 
 /// The lines of how far expressions can be delayed.
 #[derive(Drop)]
 pub(crate) struct LateLines {
     /// Where an expression is delayed.
-    pub(crate) delayed: Lines,
+    pub(crate) delayed: Columns,
     /// Where it is latest.
-    pub(crate) latest: Lines,
+    pub(crate) latest: Columns,
     /// Where it is isolated.
-    pub(crate) isolated: Lines,
+    pub(crate) isolated: Columns,
 }
 
 /// The lines of the lazy placement, and of the edges on which temporaries live under each of the two placements.
 #[derive(Drop)]
 pub(crate) struct PlacedLines {
     /// On which edges the temporary of an expression lives under the busy placement.
-    pub(crate) busy_held: Lines,
+    pub(crate) busy_held: Columns,
     /// Where the lazy placement inserts the expression.
-    pub(crate) insert: Lines,
+    pub(crate) insert: Columns,
     /// Where it replaces it.
-    pub(crate) replace: Lines,
+    pub(crate) replace: Columns,
     /// On which edges it holds the temporary.
-    pub(crate) held: Lines,
+    pub(crate) held: Columns,
 }
 
 /// The lines of these rows and of this placement.
@@ -82,7 +82,7 @@ fn safe_lines_of(alloc: Global, rows: &MotionRows) -> Result<SafeLines, Memory>
     let busy = &rows.places.busy;
     let (uses, kills) = two_lines(alloc, &busy.uses, &rows.bounds.kills)?;
     let (up, down) = two_lines(alloc, &busy.up, &busy.down)?;
-    let early = Lines::of(alloc, &busy.early)?;
+    let early = Columns::of(alloc, &busy.early)?;
     Ok(SafeLines {
         uses,
         kills,
@@ -97,7 +97,7 @@ fn late_lines_of(alloc: Global, late: &Late) -> Result<LateLines, Memory>
     ensures { IfOk result (AreLateLines late.now) }
 {
     let (delayed, latest) = two_lines(alloc, &late.delayed, &late.latest)?;
-    let isolated = Lines::of(alloc, &late.isolated)?;
+    let isolated = Columns::of(alloc, &late.isolated)?;
     Ok(LateLines {
         delayed,
         latest,
@@ -128,10 +128,10 @@ fn placed_lines_of(
 }
 
 /// The lines of two sets of rows, so that few values are owned where a call can fail.
-fn two_lines(alloc: Global, first: &Rows, second: &Rows) -> Result<(Lines, Lines), Memory>
+fn two_lines(alloc: Global, first: &Rows, second: &Rows) -> Result<(Columns, Columns), Memory>
     ensures { IfOk result (λ made. (made.0 ≡ first.now) × (made.1 ≡ second.now)) }
 {
-    let one = Lines::of(alloc, first)?;
-    let other = Lines::of(alloc, second)?;
+    let one = Columns::of(alloc, first)?;
+    let other = Columns::of(alloc, second)?;
     Ok((one, other))
 }

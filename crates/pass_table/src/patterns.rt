@@ -11,7 +11,7 @@ use key_table::KeyTable;
 use mir_base::{Memory, Name};
 use sink_code::{DelayedPatterns, Pattern};
 use std::alloc::Global;
-use table_text::{Lines, put_assigned, put_bits, put_count};
+use table_text::{Columns, put_assigned, put_bits, put_count};
 
 /// The patterns of a graph that can still move, and the lines of where they are blocked, delayed and inserted.
 #[derive(Drop)]
@@ -19,11 +19,11 @@ pub(crate) struct PatternLines {
     /// The patterns.
     pub(crate) table: KeyTable<Pattern>,
     /// Where a pattern is blocked.
-    pub(crate) blocked: Lines,
+    pub(crate) blocked: Columns,
     /// Where it is delayed.
-    pub(crate) delayed: Lines,
+    pub(crate) delayed: Columns,
     /// Where it is inserted.
-    pub(crate) inserted: Lines,
+    pub(crate) inserted: Columns,
 }
 
 /// Appends the patterns of a graph that can still move, each with the nodes at which it is blocked, delayed and
@@ -56,9 +56,9 @@ pub(crate) fn put_patterns_by(
 fn lines_of(alloc: Global, found: DelayedPatterns) -> Result<PatternLines, Memory>
     ensures { IfOk result (λ lines. found_of lines ≡ found) }
 {
-    let blocked = Lines::of(alloc, &found.blocked)?;
-    let delayed = Lines::of(alloc, &found.delayed)?;
-    let inserted = Lines::of(alloc, &found.inserted)?;
+    let blocked = Columns::of(alloc, &found.blocked)?;
+    let delayed = Columns::of(alloc, &found.delayed)?;
+    let inserted = Columns::of(alloc, &found.inserted)?;
     let DelayedPatterns { table, .. } = found;
     Ok(PatternLines {
         table,

@@ -25,7 +25,7 @@ use mir_base::{Memory, Name, Unit as MirUnit};
 use mir_opt::{Stage, UnitTrail};
 use sink_code::sunk;
 use std::alloc::Global;
-use table_text::{Lines, put_bits, put_count, put_graph, put_name};
+use table_text::{Columns, put_bits, put_count, put_graph, put_name};
 
 /// Appends the rounds of a unit.
 pub(crate) fn put_rounds(
@@ -204,13 +204,13 @@ fn put_live(
     ensures { OnOk result (AppendsSome (IsLiveText graph.now) text.old text.new) }
 {
     let live = live_rows(alloc, graph, flow)?;
-    let lines = Lines::of(alloc, &live)?;
+    let lines = Columns::of(alloc, &live)?;
     put_variables(text, graph, &lines)?;
     Ok(())
 }
 
 /// Appends the variables of a graph, each with the nodes before which it is live.
-fn put_variables(text: &mut Vec<u8>, graph: &Graph, live: &Lines) -> Result<(), Memory>
+fn put_variables(text: &mut Vec<u8>, graph: &Graph, live: &Columns) -> Result<(), Memory>
     requires { HaveShape graph.now (length graph.now.vars) live.now }
     ensures { AppendsOnOk result text.old text.new
         (variables_below graph.now.vars live.now (length graph.now.vars)) }

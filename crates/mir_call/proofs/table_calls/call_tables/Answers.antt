@@ -3,4 +3,4 @@ use Rattle.mir_call.proofs.table_calls.call_tables.Goals as goal
 
 pub returns-clause-no_read_fault : goal.returns-clause-no_read_fault
 returns-clause-no_read_fault c =
-    table_is_not_six c.args.text.now _ _ c.status_of_tables-status.result c.status_of_tables-status.ensures
+    table_is_not_six c.args.words.now c.args.text.now _ _ c.status_of_spelled-status.result c.status_of_spelled-status.ensures

@@ -6,7 +6,7 @@ use Rattle.mir_opt.specs.declared.trails.UnitTrail.{UnitTrail}
 use Rattle.pass_table.specs.Motion.{HaveMotionBit, expression_head, expression_lines, motion_lines, unit_temporary}
 use Rattle.pass_table.specs.MotionLines.{rows_of_lines}
 use Rattle.pass_table.proofs.MotionBits.{motion_bits}
-use Rattle.pass_table.proofs.TurnLaws.{two_pieces}
+use Rattle.table_text.specs.TurnLaws.{two_pieces}
 use Rattle.pass_table.proofs.motion.put_expression.Goals as goal
 
 -- the temporary of the next expression has the next number where this one is inserted

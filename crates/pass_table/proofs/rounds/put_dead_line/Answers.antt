@@ -1,6 +1,6 @@
 use Rattle.std.proofs.Common.{◌++◌, codes, length}
 use Rattle.pass_table.specs.Rounds.{became_skip, flags_below}
-use Rattle.pass_table.proofs.TurnLaws.{two_pieces}
+use Rattle.table_text.specs.TurnLaws.{two_pieces}
 use Rattle.pass_table.proofs.rounds.put_dead_line.Goals as goal
 
 -- the bits stand between the words of the line

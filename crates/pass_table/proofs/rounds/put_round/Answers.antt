@@ -11,7 +11,7 @@ use Rattle.pass_table.specs.Rounds.{IsSunkText}
 use Rattle.pass_table.specs.Sinkings.{IsSinkingOf}
 use Rattle.pass_table.specs.Stages.{IsFoundText, shown_text}
 use Rattle.pass_table.proofs.RoundLaws.{pruned_flow, round_at, round_split, sunk_pruned}
-use Rattle.pass_table.proofs.TurnLaws.{two_pieces}
+use Rattle.table_text.specs.TurnLaws.{two_pieces}
 use Rattle.pass_table.proofs.rounds.put_round.Goals as goal
 use Rattle.pass_table.proofs.rounds.put_round.Goals.{In_ok-sinking}
 

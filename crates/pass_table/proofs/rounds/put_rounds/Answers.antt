@@ -5,7 +5,7 @@ use Rattle.graph_edit.specs.GraphFlows.{IsFlowOf}
 use Rattle.table_text.specs.Lines.{names_of_units}
 use Rattle.pass_table.specs.Rounds.{IsRoundAt}
 use Rattle.pass_table.proofs.RoundLaws.{before_first}
-use Rattle.pass_table.proofs.TurnLaws.{next_turn, no_turn}
+use Rattle.table_text.specs.TurnLaws.{next_turn, no_turn}
 use Rattle.pass_table.proofs.rounds.put_rounds.Goals as goal
 
 pub put_round-requires-clause-number : goal.put_round-requires-clause-number

@@ -2,7 +2,7 @@ use Rattle.std.proofs.Common.{◌++◌, refl}
 use Rattle.table_text.specs.Lines.{names_of_units}
 use Rattle.table_text.specs.Nodes.{graph_text}
 use Rattle.pass_table.specs.Rounds.{sunk_line}
-use Rattle.pass_table.proofs.TurnLaws.{two_pieces}
+use Rattle.table_text.specs.TurnLaws.{two_pieces}
 use Rattle.pass_table.proofs.rounds.put_sunk.Goals as goal
 
 pub returns : goal.returns

@@ -2,7 +2,7 @@ use Rattle.std.proofs.Common.{◌<◌, ◌++◌, ◌∙◌, List, ℕ, add-one, 
 use Rattle.table_text.specs.Rows.{bits_line}
 use Rattle.pass_table.specs.Rounds.{variable_line, variables_below}
 use Rattle.pass_table.proofs.BitLaws.{have_bit}
-use Rattle.pass_table.proofs.TurnLaws.{two_pieces}
+use Rattle.table_text.specs.TurnLaws.{two_pieces}
 use Rattle.pass_table.proofs.rounds.put_variables.Goals as goal
 
 pub put_bits-requires : goal.put_bits-requires

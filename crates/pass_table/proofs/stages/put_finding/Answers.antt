@@ -1,6 +1,6 @@
 use Rattle.std.proofs.Common.{◌++◌, refl}
 use Rattle.pass_table.specs.Stages.{pass_line}
-use Rattle.pass_table.proofs.TurnLaws.{two_pieces}
+use Rattle.table_text.specs.TurnLaws.{two_pieces}
 use Rattle.pass_table.proofs.stages.put_finding.Goals as goal
 
 -- what is found out stands behind the name of the pass

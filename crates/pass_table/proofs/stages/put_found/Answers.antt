@@ -6,7 +6,7 @@ use Rattle.mir_opt.specs.declared.stages.Stage.TheVariants.{Lower, Clean, Split,
 use Rattle.table_text.specs.Turns.{AppendsSome}
 use Rattle.pass_table.specs.Patterns.{IsPatternsText}
 use Rattle.pass_table.specs.Stages.{IsFound}
-use Rattle.pass_table.proofs.TurnLaws.{no_piece}
+use Rattle.table_text.specs.TurnLaws.{no_piece}
 use Rattle.pass_table.proofs.stages.put_found.Goals as goal
 
 pub returns-in-Lower : goal.returns-in-Lower

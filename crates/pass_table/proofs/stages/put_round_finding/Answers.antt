@@ -5,7 +5,7 @@ use Rattle.mir_opt.specs.declared.stages.Stage.TheVariants.{Round}
 use Rattle.table_text.specs.Turns.{AppendsSome}
 use Rattle.pass_table.specs.Patterns.{IsPatternsText}
 use Rattle.pass_table.specs.Stages.{pass_line}
-use Rattle.pass_table.proofs.TurnLaws.{two_pieces}
+use Rattle.table_text.specs.TurnLaws.{two_pieces}
 use Rattle.pass_table.proofs.stages.put_round_finding.Goals as goal
 
 pub put_patterns_by-requires : goal.put_patterns_by-requires

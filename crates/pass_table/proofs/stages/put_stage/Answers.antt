@@ -1,7 +1,7 @@
 use Rattle.std.proofs.Common.{◌++◌, refl}
 use Rattle.table_text.specs.Lines.{names_of_units}
 use Rattle.pass_table.specs.Stages.{shown_text}
-use Rattle.pass_table.proofs.TurnLaws.{two_pieces}
+use Rattle.table_text.specs.TurnLaws.{two_pieces}
 use Rattle.pass_table.proofs.stages.put_stage.Goals as goal
 
 -- the graph stands behind what is found out

@@ -1,7 +1,7 @@
 use Rattle.std.proofs.Common.{◌≡◌, Some, length, option_map, refl, slice_get}
 use Rattle.std.proofs.lemmas.Option.{slice_get_read}
 use Rattle.pass_table.specs.States.{IsStateLine, state_line}
-use Rattle.pass_table.proofs.TurnLaws.{next_turn}
+use Rattle.table_text.specs.TurnLaws.{next_turn}
 use Rattle.pass_table.proofs.states.put_each.Goals as goal
 
 -- the line that is put says what is known before the next node

@@ -1,7 +1,7 @@
 use Rattle.std.proofs.Common.{◌≡◌, ℕ, ◌++◌, ◌∙◌, List, ap, length, refl, subst}
 use Rattle.value_number.specs.declared.all_terms.TermsAt.{TermsAt}
 use Rattle.pass_table.specs.Terms.{nodes_below, terms_below}
-use Rattle.pass_table.proofs.TurnLaws.{two_pieces}
+use Rattle.table_text.specs.TurnLaws.{two_pieces}
 use Rattle.pass_table.proofs.terms.put_terms.Goals as goal
 
 pub returns : goal.returns

@@ -3,7 +3,7 @@ use Rattle.std.proofs.lemmas.Option.{slice_get-get_or}
 use Rattle.table_text.specs.Lines.{names_of_units}
 use Rattle.pass_table.specs.Trails.{IsUnitAt}
 use Rattle.pass_table.specs.Units.{IsUnitLinked}
-use Rattle.pass_table.proofs.TurnLaws.{next_turn}
+use Rattle.table_text.specs.TurnLaws.{next_turn}
 use Rattle.pass_table.proofs.trails.put_units.Goals as goal
 
 pub put_unit_tables-requires : goal.put_unit_tables-requires

@@ -4,7 +4,7 @@ use Rattle.mir_opt.specs.declared.stages.Stage.TheVariants.{Lower}
 use Rattle.table_text.specs.Lines.{names_of_units}
 use Rattle.table_text.specs.Turns.{AppendsSome, InTurn}
 use Rattle.pass_table.specs.Units.{IsStageAt}
-use Rattle.pass_table.proofs.TurnLaws.{next_turn, no_turn}
+use Rattle.table_text.specs.TurnLaws.{next_turn, no_turn}
 use Rattle.pass_table.proofs.units.put_stages.Goals as goal
 
 pub loop-number-init : goal.loop-number-init

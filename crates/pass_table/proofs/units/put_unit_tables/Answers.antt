@@ -1,6 +1,6 @@
 use Rattle.std.proofs.Common.{List, ℕ, ◌++◌, ◌∙◌, ap, refl}
 use Rattle.table_text.specs.Lines.{unit_line}
-use Rattle.pass_table.proofs.TurnLaws.{two_pieces}
+use Rattle.table_text.specs.TurnLaws.{two_pieces}
 use Rattle.pass_table.proofs.units.put_unit_tables.Goals as goal
 
 pub put_stages-requires : goal.put_stages-requires
