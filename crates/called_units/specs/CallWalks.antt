@@ -10,7 +10,8 @@ use Rattle.flow_graph.specs.Numbering.{is_in}
 use Rattle.called_units.specs.CalledUnits.{IsCalled}
 
 -- a marked unit is on the stack, or is the one at hand, or the units that it calls are marked
-pub record FollowsCalls (program : ProgramShape) (marks : List Bool) (stack : List ℕ) (at_hand : Option ℕ) : Type 0 where
+pub record FollowsCalls (program : ProgramShape) (marks : List Bool) (stack : List ℕ)
+    (at_hand : Option ℕ) : Type 0 where
   pub long : length marks ≡ length program.units
   pub sound : (u : ℕ) → slice_get marks u ≡ Some true → IsCalled program u
   pub first_marked : slice_get marks 0 ≡ Some true
@@ -20,5 +21,6 @@ pub record FollowsCalls (program : ProgramShape) (marks : List Bool) (stack : Li
 
 -- of the first so many instructions of a body each call is of a marked unit
 abbrev pub CallsMarked : List Inst → ℕ → List Bool → Type 0
-CallsMarked body count marks = (place called : ℕ) (into : Option ℕ) (operands : List Operand) → place < count
+CallsMarked body count marks = (place called : ℕ) (into : Option ℕ) (operands : List Operand)
+    → place < count
     → slice_get body place ≡ Some (Call into called operands) → slice_get marks called ≡ Some true

@@ -16,7 +16,7 @@ use Rattle.called_units.specs.CalledUnits.{HasCalledUnits, IsCalled, MarkCalled,
 
 -- ---- one result
 
--- the marks are determined
+-- a program has one list of marks of the units that calls lead to
 pub marks_are_one : (program : ProgramShape) (a b : List Bool) → MarkCalled program a → MarkCalled program b → a ≡ b
 marks_are_one program a b p q = same_places a b by_place
   where
@@ -38,7 +38,7 @@ marks_are_one program a b p q = same_places a b by_place
       | inr ge ↦ slice_get_past a n (omega (arith, ge, p.long)) ∙ sym (slice_get_past b n (omega (arith, ge, q.long)))
     ]
 
--- and so is the program
+-- and one program of these units
 pub called_is_one : (source a b : ProgramShape) → HasCalledUnits source a → HasCalledUnits source b → a ≡ b
 called_is_one source a b p q = p.is ∙ ap (λ marks. only_marked marks source) (marks_are_one source p.marks q.marks p.are_marks q.are_marks) ∙ sym q.is
 
@@ -50,7 +50,8 @@ mapped_from f None y e = cc
 mapped_from f (Some x) y e = (x, refl, let same : f x ≡ y = cc in same)
 
 -- what is marked comes from a place that is
-unrank : {A : Type 0} (marks : List Bool) (xs : List A) (v : ℕ) (x : A) → slice_get (marked marks xs) v ≡ Some x → (u : ℕ) × (slice_get marks u ≡ Some true) × (slice_get xs u ≡ Some x) × (marked_below marks u ≡ v)
+unrank : {A : Type 0} (marks : List Bool) (xs : List A) (v : ℕ) (x : A) → slice_get (marked marks xs) v ≡ Some x
+    → (u : ℕ) × (slice_get marks u ≡ Some true) × (slice_get xs u ≡ Some x) × (marked_below marks u ≡ v)
 unrank [] xs v x e = cc
 unrank (true ∷ marks) [] v x e = cc
 unrank (false ∷ marks) [] v x e = cc
@@ -127,7 +128,8 @@ module _ (source : ProgramShape) (is : IsProgram source.globals source.units) (m
         body_of_unit None = []
         body_of_unit (Some x) = x.body
 
-    inst_fits : (place : ℕ) (inst : Inst) → slice_get unit.body place ≡ Some inst → InstFits source.units unit.body place inst → InstFits target.units body place (redirected_call to inst)
+    inst_fits : (place : ℕ) (inst : Inst) → slice_get unit.body place ≡ Some inst
+        → InstFits source.units unit.body place inst → InstFits target.units body place (redirected_call to inst)
     inst_fits place (Receive x) e f = omega (arith, f, receives_stay to unit.body)
     inst_fits place (Assign x rhs) e f = tt
     inst_fits place (Goto goal) e f = (omega (arith, f.0, receives_stay to unit.body), omega (arith, f.1, length-map unit.body (redirected_call to)))

@@ -32,7 +32,9 @@ redirected_transition to (Traps kind counted) = Traps kind counted
 
 module _ (to : ℕ → ℕ) (shared : ℕ) (frame : Frame) where
   -- either transition of a branch
-  either : (b : Bool) (one other : Transition) → redirected_transition to one ≡ one → redirected_transition to other ≡ other → (if b then one else other) ≡ redirected_transition to (if b then one else other)
+  either : (b : Bool) (one other : Transition) → redirected_transition to one ≡ one
+      → redirected_transition to other ≡ other
+      → (if b then one else other) ≡ redirected_transition to (if b then one else other)
   either true one other e f = sym e
   either false one other e f = sym f
 
@@ -43,7 +45,8 @@ module _ (to : ℕ → ℕ) (shared : ℕ) (frame : Frame) where
   assigns x (Binary op a b) place = either (traps op (operand_value frame.values b)) _ _ refl refl
 
   -- an instruction with another number does what it did, with this number
-  inst_redirected : (inst : Option Inst) → inst_transition shared (option_map (redirected_call to) inst) frame ≡ redirected_transition to (inst_transition shared inst frame)
+  inst_redirected : (inst : Option Inst)
+      → inst_transition shared (option_map (redirected_call to) inst) frame ≡ redirected_transition to (inst_transition shared inst frame)
   inst_redirected None = refl
   inst_redirected (Some (Receive x)) = refl
   inst_redirected (Some (Assign x rhs)) = assigns x rhs (frame.place + 1)
@@ -74,7 +77,9 @@ module _ (Is : ℕ → Type 0) (frame : Frame) where
   call_assigns x (Binary op a b) place = call_either (traps op (operand_value frame.values b)) _ _ tt tt
 
   -- of all instructions only a call has to be looked at
-  inst_calls : (shared : ℕ) (inst : Option Inst) → ((into : Option ℕ) (called : ℕ) (operands : List Operand) → inst ≡ Some (Call into called operands) → Is called) → CallIs Is (inst_transition shared inst frame)
+  inst_calls : (shared : ℕ) (inst : Option Inst)
+      → ((into : Option ℕ) (called : ℕ) (operands : List Operand) → inst ≡ Some (Call into called operands) → Is called)
+      → CallIs Is (inst_transition shared inst frame)
   inst_calls shared None calls = tt
   inst_calls shared (Some (Receive x)) calls = tt
   inst_calls shared (Some (Assign x rhs)) calls = call_assigns x rhs (frame.place + 1)
@@ -131,7 +136,9 @@ module _ (source : ProgramShape) (is : IsProgram source.globals source.units) (m
       ∙ inst_redirected rank (length source.globals) f (slice_get (body_at source.units u) f.place)
 
   -- a call in a unit of the program is of a unit of it
-  called_there : (u place called : ℕ) (unit : Option UnitShape) (into : Option ℕ) (operands : List Operand) → slice_get source.units u ≡ unit → slice_get (body_or_empty unit) place ≡ Some (Call into called operands) → called < length source.units
+  called_there : (u place called : ℕ) (unit : Option UnitShape) (into : Option ℕ) (operands : List Operand)
+      → slice_get source.units u ≡ unit → slice_get (body_or_empty unit) place ≡ Some (Call into called operands)
+      → called < length source.units
   called_there u place called None into operands at call = cc
   called_there u place called (Some unit) into operands at call = ((is.bodies u unit at).insts place (Call into called operands) call).0
 
@@ -163,7 +170,8 @@ module _ (source : ProgramShape) (is : IsProgram source.globals source.units) (m
   AfterReturn z answer (caller ∷ callers) = IsThere caller.unit × AllThere callers
 
   -- one step of each leads to where they are related again
-  step_meets : (z u : ℕ) (f : Frame) (callers : List Caller) (t : Transition) → codes_of source u f ≡ t → codes_of target (rank u) f ≡ redirected_transition rank t → CallIs IsThere t → IsThere u → AllThere callers
+  step_meets : (z u : ℕ) (f : Frame) (callers : List Caller) (t : Transition) → codes_of source u f ≡ t
+      → codes_of target (rank u) f ≡ redirected_transition rank t → CallIs IsThere t → IsThere u → AllThere callers
       → MeetsAgain Renamed (codes_of source) (codes_of target) z (record { unit = u; frame = f; callers = callers }) (record { unit = rank u; frame = f; callers = map new_caller callers })
   step_meets z u f callers (Continues counted next) e e' calls there all = record {
     steps = 1;

@@ -9,12 +9,14 @@ use Rattle.flow_graph.specs.Retained.{marked, marked_below}
 -- calls lead to the unit from the first one, as no call at all leads to the first
 pub data IsCalled (program : ProgramShape) : ℕ → Type 0 where
   at_first : IsCalled program 0
-  by_call : (unit called : ℕ) → IsCalled program unit → HasCall program unit called → IsCalled program called
+  by_call : (unit called : ℕ) → IsCalled program unit → HasCall program unit called
+      → IsCalled program called
 
 -- the marks of these units
 pub record MarkCalled (program : ProgramShape) (marks : List Bool) : Type 0 where
   pub long : length marks ≡ length program.units
-  pub exact : (u : ℕ) → u < length program.units → (slice_get marks u ≡ Some true) ↔ IsCalled program u
+  pub exact : (u : ℕ) → u < length program.units
+      → (slice_get marks u ≡ Some true) ↔ IsCalled program u
 
 -- the instruction with another number of the unit that it calls
 abbrev pub redirected_call : (ℕ → ℕ) → Inst → Inst

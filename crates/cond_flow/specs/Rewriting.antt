@@ -23,8 +23,8 @@ HasBecome rules states nodes made n = (node : Node) → slice_get nodes n ≡ So
 abbrev pub IsAmong : List ℕ → ℕ → ℕ → Type 0
 IsAmong list count n = (i : ℕ) × (i < count) × (slice_get list i ≡ Some n)
 
--- the first `count` of these nodes have become what they become, by states that pass from the first, and so have those
--- that had before
+-- Each node among the first `count` of the list has been rewritten by the state before it, which is the state at the first
+-- node of the block passed through the nodes between; every other node is as it was.
 pub record RewritesBlock {K : Type 0} (rules : Rules K) (along : Along K) (nodes : List Node) (list : List ℕ)
     (s : NodeState K) (count : ℕ) (old new : List Node) : Type 0 where
   pub long : length new ≡ length old

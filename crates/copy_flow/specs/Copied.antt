@@ -31,7 +31,8 @@ reread_node read (Return a) = Return (renamed_operand read a)
 pub record AreCopied (graph : GraphShape) (nodes : List Node) : Type 0 where
   pub read : ℕ → ℕ → ℕ
   pub is_read : (n v : ℕ) → n < length graph.nodes → IsReadFor graph v (read n v) n
-  pub nodes_are : (n : ℕ) → slice_get nodes n ≡ option_map (reread_node (read n)) (slice_get graph.nodes n)
+  pub nodes_are : (n : ℕ)
+      → slice_get nodes n ≡ option_map (reread_node (read n)) (slice_get graph.nodes n)
 
 -- the graph with these nodes in the place of the old ones
 pub record IsCopied (graph copied : GraphShape) : Type 0 where

@@ -45,5 +45,6 @@ HasOnlyCopies nodes table = (c : VarCopy) → Contains table c → (n : ℕ) × 
 
 -- of any two copies of the table, a node that is the earlier one stands before each node that is the later one
 abbrev pub AreInNodeOrder : List Node → List VarCopy → Type 0
-AreInNodeOrder nodes table = (i j : ℕ) (c d : VarCopy) → i < j → slice_get table i ≡ Some c → slice_get table j ≡ Some d
+AreInNodeOrder nodes table = (i j : ℕ) (c d : VarCopy) → i < j → slice_get table i ≡ Some c
+    → slice_get table j ≡ Some d
     → (m : ℕ) → HasKey copy_of nodes d m → (n : ℕ) × (n < m) × HasKey copy_of nodes c n

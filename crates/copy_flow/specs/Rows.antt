@@ -89,6 +89,8 @@ pub record IsAtNode (at : HeldAt) : Type 0 where
 abbrev pub read_at : HeldAt → ℕ → ℕ
 read_at at v = read_by at.copies.now at.node v
 
--- each node with what is read by the row of its number
+-- each new node is the old one of its number, in which each operand has given way to the variable that is read for it
+-- by the row of this node
 abbrev pub AreReread : HeldCopies → List Node → List Node → Type 0
-AreReread copies old nodes = (n : ℕ) → slice_get nodes n ≡ option_map (reread_node (read_by copies n)) (slice_get old n)
+AreReread copies old nodes = (n : ℕ)
+    → slice_get nodes n ≡ option_map (reread_node (read_by copies n)) (slice_get old n)

@@ -39,7 +39,8 @@ struct HeldAt<'a> {
 }
 
 impl<'a> HeldAt<'a> {
-    /// What a node becomes.
+    /// The node with the variable that is read for each of its variable operands; where it then assigns a variable to
+    /// itself, a Skip. It fails only with `Memory`.
     fn node(&self, alloc: Global, node: &Node) -> Result<Node, Memory>
         requires { IsAtNode self.now }
         ensures { IfOk result (λ made. made ≡ reread_node (read_at self.now) node.now) }

@@ -57,7 +57,8 @@ hinders graph e n = node_hinders graph e (slice_get graph.nodes n)
 -- the path comes to a node that uses e, and no node of it before that one hinders
 abbrev pub ComesTo : GraphShape → Expr → List ℕ → Type 0
 ComesTo graph e [] = ⊥
-ComesTo graph e (n ∷ path) = (uses graph e n ≡ true) ⊎ ((hinders graph e n ≡ false) × ComesTo graph e path)
+ComesTo graph e (n ∷ path) = (uses graph e n ≡ true)
+    ⊎ ((hinders graph e n ≡ false) × ComesTo graph e path)
 
 -- the path ends at a Return
 abbrev pub EndsAtReturn : List Node → List ℕ → Type 0
@@ -65,21 +66,24 @@ EndsAtReturn nodes path = (last : ℕ) × Ends last path × IsReturnAt nodes las
 
 -- the path has so many nodes, or ends at a Return with fewer
 abbrev pub GoesAsFar : List Node → ℕ → List ℕ → Type 0
-GoesAsFar nodes count path = (length path ≡ count) ⊎ ((length path < count) × EndsAtReturn nodes path)
+GoesAsFar nodes count path = (length path ≡ count)
+    ⊎ ((length path < count) × EndsAtReturn nodes path)
 
 -- there is a number of nodes, at least one, within which each path from node n comes to e; so no run from there goes on
 -- for ever before it
 pub record MustComeTo (graph : GraphShape) (e : Expr) (n : ℕ) : Type 0 where
   pub within : ℕ
   pub positive : 1 ≤ within
-  pub comes : (path : List ℕ) → IsPath graph.nodes path → Begins n path → GoesAsFar graph.nodes within path
+  pub comes : (path : List ℕ) → IsPath graph.nodes path → Begins n path
+      → GoesAsFar graph.nodes within path
       → ComesTo graph e path
 
 -- ---- runs
 
 -- a run of the graph from node n, with these arguments and values, comes to a node that uses e, after steps that show
 -- nothing, and the variables that e reads have their values still
-pub record RunComesTo (graph : GraphShape) (e : Expr) (n : ℕ) (arguments : List ℤ) (values : Values) : Type 0 where
+pub record RunComesTo (graph : GraphShape) (e : Expr) (n : ℕ) (arguments : List ℤ)
+    (values : Values) : Type 0 where
   pub steps : ℕ
   pub there : Frame
   pub counted : ℕ
@@ -90,4 +94,5 @@ pub record RunComesTo (graph : GraphShape) (e : Expr) (n : ℕ) (arguments : Lis
 
 -- so does each run from there
 abbrev pub RunsComeTo : GraphShape → Expr → ℕ → Type 0
-RunsComeTo graph e n = (arguments : List ℤ) (values : Values) → RunComesTo graph e n arguments values
+RunsComeTo graph e n = (arguments : List ℤ) (values : Values)
+    → RunComesTo graph e n arguments values

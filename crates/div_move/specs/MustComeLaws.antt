@@ -18,7 +18,8 @@ use Rattle.div_move.specs.MustCome.{ComesTo, GoesAsFar, MustComeTo, hinders, is_
 -- node n comes to e within so many nodes, step by step
 pub data MustBy (graph : GraphShape) (e : Expr) : ℕ → ℕ → Type 0 where
   at_use : (k n : ℕ) → uses graph e n ≡ true → MustBy graph e (suc k) n
-  by_all : (k n : ℕ) → hinders graph e n ≡ false → (s : ℕ) × HasEdge graph.nodes n s → ((s : ℕ) → HasEdge graph.nodes n s → MustBy graph e k s) → MustBy graph e (suc k) n
+  by_all : (k n : ℕ) → hinders graph e n ≡ false → (s : ℕ) × HasEdge graph.nodes n s
+      → ((s : ℕ) → HasEdge graph.nodes n s → MustBy graph e k s) → MustBy graph e (suc k) n
 
 -- ---- nodes and paths
 
@@ -53,13 +54,13 @@ longer : (nodes : List Node) (n s : ℕ) (path : List ℕ) → HasEdge nodes n s
 longer nodes n s [] edge is begins = absurd is
 longer nodes n s (p ∷ path) edge is begins = (subst (HasEdge nodes n) (sym begins) edge, is)
 
--- it goes as far, and one node more
+-- a path that goes as far as k nodes goes as far as one more with a node before it
 further : (nodes : List Node) (k n s : ℕ) (path : List ℕ) → Begins s path → GoesAsFar nodes k path → GoesAsFar nodes (suc k) (n ∷ path)
 further nodes k n s [] begins far = absurd begins
 further nodes k n s (p ∷ path) begins (inl long) = inl (omega (arith, long))
 further nodes k n s (p ∷ path) begins (inr less) = inr (omega (arith, less.0), less.1)
 
--- and the other way
+-- and a path that goes as far as k + 1 nodes goes as far as k without its first
 nearer : (nodes : List Node) (k n p : ℕ) (path : List ℕ) → GoesAsFar nodes (suc k) (n ∷ p ∷ path) → GoesAsFar nodes k (p ∷ path)
 nearer nodes k n p path (inl long) = inl (omega (arith, long))
 nearer nodes k n p path (inr less) = inr (omega (arith, less.0), less.1)
@@ -112,7 +113,8 @@ module _ (graph : GraphShape) (e : Expr) where
 
     -- what does not use e, and all of whose paths come to it, has a successor, does not hinder, and the paths of its
     -- successors come to it
-    by_one : (k n : ℕ) → n < length graph.nodes → uses graph e n ≡ false → Comes (suc (suc k)) n → (hinders graph e n ≡ false) × ((s : ℕ) × HasEdge graph.nodes n s) × ((s : ℕ) → HasEdge graph.nodes n s → Comes (suc k) s)
+    by_one : (k n : ℕ) → n < length graph.nodes → uses graph e n ≡ false → Comes (suc (suc k)) n
+        → (hinders graph e n ≡ false) × ((s : ℕ) × HasEdge graph.nodes n s) × ((s : ℕ) → HasEdge graph.nodes n s → Comes (suc k) s)
     by_one k n lt unused comes =
         let past : (path : List ℕ) → ComesTo graph e (n ∷ path) → (hinders graph e n ≡ false) × ComesTo graph e path = λ path c. elim c [ inl used ↦ absurd (true≢false (sym used ∙ unused)) | inr later ↦ later ] in
         let some : (s : ℕ) × HasEdge graph.nodes n s = elim (return_or_edge graph.nodes n lt) [
@@ -144,7 +146,8 @@ module _ (graph : GraphShape) (e : Expr) where
     -- ---- the laws
 
     -- a node that does not use e but must come to it does so step by step
-    onward : (k n : ℕ) → uses graph e n ≡ false → MustBy graph e k n → (hinders graph e n ≡ false) × ((s : ℕ) × HasEdge graph.nodes n s) × ((j : ℕ) × ((s : ℕ) → HasEdge graph.nodes n s → MustBy graph e j s))
+    onward : (k n : ℕ) → uses graph e n ≡ false → MustBy graph e k n
+        → (hinders graph e n ≡ false) × ((s : ℕ) × HasEdge graph.nodes n s) × ((j : ℕ) × ((s : ℕ) → HasEdge graph.nodes n s → MustBy graph e j s))
     onward k n unused (at_use j m used) = absurd (true≢false (sym used ∙ unused))
     onward k n unused (by_all j m free some all) = (free, some, (j, all))
 

@@ -15,7 +15,8 @@ use Rattle.div_move.specs.SlotLaws.{slots_rank_le}
 -- ---- sizes
 
 -- a bit for each expression
-pub length_down : (halt : Bool) (uses kills : List Bool) (known : List (Bool × Bool)) → length uses ≡ length known → length kills ≡ length known → length (down_bits halt uses kills known) ≡ length known
+pub length_down : (halt : Bool) (uses kills : List Bool) (known : List (Bool × Bool)) → length uses ≡ length known
+    → length kills ≡ length known → length (down_bits halt uses kills known) ≡ length known
 length_down halt [] kills [] p q = refl
 length_down halt [] kills (k ∷ known) p q = absurd (omega (arith, p))
 length_down halt (u ∷ uses) [] [] p q = refl
@@ -41,7 +42,8 @@ down_bit_up halt false killed x y p h = by x.0 x.1 y.0 y.1 (killed || halt) p.0 
     by false b c d k p q h = absurd (cc)
 
 -- of all expressions
-down_up : (halt : Bool) (uses kills : List Bool) (xs ys : List (Bool × Bool)) → BelowSlots xs ys → BelowBits (down_bits halt uses kills xs) (down_bits halt uses kills ys)
+down_up : (halt : Bool) (uses kills : List Bool) (xs ys : List (Bool × Bool)) → BelowSlots xs ys
+    → BelowBits (down_bits halt uses kills xs) (down_bits halt uses kills ys)
 down_up halt [] kills xs ys p = tt
 down_up halt (u ∷ uses) [] xs ys p = tt
 down_up halt (u ∷ uses) (c ∷ kills) [] [] p = tt
@@ -65,11 +67,13 @@ arriving_up first second (x ∷ xs) (y ∷ ys) p = ((and_up first x y p.0, and_u
 
 module _ {L : Type 0} (f : SlotFlow L) (is : IsSlotFlow f) where
   -- an edge of the flow leads from node to node
-  pub flow_ends : (e : ℕ) → e < length (flow_edges true f.graph.now.nodes) → ((edge_at (flow_edges true f.graph.now.nodes) e).source < length f.graph.now.nodes) × ((edge_at (flow_edges true f.graph.now.nodes) e).target < length f.graph.now.nodes)
+  pub flow_ends : (e : ℕ) → e < length (flow_edges true f.graph.now.nodes)
+      → ((edge_at (flow_edges true f.graph.now.nodes) e).source < length f.graph.now.nodes) × ((edge_at (flow_edges true f.graph.now.nodes) e).target < length f.graph.now.nodes)
   flow_ends e h = (flow_edges_are f.graph.now.nodes is.within true).ends e (edge_at (flow_edges true f.graph.now.nodes) e) (slice_get-get_or (flow_edges true f.graph.now.nodes) e _ h)
 
   -- a row of a node has as many bits as a value of this size
-  pub down_long : (n : ℕ) (known : List (Bool × Bool)) → n < length f.graph.now.nodes → length known ≡ f.bits → length (down_bits (halts_at f.graph.now.nodes n) (row_of f.uses.now n) (row_of f.kills.now n) known) ≡ f.bits
+  pub down_long : (n : ℕ) (known : List (Bool × Bool)) → n < length f.graph.now.nodes → length known ≡ f.bits
+      → length (down_bits (halts_at f.graph.now.nodes n) (row_of f.uses.now n) (row_of f.kills.now n) known) ≡ f.bits
   down_long n known within size = length_down (halts_at f.graph.now.nodes n) (row_of f.uses.now n) (row_of f.kills.now n) known (is.use_rows.each n within ∙ sym size) (is.kill_rows.each n within ∙ sym size) ∙ size
 
 -- so the flow keeps the laws

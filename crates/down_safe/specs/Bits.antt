@@ -11,7 +11,8 @@ use Rattle.motion_rewrite.specs.Placements.{ReachesAlong}
 
 -- available: every path from Start to n has, before n, a use such that neither it nor a later node before n kills
 abbrev pub IsAvailableBit : List Node → (ℕ → Bool) → (ℕ → Bool) → ℕ → Type 0
-IsAvailableBit nodes used killed n = (before : List ℕ) → Trace nodes n before → ReachesAlong (λ m. used m ≡ true) killed before
+IsAvailableBit nodes used killed n = (before : List ℕ) → Trace nodes n before
+    → ReachesAlong (λ m. used m ≡ true) killed before
 
 -- a frontier: the node kills, or is neither up nor down, so nothing is evaluated before it for what follows it
 abbrev pub is_frontier : Bool → Bool → Bool → Bool
@@ -19,17 +20,21 @@ is_frontier killed up down = killed || not (up || down)
 
 -- earliest: n is down, and some predecessor is a frontier
 abbrev pub IsEarliestBit : List Node → (ℕ → Bool) → (ℕ → Bool) → (ℕ → Bool) → ℕ → Type 0
-IsEarliestBit nodes killed up down n = (down n ≡ true) × ((m : ℕ) × HasEdge nodes m n × (is_frontier (killed m) (up m) (down m) ≡ true))
+IsEarliestBit nodes killed up down n = (down n ≡ true)
+    × ((m : ℕ) × HasEdge nodes m n × (is_frontier (killed m) (up m) (down m) ≡ true))
 
 -- ---- all bits
 
 -- the rows say where each bit is available
-abbrev pub AreAvailableRows : GraphShape → List (List Bool) → List (List Bool) → List (List Bool) → Type 0
+abbrev pub AreAvailableRows : GraphShape → List (List Bool) → List (List Bool) → List (List Bool)
+    → Type 0
 AreAvailableRows graph uses kills rows = Tell graph (width kills) rows (λ b. IsAvailableBit graph.nodes (has_bit uses b) (has_bit kills b))
 
 -- the rows say where each bit has a frontier
-abbrev pub AreFrontierRows : List (List Bool) → List (List Bool) → List (List Bool) → List (List Bool) → Type 0
-AreFrontierRows kills up down rows = (n b : ℕ) → n < length kills → b < width kills → has_bit rows b n ≡ is_frontier (has_bit kills b n) (has_bit up b n) (has_bit down b n)
+abbrev pub AreFrontierRows : List (List Bool) → List (List Bool) → List (List Bool)
+    → List (List Bool) → Type 0
+AreFrontierRows kills up down rows = (n b : ℕ) → n < length kills → b < width kills
+    → has_bit rows b n ≡ is_frontier (has_bit kills b n) (has_bit up b n) (has_bit down b n)
 
 -- the rows say where each bit is earliest
 abbrev pub AreEarliestRows : GraphShape → List (List Bool) → List (List Bool) → List (List Bool)

@@ -28,7 +28,8 @@ IsEarliest graph e Down n = Down n
     × ((m : ℕ) × HasEdge graph.nodes m n × ((kills graph e m ≡ true) ⊎ (IsSafe graph e Down m → ⊥)))
 
 -- the rows say where each expression of the table is used, available, down by the rule, and earliest
-pub record AreBusyRows (graph : GraphShape) (table : List Expr) (Down : Expr → ℕ → Type 0) (busy : Busy) : Type 0 where
+pub record AreBusyRows (graph : GraphShape) (table : List Expr) (Down : Expr → ℕ → Type 0)
+    (busy : Busy) : Type 0 where
   pub uses : AreRowsOf graph table (uses graph) busy.uses
   pub up : AreRowsWhere graph table (IsAvailable graph) busy.up
   pub down : AreRowsWhere graph table Down busy.down
@@ -42,7 +43,8 @@ pub record AreEarliestOf (graph : GraphShape) (table : List Expr) (Down : Expr �
 
 -- it inserts at the earliest nodes, and replaces every use
 pub record IsBusy (graph : GraphShape) (e : Expr) (Down : ℕ → Type 0) (p : Places) : Type 0 where
-  pub inserts_at : (n : ℕ) → n < length graph.nodes → (p.inserts n ≡ true) ↔ IsEarliest graph e Down n
+  pub inserts_at : (n : ℕ) → n < length graph.nodes
+      → (p.inserts n ≡ true) ↔ IsEarliest graph e Down n
   pub replaces_at : (n : ℕ) → n < length graph.nodes → p.replaces n ≡ uses graph e n
 
 -- the placement is the busy one of each expression of the table

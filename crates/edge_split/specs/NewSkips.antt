@@ -8,7 +8,8 @@ use Rattle.edge_split.specs.Split.{has_more, joins_among, through_skips, with_su
 
 -- for each of these successors that is a join one more Skip has been made
 abbrev pub MakesSkips : NewSkips → NewSkips → List ℕ → Type 0
-MakesSkips old new succs = new.made.items ≡ old.made.items ++ map Skip (joins_among (has_more old.entries.items) succs)
+MakesSkips old new succs = new.made.items
+    ≡ old.made.items ++ map Skip (joins_among (has_more old.entries.items) succs)
 
 -- these successors, or the next new Skips in the place of those that are joins
 abbrev pub succs_through : NewSkips → List ℕ → List ℕ

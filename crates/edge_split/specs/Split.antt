@@ -21,7 +21,8 @@ CountEntries nodes counts = (s : ℕ) → slice_index counts s ≡ min 2 (length
 
 -- and these successors counted too
 abbrev pub AddEntries : List ℕ → List ℕ → List ℕ → Type 0
-AddEntries counts counts' succs = (s : ℕ) → slice_index counts' s ≡ min 2 (slice_index counts s + times_in s succs)
+AddEntries counts counts' succs = (s : ℕ)
+    → slice_index counts' s ≡ min 2 (slice_index counts s + times_in s succs)
 
 -- one more for one node
 abbrev pub entered_again : List ℕ → ℕ → List ℕ
@@ -63,7 +64,7 @@ rerouted join k (node ∷ nodes) =
     with_succs node (through_skips join k (node_succs node)) ∷ rerouted join
     (k + length (joins_among join (node_succs node))) nodes
 
--- and after them the new Skips, one for each edge into a join
+-- the old nodes, whose edges into joins lead to new Skips, and after them these Skips, one for each such edge
 abbrev pub split_nodes : List Node → List Node
 split_nodes nodes = rerouted (is_join nodes) (length nodes) nodes ++ map (λ edge. Skip edge.target) (joining nodes)
 

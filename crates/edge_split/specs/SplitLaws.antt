@@ -14,7 +14,8 @@ module _ (join : ℕ → Bool) (x : ℕ) (rhs : Rhs) (next : ℕ) where
   assigns_still : (k : ℕ) → (after : ℕ) × (with_succs (Assign x rhs next) (through_skips join k (next ∷ [])) ≡ Assign x rhs after)
   assigns_still k = elim (join next) as (λ b. (after : ℕ) × (with_succs (Assign x rhs next) (if b then k ∷ [] else next ∷ []) ≡ Assign x rhs after)) [ true ↦ (k, refl) | false ↦ (next, refl) ]
 
-  rerouted_assigns : (nodes : List Node) (k n : ℕ) → slice_get nodes n ≡ Some (Assign x rhs next) → (after : ℕ) × (slice_get (rerouted join k nodes) n ≡ Some (Assign x rhs after))
+  rerouted_assigns : (nodes : List Node) (k n : ℕ) → slice_get nodes n ≡ Some (Assign x rhs next)
+      → (after : ℕ) × (slice_get (rerouted join k nodes) n ≡ Some (Assign x rhs after))
   rerouted_assigns [] k n is = cc
   rerouted_assigns (node ∷ nodes) k zero is =
       let same : node ≡ Assign x rhs next = cc in

@@ -133,7 +133,8 @@ first_is nodes n first m glued = let bad = sym first ∙ glued_not_first nodes m
 -- ---- chains
 
 -- one more node at the end
-pub chain_more : (nodes : List Node) (chain : List ℕ) (m n : ℕ) → n < length nodes → IsChain nodes chain → Ends m chain → IsGlued nodes m n → IsChain nodes (chain ++ n ∷ [])
+pub chain_more : (nodes : List Node) (chain : List ℕ) (m n : ℕ) → n < length nodes → IsChain nodes chain
+    → Ends m chain → IsGlued nodes m n → IsChain nodes (chain ++ n ∷ [])
 chain_more nodes [] m n h is ends glued = absurd is
 chain_more nodes (k ∷ []) m n h is ends glued = (subst (λ j. IsGlued nodes j n) (sym ends) glued, h)
 chain_more nodes (j ∷ k ∷ chain) m n h is ends glued = (is.0, chain_more nodes (k ∷ chain) m n h is.1 ends glued)
@@ -150,20 +151,23 @@ ends_more (k ∷ []) m n e = refl
 ends_more (j ∷ k ∷ chain) m n e = ends_more (k ∷ chain) m n e
 
 -- a node after the first is glued to the one before
-pub chain_inner : (nodes : List Node) (chain : List ℕ) (i n : ℕ) → IsChain nodes chain → slice_get chain (suc i) ≡ Some n → (m : ℕ) × (slice_get chain i ≡ Some m) × IsGlued nodes m n
+pub chain_inner : (nodes : List Node) (chain : List ℕ) (i n : ℕ) → IsChain nodes chain
+    → slice_get chain (suc i) ≡ Some n → (m : ℕ) × (slice_get chain i ≡ Some m) × IsGlued nodes m n
 chain_inner nodes [] i n is e = absurd is
 chain_inner nodes (k ∷ []) i n is e = cc
 chain_inner nodes (k ∷ l ∷ chain) zero n is e = let same : l ≡ n = cc in (k, refl, subst (IsGlued nodes k) same is.0)
 chain_inner nodes (k ∷ l ∷ chain) (suc i) n is e = chain_inner nodes (l ∷ chain) i n is.1 e
 
 -- so the first is the only one that nothing is glued to
-pub chain_first : (nodes : List Node) (chain : List ℕ) (i head n : ℕ) → IsChain nodes chain → Begins head chain → slice_get chain i ≡ Some n → IsFirst nodes n → n ≡ head
+pub chain_first : (nodes : List Node) (chain : List ℕ) (i head n : ℕ) → IsChain nodes chain → Begins head chain
+    → slice_get chain i ≡ Some n → IsFirst nodes n → n ≡ head
 chain_first nodes [] i head n is b e first = absurd is
 chain_first nodes (k ∷ chain) zero head n is b e first = let same : k ≡ n = cc in sym same ∙ b
 chain_first nodes (k ∷ chain) (suc i) head n is b e first = let before = chain_inner nodes (k ∷ chain) i n is e in absurd (first before.0 before.2)
 
 -- a node that is not the last is followed in the chain
-pub chain_on : (nodes : List Node) (chain : List ℕ) (i m : ℕ) → IsChain nodes chain → slice_get chain i ≡ Some m → Ends m chain ⊎ ((n : ℕ) × (slice_get chain (suc i) ≡ Some n) × IsGlued nodes m n)
+pub chain_on : (nodes : List Node) (chain : List ℕ) (i m : ℕ) → IsChain nodes chain → slice_get chain i ≡ Some m
+    → Ends m chain ⊎ ((n : ℕ) × (slice_get chain (suc i) ≡ Some n) × IsGlued nodes m n)
 chain_on nodes [] i m is e = absurd is
 chain_on nodes (k ∷ []) zero m is e = inl (cc)
 chain_on nodes (k ∷ []) (suc i) m is e = cc
@@ -171,7 +175,8 @@ chain_on nodes (k ∷ l ∷ chain) zero m is e = let same : k ≡ m = cc in inr 
 chain_on nodes (k ∷ l ∷ chain) (suc i) m is e = chain_on nodes (l ∷ chain) i m is.1 e
 
 -- the nodes of a chain are nodes of the graph
-pub chain_within : (nodes : List Node) (chain : List ℕ) (i n : ℕ) → ((m k : ℕ) → HasEdge nodes m k → m < length nodes) → IsChain nodes chain → slice_get chain i ≡ Some n → n < length nodes
+pub chain_within : (nodes : List Node) (chain : List ℕ) (i n : ℕ) → ((m k : ℕ) → HasEdge nodes m k → m < length nodes)
+    → IsChain nodes chain → slice_get chain i ≡ Some n → n < length nodes
 chain_within nodes [] i n within is e = absurd is
 chain_within nodes (k ∷ []) zero n within is e = let same : k ≡ n = cc in subst (λ j. j < length nodes) same is
 chain_within nodes (k ∷ []) (suc i) n within is e = cc
@@ -197,7 +202,8 @@ chain_ends nodes (k ∷ []) is = (k, refl)
 chain_ends nodes (j ∷ k ∷ chain) is = chain_ends nodes (k ∷ chain) is.1
 
 -- two chains that cannot be made longer at the beginning, and share a node, begin alike
-same_begin : (nodes : List Node) (xs ys : List ℕ) (i j h g n : ℕ) → IsChain nodes xs → IsChain nodes ys → Begins h xs → Begins g ys → IsFirst nodes h → IsFirst nodes g → slice_get xs i ≡ Some n → slice_get ys j ≡ Some n → h ≡ g
+same_begin : (nodes : List Node) (xs ys : List ℕ) (i j h g n : ℕ) → IsChain nodes xs → IsChain nodes ys → Begins h xs
+    → Begins g ys → IsFirst nodes h → IsFirst nodes g → slice_get xs i ≡ Some n → slice_get ys j ≡ Some n → h ≡ g
 same_begin nodes [] ys i j h g n is is' b b' first first' e e' = absurd is
 same_begin nodes (k ∷ xs) ys zero j h g n is is' b b' first first' e e' =
     let at : k ≡ n = cc in
@@ -246,7 +252,9 @@ one_place nodes list (suc i) (suc j) n block e e' =
 -- ---- a graph has one list of blocks
 
 -- two chains that cannot be made longer at the end, and begin alike, are equal
-same_chain : (nodes : List Node) (xs ys : List ℕ) (h : ℕ) → IsChain nodes xs → IsChain nodes ys → ((m : ℕ) → Ends m xs → IsLast nodes m) → ((m : ℕ) → Ends m ys → IsLast nodes m) → Begins h xs → Begins h ys → xs ≡ ys
+same_chain : (nodes : List Node) (xs ys : List ℕ) (h : ℕ) → IsChain nodes xs → IsChain nodes ys
+    → ((m : ℕ) → Ends m xs → IsLast nodes m) → ((m : ℕ) → Ends m ys → IsLast nodes m) → Begins h xs → Begins h ys
+    → xs ≡ ys
 same_chain nodes [] ys h is is' last last' b b' = absurd is
 same_chain nodes (k ∷ xs) [] h is is' last last' b b' = absurd is'
 same_chain nodes (k ∷ []) (j ∷ []) h is is' last last' b b' = let same : k ≡ j = b ∙ sym b' in ap (λ n. n ∷ []) same

@@ -45,7 +45,8 @@ pub record StandsIn (lists : List (List ℕ)) (b n : ℕ) : Type 0 where
 -- each list is a block, each node stands in one, and they are in order of their first nodes
 pub record IsBlocks (nodes : List Node) (lists : List (List ℕ)) : Type 0 where
   pub blocks : (b : ℕ) (list : List ℕ) → slice_get lists b ≡ Some list → IsBlock nodes list
-  pub ascend : (b c m n : ℕ) (early late : List ℕ) → b < c → slice_get lists b ≡ Some early → slice_get lists c ≡ Some late → Begins m early → Begins n late → m < n
+  pub ascend : (b c m n : ℕ) (early late : List ℕ) → b < c → slice_get lists b ≡ Some early
+      → slice_get lists c ≡ Some late → Begins m early → Begins n late → m < n
   pub every : (n : ℕ) → n < length nodes → (b : ℕ) × StandsIn lists b n
 
 -- the blocks as contracts see them, and how many nodes there are
@@ -105,7 +106,8 @@ AreStarts end (s ∷ e ∷ starts) = (s ≤ e) × AreStarts end (e ∷ starts)
 -- what `Blocks` keeps: the nodes in order of blocks, where each block begins, and the block of each node
 pub record AreParts (order starts block_of : List ℕ) : Type 0 where
   pub starts_are : AreStarts (length order) starts
-  pub stands : (n : ℕ) → n < length block_of → StandsIn (parts_at order starts) (slice_index_or block_of n 0) n
+  pub stands : (n : ℕ) → n < length block_of
+      → StandsIn (parts_at order starts) (slice_index_or block_of n 0) n
 
 -- ---- while they are made
 
@@ -119,19 +121,23 @@ IsUnplaced none block_of n = slice_index_or block_of n none ≡ none
 
 -- a node that has its block is glued only to a node that has its block
 abbrev pub GluedToPlaced : List Node → List ℕ → Type 0
-GluedToPlaced nodes block_of = (m n : ℕ) → IsGlued nodes m n → IsPlaced (length nodes) block_of n → IsPlaced (length nodes) block_of m
+GluedToPlaced nodes block_of = (m n : ℕ) → IsGlued nodes m n → IsPlaced (length nodes) block_of n
+    → IsPlaced (length nodes) block_of m
 
 -- the blocks whose first nodes are below this number
-pub record AreMade (nodes : List Node) (below : ℕ) (lists : List (List ℕ)) (block_of : List ℕ) : Type 0 where
+pub record AreMade (nodes : List Node) (below : ℕ) (lists : List (List ℕ))
+    (block_of : List ℕ) : Type 0 where
   pub long : length block_of ≡ length nodes
   pub few : length lists ≤ below
   pub blocks : (b : ℕ) (list : List ℕ) → slice_get lists b ≡ Some list → IsBlock nodes list
   pub under : (b n : ℕ) (list : List ℕ) → slice_get lists b ≡ Some list → Begins n list → n < below
-  pub ascend : (b c m n : ℕ) (early late : List ℕ) → b < c → slice_get lists b ≡ Some early → slice_get lists c ≡ Some late → Begins m early → Begins n late → m < n
+  pub ascend : (b c m n : ℕ) (early late : List ℕ) → b < c → slice_get lists b ≡ Some early
+      → slice_get lists c ≡ Some late → Begins m early → Begins n late → m < n
   pub firsts : (n : ℕ) → n < below → IsFirst nodes n → IsPlaced (length nodes) block_of n
   pub placed_under : (n : ℕ) → IsFirst nodes n → IsPlaced (length nodes) block_of n → n < below
   pub closed : GluedToPlaced nodes block_of
-  pub sound : (n : ℕ) → IsPlaced (length nodes) block_of n → StandsIn lists (slice_index_or block_of n (length nodes)) n
+  pub sound : (n : ℕ) → IsPlaced (length nodes) block_of n
+      → StandsIn lists (slice_index_or block_of n (length nodes)) n
   pub complete : (b n : ℕ) → StandsIn lists b n → IsPlaced (length nodes) block_of n
 
 -- and how they are kept
@@ -140,20 +146,25 @@ pub record AreStored (nodes : List Node) (below : ℕ) (order starts block_of : 
   pub made : AreMade nodes below (parts_at order starts) block_of
 
 -- from its first node a block has been followed to this node
-pub record IsBlockSoFar (nodes : List Node) (head node block : ℕ) (order longer block_of after : List ℕ) : Type 0 where
+pub record IsBlockSoFar (nodes : List Node) (head node block : ℕ)
+    (order longer block_of after : List ℕ) : Type 0 where
   pub chain : List ℕ
   pub longer_is : longer ≡ order ++ chain
   pub is_chain : IsChain nodes chain
   pub begins : Begins head chain
   pub ends : Ends node chain
   pub long : length after ≡ length nodes
-  pub were : (n : ℕ) → (slice_index_or after n (length nodes) ≡ slice_index_or block_of n (length nodes)) ⊎ ((slice_index_or after n (length nodes) ≡ block) × ((i : ℕ) × (slice_get chain i ≡ Some n)))
+  pub were : (n : ℕ)
+      → (slice_index_or after n (length nodes) ≡ slice_index_or block_of n (length nodes))
+      ⊎ ((slice_index_or after n (length nodes) ≡ block) × ((i : ℕ) × (slice_get chain i ≡ Some n)))
   pub put : (i n : ℕ) → slice_get chain i ≡ Some n → slice_index_or after n (length nodes) ≡ block
-  pub closed : (m n : ℕ) → IsGlued nodes m n → IsPlaced (length nodes) after n → IsPlaced (length nodes) after m × (m ≢ node)
+  pub closed : (m n : ℕ) → IsGlued nodes m n → IsPlaced (length nodes) after n
+      → IsPlaced (length nodes) after m × (m ≢ node)
 
 -- a block has been followed from its first node to its last
 abbrev pub IsFollowedBlock : List Node → ℕ → ℕ → List ℕ → List ℕ → List ℕ → List ℕ → Type 0
-IsFollowedBlock nodes head block order longer block_of after = (node : ℕ) × IsBlockSoFar nodes head node block order longer block_of after × IsLast nodes node
+IsFollowedBlock nodes head block order longer block_of after = (node : ℕ)
+    × IsBlockSoFar nodes head node block order longer block_of after × IsLast nodes node
 
 -- how many have no block yet
 abbrev pub unplaced : ℕ → List ℕ → ℕ

@@ -20,7 +20,8 @@ pub edge_within : (nodes : List Node) (m s : ℕ) → HasEdge nodes m s → m < 
 edge_within nodes m s edge = slot_within nodes m edge.0 s edge.1
 
 -- a node that is reached is one of the list, where each edge leads to one
-pub reached_within : (nodes : List Node) → 0 < length nodes → ((m slot s : ℕ) → IsEdge nodes m slot s → s < length nodes) → (n : ℕ) → Reached nodes n → n < length nodes
+pub reached_within : (nodes : List Node) → 0 < length nodes
+    → ((m slot s : ℕ) → IsEdge nodes m slot s → s < length nodes) → (n : ℕ) → Reached nodes n → n < length nodes
 reached_within nodes some within zero at_start = some
 reached_within nodes some within n (along m slot s reached edge) = within m slot n edge
 

@@ -24,12 +24,15 @@ pub record DividesAt (nodes : List Node) (n x : ℕ) (op : Op) : Type 0 where
 -- same operands, and no two at one place: they are in their old order
 pub record DividesUnchanged (nodes result : List Node) : Type 0 where
   pub place : ℕ → ℕ
-  pub stays : (n x : ℕ) (op : Op) (left right : Operand) → DividesOf nodes n x op left right → DividesOf result (place n) x op left right
-  pub in_order : (n m x y : ℕ) (op other : Op) → DividesAt nodes n x op → DividesAt nodes m y other → n < m → place n < place m
+  pub stays : (n x : ℕ) (op : Op) (left right : Operand) → DividesOf nodes n x op left right
+      → DividesOf result (place n) x op left right
+  pub in_order : (n m x y : ℕ) (op other : Op) → DividesAt nodes n x op → DividesAt nodes m y other
+      → n < m → place n < place m
 
 -- each node that divides stands in the result at `place` of its number, with the same variable and the same operator, and
 -- no two at one place: they are in their old order
 pub record DividesStay (nodes result : List Node) : Type 0 where
   pub place : ℕ → ℕ
   pub stays : (n x : ℕ) (op : Op) → DividesAt nodes n x op → DividesAt result (place n) x op
-  pub in_order : (n m x y : ℕ) (op other : Op) → DividesAt nodes n x op → DividesAt nodes m y other → n < m → place n < place m
+  pub in_order : (n m x y : ℕ) (op other : Op) → DividesAt nodes n x op → DividesAt nodes m y other
+      → n < m → place n < place m

@@ -21,7 +21,7 @@ unchanged_stay nodes result p = record {
   in_order = p.in_order;
 }
 
--- two passes
+-- divisions that stay through a pass, and through the next one, stay through both
 pub stay_trans : (a b c : List Node) → DividesStay a b → DividesStay b c → DividesStay a c
 stay_trans a b c p q = record {
   place = λ n. q.place (p.place n);
@@ -29,7 +29,7 @@ stay_trans a b c p q = record {
   in_order = λ n m x y op other at at' lt. q.in_order (p.place n) (p.place m) x y op other (p.stays n x op at) (p.stays m y other at') (p.in_order n m x y op other at at' lt);
 }
 
--- two passes that change none
+-- and where neither pass changes one, both together do not
 pub unchanged_trans : (a b c : List Node) → DividesUnchanged a b → DividesUnchanged b c → DividesUnchanged a c
 unfolding stay_trans unchanged_stay
 unchanged_trans a b c p q = record {

@@ -14,7 +14,8 @@ use Rattle.flow_graph.specs.Lowered.{all_nodes}
 use Rattle.flow_graph.specs.Numbering.{renamed_operand}
 
 -- the instruction at this place assigns to the variable x, by this operator, what these operands give, and divides
-pub record InstDivides (body : List Inst) (place x : ℕ) (op : Op) (left right : Operand) : Type 0 where
+pub record InstDivides (body : List Inst) (place x : ℕ) (op : Op)
+    (left right : Operand) : Type 0 where
   pub is : slice_get body place ≡ Some (Assign x (Binary op left right))
   pub may_trap : divides (Binary op left right) ≡ true
 
@@ -26,9 +27,14 @@ IsReachedPlace body place = Reached (all_nodes body) (suc place)
 -- its operator and its operands, and they are in their old order; its variables are those of the unit
 pub record DivisionsLowered (unit : UnitShape) (graph : GraphShape) : Type 0 where
   pub node : ℕ → ℕ
-  pub below : (place x : ℕ) (op : Op) (left right : Operand) → InstDivides unit.body place x op left right → AllBelow (length unit.vars) (x ∷ operand_vars left ++ operand_vars right)
-  pub stays : (place x : ℕ) (op : Op) (left right : Operand) → IsReachedPlace unit.body place → InstDivides unit.body place x op left right → DividesOf graph.nodes (node place) x op left right
-  pub in_order : (place later x : ℕ) (op : Op) (left right : Operand) → IsReachedPlace unit.body place → InstDivides unit.body place x op left right → place < later → node place < node later
+  pub below : (place x : ℕ) (op : Op) (left right : Operand)
+      → InstDivides unit.body place x op left right
+      → AllBelow (length unit.vars) (x ∷ operand_vars left ++ operand_vars right)
+  pub stays : (place x : ℕ) (op : Op) (left right : Operand) → IsReachedPlace unit.body place
+      → InstDivides unit.body place x op left right → DividesOf graph.nodes (node place) x op left right
+  pub in_order : (place later x : ℕ) (op : Op) (left right : Operand)
+      → IsReachedPlace unit.body place
+      → InstDivides unit.body place x op left right → place < later → node place < node later
 
 -- these variables have by other numbers the names that they had
 abbrev pub KeepNames : (ℕ → ℕ) → List (List ℕ) → List (List ℕ) → List ℕ → Type 0
@@ -37,7 +43,8 @@ KeepNames to old new (x ∷ xs) = (slice_get new (to x) ≡ slice_get old x) × 
 
 -- the instruction at this place of the unit assigns to the variable x, by this operator, what these operands give, and
 -- divides; the variables have other numbers there, by which they have the names that they had
-pub record DividesAs (to : ℕ → ℕ) (old : List (List ℕ)) (unit : UnitShape) (place x : ℕ) (op : Op) (left right : Operand) : Type 0 where
+pub record DividesAs (to : ℕ → ℕ) (old : List (List ℕ)) (unit : UnitShape) (place x : ℕ) (op : Op)
+    (left right : Operand) : Type 0 where
   pub is : InstDivides unit.body place (to x) op (renamed_operand to left) (renamed_operand to right)
   pub names : KeepNames to old unit.vars (x ∷ operand_vars left ++ operand_vars right)
 
@@ -46,5 +53,7 @@ pub record DividesAs (to : ℕ → ℕ) (old : List (List ℕ)) (unit : UnitShap
 pub record DivisionsLaid (graph : GraphShape) (unit : UnitShape) : Type 0 where
   pub place : ℕ → ℕ
   pub to : ℕ → ℕ
-  pub stays : (n x : ℕ) (op : Op) (left right : Operand) → DividesOf graph.nodes n x op left right → DividesAs to graph.vars unit (place n) x op left right
-  pub apart : (n m x y : ℕ) (op other : Op) → DividesAt graph.nodes n x op → DividesAt graph.nodes m y other → place n ≡ place m → n ≡ m
+  pub stays : (n x : ℕ) (op : Op) (left right : Operand) → DividesOf graph.nodes n x op left right
+      → DividesAs to graph.vars unit (place n) x op left right
+  pub apart : (n m x y : ℕ) (op other : Op) → DividesAt graph.nodes n x op
+      → DividesAt graph.nodes m y other → place n ≡ place m → n ≡ m

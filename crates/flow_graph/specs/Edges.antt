@@ -91,7 +91,8 @@ entered_by edge = edge.target
 
 -- what `Edges` keeps beside the edges: the sources and the targets of the edges by target, and where the edges of each
 -- node begin
-pub record AreIndexed (nodes : ℕ) (edges : List Edge) (preds targets starts entries : List ℕ) : Type 0 where
+pub record AreIndexed (nodes : ℕ) (edges : List Edge)
+    (preds targets starts entries : List ℕ) : Type 0 where
   pub preds_are : preds ≡ map source_of (by_target nodes edges)
   pub targets_are : targets ≡ map entered_by (by_target nodes edges)
   pub starts_are : AreLeavingStarts nodes edges starts
@@ -103,7 +104,8 @@ pub record AreIndexed (nodes : ℕ) (edges : List Edge) (preds targets starts en
 pub record IsSplit (nodes : List Node) : Type 0 where
   pub by_skips : (s i n : ℕ) → s < length nodes → 1 < length (preds_of nodes s)
       → slice_get (preds_of nodes s) i ≡ Some n → slice_get nodes n ≡ Some (Skip s)
-  pub once : (s i j n : ℕ) → s < length nodes → 1 < length (preds_of nodes s) → slice_get (preds_of nodes s) i ≡ Some n
+  pub once : (s i j n : ℕ) → s < length nodes → 1 < length (preds_of nodes s)
+      → slice_get (preds_of nodes s) i ≡ Some n
       → slice_get (preds_of nodes s) j ≡ Some n → i ≡ j
 
 -- the node is a Skip to this one
@@ -111,7 +113,7 @@ abbrev pub is_skip_to : ℕ → Option Node → Bool
 is_skip_to to (Some (Skip next)) = nat_eq next to
 is_skip_to to _ = false
 
--- all of these are
+-- each of these nodes is a Skip to this one
 abbrev pub all_skips : List Node → ℕ → List ℕ → Bool
 all_skips nodes to [] = true
 all_skips nodes to (n ∷ ns) = is_skip_to to (slice_get nodes n) && all_skips nodes to ns

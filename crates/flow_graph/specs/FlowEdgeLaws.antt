@@ -13,7 +13,8 @@ use Rattle.flow_graph.specs.FlowEdges.{AreFlowEdges, first_out, flow_edges, reve
 use Rattle.flow_graph.specs.Graphs.{AllWithin}
 
 -- an edge that was reversed
-pub reversed_from : (edges : List Edge) (e : ℕ) (edge : Edge) → slice_get (map reversed_edge edges) e ≡ Some edge → slice_get edges e ≡ Some (reversed_edge edge)
+pub reversed_from : (edges : List Edge) (e : ℕ) (edge : Edge) → slice_get (map reversed_edge edges) e ≡ Some edge
+    → slice_get edges e ≡ Some (reversed_edge edge)
 reversed_from edges e edge h = back (slice_get edges e) (sym (slice_get-map reversed_edge edges e) ∙ h)
   where
     back : (o : Option Edge) → option_map reversed_edge o ≡ Some edge → o ≡ Some (reversed_edge edge)

@@ -34,17 +34,22 @@ edge_at edges e = slice_index_or edges e (record { source = 0; target = 0 })
 
 -- the edge of this number in the flow leads from this node to that one
 abbrev pub IsFlowEdge : Bool → EdgesShape → ℕ → ℕ → ℕ → Type 0
-IsFlowEdge against edges number source target = slice_get (edges_along against edges) number ≡ Some (record { source = source; target = target })
+IsFlowEdge against edges number source target = slice_get (edges_along against edges) number
+    ≡ Some (record { source = source; target = target })
 
 -- the edges of a flow lead from node to node, and those of one node stand together, from the first number of that node
 -- to the first one of the next
 pub record AreFlowEdges (nodes : ℕ) (edges : List Edge) (first : ℕ → ℕ) : Type 0 where
-  pub ends : (e : ℕ) (edge : Edge) → slice_get edges e ≡ Some edge → (edge.source < nodes) × (edge.target < nodes)
+  pub ends : (e : ℕ) (edge : Edge) → slice_get edges e ≡ Some edge
+      → (edge.source < nodes) × (edge.target < nodes)
   pub starts : (n : ℕ) → first n ≤ length edges
   pub stops : (n : ℕ) → first (suc n) ≤ length edges
-  pub only : (e n : ℕ) (edge : Edge) → slice_get edges e ≡ Some edge → first n ≤ e → e < first (suc n) → edge.source ≡ n
-  pub stands : (e : ℕ) (edge : Edge) → slice_get edges e ≡ Some edge → (first edge.source ≤ e) × (e < first (suc edge.source))
+  pub only : (e n : ℕ) (edge : Edge) → slice_get edges e ≡ Some edge → first n ≤ e
+      → e < first (suc n) → edge.source ≡ n
+  pub stands : (e : ℕ) (edge : Edge) → slice_get edges e ≡ Some edge
+      → (first edge.source ≤ e) × (e < first (suc edge.source))
 
 -- an edge of the list leads from node n to node m
 abbrev pub StepAlong : List Edge → ℕ → ℕ → Type 0
-StepAlong edges m n = (e : ℕ) × (e < length edges) × ((edge_at edges e).source ≡ n) × ((edge_at edges e).target ≡ m)
+StepAlong edges m n = (e : ℕ) × (e < length edges) × ((edge_at edges e).source ≡ n)
+    × ((edge_at edges e).target ≡ m)

@@ -145,7 +145,8 @@ rhs_at (Some node) = node_rhs node
 
 -- the variables of each node are below this number
 abbrev pub HaveVarsBelow : ℕ → List Node → Type 0
-HaveVarsBelow vars nodes = (n : ℕ) (node : Node) → slice_get nodes n ≡ Some node → AllBelow vars (node_vars node)
+HaveVarsBelow vars nodes = (n : ℕ) (node : Node) → slice_get nodes n ≡ Some node
+    → AllBelow vars (node_vars node)
 
 -- a graph can be made of these: node 0 is the only Start, no edge leads to it, successors and variables are in range,
 -- and the received variables and the names are distinct

@@ -64,7 +64,8 @@ pub record IsLaid (shared : ℕ) (vars : List (List ℕ)) (received : List ℕ) 
     (body : List Inst) : Type 0 where
   pub plan : List Item
   pub is_plan : IsWholePlan nodes plan
-  pub names_are : names ≡ map (λ x. slice_index_or vars x []) (seen_in shared (plain_body received nodes plan))
+  pub names_are : names
+      ≡ map (λ x. slice_index_or vars x []) (seen_in shared (plain_body received nodes plan))
   pub body_is : body ≡ renumbered shared (plain_body received nodes plan)
 
 -- the unit of the graph

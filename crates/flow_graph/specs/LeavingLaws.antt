@@ -66,7 +66,9 @@ pub record Found (nodes : List Node) (k : ℕ) (edge : Edge) : Type 0 where
   pub is : IsEdge nodes m slot edge.target
 
 -- an edge among those of a node and later ones: at a slot of the node, or later
-leaving_either : (k : ℕ) (succs : List ℕ) (more : List Edge) (i : ℕ) (edge : Edge) → slice_get (leaving k succs ++ more) i ≡ Some edge → ((i < length (leaving k succs)) × (edge.source ≡ k) × (slice_get succs i ≡ Some edge.target)) ⊎ ((j : ℕ) × (i ≡ length (leaving k succs) + j) × (slice_get more j ≡ Some edge))
+leaving_either : (k : ℕ) (succs : List ℕ) (more : List Edge) (i : ℕ) (edge : Edge)
+    → slice_get (leaving k succs ++ more) i ≡ Some edge
+    → ((i < length (leaving k succs)) × (edge.source ≡ k) × (slice_get succs i ≡ Some edge.target)) ⊎ ((j : ℕ) × (i ≡ length (leaving k succs) + j) × (slice_get more j ≡ Some edge))
 leaving_either k [] more i edge e = inr (i, omega arith, e)
 leaving_either k (s ∷ succs) more zero edge e = inl (omega arith, cc, cc)
 leaving_either k (s ∷ succs) more (suc i) edge e = elim (leaving_either k succs more i edge e) [
@@ -92,13 +94,15 @@ edge_is nodes k edge e =
 -- ---- the number of the edge at a slot
 
 -- the edge at a slot of a node stands at that place of a list that begins with the node's edges
-leaving_at : (k : ℕ) (succs : List ℕ) (more : List Edge) (slot s : ℕ) → slice_get succs slot ≡ Some s → slice_get (leaving k succs ++ more) slot ≡ Some (record { source = k; target = s })
+leaving_at : (k : ℕ) (succs : List ℕ) (more : List Edge) (slot s : ℕ) → slice_get succs slot ≡ Some s
+    → slice_get (leaving k succs ++ more) slot ≡ Some (record { source = k; target = s })
 leaving_at k [] more slot s e = cc
 leaving_at k (t ∷ succs) more zero s e = let same : t ≡ s = cc in ap (λ n. Some (record { source = k; target = n })) same
 leaving_at k (t ∷ succs) more (suc slot) s e = leaving_at k succs more slot s e
 
 -- the same for nodes that are numbered from k on
-number_from : (k : ℕ) (nodes : List Node) (m slot s : ℕ) → slice_get (succs_at nodes m) slot ≡ Some s → slice_get (edges_from k nodes) (length (edges_from k (take m nodes)) + slot) ≡ Some (record { source = k + m; target = s })
+number_from : (k : ℕ) (nodes : List Node) (m slot s : ℕ) → slice_get (succs_at nodes m) slot ≡ Some s
+    → slice_get (edges_from k nodes) (length (edges_from k (take m nodes)) + slot) ≡ Some (record { source = k + m; target = s })
 number_from k [] m slot s e = cc
 number_from k (node ∷ nodes) zero slot s e =
     let here : 0 + slot ≡ slot = omega arith in
@@ -111,7 +115,8 @@ number_from k (node ∷ nodes) (suc m) slot s e =
     ap (slice_get (edges_from k (node ∷ nodes))) here ∙ get_right first (edges_from (suc k) nodes) (length (edges_from (suc k) (take m nodes)) + slot) ∙ number_from (suc k) nodes m slot s e ∙ ap (λ n. Some (record { source = n; target = s })) number
 
 -- the edge at a slot of a node has this number
-pub edge_number : (nodes : List Node) (m slot s : ℕ) → IsEdge nodes m slot s → slice_get (edges_from 0 nodes) (first_leaving m (edges_from 0 nodes) + slot) ≡ Some (record { source = m; target = s })
+pub edge_number : (nodes : List Node) (m slot s : ℕ) → IsEdge nodes m slot s
+    → slice_get (edges_from 0 nodes) (first_leaving m (edges_from 0 nodes) + slot) ≡ Some (record { source = m; target = s })
 edge_number nodes m slot s e =
     let lt = slot_within nodes m slot s e in
     let number : 0 + m ≡ m = omega arith in
@@ -137,7 +142,8 @@ leaving_mono m n (edge ∷ edges) le = elim (cases_lt edge.source m) [
 ]
 
 -- an edge stands among those of its source, where the nodes are numbered from b on
-between : (b : ℕ) (nodes : List Node) (k : ℕ) (edge : Edge) → slice_get (edges_from b nodes) k ≡ Some edge → (first_leaving edge.source (edges_from b nodes) ≤ k) × (k < first_leaving (suc edge.source) (edges_from b nodes))
+between : (b : ℕ) (nodes : List Node) (k : ℕ) (edge : Edge) → slice_get (edges_from b nodes) k ≡ Some edge
+    → (first_leaving edge.source (edges_from b nodes) ≤ k) × (k < first_leaving (suc edge.source) (edges_from b nodes))
 between b [] k edge e = cc
 between b (node ∷ nodes) k edge e =
     let first = leaving b (node_succs node) in
@@ -156,11 +162,13 @@ between b (node ∷ nodes) k edge e =
     ]
 
 -- an edge stands among those of its source
-pub leaves_within : (nodes : List Node) (k : ℕ) (edge : Edge) → slice_get (edges_from 0 nodes) k ≡ Some edge → (first_leaving edge.source (edges_from 0 nodes) ≤ k) × (k < first_leaving (suc edge.source) (edges_from 0 nodes))
+pub leaves_within : (nodes : List Node) (k : ℕ) (edge : Edge) → slice_get (edges_from 0 nodes) k ≡ Some edge
+    → (first_leaving edge.source (edges_from 0 nodes) ≤ k) × (k < first_leaving (suc edge.source) (edges_from 0 nodes))
 leaves_within nodes k edge e = between 0 nodes k edge e
 
 -- and what stands among those of a node has it for its source
-pub leaves_only : (nodes : List Node) (k n : ℕ) (edge : Edge) → slice_get (edges_from 0 nodes) k ≡ Some edge → first_leaving n (edges_from 0 nodes) ≤ k → k < first_leaving (suc n) (edges_from 0 nodes) → edge.source ≡ n
+pub leaves_only : (nodes : List Node) (k n : ℕ) (edge : Edge) → slice_get (edges_from 0 nodes) k ≡ Some edge
+    → first_leaving n (edges_from 0 nodes) ≤ k → k < first_leaving (suc n) (edges_from 0 nodes) → edge.source ≡ n
 leaves_only nodes k n edge e low high =
     let r = between 0 nodes k edge e in
     elim (cases_lt edge.source n) [

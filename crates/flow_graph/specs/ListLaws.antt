@@ -47,7 +47,8 @@ get_seam [] ys y = refl
 get_seam (x ∷ xs) ys y = get_seam xs ys y
 
 -- an item of joined lists is one of the first or of the second
-pub get_append : {A : Type 0} (xs ys : List A) (i : ℕ) (x : A) → slice_get (xs ++ ys) i ≡ Some x → (slice_get xs i ≡ Some x) ⊎ ((j : ℕ) × (i ≡ length xs + j) × (slice_get ys j ≡ Some x))
+pub get_append : {A : Type 0} (xs ys : List A) (i : ℕ) (x : A) → slice_get (xs ++ ys) i ≡ Some x
+    → (slice_get xs i ≡ Some x) ⊎ ((j : ℕ) × (i ≡ length xs + j) × (slice_get ys j ≡ Some x))
 get_append [] ys i x e = inr (i, omega arith, e)
 get_append (z ∷ xs) ys zero x e = inl e
 get_append (z ∷ xs) ys (suc i) x e = elim (get_append xs ys i x e) [ inl l ↦ inl l | inr r ↦ inr (r.0, omega (arith, r.1), r.2) ]
@@ -110,7 +111,9 @@ set_elsewhere (y ∷ xs) (suc i) (suc j) x other = set_elsewhere xs i j x (λ e.
 -- ---- lists that are built item by item
 
 -- what holds of each entry by its index still does, once an entry of which it holds is pushed
-pub table_push : {A : Type 0} (P : ℕ → A → Type 0) (d : A) (xs xs' : List A) (n : ℕ) (x : A) → xs' ≡ xs ++ x ∷ [] → length xs ≡ n → ((k : ℕ) → k < n → P k (slice_index_or xs k d)) → P n x → (k : ℕ) → k < n + 1 → P k (slice_index_or xs' k d)
+pub table_push : {A : Type 0} (P : ℕ → A → Type 0) (d : A) (xs xs' : List A) (n : ℕ) (x : A) → xs' ≡ xs ++ x ∷ []
+    → length xs ≡ n → ((k : ℕ) → k < n → P k (slice_index_or xs k d)) → P n x → (k : ℕ) → k < n + 1
+    → P k (slice_index_or xs' k d)
 table_push P d xs xs' n x is long are last k lt = elim (cases_eq k n) [
   | inl same ↦
       let here : slice_index_or xs' k d ≡ x = ap (λ l. slice_index_or l k d) is ∙ get_or_push xs x d k (omega (arith, same, long)) in
@@ -122,7 +125,8 @@ table_push P d xs xs' n x is long are last k lt = elim (cases_eq k n) [
 ]
 
 -- one more item is mapped: those done and those to come are the whole still
-pub mapped_push : {A B : Type 0} (f : A → B) (done done' : List B) (left left' : List A) (x : A) (y : B) (all : List B) → done' ≡ done ++ y ∷ [] → y ≡ f x → left ≡ x ∷ left' → done ++ map f left ≡ all → done' ++ map f left' ≡ all
+pub mapped_push : {A B : Type 0} (f : A → B) (done done' : List B) (left left' : List A) (x : A) (y : B) (all : List B)
+    → done' ≡ done ++ y ∷ [] → y ≡ f x → left ≡ x ∷ left' → done ++ map f left ≡ all → done' ++ map f left' ≡ all
 mapped_push f done done' left left' x y all pushed is taken so_far =
     let made : done' ≡ done ++ f x ∷ [] = pushed ∙ ap (λ z. done ++ z ∷ []) is in
     let ahead : map f left ≡ f x ∷ map f left' = ap (map f) taken in
@@ -136,7 +140,8 @@ Ascends {A = A} key xs = (i j : ℕ) (x y : A) → i < j → slice_get xs i ≡ 
 
 -- each item of the one list is an item of the other
 abbrev pub AllAmong : {A : Type 0} → List A → List A → Type 0
-AllAmong {A = A} xs ys = (i : ℕ) (x : A) → slice_get xs i ≡ Some x → (j : ℕ) × (slice_get ys j ≡ Some x)
+AllAmong {A = A} xs ys = (i : ℕ) (x : A) → slice_get xs i ≡ Some x → (j : ℕ) × (slice_get ys j
+    ≡ Some x)
 
 module _ {A : Type 0} (key : A → ℕ) where
   tail_ascends : (x : A) (xs : List A) → Ascends key (x ∷ xs) → Ascends key xs

@@ -46,11 +46,14 @@ target_of _ = None
 -- the receives stand first and name distinct variables, none of them a global, and the targets of jumps are at least
 -- the number of receives and at most the length of the body
 pub record CanLower (shared : ℕ) (body : List Inst) : Type 0 where
-  pub first : (place x : ℕ) → slice_get body place ≡ Some (insts.Receive x) → place < receives_in body
-  pub received : (i j x : ℕ) → slice_get body i ≡ Some (insts.Receive x) → slice_get body j ≡ Some (insts.Receive x)
+  pub first : (place x : ℕ) → slice_get body place ≡ Some (insts.Receive x)
+      → place < receives_in body
+  pub received : (i j x : ℕ) → slice_get body i ≡ Some (insts.Receive x)
+      → slice_get body j ≡ Some (insts.Receive x)
       → i ≡ j
   pub own : (place x : ℕ) → slice_get body place ≡ Some (insts.Receive x) → shared ≤ x
-  pub targets : (place target : ℕ) → target_of (slice_get body place) ≡ Some target → IsTarget body target
+  pub targets : (place target : ℕ) → target_of (slice_get body place) ≡ Some target
+      → IsTarget body target
 
 -- The graph of the unit. Of Start and the nodes of all places those that are reached are retained, in order of place,
 -- so that the receives, to which no target leads, have no node. Variables keep their numbers

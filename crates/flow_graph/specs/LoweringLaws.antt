@@ -6,7 +6,8 @@ use Rattle.mir_base.specs.Shapes.{UnitShape, BodyFits, IsTarget, SharesGlobals}
 use Rattle.flow_graph.specs.Lowered.{CanLower, target_of}
 
 -- a unit whose body fits and whose first variables are the globals can be lowered
-pub fits_lower : (units : List UnitShape) (globals : List (List ℕ)) (unit : UnitShape) → BodyFits units unit.body → SharesGlobals globals unit → CanLower unit.shared unit.body
+pub fits_lower : (units : List UnitShape) (globals : List (List ℕ)) (unit : UnitShape) → BodyFits units unit.body
+    → SharesGlobals globals unit → CanLower unit.shared unit.body
 fits_lower units globals unit fits shares = record {
   first = λ place x at. fits.insts place (Receive x) at;
   received = fits.received;

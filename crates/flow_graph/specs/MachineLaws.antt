@@ -32,7 +32,9 @@ form_hands (AsUnit shape) frame = body_hands shape.shared shape.body frame
 form_hands (AsGraph shape) frame = graph_hands shape.shared shape.received shape.nodes frame
 
 -- a list is that of the values of the variables from number a on, where these have its items for values
-pub map_range : {A : Type 0} (d : A) (values : ℕ → A) (a : ℕ) (zs : List A) → ((i : ℕ) → i < length zs → values (a + i) ≡ slice_index_or zs i d) → map values (range_with_len a (length zs)) ≡ zs
+pub map_range : {A : Type 0} (d : A) (values : ℕ → A) (a : ℕ) (zs : List A)
+    → ((i : ℕ) → i < length zs → values (a + i) ≡ slice_index_or zs i d)
+    → map values (range_with_len a (length zs)) ≡ zs
 map_range d values a [] same = refl
 map_range d values a (z ∷ zs) same =
     let here : values a ≡ z = ap values (let none : a ≡ a + 0 = omega arith in none) ∙ same 0 (omega arith) in

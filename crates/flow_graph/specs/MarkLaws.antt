@@ -22,7 +22,8 @@ marked_before marks s n e = elim (cases_eq n s) [ inl p ↦ inl p | inr other �
 -- ---- how many are not marked
 
 -- one node fewer is unmarked
-pub unmarked_set : (marks : List Bool) (s : ℕ) → s < length marks → slice_index_or marks s false ≡ false → unmarked (slice_set marks s true) + 1 ≡ unmarked marks
+pub unmarked_set : (marks : List Bool) (s : ℕ) → s < length marks → slice_index_or marks s false ≡ false
+    → unmarked (slice_set marks s true) + 1 ≡ unmarked marks
 unmarked_set [] s lt e = absurd (omega (arith, lt))
 unmarked_set (true ∷ marks) zero lt e = cc
 unmarked_set (false ∷ marks) zero lt e = omega arith

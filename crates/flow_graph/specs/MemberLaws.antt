@@ -47,7 +47,7 @@ in_or_not n (x ∷ xs) = elim (cases_eq x n) [
   | inr apart ↦ elim (in_or_not n xs) [ inl there ↦ inl (inr there) | inr out ↦ inr (elim [ inl same ↦ apart same | inr there ↦ out there ]) ]
 ]
 
--- where it stands
+-- a number that is one of a list stands at some place of it
 pub place_of_member : (n : ℕ) (xs : List ℕ) → IsIn n xs → (k : ℕ) × (slice_get xs k ≡ Some n)
 place_of_member n [] there = absurd there
 place_of_member n (x ∷ xs) (inl same) = (0, ap Some same)
@@ -92,7 +92,8 @@ members_same a b up up' to from =
 
 -- these are they, in order
 pub record AreFoundBelow (Is : ℕ → Type 0) (n : ℕ) (found : List ℕ) : Type 0 where
-  pub ordered : (i j a b : ℕ) → i < j → slice_get found i ≡ Some a → slice_get found j ≡ Some b → a < b
+  pub ordered : (i j a b : ℕ) → i < j → slice_get found i ≡ Some a → slice_get found j ≡ Some b
+      → a < b
   pub are : (m : ℕ) → IsIn m found → (m < n) × Is m
   pub all : (m : ℕ) → m < n → Is m → IsIn m found
 
@@ -105,7 +106,8 @@ none_found Is found is = subst (AreFoundBelow Is 0) (sym is) (record {
 })
 
 -- one more
-pub found_more : (Is : ℕ → Type 0) (n : ℕ) (found found' : List ℕ) → AreFoundBelow Is n found → Is n → found' ≡ found ++ n ∷ [] → AreFoundBelow Is (n + 1) found'
+pub found_more : (Is : ℕ → Type 0) (n : ℕ) (found found' : List ℕ) → AreFoundBelow Is n found → Is n
+    → found' ≡ found ++ n ∷ [] → AreFoundBelow Is (n + 1) found'
 found_more Is n found found' f has is = subst (AreFoundBelow Is (n + 1)) (sym is) (record {
   ordered = λ i j a b lt e g. elim (get_push found n b j g) [
     | inl old ↦ elim (get_push found n a i e) [

@@ -71,7 +71,9 @@ pub redirected_itself : (node : Node) → redirected (λ n. n) node ≡ node
 redirected_itself node = let is = is_redirected (λ n. n) node in is.itself
 
 -- only the numbers of its successors matter
-pub redirected_same : (to to' : ℕ → ℕ) (node : Node) → ((slot s : ℕ) → slice_get (node_succs node) slot ≡ Some s → to s ≡ to' s) → redirected to node ≡ redirected to' node
+pub redirected_same : (to to' : ℕ → ℕ) (node : Node)
+    → ((slot s : ℕ) → slice_get (node_succs node) slot ≡ Some s → to s ≡ to' s)
+    → redirected to node ≡ redirected to' node
 redirected_same to to' (Start next) same = ap Start (same 0 next refl)
 redirected_same to to' (Skip next) same = ap Skip (same 0 next refl)
 redirected_same to to' (Assign x rhs next) same = ap (Assign x rhs) (same 0 next refl)

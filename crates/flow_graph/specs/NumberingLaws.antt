@@ -31,7 +31,8 @@ is_in_pushed x y [] e = chosen (nat_eq y x) refl e
     chosen false is e' = cc
 is_in_pushed x y (z ∷ xs) e = chosen (nat_eq z x) e (is_in_pushed x y xs)
   where
-    chosen : (b : Bool) → b || is_in x (xs ++ y ∷ []) ≡ true → (is_in x (xs ++ y ∷ []) ≡ true → (is_in x xs ≡ true) ⊎ (y ≡ x)) → (b || is_in x xs ≡ true) ⊎ (y ≡ x)
+    chosen : (b : Bool) → b || is_in x (xs ++ y ∷ []) ≡ true
+        → (is_in x (xs ++ y ∷ []) ≡ true → (is_in x xs ≡ true) ⊎ (y ≡ x)) → (b || is_in x xs ≡ true) ⊎ (y ≡ x)
     chosen true e' ih = inl refl
     chosen false e' ih = ih e'
 
@@ -47,6 +48,8 @@ pub seen_grows : (seen xs : List ℕ) → (more : List ℕ) × (seen_after seen 
 seen_grows seen [] = ([], sym (append-nil seen))
 seen_grows seen (x ∷ xs) = chosen (is_in x seen) (seen_grows seen xs) (seen_grows (seen ++ x ∷ []) xs)
   where
-    chosen : (b : Bool) → (more : List ℕ) × (seen_after seen xs ≡ seen ++ more) → (more : List ℕ) × (seen_after (seen ++ x ∷ []) xs ≡ (seen ++ x ∷ []) ++ more) → (more : List ℕ) × ((if b then seen_after seen xs else seen_after (seen ++ x ∷ []) xs) ≡ seen ++ more)
+    chosen : (b : Bool) → (more : List ℕ) × (seen_after seen xs ≡ seen ++ more)
+        → (more : List ℕ) × (seen_after (seen ++ x ∷ []) xs ≡ (seen ++ x ∷ []) ++ more)
+        → (more : List ℕ) × ((if b then seen_after seen xs else seen_after (seen ++ x ∷ []) xs) ≡ seen ++ more)
     chosen true p q = p
     chosen false p q = (x ∷ q.0, q.1 ∙ append_assoc seen (x ∷ []) q.0)

@@ -59,7 +59,8 @@ same_graphs a b name shared vars received nodes =
     ∙ ap (λ x. record { name = b.name; shared = b.shared; vars = b.vars; received = x; nodes = a.nodes }) received ∙ ap (λ x. record b { nodes = x }) nodes
 
 -- and the graph that is made
-pub made_is_one : (name : List ℕ) (shared : ℕ) (vars : List (List ℕ)) (received : List ℕ) (raw : List Node) (a b : GraphShape) → IsMade name shared vars received raw a → IsMade name shared vars received raw b → a ≡ b
+pub made_is_one : (name : List ℕ) (shared : ℕ) (vars : List (List ℕ)) (received : List ℕ) (raw : List Node) (a b : GraphShape)
+    → IsMade name shared vars received raw a → IsMade name shared vars received raw b → a ≡ b
 made_is_one name shared vars received raw a b p q =
     same_graphs a b (p.name_is ∙ sym q.name_is) (p.shared_is ∙ sym q.shared_is) (p.vars_are ∙ sym q.vars_are) (p.received_are ∙ sym q.received_are) (retained_are_one raw a.nodes b.nodes p.nodes_are q.nodes_are)
 
@@ -79,7 +80,8 @@ module _ (nodes : List Node) (first : ℕ) where
       cons_same (same_Some _ _ (sym is.0 ∙ ap (next_item nodes first) older ∙ is'.0)) older
 
   -- nothing comes after a plan that is complete
-  none_longer : (p : List Item) → IsPlan nodes first p → next_item nodes first p ≡ None → (k : ℕ) (q : List Item) → length q ≡ suc k + length p → IsPlan nodes first q → ⊥
+  none_longer : (p : List Item) → IsPlan nodes first p → next_item nodes first p ≡ None → (k : ℕ) (q : List Item)
+      → length q ≡ suc k + length p → IsPlan nodes first q → ⊥
   none_longer p is complete k [] long is' = absurd (omega (arith, long))
   none_longer p is complete zero (item ∷ q) long is' =
       let older : p ≡ q = plans_alike p q (omega (arith, long)) is is'.1 in

@@ -49,14 +49,16 @@ module _ (nodes : List Node) (some : 0 < length nodes) (within : AllWithin nodes
   trace_path n before (goes_on m k earlier trace edge) =
       subst (IsPath nodes) (sym (ap (λ l. l ++ n ∷ []) (reverse-append (m ∷ []) earlier) ∙ append_assoc (reverse earlier) (m ∷ []) (n ∷ []))) (longer (reverse earlier) m n (trace_path m earlier trace) edge)
 
-  trace_on : (m : ℕ) (before path : List ℕ) (n : ℕ) → Trace nodes m before → IsPath nodes (m ∷ path) → Ends n (m ∷ path) → (all : List ℕ) × Trace nodes n all × (reverse before ++ m ∷ path ≡ reverse all ++ n ∷ [])
+  trace_on : (m : ℕ) (before path : List ℕ) (n : ℕ) → Trace nodes m before → IsPath nodes (m ∷ path)
+      → Ends n (m ∷ path) → (all : List ℕ) × Trace nodes n all × (reverse before ++ m ∷ path ≡ reverse all ++ n ∷ [])
   trace_on m before [] n trace is ends = (before, subst (λ k. Trace nodes k before) ends trace, ap (λ k. reverse before ++ k ∷ []) ends)
   trace_on m before (k ∷ path) n trace is ends =
       let r = trace_on k (m ∷ before) path n (goes_on m k before trace is.0) is.1 ends in
       (r.0, r.1, sym (ap (λ l. l ++ k ∷ path) (reverse-append (m ∷ []) before) ∙ append_assoc (reverse before) (m ∷ []) (k ∷ path)) ∙ r.2)
 
   -- and each path from Start is a trace of its last node
-  pub path_trace : (path : List ℕ) (n : ℕ) → IsPath nodes path → Begins 0 path → Ends n path → (before : List ℕ) × Trace nodes n before × (path ≡ reverse before ++ n ∷ [])
+  pub path_trace : (path : List ℕ) (n : ℕ) → IsPath nodes path → Begins 0 path → Ends n path
+      → (before : List ℕ) × Trace nodes n before × (path ≡ reverse before ++ n ∷ [])
   path_trace [] n is begins ends = absurd is
   path_trace (m ∷ path) n is begins ends =
       let r = trace_on m [] path n (subst (λ k. Trace nodes k []) (sym begins) from_start) is ends in

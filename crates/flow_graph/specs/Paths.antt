@@ -46,4 +46,5 @@ pub record IsFullPath (nodes : List Node) (path : List ℕ) : Type 0 where
 -- a path from Start to node n; the list has the nodes before n, the nearest first
 pub data Trace (nodes : List Node) : ℕ → List ℕ → Type 0 where
   from_start : Trace nodes 0 []
-  goes_on : (m n : ℕ) (before : List ℕ) → Trace nodes m before → HasEdge nodes m n → Trace nodes n (m ∷ before)
+  goes_on : (m n : ℕ) (before : List ℕ) → Trace nodes m before → HasEdge nodes m n
+      → Trace nodes n (m ∷ before)

@@ -56,7 +56,8 @@ pub record AreClosed (nodes : List Node) (items : List Item) (first : ℕ) : Typ
 
 -- the item of this number, if there is one, has the first open successor
 abbrev pub FirstOpenIsAt : List Node → List Item → ℕ → Type 0
-FirstOpenIsAt nodes items number = first_open nodes (reverse items) (reverse items) ≡ open_if nodes (reverse items) (slice_get items number)
+FirstOpenIsAt nodes items number = first_open nodes (reverse items) (reverse items)
+    ≡ open_if nodes (reverse items) (slice_get items number)
 
 -- the node that follows an item in its stretch
 abbrev pub follower_of : List Node → Item → Option ℕ
@@ -80,7 +81,8 @@ plan_weight placed plan = unmarked placed + unmarked placed + open_end plan
 -- ---- places
 
 -- the table has the places of the nodes
-pub record ArePlaces (nodes : List Node) (receives : ℕ) (plan : List Item) (places : List ℕ) : Type 0 where
+pub record ArePlaces (nodes : List Node) (receives : ℕ) (plan : List Item)
+    (places : List ℕ) : Type 0 where
   pub long : length places ≡ length nodes
   pub are : (n : ℕ) → n < length nodes → slice_index_or places n 0 ≡ place_in nodes receives plan n
 

@@ -45,7 +45,8 @@ next_item nodes first (Jump n ∷ older) = new_stretch nodes (Jump n ∷ older)
 -- each item is what comes after those before it
 abbrev pub IsPlan : List Node → ℕ → List Item → Type 0
 IsPlan nodes first [] = Unit {0}
-IsPlan nodes first (item ∷ older) = (next_item nodes first older ≡ Some item) × IsPlan nodes first older
+IsPlan nodes first (item ∷ older) = (next_item nodes first older ≡ Some item)
+    × IsPlan nodes first older
 
 -- where Start leads
 abbrev pub start_succ : Option Node → ℕ

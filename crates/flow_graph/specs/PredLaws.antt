@@ -12,7 +12,8 @@ pub preds_append : (s : ℕ) (xs ys : List Edge) → preds_among s (xs ++ ys) �
 preds_append s [] ys = refl
 preds_append s (e ∷ xs) ys = chosen (nat_eq e.target s) (preds_append s xs ys)
   where
-    chosen : (b : Bool) → preds_among s (xs ++ ys) ≡ preds_among s xs ++ preds_among s ys → (if b then e.source ∷ preds_among s (xs ++ ys) else preds_among s (xs ++ ys)) ≡ (if b then e.source ∷ preds_among s xs else preds_among s xs) ++ preds_among s ys
+    chosen : (b : Bool) → preds_among s (xs ++ ys) ≡ preds_among s xs ++ preds_among s ys
+        → (if b then e.source ∷ preds_among s (xs ++ ys) else preds_among s (xs ++ ys)) ≡ (if b then e.source ∷ preds_among s xs else preds_among s xs) ++ preds_among s ys
     chosen true p = ap (λ l. e.source ∷ l) p
     chosen false p = p
 
@@ -37,7 +38,8 @@ pub leaving_are : (k s : ℕ) (succs : List ℕ) → AllAre k (preds_among s (le
 leaving_are k s [] = tt
 leaving_are k s (t ∷ succs) = chosen (nat_eq t s) (leaving_are k s succs)
   where
-    chosen : (b : Bool) → AllAre k (preds_among s (leaving k succs)) → AllAre k (if b then k ∷ preds_among s (leaving k succs) else preds_among s (leaving k succs))
+    chosen : (b : Bool) → AllAre k (preds_among s (leaving k succs))
+        → AllAre k (if b then k ∷ preds_among s (leaving k succs) else preds_among s (leaving k succs))
     chosen true h = (refl, h)
     chosen false h = h
 
@@ -53,20 +55,25 @@ low_at k (x ∷ xs) zero v h e = let same : x ≡ v = cc in omega (arith, h.0)
 low_at k (x ∷ xs) (suc i) v h e = low_at k xs i v h.1 e
 
 -- a number above k stands after the items that are equal to k
-past_first : (k : ℕ) (xs ys : List ℕ) (i v : ℕ) → AllAre k xs → k < v → slice_get (xs ++ ys) i ≡ Some v → (j : ℕ) × (i ≡ length xs + j) × (slice_get ys j ≡ Some v)
+past_first : (k : ℕ) (xs ys : List ℕ) (i v : ℕ) → AllAre k xs → k < v → slice_get (xs ++ ys) i ≡ Some v
+    → (j : ℕ) × (i ≡ length xs + j) × (slice_get ys j ≡ Some v)
 past_first k [] ys i v h lt e = (i, omega arith, e)
 past_first k (x ∷ xs) ys zero v h lt e = let same : x ≡ v = cc in absurd (omega (arith, h.0, lt))
 past_first k (x ∷ xs) ys (suc i) v h lt e = let r = past_first k xs ys i v h.1 lt e in (r.0, omega (arith, r.1), r.2)
 
 -- k, put at most once before larger numbers, has at most one place
-one_skip : (k s : ℕ) (rest : List ℕ) (b : Bool) (i j : ℕ) → AllFrom (suc k) rest → slice_get ((if b then k ∷ [] else []) ++ rest) i ≡ Some k → slice_get ((if b then k ∷ [] else []) ++ rest) j ≡ Some k → i ≡ j
+one_skip : (k s : ℕ) (rest : List ℕ) (b : Bool) (i j : ℕ) → AllFrom (suc k) rest
+    → slice_get ((if b then k ∷ [] else []) ++ rest) i ≡ Some k
+    → slice_get ((if b then k ∷ [] else []) ++ rest) j ≡ Some k → i ≡ j
 one_skip k s rest true zero zero h e e' = refl
 one_skip k s rest true zero (suc j) h e e' = absurd (omega (arith, low_at (suc k) rest j k h e'))
 one_skip k s rest true (suc i) j h e e' = absurd (omega (arith, low_at (suc k) rest i k h e))
 one_skip k s rest false i j h e e' = absurd (omega (arith, low_at (suc k) rest i k h e))
 
 -- a Skip's number stands once among the sources of a node
-pub skip_once : (k s : ℕ) (nodes : List Node) (m t i j : ℕ) → slice_get nodes m ≡ Some (Skip t) → slice_get (preds_among s (edges_from k nodes)) i ≡ Some (k + m) → slice_get (preds_among s (edges_from k nodes)) j ≡ Some (k + m) → i ≡ j
+pub skip_once : (k s : ℕ) (nodes : List Node) (m t i j : ℕ) → slice_get nodes m ≡ Some (Skip t)
+    → slice_get (preds_among s (edges_from k nodes)) i ≡ Some (k + m)
+    → slice_get (preds_among s (edges_from k nodes)) j ≡ Some (k + m) → i ≡ j
 skip_once k s [] m t i j is e e' = cc
 skip_once k s (node ∷ nodes) zero t i j is e e' =
     let same : node ≡ Skip t = cc in

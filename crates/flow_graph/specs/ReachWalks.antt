@@ -6,12 +6,15 @@ use Rattle.flow_graph.specs.Graphs.{IsEdge, Reached}
 use Rattle.flow_graph.specs.Numbering.{is_in}
 
 -- a marked node is on the stack, or is the one at hand, or its successors are marked
-pub record Walking (nodes : List Node) (marks : List Bool) (stack : List ℕ) (at_hand : Option ℕ) : Type 0 where
+pub record Walking (nodes : List Node) (marks : List Bool) (stack : List ℕ)
+    (at_hand : Option ℕ) : Type 0 where
   pub long : length marks ≡ length nodes
   pub sound : (n : ℕ) → slice_get marks n ≡ Some true → Reached nodes n
   pub start_marked : slice_get marks 0 ≡ Some true
   pub stacked : (n : ℕ) → is_in n stack ≡ true → slice_get marks n ≡ Some true
-  pub closed : (n : ℕ) → slice_get marks n ≡ Some true → (is_in n stack ≡ true) ⊎ (at_hand ≡ Some n) ⊎ ((slot s : ℕ) → IsEdge nodes n slot s → slice_get marks s ≡ Some true)
+  pub closed : (n : ℕ) → slice_get marks n ≡ Some true
+      → (is_in n stack ≡ true) ⊎ (at_hand ≡ Some n)
+      ⊎ ((slot s : ℕ) → IsEdge nodes n slot s → slice_get marks s ≡ Some true)
 
 -- the marks once a node is marked, where there is one
 abbrev pub marks_after : List Bool → Option ℕ → List Bool

@@ -31,29 +31,35 @@ resumed_place None a f = refl
 resumed_place (Some x) a f = refl
 
 -- an assignment that goes on at another place
-pub assigns_alike : (S : Frame → Frame → Type 0) (x : ℕ) (rhs : Rhs) (p p' q : ℕ) (f : Frame) → ((v : ℤ) → S (assigned x v p f) (assigned x v p' f)) → Alike S (assign_transition x rhs p f) (assign_transition x rhs p' (at q f))
+pub assigns_alike : (S : Frame → Frame → Type 0) (x : ℕ) (rhs : Rhs) (p p' q : ℕ) (f : Frame)
+    → ((v : ℤ) → S (assigned x v p f) (assigned x v p' f))
+    → Alike S (assign_transition x rhs p f) (assign_transition x rhs p' (at q f))
 assigns_alike S x (Plain a) p p' q f s = (le_refl 0, s _)
 assigns_alike S x (Unary op a) p p' q f s = (le_refl 1, s _)
 assigns_alike S x (Binary op a b) p p' q f s = binary (traps op (operand_value f.values b))
   where
-    binary : (b' : Bool) → Alike S (if b' then Traps ZeroDivisor 1 else Continues 1 (assigned x (value_of_op op (operand_value f.values a) (operand_value f.values b)) p f)) (if b' then Traps ZeroDivisor 1 else Continues 1 (assigned x (value_of_op op (operand_value f.values a) (operand_value f.values b)) p' f))
+    binary : (b' : Bool)
+        → Alike S (if b' then Traps ZeroDivisor 1 else Continues 1 (assigned x (value_of_op op (operand_value f.values a) (operand_value f.values b)) p f)) (if b' then Traps ZeroDivisor 1 else Continues 1 (assigned x (value_of_op op (operand_value f.values a) (operand_value f.values b)) p' f))
     binary true = refl
     binary false = (le_refl 1, s _)
 
 -- a trap instruction that goes on at another place
-pub guards_alike : (S : Frame → Frame → Type 0) (test : MirTest) (number p p' q : ℕ) (f : Frame) → S (at p f) (at p' f) → Alike S (guard_transition test number p f) (guard_transition test number p' (at q f))
+pub guards_alike : (S : Frame → Frame → Type 0) (test : MirTest) (number p p' q : ℕ) (f : Frame)
+    → S (at p f) (at p' f) → Alike S (guard_transition test number p f) (guard_transition test number p' (at q f))
 guards_alike S test number p p' q f s = by (test_holds f.values test)
   where
     by : (b : Bool) → Alike S (if b then Traps (Raised number) 0 else Continues 0 (at p f)) (if b then Traps (Raised number) 0 else Continues 0 (at p' f))
     by true = refl
     by false = (le_refl 0, s)
 
--- a frame, and the same at the number that its place gets
+-- a frame at place s, and the same frame at the place to which s goes
 pub shifted_to : (to : ℕ → ℕ) (P : ℕ → Type 0) (s : ℕ) (f g : Frame) → f.place ≡ s → P s → g ≡ at (to s) f → Shifted to P f g
 shifted_to to P s f g e p is = record { good = subst P (sym e) p; is = is ∙ ap (λ n. at (to n) f) (sym e) }
 
 -- a redirected node does what the node does, at corresponding places
-pub redirects_alike : (shared : ℕ) (received : List ℕ) (to : ℕ → ℕ) (P : ℕ → Type 0) (o : Option Node) → ((slot s : ℕ) → slice_get (succs_of o) slot ≡ Some s → P s) → (f : Frame) (q : ℕ) → Alike (Shifted to P) (node_transition shared received o f) (node_transition shared received (option_map (redirected to) o) (at q f))
+pub redirects_alike : (shared : ℕ) (received : List ℕ) (to : ℕ → ℕ) (P : ℕ → Type 0) (o : Option Node)
+    → ((slot s : ℕ) → slice_get (succs_of o) slot ≡ Some s → P s) → (f : Frame) (q : ℕ)
+    → Alike (Shifted to P) (node_transition shared received o f) (node_transition shared received (option_map (redirected to) o) (at q f))
 redirects_alike shared received to P None good f q = refl
 redirects_alike shared received to P (Some (Start next)) good f q = (le_refl 0, record { good = good 0 next refl; is = refl })
 redirects_alike shared received to P (Some (Skip next)) good f q = (le_refl 0, record { good = good 0 next refl; is = refl })

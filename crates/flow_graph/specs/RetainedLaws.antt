@@ -2,8 +2,9 @@
 use Rattle.std.proofs.Common.{◌≡◌, ℕ, zero, suc, ◌<◌, Bool, true, false, List, [], ◌∷◌, length, slice_get, Some, refl, arith}
 use Rattle.flow_graph.specs.Retained.{marked_below, marked}
 
--- a marked one stands at its rank
-pub at_rank : {A : Type 0} (marks : List Bool) (xs : List A) (n : ℕ) → slice_get marks n ≡ Some true → length marks ≡ length xs → slice_get (marked marks xs) (marked_below marks n) ≡ slice_get xs n
+-- what is marked at index n stands, among all that is marked, at the number of marks before n
+pub at_rank : {A : Type 0} (marks : List Bool) (xs : List A) (n : ℕ) → slice_get marks n ≡ Some true
+    → length marks ≡ length xs → slice_get (marked marks xs) (marked_below marks n) ≡ slice_get xs n
 at_rank [] xs n e long = cc
 at_rank (b ∷ marks) [] n e long = absurd (omega arith)
 at_rank (true ∷ marks) (x ∷ xs) zero e long = refl

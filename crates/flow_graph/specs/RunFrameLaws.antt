@@ -15,7 +15,8 @@ module _ (first second : Machine) (S : Frame → Frame → Type 0) (lockstep : L
   Within n = (f g : Frame) (answers : List Answer) (to : Frame) → S f g → AreAnswers first.shared answers → frame_after first.code n f answers ≡ Some to → (there : Frame) × S to there
 
   -- one step more, by what the two sides do
-  one_more : (n : ℕ) → Within n → (t t' : Transition) (answers : List Answer) (to : Frame) → HandsOver first.shared t → Alike S t t' → AreAnswers first.shared answers
+  one_more : (n : ℕ) → Within n → (t t' : Transition) (answers : List Answer) (to : Frame) → HandsOver first.shared t
+      → Alike S t t' → AreAnswers first.shared answers
       → frame_after_transition (frame_after first.code n) t answers ≡ Some to → (there : Frame) × S to there
   one_more n within (Continues c f) (Continues d g) answers to hands alike are is = within f g answers to alike.1 are is
   one_more n within (Prints v f) (Prints w g) answers to hands alike are is = within f g answers to alike.1 are is

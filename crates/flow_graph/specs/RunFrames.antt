@@ -6,7 +6,8 @@ use Rattle.mir_base.specs.UnitRuns.{Machine, AreAnswers, IsEntry}
 
 -- the frame that comes of a transition and the steps behind it. A call takes the next answer; where there is none, and
 -- after a return or a trap, there is no further frame
-abbrev pub frame_after_transition : (Frame → List Answer → Option Frame) → Transition → List Answer → Option Frame
+abbrev pub frame_after_transition : (Frame → List Answer → Option Frame) → Transition → List Answer
+    → Option Frame
 frame_after_transition go (Continues counted next) answers = go next answers
 frame_after_transition go (Prints value next) answers = go next answers
 frame_after_transition go (Calls unit entry into next) [] = None

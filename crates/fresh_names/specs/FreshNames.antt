@@ -16,9 +16,12 @@ pub record IsNextName (names : List (List ℕ)) (name : List ℕ) : Type 0 where
   pub positive : 1 ≤ number
   pub spelled : name ≡ temporary_name number
   pub fresh : Contains names name → ⊥
-  pub least : (smaller : ℕ) → 1 ≤ smaller → smaller < number → Contains names (temporary_name smaller)
+  pub least : (smaller : ℕ) → 1 ≤ smaller → smaller < number
+      → Contains names (temporary_name smaller)
 
 -- the names of so many temporaries of a graph whose variables have the names `vars`
-pub record AreTemporaryNames (vars : List (List ℕ)) (count : ℕ) (names : List (List ℕ)) : Type 0 where
+pub record AreTemporaryNames (vars : List (List ℕ)) (count : ℕ)
+    (names : List (List ℕ)) : Type 0 where
   pub long : length names ≡ count
-  pub each : (k : ℕ) (name : List ℕ) → slice_get names k ≡ Some name → IsNextName (vars ++ take k names) name
+  pub each : (k : ℕ) (name : List ℕ) → slice_get names k ≡ Some name
+      → IsNextName (vars ++ take k names) name

@@ -22,7 +22,8 @@ StepsAlong rest Goes (Traps kind counted) answers = ⊥
 -- from this frame the run goes along these places to its return
 abbrev pub GoesAlong : Code → List ℕ → Frame → List Answer → Type 0
 GoesAlong code [] frame answers = ⊥
-GoesAlong code (n ∷ path) frame answers = (frame.place ≡ n) × StepsAlong path (GoesAlong code path) (code frame) answers
+GoesAlong code (n ∷ path) frame answers = (frame.place ≡ n)
+    × StepsAlong path (GoesAlong code path) (code frame) answers
 
 -- the run of the machine with these arguments and answers goes along the path to its return
 abbrev pub RunsAlong : Machine → CallEntry → List Answer → List ℕ → Type 0
@@ -31,13 +32,15 @@ RunsAlong machine entry answers path = GoesAlong machine.code path (first_frame 
 -- where a run of the graph goes along a full path to its return, the run of the result with the same arguments and
 -- answers goes along the corresponding path of it
 pub record RunsFollow (graph result : GraphShape) : Type 0 where
-  pub follow : (path over : List ℕ) (entry : CallEntry) (answers : List Answer) → IsFullPath graph.nodes path
+  pub follow : (path over : List ℕ) (entry : CallEntry) (answers : List Answer)
+      → IsFullPath graph.nodes path
       → IsOver graph.nodes result.nodes path over → IsEntry (machine_of graph) entry → AreAnswers graph.shared answers
       → RunsAlong (machine_of graph) entry answers path → RunsAlong (machine_of result) entry answers over
 
 -- the run of the graph with these arguments and answers goes along a full path, and that of the result along the
 -- corresponding path of it, at whose end it returns
-pub record RunOver (graph result : GraphShape) (entry : CallEntry) (answers : List Answer) : Type 0 where
+pub record RunOver (graph result : GraphShape) (entry : CallEntry)
+    (answers : List Answer) : Type 0 where
   pub path : List ℕ
   pub full : IsFullPath graph.nodes path
   pub along : RunsAlong (machine_of graph) entry answers path

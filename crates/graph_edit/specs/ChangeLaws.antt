@@ -17,7 +17,8 @@ record IsChanged (change : Change) (node : Node) : Type 0 where
   succs : node_succs (changed change node) ≡ node_succs node
   call : node_call (changed change node) ≡ node_call node
   start : (s : ℕ) → changed change node ≡ Start s → (t : ℕ) × (node ≡ Start t)
-  below : (k : ℕ) → ChangeBelow k change → AllBelow k (node_vars node) → AllBelow k (node_vars (changed change node))
+  below : (k : ℕ) → ChangeBelow k change → AllBelow k (node_vars node)
+      → AllBelow k (node_vars (changed change node))
   moved : (to : ℕ → ℕ) → redirected to (changed change node) ≡ changed change (redirected to node)
   unchanged : changed Unchanged node ≡ node
 

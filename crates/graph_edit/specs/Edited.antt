@@ -43,7 +43,8 @@ pub record HoldsEdits (vars : List (List ℕ)) (received : List ℕ) (nodes : Li
 
 -- the first node of each of so many lists
 abbrev pub AreFirsts : ℕ → List (List ℕ) → List ℕ → Type 0
-AreFirsts count lists firsts = (s : ℕ) → s < count → slice_get firsts s ≡ Some (number_or_none (slice_get (list_at lists s) 0))
+AreFirsts count lists firsts = (s : ℕ) → s < count
+    → slice_get firsts s ≡ Some (number_or_none (slice_get (list_at lists s) 0))
 
 -- each list has a first node
 abbrev pub EachHasFirst : List (List ℕ) → Type 0
@@ -51,4 +52,5 @@ EachHasFirst lists = (s : ℕ) → s < length lists → (k : ℕ) × (slice_get 
 
 -- so many old nodes stand first, and their edges lead to old nodes
 abbrev pub OldsLeadToOlds : ℕ → List Node → Type 0
-OldsLeadToOlds olds nodes = (n : ℕ) (node : Node) → n < olds → slice_get nodes n ≡ Some node → SuccsBelow olds node
+OldsLeadToOlds olds nodes = (n : ℕ) (node : Node) → n < olds → slice_get nodes n ≡ Some node
+    → SuccsBelow olds node

@@ -27,7 +27,9 @@ use Rattle.mir_base.specs.ItemLaws.{map_at, one_item}
 -- from number k on there are new nodes before node n that make these assignments
 abbrev pub IsInsertionChain : List Node → ℕ → ℕ → List Insertion → Type 0
 IsInsertionChain nodes n k [] = Unit {0}
-IsInsertionChain nodes n k (put ∷ puts) = (slice_get nodes k ≡ Some (Assign put.var put.rhs (entry_among n (suc k) puts))) × IsInsertionChain nodes n (suc k) puts
+IsInsertionChain nodes n k (put ∷ puts) =
+    (slice_get nodes k ≡ Some (Assign put.var put.rhs (entry_among n (suc k) puts)))
+    × IsInsertionChain nodes n (suc k) puts
 
 -- nodes that stand from k on as those of the chain form the insertion chain
 chain_from : (nodes : List Node) (n k : ℕ) (puts : List Insertion)

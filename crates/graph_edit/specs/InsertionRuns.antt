@@ -42,7 +42,7 @@ pub record BothAssign (assigned : ℕ → Bool) (v w v' w' : Values) : Type 0 wh
   pub first_keeps : (x : ℕ) → assigned x ≡ false → v' x ≡ v x
   pub second_keeps : (x : ℕ) → assigned x ≡ false → w' x ≡ w x
 
--- the code divides by zero so many silent steps from this frame: the one trap of a right side
+-- after so many silent steps from this frame the code traps by a divisor of 0, the only trap that a right side has
 pub record TrapsAfter (code : Code) (steps : ℕ) (frame : Frame) : Type 0 where
   pub there : Frame
   pub cost : ℕ
@@ -54,13 +54,15 @@ pub record TrapsAfter (code : Code) (steps : ℕ) (frame : Frame) : Type 0 where
 pub record Preserves (graph : GraphShape) (r : Rewriting) (Holds : ValueRelation) : Type 0 where
   -- only assignments are changed
   pub changes : (n : ℕ) (node : Node) → slice_get graph.nodes n ≡ Some node
-      → (r.changes n ≡ Unchanged) ⊎ ((x : ℕ) × (rhs : Rhs) × (next : ℕ) × (node ≡ Assign x rhs next))
+      → (r.changes n ≡ Unchanged)
+      ⊎ ((x : ℕ) × (rhs : Rhs) × (next : ℕ) × (node ≡ Assign x rhs next))
   -- it holds after Start, where the values of both sides are equal
   pub starts : (s : ℕ) (values : Values) → HasEdge graph.nodes 0 s → Holds s (0 ∷ []) values values
   -- where a new assignment traps, the graph traps too, after silent steps
   pub traps : (n : ℕ) (before : List ℕ) (arguments : List ℤ) (v w : Values)
       → Trace graph.nodes n before → Holds n before v w → none_traps (r.inserts n) w ≡ false
-      → (steps : ℕ) × TrapsAfter (graph_code graph.shared graph.received graph.nodes) steps (record { place = n; arguments = arguments; values = v })
+      → (steps : ℕ)
+      × TrapsAfter (graph_code graph.shared graph.received graph.nodes) steps (record { place = n; arguments = arguments; values = v })
   -- what a node reads that is not changed has the same value on both sides
   pub reads : (n : ℕ) (node : Node) (before : List ℕ) (v w : Values) → Trace graph.nodes n before
       → slice_get graph.nodes n ≡ Some node → r.changes n ≡ Unchanged → Holds n before v w
@@ -75,12 +77,14 @@ pub record Preserves (graph : GraphShape) (r : Rewriting) (Holds : ValueRelation
   pub replaces : (n s x : ℕ) (rhs other : Rhs) (before : List ℕ) (v w : Values)
       → Trace graph.nodes n before → slice_get graph.nodes n ≡ Some (Assign x rhs s)
       → r.changes n ≡ Replaced other → Holds n before v w → none_traps (r.inserts n) w ≡ true
-      → (rhs_traps v rhs ≡ rhs_traps (values_after (r.inserts n) w) other) × (rhs_traps v rhs ≡ false → Holds s (n ∷ before) (with_value x (rhs_value v rhs) v) (with_value x (rhs_value (values_after (r.inserts n) w) other) (values_after (r.inserts n) w)))
+      → (rhs_traps v rhs ≡ rhs_traps (values_after (r.inserts n) w) other)
+      × (rhs_traps v rhs ≡ false → Holds s (n ∷ before) (with_value x (rhs_value v rhs) v) (with_value x (rhs_value (values_after (r.inserts n) w) other) (values_after (r.inserts n) w)))
   -- an assignment that is removed does not trap, and the relation is kept without it
   pub removes : (n s x : ℕ) (rhs : Rhs) (before : List ℕ) (v w : Values)
       → Trace graph.nodes n before → slice_get graph.nodes n ≡ Some (Assign x rhs s)
       → r.changes n ≡ Removed → Holds n before v w → none_traps (r.inserts n) w ≡ true
-      → (rhs_traps v rhs ≡ false) × Holds s (n ∷ before) (with_value x (rhs_value v rhs) v) (values_after (r.inserts n) w)
+      → (rhs_traps v rhs ≡ false)
+      × Holds s (n ∷ before) (with_value x (rhs_value v rhs) v) (values_after (r.inserts n) w)
 
 -- ---- counts
 
@@ -90,4 +94,5 @@ counts x rhs = rhs_count rhs
 
 -- on no full path do the assignments count more than before
 abbrev pub CountsNoMore : Rewriting → List Node → Type 0
-CountsNoMore r nodes = (path : List ℕ) → IsFullPath nodes path → sum_on (new_weight_at counts r nodes) path ≤ sum_on (weight_at counts nodes) path
+CountsNoMore r nodes = (path : List ℕ) → IsFullPath nodes path
+    → sum_on (new_weight_at counts r nodes) path ≤ sum_on (weight_at counts nodes) path

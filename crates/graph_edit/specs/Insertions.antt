@@ -96,11 +96,14 @@ ChangeBelow vars Removed = Unit {0}
 -- the variables of the insertions are below a bound
 abbrev pub InsertionsBelow : ℕ → List Insertion → Type 0
 InsertionsBelow vars [] = Unit {0}
-InsertionsBelow vars (put ∷ puts) = ((put.var < vars) × AllBelow vars (rhs_vars put.rhs)) × InsertionsBelow vars puts
+InsertionsBelow vars (put ∷ puts) = ((put.var < vars) × AllBelow vars (rhs_vars put.rhs))
+    × InsertionsBelow vars puts
 
 -- nothing is put before Start, all variables are in range, and the names of the new ones are new
 pub record CanRewrite (r : Rewriting) (extra : List (List ℕ)) (graph : GraphShape) : Type 0 where
   pub at_start : r.inserts 0 ≡ []
-  pub put : (n : ℕ) → n < length graph.nodes → InsertionsBelow (length (graph.vars ++ extra)) (r.inserts n)
-  pub change : (n : ℕ) → n < length graph.nodes → ChangeBelow (length (graph.vars ++ extra)) (r.changes n)
+  pub put : (n : ℕ) → n < length graph.nodes
+      → InsertionsBelow (length (graph.vars ++ extra)) (r.inserts n)
+  pub change : (n : ℕ) → n < length graph.nodes
+      → ChangeBelow (length (graph.vars ++ extra)) (r.changes n)
   pub names : AllDiffer (graph.vars ++ extra)

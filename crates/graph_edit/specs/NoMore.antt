@@ -25,5 +25,6 @@ old_part nodes over = filter (λ n. nat_lt n (length nodes)) over
 -- so it is of each full path of the graph, and each full path of the result lies over one of these
 pub record HasNoMore (graph result : GraphShape) : Type 0 where
   pub each_over : (path : List ℕ) → IsFullPath graph.nodes path → HasNoMoreOver graph result path
-  pub lies_over : (over : List ℕ) → IsFullPath result.nodes over → IsFullPath graph.nodes (old_part graph.nodes over)
+  pub lies_over : (over : List ℕ) → IsFullPath result.nodes over
+      → IsFullPath graph.nodes (old_part graph.nodes over)
   pub no_fewer : length graph.nodes ≤ length result.nodes

@@ -92,7 +92,7 @@ any_common (x ∷ xs) ys =
 
 -- ---- globals
 
--- a number stands among so many from a on where it is one of them
+-- the number a + i is one of the n numbers from a on where i < n
 in_range : (n a i : ℕ) → i < n → is_in (a + i) (range_with_len a n) ≡ true
 in_range zero a i lt = absurd (omega (arith, lt))
 in_range (suc n) a zero lt = ap (λ b. b || is_in (a + 0) (range_with_len (a + 1) n)) (eq-eqb a (a + 0) (let same : a ≡ a + 0 = omega arith in same))

@@ -91,7 +91,8 @@ skip_or_other (Some (Return a)) = inr (λ next e. cc)
 -- these Skips lead from node n to node m, each but the first the successor of the one before
 abbrev pub IsSkipChain : List Node → List ℕ → ℕ → ℕ → Type 0
 IsSkipChain nodes [] n m = n ≡ m
-IsSkipChain nodes (k ∷ chain) n m = (k ≡ n) × (next : ℕ) × (slice_get nodes k ≡ Some (Skip next)) × IsSkipChain nodes chain next m
+IsSkipChain nodes (k ∷ chain) n m = (k ≡ n) × (next : ℕ) × (slice_get nodes k ≡ Some (Skip next))
+    × IsSkipChain nodes chain next m
 
 module _ (nodes : List Node) where
   pub chain_leads : (chain : List ℕ) (n m : ℕ) → IsSkipChain nodes chain n m → SkipsTo nodes n m
@@ -109,7 +110,8 @@ module _ (nodes : List Node) where
   leads_on (k ∷ chain) n m x w (inl e) = subst (λ i. SkipsTo nodes i m) (sym w.0 ∙ e) (chain_leads (k ∷ chain) n m w)
   leads_on (k ∷ chain) n m x w (inr h) = leads_on chain w.1 m x w.3 h
 
-  pub chain_push : (chain : List ℕ) (n m next : ℕ) → IsSkipChain nodes chain n m → slice_get nodes m ≡ Some (Skip next) → IsSkipChain nodes (chain ++ m ∷ []) n next
+  pub chain_push : (chain : List ℕ) (n m next : ℕ) → IsSkipChain nodes chain n m
+      → slice_get nodes m ≡ Some (Skip next) → IsSkipChain nodes (chain ++ m ∷ []) n next
   chain_push [] n m next w is = (sym w, next, is, refl)
   chain_push (k ∷ chain) n m next w is = (w.0, w.1, w.2, chain_push chain w.1 m next w.3 is)
 
@@ -141,7 +143,8 @@ module _ (nodes : List Node) where
       by_count (suc k) x h t = by_count k t.0 (elim (next_on (c ∷ chain) c c x t.0 w h t.1) [ inl p ↦ p | inr p ↦ inl (sym p) ]) t.2
 
   -- the least of them ends chains
-  pub circle_ends : (chain : List ℕ) (c e : ℕ) → IsSkipChain nodes (c ∷ chain) c c → IsIn e (c ∷ chain) → ((x : ℕ) → IsIn x (c ∷ chain) → e ≤ x) → EndsChains nodes e
+  pub circle_ends : (chain : List ℕ) (c e : ℕ) → IsSkipChain nodes (c ∷ chain) c c → IsIn e (c ∷ chain)
+      → ((x : ℕ) → IsIn x (c ∷ chain) → e ≤ x) → EndsChains nodes e
   circle_ends chain c e w h least = record {
     back = λ m s. to_trans nodes m c e (leads_on (c ∷ chain) c c m w (circle_closed chain c e m w h s)) (led_to (c ∷ chain) c c e w h);
     least = λ m s. least m (circle_closed chain c e m w h s);
@@ -196,14 +199,16 @@ module _ (nodes : List Node) (within : SkipsWithin nodes) where
     here : n < length nodes
 
   -- a node that comes for the second time is on a circle
-  comes_again : (marks : List Bool) (chain : List ℕ) (start n : ℕ) → Following marks chain start n → slice_get marks n ≡ Some true → (e : ℕ) × IsEnd nodes start e
+  comes_again : (marks : List Bool) (chain : List ℕ) (start n : ℕ) → Following marks chain start n
+      → slice_get marks n ≡ Some true → (e : ℕ) × IsEnd nodes start e
   comes_again marks chain start n f again =
       let s = split_at n chain (f.in_chain n again) in
       let r = chain_rest nodes s.0 s.1 n start n (subst (λ l. IsSkipChain nodes l start n) s.2 f.is_chain) in
       let least = least_of n s.1 in
       (least.0, record { leads = to_trans nodes start n least.0 r.0 (led_to nodes (n ∷ s.1) n n least.0 r.1 least.1); ends = circle_ends nodes s.1 n least.0 r.1 least.1 least.2 })
 
-  goes_on : (marks : List Bool) (chain : List ℕ) (start n next : ℕ) → Following marks chain start n → slice_get nodes n ≡ Some (Skip next) → Following (slice_set marks n true) (chain ++ n ∷ []) start next
+  goes_on : (marks : List Bool) (chain : List ℕ) (start n next : ℕ) → Following marks chain start n
+      → slice_get nodes n ≡ Some (Skip next) → Following (slice_set marks n true) (chain ++ n ∷ []) start next
   goes_on marks chain start n next f skip = record {
     long = length-set marks n true ∙ f.long;
     in_chain = λ m e. elim (marked_before marks n m e) [ inl p ↦ subst (λ i. IsIn i (chain ++ n ∷ [])) (sym p) (in_last n chain) | inr p ↦ in_push m n chain (f.in_chain m p) ];
@@ -211,7 +216,9 @@ module _ (nodes : List Node) (within : SkipsWithin nodes) where
     here = within n next skip;
   }
 
-  at_node : (marks : List Bool) (chain : List ℕ) (start n : ℕ) → Following marks chain start n → ((next : ℕ) → slice_get nodes n ≡ Some (Skip next) → slice_get marks n ≡ Some false → (e : ℕ) × IsEnd nodes start e) → (e : ℕ) × IsEnd nodes start e
+  at_node : (marks : List Bool) (chain : List ℕ) (start n : ℕ) → Following marks chain start n
+      → ((next : ℕ) → slice_get nodes n ≡ Some (Skip next) → slice_get marks n ≡ Some false → (e : ℕ) × IsEnd nodes start e)
+      → (e : ℕ) × IsEnd nodes start e
   at_node marks chain start n f onward = elim (skip_or_other (slice_get nodes n)) [
     | inr other ↦ (n, record { leads = chain_leads nodes chain start n f.is_chain; ends = ends_at_other nodes n other })
     | inl skip ↦ elim (marked_or_not marks n (omega (arith, f.here, f.long))) [ inl again ↦ comes_again marks chain start n f again | inr new ↦ onward skip.0 skip.1 new ]
@@ -222,7 +229,8 @@ module _ (nodes : List Node) (within : SkipsWithin nodes) where
   mark_less marks n new = unmarked_set marks n (slice_get_within marks n false new) (get_or_from_slice_get marks n false false new)
 
   -- the chain is followed until a node that is no Skip, or one that comes for the second time
-  follow_chain : (left : ℕ) (marks : List Bool) (chain : List ℕ) (start n : ℕ) → unmarked marks ≡ left → Following marks chain start n → (e : ℕ) × IsEnd nodes start e
+  follow_chain : (left : ℕ) (marks : List Bool) (chain : List ℕ) (start n : ℕ) → unmarked marks ≡ left
+      → Following marks chain start n → (e : ℕ) × IsEnd nodes start e
   follow_chain zero marks chain start n is f = at_node marks chain start n f (λ next skip new. absurd (omega (arith, mark_less marks n new, is)))
   follow_chain (suc left) marks chain start n is f = at_node marks chain start n f (λ next skip new. follow_chain left (slice_set marks n true) (chain ++ n ∷ []) start next (omega (arith, mark_less marks n new, is)) (goes_on marks chain start n next f skip))
 

@@ -25,7 +25,7 @@ pub record HasMembers (of : List ℕ) (members : List (List ℕ)) : Type 0 where
 abbrev pub members_in : Classes → List (List ℕ)
 members_in classes = map (λ v. v.items) classes.members.items
 
--- so it is with the members that are kept
+-- the members that a value of `Classes` keeps are exactly those of each class
 abbrev pub HaveMembers : Classes → Type 0
 HaveMembers classes = HasMembers classes.of.items (members_in classes)
 
@@ -49,7 +49,11 @@ pub record AreMoved (of of' : List ℕ) (from into : ℕ) (moved : List ℕ) : T
 pub record AreJoined (of of' : List ℕ) (a b : ℕ) (moved : List ℕ) : Type 0 where
   pub long : length of' ≡ length of
   pub together : class of' a ≡ class of' b
-  pub still : (n m : ℕ) → n < length of → m < length of → class of n ≡ class of m → class of' n ≡ class of' m
-  pub only : (n m : ℕ) → n < length of → m < length of → class of' n ≡ class of' m → (class of n ≡ class of m) ⊎ ((class of n ≡ class of a) × (class of m ≡ class of b)) ⊎ ((class of n ≡ class of b) × (class of m ≡ class of a))
-  pub by_move : (n m : ℕ) → n < length of → m < length of → class of' n ≡ class of' m → (class of n ≡ class of m) ⊎ IsIn n moved ⊎ IsIn m moved
+  pub still : (n m : ℕ) → n < length of → m < length of → class of n ≡ class of m
+      → class of' n ≡ class of' m
+  pub only : (n m : ℕ) → n < length of → m < length of → class of' n ≡ class of' m
+      → (class of n ≡ class of m) ⊎ ((class of n ≡ class of a) × (class of m ≡ class of b))
+      ⊎ ((class of n ≡ class of b) × (class of m ≡ class of a))
+  pub by_move : (n m : ℕ) → n < length of → m < length of → class of' n ≡ class of' m
+      → (class of n ≡ class of m) ⊎ IsIn n moved ⊎ IsIn m moved
   pub below : AllBelow (length of) moved

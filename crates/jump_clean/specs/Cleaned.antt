@@ -29,5 +29,6 @@ IsOnlyClean graph cleaned = (other : GraphShape) → IsClean graph other → oth
 -- each Skip is its own successor, and no Test has two equal successors
 pub record HasCleanJumps (nodes : List Node) : Type 0 where
   pub skips : (n next : ℕ) → slice_get nodes n ≡ Some (Skip next) → next ≡ n
-  pub tests_differ : (n : ℕ) (test : tests.Test) (taken other : ℕ) → slice_get nodes n ≡ Some (Test test taken other)
+  pub tests_differ : (n : ℕ) (test : tests.Test) (taken other : ℕ)
+      → slice_get nodes n ≡ Some (Test test taken other)
       → taken ≢ other

@@ -23,7 +23,9 @@ use Rattle.jump_clean.specs.Reductions.{AreReductions}
 use Rattle.jump_clean.specs.Joining.{ChainsMeet}
 
 -- a Test that was reduced to a Skip had successors whose chains come together, and they still do in the result
-reduced_meet : (nodes : List Node) (order : List ℕ) (reduced : List Node) → AreReductions nodes order reduced → (m : ℕ) (test : tests.Test) (taken other : ℕ) → slice_get nodes m ≡ Some (Test test taken other) → slice_get reduced m ≡ Some (Skip taken) → ChainsMeet reduced taken other
+reduced_meet : (nodes : List Node) (order : List ℕ) (reduced : List Node) → AreReductions nodes order reduced
+    → (m : ℕ) (test : tests.Test) (taken other : ℕ) → slice_get nodes m ≡ Some (Test test taken other)
+    → slice_get reduced m ≡ Some (Skip taken) → ChainsMeet reduced taken other
 reduced_meet nodes [] reduced reductions m test taken other was is = let both : Some (Test test taken other) ≡ Some (Skip taken) = sym was ∙ ap (λ l. slice_get l m) (sym reductions) ∙ is in cc
 reduced_meet nodes (n ∷ order) reduced reductions m test taken other was is = elim (cases_eq m n) [
   | inl same ↦ here same ((all_become nodes order middle reductions.1).at_node m)
@@ -65,11 +67,13 @@ module _ (nodes cleaned : List Node) (within : AllWithin nodes) (start : (s : �
   ends_itself n lt other = end_is_one are.reduced n (slice_index_or are.ends n 0) n (is_end n lt) (record { leads = to_itself are.reduced n; ends = ends_at_other are.reduced n other })
 
   -- a Skip has the end of its successor
-  end_of_next : (n next : ℕ) → n < length nodes → next < length nodes → slice_get are.reduced n ≡ Some (Skip next) → slice_index_or are.ends next 0 ≡ slice_index_or are.ends n 0
+  end_of_next : (n next : ℕ) → n < length nodes → next < length nodes → slice_get are.reduced n ≡ Some (Skip next)
+      → slice_index_or are.ends next 0 ≡ slice_index_or are.ends n 0
   end_of_next n next lt lt' is = end_is_one are.reduced next (slice_index_or are.ends next 0) (slice_index_or are.ends n 0) (is_end next lt') (end_later are.reduced n next (slice_index_or are.ends n 0) (to_next are.reduced n next is) (is_end n lt))
 
   -- nodes that meet have one end
-  ends_meet : (taken other : ℕ) → taken < length nodes → other < length nodes → ChainsMeet are.reduced taken other → slice_index_or are.ends other 0 ≡ slice_index_or are.ends taken 0
+  ends_meet : (taken other : ℕ) → taken < length nodes → other < length nodes → ChainsMeet are.reduced taken other
+      → slice_index_or are.ends other 0 ≡ slice_index_or are.ends taken 0
   ends_meet taken other lt lt' meet =
       end_is_one are.reduced meet.meet (slice_index_or are.ends other 0) (slice_index_or are.ends taken 0)
       (end_later are.reduced other meet.meet (slice_index_or are.ends other 0) meet.second (is_end other lt'))
@@ -96,7 +100,9 @@ module _ (nodes cleaned : List Node) (within : AllWithin nodes) (start : (s : �
       lt' = within m slot s edge
 
       -- of a Skip there is one edge
-      of_skip : Reached cleaned (slice_index_or are.ends m 0) → (next : ℕ) → slice_get are.reduced m ≡ Some (Skip next) → slice_get (next ∷ []) slot ≡ Some s → Reached cleaned (slice_index_or are.ends s 0)
+      of_skip : Reached cleaned (slice_index_or are.ends m 0) → (next : ℕ)
+          → slice_get are.reduced m ≡ Some (Skip next) → slice_get (next ∷ []) slot ≡ Some s
+          → Reached cleaned (slice_index_or are.ends s 0)
       of_skip before next is e = by_slot slot e
         where
           by_slot : (k : ℕ) → slice_get (next ∷ []) k ≡ Some s → Reached cleaned (slice_index_or are.ends s 0)
@@ -106,7 +112,9 @@ module _ (nodes cleaned : List Node) (within : AllWithin nodes) (start : (s : �
           by_slot (suc k) e = cc
 
       -- of a Test that has become a Skip both successors have its end
-      of_test : Reached cleaned (slice_index_or are.ends m 0) → (r : (test : tests.Test) × (taken : ℕ) × (other : ℕ) × (slice_get nodes m ≡ Some (Test test taken other)) × (slice_get are.reduced m ≡ Some (Skip taken))) → slice_get (r.1 ∷ r.2 ∷ []) slot ≡ Some s → Reached cleaned (slice_index_or are.ends s 0)
+      of_test : Reached cleaned (slice_index_or are.ends m 0)
+          → (r : (test : tests.Test) × (taken : ℕ) × (other : ℕ) × (slice_get nodes m ≡ Some (Test test taken other)) × (slice_get are.reduced m ≡ Some (Skip taken)))
+          → slice_get (r.1 ∷ r.2 ∷ []) slot ≡ Some s → Reached cleaned (slice_index_or are.ends s 0)
       of_test before r e = by_slot slot e
         where
           lt_taken : r.1 < length nodes
@@ -125,7 +133,9 @@ module _ (nodes cleaned : List Node) (within : AllWithin nodes) (start : (s : �
           by_slot (suc (suc k)) e = cc
 
       -- of any other node each edge leads to the end of its target
-      of_other : Reached cleaned (slice_index_or are.ends m 0) → slice_get nodes m ≡ slice_get are.reduced m → ((next : ℕ) → slice_get are.reduced m ≡ Some (Skip next) → ⊥) → Reached cleaned (slice_index_or are.ends s 0)
+      of_other : Reached cleaned (slice_index_or are.ends m 0) → slice_get nodes m ≡ slice_get are.reduced m
+          → ((next : ℕ) → slice_get are.reduced m ≡ Some (Skip next) → ⊥)
+          → Reached cleaned (slice_index_or are.ends s 0)
       of_other before same other =
           let here : Reached cleaned m = subst (Reached cleaned) (ends_itself m lt other) before in
           along m slot (slice_index_or are.ends s 0) here
@@ -133,7 +143,9 @@ module _ (nodes cleaned : List Node) (within : AllWithin nodes) (start : (s : �
           ∙ slice_get-map (λ k. slice_index_or are.ends k 0) (succs_of (slice_get are.reduced m)) slot
           ∙ ap (option_map (λ k. slice_index_or are.ends k 0)) (ap (λ o. slice_get (succs_of o) slot) (sym same) ∙ edge))
 
-      onward : Reached cleaned (slice_index_or are.ends m 0) → BecomesAt (slice_get nodes m) (slice_get are.reduced m) → ((next : ℕ) × (slice_get are.reduced m ≡ Some (Skip next))) ⊎ ((next : ℕ) → slice_get are.reduced m ≡ Some (Skip next) → ⊥) → Reached cleaned (slice_index_or are.ends s 0)
+      onward : Reached cleaned (slice_index_or are.ends m 0) → BecomesAt (slice_get nodes m) (slice_get are.reduced m)
+          → ((next : ℕ) × (slice_get are.reduced m ≡ Some (Skip next))) ⊎ ((next : ℕ) → slice_get are.reduced m ≡ Some (Skip next) → ⊥)
+          → Reached cleaned (slice_index_or are.ends s 0)
       onward before (inl same) (inl skip) = of_skip before skip.0 skip.1 (sym (ap (λ o. slice_get (succs_of o) slot) (same ∙ skip.1)) ∙ edge)
       onward before (inl same) (inr other) = of_other before same other
       onward before (inr r) skip = of_test before r (sym (ap (λ o. slice_get (succs_of o) slot) r.3) ∙ edge)
@@ -147,7 +159,8 @@ module _ (nodes cleaned : List Node) (within : AllWithin nodes) (start : (s : �
       by_case (inl same) = sym same ∙ is
       by_case (inr r) = let both : Some (Assign x rhs next) ≡ Some (Test r.0 r.1 r.2) = sym is ∙ r.3 in cc
 
-  pub assign_cleaned : (n x : ℕ) (rhs : Rhs) (next : ℕ) → slice_get nodes n ≡ Some (Assign x rhs next) → slice_get cleaned n ≡ Some (Assign x rhs (slice_index_or are.ends next 0))
+  pub assign_cleaned : (n x : ℕ) (rhs : Rhs) (next : ℕ) → slice_get nodes n ≡ Some (Assign x rhs next)
+      → slice_get cleaned n ≡ Some (Assign x rhs (slice_index_or are.ends next 0))
   assign_cleaned n x rhs next is = cleaned_at n ∙ ap (option_map (redirected (λ m. slice_index_or are.ends m 0))) (assign_reduced n x rhs next is)
 
   pub assign_reached : (n x : ℕ) (rhs : Rhs) (next : ℕ) → slice_get nodes n ≡ Some (Assign x rhs next) → Reached nodes n → Reached cleaned n
@@ -157,10 +170,13 @@ module _ (nodes cleaned : List Node) (within : AllWithin nodes) (start : (s : �
       no_skip m skip = let both : Some (Assign x rhs next) ≡ Some (Skip m) = sym (assign_reduced n x rhs next is) ∙ skip in cc
 
   -- and an assignment that is there was there
-  pub assign_was : (n x : ℕ) (rhs : Rhs) (next : ℕ) → slice_get cleaned n ≡ Some (Assign x rhs next) → (before : ℕ) × (slice_get nodes n ≡ Some (Assign x rhs before))
+  pub assign_was : (n x : ℕ) (rhs : Rhs) (next : ℕ) → slice_get cleaned n ≡ Some (Assign x rhs next)
+      → (before : ℕ) × (slice_get nodes n ≡ Some (Assign x rhs before))
   assign_was n x rhs next is = by_node (slice_get are.reduced n) refl (sym (cleaned_at n) ∙ is)
     where
-      by_node : (node : Option Node) → slice_get are.reduced n ≡ node → option_map (redirected (λ m. slice_index_or are.ends m 0)) node ≡ Some (Assign x rhs next) → (before : ℕ) × (slice_get nodes n ≡ Some (Assign x rhs before))
+      by_node : (node : Option Node) → slice_get are.reduced n ≡ node
+          → option_map (redirected (λ m. slice_index_or are.ends m 0)) node ≡ Some (Assign x rhs next)
+          → (before : ℕ) × (slice_get nodes n ≡ Some (Assign x rhs before))
       by_node None at e = cc
       by_node (Some (Start s)) at e = cc
       by_node (Some (Skip s)) at e = cc
@@ -179,7 +195,8 @@ module _ (nodes cleaned : List Node) (within : AllWithin nodes) (start : (s : �
       by_node (Some (Return a)) at e = cc
 
 -- each dividing assignment is unchanged at its number, and is reached, so it is kept
-pub clean_unchanged : (graph cleaned : GraphShape) → IsGraph graph.vars graph.received graph.nodes → IsClean graph cleaned → DividesUnchanged graph.nodes cleaned.nodes
+pub clean_unchanged : (graph cleaned : GraphShape) → IsGraph graph.vars graph.received graph.nodes
+    → IsClean graph cleaned → DividesUnchanged graph.nodes cleaned.nodes
 clean_unchanged graph cleaned is clean = unchanged_trans graph.nodes clean.nodes cleaned.nodes
     (unchanged_in_place graph.nodes clean.nodes (λ n x op left right next may_trap here. (_, assign_cleaned graph.nodes clean.nodes within is.can.start clean.are_cleaned n x (Binary op left right) next here)))
     (retained_unchanged clean.nodes cleaned.nodes clean.made.nodes_are reached)

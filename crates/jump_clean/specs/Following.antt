@@ -16,10 +16,13 @@ pub record AreFound (nodes : List Node) (found : List ChainPlace) : Type 0 where
 
 -- what is known of a node is as it was, or it is one of these and this end is known
 abbrev pub OnlyNoted : List ChainPlace → List ChainPlace → ℕ → List ℕ → Type 0
-OnlyNoted found found' end nodes = (n : ℕ) → (slice_get found' n ≡ slice_get found n) ⊎ ((slice_get found' n ≡ Some (End end)) × IsIn n nodes)
+OnlyNoted found found' end nodes = (n : ℕ)
+    → (slice_get found' n ≡ slice_get found n)
+    ⊎ ((slice_get found' n ≡ Some (End end)) × IsIn n nodes)
 
 -- during a search: the Skips of the chain lead from the start to node n
-pub record IsFollowed (nodes : List Node) (found : List ChainPlace) (chain : List ℕ) (start n : ℕ) : Type 0 where
+pub record IsFollowed (nodes : List Node) (found : List ChainPlace) (chain : List ℕ)
+    (start n : ℕ) : Type 0 where
   pub long : length found ≡ length nodes
   pub right : (m e : ℕ) → slice_get found m ≡ Some (End e) → IsEnd nodes m e
   pub in_chain : (m : ℕ) → slice_get found m ≡ Some InChain → IsIn m chain

@@ -27,33 +27,43 @@ pub record IsJoining (raw nodes : List Node) (of worklist suspects : List ℕ) :
   pub reductions : AreReductions raw order nodes
   pub within : AllWithin nodes
   pub long : length of ≡ length nodes
-  pub sound : (a b : ℕ) → a < length nodes → b < length nodes → class of a ≡ class of b → ChainsMeet nodes a b
-  pub skips : (n next : ℕ) → slice_get nodes n ≡ Some (Skip next) → IsIn n worklist ⊎ (class of n ≡ class of next)
-  pub suspected : (n : ℕ) (test : tests.Test) (taken other : ℕ) → slice_get nodes n ≡ Some (Test test taken other) → class of taken ≡ class of other → IsIn n suspects
+  pub sound : (a b : ℕ) → a < length nodes → b < length nodes → class of a ≡ class of b
+      → ChainsMeet nodes a b
+  pub skips : (n next : ℕ) → slice_get nodes n ≡ Some (Skip next)
+      → IsIn n worklist ⊎ (class of n ≡ class of next)
+  pub suspected : (n : ℕ) (test : tests.Test) (taken other : ℕ)
+      → slice_get nodes n ≡ Some (Test test taken other)
+      → class of taken ≡ class of other → IsIn n suspects
   pub worklist_below : AllBelow (length nodes) worklist
   pub suspects_below : AllBelow (length nodes) suspects
 
 -- ---- what one step does
 
--- the number of each Skip is in the list
+-- the list has the numbers of all Skips
 abbrev pub ContainSkips : List Node → List ℕ → Type 0
 ContainSkips nodes list = (n next : ℕ) → slice_get nodes n ≡ Some (Skip next) → IsIn n list
 
 -- the source of each edge that enters one of these nodes is in the list
 abbrev pub ContainPreds : List Edge → List ℕ → List ℕ → Type 0
-ContainPreds edges nodes list = (n m : ℕ) → IsIn n nodes → IsIn m (preds_among n edges) → IsIn m list
+ContainPreds edges nodes list = (n m : ℕ) → IsIn n nodes → IsIn m (preds_among n edges)
+    → IsIn m list
 
 -- the list has no others
 abbrev pub AreOnlyPreds : List Edge → List ℕ → List ℕ → Type 0
-AreOnlyPreds edges nodes list = (m : ℕ) → IsIn m list → (n : ℕ) × IsIn n nodes × IsIn m (preds_among n edges)
+AreOnlyPreds edges nodes list = (m : ℕ) → IsIn m list
+    → (n : ℕ) × IsIn n nodes × IsIn m (preds_among n edges)
 
 -- the last pending node has been joined with its successor, and what has to be looked at for that are these nodes
 abbrev pub JoinsLast : EdgesShape → List Node → ℕ → Classes → Classes → List ℕ → Type 0
-JoinsLast edges nodes n old new checks = (raw : List Node) (worklist : List ℕ) → edges ≡ edges_of raw → IsJoining raw nodes old.of.items (worklist ++ n ∷ []) [] → IsJoining raw nodes new.of.items worklist checks
+JoinsLast edges nodes n old new checks = (raw : List Node) (worklist : List ℕ)
+    → edges ≡ edges_of raw → IsJoining raw nodes old.of.items (worklist ++ n ∷ []) []
+    → IsJoining raw nodes new.of.items worklist checks
 
--- these nodes have been looked at
+-- the nodes `checks` have been looked at: what was a joining of a graph with these left to look at is one with none
+-- left
 abbrev pub AreChecked : List ℕ → List ℕ → List Node → List ℕ → List Node → List ℕ → Type 0
-AreChecked of checks nodes worklist nodes' worklist' = (raw : List Node) → IsJoining raw nodes of worklist checks → IsJoining raw nodes' of worklist' []
+AreChecked of checks nodes worklist nodes' worklist' = (raw : List Node)
+    → IsJoining raw nodes of worklist checks → IsJoining raw nodes' of worklist' []
 
 -- the `taken` of a Test with both successors in one class
 abbrev pub useless_of : List ℕ → Node → Option ℕ

@@ -59,7 +59,7 @@ pub reductions_within : (nodes : List Node) (order : List ℕ) (reduced : List N
 reductions_within nodes [] reduced reductions within = subst AllWithin (sym reductions) within
 reductions_within nodes (n ∷ order) reduced reductions within = reduced_within reductions.0 n reduced reductions.2 (reductions_within nodes order reductions.0 reductions.1 within)
 
--- and the number of nodes
+-- reductions keep the number of nodes
 pub all_long : (nodes : List Node) (order : List ℕ) (reduced : List Node) → AreReductions nodes order reduced → length reduced ≡ length nodes
 all_long nodes [] reduced reductions = ap length reductions
 all_long nodes (n ∷ order) reduced reductions = reduced_long reductions.0 n reduced reductions.2 ∙ all_long nodes order reductions.0 reductions.1
@@ -68,9 +68,10 @@ all_long nodes (n ∷ order) reduced reductions = reduced_long reductions.0 n re
 
 -- the node is as it was, or was a Test and is a Skip to its `taken`
 abbrev pub BecomesAt : Option Node → Option Node → Type 0
-BecomesAt before after = (before ≡ after) ⊎ ((test : tests.Test) × (taken : ℕ) × (other : ℕ) × (before ≡ Some (Test test taken other)) × (after ≡ Some (Skip taken)))
+BecomesAt before after = (before ≡ after)
+    ⊎ ((test : tests.Test) × (taken : ℕ) × (other : ℕ) × (before ≡ Some (Test test taken other)) × (after ≡ Some (Skip taken)))
 
--- so it is with each node
+-- each node is as it was, or was a Test and is a Skip to its `taken`
 pub record Becomes (before after : List Node) : Type 0 where
   pub at_node : (n : ℕ) → BecomesAt (slice_get before n) (slice_get after n)
 
@@ -121,7 +122,8 @@ leads_still before after p n m s = record { count = s.count; skips = by_count s.
 -- ---- the order does not matter
 
 -- where chains come together they have one end
-pub meet_in_end : (nodes : List Node) → AllWithin nodes → (a b c : ℕ) → a < length nodes → SkipsTo nodes a c → SkipsTo nodes b c → (e : ℕ) × IsEnd nodes a e × IsEnd nodes b e
+pub meet_in_end : (nodes : List Node) → AllWithin nodes → (a b c : ℕ) → a < length nodes → SkipsTo nodes a c
+    → SkipsTo nodes b c → (e : ℕ) × IsEnd nodes a e × IsEnd nodes b e
 meet_in_end nodes within a b c lt s t =
     let skips = skips_within nodes within in
     let e = has_end nodes skips c (leads_within nodes skips a c s lt) in

@@ -22,7 +22,8 @@ module _ {K : Type 0} where
   -- ---- put in
 
   -- a place of the longer list is one of the list, or its end
-  pushed_at : (keys : List K) (key : K) (i : ℕ) (k : K) → slice_get (keys ++ key ∷ []) i ≡ Some k → (slice_get keys i ≡ Some k) ⊎ ((i ≡ length keys) × (k ≡ key))
+  pushed_at : (keys : List K) (key : K) (i : ℕ) (k : K) → slice_get (keys ++ key ∷ []) i ≡ Some k
+      → (slice_get keys i ≡ Some k) ⊎ ((i ≡ length keys) × (k ≡ key))
   pushed_at keys key i k here = elim (cases_lt i (length keys)) [
     | inl lt ↦ inl (sym (get_left keys (key ∷ []) i lt) ∙ here)
     | inr ge ↦
@@ -118,7 +119,8 @@ module _ {K : Type 0} where
         by false any = fresh.1
 
     -- the first position of an item that is equal to the key is the place of the key
-    pub position_finds : (keys : List K) (key : K) (found : Option ℕ) → AllDiffer keys → found ≡ position (eq key) keys → is_some found ≡ list_any (eq key) keys → FindsKey keys key found
+    pub position_finds : (keys : List K) (key : K) (found : Option ℕ) → AllDiffer keys
+        → found ≡ position (eq key) keys → is_some found ≡ list_any (eq key) keys → FindsKey keys key found
     position_finds keys key found differ is any i = (λ here. at found refl here, λ one. there i (sym is ∙ one))
       where
         there : (j : ℕ) → position (eq key) keys ≡ Some j → slice_get keys j ≡ Some key

@@ -3,7 +3,8 @@ use Rattle.std.specs.Prelude.{◌≡◌, ◌⊎◌, ◌↔◌, ℕ, Contains, Li
 
 -- the list has the key at its end, where it was new
 abbrev pub IsWithKey : {K : Type 0} → List K → K → List K → Type 0
-IsWithKey old key new = (Contains old key × (new ≡ old)) ⊎ ((Contains old key → ⊥) × (new ≡ old ++ key ∷ []))
+IsWithKey old key new = (Contains old key × (new ≡ old))
+    ⊎ ((Contains old key → ⊥) × (new ≡ old ++ key ∷ []))
 
 -- the same of a key that may be absent, without which the list stays
 abbrev pub IsWithSome : {K : Type 0} → List K → Option K → List K → Type 0
@@ -16,4 +17,5 @@ FindsKey keys key number = (i : ℕ) → (slice_get keys i ≡ Some key) ↔ (nu
 
 -- the same of a key that may be absent
 abbrev pub FindsSome : {K : Type 0} → List K → Option K → Option ℕ → Type 0
-FindsSome {K = K} keys key number = (i : ℕ) (k : K) → slice_get keys i ≡ Some k → (key ≡ Some k) ↔ (number ≡ Some i)
+FindsSome {K = K} keys key number = (i : ℕ) (k : K) → slice_get keys i ≡ Some k → (key
+    ≡ Some k) ↔ (number ≡ Some i)

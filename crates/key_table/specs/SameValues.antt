@@ -1,5 +1,5 @@
 -- Values of the language that compare as equal are one value, and each compares as equal to itself. Cited by
--- impls of `Key`, and by tactics of sink_dead.
+-- impls of `Key`, and by tactics of `sink_code`, `unit_equal` and `value_number`.
 use Rattle.std.proofs.Common.{rules, ◌≡◌, true, ◌&&◌, refl, ap}
 use Rattle.std.proofs.lemmas.Bool.{and_parts, eqb-true}
 use Rattle.mir_base.specs.declared.operators.Op.{Op}

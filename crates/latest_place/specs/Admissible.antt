@@ -18,7 +18,8 @@ dec_reaches good bad (m ∷ before) = dec_both (dec_is (bad m) false) (dec_or (d
 
 -- a path leaves n and comes, through nodes that are not latest, to a use that is not latest
 abbrev pub IsNeeded : GraphShape → Expr → (ℕ → Type 0) → ℕ → Type 0
-IsNeeded graph e Down n = (path : List ℕ) × IsPath graph.nodes (n ∷ path) × ComesToUse graph e Down path
+IsNeeded graph e Down n = (path : List ℕ) × IsPath graph.nodes (n ∷ path)
+    × ComesToUse graph e Down path
 
 module _ (graph : GraphShape) (facts : SplitFacts graph) (e : Expr) (Down : ℕ → Type 0) where
   -- by the use at a successor, or by what a successor needs

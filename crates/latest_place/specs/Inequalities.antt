@@ -17,7 +17,8 @@ use Rattle.latest_place.specs.SplitFacts.{SplitFacts}
 
 -- the temporary of e holds its value at n: every path from Start to n has an insertion from which on no node kills e
 abbrev pub IsAvailableFrom : GraphShape → Expr → Places → ℕ → Type 0
-IsAvailableFrom graph e p n = (before : List ℕ) → Trace graph.nodes n before → IsAvailableAfter graph e (λ m. p.inserts m ≡ true) before
+IsAvailableFrom graph e p n = (before : List ℕ) → Trace graph.nodes n before
+    → IsAvailableAfter graph e (λ m. p.inserts m ≡ true) before
 
 -- an evaluation is pending at n: n is down, so what follows uses e, and e is not available there from the insertions;
 -- so the placement has still to evaluate e, at n or after it

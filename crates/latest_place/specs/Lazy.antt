@@ -28,14 +28,17 @@ IsLatest graph e Down n = IsDelayed graph e Down n
 abbrev pub ComesToUse : GraphShape → Expr → (ℕ → Type 0) → List ℕ → Type 0
 ComesToUse graph e Down [] = ⊥
 ComesToUse graph e Down (n ∷ []) = (IsLatest graph e Down n → ⊥) × (uses graph e n ≡ true)
-ComesToUse graph e Down (m ∷ n ∷ path) = (IsLatest graph e Down m → ⊥) × ComesToUse graph e Down (n ∷ path)
+ComesToUse graph e Down (m ∷ n ∷ path) = (IsLatest graph e Down m → ⊥)
+    × ComesToUse graph e Down (n ∷ path)
 
 -- no path that leaves n comes so to a use
 abbrev pub IsIsolated : GraphShape → Expr → (ℕ → Type 0) → ℕ → Type 0
-IsIsolated graph e Down n = (path : List ℕ) → IsPath graph.nodes (n ∷ path) → ComesToUse graph e Down path → ⊥
+IsIsolated graph e Down n = (path : List ℕ) → IsPath graph.nodes (n ∷ path)
+    → ComesToUse graph e Down path → ⊥
 
 -- the rows say where each expression of the table is used, delayed, latest and isolated
-pub record AreLateRows (graph : GraphShape) (table : List Expr) (Down : Expr → ℕ → Type 0) (late : Late) : Type 0 where
+pub record AreLateRows (graph : GraphShape) (table : List Expr) (Down : Expr → ℕ → Type 0)
+    (late : Late) : Type 0 where
   pub uses : AreRowsOf graph table (uses graph) late.uses
   pub delayed : AreRowsWhere graph table (λ e. IsDelayed graph e (Down e)) late.delayed
   pub latest : AreRowsWhere graph table (λ e. IsLatest graph e (Down e)) late.latest

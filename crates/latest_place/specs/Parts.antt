@@ -34,8 +34,9 @@ IsSeenFrom graph e from Never = (n : ℕ) → from ≤ n → uses graph e n ≡ 
 IsSeenFrom graph e from Once = (u : ℕ) × IsUsedOnceFrom graph e from u
 IsSeenFrom graph e from More = Unit {0}
 
--- so it is of each expression of the table
-pub record AreSeenFrom (graph : GraphShape) (table : List Expr) (from : ℕ) (seen : List SeenUse) : Type 0 where
+-- of each expression of the table this is known from the nodes from this number on
+pub record AreSeenFrom (graph : GraphShape) (table : List Expr) (from : ℕ)
+    (seen : List SeenUse) : Type 0 where
   pub long : length seen ≡ length table
   pub each : ForEachExpr table (λ i e. IsSeenFrom graph e from (slice_index_or seen i More))
 
@@ -43,7 +44,8 @@ pub record AreSeenFrom (graph : GraphShape) (table : List Expr) (from : ℕ) (se
 abbrev pub LeadsFrom : GraphShape → ℕ → ℕ → Type 0
 LeadsFrom graph from least = (m s : ℕ) → from ≤ m → HasEdge graph.nodes m s → least ≤ s
 
--- what is seen of an expression that a node uses, which may be passed once
+-- what is known of an expression after one more node that uses it: `Once` where no later node does and the node is
+-- passed once
 abbrev pub seen_again : Bool → SeenUse → SeenUse
 seen_again true Never = Once
 seen_again false Never = More
@@ -79,17 +81,20 @@ pub record IsPart (numbers : List ℕ) (table part : List Expr) : Type 0 where
 -- ---- rows
 
 -- in one row the bits of these numbers are those of before or those of the other row; all else is as before
-pub record AddsRow (numbers : List ℕ) (node : ℕ) (row : List Bool) (old new : List (List Bool)) : Type 0 where
+pub record AddsRow (numbers : List ℕ) (node : ℕ) (row : List Bool)
+    (old new : List (List Bool)) : Type 0 where
   pub alike : AreAlike old new
   pub others : (n b : ℕ) → n ≢ node → has_bit new b n ≡ has_bit old b n
   pub beside : (b : ℕ) → (HasNumber b numbers → ⊥) → has_bit new b node ≡ has_bit old b node
-  pub added : (k b : ℕ) → slice_get numbers k ≡ Some b → has_bit new b node ≡ (has_bit old b node || row_bit row k)
+  pub added : (k b : ℕ) → slice_get numbers k ≡ Some b
+      → has_bit new b node ≡ (has_bit old b node || row_bit row k)
 
 -- so it is of each row
 pub record AddsBits (numbers : List ℕ) (part old new : List (List Bool)) : Type 0 where
   pub alike : AreAlike old new
   pub beside : (n b : ℕ) → (HasNumber b numbers → ⊥) → has_bit new b n ≡ has_bit old b n
-  pub added : (n k b : ℕ) → slice_get numbers k ≡ Some b → has_bit new b n ≡ (has_bit old b n || has_bit part k n)
+  pub added : (n k b : ℕ) → slice_get numbers k ≡ Some b
+      → has_bit new b n ≡ (has_bit old b n || has_bit part k n)
 
 -- ---- the placement
 

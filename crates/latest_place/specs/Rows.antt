@@ -13,15 +13,18 @@ use Rattle.latest_place.specs.declared.equations.Uses.{Uses}
 
 -- n is earliest, or every path to n has an earliest node before n such that no node from it on uses
 abbrev pub IsDelayedBit : List Node → (ℕ → Bool) → (ℕ → Bool) → ℕ → Type 0
-IsDelayedBit nodes early uses n = (early n ≡ true) ⊎ BornBefore nodes (λ m. early m && not (uses m)) uses n
+IsDelayedBit nodes early uses n = (early n ≡ true)
+    ⊎ BornBefore nodes (λ m. early m && not (uses m)) uses n
 
 -- n is delayed, and uses or has a successor that is not delayed
 abbrev pub IsLatestBit : List Node → (ℕ → Bool) → (ℕ → Bool) → ℕ → Type 0
-IsLatestBit nodes delayed uses n = (delayed n ≡ true) × ((uses n ≡ true) ⊎ ((s : ℕ) × HasEdge nodes n s × (delayed s ≡ false)))
+IsLatestBit nodes delayed uses n = (delayed n ≡ true)
+    × ((uses n ≡ true) ⊎ ((s : ℕ) × HasEdge nodes n s × (delayed s ≡ false)))
 
 -- from some successor of n a path comes, through nodes that are not latest, to a use that is not latest
 abbrev pub IsNeededBit : List Node → (ℕ → Bool) → (ℕ → Bool) → ℕ → Type 0
-IsNeededBit nodes latest uses n = (s : ℕ) × HasEdge nodes n s × BornAhead nodes (λ m. uses m && not (latest m)) latest s
+IsNeededBit nodes latest uses n = (s : ℕ) × HasEdge nodes n s
+    × BornAhead nodes (λ m. uses m && not (latest m)) latest s
 
 -- ---- all bits
 
@@ -33,25 +36,32 @@ pub record AreLikeUses (uses : Uses) (rows : List (List Bool)) : Type 0 where
   pub uses_are : HaveShape uses.graph.now (width rows) uses.rows.now
 
 -- the rows say where each bit is delayed
-abbrev pub AreDelayedRows : GraphShape → List (List Bool) → List (List Bool) → List (List Bool) → Type 0
+abbrev pub AreDelayedRows : GraphShape → List (List Bool) → List (List Bool) → List (List Bool)
+    → Type 0
 AreDelayedRows graph early uses rows = Tell graph (width early) rows (λ b. IsDelayedBit graph.nodes (has_bit early b) (has_bit uses b))
 
 -- the rows say where each bit is latest
-abbrev pub AreLatestRows : GraphShape → List (List Bool) → List (List Bool) → List (List Bool) → Type 0
+abbrev pub AreLatestRows : GraphShape → List (List Bool) → List (List Bool) → List (List Bool)
+    → Type 0
 AreLatestRows graph delayed uses rows = Tell graph (width delayed) rows (λ b. IsLatestBit graph.nodes (has_bit delayed b) (has_bit uses b))
 
 -- the rows say where each bit is needed
-abbrev pub AreNeededRows : GraphShape → List (List Bool) → List (List Bool) → List (List Bool) → Type 0
+abbrev pub AreNeededRows : GraphShape → List (List Bool) → List (List Bool) → List (List Bool)
+    → Type 0
 AreNeededRows graph latest uses rows = Tell graph (width latest) rows (λ b. IsNeededBit graph.nodes (has_bit latest b) (has_bit uses b))
 
 -- the rows say where each bit is isolated, which is where it is not needed
-abbrev pub AreIsolatedRows : GraphShape → List (List Bool) → List (List Bool) → List (List Bool) → Type 0
+abbrev pub AreIsolatedRows : GraphShape → List (List Bool) → List (List Bool) → List (List Bool)
+    → Type 0
 AreIsolatedRows graph latest uses rows = Tell graph (width latest) rows (λ b n. IsNeededBit graph.nodes (has_bit latest b) (has_bit uses b) n → ⊥)
 
 -- the rows have the latest bits that are not isolated
 abbrev pub AreInsertedRows : List (List Bool) → List (List Bool) → List (List Bool) → Type 0
-AreInsertedRows latest isolated rows = (n b : ℕ) → has_bit rows b n ≡ (has_bit latest b n && not (has_bit isolated b n))
+AreInsertedRows latest isolated rows = (n b : ℕ)
+    → has_bit rows b n ≡ (has_bit latest b n && not (has_bit isolated b n))
 
 -- the rows have the used bits that are not both latest and isolated
-abbrev pub AreReplacedRows : List (List Bool) → List (List Bool) → List (List Bool) → List (List Bool) → Type 0
-AreReplacedRows uses latest isolated rows = (n b : ℕ) → has_bit rows b n ≡ (has_bit uses b n && not (has_bit latest b n && has_bit isolated b n))
+abbrev pub AreReplacedRows : List (List Bool) → List (List Bool) → List (List Bool)
+    → List (List Bool) → Type 0
+AreReplacedRows uses latest isolated rows = (n b : ℕ)
+    → has_bit rows b n ≡ (has_bit uses b n && not (has_bit latest b n && has_bit isolated b n))

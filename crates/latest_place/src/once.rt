@@ -41,7 +41,7 @@ pub(crate) fn moving_numbers(
     Ok(numbers)
 }
 
-/// Whether an expression is such a one.
+/// Whether one node alone uses the expression, and no path comes back to this node.
 fn is_once(seen: SeenUse) -> bool
     ensures { (result ≡ true) ↔ (seen ≡ SeenUse.Once) }
 {

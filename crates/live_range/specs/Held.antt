@@ -58,14 +58,16 @@ pub record IsHeld (nodes : List Node) (p : Places) (m n : ℕ) : Type 0 where
 pub record AreHeldEdges (graph : GraphShape) (table : List Expr) (p : Placement)
     (rows : List (List Bool)) : Type 0 where
   pub shape : AreRows (length (edges_of graph.nodes).edges) (length table) rows
-  pub bits : (k i : ℕ) (edge : Edge) → slice_get (edges_of graph.nodes).edges k ≡ Some edge → i < length table
+  pub bits : (k i : ℕ) (edge : Edge) → slice_get (edges_of graph.nodes).edges k ≡ Some edge
+      → i < length table
       → (has_bit rows i k ≡ true) ↔ IsHeld graph.nodes (places_of p i) edge.source edge.target
 
 -- ---- the fewest edges
 
 -- whatever placement of e is optimal, it holds the temporary wherever this one does
 abbrev pub IsHeldLeast : GraphShape → Expr → (ℕ → Type 0) → Places → Type 0
-IsHeldLeast graph e Down p = (other : Places) → IsOptimal graph e Down other → (m n : ℕ) → IsHeld graph.nodes p m n
+IsHeldLeast graph e Down p = (other : Places) → IsOptimal graph e Down other → (m n : ℕ)
+    → IsHeld graph.nodes p m n
     → IsHeld graph.nodes other m n
 
 -- so it is of each expression of the table

@@ -34,7 +34,8 @@ pub record AreReturnRows (nodes : List Node) (rows : List (List Bool)) : Type 0 
 -- one row for each node of the graph, whose one bit says whether a Return is reached from it
 pub record AreReachingRows (graph : GraphShape) (rows : List (List Bool)) : Type 0 where
   pub shape : AreRows (length graph.nodes) 1 rows
-  pub bits : (n : ℕ) → n < length graph.nodes → (has_bit rows 0 n ≡ true) ↔ ReachesReturn graph.nodes n
+  pub bits : (n : ℕ) → n < length graph.nodes
+      → (has_bit rows 0 n ≡ true) ↔ ReachesReturn graph.nodes n
 
 -- as many rows, and as long, each with only bits that the other row of its number has
 pub record HaveOnlyBitsOf (other rows : List (List Bool)) : Type 0 where
@@ -46,7 +47,8 @@ pub record HaveOnlyBitsOf (other rows : List (List Bool)) : Type 0 where
 pub record AreMaskedBelow (below : ℕ) (mask old new : List (List Bool)) : Type 0 where
   pub len : length new ≡ length old
   pub each : (n : ℕ) → length (row_of new n) ≡ length (row_of old n)
-  pub done : (n b : ℕ) → n < below → n < length old → has_bit new b n ≡ (has_bit old b n && has_bit mask 0 n)
+  pub done : (n b : ℕ) → n < below → n < length old
+      → has_bit new b n ≡ (has_bit old b n && has_bit mask 0 n)
   pub later : (n : ℕ) → (n < below → ⊥) → row_of new n ≡ row_of old n
 
 -- the row of each edge is that of its target

@@ -22,19 +22,20 @@ all_below_append m (x ∷ xs) ys h k = (h.0, all_below_append m xs ys h.1 k)
 pub all_below_push : (m n : ℕ) (xs : List ℕ) → AllBelow m xs → n < m → AllBelow m (xs ++ n ∷ [])
 all_below_push m n xs h lt = all_below_append m xs (n ∷ []) h (lt, tt)
 
--- the number at a place
+-- each number of a list of numbers below m is below m
 pub all_below_at : (m : ℕ) (xs : List ℕ) (i x : ℕ) → AllBelow m xs → slice_get xs i ≡ Some x → x < m
 all_below_at m [] i x h e = cc
 all_below_at m (y ∷ xs) zero x h e = let same : y ≡ x = cc in subst (λ z. z < m) same h.0
 all_below_at m (y ∷ xs) (suc i) x h e = all_below_at m xs i x h.1 e
 
--- the numbers of one of several items
-pub all_below_item : {A : Type 0} (f : A → List ℕ) (m : ℕ) (xs : List A) (i : ℕ) (x : A) → AllBelow m (flat_map f xs) → slice_get xs i ≡ Some x → AllBelow m (f x)
+-- where the numbers of all items are below m, so are those of one of them
+pub all_below_item : {A : Type 0} (f : A → List ℕ) (m : ℕ) (xs : List A) (i : ℕ) (x : A) → AllBelow m (flat_map f xs)
+    → slice_get xs i ≡ Some x → AllBelow m (f x)
 all_below_item f m [] i x h e = cc
 all_below_item f m (y ∷ xs) zero x h e = let same : y ≡ x = cc in subst (λ z. AllBelow m (f z)) same (all_below_left m (f y) (flat_map f xs) h)
 all_below_item f m (y ∷ xs) (suc i) x h e = all_below_item f m xs i x (all_below_right m (f y) (flat_map f xs) h) e
 
--- a greater bound
+-- numbers below m are below each n that is not less
 pub all_below_more : (m n : ℕ) (xs : List ℕ) → m ≤ n → AllBelow m xs → AllBelow n xs
 all_below_more m n [] more h = tt
 all_below_more m n (x ∷ xs) more h = (omega (arith, h.0), all_below_more m n xs more h.1)

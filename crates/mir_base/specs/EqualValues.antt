@@ -43,7 +43,8 @@ module _ (v w : Values) where
   operand_equal (Var x) equal = equal.0
   operand_equal (Const c) equal = refl
 
-  pub operands_equal : (operands : List Operand) → EqualOn (flat_map operand_vars operands) v w → map (operand_value v) operands ≡ map (operand_value w) operands
+  pub operands_equal : (operands : List Operand) → EqualOn (flat_map operand_vars operands) v w
+      → map (operand_value v) operands ≡ map (operand_value w) operands
   operands_equal [] equal = refl
   operands_equal (a ∷ operands) equal =
       ap (λ u. u ∷ map (operand_value v) operands) (operand_equal a (equal_left (operand_vars a) (flat_map operand_vars operands) v w equal))
@@ -78,10 +79,10 @@ value values e = rhs_value values (rhs_of e)
 pub value_equal : (e : Expr) (v w : Values) → EqualOn (expr_vars e) v w → value v e ≡ value w e
 value_equal e v w equal = rhs_equal v w (rhs_of e) (subst (λ l. EqualOn l v w) (sym (rhs_of_vars e)) equal)
 
--- an assignment leaves the other variables
+-- where x gets a value, every other variable has the value that it had
 pub with_other : (x y : ℕ) (c : ℤ) (values : Values) → (y ≡ x → ⊥) → with_value x c values y ≡ values y
 with_other x y c values ne = ap (λ b. if b then c else values y) (ne_eqb y x ne)
 
--- and gives its own the value
+-- and x has the new one
 pub with_same : (x : ℕ) (c : ℤ) (values : Values) → with_value x c values x ≡ c
 with_same x c values = ap (λ b. if b then c else values x) (eq-eqb x x refl)

@@ -17,7 +17,8 @@ use Rattle.mir_base.specs.Expressions.{divides, expr_of, is_movable, rhs_traps, 
 use Rattle.mir_base.specs.Shapes.{operand_vars, rhs_vars}
 
 -- an assignment traps where its right side does, and else counts and assigns what that gives
-pub assign_is : (x : ℕ) (rhs : Rhs) (place : ℕ) (frame : Frame) → assign_transition x rhs place frame ≡ (if rhs_traps frame.values rhs then Traps ZeroDivisor 1 else Continues (rhs_count rhs) (assigned x (rhs_value frame.values rhs) place frame))
+pub assign_is : (x : ℕ) (rhs : Rhs) (place : ℕ) (frame : Frame)
+    → assign_transition x rhs place frame ≡ (if rhs_traps frame.values rhs then Traps ZeroDivisor 1 else Continues (rhs_count rhs) (assigned x (rhs_value frame.values rhs) place frame))
 assign_is x (Plain a) place frame = refl
 assign_is x (Unary op a) place frame = refl
 assign_is x (Binary op a b) place frame = refl
@@ -43,7 +44,8 @@ expr_of_vars (Plain a) e h = cc
 expr_of_vars (Unary op a) e h = let same : Un op a ≡ e = cc in rw (← same) (refl, refl)
 expr_of_vars (Binary op a b) e h = by (divides (Binary op a b)) refl h
   where
-    by : (d : Bool) → divides (Binary op a b) ≡ d → (if d then None else Some (Bin op a b)) ≡ Some e → (is_movable (rhs_of e) ≡ true) × (expr_vars e ≡ operand_vars a ++ operand_vars b)
+    by : (d : Bool) → divides (Binary op a b) ≡ d → (if d then None else Some (Bin op a b)) ≡ Some e
+        → (is_movable (rhs_of e) ≡ true) × (expr_vars e ≡ operand_vars a ++ operand_vars b)
     by true is h' = cc
     by false is h' = let same : Bin op a b ≡ e = cc in rw (← same) (ap not is, refl)
 

@@ -29,25 +29,25 @@ expr_of (Plain a) = None
 expr_of (Unary op a) = Some (Un op a)
 expr_of (Binary op a b) = if divides (Binary op a b) then None else Some (Bin op a b)
 
--- unary or binary, and not dividing
+-- the right side is unary or binary, and does not divide
 abbrev pub is_movable : Rhs → Bool
 is_movable (Plain a) = false
 is_movable (Unary op a) = true
 is_movable (Binary op a b) = not (divides (Binary op a b))
 
--- its evaluation traps at these values of the variables
+-- the evaluation of a right side traps at these values of the variables
 abbrev pub rhs_traps : Values → Rhs → Bool
 rhs_traps values (Plain a) = false
 rhs_traps values (Unary op a) = false
 rhs_traps values (Binary op a b) = traps op (operand_value values b)
 
--- its value, where it does not trap
+-- the value of a right side, where it does not trap
 abbrev pub rhs_value : Values → Rhs → ℤ
 rhs_value values (Plain a) = operand_value values a
 rhs_value values (Unary op a) = value_of_un_op op (operand_value values a)
 rhs_value values (Binary op a b) = value_of_op op (operand_value values a) (operand_value values b)
 
--- how many evaluations it counts, also where it traps
+-- how many evaluations a right side counts, also where it traps
 abbrev pub rhs_count : Rhs → ℕ
 rhs_count (Plain a) = 0
 rhs_count (Unary op a) = 1

@@ -83,7 +83,8 @@ pub assigned_fits : (x : ℕ) (v : ℤ) (place : ℕ) (frame : Frame) → FitsSi
 assigned_fits x v place frame number fits = record { values = with_value_fits x v frame.values number fits.values; arguments = fits.arguments }
 
 -- a frame that has got an answer
-pub resumed_fits : (shared : ℕ) (into : Option ℕ) (answer : Answer) (frame : Frame) → IsCallAnswer shared answer → FrameFits frame → FrameFits (resumed into answer frame)
+pub resumed_fits : (shared : ℕ) (into : Option ℕ) (answer : Answer) (frame : Frame) → IsCallAnswer shared answer
+    → FrameFits frame → FrameFits (resumed into answer frame)
 resumed_fits shared into answer frame is fits = record {
   values = by into;
   arguments = fits.arguments;

@@ -54,7 +54,7 @@ pub some_of : {A : Type 0} (found : Option A) → is_some found ≡ true → (x 
 some_of None e = absurd (cc)
 some_of (Some x) e = (x, refl)
 
--- what is not found is none
+-- a search that found nothing is None
 pub none_of : {A : Type 0} (found : Option A) → is_some found ≡ false → found ≡ None
 none_of None e = refl
 none_of (Some x) e = absurd (cc)

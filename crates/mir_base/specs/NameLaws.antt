@@ -39,18 +39,22 @@ digits_in_name (d ∷ ds) h =
 -- no reserved word has a digit: what is among words without digits has none
 
 -- a word that equals one with no digit has no digit
-among_words : (words : List (List ℕ)) (bytes : List ℕ) → list_all (λ word. not (list_any is_ascii_digit word)) words ≡ true → list_any (λ word. pointwise nat_eq word bytes) words ≡ true → not (list_any is_ascii_digit bytes) ≡ true
+among_words : (words : List (List ℕ)) (bytes : List ℕ)
+    → list_all (λ word. not (list_any is_ascii_digit word)) words ≡ true
+    → list_any (λ word. pointwise nat_eq word bytes) words ≡ true → not (list_any is_ascii_digit bytes) ≡ true
 among_words [] bytes none h = cc
 among_words (word ∷ words) bytes none h = by (pointwise nat_eq word bytes) refl (among_words words bytes parts.1) h
   where
     parts : (not (list_any is_ascii_digit word) ≡ true) × (list_all (λ w. not (list_any is_ascii_digit w)) words ≡ true)
     parts = and_parts (not (list_any is_ascii_digit word)) (list_all (λ w. not (list_any is_ascii_digit w)) words) none
 
-    by : (b : Bool) → pointwise nat_eq word bytes ≡ b → (list_any (λ w. pointwise nat_eq w bytes) words ≡ true → not (list_any is_ascii_digit bytes) ≡ true) → b || list_any (λ w. pointwise nat_eq w bytes) words ≡ true → not (list_any is_ascii_digit bytes) ≡ true
+    by : (b : Bool) → pointwise nat_eq word bytes ≡ b
+        → (list_any (λ w. pointwise nat_eq w bytes) words ≡ true → not (list_any is_ascii_digit bytes) ≡ true)
+        → b || list_any (λ w. pointwise nat_eq w bytes) words ≡ true → not (list_any is_ascii_digit bytes) ≡ true
     by true is ih later = subst (λ l. not (list_any is_ascii_digit l) ≡ true) (same_text word bytes (sym is)) parts.0
     by false is ih later = ih later
 
--- a text that ends in digits has one
+-- a text that ends in one or more digits has a digit
 ends_in_digit : (front ds : List ℕ) → 0 < length ds → all_ascii_digits ds ≡ true → list_any is_ascii_digit (front ++ ds) ≡ true
 ends_in_digit [] [] some h = absurd (omega (arith, some))
 ends_in_digit [] (d ∷ ds) some h = ap (λ b. b || list_any is_ascii_digit ds) (and_parts (is_ascii_digit d) (all_ascii_digits ds) h).0

@@ -31,7 +31,8 @@ module _ (P : Type 0) (R : Relation) (S : Frame → Frame → Type 0) (d : Code)
   alike_responds z x y g _ _ le is a = absurd a
 
 -- silent steps may come before a response; where there are none, the measure may not rise
-pub responds_past : (P : Type 0) (R : Relation) (d : Code) (j n z w x y : ℕ) (g h : Frame) (t : Transition) → Silently d j g h n → (1 ≤ j) ⊎ (z ≤ w) → Responds P R d z x (y + n) h t → Responds P R d w x y g t
+pub responds_past : (P : Type 0) (R : Relation) (d : Code) (j n z w x y : ℕ) (g h : Frame) (t : Transition)
+    → Silently d j g h n → (1 ≤ j) ⊎ (z ≤ w) → Responds P R d z x (y + n) h t → Responds P R d w x y g t
 responds_past P R d j n z w x y g h (Continues i f) silent ready a = record {
   steps = j + a.steps;
   cost = n + a.cost;
@@ -86,7 +87,8 @@ responds_past P R d j n z w x y g h (Traps kind i) silent ready a = record {
 }
 
 -- one more silent step, which counts nothing, may come before a response
-pub responds_after : (P : Type 0) (R : Relation) (d : Code) (z w x y : ℕ) (g h : Frame) (t : Transition) → d g ≡ Continues 0 h → Responds P R d z x y h t → Responds P R d w x y g t
+pub responds_after : (P : Type 0) (R : Relation) (d : Code) (z w x y : ℕ) (g h : Frame) (t : Transition)
+    → d g ≡ Continues 0 h → Responds P R d z x y h t → Responds P R d w x y g t
 responds_after P R d z w x y g h t is a =
     let same : y ≡ y + 0 = omega arith in
     responds_past P R d 1 0 z w x y g h t (h, 0, 0, is, (refl, refl), omega arith) (inl (omega arith)) (subst (λ counted. Responds P R d z x counted h t) same a)

@@ -102,8 +102,10 @@ run program inputs n = steps (codes_of program) n (first_state (length program.g
 -- where the first run is over, so is the second, with equal prints and an equal result or trap
 abbrev pub IsOverAs : State → State → Control → Type 0
 IsOverAs first second (Running unit frame callers) = Unit {0}
-IsOverAs first second (Ended result) = (second.control ≡ Ended result) × (second.printed ≡ first.printed)
-IsOverAs first second (Stopped kind) = (second.control ≡ Stopped kind) × (second.printed ≡ first.printed)
+IsOverAs first second (Ended result) = (second.control ≡ Ended result)
+    × (second.printed ≡ first.printed)
+IsOverAs first second (Stopped kind) = (second.control ≡ Stopped kind)
+    × (second.printed ≡ first.printed)
 
 -- what the first run printed is a prefix of what the second did, which is over where the first is
 pub record IsMatched (first second : State) : Type 0 where
@@ -112,7 +114,8 @@ pub record IsMatched (first second : State) : Type 0 where
 
 -- for all inputs and every number of steps of the first, some number of steps of the second matches
 pub record Follows (first second : ProgramShape) : Type 0 where
-  pub follows : (inputs : List ℤ) → length inputs ≡ inputs_of first → AreNumbers inputs → (n : ℕ) → (m : ℕ)
+  pub follows : (inputs : List ℤ) → length inputs ≡ inputs_of first → AreNumbers inputs → (n : ℕ)
+      → (m : ℕ)
       × IsMatched (run first inputs n) (run second inputs m)
 
 -- the two take equally many inputs, and on all of them print the same, end the same, raise the same trap or run on
@@ -124,6 +127,7 @@ pub record Same (first second : ProgramShape) : Type 0 where
 
 -- on all inputs on which both end, the second has counted at most as many evaluations as the first
 pub record Cheaper (first second : ProgramShape) : Type 0 where
-  pub cheaper : (inputs : List ℤ) → length inputs ≡ inputs_of first → AreNumbers inputs → (n m : ℕ) (v w : ℤ)
+  pub cheaper : (inputs : List ℤ) → length inputs ≡ inputs_of first → AreNumbers inputs
+      → (n m : ℕ) (v w : ℤ)
       → (run first inputs n).control ≡ Ended v → (run second inputs m).control ≡ Ended w
       → (run second inputs m).counted ≤ (run first inputs n).counted

@@ -159,13 +159,13 @@ pub of_rhs : (e e' : Expr) → is_expr e (Some (rhs_of e')) ≡ same_expr e e'
 of_rhs e (Un op a) = refl
 of_rhs e (Bin op a b) = refl
 
--- a right side that is this expression
+-- a right side that passes the test for an expression is that of the expression
 pub rhs_is : (e : Expr) (rhs : Rhs) → is_expr e (Some rhs) ≡ true → rhs ≡ rhs_of e
 rhs_is e (Plain a) is = absurd (false≢true is)
 rhs_is e (Unary op a) is = ap rhs_of (sym (expr_is e (Un op a) is))
 rhs_is e (Binary op a b) is = ap rhs_of (sym (expr_is e (Bin op a b) is))
 
--- the test of a right side, as an equation of what is written there
+-- a right side passes the test for an expression exactly where this expression is written there
 pub is_written : (e : Expr) (rhs : Option Rhs) → (is_expr e rhs ≡ true) ↔ (written_expr rhs ≡ Some e)
 is_written e None = (λ h. cc, λ h. cc)
 is_written e (Some (Plain a)) = (λ h. cc, λ h. cc)

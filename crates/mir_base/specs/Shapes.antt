@@ -118,8 +118,10 @@ InstFits units body place (Return a) = Unit {0}
 
 -- each instruction fits at its place, and the receives name distinct variables
 pub record BodyFits (units : List UnitShape) (body : List Inst) : Type 0 where
-  pub insts : (place : ℕ) (inst : Inst) → slice_get body place ≡ Some inst → InstFits units body place inst
-  pub received : (i j x : ℕ) → slice_get body i ≡ Some (Receive x) → slice_get body j ≡ Some (Receive x) → i ≡ j
+  pub insts : (place : ℕ) (inst : Inst) → slice_get body place ≡ Some inst
+      → InstFits units body place inst
+  pub received : (i j x : ℕ) → slice_get body i ≡ Some (Receive x)
+      → slice_get body j ≡ Some (Receive x) → i ≡ j
 
 -- the first variables of a unit are these globals, and no receive sets one of them
 pub record SharesGlobals (globals : List (List ℕ)) (unit : UnitShape) : Type 0 where
@@ -133,4 +135,5 @@ pub record IsProgram (globals : List (List ℕ)) (units : List UnitShape) : Type
   pub some_unit : 0 < length units
   pub names : AllDiffer (names_of units)
   pub bodies : (u : ℕ) (unit : UnitShape) → slice_get units u ≡ Some unit → BodyFits units unit.body
-  pub shares : (u : ℕ) (unit : UnitShape) → slice_get units u ≡ Some unit → SharesGlobals globals unit
+  pub shares : (u : ℕ) (unit : UnitShape) → slice_get units u ≡ Some unit
+      → SharesGlobals globals unit

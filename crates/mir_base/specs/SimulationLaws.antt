@@ -16,11 +16,13 @@ ComeIn events code frame answers = (m : ℕ) × IsPrefix events (frame_run code 
 
 -- a transition shows this event, and then what is shown from the next frame on
 abbrev ShowsThen : Transition → List Answer → Event → Frame → List Answer → Type 0
-ShowsThen transition answers event next rest = (go : Frame → List Answer → Shown) → (after_transition go transition answers).events ≡ event ∷ (go next rest).events
+ShowsThen transition answers event next rest = (go : Frame → List Answer → Shown)
+    → (after_transition go transition answers).events ≡ event ∷ (go next rest).events
 
 -- a transition shows this event, and then no more
 abbrev ShowsLast : Transition → List Answer → Event → Type 0
-ShowsLast transition answers event = (go : Frame → List Answer → Shown) → (after_transition go transition answers).events ≡ event ∷ []
+ShowsLast transition answers event = (go : Frame → List Answer → Shown)
+    → (after_transition go transition answers).events ≡ event ∷ []
 
 module _ (shared : ℕ) (c d : Code) (P : Type 0) (R : Relation) (hands : (f : Frame) → HandsOver shared (c f)) (responds : (z x y : ℕ) (f g : Frame) → R z x y f g → Responds P R d z x y g (c f)) where
   -- ---- each event of the first comes in the second
@@ -29,7 +31,9 @@ module _ (shared : ℕ) (c d : Code) (P : Type 0) (R : Relation) (hands : (f : F
   abbrev Forth : ℕ → Type 0
   Forth n = (z x y : ℕ) (f g : Frame) → R z x y f g → (answers : List Answer) → AreAnswers shared answers → ComeIn (frame_run c n f answers).events d g answers
 
-  forth_after : (n : ℕ) → Forth n → (z x y : ℕ) (g : Frame) (t : Transition) → HandsOver shared t → Responds P R d z x y g t → (answers : List Answer) → AreAnswers shared answers → ComeIn (after_transition (frame_run c n) t answers).events d g answers
+  forth_after : (n : ℕ) → Forth n → (z x y : ℕ) (g : Frame) (t : Transition) → HandsOver shared t
+      → Responds P R d z x y g t → (answers : List Answer) → AreAnswers shared answers
+      → ComeIn (after_transition (frame_run c n) t answers).events d g answers
   forth_after n ih z x y g (Continues i next) h a answers are =
       let r = ih a.measure (x + i) (y + a.cost) next a.there a.related answers are in
       (a.steps + r.0, subst (IsPrefix (frame_run c n next answers).events) (sym (past_events d a.steps g a.there a.cost a.silent r.0 answers)) r.1)
@@ -58,7 +62,9 @@ module _ (shared : ℕ) (c d : Code) (P : Type 0) (R : Relation) (hands : (f : F
 
   -- ---- and the other way round
 
-  back_continuing : (M : ℕ) (f next g h : Frame) (n m k : ℕ) (answers : List Answer) → c f ≡ Continues n next → Silently d k g h m → k ≤ M → ComeIn (frame_run d (M - k) h answers).events c next answers → ComeIn (frame_run d M g answers).events c f answers
+  back_continuing : (M : ℕ) (f next g h : Frame) (n m k : ℕ) (answers : List Answer) → c f ≡ Continues n next
+      → Silently d k g h m → k ≤ M → ComeIn (frame_run d (M - k) h answers).events c next answers
+      → ComeIn (frame_run d M g answers).events c f answers
   back_continuing M f next g h n m k answers is s le r =
       let sum : k + (M - k) ≡ M = omega arith in
       let e : (frame_run d M g answers).events ≡ (frame_run d (M - k) h answers).events = ap (λ i. (frame_run d i g answers).events) (sym sum) ∙ past_events d k g h m s (M - k) answers in
@@ -66,18 +72,24 @@ module _ (shared : ℕ) (c d : Code) (P : Type 0) (R : Relation) (hands : (f : F
       (suc r.0, (r.1.0, q ∙ r.1.1 ∙ ap (λ l. l ++ r.1.0) (sym e)))
 
   -- where M is past the silent steps
-  past_there : (M : ℕ) (g h : Frame) (m k : ℕ) (answers : List Answer) (t : Transition) → d h ≡ t → Silently d k g h m → k < M → (frame_run d M g answers).events ≡ (after_transition (frame_run d (M - suc k)) t answers).events
+  past_there : (M : ℕ) (g h : Frame) (m k : ℕ) (answers : List Answer) (t : Transition) → d h ≡ t → Silently d k g h m
+      → k < M → (frame_run d M g answers).events ≡ (after_transition (frame_run d (M - suc k)) t answers).events
   past_there M g h m k answers t is s lt =
       let sum : k + suc (M - suc k) ≡ M = omega arith in
       ap (λ i. (frame_run d i g answers).events) (sym sum) ∙ shown_from d k g h m s t is (M - suc k) answers
 
-  back_shown : (M : ℕ) (g h : Frame) (m k : ℕ) (answers rest : List Answer) (t t' : Transition) (e : Event) (f next next' : Frame) → c f ≡ t → d h ≡ t' → Silently d k g h m → k < M → ShowsThen t answers e next rest → ShowsThen t' answers e next' rest → ComeIn (frame_run d (M - suc k) next' rest).events c next rest → ComeIn (frame_run d M g answers).events c f answers
+  back_shown : (M : ℕ) (g h : Frame) (m k : ℕ) (answers rest : List Answer) (t t' : Transition) (e : Event) (f next next' : Frame)
+      → c f ≡ t → d h ≡ t' → Silently d k g h m → k < M → ShowsThen t answers e next rest
+      → ShowsThen t' answers e next' rest → ComeIn (frame_run d (M - suc k) next' rest).events c next rest
+      → ComeIn (frame_run d M g answers).events c f answers
   back_shown M g h m k answers rest t t' e f next next' is is' s lt shows shows' r =
       let e1 = past_there M g h m k answers t' is' s lt ∙ shows' (frame_run d (M - suc k)) in
       let q : (frame_run c (suc r.0) f answers).events ≡ e ∷ (frame_run c r.0 next rest).events = ap (λ u. (after_transition (frame_run c r.0) u answers).events) is ∙ shows (frame_run c r.0) in
       (suc r.0, (r.1.0, q ∙ ap (λ l. e ∷ l) r.1.1 ∙ ap (λ l. l ++ r.1.0) (sym e1)))
 
-  back_last : (M : ℕ) (g h : Frame) (m k : ℕ) (answers : List Answer) (t t' : Transition) (e : Event) (f : Frame) → c f ≡ t → d h ≡ t' → Silently d k g h m → k < M → ShowsLast t answers e → ShowsLast t' answers e → ComeIn (frame_run d M g answers).events c f answers
+  back_last : (M : ℕ) (g h : Frame) (m k : ℕ) (answers : List Answer) (t t' : Transition) (e : Event) (f : Frame)
+      → c f ≡ t → d h ≡ t' → Silently d k g h m → k < M → ShowsLast t answers e → ShowsLast t' answers e
+      → ComeIn (frame_run d M g answers).events c f answers
   back_last M g h m k answers t t' e f is is' s lt shows shows' =
       let e1 = past_there M g h m k answers t' is' s lt ∙ shows' (frame_run d (M - suc k)) in
       let q : (frame_run c 1 f answers).events ≡ e ∷ [] = ap (λ u. (after_transition (frame_run c 0) u answers).events) is ∙ shows (frame_run c 0) in
@@ -94,7 +106,9 @@ module _ (shared : ℕ) (c d : Code) (P : Type 0) (R : Relation) (hands : (f : F
   abbrev BackBelow : ℕ → ℕ → Type 0
   BackBelow m b = (z x y : ℕ) (f g : Frame) → z < b → R z x y f g → (answers : List Answer) → AreAnswers shared answers → ComeIn (frame_run d m g answers).events c f answers
 
-  back_after : (M b : ℕ) → ((j : ℕ) → j < M → Back j) → BackBelow M b → (z x y : ℕ) (f g : Frame) → z < suc b → (t : Transition) → c f ≡ t → HandsOver shared t → Responds P R d z x y g t → (answers : List Answer) → AreAnswers shared answers → ComeIn (frame_run d M g answers).events c f answers
+  back_after : (M b : ℕ) → ((j : ℕ) → j < M → Back j) → BackBelow M b → (z x y : ℕ) (f g : Frame) → z < suc b
+      → (t : Transition) → c f ≡ t → HandsOver shared t → Responds P R d z x y g t → (answers : List Answer)
+      → AreAnswers shared answers → ComeIn (frame_run d M g answers).events c f answers
   back_after M b ih lower z x y f g lt (Continues i next) is h a answers are =
       elim (cases_lt a.steps M) [
         | inl within ↦
@@ -148,7 +162,11 @@ module _ (shared : ℕ) (c d : Code) (P : Type 0) (R : Relation) (hands : (f : F
 
   -- ---- and what they count
 
-  cheaper_continuing : (n : ℕ) (x y : ℕ) (next g h : Frame) (i m k : ℕ) (M : ℕ) (answers : List Answer) → Silently d k g h m → ((M' : ℕ) → EndsInReturn (frame_run c n next answers).events → EndsInReturn (frame_run d M' h answers).events → (y + m) + (frame_run d M' h answers).counted ≤ (x + i) + (frame_run c n next answers).counted) → EndsInReturn (frame_run c n next answers).events → EndsInReturn (frame_run d M g answers).events → y + (frame_run d M g answers).counted ≤ x + (i + (frame_run c n next answers).counted)
+  cheaper_continuing : (n : ℕ) (x y : ℕ) (next g h : Frame) (i m k : ℕ) (M : ℕ) (answers : List Answer)
+      → Silently d k g h m
+      → ((M' : ℕ) → EndsInReturn (frame_run c n next answers).events → EndsInReturn (frame_run d M' h answers).events → (y + m) + (frame_run d M' h answers).counted ≤ (x + i) + (frame_run c n next answers).counted)
+      → EndsInReturn (frame_run c n next answers).events → EndsInReturn (frame_run d M g answers).events
+      → y + (frame_run d M g answers).counted ≤ x + (i + (frame_run c n next answers).counted)
   cheaper_continuing n x y next g h i m k M answers s ih ends ends' =
       elim (cases_lt k M) [
         | inl within ↦
@@ -161,7 +179,9 @@ module _ (shared : ℕ) (c d : Code) (P : Type 0) (R : Relation) (hands : (f : F
       ]
 
   -- a run of the second that ends in a return goes past the transition that shows an event
-  at_event : (g h : Frame) (m k M : ℕ) (answers : List Answer) (t : Transition) → d h ≡ t → Silently d k g h m → EndsInReturn (frame_run d M g answers).events → (j : ℕ) × EndsInReturn (after_transition (frame_run d j) t answers).events × ((frame_run d M g answers).counted ≡ m + (after_transition (frame_run d j) t answers).counted)
+  at_event : (g h : Frame) (m k M : ℕ) (answers : List Answer) (t : Transition) → d h ≡ t → Silently d k g h m
+      → EndsInReturn (frame_run d M g answers).events
+      → (j : ℕ) × EndsInReturn (after_transition (frame_run d j) t answers).events × ((frame_run d M g answers).counted ≡ m + (after_transition (frame_run d j) t answers).counted)
   at_event g h m k M answers t is s ends =
       elim (cases_lt k M) [
         | inl within ↦
@@ -174,7 +194,11 @@ module _ (shared : ℕ) (c d : Code) (P : Type 0) (R : Relation) (hands : (f : F
   abbrev CountsNoMore : ℕ → Type 0
   CountsNoMore n = (z x y : ℕ) (f g : Frame) → R z x y f g → (answers : List Answer) → AreAnswers shared answers → (M : ℕ) → EndsInReturn (frame_run c n f answers).events → EndsInReturn (frame_run d M g answers).events → y + (frame_run d M g answers).counted ≤ x + (frame_run c n f answers).counted
 
-  cheaper_after : P → (n : ℕ) → CountsNoMore n → (z x y : ℕ) (g : Frame) (t : Transition) → HandsOver shared t → Responds P R d z x y g t → (answers : List Answer) → AreAnswers shared answers → (M : ℕ) → EndsInReturn (after_transition (frame_run c n) t answers).events → EndsInReturn (frame_run d M g answers).events → y + (frame_run d M g answers).counted ≤ x + (after_transition (frame_run c n) t answers).counted
+  cheaper_after : P → (n : ℕ) → CountsNoMore n → (z x y : ℕ) (g : Frame) (t : Transition) → HandsOver shared t
+      → Responds P R d z x y g t → (answers : List Answer) → AreAnswers shared answers → (M : ℕ)
+      → EndsInReturn (after_transition (frame_run c n) t answers).events
+      → EndsInReturn (frame_run d M g answers).events
+      → y + (frame_run d M g answers).counted ≤ x + (after_transition (frame_run c n) t answers).counted
   cheaper_after p n ih z x y g (Continues i next) h a answers are M ends ends' =
       cheaper_continuing n x y next g a.there i a.cost a.steps M answers a.silent (λ M'. ih a.measure (x + i) (y + a.cost) next a.there a.related answers are M') ends ends'
   cheaper_after p n ih z x y g (Prints v next) h a answers are M ends ends' =

@@ -20,7 +20,8 @@ Relation = ℕ → ℕ → ℕ → Frame → Frame → Type 0
 
 -- Where the first side goes on with no event, the second takes some silent steps to a related frame. It takes at least
 -- one, or the measure falls, so that it cannot take none for ever
-pub record AfterContinuing (R : Relation) (second : Code) (z x y : ℕ) (g : Frame) (n : ℕ) (next : Frame) : Type 0 where
+pub record AfterContinuing (R : Relation) (second : Code) (z x y : ℕ) (g : Frame) (n : ℕ)
+    (next : Frame) : Type 0 where
   pub steps : ℕ
   pub cost : ℕ
   pub there : Frame
@@ -30,7 +31,8 @@ pub record AfterContinuing (R : Relation) (second : Code) (z x y : ℕ) (g : Fra
   pub moves : (1 ≤ steps) ⊎ (measure < z)
 
 -- Where the first side prints, the second prints the same after some silent steps
-pub record AfterPrinting (R : Relation) (second : Code) (x y : ℕ) (g : Frame) (value : ℤ) (next : Frame) : Type 0 where
+pub record AfterPrinting (R : Relation) (second : Code) (x y : ℕ) (g : Frame) (value : ℤ)
+    (next : Frame) : Type 0 where
   pub steps : ℕ
   pub cost : ℕ
   pub there : Frame
@@ -42,7 +44,8 @@ pub record AfterPrinting (R : Relation) (second : Code) (x y : ℕ) (g : Frame) 
 
 -- Where the first side calls, the second makes the same call after some silent steps, and the two are related again
 -- with each answer that hands back as many globals as were handed over, at a measure that may depend on it
-pub record AfterCalling (R : Relation) (second : Code) (x y : ℕ) (g : Frame) (unit : ℕ) (entry : CallEntry) (into : Option ℕ) (next : Frame) : Type 0 where
+pub record AfterCalling (R : Relation) (second : Code) (x y : ℕ) (g : Frame) (unit : ℕ)
+    (entry : CallEntry) (into : Option ℕ) (next : Frame) : Type 0 where
   pub steps : ℕ
   pub cost : ℕ
   pub there : Frame
@@ -50,11 +53,14 @@ pub record AfterCalling (R : Relation) (second : Code) (x y : ℕ) (g : Frame) (
   pub second_into : Option ℕ
   pub second_next : Frame
   pub is : second there ≡ Calls unit entry second_into second_next
-  pub related : (answer : Answer) → IsCallAnswer (length entry.globals) answer → (measure : ℕ) × R measure x (y + cost) (resumed into answer next) (resumed second_into answer second_next)
+  pub related : (answer : Answer) → IsCallAnswer (length entry.globals) answer
+      → (measure : ℕ)
+      × R measure x (y + cost) (resumed into answer next) (resumed second_into answer second_next)
 
 -- Where the first side returns, the second returns the same after some silent steps, and under P it has evaluated no
 -- more operators
-pub record AfterReturning (P : Type 0) (second : Code) (x y : ℕ) (g : Frame) (answer : Answer) : Type 0 where
+pub record AfterReturning (P : Type 0) (second : Code) (x y : ℕ) (g : Frame)
+    (answer : Answer) : Type 0 where
   pub steps : ℕ
   pub cost : ℕ
   pub there : Frame
@@ -96,5 +102,7 @@ pub record Simulates (first second : Machine) (P : Type 0) (R : Relation) : Type
   pub receives : first.receives ≡ second.receives
   pub shared : first.shared ≡ second.shared
   pub hands : (f : Frame) → HandsOver first.shared (first.code f)
-  pub starts : (entry : CallEntry) → IsEntry first entry → (measure : ℕ) × R measure 0 0 (first_frame entry) (first_frame entry)
-  pub responds : (z x y : ℕ) (f g : Frame) → R z x y f g → Responds P R second.code z x y g (first.code f)
+  pub starts : (entry : CallEntry) → IsEntry first entry
+      → (measure : ℕ) × R measure 0 0 (first_frame entry) (first_frame entry)
+  pub responds : (z x y : ℕ) (f g : Frame) → R z x y f g
+      → Responds P R second.code z x y g (first.code f)

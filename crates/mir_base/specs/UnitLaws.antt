@@ -49,7 +49,8 @@ nothing_after [] rest e = sym e
 nothing_after (x ∷ xs) rest e = cc
 
 module _ (go : Frame → List Answer → Shown) (ih : (f : Frame) (answers : List Answer) (xs rest : List Event) → (go f answers).events ≡ xs ++ rest → EndsInReturn xs → rest ≡ []) where
-  last_after : (t : Transition) (answers : List Answer) (x : Event) (xs rest : List Event) → (after_transition go t answers).events ≡ x ∷ (xs ++ rest) → EndsInReturn (x ∷ xs) → rest ≡ []
+  last_after : (t : Transition) (answers : List Answer) (x : Event) (xs rest : List Event)
+      → (after_transition go t answers).events ≡ x ∷ (xs ++ rest) → EndsInReturn (x ∷ xs) → rest ≡ []
   last_after (Continues n next) answers x xs rest e ends = ih next answers (x ∷ xs) rest e ends
   last_after (Prints v next) answers x xs rest e ends =
       let same : x ≡ Printed v = cc in
@@ -70,7 +71,8 @@ module _ (go : Frame → List Answer → Shown) (ih : (f : Frame) (answers : Lis
       nothing_after xs rest tail
 
 -- a run that returned shows nothing more: by its transitions, one after the other
-return_last : (code : Code) (n : ℕ) (f : Frame) (answers : List Answer) (xs rest : List Event) → (frame_run code n f answers).events ≡ xs ++ rest → EndsInReturn xs → rest ≡ []
+return_last : (code : Code) (n : ℕ) (f : Frame) (answers : List Answer) (xs rest : List Event)
+    → (frame_run code n f answers).events ≡ xs ++ rest → EndsInReturn xs → rest ≡ []
 return_last code n f answers [] rest e ends = absurd ends
 return_last code zero f answers (x ∷ xs) rest e ends = cc
 return_last code (suc n) f answers (x ∷ xs) rest e ends = last_after (frame_run code n) (return_last code n) (code f) answers x xs rest e ends
@@ -82,7 +84,9 @@ front_none (x ∷ xs) ys e = cc
 
 -- of two machines that do the same, the second returns where the first does: what it shows more, the first would show
 -- after its return
-ends_too : (a b : Machine) → UnitSame a b → (entry : CallEntry) (answers : List Answer) → IsEntry a entry → AreAnswers a.shared answers → (n : ℕ) → EndsInReturn (unit_run a entry answers n).events → (m : ℕ) × EndsInReturn (unit_run b entry answers m).events
+ends_too : (a b : Machine) → UnitSame a b → (entry : CallEntry) (answers : List Answer) → IsEntry a entry
+    → AreAnswers a.shared answers → (n : ℕ) → EndsInReturn (unit_run a entry answers n).events
+    → (m : ℕ) × EndsInReturn (unit_run b entry answers m).events
 ends_too a b same entry answers is are n ends =
     let shown : List Event = (unit_run a entry answers n).events in
     let p = same.forth.follows entry answers is are n in

@@ -110,8 +110,10 @@ AreAnswers shared answers = All (IsCallAnswer shared) answers
 -- for all arguments, first values of the globals and answers, the events of the first after any number of steps are a
 -- prefix of the events of the second after some number of steps
 pub record UnitFollows (first second : Machine) : Type 0 where
-  pub follows : (entry : CallEntry) (answers : List Answer) → IsEntry first entry → AreAnswers first.shared answers
-      → (n : ℕ) → (m : ℕ) × IsPrefix (unit_run first entry answers n).events (unit_run second entry answers m).events
+  pub follows : (entry : CallEntry) (answers : List Answer) → IsEntry first entry
+      → AreAnswers first.shared answers
+      → (n : ℕ) → (m : ℕ)
+      × IsPrefix (unit_run first entry answers n).events (unit_run second entry answers m).events
 
 -- the two take equally many arguments and have equally many globals, and on all of them, with all answers to their
 -- calls, show the same events
@@ -123,7 +125,8 @@ pub record UnitSame (first second : Machine) : Type 0 where
 
 -- where both return, the second has counted at most as many evaluations as the first
 pub record UnitCheaper (first second : Machine) : Type 0 where
-  pub cheaper : (entry : CallEntry) (answers : List Answer) → IsEntry first entry → AreAnswers first.shared answers
+  pub cheaper : (entry : CallEntry) (answers : List Answer) → IsEntry first entry
+      → AreAnswers first.shared answers
       → (n m : ℕ) → EndsInReturn (unit_run first entry answers n).events
       → EndsInReturn (unit_run second entry answers m).events
       → (unit_run second entry answers m).counted ≤ (unit_run first entry answers n).counted

@@ -58,7 +58,8 @@ shr_is a k fits =
     ap (λ n. to_z w64 (n / 2 ^ k)) (bits_are a fits) ∙ word_is (unsigned a / 2 ^ k) (omega (arith, unsigned_low a fits, div-le_self (unsigned a) (2 ^ k)))
 
 -- what is computed bit by bit
-bitwise_is : (f : ℕ → ℕ → ℕ) (a b : ℤ) → FitsSigned w64 a → FitsSigned w64 b → f (unsigned a) (unsigned b) < 2 ^ 64 → to_z w64 (f (of_z w64 a) (of_z w64 b)) ≡ wrapped (pos (f (unsigned a) (unsigned b)))
+bitwise_is : (f : ℕ → ℕ → ℕ) (a b : ℤ) → FitsSigned w64 a → FitsSigned w64 b → f (unsigned a) (unsigned b) < 2 ^ 64
+    → to_z w64 (f (of_z w64 a) (of_z w64 b)) ≡ wrapped (pos (f (unsigned a) (unsigned b)))
 bitwise_is f a b fits_a fits_b low =
     ap (λ n. to_z w64 (f n (of_z w64 b))) (bits_are a fits_a) ∙ ap (λ n. to_z w64 (f (unsigned a) n)) (bits_are b fits_b) ∙ word_is (f (unsigned a) (unsigned b)) low
 

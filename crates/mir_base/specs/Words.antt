@@ -39,7 +39,8 @@ words =
     ∷ []
 
 -- the word of the first entry whose spelling the bytes are
-abbrev pub first_word : {Entry : Type 0} → (Entry → List ℕ) → (Entry → Word) → List ℕ → List Entry → Option Word
+abbrev pub first_word : {Entry : Type 0} → (Entry → List ℕ) → (Entry → Word) → List ℕ → List Entry
+    → Option Word
 first_word text word bytes [] = None
 first_word text word bytes (entry ∷ entries) =
     if is_text (text entry) bytes then Some (word entry) else first_word text word bytes entries

@@ -24,7 +24,8 @@ abbrev pub IsRunAnswer : ProgramShape → List ℤ → ℕ → Result Report Run
 IsRunAnswer program inputs steps (Ok report) =
     (length inputs ≡ inputs_of program) × ((run program inputs steps).depth ≤ most_frames)
     × (report ≡ report_of (run program inputs steps))
-IsRunAnswer program inputs steps (Err (WrongInputs wanted)) = (wanted ≡ inputs_of program) × (length inputs ≢ wanted)
+IsRunAnswer program inputs steps (Err (WrongInputs wanted)) = (wanted ≡ inputs_of program)
+    × (length inputs ≢ wanted)
 IsRunAnswer program inputs steps (Err Deep) = (length inputs ≡ inputs_of program)
     × (most_frames < (run program inputs steps).depth)
 IsRunAnswer program inputs steps (Err (Memory refusal)) = length inputs ≡ inputs_of program

@@ -40,7 +40,7 @@ is_lone_letter [] = false
 is_lone_letter (byte ∷ []) = is_letter byte
 is_lone_letter (byte ∷ next ∷ bytes) = false
 
--- what a word is; none where it is too long
+-- the kind of a word: a name, or the reserved word that it is; none where it is too long for a name
 unfoldable pub word_kind : List ℕ → Option Kind
 word_kind bytes = if is_name bytes then Some NameKind else option_map (λ word. WordKind word) (reserved_word bytes)
 
@@ -120,7 +120,8 @@ push_number state found = push_found state (option_map (λ value. NumberKind val
 abbrev pub pending_bytes : List ℕ → Scan → List ℕ
 pending_bytes text state = take state.length (drop state.start text)
 
--- nothing more belongs to the bytes since the start
+-- nothing more belongs to the bytes since the start: by what is pending they become a token, are passed over as a blank
+-- or a comment is, or stop the scan
 abbrev pub emit_as : List ℕ → Scan → Pending → Scanned
 emit_as text state Idle = Going (skip state)
 emit_as text state Comment = Going (skip state)
@@ -132,7 +133,7 @@ emit_as text state PGreater = Going (push state (MarkKind Greater))
 emit_as text state PBang = Going (push state (MarkKind Bang))
 emit_as text state pending = Stopped (BadByte state.line)
 
--- nothing more belongs to the bytes since the start, by what is pending
+-- the same by what is pending in this scan
 unfoldable pub emit : List ℕ → Scan → Scanned
 emit text state = emit_as text state state.pending
 
@@ -188,7 +189,7 @@ abbrev pub begin_after : Scanned → ℕ → Scanned
 begin_after (Going state) byte = begin state byte
 begin_after (Stopped bad) byte = Stopped bad
 
--- the bytes since the start end before this byte, which begins something new
+-- nothing more belongs to the bytes since the start, and something new begins with this byte
 abbrev pub restart : List ℕ → Scan → ℕ → Scanned
 restart text state byte = begin_after (emit text state) byte
 

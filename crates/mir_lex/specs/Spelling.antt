@@ -70,11 +70,13 @@ IsInRange bytes = FitsSigned w64 (signed_digits_value 10 bytes)
 
 -- spelled as a token is, but for the length of a word and the size of a number
 abbrev pub IsSpelled : Previous → List ℕ → Type 0
-IsSpelled previous bytes = IsWord bytes ⊎ IsNumeral previous bytes ⊎ ((mark : Mark) × IsMark mark bytes)
+IsSpelled previous bytes = IsWord bytes ⊎ IsNumeral previous bytes
+    ⊎ ((mark : Mark) × IsMark mark bytes)
 
 -- no more of what follows can belong to the token
 abbrev pub IsLongest : Previous → List ℕ → List ℕ → Type 0
-IsLongest previous bytes after = (more rest : List ℕ) → after ≡ more ++ rest → IsSpelled previous (bytes ++ more)
+IsLongest previous bytes after = (more rest : List ℕ) → after ≡ more ++ rest
+    → IsSpelled previous (bytes ++ more)
     → more ≡ []
 
 -- ---- tokens
@@ -134,7 +136,8 @@ EndsLine (byte ∷ bytes) = byte ≡ 10
 pub data Spelled : List ℕ → List ℕ → List Token → Previous → Type 0 where
   start : {text : List ℕ} → Spelled text [] [] AfterLineEnd
   token : {text prefix : List ℕ} {items : List Token} {previous : Previous} (bytes after : List ℕ) (kind : Kind)
-      → Spelled text prefix items previous → text ≡ prefix ++ bytes ++ after → IsToken previous bytes after kind
+      → Spelled text prefix items previous → text
+      ≡ prefix ++ bytes ++ after → IsToken previous bytes after kind
       → IsLongest previous bytes after
       → Spelled text (prefix ++ bytes) (with_token items kind (length prefix) (length bytes) (line_after prefix))
       (previous_of kind)
@@ -142,7 +145,8 @@ pub data Spelled : List ℕ → List ℕ → List Token → Previous → Type 0 
       → Spelled text prefix items previous → text ≡ prefix ++ byte ∷ after → IsTrue (is_blank byte)
       → Spelled text (prefix ++ byte ∷ []) items previous
   comment : {text prefix : List ℕ} {items : List Token} {previous : Previous} (body after : List ℕ)
-      → Spelled text prefix items previous → text ≡ prefix ++ comment_text body ++ after → HasNoLineFeed body
+      → Spelled text prefix items previous → text
+      ≡ prefix ++ comment_text body ++ after → HasNoLineFeed body
       → EndsLine after
       → Spelled text (prefix ++ comment_text body) items previous
   line_feed : {text prefix : List ℕ} {items : List Token} {previous : Previous} (after : List ℕ)
@@ -188,8 +192,10 @@ pub record IsLongName (previous : Previous) (text : List ℕ) : Type 0 where
 abbrev pub StopsLexing : List ℕ → Previous → List ℕ → LexFault → Type 0
 StopsLexing prefix previous after (BadByte line) = (line ≡ line_after prefix)
     × ((byte : ℕ) × (rest : List ℕ) × (after ≡ byte ∷ rest) × BeginsNone previous byte rest)
-StopsLexing prefix previous after (BadNumber line) = (line ≡ line_after prefix) × IsBadNumber previous after
-StopsLexing prefix previous after (LongName line) = (line ≡ line_after prefix) × IsLongName previous after
+StopsLexing prefix previous after (BadNumber line) = (line ≡ line_after prefix)
+    × IsBadNumber previous after
+StopsLexing prefix previous after (LongName line) = (line ≡ line_after prefix)
+    × IsLongName previous after
 StopsLexing prefix previous after (Memory refused) = ⊥
 
 -- the first place from the left where no token stands
@@ -211,12 +217,15 @@ IsLexMemory fault = ⊥
 
 -- the text has at most one list of tokens
 abbrev pub TokensAreUnique : List ℕ → Type 0
-TokensAreUnique text = (one other : List Token) → IsTokens text one → IsTokens text other → one ≡ other
+TokensAreUnique text = (one other : List Token) → IsTokens text one → IsTokens text other
+    → one ≡ other
 
 -- the text is refused for at most one cause
 abbrev pub RefusalIsUnique : List ℕ → Type 0
-RefusalIsUnique text = (one other : LexFault) → IsRefusal text one → IsRefusal text other → one ≡ other
+RefusalIsUnique text = (one other : LexFault) → IsRefusal text one → IsRefusal text other
+    → one ≡ other
 
 -- a text that is refused has no tokens
 abbrev pub HasNoTokensIfRefused : List ℕ → Type 0
-HasNoTokensIfRefused text = (fault : LexFault) → IsRefusal text fault → (items : List Token) → IsTokens text items → ⊥
+HasNoTokensIfRefused text = (fault : LexFault) → IsRefusal text fault → (items : List Token)
+    → IsTokens text items → ⊥

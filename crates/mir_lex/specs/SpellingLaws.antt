@@ -28,7 +28,8 @@ pub name_feed : (byte : ℕ) → is_name_byte byte ≡ true → (byte == 10) ≡
 name_feed byte h = grind (arith, nat_tests)
 
 -- bytes that pass a test which a line feed fails lie on one line
-pub all_no_feed : (test : ℕ → Bool) → ((byte : ℕ) → test byte ≡ true → (byte == 10) ≡ false) → (bytes : List ℕ) → list_all test bytes ≡ true → HasNoLineFeed bytes
+pub all_no_feed : (test : ℕ → Bool) → ((byte : ℕ) → test byte ≡ true → (byte == 10) ≡ false) → (bytes : List ℕ)
+    → list_all test bytes ≡ true → HasNoLineFeed bytes
 all_no_feed test feed [] h = refl
 all_no_feed test feed (byte ∷ bytes) h = let parts = and_parts (test byte) (list_all test bytes) h in and_from _ _ (ap not (feed byte parts.0)) (all_no_feed test feed bytes parts.1)
 

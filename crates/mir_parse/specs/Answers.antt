@@ -15,20 +15,25 @@ IsRefusedFor result fault = MatchResult result (λ raw. ⊥) (λ other. (other �
 
 -- the raw program that the tokens spell is answered, or memory runs out
 abbrev pub AnswersRaw : Result Raw ParseFault → List Terminal → Type 0
-AnswersRaw result ts = (raw : Raw) → IsText ts raw → MatchResult result (λ read. read ≡ raw) IsParseMemory
+AnswersRaw result ts = (raw : Raw) → IsText ts raw
+    → MatchResult result (λ read. read ≡ raw) IsParseMemory
 
 -- where a line is refused as unexpected, it is that of the first token that makes no prefix of a text
 abbrev pub OnlyUnexpectedIsRefused : Result Raw ParseFault → List Terminal → Type 0
-OnlyUnexpectedIsRefused result ts = (line : ℕ) → IsErrOf result (Unexpected line) → IsUnexpected ts line
+OnlyUnexpectedIsRefused result ts = (line : ℕ) → IsErrOf result (Unexpected line)
+    → IsUnexpected ts line
 
 -- where there is such a token, its line is refused as unexpected, or memory runs out
 abbrev pub UnexpectedIsRefused : Result Raw ParseFault → List Terminal → Type 0
-UnexpectedIsRefused result ts = (line : ℕ) → IsUnexpected ts line → IsRefusedFor result (Unexpected line)
+UnexpectedIsRefused result ts = (line : ℕ) → IsUnexpected ts line
+    → IsRefusedFor result (Unexpected line)
 
 -- the raw program that the text spells is answered, or memory runs out
 abbrev pub AnswersSpelled : Result Raw TextFault → List ℕ → Type 0
-AnswersSpelled result text = (raw : Raw) → Spells text raw → MatchResult result (λ read. read ≡ raw) IsTextMemory
+AnswersSpelled result text = (raw : Raw) → Spells text raw
+    → MatchResult result (λ read. read ≡ raw) IsTextMemory
 
 -- where the text has a cause to be refused, it is refused for that, or memory runs out
 abbrev pub CauseIsRefused : Result Raw TextFault → List ℕ → Type 0
-CauseIsRefused result text = (fault : TextFault) → IsTextRefusal text fault → MatchResult result (λ raw. ⊥) (λ other. (other ≡ fault) ⊎ IsTextMemory other)
+CauseIsRefused result text = (fault : TextFault) → IsTextRefusal text fault
+    → MatchResult result (λ raw. ⊥) (λ other. (other ≡ fault) ⊎ IsTextMemory other)

@@ -98,7 +98,8 @@ args_symbols args = open_args args ++ MARK RightParen ∷ []
 -- what stands before the name of the called unit: "call" | NAME arrow ["call"]
 abbrev pub IsCallStart : List Symbol → Option (List ℕ) → Type 0
 IsCallStart ss None = ss ≡ WORD CallWord ∷ []
-IsCallStart ss (Some x) = (ss ≡ NAME x ∷ MARK Arrow ∷ []) ⊎ (ss ≡ NAME x ∷ MARK Arrow ∷ WORD CallWord ∷ [])
+IsCallStart ss (Some x) = (ss ≡ NAME x ∷ MARK Arrow ∷ [])
+    ⊎ (ss ≡ NAME x ∷ MARK Arrow ∷ WORD CallWord ∷ [])
 
 -- inst = "receive" NAME "(" val ")"
 --      | NAME arrow rhs
@@ -110,7 +111,8 @@ IsCallStart ss (Some x) = (ss ≡ NAME x ∷ MARK Arrow ∷ []) ⊎ (ss ≡ NAME
 --      | "print" operand
 --      | "return" [operand]
 abbrev pub IsForm : List Symbol → RawForm → Type 0
-IsForm ss (Receive x) = ss ≡ WORD ReceiveWord ∷ NAME x ∷ MARK LeftParen ∷ NAME (codes "val") ∷ MARK RightParen ∷ []
+IsForm ss (Receive x) = ss
+    ≡ WORD ReceiveWord ∷ NAME x ∷ MARK LeftParen ∷ NAME (codes "val") ∷ MARK RightParen ∷ []
 IsForm ss (Assign x rhs) = ss ≡ NAME x ∷ MARK Arrow ∷ rhs_symbols rhs
 IsForm ss (Goto l) = ss ≡ WORD GotoWord ∷ NAME l ∷ []
 IsForm ss (If test l) = ss ≡ WORD IfWord ∷ test_symbols test ++ WORD GotoWord ∷ NAME l ∷ []
@@ -163,9 +165,11 @@ pub record IsInst (ts : List Terminal) (inst : RawInst) : Type 0 where
 -- at the place of the next instruction
 pub data Body : List Terminal → List RawLabel → List RawInst → Type 0 where
   bare : Body [] [] []
-  label : {ts us : List Terminal} {labels : List RawLabel} {body : List RawInst} (l : RawLabel) → Body ts labels body
+  label : {ts us : List Terminal} {labels : List RawLabel} {body : List RawInst} (l : RawLabel)
+      → Body ts labels body
       → IsLabel us l → l.place ≡ length body → Body (ts ++ us) (labels ++ l ∷ []) body
-  inst : {ts us : List Terminal} {labels : List RawLabel} {body : List RawInst} (i : RawInst) → Body ts labels body
+  inst : {ts us : List Terminal} {labels : List RawLabel} {body : List RawInst} (i : RawInst)
+      → Body ts labels body
       → IsInst us i → Body (ts ++ us) labels (body ++ i ∷ [])
 
 -- NAME ":" [NL] "begin" NL
@@ -191,7 +195,8 @@ IsGlobal ts global = Are ts global.line (WORD GlobalWord ∷ NAME global.name �
 -- text = { "global" NAME NL } { unit }, here with the last global line and the last unit last
 pub data IsText : List Terminal → Raw → Type 0 where
   no_unit : IsText [] (globals_alone [])
-  global_line : {ts us : List Terminal} {globals : List RawGlobal} (g : RawGlobal) → IsText ts (globals_alone globals)
+  global_line : {ts us : List Terminal} {globals : List RawGlobal} (g : RawGlobal)
+      → IsText ts (globals_alone globals)
       → IsGlobal us g → IsText (ts ++ us) (globals_alone (globals ++ g ∷ []))
   more : {ts us : List Terminal} {raw : Raw} (u : RawUnitShape) → IsText ts raw → IsUnit us u
       → IsText (ts ++ us) (raw_with_unit raw u)

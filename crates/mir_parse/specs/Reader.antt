@@ -355,17 +355,20 @@ Progresses state reading spot at result = IfOk result (λ progress. unit_progres
 
 -- the same for a token that leaves what was read as it is
 abbrev pub ProgressesEach : (Reading → ℕ → ReadSoFar) → Spot → Progress → Type 0
-ProgressesEach step spot progress = (reading : Reading) → (at : ℕ) → unit_progressed progress reading spot at ≡ step reading at
+ProgressesEach step spot progress = (reading : Reading) → (at : ℕ)
+    → unit_progressed progress reading spot at ≡ step reading at
 
 -- what the progress of an instruction that began on a line made of its unit
-abbrev pub AfterPart : {E : Type 0} → Progress → Reading → Spot → Reading → Spot → Result Progress E → Type 0
+abbrev pub AfterPart : {E : Type 0} → Progress → Reading → Spot → Reading → Spot → Result Progress E
+    → Type 0
 AfterPart progress reading (Mid line part) reading' spot' result =
     (at : ℕ) → Progresses (reading_after reading line at (next_by progress part)) reading' spot' at result
 AfterPart progress reading spot reading' spot' result = Unit {0}
 
 -- the second state is what a token made of the first one, in a unit
 abbrev pub state_progressed : Progress → ReadSoFar → ℕ → ReadSoFar → Type 0
-state_progressed progress (In reading spot) at next = next ≡ unit_progressed progress reading spot at
+state_progressed progress (In reading spot) at next = next
+    ≡ unit_progressed progress reading spot at
 state_progressed progress state at next = Unit {0}
 
 -- what a token makes of what was read
@@ -381,4 +384,5 @@ reads ts = fold read_step (Outside (globals_alone [])) ts
 
 -- the second state is what the token of this number makes of the first one
 abbrev pub HasStepped : List Terminal → ℕ → ReadSoFar → ReadSoFar → Type 0
-HasStepped ts number state next = (terminal : Terminal) × (slice_get ts number ≡ Some terminal) × (next ≡ read_step state terminal)
+HasStepped ts number state next = (terminal : Terminal) × (slice_get ts number ≡ Some terminal)
+    × (next ≡ read_step state terminal)

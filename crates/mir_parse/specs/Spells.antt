@@ -27,7 +27,8 @@ TokensRefused bytes items (Memory refused) = ⊥
 -- the bytes spell no raw program, for this cause
 abbrev pub IsTextRefusal : List ℕ → TextFault → Type 0
 IsTextRefusal bytes (Lex fault) = IsRefusal bytes fault
-IsTextRefusal bytes (Parse fault) = (items : List Token) × IsTokens bytes items × TokensRefused bytes items fault
+IsTextRefusal bytes (Parse fault) = (items : List Token) × IsTokens bytes items
+    × TokensRefused bytes items fault
 
 -- running out of memory
 abbrev pub IsTextMemory : TextFault → Type 0
@@ -40,8 +41,10 @@ RawIsUnique text = (one other : Raw) → Spells text one → Spells text other �
 
 -- the text is refused for at most one cause
 abbrev pub TextRefusalIsUnique : List ℕ → Type 0
-TextRefusalIsUnique text = (one other : TextFault) → IsTextRefusal text one → IsTextRefusal text other → one ≡ other
+TextRefusalIsUnique text = (one other : TextFault) → IsTextRefusal text one
+    → IsTextRefusal text other → one ≡ other
 
 -- a text that is refused spells no raw program
 abbrev pub RefusedSpellsNothing : List ℕ → Type 0
-RefusedSpellsNothing text = (fault : TextFault) → IsTextRefusal text fault → (raw : Raw) → Spells text raw → ⊥
+RefusedSpellsNothing text = (fault : TextFault) → IsTextRefusal text fault → (raw : Raw)
+    → Spells text raw → ⊥

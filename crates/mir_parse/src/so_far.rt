@@ -40,7 +40,7 @@ pub enum Part {
     PlainName(Name, Name),
     /// `x <- 1`
     PlainNumber(Name, i64),
-    /// All before an operand.
+    /// All of a statement up to an operand that has to follow.
     Wants(Hole),
     /// `call` or `x <- call`
     Call(Option<Name>),
@@ -50,7 +50,7 @@ pub enum Part {
     Opening(Option<Name>, Name),
     /// `call f,(` or `x <- f,(`
     FirstArg(Option<Name>, Name),
-    /// A call up to an argument.
+    /// A call up to and with an argument.
     Given(Option<Name>, Name, Items<RawOperand>),
     /// A call up to the `,` behind an argument.
     Typing(Option<Name>, Name, Items<RawOperand>),

@@ -7,7 +7,8 @@ use Rattle.mir_base.specs.Text.{is_target, targets_below}
 -- for each place, for that of `end` and for the one behind it, how many of the places below it are jumped to
 pub record AreLabelCounts (body : List Inst) (counts : List ℕ) : Type 0 where
   pub many : length counts ≡ length body + 2
-  pub each : (place : ℕ) → place ≤ length body + 1 → slice_index counts place ≡ targets_below body place
+  pub each : (place : ℕ) → place ≤ length body + 1
+      → slice_index counts place ≡ targets_below body place
 
 -- a jump of the instruction goes to one of this many places
 abbrev pub JumpsBelow : ℕ → Inst → Type 0
@@ -45,4 +46,5 @@ JumpsTo body (Return a) = Unit {0}
 -- for each place, and for that of `end`, whether it is jumped to
 pub record AreMarks (body : List Inst) (marks : List Bool) : Type 0 where
   pub many : length marks ≡ length body + 1
-  pub each : (place : ℕ) → place ≤ length body → slice_index_or marks place false ≡ is_target body place
+  pub each : (place : ℕ) → place ≤ length body
+      → slice_index_or marks place false ≡ is_target body place

@@ -104,7 +104,7 @@ fn hand_out_trap(number: u8)
     let _ = number;
 }
 
-// Has no effect; carries the theorem that the constants of a test do.
+// Has no effect; carries the theorem that the constants of a test are signed 64-bit numbers.
 fn hand_out_test(test: &Test)
     ensures { TestWellTyped test.now }
 {
@@ -118,7 +118,7 @@ fn hand_out_test(test: &Test)
     }
 }
 
-// Has no effect; carries the theorem that the constants of arguments do.
+// Has no effect; carries the theorem that the constants among arguments are signed 64-bit numbers.
 fn hand_out_operands(operands: &[Operand])
     ensures { All OperandWellTyped operands.now }
 {

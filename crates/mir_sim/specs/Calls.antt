@@ -18,8 +18,10 @@ CallsHigher program = (unit called : ℕ) → HasCall program unit called → un
 
 -- the second's unit of each number calls no unit that the first's does not
 abbrev pub CallsNoMore : ProgramShape → ProgramShape → Type 0
-CallsNoMore first second = (unit called : ℕ) → HasCall second unit called → HasCall first unit called
+CallsNoMore first second = (unit called : ℕ) → HasCall second unit called
+    → HasCall first unit called
 
 -- no run ever has more frames than the program has units
 abbrev pub HasFewFrames : ProgramShape → Type 0
-HasFewFrames program = (inputs : List ℤ) (steps : ℕ) → (run program inputs steps).depth ≤ length program.units
+HasFewFrames program = (inputs : List ℤ) (steps : ℕ)
+    → (run program inputs steps).depth ≤ length program.units

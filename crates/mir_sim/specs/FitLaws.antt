@@ -42,7 +42,8 @@ module _ (program : ProgramShape) (is : IsProgram program.globals program.units)
   guard_keeps test number place f fits =
       elim (test_holds f.values test) as (λ t. FitsAfter shared MayCall (cond t (Traps (Raised number) 0) (Continues 0 (at place f)))) [ true ↦ tt | false ↦ at_fits place f fits ]
 
-  inst_keeps : (u : ℕ) (unit : UnitShape) (f : Frame) (inst : Option Inst) → slice_get program.units u ≡ Some unit → slice_get unit.body f.place ≡ inst → FrameFits f → FitsAfter shared MayCall (inst_transition shared inst f)
+  inst_keeps : (u : ℕ) (unit : UnitShape) (f : Frame) (inst : Option Inst) → slice_get program.units u ≡ Some unit
+      → slice_get unit.body f.place ≡ inst → FrameFits f → FitsAfter shared MayCall (inst_transition shared inst f)
   inst_keeps u unit f None there at_place fits = answer_keeps (pos 0) f zero_fits fits
   inst_keeps u unit f (Some (Receive x)) there at_place fits = assigned_fits x _ (f.place + 1) f (argument_fits f.arguments f.place fits.arguments) fits
   inst_keeps u unit f (Some (Assign x rhs)) there at_place fits = assign_keeps x rhs (f.place + 1) f fits
@@ -61,7 +62,8 @@ module _ (program : ProgramShape) (is : IsProgram program.globals program.units)
   inst_keeps u unit f (Some (Print a)) there at_place fits = at_fits (f.place + 1) f fits
   inst_keeps u unit f (Some (Return a)) there at_place fits = answer_keeps _ f (operand_fits f.values a fits.values) fits
 
-  unit_keeps : (u : ℕ) (unit : Option UnitShape) (f : Frame) → slice_get program.units u ≡ unit → FrameFits f → FitsAfter shared MayCall (body_code shared (body_or_empty unit) f)
+  unit_keeps : (u : ℕ) (unit : Option UnitShape) (f : Frame) → slice_get program.units u ≡ unit → FrameFits f
+      → FitsAfter shared MayCall (body_code shared (body_or_empty unit) f)
   unit_keeps u None f there fits = answer_keeps (pos 0) f zero_fits fits
   unit_keeps u (Some unit) f there fits = inst_keeps u unit f (slice_get unit.body f.place) there refl fits
 

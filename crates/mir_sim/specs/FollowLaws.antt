@@ -29,7 +29,9 @@ here : (d : Code) (g : Frame) (e : Event) (t : Transition) → d g ≡ t → Sho
 here d g e t is shows = record { k = 0; n = 0; h = g; silent = (refl, refl); shows = subst (Shows e) (sym is) shows }
 
 -- the first event of a run comes after its silent transitions: by one transition
-catch_after : (d : Code) (go : Frame → List Answer → Shown) (g : Frame) (answers : List Answer) (e : Event) (rest : List Event) (t : Transition) → d g ≡ t → ((h : Frame) → (go h answers).events ≡ e ∷ rest → Caught d h e) → (after_transition go t answers).events ≡ e ∷ rest → Caught d g e
+catch_after : (d : Code) (go : Frame → List Answer → Shown) (g : Frame) (answers : List Answer) (e : Event) (rest : List Event) (t : Transition)
+    → d g ≡ t → ((h : Frame) → (go h answers).events ≡ e ∷ rest → Caught d h e)
+    → (after_transition go t answers).events ≡ e ∷ rest → Caught d g e
 catch_after d go g answers e rest (Continues n next) is ih eq =
     let c = ih next eq in
     record { k = suc c.k; n = n + c.n; h = c.h; silent = (next, n, c.n, is, c.silent, refl); shows = c.shows }
@@ -45,7 +47,8 @@ catch d zero g answers e rest eq = cc
 catch d (suc m) g answers e rest eq = catch_after d (frame_run d m) g answers e rest (d g) refl (λ h q. catch d m h answers e rest q) eq
 
 -- what is shown before the silent steps is shown after them
-later : (d : Code) (k : ℕ) (g h : Frame) (n : ℕ) → Silently d k g h n → (m : ℕ) (answers : List Answer) → (j : ℕ) × IsPrefix (frame_run d m g answers).events (frame_run d j h answers).events
+later : (d : Code) (k : ℕ) (g h : Frame) (n : ℕ) → Silently d k g h n → (m : ℕ) (answers : List Answer)
+    → (j : ℕ) × IsPrefix (frame_run d m g answers).events (frame_run d j h answers).events
 later d zero g h n s m answers = (m, subst (λ f. IsPrefix (frame_run d m g answers).events (frame_run d m f answers).events) s.0 ([], sym (append-nil (frame_run d m g answers).events)))
 later d (suc k) g h n s zero answers = (0, nil_prefix [])
 later d (suc k) g h n s (suc m) answers =
@@ -56,7 +59,8 @@ later d (suc k) g h n s (suc m) answers =
 module _ (shared : ℕ) where
   -- each event of f comes in g too
   pub record FrameFollows (c d : Code) (f g : Frame) : Type 0 where
-    pub by : (answers : List Answer) → AreAnswers shared answers → (n : ℕ) → (m : ℕ) × IsPrefix (frame_run c n f answers).events (frame_run d m g answers).events
+    pub by : (answers : List Answer) → AreAnswers shared answers → (n : ℕ)
+        → (m : ℕ) × IsPrefix (frame_run c n f answers).events (frame_run d m g answers).events
 
   -- a silent step of the first frame shows nothing
   follows_on_left : (c d : Code) (f f' g : Frame) (n : ℕ) → c f ≡ Continues n f' → FrameFollows c d f g → FrameFollows c d f' g
@@ -74,7 +78,8 @@ module _ (shared : ℕ) where
       }
 
   -- a transition's first event
-  shown_first : (go : Frame → List Answer → Shown) (e : Event) (t : Transition) → Shows e t → (tail : List Event) × ((after_transition go t []).events ≡ e ∷ tail)
+  shown_first : (go : Frame → List Answer → Shown) (e : Event) (t : Transition) → Shows e t
+      → (tail : List Event) × ((after_transition go t []).events ≡ e ∷ tail)
   shown_first go e (Continues n next) s = absurd s
   shown_first go e (Prints v next) s = ((go next []).events, ap (λ x. x ∷ (go next []).events) (sym s))
   shown_first go e (Calls unit entry into next) s = ([], ap (λ x. x ∷ []) (sym s))
@@ -94,7 +99,11 @@ module _ (shared : ℕ) where
   peel e xs ys rest eq = cc
 
   -- a run whose first event is known goes on, without it, from the next frame
-  peel_run : (d : Code) (g g' : Frame) (e : Event) (t : Transition) (xs : List Event) (answers rest : List Answer) → d g ≡ t → ((go : Frame → List Answer → Shown) → (after_transition go t answers).events ≡ e ∷ (go g' rest).events) → (m : ℕ) → IsPrefix (e ∷ xs) (frame_run d m g answers).events → (j : ℕ) × IsPrefix xs (frame_run d j g' rest).events
+  peel_run : (d : Code) (g g' : Frame) (e : Event) (t : Transition) (xs : List Event) (answers rest : List Answer)
+      → d g ≡ t
+      → ((go : Frame → List Answer → Shown) → (after_transition go t answers).events ≡ e ∷ (go g' rest).events)
+      → (m : ℕ) → IsPrefix (e ∷ xs) (frame_run d m g answers).events
+      → (j : ℕ) × IsPrefix xs (frame_run d j g' rest).events
   peel_run d g g' e t xs answers rest is goes zero p = let q : [] ≡ e ∷ (xs ++ p.0) = p.1 in cc
   peel_run d g g' e t xs answers rest is goes (suc m) p =
       let q : (e ∷ (frame_run d m g' rest).events) ≡ (e ∷ xs) ++ p.0 = sym (ap (λ v. (after_transition (frame_run d m) v answers).events) is ∙ goes (frame_run d m)) ∙ p.1 in
@@ -111,7 +120,9 @@ module _ (shared : ℕ) where
       }
 
   -- each makes the same call and gets the same answer
-  follows_after_call : (c d : Code) (f f' g g' : Frame) (unit : ℕ) (entry : CallEntry) (i i' : Option ℕ) → c f ≡ Calls unit entry i f' → d g ≡ Calls unit entry i' g' → FrameFollows c d f g → (a : Answer) → IsCallAnswer shared a → FrameFollows c d (resumed i a f') (resumed i' a g')
+  follows_after_call : (c d : Code) (f f' g g' : Frame) (unit : ℕ) (entry : CallEntry) (i i' : Option ℕ)
+      → c f ≡ Calls unit entry i f' → d g ≡ Calls unit entry i' g' → FrameFollows c d f g → (a : Answer)
+      → IsCallAnswer shared a → FrameFollows c d (resumed i a f') (resumed i' a g')
   follows_after_call c d f f' g g' unit entry i i' is is' r a fits =
       record {
         by = λ answers are n.
@@ -123,10 +134,13 @@ module _ (shared : ℕ) where
   -- The second frame, which counted y so far, will not have counted more than the first, which counted x, if both
   -- return. Q is what this rests on: nothing is said where Q does not hold.
   pub record FrameCheaper (Q : Type 0) (c d : Code) (x y : ℕ) (f g : Frame) : Type 0 where
-    pub by : Q → (answers : List Answer) → AreAnswers shared answers → (n m : ℕ) → EndsInReturn (frame_run c n f answers).events → EndsInReturn (frame_run d m g answers).events → y + (frame_run d m g answers).counted ≤ x + (frame_run c n f answers).counted
+    pub by : Q → (answers : List Answer) → AreAnswers shared answers → (n m : ℕ)
+        → EndsInReturn (frame_run c n f answers).events → EndsInReturn (frame_run d m g answers).events
+        → y + (frame_run d m g answers).counted ≤ x + (frame_run c n f answers).counted
 
   -- the cost so far grows by what a silent step evaluates: of the first frame
-  cheaper_on_left : (Q : Type 0) (c d : Code) (x y : ℕ) (f f' g : Frame) (n : ℕ) → c f ≡ Continues n f' → FrameCheaper Q c d x y f g → FrameCheaper Q c d (x + n) y f' g
+  cheaper_on_left : (Q : Type 0) (c d : Code) (x y : ℕ) (f f' g : Frame) (n : ℕ) → c f ≡ Continues n f'
+      → FrameCheaper Q c d x y f g → FrameCheaper Q c d (x + n) y f' g
   cheaper_on_left Q c d x y f f' g n is r =
       record {
         by = λ q answers are k m ends ends'.
@@ -137,7 +151,8 @@ module _ (shared : ℕ) where
       }
 
   -- of the second
-  cheaper_on_right : (Q : Type 0) (c d : Code) (x y : ℕ) (f g h : Frame) (k n : ℕ) → Silently d k g h n → FrameCheaper Q c d x y f g → FrameCheaper Q c d x (y + n) f h
+  cheaper_on_right : (Q : Type 0) (c d : Code) (x y : ℕ) (f g h : Frame) (k n : ℕ) → Silently d k g h n
+      → FrameCheaper Q c d x y f g → FrameCheaper Q c d x (y + n) f h
   cheaper_on_right Q c d x y f g h k n s r =
       record {
         by = λ q answers are i m ends ends'.
@@ -147,7 +162,8 @@ module _ (shared : ℕ) where
       }
 
   -- a print costs nothing on either side
-  cheaper_after_prints : (Q : Type 0) (c d : Code) (x y : ℕ) (f f' g g' : Frame) (v : ℤ) → c f ≡ Prints v f' → d g ≡ Prints v g' → FrameCheaper Q c d x y f g → FrameCheaper Q c d x y f' g'
+  cheaper_after_prints : (Q : Type 0) (c d : Code) (x y : ℕ) (f f' g g' : Frame) (v : ℤ) → c f ≡ Prints v f'
+      → d g ≡ Prints v g' → FrameCheaper Q c d x y f g → FrameCheaper Q c d x y f' g'
   cheaper_after_prints Q c d x y f f' g g' v is is' r =
       record {
         by = λ q answers are k m ends ends'.
@@ -160,7 +176,9 @@ module _ (shared : ℕ) where
       }
 
   -- nor does a call in the frames of its callers
-  cheaper_after_call : (Q : Type 0) (c d : Code) (x y : ℕ) (f f' g g' : Frame) (unit : ℕ) (entry : CallEntry) (i i' : Option ℕ) → c f ≡ Calls unit entry i f' → d g ≡ Calls unit entry i' g' → FrameCheaper Q c d x y f g → (a : Answer) → IsCallAnswer shared a → FrameCheaper Q c d x y (resumed i a f') (resumed i' a g')
+  cheaper_after_call : (Q : Type 0) (c d : Code) (x y : ℕ) (f f' g g' : Frame) (unit : ℕ) (entry : CallEntry) (i i' : Option ℕ)
+      → c f ≡ Calls unit entry i f' → d g ≡ Calls unit entry i' g' → FrameCheaper Q c d x y f g → (a : Answer)
+      → IsCallAnswer shared a → FrameCheaper Q c d x y (resumed i a f') (resumed i' a g')
   cheaper_after_call Q c d x y f f' g g' unit entry i i' is is' r a fits =
       record {
         by = λ q answers are k m ends ends'.
@@ -173,7 +191,8 @@ module _ (shared : ℕ) where
       }
 
   -- both return: then the costs so far are all that counts
-  cheaper_at_return : (Q : Type 0) (c d : Code) (x y : ℕ) (f g : Frame) (v : Answer) → c f ≡ Returns v → d g ≡ Returns v → FrameCheaper Q c d x y f g → Q → y ≤ x
+  cheaper_at_return : (Q : Type 0) (c d : Code) (x y : ℕ) (f g : Frame) (v : Answer) → c f ≡ Returns v
+      → d g ≡ Returns v → FrameCheaper Q c d x y f g → Q → y ≤ x
   cheaper_at_return Q c d x y f g v is is' r q =
       let same : frame_run c 1 f [] ≡ showing (Returned v) nothing = ap (λ t. after_transition (frame_run c 0) t []) is in
       let same' : frame_run d 1 g [] ≡ showing (Returned v) nothing = ap (λ t. after_transition (frame_run d 0) t []) is' in
@@ -201,7 +220,9 @@ module _ (shared : ℕ) where
     pub pair_after_prints : (f f' g g' : Frame) (v : ℤ) → c f ≡ Prints v f' → d g ≡ Prints v g' → Pair Q c d x y f g → Pair Q c d x y f' g'
     pair_after_prints f f' g g' v is is' p = record { follows = follows_after_prints c d f f' g g' v is is' p.follows; cheaper = cheaper_after_prints Q c d x y f f' g g' v is is' p.cheaper }
 
-    pub pair_after_call : (f f' g g' : Frame) (unit : ℕ) (entry : CallEntry) (i i' : Option ℕ) → c f ≡ Calls unit entry i f' → d g ≡ Calls unit entry i' g' → Pair Q c d x y f g → (a : Answer) → IsCallAnswer shared a → Pair Q c d x y (resumed i a f') (resumed i' a g')
+    pub pair_after_call : (f f' g g' : Frame) (unit : ℕ) (entry : CallEntry) (i i' : Option ℕ)
+        → c f ≡ Calls unit entry i f' → d g ≡ Calls unit entry i' g' → Pair Q c d x y f g → (a : Answer)
+        → IsCallAnswer shared a → Pair Q c d x y (resumed i a f') (resumed i' a g')
     pair_after_call f f' g g' unit entry i i' is is' p a fits = record {
       follows = follows_after_call c d f f' g g' unit entry i i' is is' p.follows a fits;
       cheaper = cheaper_after_call Q c d x y f f' g g' unit entry i i' is is' p.cheaper a fits;

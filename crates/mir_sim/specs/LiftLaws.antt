@@ -18,7 +18,8 @@ pub record Callable (units : ℕ) (machines : Machines) (u : ℕ) (entry : CallE
 -- where the values of a frame are signed 64-bit numbers, they stay so, calls are of these units and hand over what they
 -- receive, and calls and returns hand over the globals, which are those of the first unit
 abbrev pub CallsFit : ℕ → Machines → Type 0
-CallsFit units machines = (u : ℕ) (frame : Frame) → FrameFits frame → FitsAfter (machines 0).shared (Callable units machines) ((machines u).code frame)
+CallsFit units machines = (u : ℕ) (frame : Frame) → FrameFits frame
+    → FitsAfter (machines 0).shared (Callable units machines) ((machines u).code frame)
 
 -- the machines of each number do the same
 abbrev pub EachSame : ℕ → Machines → Machines → Type 0
@@ -33,7 +34,9 @@ abbrev pub EachFollows : ℕ → Machines → Machines → Type 0
 EachFollows units first second = (u : ℕ) → u < units → UnitFollows (first u) (second u)
 
 -- a call starts both machines with the same arguments and no cost
-enters : (Q : Type 0) (units : ℕ) (first second : Machines) → EachFollows units first second → (Q → EachCheaper units first second) → (u : ℕ) (entry : CallEntry) → Callable units first u entry → Standing (first 0).shared Q (codes_in first u) (codes_in second u) (first_frame entry) (first_frame entry) 0 0
+enters : (Q : Type 0) (units : ℕ) (first second : Machines) → EachFollows units first second
+    → (Q → EachCheaper units first second) → (u : ℕ) (entry : CallEntry) → Callable units first u entry
+    → Standing (first 0).shared Q (codes_in first u) (codes_in second u) (first_frame entry) (first_frame entry) 0 0
 enters Q units first second each cheap u entry c = record {
   pair = record {
     follows = record { by = λ answers are n. (each u c.there).follows entry answers c.entry_is (theirs answers are) n };
@@ -46,7 +49,10 @@ enters Q units first second each cheap u entry c = record {
     theirs answers are = subst (λ n. AreAnswers n answers) (sym c.shared_is) are
 
 -- after each number of steps of the first, some number of steps of the second matches
-matched : (Q : Type 0) (units : ℕ) (first second : Machines) → 0 < units → (first 0).shared ≡ (second 0).shared → CallsFit units first → EachFollows units first second → (Q → EachCheaper units first second) → (inputs : List ℤ) → AreInputs first inputs → (n : ℕ) → (m : ℕ) × MatchState (first 0).shared Q (codes_in first) (codes_in second) (machines_run first inputs n) (machines_run second inputs m)
+matched : (Q : Type 0) (units : ℕ) (first second : Machines) → 0 < units → (first 0).shared ≡ (second 0).shared
+    → CallsFit units first → EachFollows units first second → (Q → EachCheaper units first second) → (inputs : List ℤ)
+    → AreInputs first inputs → (n : ℕ)
+    → (m : ℕ) × MatchState (first 0).shared Q (codes_in first) (codes_in second) (machines_run first inputs n) (machines_run second inputs m)
 matched Q units first second some alike fit each cheap inputs are n =
     let shared : ℕ = (first 0).shared in
     let standing = enters Q units first second each cheap 0 (first_entry shared inputs) (record { there = some; shared_is = refl; entry_is = first_enters first inputs are }) in
@@ -62,14 +68,16 @@ matched Q units first second some alike fit each cheap inputs are n =
 -- ---- the same
 
 -- where the first run is over, the second is over in the same way
-over_as : (shared : ℕ) (Q : Type 0) (codes codes' : ℕ → Code) (s t : State) (c d : Control) (E E' : ℕ) → t.control ≡ d → s.printed ≡ t.printed → MatchControl shared Q codes codes' c d E E' → IsOverAs s t c
+over_as : (shared : ℕ) (Q : Type 0) (codes codes' : ℕ → Code) (s t : State) (c d : Control) (E E' : ℕ) → t.control ≡ d
+    → s.printed ≡ t.printed → MatchControl shared Q codes codes' c d E E' → IsOverAs s t c
 over_as shared Q codes codes' s t (Running u f ps) d E E' is same m = tt
 over_as shared Q codes codes' s t (Ended v) (Ended w) E E' is same m = (is ∙ ap Ended (sym m.0), sym same)
 over_as shared Q codes codes' s t (Stopped k) (Stopped l) E E' is same m = (is ∙ ap Stopped (sym m), sym same)
 over_as shared Q codes codes' s t _ _ E E' is same m = absurd m
 
 -- the second program does whatever the first does
-pub lifts_follow : (units : ℕ) (first second : Machines) → 0 < units → (first 0).shared ≡ (second 0).shared → CallsFit units first → EachFollows units first second → MachinesFollow first second
+pub lifts_follow : (units : ℕ) (first second : Machines) → 0 < units → (first 0).shared ≡ (second 0).shared
+    → CallsFit units first → EachFollows units first second → MachinesFollow first second
 lifts_follow units first second some alike fit each =
     record {
       follows = λ inputs are n.
@@ -87,14 +95,17 @@ lifts_follow units first second some alike fit each =
 -- ---- no more evaluations
 
 -- where the first run ended, the second one ended with the same answer, at no greater cost
-ends_cheaper : (shared : ℕ) (Q : Type 0) (codes codes' : ℕ → Code) (v : ℤ) (c d : Control) (E E' : ℕ) → c ≡ Ended v → Q → MatchControl shared Q codes codes' c d E E' → (d ≡ Ended v) × (E' ≤ E)
+ends_cheaper : (shared : ℕ) (Q : Type 0) (codes codes' : ℕ → Code) (v : ℤ) (c d : Control) (E E' : ℕ) → c ≡ Ended v
+    → Q → MatchControl shared Q codes codes' c d E E' → (d ≡ Ended v) × (E' ≤ E)
 ends_cheaper shared Q codes codes' v (Running u f ps) d E E' is q m = cc
 ends_cheaper shared Q codes codes' v (Stopped k) d E E' is q m = cc
 ends_cheaper shared Q codes codes' v (Ended w) (Ended x) E E' is q m = (ap Ended (sym m.0) ∙ is, m.1 q)
 ends_cheaper shared Q codes codes' v (Ended w) _ E E' is q m = absurd m
 
 -- the second program evaluates no more operators
-pub lifts_cheaper : (units : ℕ) (first second : Machines) → 0 < units → (first 0).shared ≡ (second 0).shared → CallsFit units first → EachFollows units first second → EachCheaper units first second → MachinesCheaper first second
+pub lifts_cheaper : (units : ℕ) (first second : Machines) → 0 < units → (first 0).shared ≡ (second 0).shared
+    → CallsFit units first → EachFollows units first second → EachCheaper units first second
+    → MachinesCheaper first second
 lifts_cheaper units first second some alike fit each cheap =
     record {
       cheaper = λ inputs are n m v w ends ends'.
@@ -109,7 +120,9 @@ lifts_cheaper units first second some alike fit each cheap =
 -- ---- as deep
 
 -- where the first does whatever the second does, the second is never deeper: its frames are those of the first
-pub lifts_shallower : (units : ℕ) (first second : Machines) → 0 < units → (second 0).receives ≡ (first 0).receives → (second 0).shared ≡ (first 0).shared → CallsFit units second → EachFollows units second first → MachinesShallower first second
+pub lifts_shallower : (units : ℕ) (first second : Machines) → 0 < units → (second 0).receives ≡ (first 0).receives
+    → (second 0).shared ≡ (first 0).shared → CallsFit units second → EachFollows units second first
+    → MachinesShallower first second
 lifts_shallower units first second some receives alike fit each =
     record {
       shallower = λ inputs are n.
@@ -120,7 +133,8 @@ lifts_shallower units first second some receives alike fit each =
 -- ---- all three
 
 -- the second program is the same, evaluates no more operators and is never deeper
-pub lifts_keep : (units : ℕ) (first second : Machines) → 0 < units → CallsFit units first → CallsFit units second → EachSame units first second → EachCheaper units first second → MachinesKeep first second
+pub lifts_keep : (units : ℕ) (first second : Machines) → 0 < units → CallsFit units first → CallsFit units second
+    → EachSame units first second → EachCheaper units first second → MachinesKeep first second
 lifts_keep units first second some fit fit' same cheap = record {
   same = record {
     inputs = (same 0 some).receives;

@@ -10,7 +10,8 @@ use Rattle.mir_base.specs.UnitRuns.{Machine}
 -- for all inputs and every number of steps of the second, the second has then had at most as many frames as the first
 -- has had after some number of steps
 pub record Shallower (first second : ProgramShape) : Type 0 where
-  pub shallower : (inputs : List ℤ) → length inputs ≡ inputs_of first → AreNumbers inputs → (n : ℕ) → (m : ℕ)
+  pub shallower : (inputs : List ℤ) → length inputs ≡ inputs_of first → AreNumbers inputs → (n : ℕ)
+      → (m : ℕ)
       × ((run second inputs n).depth ≤ (run first inputs m).depth)
 
 -- ---- programs of machines
@@ -48,7 +49,8 @@ pub record MachinesSame (first second : Machines) : Type 0 where
 -- on all inputs on which both end, the second has counted at most as many evaluations as the first
 pub record MachinesCheaper (first second : Machines) : Type 0 where
   pub cheaper : (inputs : List ℤ) → AreInputs first inputs → (n m : ℕ) (v w : ℤ)
-      → (machines_run first inputs n).control ≡ Ended v → (machines_run second inputs m).control ≡ Ended w
+      → (machines_run first inputs n).control ≡ Ended v → (machines_run second inputs m).control
+      ≡ Ended w
       → (machines_run second inputs m).counted ≤ (machines_run first inputs n).counted
 
 -- the second never has more frames than the first has had at some time

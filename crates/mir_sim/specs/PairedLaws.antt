@@ -69,7 +69,8 @@ pub record Layer (E E' : ℕ) (Below : ℕ → ℕ → Type 0) (Here : ℕ → �
   pub below : Below others others'
 
 -- what is above the frames below changes, and with it what the two frames on top counted
-above : {E E' F F' : ℕ} {Below Here Here' : ℕ → ℕ → Type 0} (m : Layer E E' Below Here) (own own' : ℕ) → F ≡ m.others + own → F' ≡ m.others' + own' → Here' own own' → Layer F F' Below Here'
+above : {E E' F F' : ℕ} {Below Here Here' : ℕ → ℕ → Type 0} (m : Layer E E' Below Here) (own own' : ℕ)
+    → F ≡ m.others + own → F' ≡ m.others' + own' → Here' own own' → Layer F F' Below Here'
 above m own own' sum sum' here = record { own = own; own' = own'; others = m.others; others' = m.others'; sum = sum; sum' = sum'; here = here; below = m.below }
 
 -- two frames of which the second follows the first
@@ -78,41 +79,49 @@ pub record Standing (shared : ℕ) (Q : Type 0) (c d : Code) (f g : Frame) (x y 
   pub fits : FrameFits f
 
 -- two callers, of which the second follows the first with every answer
-pub record Waiting (shared : ℕ) (Q : Type 0) (codes codes' : ℕ → Code) (p q : Caller) (x y : ℕ) : Type 0 where
-  pub goes_on : (answer : Answer) → IsCallAnswer shared answer → Pair shared Q (codes p.unit) (codes' q.unit) x y (resumed p.into answer p.frame) (resumed q.into answer q.frame)
+pub record Waiting (shared : ℕ) (Q : Type 0) (codes codes' : ℕ → Code) (p q : Caller)
+    (x y : ℕ) : Type 0 where
+  pub goes_on : (answer : Answer) → IsCallAnswer shared answer
+      → Pair shared Q (codes p.unit) (codes' q.unit) x y (resumed p.into answer p.frame) (resumed q.into answer q.frame)
   pub fits : FrameFits p.frame
 
 -- each caller follows the one of the same height
-abbrev pub MatchCallers : (shared : ℕ) (Q : Type 0) (codes codes' : ℕ → Code) → List Caller → List Caller → ℕ → ℕ → Type 0
+abbrev pub MatchCallers : (shared : ℕ) (Q : Type 0) (codes codes' : ℕ → Code) → List Caller
+    → List Caller → ℕ → ℕ → Type 0
 MatchCallers shared Q codes codes' [] [] E E' = Q → E' ≤ E
 MatchCallers shared Q codes codes' (p ∷ ps) (q ∷ qs) E E' = Layer E E' (MatchCallers shared Q codes codes' ps qs) (Waiting shared Q codes codes' p q)
 MatchCallers shared Q codes codes' _ _ E E' = ⊥
 
 -- and so does the running frame
-abbrev pub MatchRunning : (shared : ℕ) (Q : Type 0) (codes codes' : ℕ → Code) → ℕ → Frame → List Caller → ℕ → Frame → List Caller → ℕ → ℕ → Type 0
+abbrev pub MatchRunning : (shared : ℕ) (Q : Type 0) (codes codes' : ℕ → Code) → ℕ → Frame
+    → List Caller → ℕ → Frame → List Caller → ℕ → ℕ → Type 0
 MatchRunning shared Q codes codes' u f ps u' g qs E E' = Layer E E' (MatchCallers shared Q codes codes' ps qs) (Standing shared Q (codes u) (codes' u') f g)
 
 -- the runs stand alike
-abbrev pub MatchControl : (shared : ℕ) (Q : Type 0) (codes codes' : ℕ → Code) → Control → Control → ℕ → ℕ → Type 0
+abbrev pub MatchControl : (shared : ℕ) (Q : Type 0) (codes codes' : ℕ → Code) → Control → Control
+    → ℕ → ℕ → Type 0
 MatchControl shared Q codes codes' (Running u f ps) (Running u' g qs) E E' = MatchRunning shared Q codes codes' u f ps u' g qs E E'
 MatchControl shared Q codes codes' (Ended v) (Ended w) E E' = (v ≡ w) × (Q → E' ≤ E)
 MatchControl shared Q codes codes' (Stopped k) (Stopped l) E E' = k ≡ l
 MatchControl shared Q codes codes' _ _ E E' = ⊥
 
 -- equal prints, as many frames at most, and matching stacks
-pub record MatchState (shared : ℕ) (Q : Type 0) (codes codes' : ℕ → Code) (s t : State) : Type 0 where
+pub record MatchState (shared : ℕ) (Q : Type 0) (codes codes' : ℕ → Code)
+    (s t : State) : Type 0 where
   pub prints : s.printed ≡ t.printed
   pub depth : s.depth ≡ t.depth
   pub control : MatchControl shared Q codes codes' s.control t.control s.counted t.counted
 
 -- ---- steps of a stack
 
--- a state of these
+-- the state of these four parts
 abbrev state : List ℤ → Control → ℕ → ℕ → State
 state printed control counted depth = record { printed = printed; control = control; counted = counted; depth = depth }
 
 -- silent steps of the running frame
-silent_steps : (codes : ℕ → Code) (u k : ℕ) (g h : Frame) (n : ℕ) → Silently (codes u) k g h n → (printed : List ℤ) (callers : List Caller) (counted depth : ℕ) → steps codes k (state printed (Running u g callers) counted depth) ≡ state printed (Running u h callers) (counted + n) depth
+silent_steps : (codes : ℕ → Code) (u k : ℕ) (g h : Frame) (n : ℕ) → Silently (codes u) k g h n
+    → (printed : List ℤ) (callers : List Caller) (counted depth : ℕ)
+    → steps codes k (state printed (Running u g callers) counted depth) ≡ state printed (Running u h callers) (counted + n) depth
 silent_steps codes u zero g h n s printed callers counted depth = rw (s.0, s.1, add-zero counted)
 silent_steps codes u (suc k) g h n s printed callers counted depth =
     let first : step codes (state printed (Running u g callers) counted depth) ≡ state printed (Running u s.0 callers) (counted + s.1) depth = ap (λ t. state_after u callers t (state printed (Running u g callers) counted depth)) s.3 in
@@ -121,7 +130,9 @@ silent_steps codes u (suc k) g h n s printed callers counted depth =
     ap (steps codes k) first ∙ rest ∙ ap (λ c. state printed (Running u h callers) c depth) sum
 
 -- silent steps, and then a transition
-then_step : (codes : ℕ → Code) (u k : ℕ) (g h : Frame) (n : ℕ) → Silently (codes u) k g h n → (t : Transition) → codes u h ≡ t → (printed : List ℤ) (callers : List Caller) (counted depth : ℕ) → steps codes (k + 1) (state printed (Running u g callers) counted depth) ≡ state_after u callers t (state printed (Running u h callers) (counted + n) depth)
+then_step : (codes : ℕ → Code) (u k : ℕ) (g h : Frame) (n : ℕ) → Silently (codes u) k g h n → (t : Transition)
+    → codes u h ≡ t → (printed : List ℤ) (callers : List Caller) (counted depth : ℕ)
+    → steps codes (k + 1) (state printed (Running u g callers) counted depth) ≡ state_after u callers t (state printed (Running u h callers) (counted + n) depth)
 then_step codes u k g h n s t is printed callers counted depth =
     steps_add codes k 1 _ ∙ ap (steps codes 1) (silent_steps codes u k g h n s printed callers counted depth) ∙ ap (λ t'. state_after u callers t' (state printed (Running u h callers) (counted + n) depth)) is
 
@@ -129,7 +140,8 @@ module _ (shared : ℕ) (Q : Type 0) (codes codes' : ℕ → Code) (Callable : �
     (keeps : (u : ℕ) (f : Frame) → FrameFits f → FitsAfter shared Callable (codes u f))
     (enters : (u : ℕ) (entry : CallEntry) → Callable u entry → Standing shared Q (codes u) (codes' u) (first_frame entry) (first_frame entry) 0 0) where
   -- what a frame that returns leaves to its callers
-  more_counted : (ps qs : List Caller) (A A' a b : ℕ) → (Q → b ≤ a) → MatchCallers shared Q codes codes' ps qs A A' → MatchCallers shared Q codes codes' ps qs (A + a) (A' + b)
+  more_counted : (ps qs : List Caller) (A A' a b : ℕ) → (Q → b ≤ a) → MatchCallers shared Q codes codes' ps qs A A'
+      → MatchCallers shared Q codes codes' ps qs (A + a) (A' + b)
   more_counted [] [] A A' a b h m = λ q. omega (arith, h q, m q)
   more_counted [] (q ∷ qs) A A' a b h m = absurd m
   more_counted (p ∷ ps) [] A A' a b h m = absurd m
@@ -152,7 +164,9 @@ module _ (shared : ℕ) (Q : Type 0) (codes codes' : ℕ → Code) (Callable : �
   same_height (p ∷ ps) [] A A' m = absurd m
   same_height (p ∷ ps) (q ∷ qs) A A' m = ap suc (same_height ps qs m.others m.others' m.below)
 
-  returns_alike : (answer : Answer) → IsCallAnswer shared answer → (ps qs : List Caller) (E E' : ℕ) → MatchCallers shared Q codes codes' ps qs E E' → MatchControl shared Q codes codes' (returned answer ps) (returned answer qs) E E'
+  returns_alike : (answer : Answer) → IsCallAnswer shared answer → (ps qs : List Caller) (E E' : ℕ)
+      → MatchCallers shared Q codes codes' ps qs E E'
+      → MatchControl shared Q codes codes' (returned answer ps) (returned answer qs) E E'
   returns_alike answer is [] [] E E' m = (refl, m)
   returns_alike answer is [] (q ∷ qs) E E' m = absurd m
   returns_alike answer is (p ∷ ps) [] E E' m = absurd m
@@ -160,11 +174,16 @@ module _ (shared : ℕ) (Q : Type 0) (codes codes' : ℕ → Code) (Callable : �
 
   -- where the second frame comes, after silent steps, to a transition that leads to a matching state, so does the
   -- second stack, with one step more
-  matches_after : (s : State) (printed : List ℤ) (u k : ℕ) (g h : Frame) (n : ℕ) (qs : List Caller) (E D : ℕ) (t : Transition) → Silently (codes' u) k g h n → codes' u h ≡ t → MatchState shared Q codes codes' s (state_after u qs t (state printed (Running u h qs) (E + n) D)) → (j : ℕ) × MatchState shared Q codes codes' s (steps codes' j (state printed (Running u g qs) E D))
+  matches_after : (s : State) (printed : List ℤ) (u k : ℕ) (g h : Frame) (n : ℕ) (qs : List Caller) (E D : ℕ) (t : Transition)
+      → Silently (codes' u) k g h n → codes' u h ≡ t
+      → MatchState shared Q codes codes' s (state_after u qs t (state printed (Running u h qs) (E + n) D))
+      → (j : ℕ) × MatchState shared Q codes codes' s (steps codes' j (state printed (Running u g qs) E D))
   matches_after s printed u k g h n qs E D t silent is done = (k + 1, subst (MatchState shared Q codes codes' s) (sym (then_step codes' u k g h n silent t is printed qs E D)) done)
 
   -- one step of the first stack: some number of steps of the second match it
-  one_transition : (printed : List ℤ) (u : ℕ) (f : Frame) (ps : List Caller) (u' : ℕ) (g : Frame) (qs : List Caller) (E E' D : ℕ) (t : Transition) → codes u f ≡ t → MatchRunning shared Q codes codes' u f ps u' g qs E E' → (k : ℕ) × MatchState shared Q codes codes' (state_after u ps t (state printed (Running u f ps) E D)) (steps codes' k (state printed (Running u' g qs) E' D))
+  one_transition : (printed : List ℤ) (u : ℕ) (f : Frame) (ps : List Caller) (u' : ℕ) (g : Frame) (qs : List Caller) (E E' D : ℕ) (t : Transition)
+      → codes u f ≡ t → MatchRunning shared Q codes codes' u f ps u' g qs E E'
+      → (k : ℕ) × MatchState shared Q codes codes' (state_after u ps t (state printed (Running u f ps) E D)) (steps codes' k (state printed (Running u' g qs) E' D))
   one_transition printed u f ps u' g qs E E' D (Continues n next) is m =
       let kept = subst (FitsAfter shared Callable) is (keeps u f m.here.fits) in (
         0,
@@ -229,7 +248,8 @@ module _ (shared : ℕ) (Q : Type 0) (codes codes' : ℕ → Code) (Callable : �
       record { prints = refl; depth = refl; control = refl }
       )
 
-  one_control : (printed : List ℤ) (cs ct : Control) (E E' D : ℕ) → MatchControl shared Q codes codes' cs ct E E' → (k : ℕ) × MatchState shared Q codes codes' (step codes (state printed cs E D)) (steps codes' k (state printed ct E' D))
+  one_control : (printed : List ℤ) (cs ct : Control) (E E' D : ℕ) → MatchControl shared Q codes codes' cs ct E E'
+      → (k : ℕ) × MatchState shared Q codes codes' (step codes (state printed cs E D)) (steps codes' k (state printed ct E' D))
   one_control printed (Running u f ps) (Running u' g qs) E E' D m = one_transition printed u f ps u' g qs E E' D (codes u f) refl m
   one_control printed (Ended v) (Ended w) E E' D m = (0, record { prints = refl; depth = refl; control = m })
   one_control printed (Stopped k) (Stopped l) E E' D m = (0, record { prints = refl; depth = refl; control = m })

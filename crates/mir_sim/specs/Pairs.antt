@@ -11,8 +11,10 @@ pub record AllUnitsSame (first second : ProgramShape) : Type 0 where
 
 -- the second's unit of each number evaluates no more operators than the first's
 pub record AllUnitsCheaper (first second : ProgramShape) : Type 0 where
-  pub cheaper : (u : ℕ) → u < length first.units → UnitCheaper (machine_at first u) (machine_at second u)
+  pub cheaper : (u : ℕ) → u < length first.units
+      → UnitCheaper (machine_at first u) (machine_at second u)
 
 -- the second's unit of each number does whatever the first's does
 pub record AllUnitsFollow (first second : ProgramShape) : Type 0 where
-  pub follows : (u : ℕ) → u < length first.units → UnitFollows (machine_at first u) (machine_at second u)
+  pub follows : (u : ℕ) → u < length first.units
+      → UnitFollows (machine_at first u) (machine_at second u)

@@ -24,7 +24,7 @@ control_after u callers (Calls called entry into next) = Running called (first_f
 control_after u callers (Returns answer) = returned answer callers
 control_after u callers (Traps kind counted) = Stopped kind
 
--- what it prints
+-- what a transition prints
 abbrev pub printed_by : Transition → List ℤ
 printed_by (Continues counted next) = []
 printed_by (Prints v next) = v ∷ []
@@ -32,7 +32,7 @@ printed_by (Calls called entry into next) = []
 printed_by (Returns answer) = []
 printed_by (Traps kind counted) = []
 
--- what it counts
+-- how many evaluations a transition counts
 abbrev pub counted_by : Transition → ℕ
 counted_by (Continues counted next) = counted
 counted_by (Prints v next) = 0
@@ -40,7 +40,7 @@ counted_by (Calls called entry into next) = 0
 counted_by (Returns answer) = 0
 counted_by (Traps kind counted) = counted
 
--- how many frames there are once it has called, where there are so many callers
+-- how many frames there are once a transition has called, where there are these callers
 abbrev pub frames_by : List Caller → Transition → ℕ
 frames_by callers (Continues counted next) = 0
 frames_by callers (Prints v next) = 0
@@ -58,7 +58,9 @@ pub leads_nowhere : (codes : ℕ → Code) (c : Control) → StepsLead codes 0 c
 leads_nowhere codes c printed before depth = same_state printed (printed ++ []) c c before (before + 0) depth (max depth 0) (sym (append-nil printed)) refl (omega arith) (omega arith)
 
 -- steps after steps
-pub leads_trans : (codes : ℕ → Code) (j k : ℕ) (a b c : Control) (p q : List ℤ) (m n x y : ℕ) → StepsLead codes j a b p m x → StepsLead codes k b c q n y → StepsLead codes (j + k) a c (p ++ q) (m + n) (max x y)
+pub leads_trans : (codes : ℕ → Code) (j k : ℕ) (a b c : Control) (p q : List ℤ) (m n x y : ℕ)
+    → StepsLead codes j a b p m x → StepsLead codes k b c q n y
+    → StepsLead codes (j + k) a c (p ++ q) (m + n) (max x y)
 leads_trans codes j k a b c p q m n x y first then printed before depth =
     steps_add codes j k (state_with printed a before depth)
     ∙ ap (steps codes k) (first printed before depth)
@@ -66,7 +68,8 @@ leads_trans codes j k a b c p q m n x y first then printed before depth =
     ∙ same_state ((printed ++ p) ++ q) (printed ++ (p ++ q)) c c ((before + m) + n) (before + (m + n)) (max (max depth x) y) (max depth (max x y)) (append_assoc printed p q) refl (omega arith) (omega arith)
 
 -- what a transition makes of a state
-after_is : (u : ℕ) (f : Frame) (callers : List Caller) (t : Transition) (printed : List ℤ) (before depth : ℕ) → state_after u callers t (state_with printed (Running u f callers) before depth) ≡ state_with (printed ++ printed_by t) (control_after u callers t) (before + counted_by t) (max depth (frames_by callers t))
+after_is : (u : ℕ) (f : Frame) (callers : List Caller) (t : Transition) (printed : List ℤ) (before depth : ℕ)
+    → state_after u callers t (state_with printed (Running u f callers) before depth) ≡ state_with (printed ++ printed_by t) (control_after u callers t) (before + counted_by t) (max depth (frames_by callers t))
 after_is u f callers (Continues counted next) printed before depth = same_state printed (printed ++ []) _ _ (before + counted) (before + counted) depth (max depth 0) (sym (append-nil printed)) refl refl (omega arith)
 after_is u f callers (Prints v next) printed before depth = same_state (printed ++ v ∷ []) (printed ++ v ∷ []) _ _ before (before + 0) depth (max depth 0) refl refl (omega arith) (omega arith)
 after_is u f callers (Calls called entry into next) printed before depth = same_state printed (printed ++ []) _ _ before (before + 0) _ _ (sym (append-nil printed)) refl (omega arith) refl
@@ -74,12 +77,14 @@ after_is u f callers (Returns answer) printed before depth = same_state printed 
 after_is u f callers (Traps kind counted) printed before depth = same_state printed (printed ++ []) _ _ (before + counted) (before + counted) depth (max depth 0) (sym (append-nil printed)) refl refl (omega arith)
 
 -- one step
-pub leads_step : (codes : ℕ → Code) (u : ℕ) (f : Frame) (callers : List Caller) (t : Transition) → codes u f ≡ t → StepsLead codes 1 (Running u f callers) (control_after u callers t) (printed_by t) (counted_by t) (frames_by callers t)
+pub leads_step : (codes : ℕ → Code) (u : ℕ) (f : Frame) (callers : List Caller) (t : Transition) → codes u f ≡ t
+    → StepsLead codes 1 (Running u f callers) (control_after u callers t) (printed_by t) (counted_by t) (frames_by callers t)
 leads_step codes u f callers t is printed before depth =
     ap (λ t'. state_after u callers t' (state_with printed (Running u f callers) before depth)) is ∙ after_is u f callers t printed before depth
 
 -- silent steps of the running frame
-pub leads_silently : (codes : ℕ → Code) (u k : ℕ) (f g : Frame) (n : ℕ) (callers : List Caller) → Silently (codes u) k f g n → StepsLead codes k (Running u f callers) (Running u g callers) [] n 0
+pub leads_silently : (codes : ℕ → Code) (u k : ℕ) (f g : Frame) (n : ℕ) (callers : List Caller)
+    → Silently (codes u) k f g n → StepsLead codes k (Running u f callers) (Running u g callers) [] n 0
 leads_silently codes u zero f g n callers s = subst (λ m. StepsLead codes 0 (Running u f callers) (Running u g callers) [] m 0) (sym s.1) (subst (λ h. StepsLead codes 0 (Running u f callers) (Running u h callers) [] 0 0) s.0 (leads_nowhere codes (Running u f callers)))
 leads_silently codes u (suc k) f g n callers s =
     let one = leads_step codes u f callers (Continues s.1 s.0) s.3 in
@@ -149,7 +154,8 @@ over_stays codes (suc k) s over =
     ap (steps codes k) same ∙ over_stays codes k s over
 
 -- of two numbers of steps after which a run is over, each leads to the same state
-pub one_over : (codes : ℕ → Code) (k m : ℕ) (s : State) → IsFinished (steps codes k s).control → IsFinished (steps codes m s).control → steps codes k s ≡ steps codes m s
+pub one_over : (codes : ℕ → Code) (k m : ℕ) (s : State) → IsFinished (steps codes k s).control
+    → IsFinished (steps codes m s).control → steps codes k s ≡ steps codes m s
 one_over codes k m s over over' =
     let one : steps codes (k + m) s ≡ steps codes k s = steps_add codes k m s ∙ over_stays codes m (steps codes k s) over in
     let two : steps codes (m + k) s ≡ steps codes m s = steps_add codes m k s ∙ over_stays codes k (steps codes m s) over' in
@@ -159,11 +165,13 @@ one_over codes k m s over over' =
 
 -- states that are related again after so many steps of each side, of which the first takes some or the measure falls
 abbrev Onward : (ℕ → Code) → (ℕ → Code) → (ℕ → State → State → Type 0) → ℕ → State → State → Type 0
-Onward codes codes' A z s t = (j : ℕ) × (k : ℕ) × (z' : ℕ) × A z' (steps codes j s) (steps codes' k t) × ((1 ≤ j) ⊎ (z' < z))
+Onward codes codes' A z s t = (j : ℕ) × (k : ℕ) × (z' : ℕ)
+    × A z' (steps codes j s) (steps codes' k t) × ((1 ≤ j) ⊎ (z' < z))
 
 -- states that are related again after at least n steps of the first side
 abbrev Reached : (ℕ → Code) → (ℕ → Code) → (ℕ → State → State → Type 0) → ℕ → State → State → Type 0
-Reached codes codes' A n s t = (j : ℕ) × (k : ℕ) × (z : ℕ) × (n ≤ j) × A z (steps codes j s) (steps codes' k t)
+Reached codes codes' A n s t = (j : ℕ) × (k : ℕ) × (z : ℕ) × (n ≤ j)
+    × A z (steps codes j s) (steps codes' k t)
 
 module _ (codes codes' : ℕ → Code) (A : ℕ → State → State → Type 0) (onward : (z : ℕ) (s t : State) → A z s t → Onward codes codes' A z s t) where
   -- after some steps of each, then as many more as are wanted
@@ -177,7 +185,8 @@ module _ (codes codes' : ℕ → Code) (A : ℕ → State → State → Type 0) 
   )
 
   -- one step more than n, at each measure below b
-  one_more : (n : ℕ) → ((z : ℕ) (s t : State) → A z s t → Reached codes codes' A n s t) → (b z : ℕ) (s t : State) → z < b → A z s t → Reached codes codes' A (suc n) s t
+  one_more : (n : ℕ) → ((z : ℕ) (s t : State) → A z s t → Reached codes codes' A n s t) → (b z : ℕ) (s t : State)
+      → z < b → A z s t → Reached codes codes' A (suc n) s t
   one_more n ih zero z s t lt a = absurd (omega (arith, lt))
   one_more n ih (suc b) z s t lt a =
       let o = onward z s t a in
@@ -209,7 +218,8 @@ module _ (R : StackRelation) (codes codes' : ℕ → Code) (meets : (z : ℕ) (f
     moves : (1 ≤ steps_on) ⊎ (measure < z)
     moves' : (1 ≤ steps_on') ⊎ (measure < z)
 
-  running_on : (z : ℕ) (from from' : Stack) (p q : List ℤ) (m n d e : ℕ) → R z from from' → p ≡ q → n ≤ m → e ≤ d → BothOnward z (state_with p (running_of from) m d) (state_with q (running_of from') n e)
+  running_on : (z : ℕ) (from from' : Stack) (p q : List ℤ) (m n d e : ℕ) → R z from from' → p ≡ q → n ≤ m → e ≤ d
+      → BothOnward z (state_with p (running_of from) m d) (state_with q (running_of from') n e)
   running_on z from from' p q m n d e r prints cheaper shallower =
       let a = meets z from from' r in
       record {
@@ -228,7 +238,8 @@ module _ (R : StackRelation) (codes codes' : ℕ → Code) (meets : (z : ℕ) (f
         moves' = a.moves';
       }
 
-  control_on : (z : ℕ) (c c' : Control) (p q : List ℤ) (m n d e : ℕ) → Abreast R z c c' → p ≡ q → n ≤ m → e ≤ d → BothOnward z (state_with p c m d) (state_with q c' n e)
+  control_on : (z : ℕ) (c c' : Control) (p q : List ℤ) (m n d e : ℕ) → Abreast R z c c' → p ≡ q → n ≤ m → e ≤ d
+      → BothOnward z (state_with p c m d) (state_with q c' n e)
   control_on z (Running u f ps) (Running v g qs) p q m n d e a prints cheaper shallower = running_on z (record { unit = u; frame = f; callers = ps }) (record { unit = v; frame = g; callers = qs }) p q m n d e a prints cheaper shallower
   control_on z (Ended r) (Ended r') p q m n d e a prints cheaper shallower = record {
     steps_on = 1;
@@ -257,11 +268,11 @@ module _ (R : StackRelation) (codes codes' : ℕ → Code) (meets : (z : ℕ) (f
   second_on : (z : ℕ) (t s : State) → AreAbreast z s t → Onward codes' codes (λ z' t' s'. AreAbreast z' s' t') z t s
   second_on z t s a = let o = both_on z s t a in (o.steps_on', o.steps_on, o.measure, o.abreast, o.moves')
 
-  -- where at least n steps of the first side are wanted
+  -- from two states that are abreast, after at least n steps of the first run: states that are abreast again
   by_first : (n z : ℕ) (s t : State) → AreAbreast z s t → Reached codes codes' AreAbreast n s t
   by_first = reached codes codes' AreAbreast first_on
 
-  -- where at least n steps of the second side are wanted
+  -- from two states that are abreast, after at least n steps of the second run: states that are abreast again
   by_second : (n z : ℕ) (s t : State) → AreAbreast z s t → Reached codes' codes (λ z' t' s'. AreAbreast z' s' t') n t s
   by_second n z s t a = reached codes' codes (λ z' t' s'. AreAbreast z' s' t') second_on n z t s a
 
@@ -298,7 +309,8 @@ over_as s t (Ended r) is matched = matched tt
 over_as s t (Stopped k) is matched = matched tt
 
 -- where the first has gone on to a state whose prints and end are those of the second
-matched_by : (codes : ℕ → Code) (n j : ℕ) (s t : State) → n ≤ j → (steps codes j s).printed ≡ t.printed → (IsFinished (steps codes j s).control → t.control ≡ (steps codes j s).control) → IsMatched (steps codes n s) t
+matched_by : (codes : ℕ → Code) (n j : ℕ) (s t : State) → n ≤ j → (steps codes j s).printed ≡ t.printed
+    → (IsFinished (steps codes j s).control → t.control ≡ (steps codes j s).control) → IsMatched (steps codes n s) t
 matched_by codes n j s t le prints over =
     let sum : n + (j - n) ≡ j = omega (arith, le) in
     let on : steps codes (j - n) (steps codes n s) ≡ steps codes j s = sym (steps_add codes n (j - n) s) ∙ ap (λ k. steps codes k s) sum in
@@ -347,10 +359,12 @@ module _ (first second : Machines) (R : StackRelation) (simulate : StacksSimulat
   theirs inputs are = record { long = are.long ∙ sym simulate.receives; numbers = are.numbers }
 
   -- at least n steps of the first run, or of the second
-  far : (inputs : List ℤ) → AreInputs first inputs → (n : ℕ) → Reached (codes_in first) (codes_in second) Alike n (first_of first inputs) (first_of second inputs)
+  far : (inputs : List ℤ) → AreInputs first inputs → (n : ℕ)
+      → Reached (codes_in first) (codes_in second) Alike n (first_of first inputs) (first_of second inputs)
   far inputs are n = let a = start inputs are in by_first R (codes_in first) (codes_in second) simulate.meets n a.0 (first_of first inputs) (first_of second inputs) a.1
 
-  far' : (inputs : List ℤ) → AreInputs first inputs → (n : ℕ) → Reached (codes_in second) (codes_in first) (λ z t s. Alike z s t) n (first_of second inputs) (first_of first inputs)
+  far' : (inputs : List ℤ) → AreInputs first inputs → (n : ℕ)
+      → Reached (codes_in second) (codes_in first) (λ z t s. Alike z s t) n (first_of second inputs) (first_of first inputs)
   far' inputs are n = let a = start inputs are in by_second R (codes_in first) (codes_in second) simulate.meets n a.0 (first_of first inputs) (first_of second inputs) a.1
 
   forth : MachinesFollow first second

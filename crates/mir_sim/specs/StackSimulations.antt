@@ -31,7 +31,9 @@ state_with printed control counted depth = record { printed = printed; control =
 -- So many steps lead from the one control to the other, whatever was printed and counted before and however deep the
 -- run was: they print these values, count so many evaluations, and their calls make at most so many frames
 abbrev pub StepsLead : (ℕ → Code) → ℕ → Control → Control → List ℤ → ℕ → ℕ → Type 0
-StepsLead codes k from to prints counted frames = (printed : List ℤ) (before depth : ℕ) → steps codes k (state_with printed from before depth) ≡ state_with (printed ++ prints) to (before + counted) (max depth frames)
+StepsLead codes k from to prints counted frames = (printed : List ℤ) (before depth : ℕ)
+    → steps codes k (state_with printed from before depth)
+    ≡ state_with (printed ++ prints) to (before + counted) (max depth frames)
 
 -- ---- the rule
 
@@ -49,7 +51,8 @@ Abreast R z _ _ = ⊥
 -- Some steps of the first side and some of the second lead to where the two are abreast again. They print the same, and
 -- those of the second count no more evaluations and make no more frames. A side takes at least one step, or the measure
 -- falls, so that neither can take none for ever
-pub record MeetsAgain (R : StackRelation) (codes codes' : ℕ → Code) (z : ℕ) (from from' : Stack) : Type 0 where
+pub record MeetsAgain (R : StackRelation) (codes codes' : ℕ → Code) (z : ℕ)
+    (from from' : Stack) : Type 0 where
   pub steps : ℕ
   pub steps' : ℕ
   pub to : Control
@@ -73,5 +76,7 @@ pub record MeetsAgain (R : StackRelation) (codes codes' : ℕ → Code) (z : ℕ
 pub record StacksSimulate (first second : Machines) (R : StackRelation) : Type 0 where
   pub receives : (first 0).receives ≡ (second 0).receives
   pub shared : (first 0).shared ≡ (second 0).shared
-  pub starts : (entry : CallEntry) → IsEntry (first 0) entry → (measure : ℕ) × R measure (first_stack entry) (first_stack entry)
-  pub meets : (z : ℕ) (from from' : Stack) → R z from from' → MeetsAgain R (codes_in first) (codes_in second) z from from'
+  pub starts : (entry : CallEntry) → IsEntry (first 0) entry
+      → (measure : ℕ) × R measure (first_stack entry) (first_stack entry)
+  pub meets : (z : ℕ) (from from' : Stack) → R z from from'
+      → MeetsAgain R (codes_in first) (codes_in second) z from from'

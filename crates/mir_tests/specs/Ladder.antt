@@ -6,16 +6,16 @@ use Rattle.std.proofs.lemmas.Bool.{cases_lt, lt-ltb, le-ltb}
 use Rattle.fix_solve.specs.Order.{OrderLaws}
 use Rattle.fix_solve.specs.Net.{Net, NetLaws}
 
--- levels of one size, of which there are 256
+-- numbers in one block of 256, the first at most the second: the order of the levels of this test
 pub record Under (x y : ℕ) : Type 0 where
   pub le : x ≤ y
   pub same : x / 256 ≡ y / 256
 
--- which 256 levels it is among
+-- the block that a number stands in
 abbrev pub level_size : ℕ → ℕ
 level_size x = x / 256
 
--- the level among these
+-- the level of a number: its place in its block
 abbrev pub level : ℕ → ℕ
 level x = x % 256
 
@@ -71,7 +71,8 @@ module _ (joins : ℕ) (few : joins < 256) where
     | inr high ↦ rw (le-ltb n joins high) (omega arith)
   ]
 
-  within : (n e : ℕ) → n < 2 * joins + 1 → (if nat_lt joins n then n - 1 else n) ≤ e → e < (if nat_lt n joins then n + 1 else n) → (if nat_lt e joins then e else e + 1) ≡ n
+  within : (n e : ℕ) → n < 2 * joins + 1 → (if nat_lt joins n then n - 1 else n) ≤ e
+      → e < (if nat_lt n joins then n + 1 else n) → (if nat_lt e joins then e else e + 1) ≡ n
   within n e h late early = elim (cases_lt n joins) as (λ _. (if nat_lt e joins then e else e + 1) ≡ n) [
     | inl low ↦
         let late' : n ≤ e = rw (le-ltb joins n (omega arith)) at late in
@@ -89,13 +90,15 @@ module _ (joins : ℕ) (few : joins < 256) where
     ]
   ]
 
-  from_start : (e : ℕ) → e < 2 * joins → (if nat_lt joins (if nat_lt e joins then e else e + 1) then (if nat_lt e joins then e else e + 1) - 1 else (if nat_lt e joins then e else e + 1)) ≤ e
+  from_start : (e : ℕ) → e < 2 * joins
+      → (if nat_lt joins (if nat_lt e joins then e else e + 1) then (if nat_lt e joins then e else e + 1) - 1 else (if nat_lt e joins then e else e + 1)) ≤ e
   from_start e h = elim (cases_lt e joins) as (λ _. (if nat_lt joins (if nat_lt e joins then e else e + 1) then (if nat_lt e joins then e else e + 1) - 1 else (if nat_lt e joins then e else e + 1)) ≤ e) [
     | inl low ↦ rw (lt-ltb e joins low, le-ltb joins e (omega arith)) (omega arith)
     | inr high ↦ rw (le-ltb e joins high, lt-ltb joins (e + 1) (omega arith)) (omega arith)
   ]
 
-  to_stop : (e : ℕ) → e < 2 * joins → e < (if nat_lt (if nat_lt e joins then e else e + 1) joins then (if nat_lt e joins then e else e + 1) + 1 else (if nat_lt e joins then e else e + 1))
+  to_stop : (e : ℕ) → e < 2 * joins
+      → e < (if nat_lt (if nat_lt e joins then e else e + 1) joins then (if nat_lt e joins then e else e + 1) + 1 else (if nat_lt e joins then e else e + 1))
   to_stop e h = elim (cases_lt e joins) as (λ _. e < (if nat_lt (if nat_lt e joins then e else e + 1) joins then (if nat_lt e joins then e else e + 1) + 1 else (if nat_lt e joins then e else e + 1))) [
     | inl low ↦ rw (lt-ltb e joins low, lt-ltb e joins low) (omega arith)
     | inr high ↦ rw (le-ltb e joins high, le-ltb (e + 1) joins (omega arith)) (omega arith)

@@ -71,11 +71,11 @@ pub record HasImproved
   pub improves : Improved
   pub written : GaveProgram call.out target
 
--- this with source and target of the trail of all passes
+-- the same of source and target of the trail of all passes
 abbrev pub HasOptimised : Call → Trail → Type 0
 HasOptimised call trail = HasImproved call (Optimises trail) trail.source trail.target
 
--- this with the texts of all stages of the trail in place of that of its target
+-- the source was read, the trail of all passes improves it, and the texts of all stages of this trail were written
 pub record HasShown (call : Call) (trail : Trail) : Type 0 where
   pub text : List ℕ
   pub read : HasRead call.source trail.source
@@ -83,11 +83,12 @@ pub record HasShown (call : Call) (trail : Trail) : Type 0 where
   pub shows : ShowsStages trail text
   pub written : Gave call.out text
 
--- and with source and target of the trail of code motion alone
+-- the source was read, the target of the trail of code motion alone improves it, and its text was written
 abbrev pub HasMoved : Call → MoveTrail → Type 0
 HasMoved call trail = HasImproved call (MovesCode trail) trail.source trail.target
 
--- this with where the temporaries are held in place of the text of the target
+-- the source was read, the trail of code motion alone improves it, and the text that says where its temporaries are
+-- held was written
 pub record HasRanged (call : Call) (trail : MoveTrail) : Type 0 where
   pub text : List ℕ
   pub read : HasRead call.source trail.source
@@ -95,7 +96,7 @@ pub record HasRanged (call : Call) (trail : MoveTrail) : Type 0 where
   pub shows : ShowsRanges trail.units text
   pub written : Gave call.out text
 
--- and with source and target of the trail of the motion of divisions alone
+-- the source was read, the target of the trail of the motion of divisions alone improves it, and its text was written
 abbrev pub HasDivided : Call → MoveTrail → Type 0
 HasDivided call trail = HasImproved call (Divides trail) trail.source trail.target
 
@@ -206,7 +207,8 @@ pub record Promises (call : Call) : Type 0 where
   pub usage : command_of call.words ≡ None → StatusIs call 1
   -- Status 6 and 7 come only where a device failed: the count of its faults rose, or is saturated. With 7 a proper
   -- prefix of the one output that the words ask was written. Status 8 comes under a command alone.
-  pub read_fault : StatusIs call 6 → Reads call.words × HasFailed call.source × LineIsWritten call read_fault
+  pub read_fault : StatusIs call 6
+      → Reads call.words × HasFailed call.source × LineIsWritten call read_fault
   pub write_fault : StatusIs call 7 → HasCutShort call × LineIsWritten call write_fault
   pub memory : StatusIs call 8 → Asks call.words × LineIsWritten call out_of_memory
   -- Nothing is written to `out` with 1, 2, 5, 6 and 8, and nothing to `err` with 0, 3 and 4.

@@ -77,8 +77,10 @@ ShowsRanges (unit ∷ units) text =
 
 -- the vector ends as it was with the text of a unit behind
 abbrev pub AppendsRange : {A : Type 0} → MoveUnit → Vec ℕ A → Vec ℕ A → Type 0
-AppendsRange unit old new = (piece : List ℕ) × IsRangeText unit piece × (new.items ≡ old.items ++ piece)
+AppendsRange unit old new = (piece : List ℕ) × IsRangeText unit piece
+    × (new.items ≡ old.items ++ piece)
 
 -- and with those of these units in turn
 abbrev pub AppendsRanges : {A : Type 0} → List MoveUnit → Vec ℕ A → Vec ℕ A → Type 0
-AppendsRanges units old new = (piece : List ℕ) × ShowsRanges units piece × (new.items ≡ old.items ++ piece)
+AppendsRanges units old new = (piece : List ℕ) × ShowsRanges units piece
+    × (new.items ≡ old.items ++ piece)

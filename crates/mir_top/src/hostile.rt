@@ -59,7 +59,7 @@ enum Left {
     Bad(&'static [u8]),
     /// Status 2, nothing on the output, and some line on the error output.
     Refused,
-    /// Status 7 with its line, and of this output one byte less than the number of the call that fails.
+    /// Status 7 with its line. Each write takes one byte, so where call k fails, k - 1 bytes of this output stand.
     Part(&'static [u8]),
     /// This status, this output, and these bytes on the error output.
     All(u8, &'static [u8], &'static [u8]),

@@ -20,7 +20,7 @@ pub enum Outcome {
     Ranged(MoveTrail),
     /// What the motion of divisions alone made of it.
     Divided(MoveTrail),
-    /// The program that a command made of it that writes this alone.
+    /// A program that was made of it, by a command that hands on no trail: its text alone was written.
     Rewritten,
     /// The report of its run, which stands like this.
     Ran(Finish),

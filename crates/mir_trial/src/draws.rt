@@ -5,7 +5,7 @@ ghost use Rattle.mir_trial.specs.Draws.{drawn, next};
 /// The state that the numbers are drawn from.
 #[derive(Drop)]
 pub struct Draws {
-    /// The state.
+    /// The number that the last draw left here; before the first draw, the number of the trial.
     pub state: u64,
 }
 

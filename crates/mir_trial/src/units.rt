@@ -40,7 +40,8 @@ pub fn trial_program(alloc: Global, number: u64, count: usize) -> Result<Program
     })
 }
 
-/// Unit number `number`.
+/// Unit number `number` of the trial program, whose parts are drawn from this state on. Unless it is the last, it calls
+/// the next unit. It fails only with `Memory`.
 fn unit(
     alloc: Global,
     draws: &mut Draws,

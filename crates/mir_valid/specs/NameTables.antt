@@ -17,7 +17,7 @@ number_or_zero entries x = unwrap_or (number_in entries x) 0
 abbrev pub with_entry : List NameEntry → NameEntry → List NameEntry
 with_entry table entry = if is_some (number_in table entry.0) then table else table ++ entry ∷ []
 
--- the table of these entries, the first for each name
+-- the table of these entries: of those with one name the first alone
 abbrev pub table_of : List NameEntry → List NameEntry
 table_of entries = fold with_entry [] entries
 

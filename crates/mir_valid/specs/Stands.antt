@@ -54,12 +54,14 @@ OperandStands vars raw a = ⊥
 abbrev pub RhsStands : List (List ℕ) → RawRhs → Rhs → Type 0
 RhsStands vars (RawPlain a) (Plain b) = OperandStands vars a b
 RhsStands vars (RawUnary raw_op a) (Unary op b) = (op ≡ raw_op) × OperandStands vars a b
-RhsStands vars (RawBinary raw_op a b) (Binary op c d) = (op ≡ raw_op) × OperandStands vars a c × OperandStands vars b d
+RhsStands vars (RawBinary raw_op a b) (Binary op c d) = (op ≡ raw_op) × OperandStands vars a c
+    × OperandStands vars b d
 RhsStands vars raw rhs = ⊥
 
 -- a test stands for the same relation of what its operands stand for
 abbrev pub TestStands : List (List ℕ) → RawTest → Test → Type 0
-TestStands vars (RawRel raw_op a b) (Rel op c d) = (op ≡ raw_op) × OperandStands vars a c × OperandStands vars b d
+TestStands vars (RawRel raw_op a b) (Rel op c d) = (op ≡ raw_op) × OperandStands vars a c
+    × OperandStands vars b d
 TestStands vars (RawHolds a) (Holds b) = OperandStands vars a b
 TestStands vars (RawFails a) (Fails b) = OperandStands vars a b
 TestStands vars raw test = ⊥
@@ -83,7 +85,8 @@ FormStands naming (RawAssign x raw_rhs) (Assign number rhs) = IsNumber naming.va
 FormStands naming (RawGoto l) (Goto place) = IsPlace naming.labels l place
 FormStands naming (RawIf raw_test l) (If test place) = TestStands naming.vars raw_test test
     × IsPlace naming.labels l place
-FormStands naming (RawTrapIf raw_test z) (TrapIf test n) = TestStands naming.vars raw_test test × (z ≡ pos n)
+FormStands naming (RawTrapIf raw_test z) (TrapIf test n) = TestStands naming.vars raw_test test
+    × (z ≡ pos n)
 FormStands naming (RawCall raw_into f raw_operands) (Call into unit operands) =
     IntoStands naming.vars raw_into into × IsNumber naming.units f unit
     × EachStands (OperandStands naming.vars) raw_operands operands
@@ -93,7 +96,8 @@ FormStands naming form inst = ⊥
 
 -- a unit, among globals and units of these names: the globals are its first variables, and the others are numbered in
 -- the order of their first occurrence
-pub record UnitStands (globals units : List (List ℕ)) (raw : RawUnitShape) (unit : UnitShape) : Type 0 where
+pub record UnitStands (globals units : List (List ℕ)) (raw : RawUnitShape)
+    (unit : UnitShape) : Type 0 where
   pub name : unit.name ≡ raw.name
   pub shared : unit.shared ≡ length globals
   pub vars : FirstNames (globals ++ body_names raw.body) unit.vars
@@ -116,4 +120,5 @@ StandsForNoOther raw program = (other : ProgramShape) → StandsFor raw other �
 
 -- a raw program stands for one program at most
 abbrev pub StandsForAtMostOne : Raw → Type 0
-StandsForAtMostOne raw = (one other : ProgramShape) → StandsFor raw one → StandsFor raw other → one ≡ other
+StandsForAtMostOne raw = (one other : ProgramShape) → StandsFor raw one → StandsFor raw other
+    → one ≡ other

@@ -31,11 +31,13 @@ CanChange graph n change = (change ≡ Unchanged) ⊎ IsTrue (is_assignment (sli
 
 -- each node stays, or is an assignment
 abbrev pub CanChangeEach : GraphShape → List ℕ → List (List Bool) → Type 0
-CanChangeEach graph temps rows = (n : ℕ) → n < length rows → CanChange graph n (change_by temps (row_of rows n))
+CanChangeEach graph temps rows = (n : ℕ) → n < length rows
+    → CanChange graph n (change_by temps (row_of rows n))
 
 -- the temporaries that are read are below this number
 abbrev pub ChangesBelow : ℕ → List ℕ → List (List Bool) → Type 0
-ChangesBelow vars temps rows = (n : ℕ) → n < length rows → ChangeBelow vars (change_by temps (row_of rows n))
+ChangesBelow vars temps rows = (n : ℕ) → n < length rows
+    → ChangeBelow vars (change_by temps (row_of rows n))
 
 -- the graph with each node changed by its row
 abbrev pub graph_read : List ℕ → List (List Bool) → GraphShape → GraphShape
@@ -43,7 +45,8 @@ graph_read temps rows graph = graph_change_each (λ n. change_by temps (row_of r
 
 -- the variables of what is put are below this number
 abbrev pub PutsBelow : ℕ → List ℕ → List Expr → List (List Bool) → Type 0
-PutsBelow vars temps table rows = (n : ℕ) → n < length rows → InsertionsBelow vars (puts_by temps table (row_of rows n))
+PutsBelow vars temps table rows = (n : ℕ) → n < length rows
+    → InsertionsBelow vars (puts_by temps table (row_of rows n))
 
 -- the graph with the assignments of each row before its node
 abbrev pub graph_evaluating : List ℕ → List Expr → List (List Bool) → GraphShape → GraphShape

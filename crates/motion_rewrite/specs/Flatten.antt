@@ -62,11 +62,13 @@ abbrev pub flattened : (ℕ → ℕ) → List Expr → Placement → List Node �
 flattened temp table p nodes = rewritten_nodes (by_placement temp table p) nodes
 
 -- the graph with the temporaries, in which old nodes keep their numbers
-pub record IsFlattened (graph : GraphShape) (table : List Expr) (p : Placement) (result : GraphShape) : Type 0 where
+pub record IsFlattened (graph : GraphShape) (table : List Expr) (p : Placement)
+    (result : GraphShape) : Type 0 where
   pub names : List (List ℕ)
   pub are_names : AreTemporaryNames graph.vars (temporaries_before p.insert (length table)) names
   pub name_is : result.name ≡ graph.name
   pub shared_is : result.shared ≡ graph.shared
   pub vars_are : result.vars ≡ graph.vars ++ names
   pub received_are : result.received ≡ graph.received
-  pub nodes_are : result.nodes ≡ flattened (temporary (length graph.vars) p.insert) table p graph.nodes
+  pub nodes_are : result.nodes
+      ≡ flattened (temporary (length graph.vars) p.insert) table p graph.nodes

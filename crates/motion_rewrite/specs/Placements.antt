@@ -44,8 +44,10 @@ pub record DownLaws (graph : GraphShape) (e : Expr) (Down : ℕ → Type 0) : Ty
   -- a node that uses e is down
   pub used : (n : ℕ) → n < length graph.nodes → uses graph e n ≡ true → Down n
   -- a node that is down and does not use e does not kill e, has a successor, and all its successors are down
-  pub keeps : (n : ℕ) → n < length graph.nodes → Down n → uses graph e n ≡ false → kills graph e n ≡ false
-  pub continues : (n : ℕ) → n < length graph.nodes → Down n → uses graph e n ≡ false → succs_at graph.nodes n ≢ []
+  pub keeps : (n : ℕ) → n < length graph.nodes → Down n → uses graph e n ≡ false
+      → kills graph e n ≡ false
+  pub continues : (n : ℕ) → n < length graph.nodes → Down n → uses graph e n ≡ false
+      → succs_at graph.nodes n ≢ []
   pub onward : (n s : ℕ) → Down n → uses graph e n ≡ false → HasEdge graph.nodes n s → Down s
   -- a Skip whose successor is down is down
   pub skips : (n s : ℕ) → slice_get graph.nodes n ≡ Some (Skip s) → Down s → Down n
@@ -68,11 +70,13 @@ places_of p i = record { inserts = has_bit p.insert i; replaces = has_bit p.repl
 -- every path from Start to a replaced node has an insertion, at that node or before it, from which on no node before
 -- the replaced one kills e
 abbrev pub ReplacedAreAvailable : GraphShape → Expr → Places → Type 0
-ReplacedAreAvailable graph e p = (n : ℕ) (before : List ℕ) → p.replaces n ≡ true → Trace graph.nodes n before
+ReplacedAreAvailable graph e p = (n : ℕ) (before : List ℕ) → p.replaces n ≡ true
+    → Trace graph.nodes n before
     → (p.inserts n ≡ true) ⊎ IsAvailableAfter graph e (λ m. p.inserts m ≡ true) before
 
 -- each replaced node uses e, which is available there from the insertions, and each insertion stands at a safe node
-pub record IsAdmissible (graph : GraphShape) (e : Expr) (Down : ℕ → Type 0) (p : Places) : Type 0 where
+pub record IsAdmissible (graph : GraphShape) (e : Expr) (Down : ℕ → Type 0)
+    (p : Places) : Type 0 where
   pub replaced_uses : (n : ℕ) → n < length graph.nodes → p.replaces n ≡ true → uses graph e n ≡ true
   pub safe : (n : ℕ) → n < length graph.nodes → p.inserts n ≡ true → IsSafe graph e Down n
   pub available : ReplacedAreAvailable graph e p
@@ -99,7 +103,8 @@ evaluations_at graph e p n = one_if (p.inserts n) + one_if (uses graph e n && no
 -- admissible, and on no full path is e evaluated more often than by any other admissible placement
 pub record IsOptimal (graph : GraphShape) (e : Expr) (Down : ℕ → Type 0) (p : Places) : Type 0 where
   pub admissible : IsAdmissible graph e Down p
-  pub least : (other : Places) → IsAdmissible graph e Down other → (path : List ℕ) → IsFullPath graph.nodes path
+  pub least : (other : Places) → IsAdmissible graph e Down other → (path : List ℕ)
+      → IsFullPath graph.nodes path
       → count graph e p path ≤ count graph e other path
 
 -- ---- placements of a table
@@ -128,7 +133,8 @@ pub record IsFlattenable (graph : GraphShape) (table : List Expr) (p : Placement
 -- where the evaluation of e traps, a run of the graph that goes on from node n with the same values traps alike, after
 -- steps that show nothing
 abbrev pub TrapsFrom : GraphShape → Expr → ℕ → Type 0
-TrapsFrom graph e n = (arguments : List ℤ) (values : Values) → rhs_traps values (rhs_of e) ≡ true → (steps : ℕ)
+TrapsFrom graph e n = (arguments : List ℤ) (values : Values) → rhs_traps values (rhs_of e) ≡ true
+    → (steps : ℕ)
     × TrapsAfter (graph_code graph.shared graph.received graph.nodes) steps
     (record { place = n; arguments = arguments; values = values })
 
@@ -140,5 +146,6 @@ InsertionsTrapAlike graph table p =
 
 -- the placement evaluates no expression of the table more often than the nodes as they are
 pub record IsNoDearer (graph : GraphShape) (table : List Expr) (p : Placement) : Type 0 where
-  pub no_dearer : (i : ℕ) (e : Expr) → slice_get table i ≡ Some e → (path : List ℕ) → IsFullPath graph.nodes path
+  pub no_dearer : (i : ℕ) (e : Expr) → slice_get table i ≡ Some e → (path : List ℕ)
+      → IsFullPath graph.nodes path
       → count graph e (places_of p i) path ≤ count_by (uses graph e) path

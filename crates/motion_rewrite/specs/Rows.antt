@@ -17,4 +17,5 @@ AreRowsWhere graph table Holds rows = AreKeyRowsWhere (length graph.nodes) table
 
 -- of each variable below this number, the rows say which expressions of the table have it as an operand
 abbrev pub AreOperandBits : ℕ → List Expr → List (List Bool) → Type 0
-AreOperandBits vars table rows = (x i : ℕ) (e : Expr) → x < vars → slice_get table i ≡ Some e → has_bit rows i x ≡ is_in x (expr_vars e)
+AreOperandBits vars table rows = (x i : ℕ) (e : Expr) → x < vars → slice_get table i ≡ Some e
+    → has_bit rows i x ≡ is_in x (expr_vars e)

@@ -19,7 +19,8 @@ temporary vars rows i = vars + temporaries_before rows i
 
 -- the numbers are those of the temporaries of so many expressions
 abbrev pub AreTemporaries : ℕ → ℕ → List (List Bool) → List ℕ → Type 0
-AreTemporaries vars exprs rows numbers = (i : ℕ) → i < exprs → slice_get numbers i ≡ Some (temporary vars rows i)
+AreTemporaries vars exprs rows numbers = (i : ℕ) → i < exprs
+    → slice_get numbers i ≡ Some (temporary vars rows i)
 
 -- the row has the bits of the expressions that have an insertion
 abbrev pub IsInsertionRow : List (List Bool) → List Bool → Type 0

@@ -21,12 +21,12 @@ abbrev pub times_in : ℕ → List ℕ → ℕ
 times_in node [] = 0
 times_in node (x ∷ xs) = (if nat_eq x node then 1 else 0) + times_in node xs
 
--- at how many places of all lists it stands
+-- at how many places of all lists a node stands
 abbrev pub times : List (List ℕ) → ℕ → ℕ
 times [] node = 0
 times (xs ∷ lists) node = times_in node xs + times lists node
 
--- whether it stands in one of them
+-- whether a node stands in one of the lists
 abbrev pub is_listed : List (List ℕ) → ℕ → Bool
 is_listed lists node = nat_lt 0 (times lists node)
 

@@ -33,7 +33,8 @@ pub record AreRings (nodes : ℕ) (lists : List (List ℕ)) (next prev : ℕ →
   pub prev_in : (k : ℕ) → k < nodes + length lists → prev k < nodes + length lists
   pub back : (k : ℕ) → k < nodes + length lists → next (prev k) ≡ k
   pub forth : (k : ℕ) → k < nodes + length lists → prev (next k) ≡ k
-  pub rings : (list : ℕ) → list < length lists → Along next prev (nodes + list) (list_at lists list ++ (nodes + list) ∷ [])
+  pub rings : (list : ℕ) → list < length lists
+      → Along next prev (nodes + list) (list_at lists list ++ (nodes + list) ∷ [])
   pub within : (n : ℕ) → 0 < times lists n → n < nodes
   pub once : (n : ℕ) → times lists n ≤ 1
   pub loose : (n : ℕ) → n < nodes → times lists n ≡ 0 → next n ≡ n

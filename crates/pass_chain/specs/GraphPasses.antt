@@ -17,7 +17,7 @@ pub record IsMadeOf (Exact : GraphShape → GraphShape → Type 0) (graph : Grap
   pub keeps : GraphKeeps graph passed
   pub laid : CleanedLaid passed unit
 
--- so a pass on graphs is one for the units of all numbers
+-- the relation on the units of a program that a relation on graphs gives: the same for the unit of each number
 abbrev pub OnlyResults : (GraphShape → GraphShape → Type 0) → PassRelation
 OnlyResults Exact number = IsOnlyResult Exact
 

@@ -21,13 +21,17 @@ use Rattle.program_pass.specs.Chains.{stood}
 -- the assignments stand one after the other from this number on, and the last leads to node `end`
 abbrev pub ChainStands : List Node → ℕ → List Insertion → ℕ → Type 0
 ChainStands nodes fresh [] end = Unit {0}
-ChainStands nodes fresh (put ∷ puts) end = (slice_get nodes fresh ≡ Some (Assign put.var put.rhs (entry_among end (suc fresh) puts))) × ChainStands nodes (suc fresh) puts end
+ChainStands nodes fresh (put ∷ puts) end =
+    (slice_get nodes fresh ≡ Some (Assign put.var put.rhs (entry_among end (suc fresh) puts)))
+    × ChainStands nodes (suc fresh) puts end
 
 -- The assignments stand one after the other, the first at node n and the others from number `fresh` on, and the last
 -- leads to node `end`. Where there are none, node n is a Skip to `end`
 abbrev pub StandsAt : List Node → ℕ → ℕ → List Insertion → ℕ → Type 0
 StandsAt nodes n fresh [] end = slice_get nodes n ≡ Some (Skip end)
-StandsAt nodes n fresh (put ∷ puts) end = (slice_get nodes n ≡ Some (Assign put.var put.rhs (entry_among end fresh puts))) × ChainStands nodes fresh puts end
+StandsAt nodes n fresh (put ∷ puts) end =
+    (slice_get nodes n ≡ Some (Assign put.var put.rhs (entry_among end fresh puts)))
+    × ChainStands nodes fresh puts end
 
 -- each sets its variable to an operand
 abbrev pub ArePlain : List Insertion → Type 0
@@ -45,7 +49,8 @@ values_append [] others values = refl
 values_append (put ∷ puts) others values = values_append puts others (with_value put.var (rhs_value values put.rhs) values)
 
 -- what is so of a list, and with an assignment before it, is so where a test says whether there is one
-pub put_or_not : (P : List Insertion → Type 0) (b : Bool) (put : Insertion) (puts : List Insertion) → (b ≡ true → P puts) → (b ≡ false → P (put ∷ puts)) → P (if b then puts else put ∷ puts)
+pub put_or_not : (P : List Insertion → Type 0) (b : Bool) (put : Insertion) (puts : List Insertion)
+    → (b ≡ true → P puts) → (b ≡ false → P (put ∷ puts)) → P (if b then puts else put ∷ puts)
 put_or_not P true put puts without with = without refl
 put_or_not P false put puts without with = with refl
 
@@ -59,7 +64,9 @@ module _ (shared : ℕ) (received : List ℕ) (nodes : List Node) where
   one_silent f g is = (g, 0, 0, is, (refl, refl), refl)
 
   -- a plain assignment
-  plain_step : (f : Frame) (x : ℕ) (rhs : Rhs) (next : ℕ) → slice_get nodes f.place ≡ Some (Assign x rhs next) → (a : Operand) × (rhs ≡ Plain a) → graph_code shared received nodes f ≡ Continues 0 (gone_on next (with_value x (rhs_value f.values rhs) f.values) f)
+  plain_step : (f : Frame) (x : ℕ) (rhs : Rhs) (next : ℕ) → slice_get nodes f.place ≡ Some (Assign x rhs next)
+      → (a : Operand) × (rhs ≡ Plain a)
+      → graph_code shared received nodes f ≡ Continues 0 (gone_on next (with_value x (rhs_value f.values rhs) f.values) f)
   plain_step f x rhs next here p =
       ap (λ o. node_transition shared received o f) here ∙ ap (λ r. assign_transition x r next f) p.1
       ∙ ap (λ r. Continues 0 (gone_on next (with_value x (rhs_value f.values r) f.values) f)) (sym p.1)
@@ -72,7 +79,9 @@ module _ (shared : ℕ) (received : List ℕ) (nodes : List Node) where
       (at s.0 f, 0, 0, is, skips_silently k s.0 m (at s.0 f) refl s.2, refl)
 
   -- from a new node on
-  chain_silently : (fresh : ℕ) (puts : List Insertion) (end : ℕ) → ChainStands nodes fresh puts end → ArePlain puts → (f : Frame) → f.place ≡ entry_among end fresh puts → (k : ℕ) × Silently (graph_code shared received nodes) k f (gone_on end (values_after puts f.values) f) 0
+  chain_silently : (fresh : ℕ) (puts : List Insertion) (end : ℕ) → ChainStands nodes fresh puts end → ArePlain puts
+      → (f : Frame) → f.place ≡ entry_among end fresh puts
+      → (k : ℕ) × Silently (graph_code shared received nodes) k f (gone_on end (values_after puts f.values) f) 0
   chain_silently fresh [] end stands plain f here = (0, (ap (λ p. gone_on p f.values f) here, refl))
   chain_silently fresh (put ∷ puts) end stands plain f here =
       let next : ℕ = entry_among end (suc fresh) puts in
@@ -81,7 +90,9 @@ module _ (shared : ℕ) (received : List ℕ) (nodes : List Node) where
       (suc rest.0, (there, 0, 0, plain_step f put.var put.rhs next (ap (slice_get nodes) here ∙ stands.0) plain.0, rest.1, refl))
 
   -- plain assignments lead silently to the end, with the values after them
-  pub stands_silently : (n fresh : ℕ) (puts : List Insertion) (end : ℕ) → StandsAt nodes n fresh puts end → ArePlain puts → (f : Frame) → f.place ≡ n → (k : ℕ) × (1 ≤ k) × Silently (graph_code shared received nodes) k f (gone_on end (values_after puts f.values) f) 0
+  pub stands_silently : (n fresh : ℕ) (puts : List Insertion) (end : ℕ) → StandsAt nodes n fresh puts end
+      → ArePlain puts → (f : Frame) → f.place ≡ n
+      → (k : ℕ) × (1 ≤ k) × Silently (graph_code shared received nodes) k f (gone_on end (values_after puts f.values) f) 0
   stands_silently n fresh [] end stands plain f here =
       (1, omega arith, one_silent f (gone_on end f.values f) (ap (λ o. node_transition shared received o f) (ap (slice_get nodes) here ∙ stands)))
   stands_silently n fresh (put ∷ puts) end stands plain f here =
@@ -93,7 +104,8 @@ module _ (shared : ℕ) (received : List ℕ) (nodes : List Node) where
 -- ---- assignments in the place of a node
 
 -- the nodes stay where they were but for node n
-pub stood_kept : (nodes : List Node) (n : ℕ) (puts : List Insertion) (end m : ℕ) → (m ≡ n → ⊥) → m < length nodes → slice_get (stood nodes n puts end) m ≡ slice_get nodes m
+pub stood_kept : (nodes : List Node) (n : ℕ) (puts : List Insertion) (end m : ℕ) → (m ≡ n → ⊥) → m < length nodes
+    → slice_get (stood nodes n puts end) m ≡ slice_get nodes m
 stood_kept nodes n [] end m apart lt = set_elsewhere nodes n m (Skip end) apart
 stood_kept nodes n (put ∷ puts) end m apart lt =
     let node : Node = Assign put.var put.rhs (entry_among end (length nodes) puts) in
@@ -107,7 +119,9 @@ stood_long nodes n (put ∷ puts) end =
     omega (arith, length-set nodes n node, length-append (slice_set nodes n node) (chain end (length nodes) puts))
 
 -- a chain stands where its nodes do
-chain_stands : (nodes : List Node) (fresh : ℕ) (puts : List Insertion) (end : ℕ) → ((i : ℕ) → i < length puts → slice_get nodes (fresh + i) ≡ slice_get (chain end fresh puts) i) → ChainStands nodes fresh puts end
+chain_stands : (nodes : List Node) (fresh : ℕ) (puts : List Insertion) (end : ℕ)
+    → ((i : ℕ) → i < length puts → slice_get nodes (fresh + i) ≡ slice_get (chain end fresh puts) i)
+    → ChainStands nodes fresh puts end
 chain_stands nodes fresh [] end are = tt
 chain_stands nodes fresh (put ∷ puts) end are =
     let here : fresh + 0 ≡ fresh = omega arith in (
@@ -116,7 +130,8 @@ chain_stands nodes fresh (put ∷ puts) end are =
     )
 
 -- the assignments stand in the place of the node
-pub stood_stands : (nodes : List Node) (n : ℕ) (puts : List Insertion) (end : ℕ) → n < length nodes → StandsAt (stood nodes n puts end) n (length nodes) puts end
+pub stood_stands : (nodes : List Node) (n : ℕ) (puts : List Insertion) (end : ℕ) → n < length nodes
+    → StandsAt (stood nodes n puts end) n (length nodes) puts end
 stood_stands nodes n [] end lt = set_here nodes n (Skip end) lt
 stood_stands nodes n (put ∷ puts) end lt =
     let node : Node = Assign put.var put.rhs (entry_among end (length nodes) puts) in
@@ -132,7 +147,9 @@ chain_long end fresh [] = refl
 chain_long end fresh (put ∷ puts) = ap suc (chain_long end (suc fresh) puts)
 
 -- a chain that stands is among the nodes, so it stands in other nodes that have the same in its places
-chain_moves : (nodes others : List Node) (fresh : ℕ) (puts : List Insertion) (end : ℕ) → ((m : ℕ) → fresh ≤ m → m < length nodes → slice_get others m ≡ slice_get nodes m) → ChainStands nodes fresh puts end → ChainStands others fresh puts end
+chain_moves : (nodes others : List Node) (fresh : ℕ) (puts : List Insertion) (end : ℕ)
+    → ((m : ℕ) → fresh ≤ m → m < length nodes → slice_get others m ≡ slice_get nodes m)
+    → ChainStands nodes fresh puts end → ChainStands others fresh puts end
 chain_moves nodes others fresh [] end same stands = tt
 chain_moves nodes others fresh (put ∷ puts) end same stands = (
   same fresh (omega arith) (slice_get_within nodes fresh (Assign put.var put.rhs (entry_among end (suc fresh) puts)) stands.0) ∙ stands.0,
@@ -140,6 +157,9 @@ chain_moves nodes others fresh (put ∷ puts) end same stands = (
 )
 
 -- so do assignments that stand
-pub stands_moves : (nodes others : List Node) (n fresh : ℕ) (puts : List Insertion) (end : ℕ) → slice_get others n ≡ slice_get nodes n → ((m : ℕ) → fresh ≤ m → m < length nodes → slice_get others m ≡ slice_get nodes m) → StandsAt nodes n fresh puts end → StandsAt others n fresh puts end
+pub stands_moves : (nodes others : List Node) (n fresh : ℕ) (puts : List Insertion) (end : ℕ)
+    → slice_get others n ≡ slice_get nodes n
+    → ((m : ℕ) → fresh ≤ m → m < length nodes → slice_get others m ≡ slice_get nodes m)
+    → StandsAt nodes n fresh puts end → StandsAt others n fresh puts end
 stands_moves nodes others n fresh [] end here same stands = here ∙ stands
 stands_moves nodes others n fresh (put ∷ puts) end here same stands = (here ∙ stands.0, chain_moves nodes others fresh puts end same stands.1)

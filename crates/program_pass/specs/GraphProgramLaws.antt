@@ -44,7 +44,8 @@ pub record Agree (vars nodes : ℕ) (f g : Frame) : Type 0 where
 abbrev pub Together : (Frame → Frame → Type 0) → Transition → Transition → Type 0
 Together S (Continues n f) (Continues m g) = (m ≡ n) × S f g
 Together S (Prints v f) (Prints w g) = (w ≡ v) × S f g
-Together S (Calls u entry into f) (Calls u' entry' into' g) = (u' ≡ u) × (entry' ≡ entry) × (into' ≡ into) × S f g
+Together S (Calls u entry into f) (Calls u' entry' into' g) = (u' ≡ u) × (entry' ≡ entry)
+    × (into' ≡ into) × S f g
 Together S (Returns answer) (Returns answer') = answer' ≡ answer
 Together S (Traps kind n) (Traps kind' m) = (kind' ≡ kind) × (m ≡ n)
 Together S _ _ = ⊥
@@ -54,7 +55,8 @@ pub with_equal : (vars x : ℕ) (a b : ℤ) (v w : Values) → a ≡ b → ((y :
 with_equal vars x a b v w same equal y lt = elim (nat_eq y x) as (λ c. (if c then a else v y) ≡ (if c then b else w y)) [ true ↦ same | false ↦ equal y lt ]
 
 -- an answer keeps frames in agreement
-pub resumed_agree : (vars nodes : ℕ) (into : Option ℕ) (answer : Answer) (f g : Frame) → Agree vars nodes f g → Agree vars nodes (resumed into answer f) (resumed into answer g)
+pub resumed_agree : (vars nodes : ℕ) (into : Option ℕ) (answer : Answer) (f g : Frame) → Agree vars nodes f g
+    → Agree vars nodes (resumed into answer f) (resumed into answer g)
 resumed_agree vars nodes into answer f g a = record {
   place = a.place;
   within = a.within;
@@ -65,13 +67,15 @@ resumed_agree vars nodes into answer f g a = record {
     globals : (x : ℕ) → x < vars → with_first answer.globals f.values x ≡ with_first answer.globals g.values x
     globals x lt = with_first_equal answer.globals f.values g.values x (a.values x lt)
 
-    result : (o : Option ℕ) → (x : ℕ) → x < vars → with_result o answer.value (with_first answer.globals f.values) x ≡ with_result o answer.value (with_first answer.globals g.values) x
+    result : (o : Option ℕ) → (x : ℕ) → x < vars
+        → with_result o answer.value (with_first answer.globals f.values) x ≡ with_result o answer.value (with_first answer.globals g.values) x
     result None = globals
     result (Some y) = with_equal vars y answer.value answer.value (with_first answer.globals f.values) (with_first answer.globals g.values) refl globals
 
 module _ (shared vars : ℕ) (least : shared ≤ vars) (received : List ℕ) (nodes : ℕ) where
   -- frames that have gone on to a node which is not the first agree where their values do
-  pub onward_agree : (next : ℕ) (f g : Frame) → 1 ≤ next → next < nodes → f.place ≡ next → g.place ≡ next → ((x : ℕ) → x < vars → f.values x ≡ g.values x) → Agree vars nodes f g
+  pub onward_agree : (next : ℕ) (f g : Frame) → 1 ≤ next → next < nodes → f.place ≡ next → g.place ≡ next
+      → ((x : ℕ) → x < vars → f.values x ≡ g.values x) → Agree vars nodes f g
   onward_agree next f g some lt here here' equal = record {
     place = here' ∙ sym here;
     within = subst (λ p. p < nodes) (sym here) lt;
@@ -80,13 +84,16 @@ module _ (shared vars : ℕ) (least : shared ≤ vars) (received : List ℕ) (no
   }
 
   -- either transition of an assignment that may trap
-  chosen_together : (n : ℕ) (f g : Frame) (b c : Bool) → b ≡ c → Agree vars nodes f g → Together (Agree vars nodes) (cond b (Traps ZeroDivisor 1) (Continues n f)) (cond c (Traps ZeroDivisor 1) (Continues n g))
+  chosen_together : (n : ℕ) (f g : Frame) (b c : Bool) → b ≡ c → Agree vars nodes f g
+      → Together (Agree vars nodes) (cond b (Traps ZeroDivisor 1) (Continues n f)) (cond c (Traps ZeroDivisor 1) (Continues n g))
   chosen_together n f g true true e a = (refl, refl)
   chosen_together n f g true false e a = cc
   chosen_together n f g false true e a = cc
   chosen_together n f g false false e a = (refl, a)
 
-  assign_together : (x : ℕ) (rhs : Rhs) (next : ℕ) (f g : Frame) → 1 ≤ next → next < nodes → AllBelow vars (rhs_vars rhs) → Agree vars nodes f g → Together (Agree vars nodes) (assign_transition x rhs next f) (assign_transition x rhs next g)
+  assign_together : (x : ℕ) (rhs : Rhs) (next : ℕ) (f g : Frame) → 1 ≤ next → next < nodes
+      → AllBelow vars (rhs_vars rhs) → Agree vars nodes f g
+      → Together (Agree vars nodes) (assign_transition x rhs next f) (assign_transition x rhs next g)
   assign_together x rhs next f g some lt below a =
       let equal = equal_below vars (rhs_vars rhs) f.values g.values below a.values in
       let here : Frame = assigned x (rhs_value f.values rhs) next f in
@@ -97,7 +104,9 @@ module _ (shared vars : ℕ) (least : shared ≤ vars) (received : List ℕ) (no
       (subst (Together (Agree vars nodes) (cond (rhs_traps f.values rhs) (Traps ZeroDivisor 1) (Continues (rhs_count rhs) here))) (sym (assign_is x rhs next g)) both)
 
   -- one node does the same at frames that agree
-  pub node_together : (node : Node) (f g : Frame) → ((slot s : ℕ) → slice_get (node_succs node) slot ≡ Some s → (1 ≤ s) × (s < nodes)) → AllBelow vars (node_vars node) → ((s : ℕ) → node ≡ Start s → f.place ≡ 0) → Agree vars nodes f g
+  pub node_together : (node : Node) (f g : Frame)
+      → ((slot s : ℕ) → slice_get (node_succs node) slot ≡ Some s → (1 ≤ s) × (s < nodes))
+      → AllBelow vars (node_vars node) → ((s : ℕ) → node ≡ Start s → f.place ≡ 0) → Agree vars nodes f g
       → Together (Agree vars nodes) (node_transition shared received (Some node) f) (node_transition shared received (Some node) g)
   node_together (Start next) f g succs below first a =
       let to = succs 0 next refl in
@@ -116,7 +125,8 @@ module _ (shared vars : ℕ) (least : shared ≤ vars) (received : List ℕ) (no
       let same = test_equal f.values g.values test (equal_below vars (test_vars test) f.values g.values below a.values) in
       go (test_holds f.values test) (test_holds g.values test) same (onward_agree next (at next f) (at next g) to.0 to.1 refl refl a.values)
     where
-      go : (b c : Bool) → b ≡ c → Agree vars nodes (at next f) (at next g) → Together (Agree vars nodes) (if b then Traps (Raised number) 0 else Continues 0 (at next f)) (if c then Traps (Raised number) 0 else Continues 0 (at next g))
+      go : (b c : Bool) → b ≡ c → Agree vars nodes (at next f) (at next g)
+          → Together (Agree vars nodes) (if b then Traps (Raised number) 0 else Continues 0 (at next f)) (if c then Traps (Raised number) 0 else Continues 0 (at next g))
       go true true e on = (refl, refl)
       go false false e on = (refl, on)
       go true false e on = cc
@@ -145,7 +155,8 @@ module _ (shared vars : ℕ) (least : shared ≤ vars) (received : List ℕ) (no
 -- ---- values and calls fit
 
 -- a frame that has received signed 64-bit numbers
-received_fits : (received : List ℕ) (i : ℕ) (arguments : List ℤ) (values : Values) → AreNumbers arguments → ValuesFit values → ValuesFit (received_from i received arguments values)
+received_fits : (received : List ℕ) (i : ℕ) (arguments : List ℤ) (values : Values) → AreNumbers arguments
+    → ValuesFit values → ValuesFit (received_from i received arguments values)
 received_fits [] i arguments values numbers fits = fits
 received_fits (x ∷ received) i arguments values numbers fits =
     received_fits received (suc i) arguments (with_value x (slice_index_or arguments i (pos 0)) values) numbers (with_value_fits x (slice_index_or arguments i (pos 0)) values (argument_fits arguments i numbers) fits)
@@ -177,7 +188,9 @@ module _ (graphs : List GraphShape) (alike : ShareGlobals graphs) where
   guard_keeps test number next f fits =
       elim (test_holds f.values test) as (λ t. FitsAfter shared MayCall (cond t (Traps (Raised number) 0) (Continues 0 (at next f)))) [ true ↦ tt | false ↦ at_fits next f fits ]
 
-  node_keeps : (received : List ℕ) (node : Option Node) (f : Frame) → ((into : Option ℕ) (unit : ℕ) (operands : List Operand) (next : ℕ) → node ≡ Some (Call into unit operands next) → (unit < length graphs) × (length operands ≡ length (graph_numbered graphs unit).received)) → FrameFits f
+  node_keeps : (received : List ℕ) (node : Option Node) (f : Frame)
+      → ((into : Option ℕ) (unit : ℕ) (operands : List Operand) (next : ℕ) → node ≡ Some (Call into unit operands next) → (unit < length graphs) × (length operands ≡ length (graph_numbered graphs unit).received))
+      → FrameFits f
       → FitsAfter shared MayCall (node_transition shared received node f)
   node_keeps received None f calls fits = answer_keeps (pos 0) f zero_fits fits
   node_keeps received (Some (Start next)) f calls fits = record {
@@ -214,23 +227,30 @@ module _ (graphs : List GraphShape) (alike : ShareGlobals graphs) where
     | inr ge ↦ past (slice_get_past graphs u ge)
   ])
     where
-      past : slice_get graphs u ≡ None → FitsAfter shared MayCall (graph_code (graph_numbered graphs u).shared (graph_numbered graphs u).received (graph_numbered graphs u).nodes f)
+      past : slice_get graphs u ≡ None
+          → FitsAfter shared MayCall (graph_code (graph_numbered graphs u).shared (graph_numbered graphs u).received (graph_numbered graphs u).nodes f)
       past none = subst (λ o. FitsAfter shared MayCall (graph_code (graph_or_empty shared o).shared (graph_or_empty shared o).received (graph_or_empty shared o).nodes f)) (sym none) (answer_keeps (pos 0) f zero_fits fits)
 
 -- ---- calls of one node
 
 -- an assignment calls nothing
-no_call : (x : ℕ) (rhs : Rhs) (to : ℕ) (f : Frame) (called : ℕ) (entry : CallEntry) (into : Option ℕ) (next : Frame) → assign_transition x rhs to f ≡ Calls called entry into next → ⊥
+no_call : (x : ℕ) (rhs : Rhs) (to : ℕ) (f : Frame) (called : ℕ) (entry : CallEntry) (into : Option ℕ) (next : Frame)
+    → assign_transition x rhs to f ≡ Calls called entry into next → ⊥
 no_call x (Plain a) to f called entry into next e = cc
 no_call x (Unary op a) to f called entry into next e = cc
 no_call x (Binary op a b) to f called entry into next e = go (traps op (operand_value f.values b)) e
   where
-    go : (t : Bool) → (if t then Traps ZeroDivisor 1 else Continues 1 (assigned x (value_of_op op (operand_value f.values a) (operand_value f.values b)) to f)) ≡ Calls called entry into next → ⊥
+    go : (t : Bool)
+        → (if t then Traps ZeroDivisor 1 else Continues 1 (assigned x (value_of_op op (operand_value f.values a) (operand_value f.values b)) to f)) ≡ Calls called entry into next
+        → ⊥
     go true e' = cc
     go false e' = cc
 
 -- a node that calls, calls a unit that there is
-pub called_exists : (graphs : List GraphShape) (graph : GraphShape) → GraphCallsFit graphs graph → (shared : ℕ) (received : List ℕ) (node : Node) (n : ℕ) (f : Frame) → slice_get graph.nodes n ≡ Some node → (called : ℕ) (entry : CallEntry) (into : Option ℕ) (next : Frame) → node_transition shared received (Some node) f ≡ Calls called entry into next → called < length graphs
+pub called_exists : (graphs : List GraphShape) (graph : GraphShape) → GraphCallsFit graphs graph
+    → (shared : ℕ) (received : List ℕ) (node : Node) (n : ℕ) (f : Frame) → slice_get graph.nodes n ≡ Some node
+    → (called : ℕ) (entry : CallEntry) (into : Option ℕ) (next : Frame)
+    → node_transition shared received (Some node) f ≡ Calls called entry into next → called < length graphs
 called_exists graphs graph fit shared received (Start to) n f here called entry into next e = cc
 called_exists graphs graph fit shared received (Skip to) n f here called entry into next e = cc
 called_exists graphs graph fit shared received (Assign x rhs to) n f here called entry into next e = absurd (no_call x rhs to f called entry into next e)
@@ -254,12 +274,15 @@ no_answer x (Plain a) to f answer e = cc
 no_answer x (Unary op a) to f answer e = cc
 no_answer x (Binary op a b) to f answer e = go (traps op (operand_value f.values b)) e
   where
-    go : (t : Bool) → (if t then Traps ZeroDivisor 1 else Continues 1 (assigned x (value_of_op op (operand_value f.values a) (operand_value f.values b)) to f)) ≡ Returns answer → ⊥
+    go : (t : Bool)
+        → (if t then Traps ZeroDivisor 1 else Continues 1 (assigned x (value_of_op op (operand_value f.values a) (operand_value f.values b)) to f)) ≡ Returns answer
+        → ⊥
     go true e' = cc
     go false e' = cc
 
 -- a node that returns hands the globals back
-pub answers_long : (shared : ℕ) (received : List ℕ) (node : Node) (f : Frame) (answer : Answer) → node_transition shared received (Some node) f ≡ Returns answer → length answer.globals ≡ shared
+pub answers_long : (shared : ℕ) (received : List ℕ) (node : Node) (f : Frame) (answer : Answer)
+    → node_transition shared received (Some node) f ≡ Returns answer → length answer.globals ≡ shared
 answers_long shared received (Start to) f answer e = cc
 answers_long shared received (Skip to) f answer e = cc
 answers_long shared received (Assign x rhs to) f answer e = absurd (no_answer x rhs to f answer e)

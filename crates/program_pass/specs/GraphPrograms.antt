@@ -30,7 +30,8 @@ GraphCallsFit graphs graph = (called count : ℕ) → NodesCall graph.nodes call
 
 -- each graph has these globals
 abbrev pub ShareGlobals : List GraphShape → Type 0
-ShareGlobals graphs = (u : ℕ) → u < length graphs → (graph_numbered graphs u).shared ≡ shared_in graphs
+ShareGlobals graphs = (u : ℕ) → u < length graphs
+    → (graph_numbered graphs u).shared ≡ shared_in graphs
 
 -- there is a graph, each is one, they have equally many globals, and their calls fit
 pub record IsGraphProgram (graphs : List GraphShape) : Type 0 where

@@ -67,11 +67,11 @@ heads_stay first second globals same = record {
   entry = ap (λ l. slice_get l 0) same;
 }
 
--- a program keeps its own
+-- a program keeps its own globals and heads
 pub heads_refl : (program : ProgramShape) → KeepsHeads program program
 heads_refl program = heads_stay program program refl refl
 
--- through a program in between
+-- what a second program keeps of the first, and a third of the second, the third keeps of the first
 pub heads_trans : (first second third : ProgramShape) → KeepsHeads first second → KeepsHeads second third → KeepsHeads first third
 heads_trans first second third one two = record {
   globals = two.globals ∙ one.globals;
@@ -89,7 +89,9 @@ head_same source target name receives =
     ap (λ (n : List ℕ). record { name = n; receives = receives_in target.body }) name ∙ ap (λ (k : ℕ). record { name = source.name; receives = k }) receives
 
 -- so of all units
-pub heads_same : (sources targets : List UnitShape) → length targets ≡ length sources → ((u : ℕ) (source target : UnitShape) → slice_get sources u ≡ Some source → slice_get targets u ≡ Some target → head_of target ≡ head_of source) → map head_of targets ≡ map head_of sources
+pub heads_same : (sources targets : List UnitShape) → length targets ≡ length sources
+    → ((u : ℕ) (source target : UnitShape) → slice_get sources u ≡ Some source → slice_get targets u ≡ Some target → head_of target ≡ head_of source)
+    → map head_of targets ≡ map head_of sources
 heads_same [] [] long each = refl
 heads_same [] (t ∷ targets) long each = absurd (omega (arith, long))
 heads_same (s ∷ sources) [] long each = absurd (omega (arith, long))

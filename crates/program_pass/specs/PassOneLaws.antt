@@ -11,7 +11,8 @@ use Rattle.jump_clean.specs.CleanLaws.{clean_is_one}
 use Rattle.program_pass.specs.PassPrograms.{AllPassed, IsPassedProgram, IsPassedUnit, PassRelation, UnitPassed}
 
 -- equally long lists with the same items at each place are equal
-pub places_same : {A : Type 0} (xs ys : List A) → length xs ≡ length ys → ((i : ℕ) (x y : A) → slice_get xs i ≡ Some x → slice_get ys i ≡ Some y → x ≡ y) → xs ≡ ys
+pub places_same : {A : Type 0} (xs ys : List A) → length xs ≡ length ys
+    → ((i : ℕ) (x y : A) → slice_get xs i ≡ Some x → slice_get ys i ≡ Some y → x ≡ y) → xs ≡ ys
 places_same [] [] long same = refl
 places_same [] (y ∷ ys) long same = absurd (omega (arith, long))
 places_same (x ∷ xs) [] long same = absurd (omega (arith, long))
@@ -29,7 +30,8 @@ module _ (Exact Between Other : PassRelation) (one : (u : ℕ) (graph a b : Grap
       layout_is_one p.back.swept a b p.back.is_laid (subst (λ g. IsLayout g b) (sym swept) q.is_laid)
 
   -- so is a program
-  pub program_only : (source target other : ProgramShape) → target.globals ≡ source.globals → AllPassed Exact Between source.units target.units → IsPassedProgram Other source other → target ≡ other
+  pub program_only : (source target other : ProgramShape) → target.globals ≡ source.globals
+      → AllPassed Exact Between source.units target.units → IsPassedProgram Other source other → target ≡ other
   program_only source target other globals p q =
       let same : target.units ≡ other.units = places_same target.units other.units (p.long ∙ sym q.long) (λ u a b at at'.
       let at_source = some_at source.units u (omega (arith, slice_get_within target.units u a at, p.long)) in

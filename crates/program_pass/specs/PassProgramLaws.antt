@@ -47,7 +47,9 @@ module _ (Exact Between : PassRelation) where
     pub middle_at : slice_get middles u ≡ Some made.keeps.middle
 
   -- of each number
-  made_at : (number : ℕ → ℕ) (sources targets : List UnitShape) (made : MadeOf number sources targets) → length targets ≡ length sources → (u : ℕ) → u < length sources → At number sources targets (graphs_of number sources targets made) (middles_of number sources targets made) u
+  made_at : (number : ℕ → ℕ) (sources targets : List UnitShape) (made : MadeOf number sources targets)
+      → length targets ≡ length sources → (u : ℕ) → u < length sources
+      → At number sources targets (graphs_of number sources targets made) (middles_of number sources targets made) u
   made_at number [] targets made long u lt = absurd (omega (arith, lt))
   made_at number (s ∷ sources) [] made long u lt = absurd (omega (arith, long))
   made_at number (s ∷ sources) (t ∷ targets) made long zero lt = record { source = s; target = t; source_at = refl; target_at = refl; made = made 0 s t refl refl; graph_at = refl; middle_at = refl }
@@ -56,12 +58,14 @@ module _ (Exact Between : PassRelation) where
       record { source = a.source; target = a.target; source_at = a.source_at; target_at = a.target_at; made = a.made; graph_at = a.graph_at; middle_at = a.middle_at }
 
   -- there are as many graphs as units
-  graphs_long : (number : ℕ → ℕ) (sources targets : List UnitShape) (made : MadeOf number sources targets) → length targets ≡ length sources → length (graphs_of number sources targets made) ≡ length sources
+  graphs_long : (number : ℕ → ℕ) (sources targets : List UnitShape) (made : MadeOf number sources targets)
+      → length targets ≡ length sources → length (graphs_of number sources targets made) ≡ length sources
   graphs_long number [] targets made long = refl
   graphs_long number (s ∷ sources) [] made long = absurd (omega (arith, long))
   graphs_long number (s ∷ sources) (t ∷ targets) made long = ap suc (graphs_long (λ v. number (suc v)) sources targets (λ v. made (suc v)) (omega (arith, long)))
 
-  middles_long : (number : ℕ → ℕ) (sources targets : List UnitShape) (made : MadeOf number sources targets) → length targets ≡ length sources → length (middles_of number sources targets made) ≡ length sources
+  middles_long : (number : ℕ → ℕ) (sources targets : List UnitShape) (made : MadeOf number sources targets)
+      → length targets ≡ length sources → length (middles_of number sources targets made) ≡ length sources
   middles_long number [] targets made long = refl
   middles_long number (s ∷ sources) [] made long = absurd (omega (arith, long))
   middles_long number (s ∷ sources) (t ∷ targets) made long = ap suc (middles_long (λ v. number (suc v)) sources targets (λ v. made (suc v)) (omega (arith, long)))
@@ -120,7 +124,9 @@ module _ (Exact Between : PassRelation) where
         ap (λ (g : GraphShape). length g.received) (middle_is u lt) ∙ ap (λ (l : List ℕ). length l) a.made.keeps.received ∙ sym (ap (λ (g : GraphShape). length g.received) (graph_is u lt))
 
     -- a call of the unit of a number
-    unit_calls : (u : ℕ) (lt : u < length source.units) (called count : ℕ) → BodyCalls (at u lt).source.body called count → (called < length source.units) × (count ≡ length (graph_numbered graphs called).received)
+    unit_calls : (u : ℕ) (lt : u < length source.units) (called count : ℕ)
+        → BodyCalls (at u lt).source.body called count
+        → (called < length source.units) × (count ≡ length (graph_numbered graphs called).received)
     unit_calls u lt called count c =
         let a = at u lt in
         let fits = called_fits source.units a.source.body called count (program.bodies u a.source a.source_at) c in

@@ -18,7 +18,8 @@ abbrev pub PassRelation : Type 1
 PassRelation = ℕ → GraphShape → GraphShape → Type 0
 
 -- the unit of this number through the pass: lowered, cleaned, passed, cleaned and laid out
-pub record IsPassedUnit (Exact : PassRelation) (unit : UnitShape) (number : ℕ) (target : UnitShape) : Type 0 where
+pub record IsPassedUnit (Exact : PassRelation) (unit : UnitShape) (number : ℕ)
+    (target : UnitShape) : Type 0 where
   pub lowered : GraphShape
   pub cleaned : GraphShape
   pub passed : GraphShape
@@ -38,8 +39,10 @@ abbrev pub IsOnlyGraph : (GraphShape → Type 0) → GraphShape → Type 0
 IsOnlyGraph Is graph = (other : GraphShape) → Is other → graph ≡ other
 
 -- each unit of the source gives the unit of its number
-abbrev pub EachUnit : (UnitShape → ℕ → UnitShape → Type 0) → List UnitShape → List UnitShape → Type 0
-EachUnit Gives sources targets = (u : ℕ) (source target : UnitShape) → slice_get sources u ≡ Some source
+abbrev pub EachUnit : (UnitShape → ℕ → UnitShape → Type 0) → List UnitShape → List UnitShape
+    → Type 0
+EachUnit Gives sources targets = (u : ℕ) (source target : UnitShape)
+    → slice_get sources u ≡ Some source
     → slice_get targets u ≡ Some target → Gives source u target
 
 -- the program of the units of this one through the pass, with its globals
@@ -80,7 +83,8 @@ pub record KeepsRuns (first second : ProgramShape) : Type 0 where
 
 -- the target is this exact program, and no other is; it is the same, evaluates no more operators and never has more
 -- frames
-pub record Rewrites (Exact : ProgramShape → ProgramShape → Type 0) (source target : ProgramShape) : Type 0 where
+pub record Rewrites (Exact : ProgramShape → ProgramShape → Type 0)
+    (source target : ProgramShape) : Type 0 where
   pub exact : Exact source target
   pub only : IsOnly (Exact source) target
   pub keeps : KeepsRuns source target
@@ -90,7 +94,8 @@ pub record Rewrites (Exact : ProgramShape → ProgramShape → Type 0) (source t
 -- The result of a pass has the name and the globals of the graph. In between is a graph of the nodes that the pass
 -- wrote, reached or not: the result does the same as this, evaluates no more operators, and makes no other calls; and
 -- it makes none but those of the graph
-pub record PassKeeps (Between : GraphShape → GraphShape → Type 0) (graph passed : GraphShape) : Type 0 where
+pub record PassKeeps (Between : GraphShape → GraphShape → Type 0)
+    (graph passed : GraphShape) : Type 0 where
   pub name : passed.name ≡ graph.name
   pub globals : take passed.shared passed.vars ≡ take graph.shared graph.vars
   pub middle : GraphShape
@@ -123,7 +128,8 @@ pub record CleanedLaid (graph : GraphShape) (target : UnitShape) : Type 0 where
   pub lowers : CanLower target.shared target.body
 
 -- the unit through the pass, and what it keeps
-pub record UnitPassed (Exact Between : PassRelation) (unit : UnitShape) (number : ℕ) (target : UnitShape) : Type 0 where
+pub record UnitPassed (Exact Between : PassRelation) (unit : UnitShape) (number : ℕ)
+    (target : UnitShape) : Type 0 where
   pub lowered : GraphShape
   pub cleaned : GraphShape
   pub passed : GraphShape
@@ -134,10 +140,12 @@ pub record UnitPassed (Exact Between : PassRelation) (unit : UnitShape) (number 
 
 -- of the unit of this number
 abbrev pub PassedAt : PassRelation → PassRelation → List UnitShape → ℕ → UnitShape → Type 0
-PassedAt Exact Between sources number target = (source : UnitShape) → slice_get sources number ≡ Some source
+PassedAt Exact Between sources number target = (source : UnitShape)
+    → slice_get sources number ≡ Some source
     → UnitPassed Exact Between source number target
 
 -- of each unit of a program
-pub record AllPassed (Exact Between : PassRelation) (sources targets : List UnitShape) : Type 0 where
+pub record AllPassed (Exact Between : PassRelation)
+    (sources targets : List UnitShape) : Type 0 where
   pub long : length targets ≡ length sources
   pub units : EachUnit (UnitPassed Exact Between) sources targets

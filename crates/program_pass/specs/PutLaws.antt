@@ -14,7 +14,8 @@ insertions_push [] put = refl
 insertions_push (p ∷ puts) put = ap (λ l. insertion p ∷ l) (insertions_push puts put)
 
 -- what is pushed was the first of what is still to come
-pub pushed : (puts puts' : List Put) (put : Put) (rest rest' all : List Insertion) → puts' ≡ puts ++ put ∷ [] → rest ≡ insertion put ∷ rest' → insertions puts ++ rest ≡ all → insertions puts' ++ rest' ≡ all
+pub pushed : (puts puts' : List Put) (put : Put) (rest rest' all : List Insertion) → puts' ≡ puts ++ put ∷ []
+    → rest ≡ insertion put ∷ rest' → insertions puts ++ rest ≡ all → insertions puts' ++ rest' ≡ all
 pushed puts puts' put rest rest' all is first before =
     ap (λ l. insertions l ++ rest') is ∙ ap (λ l. l ++ rest') (insertions_push puts put) ∙ append_assoc (insertions puts) (insertion put ∷ []) rest' ∙ ap (λ l. insertions puts ++ l) (sym first) ∙ before
 

@@ -19,10 +19,12 @@ pub record Refits (source target : UnitShape) : Type 0 where
   pub lowers : CanLower target.shared target.body
 
 -- a call of a body that fits
-pub called_fits : (units : List UnitShape) (body : List Inst) (called count : ℕ) → BodyFits units body → BodyCalls body called count → (called < length units) × (count ≡ receives_in (body_at units called))
+pub called_fits : (units : List UnitShape) (body : List Inst) (called count : ℕ) → BodyFits units body
+    → BodyCalls body called count → (called < length units) × (count ≡ receives_in (body_at units called))
 called_fits units body called count fits c = go c.inst (fits.insts c.place c.inst c.here) c.calls
   where
-    go : (inst : Inst) → InstFits units body c.place inst → inst_call inst ≡ Some (called, count) → (called < length units) × (count ≡ receives_in (body_at units called))
+    go : (inst : Inst) → InstFits units body c.place inst → inst_call inst ≡ Some (called, count)
+        → (called < length units) × (count ≡ receives_in (body_at units called))
     go (Receive x) f is = cc
     go (Assign x rhs) f is = cc
     go (Goto to) f is = cc
@@ -84,7 +86,8 @@ module _ (sources targets : List UnitShape) (long : length targets ≡ length so
       let b = within j lt' in
       program.names i j (omega (arith, a, names_long sources)) (omega (arith, b, names_long sources)) (sym (same_name i a) ∙ same ∙ same_name j b)
 
-  inst_fits : (n : ℕ) (m : RefitAt n) (place : ℕ) (inst : Inst) → slice_get m.target.body place ≡ Some inst → BodyFits sources m.source.body → InstFits targets m.target.body place inst
+  inst_fits : (n : ℕ) (m : RefitAt n) (place : ℕ) (inst : Inst) → slice_get m.target.body place ≡ Some inst
+      → BodyFits sources m.source.body → InstFits targets m.target.body place inst
   inst_fits n m place (Receive x) here fits = m.refits.lowers.first place x here
   inst_fits n m place (Assign x rhs) here fits = tt
   inst_fits n m place (Goto to) here fits = m.refits.lowers.targets place to (ap target_of here)
@@ -109,7 +112,8 @@ module _ (sources targets : List UnitShape) (long : length targets ≡ length so
       })
 
   -- they have the globals
-  globals_shared : (globals : List (List ℕ)) → IsProgram globals sources → (n : ℕ) (unit : UnitShape) → slice_get targets n ≡ Some unit → SharesGlobals globals unit
+  globals_shared : (globals : List (List ℕ)) → IsProgram globals sources → (n : ℕ) (unit : UnitShape)
+      → slice_get targets n ≡ Some unit → SharesGlobals globals unit
   globals_shared globals program n unit at =
       let lt : n < length sources = omega (arith, slice_get_within targets n unit at, long) in
       let m = refit_at n lt in

@@ -8,20 +8,33 @@ use Rattle.mir_sim.specs.StackSimulations.{Abreast, StepsLead, MeetsAgain, Stack
 use Rattle.program_pass.specs.GraphProgramLaws.{Together}
 
 -- what a relation of stacks is asked for: callers that are related, and what an answer, a step and a call make of them
-pub record OneStepEach (codes : ℕ → Code) (shared : ℕ) (R : StackRelation) (Exists : ℕ → Type 0) (Frames : ℕ → Frame → Frame → Type 0) (Callers : List Caller → List Caller → Type 0) : Type 0 where
+pub record OneStepEach (codes : ℕ → Code) (shared : ℕ) (R : StackRelation) (Exists : ℕ → Type 0)
+    (Frames : ℕ → Frame → Frame → Type 0)
+    (Callers : List Caller → List Caller → Type 0) : Type 0 where
   -- the second stack is no higher
   pub no_higher : (ps qs : List Caller) → Callers ps qs → length qs ≤ length ps
   -- frames that agree in one unit, over related callers, are related
-  pub related : (u : ℕ) (f g : Frame) (ps qs : List Caller) → Exists u → Frames u f g → Callers ps qs → R 0 (record { unit = u; frame = f; callers = ps }) (record { unit = u; frame = g; callers = qs })
+  pub related : (u : ℕ) (f g : Frame) (ps qs : List Caller) → Exists u → Frames u f g
+      → Callers ps qs
+      → R 0 (record { unit = u; frame = f; callers = ps }) (record { unit = u; frame = g; callers = qs })
   -- frames that a call enters, over callers that go on from frames that agree, are related
-  pub called : (u called : ℕ) (entry : CallEntry) (into : Option ℕ) (f g : Frame) (ps qs : List Caller) → Exists u → Exists called → Frames u f g → Callers ps qs
+  pub called : (u called : ℕ) (entry : CallEntry) (into : Option ℕ) (f g : Frame) (ps qs : List Caller)
+      → Exists u
+      → Exists called → Frames u f g → Callers ps qs
       → R 0 (record { unit = called; frame = first_frame entry; callers = record { unit = u; into = into; frame = f } ∷ ps }) (record { unit = called; frame = first_frame entry; callers = record { unit = u; into = into; frame = g } ∷ qs })
   -- an answer that the first side hands back, with so many globals, leads to where the two are abreast
-  pub answered : (answer : Answer) (ps qs : List Caller) → length answer.globals ≡ shared → Callers ps qs → (k : ℕ) × (to : Control) × StepsLead codes k (returned answer ps) to [] 0 0 × Abreast R 0 to (returned answer qs)
+  pub answered : (answer : Answer) (ps qs : List Caller) → length answer.globals ≡ shared
+      → Callers ps qs
+      → (k : ℕ) × (to : Control) × StepsLead codes k (returned answer ps) to [] 0 0
+      × Abreast R 0 to (returned answer qs)
 
 module _ (codes codes' : ℕ → Code) (shared : ℕ) (R : StackRelation) (Exists : ℕ → Type 0) (Frames : ℕ → Frame → Frame → Type 0) (Callers : List Caller → List Caller → Type 0) (can : OneStepEach codes shared R Exists Frames Callers) where
   -- where the two do the same at agreeing frames, they meet again
-  pub steps_meet : (z u : ℕ) (f g : Frame) (ps qs : List Caller) (t t' : Transition) → Exists u → Callers ps qs → codes u f ≡ t → codes' u g ≡ t' → Together (Frames u) t t' → ((called : ℕ) (entry : CallEntry) (into : Option ℕ) (next : Frame) → t ≡ Calls called entry into next → Exists called) → ((answer : Answer) → t ≡ Returns answer → length answer.globals ≡ shared) → MeetsAgain R codes codes' z (record { unit = u; frame = f; callers = ps }) (record { unit = u; frame = g; callers = qs })
+  pub steps_meet : (z u : ℕ) (f g : Frame) (ps qs : List Caller) (t t' : Transition) → Exists u → Callers ps qs
+      → codes u f ≡ t → codes' u g ≡ t' → Together (Frames u) t t'
+      → ((called : ℕ) (entry : CallEntry) (into : Option ℕ) (next : Frame) → t ≡ Calls called entry into next → Exists called)
+      → ((answer : Answer) → t ≡ Returns answer → length answer.globals ≡ shared)
+      → MeetsAgain R codes codes' z (record { unit = u; frame = f; callers = ps }) (record { unit = u; frame = g; callers = qs })
   steps_meet z u f g ps qs (Continues n next) (Continues m next') lt over is is' both calls answers = record {
     steps = 1;
     steps' = 1;

@@ -10,7 +10,8 @@ use Rattle.program_pass.specs.declared.units.Front.{Front}
 use Rattle.program_pass.specs.PassPrograms.{PassRelation}
 
 -- the unit of this number is lowered, cleaned, passed and cleaned like this
-pub record ArePassSteps (Exact : PassRelation) (unit : UnitShape) (number : ℕ) (steps : PassSteps) : Type 0 where
+pub record ArePassSteps (Exact : PassRelation) (unit : UnitShape) (number : ℕ)
+    (steps : PassSteps) : Type 0 where
   pub is_lowered : IsLowered unit steps.lowered
   pub is_cleaned : IsClean steps.lowered steps.cleaned
   pub is_passed : Exact number steps.cleaned steps.passed

@@ -17,13 +17,16 @@ use Rattle.program_pass.specs.Chains.{stood}
 -- a node that is new: the first of the assignments, a later one, or the Skip where there are none. It leads to the end
 -- or to a new node
 pub record IsNew (vars : ℕ) (first last end : ℕ) (node : Node) : Type 0 where
-  pub succs : (slot s : ℕ) → slice_get (node_succs node) slot ≡ Some s → (s ≡ end) ⊎ ((first ≤ s) × (s < last))
+  pub succs : (slot s : ℕ) → slice_get (node_succs node) slot ≡ Some s
+      → (s ≡ end) ⊎ ((first ≤ s) × (s < last))
   pub below : AllBelow vars (node_vars node)
   pub call : node_call node ≡ None
   pub no_start : (s : ℕ) → node ≡ Start s → ⊥
 
 -- an assignment
-new_assign : (vars first last end : ℕ) (put : Insertion) (next : ℕ) → (put.var < vars) × AllBelow vars (rhs_vars put.rhs) → (next ≡ end) ⊎ ((first ≤ next) × (next < last)) → IsNew vars first last end (Assign put.var put.rhs next)
+new_assign : (vars first last end : ℕ) (put : Insertion) (next : ℕ)
+    → (put.var < vars) × AllBelow vars (rhs_vars put.rhs) → (next ≡ end) ⊎ ((first ≤ next) × (next < last))
+    → IsNew vars first last end (Assign put.var put.rhs next)
 new_assign vars first last end put next below to = record {
   succs = λ slot s e. only slot s e;
   below = below;
@@ -36,12 +39,15 @@ new_assign vars first last end put next below to = record {
     only (suc slot) s e = cc
 
 -- where assignments that are numbered from `fresh` on are entered
-entry_to : (first fresh last end : ℕ) (puts : List Insertion) → first ≤ fresh → fresh + length puts ≤ last → (entry_among end fresh puts ≡ end) ⊎ ((first ≤ entry_among end fresh puts) × (entry_among end fresh puts < last))
+entry_to : (first fresh last end : ℕ) (puts : List Insertion) → first ≤ fresh → fresh + length puts ≤ last
+    → (entry_among end fresh puts ≡ end) ⊎ ((first ≤ entry_among end fresh puts) × (entry_among end fresh puts < last))
 entry_to first fresh last end [] le room = inl refl
 entry_to first fresh last end (put ∷ puts) le room = inr (le, omega (arith, room))
 
 -- a node of a chain
-chain_new : (vars first last end : ℕ) (puts : List Insertion) (fresh : ℕ) → first ≤ fresh → fresh + length puts ≤ last → InsertionsBelow vars puts → (i : ℕ) (node : Node) → slice_get (chain end fresh puts) i ≡ Some node → IsNew vars first last end node
+chain_new : (vars first last end : ℕ) (puts : List Insertion) (fresh : ℕ) → first ≤ fresh → fresh + length puts ≤ last
+    → InsertionsBelow vars puts → (i : ℕ) (node : Node) → slice_get (chain end fresh puts) i ≡ Some node
+    → IsNew vars first last end node
 chain_new vars first last end [] fresh le room below i node e = cc
 chain_new vars first last end (put ∷ puts) fresh le room below zero node e =
     let same : Assign put.var put.rhs (entry_among end (suc fresh) puts) ≡ node = cc in
@@ -49,7 +55,8 @@ chain_new vars first last end (put ∷ puts) fresh le room below zero node e =
 chain_new vars first last end (put ∷ puts) fresh le room below (suc i) node e = chain_new vars first last end puts (suc fresh) (omega (arith, le)) (omega (arith, room)) below.1 i node e
 
 -- a node was there before, or is new
-pub stood_node : (vars : ℕ) (nodes : List Node) (n : ℕ) (puts : List Insertion) (end : ℕ) → n < length nodes → InsertionsBelow vars puts → (m : ℕ) (node : Node) → slice_get (stood nodes n puts end) m ≡ Some node
+pub stood_node : (vars : ℕ) (nodes : List Node) (n : ℕ) (puts : List Insertion) (end : ℕ) → n < length nodes
+    → InsertionsBelow vars puts → (m : ℕ) (node : Node) → slice_get (stood nodes n puts end) m ≡ Some node
     → ((m ≡ n → ⊥) × (slice_get nodes m ≡ Some node)) ⊎ ((1 ≤ m) ⊎ (m ≡ n)) × IsNew vars (length nodes) (length (stood nodes n puts end)) end node
 stood_node vars nodes n [] end lt below m node e = elim (cases_eq m n) [
   | inl same ↦
@@ -88,7 +95,9 @@ stood_node vars nodes n (put ∷ puts) end lt below m node e =
     ]
 
 -- a graph can be made of them, where one can be made of the nodes and the new ones lead to a node that is not the first
-pub stood_can : (vars : List (List ℕ)) (received : List ℕ) (nodes : List Node) (n : ℕ) (puts : List Insertion) (end : ℕ) → CanMake vars received nodes → n < length nodes → 1 ≤ n → (1 ≤ end) × (end < length nodes) → InsertionsBelow (length vars) puts → CanMake vars received (stood nodes n puts end)
+pub stood_can : (vars : List (List ℕ)) (received : List ℕ) (nodes : List Node) (n : ℕ) (puts : List Insertion) (end : ℕ)
+    → CanMake vars received nodes → n < length nodes → 1 ≤ n → (1 ≤ end) × (end < length nodes)
+    → InsertionsBelow (length vars) puts → CanMake vars received (stood nodes n puts end)
 stood_can vars received nodes n puts end can lt some to below = record {
   start = (can.start.0, stood_kept nodes n puts end 0 (λ same. omega (arith, same, some)) (omega (arith, lt)) ∙ can.start.1);
   only = λ m s e. elim (stood_node (length vars) nodes n puts end lt below m (Start s) e) [
@@ -105,7 +114,8 @@ stood_can vars received nodes n puts end can lt some to below = record {
     more : length nodes ≤ length (stood nodes n puts end)
     more = stood_long nodes n puts end
 
-    edge_to : (m slot s : ℕ) (o : Option Node) → slice_get (stood nodes n puts end) m ≡ o → slice_get (succs_of o) slot ≡ Some s → (1 ≤ s) × (s < length (stood nodes n puts end))
+    edge_to : (m slot s : ℕ) (o : Option Node) → slice_get (stood nodes n puts end) m ≡ o
+        → slice_get (succs_of o) slot ≡ Some s → (1 ≤ s) × (s < length (stood nodes n puts end))
     edge_to m slot s None e edge = cc
     edge_to m slot s (Some node) e edge = elim (stood_node (length vars) nodes n puts end lt below m node e) [
       | inl old ↦ let there = can.succs m slot s (ap (λ o. slice_get (succs_of o) slot) old.1 ∙ edge) in (there.0, omega (arith, there.1, stood_long nodes n puts end))
@@ -116,7 +126,9 @@ stood_can vars received nodes n puts end can lt some to below = record {
     ]
 
 -- they make no calls but those of the nodes
-pub stood_calls : (vars : ℕ) (nodes : List Node) (n : ℕ) (puts : List Insertion) (end : ℕ) → n < length nodes → InsertionsBelow vars puts → (called count : ℕ) → NodesCall (stood nodes n puts end) called count → NodesCall nodes called count
+pub stood_calls : (vars : ℕ) (nodes : List Node) (n : ℕ) (puts : List Insertion) (end : ℕ) → n < length nodes
+    → InsertionsBelow vars puts → (called count : ℕ) → NodesCall (stood nodes n puts end) called count
+    → NodesCall nodes called count
 stood_calls vars nodes n puts end lt below called count c = elim (stood_node vars nodes n puts end lt below c.number c.node c.here) [
   | inl old ↦ record { number = c.number; node = c.node; here = old.1; calls = c.calls }
   | inr new ↦ absurd (let e : None ≡ Some (called, count) = sym new.1.call ∙ c.calls in cc)
@@ -128,7 +140,8 @@ below_append vars [] others b c = c
 below_append vars (put ∷ puts) others b c = (b.0, below_append vars puts others b.1 c)
 
 -- a graph can be made with further variables
-pub wide_can : (vars names : List (List ℕ)) (received : List ℕ) (nodes : List Node) → CanMake vars received nodes → AllDiffer (vars ++ names) → CanMake (vars ++ names) received nodes
+pub wide_can : (vars names : List (List ℕ)) (received : List ℕ) (nodes : List Node) → CanMake vars received nodes
+    → AllDiffer (vars ++ names) → CanMake (vars ++ names) received nodes
 wide_can vars names received nodes can differ =
     let more : length vars ≤ length (vars ++ names) = omega (arith, length-append vars names) in
     record {
@@ -142,5 +155,6 @@ wide_can vars names received nodes can differ =
     }
 
 -- with further variables after its own a graph has its globals
-pub globals_stay : (shared : ℕ) (vars names : List (List ℕ)) (made : GraphShape) → shared ≤ length vars → made.shared ≡ shared → made.vars ≡ vars ++ names → take made.shared made.vars ≡ take shared vars
+pub globals_stay : (shared : ℕ) (vars names : List (List ℕ)) (made : GraphShape) → shared ≤ length vars
+    → made.shared ≡ shared → made.vars ≡ vars ++ names → take made.shared made.vars ≡ take shared vars
 globals_stay shared vars names made least shared_is vars_are = ap (λ k. take k made.vars) shared_is ∙ ap (take shared) vars_are ∙ take-append-le shared vars names least

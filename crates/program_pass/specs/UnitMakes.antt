@@ -10,14 +10,20 @@ use Rattle.program_pass.specs.PassPrograms.{AllPassed, CleanedLaid, EachUnit, Lo
 
 module _ (Exact Between : PassRelation) where
   -- the unit is the one of its number
-  pub passed_at : (units : List UnitShape) (number : ℕ) (unit : UnitShape) (lowered cleaned passed : GraphShape) (target : UnitShape) → slice_get units number ≡ Some unit → LoweredClean unit lowered cleaned → Exact number cleaned passed → PassKeeps (Between number) cleaned passed → CleanedLaid passed target → PassedAt Exact Between units number target
+  pub passed_at : (units : List UnitShape) (number : ℕ) (unit : UnitShape) (lowered cleaned passed : GraphShape) (target : UnitShape)
+      → slice_get units number ≡ Some unit → LoweredClean unit lowered cleaned → Exact number cleaned passed
+      → PassKeeps (Between number) cleaned passed → CleanedLaid passed target
+      → PassedAt Exact Between units number target
   passed_at units number unit lowered cleaned passed target at front is keeps back source at' =
       let both : Some unit ≡ Some source = sym at ∙ at' in
       let same : unit ≡ source = cc in
       subst (λ u. UnitPassed Exact Between u number target) same (record { lowered = lowered; cleaned = cleaned; passed = passed; front = front; is_passed = is; keeps = keeps; back = back })
 
   -- one more unit
-  pub each_more : (sources targets targets' : List UnitShape) (number : ℕ) (target : UnitShape) → length targets ≡ number → EachUnit (UnitPassed Exact Between) sources targets → PassedAt Exact Between sources number target → targets' ≡ targets ++ target ∷ [] → EachUnit (UnitPassed Exact Between) sources targets'
+  pub each_more : (sources targets targets' : List UnitShape) (number : ℕ) (target : UnitShape)
+      → length targets ≡ number → EachUnit (UnitPassed Exact Between) sources targets
+      → PassedAt Exact Between sources number target → targets' ≡ targets ++ target ∷ []
+      → EachUnit (UnitPassed Exact Between) sources targets'
   each_more sources targets targets' number target long each made is u s t at at' = elim (get_push targets target t u (sym (ap (λ l. slice_get l u) is) ∙ at')) [
     | inl old ↦ each u s t at old
     | inr last ↦
@@ -41,9 +47,11 @@ module _ (Exact Between : PassRelation) where
   }
 
   -- and the exact program
-  pub all_passed : (source target : ProgramShape) → target.globals ≡ source.globals → AllPassed Exact Between source.units target.units → IsPassedProgram Exact source target
+  pub all_passed : (source target : ProgramShape) → target.globals ≡ source.globals
+      → AllPassed Exact Between source.units target.units → IsPassedProgram Exact source target
   all_passed source target globals all = record { globals = globals; long = all.long; units = λ u s t at at'. exact s u t (all.units u s t at at') }
 
 -- and their number
-pub long_more : (targets targets' : List UnitShape) (number : ℕ) (target : UnitShape) → length targets ≡ number → targets' ≡ targets ++ target ∷ [] → length targets' ≡ number + 1
+pub long_more : (targets targets' : List UnitShape) (number : ℕ) (target : UnitShape) → length targets ≡ number
+    → targets' ≡ targets ++ target ∷ [] → length targets' ≡ number + 1
 long_more targets targets' number target long is = ap (λ l. length l) is ∙ length_push targets target ∙ ap (λ n. n + 1) long

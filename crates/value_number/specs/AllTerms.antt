@@ -14,12 +14,14 @@ AreTermsOfAll graph table nodes = (n : ℕ) (at : TermsAt) → slice_get nodes n
 
 -- no node has another root
 abbrev pub AreOnlyRoots : GraphShape → List TermsAt → Type 0
-AreOnlyRoots graph nodes = (n : ℕ) (at : TermsAt) → slice_get nodes n ≡ Some at → IsOnlyRoot graph.nodes n at.root
+AreOnlyRoots graph nodes = (n : ℕ) (at : TermsAt) → slice_get nodes n ≡ Some at
+    → IsOnlyRoot graph.nodes n at.root
 
 -- before each node the numbers are those of the terms that the variables have on the way from its only root; a number
 -- stands for at most one term, and a term has at most one number. Each entry of the table names variables and nodes of
 -- the graph and earlier entries, and is needed
-pub record AreAllTerms (graph : GraphShape) (table : List TermKey) (nodes : List TermsAt) : Type 0 where
+pub record AreAllTerms (graph : GraphShape) (table : List TermKey)
+    (nodes : List TermsAt) : Type 0 where
   pub long : length nodes ≡ length graph.nodes
   pub terms : AreTermsOfAll graph table nodes
   pub roots : AreOnlyRoots graph nodes
@@ -28,4 +30,5 @@ pub record AreAllTerms (graph : GraphShape) (table : List TermKey) (nodes : List
 
 -- any two variables that have one number before a node have one value wherever a run comes to it
 abbrev pub AreNumbersTrue : GraphShape → List TermsAt → Type 0
-AreNumbersTrue graph nodes = (n : ℕ) (at : TermsAt) → slice_get nodes n ≡ Some at → NumbersHold graph n at.numbers.items
+AreNumbersTrue graph nodes = (n : ℕ) (at : TermsAt) → slice_get nodes n ≡ Some at
+    → NumbersHold graph n at.numbers.items

@@ -22,7 +22,7 @@ pub record AreInOrder (candidates : Candidates) : Type 0 where
   pub least : (v u : ℕ) → candidates.first ≡ Some v → IsOther candidates u → v ≤ u
   pub none : (u : ℕ) → candidates.first ≡ None → IsOther candidates u → ⊥
 
--- 1 for a variable
+-- 1 where there is a variable, and 0 where there is none
 abbrev pub one_of : Option ℕ → ℕ
 one_of None = 0
 one_of (Some v) = 1

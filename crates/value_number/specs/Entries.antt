@@ -57,7 +57,8 @@ pub record AreEntries (graph : GraphShape) (table : List TermKey) : Type 0 where
 -- needed in this way
 abbrev pub GainsEntries : (vars nodes : ℕ) → (ℕ → Type 0) → (old new : List TermKey) → Type 0
 GainsEntries vars nodes Needed old new = (k : ℕ) (key : TermKey) → slice_get new k ≡ Some key
-    → (slice_get old k ≡ Some key) ⊎ (IsEntryWithin vars nodes k key × (IsOperandIn new k ⊎ Needed k))
+    → (slice_get old k ≡ Some key)
+    ⊎ (IsEntryWithin vars nodes k key × (IsOperandIn new k ⊎ Needed k))
 
 -- no entry has number k but the one of this number
 abbrev pub IsSame : ℕ → ℕ → Type 0
@@ -65,5 +66,6 @@ IsSame n k = k ≡ n
 
 -- where these numbers stand for some terms, the new entries are needed for the one of this number
 abbrev pub GainsEntriesFor : List (Option ℕ) → (root n : ℕ) → (old new : List TermKey) → Type 0
-GainsEntriesFor numbers root n old new = (nodes : ℕ) (terms : Terms) → root < nodes → Represent old numbers root terms
+GainsEntriesFor numbers root n old new = (nodes : ℕ) (terms : Terms) → root < nodes
+    → Represent old numbers root terms
     → GainsEntries (length numbers) nodes (IsSame n) old new

@@ -25,4 +25,5 @@ IsNodeKept graph table nodes n = (at : TermsAt) → slice_get nodes n ≡ Some a
 
 -- each node has not been visited yet, or is kept
 abbrev pub AreKeptOrLeft : GraphShape → List TermKey → List Bool → List Step → List TermsAt → Type 0
-AreKeptOrLeft graph table listed steps nodes = (n : ℕ) → IsUnvisited n listed steps ⊎ IsNodeKept graph table nodes n
+AreKeptOrLeft graph table listed steps nodes = (n : ℕ)
+    → IsUnvisited n listed steps ⊎ IsNodeKept graph table nodes n

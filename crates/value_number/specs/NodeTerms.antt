@@ -19,7 +19,8 @@ pub record AreTermsBefore (graph : GraphShape) (n root : ℕ) (table : List Term
 
 -- node n has no other root
 abbrev pub IsOnlyRoot : List Node → ℕ → ℕ → Type 0
-IsOnlyRoot nodes n root = (other : ℕ) (before : List ℕ) → FromRoot nodes other n before → other ≡ root
+IsOnlyRoot nodes n root = (other : ℕ) (before : List ℕ) → FromRoot nodes other n before
+    → other ≡ root
 
 -- a number of the table stands for at most one term, and a term has at most one number
 pub record StandOneToOne (table : List TermKey) : Type 0 where

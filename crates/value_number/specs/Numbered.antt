@@ -14,11 +14,13 @@ use Rattle.value_number.specs.Roots.{FromRoot, terms_before}
 abbrev pub IsHolder : ℕ → Terms → Option Term → Option ℕ → Type 0
 IsHolder count terms None holder = holder ≡ None
 IsHolder count terms (Some t) None = (v : ℕ) → v < count → terms v ≢ t
-IsHolder count terms (Some t) (Some v) = (v < count) × (terms v ≡ t) × ((u : ℕ) → u < v → terms u ≢ t)
+IsHolder count terms (Some t) (Some v) = (v < count) × (terms v ≡ t)
+    × ((u : ℕ) → u < v → terms u ≢ t)
 
 -- of the variables below `count`, this is the first that has, before node n, the term of the movable right side that
 -- the node assigns; none where none has it, or the node assigns no such right side
-pub record IsHolderAt (shared : ℕ) (nodes : List Node) (count n : ℕ) (node : Node) (holder : Option ℕ) : Type 0 where
+pub record IsHolderAt (shared : ℕ) (nodes : List Node) (count n : ℕ) (node : Node)
+    (holder : Option ℕ) : Type 0 where
   pub root : ℕ
   pub before : List ℕ
   pub path : FromRoot nodes root n before
@@ -38,7 +40,8 @@ numbered_node (Test test taken other) (Some v) = Test test taken other
 numbered_node (Return a) (Some v) = Return a
 
 -- what the nodes become by a table of their holders
-pub record BecomeNumbered (nodes : List Node) (holders : List (Option ℕ)) (result : List Node) : Type 0 where
+pub record BecomeNumbered (nodes : List Node) (holders : List (Option ℕ))
+    (result : List Node) : Type 0 where
   pub long : length result ≡ length nodes
   pub are : (n : ℕ) (node : Node) → slice_get nodes n ≡ Some node
       → slice_get result n ≡ Some (numbered_node node (slice_index_or holders n None))

@@ -19,5 +19,6 @@ TermsHold graph = (n root : ℕ) (before : List ℕ) → FromRoot graph.nodes ro
 
 -- any two variables that have one number have one value wherever a run comes to node n
 abbrev pub NumbersHold : GraphShape → ℕ → List (Option ℕ) → Type 0
-NumbersHold graph n numbers = (x y k : ℕ) → slice_get numbers x ≡ Some (Some k) → slice_get numbers y ≡ Some (Some k)
+NumbersHold graph n numbers = (x y k : ℕ) → slice_get numbers x ≡ Some (Some k)
+    → slice_get numbers y ≡ Some (Some k)
     → HaveOneValue graph n x y

@@ -9,8 +9,10 @@ abbrev pub Stands : List TermKey → ℕ → Term → Type 0
 Stands table n (Initial v root) = slice_get table n ≡ Some (keys.Initial v root)
 Stands table n (Opaque k v) = slice_get table n ≡ Some (keys.Opaque k v)
 Stands table n (Number c) = slice_get table n ≡ Some (keys.Number c)
-Stands table n (UnaryOf op t) = (a : ℕ) × (slice_get table n ≡ Some (keys.Unary op a)) × Stands table a t
-Stands table n (BinaryOf op t u) = (a : ℕ) × (b : ℕ) × (slice_get table n ≡ Some (keys.Binary op a b))
+Stands table n (UnaryOf op t) = (a : ℕ) × (slice_get table n ≡ Some (keys.Unary op a))
+    × Stands table a t
+Stands table n (BinaryOf op t u) = (a : ℕ) × (b : ℕ)
+    × (slice_get table n ≡ Some (keys.Binary op a b))
     × Stands table a t × Stands table b u
 
 -- entries keep their numbers
@@ -31,9 +33,12 @@ RepresentsAt table root v None t = t ≡ Initial v root
 RepresentsAt table root v (Some n) t = Stands table n t
 
 -- so it is for each variable
-pub record Represent (table : List TermKey) (numbers : List (Option ℕ)) (root : ℕ) (terms : Terms) : Type 0 where
-  pub each : (v : ℕ) → v < length numbers → RepresentsAt table root v (variable_number numbers v) (terms v)
+pub record Represent (table : List TermKey) (numbers : List (Option ℕ)) (root : ℕ)
+    (terms : Terms) : Type 0 where
+  pub each : (v : ℕ) → v < length numbers
+      → RepresentsAt table root v (variable_number numbers v) (terms v)
 
 -- where these numbers stand for some terms, each number of the new table stands for a term, if each of the old one did
 abbrev pub StandOn : List TermKey → List (Option ℕ) → ℕ → List TermKey → Type 0
-StandOn old numbers root new = (terms : Terms) → Represent old numbers root terms → AllStand old → AllStand new
+StandOn old numbers root new = (terms : Terms) → Represent old numbers root terms → AllStand old
+    → AllStand new

@@ -26,7 +26,8 @@ pub record AreRoots (nodes : List Node) (roots : List Bool) : Type 0 where
 
 -- a visit of each root, each its own root
 pub record VisitRoots (roots : List Bool) (steps : List Step) : Type 0 where
-  pub has : (n : ℕ) → slice_get roots n ≡ Some true → (i : ℕ) × (slice_get steps i ≡ Some (Visit n n))
+  pub has : (n : ℕ) → slice_get roots n ≡ Some true
+      → (i : ℕ) × (slice_get steps i ≡ Some (Visit n n))
   pub only : (i : ℕ) (step : Step) → slice_get steps i ≡ Some step → (n : ℕ) × (step ≡ Visit n n)
       × (slice_get roots n ≡ Some true)
 
@@ -60,7 +61,8 @@ NewTermWithin count (Some change) = change.variable < count
 -- where these numbers stand for the terms before node n, which is this one, each new entry is needed for the term of
 -- some variable after it
 abbrev pub GrowsAfter : List (Option ℕ) → (root n : ℕ) → Node → (old new : List TermKey) → Type 0
-GrowsAfter numbers root n node old new = (shared nodes : ℕ) (terms : Terms) → root < nodes → n < nodes
+GrowsAfter numbers root n node old new = (shared nodes : ℕ) (terms : Terms) → root < nodes
+    → n < nodes
     → Represent old numbers root terms
     → GainsEntries (length numbers) nodes (IsTermOf new (length numbers) (node_terms shared n node terms)) old new
 
@@ -126,7 +128,8 @@ abbrev pub holder_at : List (Option ℕ) → ℕ → Option ℕ
 holder_at = variable_number
 
 -- node n has been visited: its holder is known, and its successors are listed
-pub record IsVisited (graph : GraphShape) (listed : List Bool) (holders : List (Option ℕ)) (n : ℕ) : Type 0 where
+pub record IsVisited (graph : GraphShape) (listed : List Bool) (holders : List (Option ℕ))
+    (n : ℕ) : Type 0 where
   pub holder : (node : Node) → slice_get graph.nodes n ≡ Some node
       → IsHolderAt graph.shared graph.nodes (length graph.vars) n node (holder_at holders n)
   pub succs : (s : ℕ) → HasEdge graph.nodes n s → slice_get listed s ≡ Some true
@@ -137,7 +140,8 @@ pub record IsUnderWay (graph : GraphShape) (table : List TermKey) (numbers : Lis
   pub numbers_long : length numbers ≡ length graph.vars
   pub listed_long : length listed ≡ length graph.nodes
   pub holders_long : length holders ≡ length graph.nodes
-  pub roots : (n : ℕ) → n < length graph.nodes → is_root graph.nodes n ≡ true → slice_get listed n ≡ Some true
+  pub roots : (n : ℕ) → n < length graph.nodes → is_root graph.nodes n ≡ true
+      → slice_get listed n ≡ Some true
   pub ready : AreReady graph.shared graph.nodes table numbers steps
   pub stand : AllStand table
   pub entries : AreEntries graph table
@@ -185,7 +189,8 @@ weight_left shared listed steps = (shared + 3) * unmarked listed + steps_weight 
 pub record Undoes (count : ℕ) (numbers : List (Option ℕ)) (steps : List Step) (numbers' : List (Option ℕ))
     (steps' : List Step) : Type 0 where
   pub long : length numbers' ≡ length numbers
-  pub ready : (shared : ℕ) (nodes : List Node) (table : List TermKey) → AreReady shared nodes table numbers steps
+  pub ready : (shared : ℕ) (nodes : List Node) (table : List TermKey)
+      → AreReady shared nodes table numbers steps
       → AreReady shared nodes table numbers' steps'
   pub visits : (n : ℕ) → IsToVisit n steps → IsToVisit n steps'
   pub light : (shared : ℕ) → steps_weight shared steps' ≤ count + steps_weight shared steps
@@ -202,9 +207,10 @@ pub record RenewsOne (n x : ℕ) (old new : List TermKey) (numbers numbers' : Li
   pub terms : (root : ℕ) (terms : Terms) → Represent old numbers root terms
       → Represent new numbers' root (with_term x (Opaque n x) terms)
   pub all : AllStand old → AllStand new
-  pub grows : (nodes : ℕ) → n < nodes → GainsEntries (length numbers) nodes (IsLeafBelow new n (suc x)) old new
+  pub grows : (nodes : ℕ) → n < nodes
+      → GainsEntries (length numbers) nodes (IsLeafBelow new n (suc x)) old new
 
--- the numbers of the first so many variables became those of leaves of node n
+-- each of the first `count` variables got the number of a new leaf of node n, a term of which nothing is known
 pub record Renews (n count : ℕ) (old new : List TermKey) (numbers numbers' : List (Option ℕ))
     (steps steps' : List Step) : Type 0 where
   pub stay : Stay old new
@@ -212,7 +218,8 @@ pub record Renews (n count : ℕ) (old new : List TermKey) (numbers numbers' : L
   pub terms : (root : ℕ) (terms : Terms) → Represent old numbers root terms
       → Represent new numbers' root (renewed_terms n count terms)
   pub all : AllStand old → AllStand new
-  pub grows : (nodes : ℕ) → n < nodes → GainsEntries (length numbers) nodes (IsLeafBelow new n count) old new
+  pub grows : (nodes : ℕ) → n < nodes
+      → GainsEntries (length numbers) nodes (IsLeafBelow new n count) old new
 
 -- the same of the globals after node n, which is this one
 pub record RenewsGlobals (shared n : ℕ) (node : Node) (old new : List TermKey) (numbers numbers' : List (Option ℕ))
@@ -238,7 +245,8 @@ pub record Passes (shared root n : ℕ) (node : Node) (old new : List TermKey) (
   pub start : (terms : Terms) → Represent old numbers root terms → is_start node ≡ true
       → Represent new numbers' root terms
   pub all : StandOn old numbers root new
-  pub grows : (nodes : ℕ) (terms : Terms) → root < nodes → n < nodes → Represent old numbers root terms
+  pub grows : (nodes : ℕ) (terms : Terms) → root < nodes → n < nodes
+      → Represent old numbers root terms
       → GainsEntries (length numbers) nodes (IsTermOf new (length numbers) (node_terms shared n node terms)) old new
 
 -- ---- all nodes

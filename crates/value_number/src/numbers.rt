@@ -106,7 +106,8 @@ fn add_at(table: &mut Vec<Candidates>, alloc: Global, number: usize, x: usize) -
     table[number].add(x)
 }
 
-/// The least of the candidates that has the number, once those before it are dropped.
+/// The least variable that has the number, by its candidates; those before it have lost the number, and are dropped.
+/// `None` where no variable has it. It does not allocate.
 fn least(candidates: &mut Candidates, numbers: &[Option<usize>], number: usize) -> Option<usize>
     requires { Cover numbers.now number candidates.old }
     ensures covers { Cover numbers.now number candidates.new }

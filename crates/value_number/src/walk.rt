@@ -115,7 +115,7 @@ fn is_root(graph: &Graph, edges: &Edges, n: usize) -> bool
     n == 0 || edges.preds(n).len() > 1
 }
 
-/// A visit of each root.
+/// The steps with which the walk begins: a visit of each root. It fails only with `Memory`.
 fn visits(alloc: Global, roots: &[bool]) -> Result<Vec<Step>, Memory>
     ensures { IfOk result (λ steps. VisitRoots roots.now steps.items) }
 {
@@ -344,7 +344,7 @@ fn change(
     }
 }
 
-/// Lists a step, where there are others.
+/// Puts a step on the list, where others wait there; where none does, nothing is left for which it would undo a change.
 fn list_where_any(steps: &mut Vec<Step>, step: Step) -> Result<(), Memory>
     ensures { OnOk result
         (steps.new.items ≡ steps.old.items ++ where_any steps.old.items step) }
@@ -355,7 +355,7 @@ fn list_where_any(steps: &mut Vec<Step>, step: Step) -> Result<(), Memory>
     Ok(())
 }
 
-/// Lists those of these successors that are not listed, to be visited under this root.
+/// Puts on the list of steps a visit, under this root, of each of these successors that has had none.
 fn list(
     listed: &mut Vec<bool>,
     steps: &mut Vec<Step>,
@@ -373,7 +373,7 @@ fn list(
     Ok(())
 }
 
-/// Lists a node, where it is not listed.
+/// Puts on the list of steps a visit of this node under this root, unless it has had one.
 fn list_one(
     listed: &mut Vec<bool>,
     steps: &mut Vec<Step>,

@@ -37,7 +37,8 @@ pub record AreBehind (graph : GraphShape) (backs : List (Option Shift)) (behind 
       × ((n : ℕ) → n < length graph.nodes
       → number_at behind n ≡ behind_bits wanted (slice_get graph.nodes n))
 
--- the number of what a node assigns, where these are behind it
+-- how many of the lowest bits are wanted of the variable that a node assigns, where these numbers hold behind the node; 0
+-- where there is no node
 abbrev pub noted_past : Option Node → List ℕ → ℕ
 noted_past None bits = 0
 noted_past (Some node) bits = assigned_bits node bits

@@ -69,7 +69,7 @@ pub(crate) fn live_text(alloc: Global, graph: &Graph) -> Result<String, Memory> 
     text
 }
 
-/// The same, by the rows of what is live before the nodes.
+/// The text of these lines, where `live` says which variables are live before each node.
 fn text_with(alloc: Global, graph: &Graph, live: &Rows) -> Result<String, Memory>
     requires { HaveShape graph.now (length graph.now.vars) live.now }
 {

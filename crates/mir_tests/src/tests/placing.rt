@@ -162,7 +162,7 @@ fn put_placement(
     put
 }
 
-/// The same.
+/// Appends these two lines of this placement.
 fn put_places(shown: &mut Shown, name: &str, placement: &Placement) -> Result<(), Memory> {
     shown.text.push_str(name)?;
     shown.put(" inserted", &placement.insert)?;

@@ -29,7 +29,7 @@ fn put_node_terms(alloc: Global, text: &mut String, graph: &Graph, n: usize) -> 
     put
 }
 
-/// The same, of these terms.
+/// Appends the line of node `n`, before which these are the terms.
 fn put_terms(
     alloc: Global,
     text: &mut String,
@@ -43,7 +43,7 @@ fn put_terms(
     put
 }
 
-/// The same, where each term has this text.
+/// Appends this line, where `texts` has the text of each term.
 fn put_line(
     text: &mut String,
     vars: &[Name],
