@@ -186,5 +186,10 @@ def work() -> None:
         sys.exit(2)
 
 
+def main() -> int:
+    """Runs a program of Bril."""
+    return mir_text.run_tool('bril_run', work)
+
+
 if __name__ == '__main__':
-    sys.exit(mir_text.run_tool('bril_run', work))
+    sys.exit(main())

@@ -9,7 +9,7 @@ import bril_cases
 import bril_run
 import bril_text
 import mir_text
-from tool_calls import TOP, module_of, ran, tool
+from tool_calls import TOP, module_of, ran, told, tool
 
 EXAMPLES = sorted(TOP.glob('examples/bril/*.bril'))
 DRAWN, STEPS = 300, 20_000
@@ -163,7 +163,7 @@ class Bril(unittest.TestCase):
                             ('to_bril', bril_cases.NO_BRIL), ('bril_run.py', bril_cases.NOT_RUN)):
             for text, line in cases.items():
                 with self.subTest(line):
-                    said = ran([tool(name)], text)
+                    said = told(name, text=text)
                     found = (said.returncode, said.stdout, said.stderr.decode())
                     self.assertEqual(found, (1, b'', f'{name.removesuffix(".py")}: {line}\n'))
 

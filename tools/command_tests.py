@@ -63,6 +63,25 @@ class CommandLine(unittest.TestCase):
         for word in passes:
             self.assertEqual(self.script('passes', word, str(TOP / 'examples/sums.mir'))[::2], (0, ''))
 
+    def test_each_kind_of_tables_is_told(self):
+        """Help, manual page and completion of `mir_tables` have the words of its usage line, and of other words the
+        script says which is wrong."""
+        if not GIVEN.tables:
+            self.skipTest('no --tables was given')
+        usage = ran([GIVEN.tables, 'no', 'words']).stderr.decode()
+        words = usage.removeprefix('usage: mir_tables [').rstrip(']\n').split(' | ')
+        given = {**os.environ, 'MIR_TABLES_PROGRAM': str(Path(GIVEN.tables).resolve())}
+        told = ran([TOP / 'mir_tables', '--help']).stdout.decode()
+        self.assertEqual(re.findall(r'(?m)^  ([a-z]+)', told), words)
+        self.assertEqual(re.search(r"tables='(.*?)'", (TOOLS / 'completion/mir.bash').read_text())[1].split(), words)
+        page = (TOP / 'man/mir_tables.1').read_text()
+        for word in words:
+            self.assertRegex(page, rf'(?m)^\.B {word}$')
+        for asked, said in ((['tials'], '`tials` names no tables; the nearest is `tails`; '), (['join', 'x'], '`x` is a word too many; ')):
+            found = subprocess.run([TOP / 'mir_tables', *asked], capture_output=True, encoding='utf-8', env=given)
+            self.assertEqual((found.returncode, found.stdout, found.stderr),
+                             (1, '', f'{usage}mir_tables: {said}a file\'s name has a `.` or a `/`\n'))
+
     def test_version(self):
         """The version is that of the file VERSION, which the changes have too."""
         version = (TOP / 'VERSION').read_text().strip()

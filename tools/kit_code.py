@@ -25,9 +25,10 @@ TRIAL_SIZE = 100_000
 # For which machine clang compiles here.
 TARGET = ('--target=x86_64-unknown-linux-gnu', '-march=x86-64')
 
-# The program whose code is that of a library: a library is not built without proof, and a program's code has no exports.
-# Its `main` calls each of them, so that they are there.
+# The program whose code has all that is made without proof: the programs, and the exports of the library, since a library
+# is not built without proof and a program's code has no exports. Its `main` calls each of them, so that they are there.
 SCRATCH = 'mir_exports'
+PROGRAMS = ('mir_main', 'mir_tables')
 EXPORT = re.compile(r'#\[unsafe\(no_mangle\)\]\npub extern "C" fn (\w+)\(([^)]*)\)')
 VALUES = {'Global': 'rt.alloc()', '&[u8]': 'b""', '&mut [u8]': '&mut [0u8; 1]', '&mut usize': '&mut 0'}
 
@@ -106,30 +107,82 @@ def exports() -> dict[str, list[str]]:
     return {name: re.findall(r'\w+: ([^,\n]+)', row) for name, row in EXPORT.findall(text)}
 
 
-def scratch_repository(room: Path) -> Path:
-    """The folder of a program that has the exports of mir_c, in a repository of its own beside copies of all crates."""
+def scratch_crate(room: Path, name: str, crates: list[str]) -> Path:
+    """The folder of a crate of this name that uses what these crates use, in a repository of its own beside copies of all
+    crates. Its sources are still to be written."""
     top = room / 'scratch'
     for path in CRATES.glob('*/src'):
         for part in ('src', 'specs'):
             if (path.parent / part).is_dir():
                 shutil.copytree(path.parent / part, top / 'crates' / path.parent.name / part)
     listed = (TOP / 'crates.txt').read_text()
-    uses = re.search(r'^mir_c staticlib:(.*)', listed, re.MULTILINE)[1]
-    (top / 'crates.txt').write_text(f'{listed}{SCRATCH}:{uses}\n')
-    crate = top / 'crates' / SCRATCH
-    shutil.copytree(CRATES / 'mir_c/src', crate / 'src')
-    (crate / 'src/lib.rt').rename(crate / 'src/main.rt')
-    calls = [f'    let _status = {name}({", ".join(VALUES[kind] for kind in kinds)});'
-             for name, kinds in exports().items()]
-    with open(crate / 'src/main.rt', 'a') as program:
-        program.write('\n'.join(['', 'fn main(rt: HostRuntime) {', *calls, '}', '']))
-    return crate
+    uses = dict.fromkeys(one for crate in crates for one in uses_of(listed, crate) if one not in crates)
+    (top / 'crates.txt').write_text(f'{listed}{name}: {" ".join(uses)}\n')
+    (top / 'crates' / name / 'src').mkdir(parents=True)
+    return top / 'crates' / name
 
 
-def tried_exports(room: Path) -> Path:
-    """The code of the library for C by `rt try`: that of the scratch program, with exports in the place of `main`."""
-    code = kept_code(scratch_repository(room), ['rt', 'try'], room)
-    text = clang(*TARGET, '-S', '-emit-llvm', '-O0', '-x', 'ir', code, '-o', '-')
+def put_module(crate: str, root: str, source: Path, crates: list[str]) -> None:
+    """Puts a crate into the sources of another as a module of its name; `root` is its first file. Calls of itself, and of
+    crates that stand there too, lead to the modules."""
+    place, others = source / crate, '|'.join(crates)
+    shutil.copytree(CRATES / crate / 'src', place)
+    (place / root).rename(place / 'mod.rt')
+    for path in place.rglob('*.rt'):
+        text = re.sub(r'(?m)^#!\[.*\]$', '', path.read_text())
+        text = re.sub(r'\bcrate::', f'crate::{crate}::', text)
+        path.write_text(re.sub(rf'\buse ({others})::', r'use crate::\1::', text))
+
+
+def unlisted(crate: str) -> list[str]:
+    """The crates that the sources of a crate use and that its line in crates.txt does not have."""
+    listed = (TOP / 'crates.txt').read_text()
+    texts = [path.read_text() for path in sorted((CRATES / crate / 'src').rglob('*.rt'))]
+    used = {name for text in texts for name in re.findall(r'(?m)^ *(?:pub(?:\(\w+\))? )?use (\w+)::', text)}
+    return sorted(name for name in used - {crate, *uses_of(listed, crate)} if (CRATES / name).is_dir())
+
+
+def crate_of_tests(room: Path, crates: list[str]) -> Path:
+    """The folder of a crate that has these crates with their tests as modules, so that what they share is read and
+    compiled once. As by itself, each may use what its own line in crates.txt has and nothing else."""
+    made = scratch_crate(room, 'all_tests', crates)
+    for crate in crates:
+        if unlisted(crate):
+            raise Fault(f'{crate} uses {", ".join(unlisted(crate))}, which its line in crates.txt does not have')
+        put_module(crate, 'lib.rt', made / 'src', crates)
+    modules = ''.join(f'pub mod {crate};\n' for crate in crates)
+    (made / 'src/lib.rt').write_text(f'#![tactic(auto)]\n{modules}')
+    return made
+
+
+def crate_of_all(room: Path) -> Path:
+    """The folder of a program that has the exports of mir_c, and the programs as modules with a `main` each."""
+    made = scratch_crate(room, SCRATCH, ['mir_c', *PROGRAMS])
+    text = (CRATES / 'mir_c/src/lib.rt').read_text()
+    calls = ''.join(f'    let _status = {name}({", ".join(VALUES[kind] for kind in kinds)});\n'
+                    for name, kinds in exports().items())
+    modules = ''.join(f'mod {name};\n' for name in PROGRAMS)
+    first, second = PROGRAMS
+    (made / 'src/main.rt').write_text(f"""{text.replace('use mir_call', f'{modules}use mir_call', 1)}
+fn main(rt: HostRuntime) -> std::process::ExitCode {{
+{calls}    if _status == 0 {{ {first}::main(rt) }} else {{ {second}::main(rt) }}
+}}
+""")
+    for name in PROGRAMS:
+        put_module(name, 'main.rt', made / 'src', [])
+        path = made / 'src' / name / 'mod.rt'
+        path.write_text(path.read_text().replace('\nfn main(', '\npub fn main('))
+    return made
+
+
+def tried_code(room: Path) -> bytes:
+    """The code for LLVM, as text, that `rt try` makes of the programs and of the library for C."""
+    code = kept_code(crate_of_all(room), ['rt', 'try'], room)
+    return clang(*TARGET, '-S', '-emit-llvm', '-O0', '-x', 'ir', code, '-o', '-')
+
+
+def with_exports(text: bytes) -> bytes:
+    """The code with the exports of the library in the place of `main`."""
     text = re.sub(rb'^define i32 @main\(', b'define internal i32 @main(', text, flags=re.MULTILINE)
     for name in (name.encode() for name in exports()):
         inner = b'@"%s::%s"' % (SCRATCH.encode(), name)
@@ -138,9 +191,21 @@ def tried_exports(room: Path) -> Path:
         if not count:
             raise Fault(f'the code of {SCRATCH} has no {name.decode()}')
         text = text.replace(inner, b'@' + name)
-    made = room / 'exports.ll'
-    made.write_bytes(text)
-    return made
+    return text
+
+
+def with_programs(text: bytes, names: list[str]) -> bytes:
+    """The code with a function `main_of_NAME` for each of these programs in the place of `main`: a copy of what the kit
+    has around the `main` of a program."""
+    own, copies = b'"%s::main' % SCRATCH.encode(), []
+    around = re.findall(rb'(?ms)^define [^@\n]*@(?:main|%s\+\w+")\(.*?^}\n' % re.escape(own), text)
+    if len(around) < 2:
+        raise Fault(f'the code of {SCRATCH} has not what the kit puts around a main')
+    for name in (name.encode() for name in names):
+        copy = re.sub(rb'define (?:internal )?i32 @main\(', b'define i32 @main_of_%s(' % name, b'\n'.join(around))
+        copy = copy.replace(own + b'+', b'"%s::%s+' % (SCRATCH.encode(), name))
+        copies.append(copy.replace(own + b'"', b'"%s::%s::main"' % (SCRATCH.encode(), name)))
+    return re.sub(rb'^define i32 @main\(', b'define internal i32 @main(', text, flags=re.MULTILINE) + b'\n'.join(copies)
 
 
 def uses_of(listed: str, crate: str) -> list[str]:
@@ -199,9 +264,10 @@ def linker() -> list[str]:
     return words
 
 
-def linked(made: Path, to: Path) -> Path:
-    """The program that an object file is with the C code of the kit."""
-    ran([*linker(), made, *(kit() / 'c' / name for name in ('libos_c.a', 'liblibc_c.a')), '-lm', '-o', to])
+def linked(made: Path, name: str, to: Path) -> Path:
+    """The program of this crate that an object file is with the C code of the kit."""
+    ran([*linker(), made, *(kit() / 'c' / name for name in ('libos_c.a', 'liblibc_c.a')), '-lm', '-Wl,--gc-sections',
+         f'-Wl,--defsym=main=main_of_{name}', '-o', to])
     return to
 
 

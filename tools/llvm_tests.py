@@ -11,7 +11,7 @@ from pathlib import Path
 import llvm_bit_cases
 import llvm_cases
 import mir_text
-from tool_calls import TOOLS, TOP, module_of, ran, tool
+from tool_calls import TOOLS, TOP, module_of, ran, told, tool
 
 STEPS = '100000'
 PROGRAMS = sorted(TOP.glob('examples/c/*.c'))
@@ -43,7 +43,7 @@ class ComingIn(unittest.TestCase):
         """What has no form in MIR gets one line with its place and the reason, the status 1 and no output."""
         for text, line in llvm_cases.REFUSED.items():
             with self.subTest(line):
-                said = ran([tool('from_llvm')], text)
+                said = told('from_llvm', text=text)
                 self.assertEqual((said.returncode, said.stdout, said.stderr.decode()), (1, b'', f'from_llvm: {line}\n'))
 
     def test_limits_of_a_unit(self):

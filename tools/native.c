@@ -4,12 +4,12 @@
 #include <stdio.h>
 #include <stdlib.h>
 #include <string.h>
-#include <sys/resource.h>
+#include <sys/time.h>
 
-/* A program that takes more than a second of the processor is ended by the signal SIGXCPU. */
+/* A program that takes more than a quarter of a second of the processor is ended by the signal SIGPROF. */
 __attribute__((constructor)) static void limit(void) {
-    struct rlimit seconds = {1, 2};
-    setrlimit(RLIMIT_CPU, &seconds);
+    struct itimerval once = {{0, 0}, {0, 250000}};
+    setitimer(ITIMER_PROF, &once, NULL);
 }
 
 void mir_print(long long number) {

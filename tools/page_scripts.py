@@ -247,7 +247,7 @@ READ = {
         'bar': {'clean': '–', 'split': '–', 'motion': '4'},
     },
     'division_over_test': {
-        'verdicts': ['a / b stays at 2 and 4: it could trap. divisions moves such, move does not.',
+        'verdicts': ['a / b stays at 2 and 4: it could trap. divisions may move it, move does not.',
                      'x + 1 stays at 3. No path evaluates it twice, so there is nothing to save.'],
         'inputs': ['7', '2'],
         'frames': [('r', 'main at 0 Start', 0, 0), ('.', 'main at 1 if a > 9', 0, 0)],
@@ -262,6 +262,14 @@ READ = {
                    ('.', 'main at 2 x <- step,(n,int), step at 1 calls <- calls + 1', 1, 1)],
         'bar': {'motion': '–'},
     },
+}
+
+# What the tables of the other commands say of three programs: with loops and a division, with self tail calls, and with
+# leaves; by the key that leads to them, their word, and a part of their verdicts.
+COMMANDED = {
+    'division_out_of_loop': ('2', 'divisions', 'a / b moves from 1 to 6: there h1 is set, and it is read at 1.'),
+    'tail_sum': ('3', 'tails', '4 calls the unit itself, and its answer is returned next'),
+    'helpers': ('4', 'join', '2 calls scaled, a leaf of 5 instructions: the code of it stands there now.'),
 }
 
 # What is shown at one time: the text of the verdicts, the frames of a run and its two counts, what the bar has, how wide

@@ -16,7 +16,7 @@ import stages_page
 import tables_graphs
 import tables_page
 import tables_text
-from tool_calls import EXAMPLES, GIVEN, ODD, THREE_UNITS, TOOLS, TOP, ran, stages_of, tool
+from tool_calls import EXAMPLES, GIVEN, ODD, THREE_UNITS, TOOLS, TOP, ran, stages_of, told, tool
 
 
 def data_on(page: bytes) -> str:
@@ -55,11 +55,12 @@ class Drawing(unittest.TestCase):
     def test_dot_accepts_each_graph(self):
         """Graphs of each example and of odd names, by blocks and by instructions, are drawn, one for each unit."""
         for text in [mir_text.read_input(str(path)) for path in EXAMPLES] + [ODD, THREE_UNITS]:
-            for words in ([], ['--instructions']):
-                graphs = ran([tool('graph'), *words], text).stdout
-                drawn = ran(['dot', '-Tsvg'], graphs.decode('latin-1'))
-                self.assertEqual((drawn.returncode, drawn.stdout.count(b'<svg')),
-                                 (0, len(mir_text.program(text))), drawn.stderr)
+            graphs = [told('graph', *words, text=text).stdout for words in ([], ['--instructions'])]
+            for each in graphs:
+                self.assertEqual(len(re.findall(rb'(?m)^digraph ', each)), len(mir_text.program(text)))
+            drawn = ran(['dot', '-Tsvg'], b''.join(graphs).decode('latin-1'))
+            self.assertEqual((drawn.returncode, drawn.stdout.count(b'<svg')),
+                             (0, 2 * len(mir_text.program(text))), drawn.stderr)
 
     def test_page_fetches_nothing(self):
         """A page has its data, one script of its own, and nothing that it would fetch; names in it are never code."""

@@ -14,7 +14,7 @@ import unittest.mock
 from pathlib import Path
 
 import mir_text
-from tool_calls import BAD, EXAMPLES, GIVEN, ODD, TOP, ran, stages_of, tool
+from tool_calls import BAD, EXAMPLES, GIVEN, ODD, TOP, module_of, ran, stages_of, told, tool
 
 INPUTS = (-2 ** 63, -3, 0, 1, 2, 7)
 STEPS = '100000'
@@ -56,9 +56,12 @@ class Reading(unittest.TestCase):
         for text, line in BAD.items():
             for name in ('graph', 'to_llvm'):
                 with self.subTest(text=text, tool=name):
-                    said = ran([tool(name)], text)
+                    said = told(name, text=text)
                     self.assertEqual((said.returncode, said.stderr.decode()), (1, f'{name}: {line}\n'))
-                    self.assertEqual(ran([GIVEN.mir, 'optimise'], text).stderr.decode(), f'{line}\n')
+            self.assertEqual(ran([GIVEN.mir, 'optimise'], text).stderr.decode(), f'{line}\n')
+        for name in ('graph', 'to_llvm'):
+            said = ran([tool(name)], 'print 1')
+            self.assertEqual((said.returncode, said.stderr.decode()), (1, f'{name}: {BAD["print 1"]}\n'))
 
     def test_pages_are_made_of_stages_alone(self):
         """A program in the place of stages, and nothing at all, are refused in one line."""
@@ -154,8 +157,8 @@ class Compiling(unittest.TestCase):
                 source = mir_text.read_input(str(path))
                 for text in (source, ran([GIVEN.mir, 'optimise'], source).stdout.decode('latin-1')):
                     program = str(Path(folder) / 'program')
-                    (Path(folder) / 'source').write_text(text, encoding='latin-1')
-                    said = ran([tool('compile'), str(Path(folder) / 'source'), '-o', program])
+                    said = ran(['clang', '-O2', '-Wno-override-module', '-x', 'ir', '-', '-o', program],
+                               module_of('to_llvm').llvm(text))
                     self.assertEqual(said.returncode, 0, said.stderr)
                     inputs = list(itertools.product(INPUTS, repeat=mir_text.program(text)[0].receives()))
                     for words in draw.sample(inputs, min(len(inputs), 8)):

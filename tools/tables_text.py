@@ -59,6 +59,13 @@ class Reader:
             raise Fault('unexpected')
         self.bodies.append({'name': name, 'count': int(count), 'why': why})
 
+    def line_laid(self, rest: str) -> None:
+        """How long a unit becomes, and whether it is taken so."""
+        count, taken = rest.split()
+        if taken not in ('taken', 'left') or 'laid' in self.units[-1] or self.facts is not None:
+            raise Fault('unexpected')
+        self.units[-1]['laid'] = {'count': int(count), 'taken': taken == 'taken'}
+
     def line_call(self, rest: str) -> None:
         """What is told of a call."""
         number, name, position, *after = rest.split()

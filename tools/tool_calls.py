@@ -1,9 +1,14 @@
 """Calls of the tools, for their tests and for bench/: as programs, and as modules; and what their tests share."""
 
+import contextlib
+import functools
 import importlib.machinery
 import importlib.util
+import io
 import subprocess
+import sys
 import types
+import unittest.mock
 from pathlib import Path
 
 TOOLS = Path(__file__).resolve().parent
@@ -72,12 +77,28 @@ def tool(name: str) -> str:
     return str(TOOLS / name)
 
 
+@functools.lru_cache(maxsize=None)
 def module_of(name: str):
     """A tool as a module, which is a program and no file `.py`."""
     loader = importlib.machinery.SourceFileLoader(name, tool(name))
     made = importlib.util.module_from_spec(importlib.util.spec_from_loader(name, loader))
     loader.exec_module(made)
     return made
+
+
+def told(name: str, *words: str, text: str = '') -> subprocess.CompletedProcess:
+    """What a tool in Python answers, as `ran` has it, where it is called in this process: to start Python takes longer than
+    most of what a tool is asked."""
+    streams = [io.TextIOWrapper(io.BytesIO(given), encoding='utf-8', newline='\n')
+               for given in (text.encode('latin-1'), b'', b'')]
+    with unittest.mock.patch.multiple(sys, argv=[name, *words], stdin=streams[0]), \
+            contextlib.redirect_stdout(streams[1]), contextlib.redirect_stderr(streams[2]):
+        try:
+            status = module_of(name).main()
+        except SystemExit as end:
+            status = end.code
+        written = [stream.flush() or stream.buffer.getvalue() for stream in streams[1:]]
+    return subprocess.CompletedProcess([name, *words], status or 0, *written)
 
 
 def stages_of(text: str) -> str:

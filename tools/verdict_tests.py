@@ -138,7 +138,7 @@ class Verdicts(unittest.TestCase):
                            'delayed until 8 and no longer: 5 is also entered where it is not delayed. The earliest node '
                            'where it may stand is 1: above it is Start. It is delayed until 3, which needs it.'},
         'division_over_test': {
-            'main: a / b': 'a / b stays at 2 and 4: it could trap. divisions moves such, move does not.',
+            'main: a / b': 'a / b stays at 2 and 4: it could trap. divisions may move it, move does not.',
             'main: x + 1': 'x + 1 stays at 3. No path evaluates it twice, so there is nothing to save.'},
         'counter': {
             'main: n - x': 'n - x stays at 3. On the path 3→7→1→2→3 2 assigns x, and no other path brings an earlier value '

@@ -5,6 +5,7 @@ _mir() {
     local word=${COMP_WORDS[COMP_CWORD]} before=${COMP_WORDS[COMP_CWORD - 1]}
     local commands='optimise stages move ranges divisions tails join thorough passes run trial'
     local passes='tails join optimise clean fold number copies motion divisions sink bounds wanted called'
+    local tables='optimise divisions tails join'
     COMPREPLY=()
     if [[ $before == -o ]]; then
         mapfile -t COMPREPLY < <(compgen -f -- "$word")
@@ -12,6 +13,8 @@ _mir() {
         mapfile -t COMPREPLY < <(compgen -W '--help --version -o' -- "$word")
     elif [[ ${COMP_WORDS[0]##*/} == mir && $COMP_CWORD == 1 ]]; then
         mapfile -t COMPREPLY < <(compgen -W "$commands" -- "$word")
+    elif [[ ${COMP_WORDS[0]##*/} == mir_tables && $COMP_CWORD == 1 ]]; then
+        mapfile -t COMPREPLY < <(compgen -W "$tables" -- "$word"; compgen -f -X '!*.mir' -- "$word")
     elif [[ ${COMP_WORDS[1]} == passes ]]; then
         mapfile -t COMPREPLY < <(compgen -W "$passes" -- "$word"; compgen -f -X '!*.mir' -- "$word")
     elif [[ ${COMP_WORDS[1]} != trial ]]; then

@@ -122,7 +122,7 @@ const COLUMNS = {
         `${e} is <b>anticipatable</b> where every path from the node that comes to a change of an operand, or to a Return, has evaluated it by then.`,
         n => P.everyPathFrom(n)),
       ...pass.name !== 'divisions' ? [] : [column('sure', P.down,
-        `${e} is <b>sure</b> where each run from the node comes to it within some number of nodes, and before that nothing is seen, no operand changes and no other division is made.`,
+        `${e} is <b>sure</b> where each path from the node comes to it within some number of nodes, and before that nothing is seen, no operand changes and no other division is made.`,
         n => P.whyDown(n))],
       column('earliest', P.earliest,
         `<b>Earliest</b>: ${P.rule} here, but on some edge into the node it could not stand higher up.${pass.name === 'motion' ? ' The busy placement inserts here.' : ''}`,

@@ -90,6 +90,10 @@ const LINES = {
     reader.bodies.push({ name, count: Number(count), isLeaf: why[0] === 'leaf', isLong: why[0] === 'long',
       calls: at < 0 ? null : why[at + 1] });
   },
+  laid(reader, rest) {
+    const [count, taken] = wordsOf(rest);
+    reader.units.at(-1).laid = { count: Number(count), taken: taken === 'taken' };
+  },
   call({ facts }, rest) {
     const [n, name, position, next] = wordsOf(rest);
     (facts.calls ??= []).push({ n: Number(n), name, position, next: next === undefined ? null : Number(next) });

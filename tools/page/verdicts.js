@@ -127,7 +127,7 @@ function trappingSides(stage) {
     sides.set(right, [...sides.get(right) ?? [], n]);
   });
   return [...sides].map(([right, nodes]) => sentence('traps', { nodes, right },
-    `${code(right)} stays at ${list(inTextOrder(stage, nodes))}: it could trap. ${code('divisions')} moves such, ${code('move')} does not.`));
+    `${code(right)} stays at ${list(inTextOrder(stage, nodes))}: it could trap. ${code('divisions')} may move it, ${code('move')} does not.`));
 }
 
 // The verdict on a pattern where assignments sink: from where to where it goes, and why it goes no further.
@@ -151,13 +151,14 @@ function verdictOfPattern(pass, item) {
 // What is told of a call by the tables of tails or of join.
 function callTold(pass, { n, name, position, next }) {
   const { out } = edgesOf(pass.before), own = unitOfPass(pass), body = own.bodies.find(one => one.name === name);
+  if (position === 'joined' && own.laid && !own.laid.taken) return { html: `${N(n)} stays: with its leaves ${code(own.name)} would have ${many(own.laid.count, 'instruction')}, more than a text may have, so none is joined into it.` };
   if (position === 'joined') return { html: `${N(n)} calls ${code(name)}, a leaf of ${many(body.count, 'instruction')}: the code of it stands there now.` };
   if (position === 'stays') return { html: `${N(n)} stays: ${code(name)} is no leaf, since ${[body.isLong
     && `it has ${many(body.count, 'instruction')}, more than 32`, body.calls && `it calls ${code(body.calls)}`].filter(Boolean).join(' and ')}.` };
   if (position === 'loop') return { html: `${N(n)} calls the unit itself, and its answer is returned next: it becomes a jump to the beginning, behind assignments of the arguments.` };
   if (position === 'tail') return { html: `${N(n)} is in tail position, but calls another unit, ${code(name)}: it stays.` };
   if (position === 'dropped') return { html: `${N(n)} stays: its answer goes to no variable, so it is not what is returned.` };
-  if (position === 'global') return { html: `${N(n)} stays: its answer goes to a global, which is read elsewhere.` };
+  if (position === 'global') return { html: `${N(n)} stays: its answer goes to a global, and not to a variable of the unit alone.` };
   const path = pathOn(out, n, m => m === next, m => pass.before.nodes[m][0] === 'skip');
   return { html: `${N(n)} stays: next comes ${N(next)}, which does not return its answer.`, path, bad: next };
 }
