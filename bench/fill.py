@@ -187,7 +187,7 @@ def fill_all(given: argparse.Namespace) -> None:
     """Puts all numbers of the page in, one kind after the other."""
     fill_scripts.real(given.mir, given.csmith, given.gcc)
     page = PAGE.read_text(encoding='utf-8')
-    for part in (fill_scripts.run_beside, fill_scripts.bril):
+    for part in (fill_scripts.run_beside, fill_scripts.bril, fill_scripts.turns):
         page = part(page, given.mir)
     PAGE.write_text(fill_scripts.rounds(page, given.mir, given.csmith), encoding='utf-8')
     for counts in (False, True):

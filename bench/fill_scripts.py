@@ -44,6 +44,14 @@ def rounds(page: str, mir: str, csmith: int) -> str:
     return page
 
 
+def turns(page: str, mir: str) -> str:
+    """The page with the table of what turns take beside one `optimise`."""
+    head, *rows = said(mir, 'turns.py').rstrip().split('\n')
+    begin = page.index(head)
+    end = page.index('\n\n', begin)
+    return page[:begin] + '\n'.join([head, '|---' * head.count(' | ') + '|---|', *rows]) + page[end:]
+
+
 def bril(page: str, mir: str) -> str:
     """The page with the block of the programs in Bril."""
     begin = page.index('$ bench/bril.py --mir ./mir\n')

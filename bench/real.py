@@ -23,12 +23,16 @@ leaves of the same IR, which is brought in like the source, so that the unit is 
 in which LLVM leaves least beside `optimise`. The time is that of native programs, by `bench/native_times.py`.
 
 With `--fill` the tables are put into README.md beside this file, behind the line `<!-- bench/real.py -->`; those of a
-set that is not named stay. Where a set takes more than its part of `--minutes`, what is done by then is told. It wants
-csmith, clang and opt.
+set that is not named stay. Where a set takes more than its part of `--minutes`, what is done by then is told. With
+`--keep FOLDER` what became of each program is written there as soon as it is known, and a call that is cut off goes on
+where it was: programs that were judged with the same `mir` are not judged again. With `--prepare` the native programs
+of the set `turns` are made there, on a machine that may be busy, and a later call without it measures them. It wants
+csmith, libcsmith-dev, clang and opt.
 """
 
 import argparse
 import collections
+import functools
 import re
 import signal
 import subprocess
@@ -38,7 +42,7 @@ import time
 from concurrent.futures import ThreadPoolExecutor, as_completed
 from dataclasses import dataclass, field
 from pathlib import Path
-from typing import Callable, Iterable, NamedTuple, Optional
+from typing import Callable, Iterable, NamedTuple, Optional, Union
 
 TOP = Path(__file__).resolve().parent.parent
 sys.dont_write_bytecode = True
@@ -48,12 +52,16 @@ sys.setrecursionlimit(20_000)
 import drawn  # noqa: E402
 import mir_text  # noqa: E402
 import native_times  # noqa: E402
+import real_rows  # noqa: E402
 import real_tables  # noqa: E402
 from drawn import Source  # noqa: E402
+from real_rows import Outcome  # noqa: E402
 from tool_calls import module_of  # noqa: E402
 
+TIMED = ('optimise', 'thorough')
 COMMANDS = ('optimise', 'thorough', 'move', 'divisions', 'tails', 'join')
-STEPS, SECONDS = 1_000_000, 60
+# Native programs end by themselves after a part of a second, which a busy machine gives them late.
+STEPS, SECONDS = 1_000_000, 600
 PAGE = Path(__file__).resolve().parent / 'README.md'
 EXAMPLES = TOP / 'examples' / 'c'
 # The numbers of traps that stand for signals.
@@ -73,14 +81,14 @@ class Report(NamedTuple):
 
 
 @dataclass
-class Outcome:
-    """What became of a program: `same`, `different` or why it is not compared; and the operators of its runs."""
+class Made:
+    """A program as it comes in and as each command makes it, and what LLVM's passes leave of it or why that does not come
+    in; and the native programs that were made of these texts."""
 
     name: str
-    state: str
-    shown: list[str] = field(default_factory=list)
-    evals: dict[str, int] = field(default_factory=dict)
-    is_long: bool = False
+    ways: dict[str, str]
+    by_llvm: dict[str, Union[str, mir_text.Fault]]
+    natives: dict[str, Union[Path, str]] = field(default_factory=dict)
 
 
 def ended(line: str) -> str:
@@ -135,7 +143,7 @@ class Bench:
         """The report of a native program."""
         said = ran([program, *([] if entry == 'main' else [entry]), *given], seconds=SECONDS)
         printed = said.stdout.decode('latin-1').splitlines()
-        if said.returncode in (None, -signal.SIGXCPU):
+        if said.returncode in (None, -signal.SIGPROF):
             return Report(printed, 'running')
         return Report(printed, 'trap' if said.returncode < 0 else str(said.returncode))
 
@@ -147,23 +155,29 @@ class Bench:
             return Report([], 'deep' if said.returncode == 5 else said.stderr.decode().strip())
         return Report(lines[:-2], ended(lines[-2]), int(lines[-1].split()[1]))
 
-    def compiled(self, text: str, given: tuple[str, ...], stem: Path) -> Report:
+    def native_of(self, made: Made, text: str) -> Union[Path, str]:
+        """The native program of a text, made once; or what clang says where it makes none."""
+        if text not in made.natives:
+            program = self.folder / f'{made.name}_{len(made.natives)}.program'
+            said = native_times.compiled(text, self.to_llvm, program, '-O2')
+            made.natives[text] = program if said is None else said
+        return made.natives[text]
+
+    def compiled(self, made: Made, text: str, given: tuple[str, ...]) -> Report:
         """The report of a text that is compiled."""
-        source, program = stem.with_suffix('.mir'), stem.with_suffix('.program')
-        source.write_text(text)
-        said = ran([TOP / 'tools' / 'compile', source, '-o', program])
-        if said.returncode:
-            return Report([], said.stderr.decode().strip())
+        program = self.native_of(made, text)
+        if isinstance(program, str):
+            return Report([], program)
         said = ran([program, *inputs_of(text, given)], seconds=SECONDS)
         lines = said.stdout.decode().splitlines()
         if said.returncode not in (0, 3):
             return Report(lines, 'running' if said.returncode is None else 'deep')
         return Report(lines[:-1], ended(lines[-1]))
 
-    def ways(self, text: str) -> Iterable[tuple[str, str]]:
-        """The text, and what each command makes of it."""
+    def ways(self, text: str, commands: Optional[tuple[str, ...]] = None) -> Iterable[tuple[str, str]]:
+        """The text, and what each command makes of it, or these alone."""
         yield 'source', text
-        for command in self.commands:
+        for command in self.commands if commands is None else commands:
             said = ran([self.mir, command], text.encode())
             yield command, said.stdout.decode() if said.returncode == 0 else said.stderr.decode()
 
@@ -173,11 +187,9 @@ class Bench:
         texts, outcomes, ir = self.texts_of(source)
         if texts and not self.is_native(source, program):
             return outcomes + [Outcome(name, 'no native program') for name in texts]
-        left = self.left_by_llvm(ir, source.entries.values()) if texts else {}
-        for name, text in texts.items():
-            every = [self.judged(name, source.entries[name], text, given, program, left) for given in source.inputs]
-            outcomes.append(together(every))
-        return outcomes
+        left = functools.cache(lambda: self.left_by_llvm(ir, source.entries.values()))
+        return outcomes + [self.judged(name, source.entries[name], text, source.inputs, program, left)
+                           for name, text in texts.items()]
 
     def texts_of(self, source: Source) -> tuple[dict[str, str], list[Outcome], str]:
         """The programs of a file that come in, what becomes of the others, and the IR of all."""
@@ -191,22 +203,33 @@ class Bench:
                 outcomes.append(Outcome(name, f'refused: {reason(str(fault))}', [str(fault)]))
         return texts, outcomes, ir
 
-    def judged(self, name: str, entry: str, text: str, given: tuple[str, ...], program: Path, left: dict) -> Outcome:
-        """What becomes of a program with some inputs."""
-        wanted = self.native(program, entry, given)
-        if wanted.end == 'running':
-            return Outcome(name, 'the native program takes more than the limit of 1 second')
-        outcome = self.compared(Outcome(name, 'same'), wanted, text, given, self.folder / name)
-        if outcome.state == 'same' and not outcome.is_long:
-            for kind, read in left.items():
-                self.count_llvm(outcome, wanted, kind, read, entry, given)
+    def judged(self, name: str, entry: str, text: str, inputs: tuple[tuple[str, ...], ...], program: Path,
+               left: Callable[[], dict]) -> Outcome:
+        """What becomes of a program in all its runs, of which those are compared that end as native programs."""
+        wanted = [(given, self.native(program, entry, given)) for given in inputs]
+        ending = [(given, report) for given, report in wanted if report.end != 'running']
+        if not ending:
+            return Outcome(name, 'the native program takes more than a quarter of a second')
+        made = Made(name, dict(self.ways(text)), self.by_llvm(left(), entry))
+        outcome = together([self.compared(made, report, given) for given, report in ending])
+        for path in made.natives.values():
+            if isinstance(path, Path) and outcome.state == 'same':
+                path.unlink()
         return outcome
 
-    def compared(self, outcome: Outcome, wanted: Report, text: str, given: tuple[str, ...], stem: Path) -> Outcome:
-        """The outcome, with what is not the same, and the operators of each run."""
+    def compared(self, made: Made, wanted: Report, given: tuple[str, ...]) -> Outcome:
+        """What becomes of one run of a program: what is not the same, and the operators that each way evaluates."""
+        outcome = self.by_mir(Outcome(made.name, 'same'), made, wanted, given)
+        if outcome.state == 'same' and not outcome.is_long:
+            for kind, text in made.by_llvm.items():
+                self.count_llvm(outcome, wanted, kind, text, given)
+        return outcome
+
+    def by_mir(self, outcome: Outcome, made: Made, wanted: Report, given: tuple[str, ...]) -> Outcome:
+        """The outcome, with what is not the same where `mir` makes the program, and the operators of each run."""
         reports: dict[str, Report] = {}
-        for way, made in self.ways(text):
-            report = reports[made] if made in reports else reports.setdefault(made, self.run(made, given))
+        for way, text in made.ways.items():
+            report = reports[text] if text in reports else reports.setdefault(text, self.run(text, given))
             if report.end == 'deep' and way == 'source':
                 return Outcome(outcome.name, 'more than 10000 frames')
             if way != 'source' and report.end.endswith('too many instructions'):
@@ -214,7 +237,7 @@ class Bench:
                 continue
             if report.end == 'running':
                 outcome.is_long = True
-                report = self.compiled(made, given, stem)
+                report = self.compiled(made, text, given)
             elif not outcome.is_long:
                 outcome.evals[way] = report.evals
             more = way != 'source' and wanted.end != 'trap' and report.evals > outcome.evals.get('source', report.evals)
@@ -237,31 +260,35 @@ class Bench:
                 continue
         return left
 
-    def count_llvm(self, outcome: Outcome, wanted: Report, kind: str, read, entry: str,
+    def by_llvm(self, left: dict, entry: str) -> dict[str, Union[str, mir_text.Fault]]:
+        """What LLVM's passes leave of a program, brought in as the source is; or why it does not come in."""
+        found: dict[str, Union[str, mir_text.Fault]] = {}
+        for kind, read in left.items():
+            try:
+                found[kind] = self.from_llvm.program_text(read, entry)
+            except mir_text.Fault as fault:
+                found[kind] = fault
+        return found
+
+    def count_llvm(self, outcome: Outcome, wanted: Report, kind: str, text: Union[str, mir_text.Fault],
                    given: tuple[str, ...]) -> None:
-        """Adds the operators of what LLVM leaves, where it comes through and does the same."""
-        try:
-            made = self.from_llvm.program_text(read, entry)
-        except mir_text.Fault as fault:
-            outcome.shown.append(f'{kind}: {fault}')
+        """Adds the operators of what LLVM leaves, where it comes in and does the same."""
+        if isinstance(text, mir_text.Fault):
+            outcome.shown.append(f'{kind}: {text}')
             return
-        report = self.run(made, given)
+        report = self.run(text, given)
         if (report.printed, report.end) == (wanted.printed, wanted.end):
             outcome.evals[kind] = report.evals
         else:
             outcome.state = 'different'
             outcome.shown.append(f'{kind} of LLVM: wanted {wanted}, found {report}')
 
-    def timed(self, source: Source, repeat: int, end: float) -> list[native_times.Times]:
-        """The times of the programs of a file, as they come in and as the first commands make them; none is begun
-        behind the end of their time."""
+    def prepared(self, source: Source) -> list[native_times.Prepared]:
+        """What is to be measured of the programs of a file, as they come in and as the first commands make them."""
         found = []
         for name, text in self.texts_of(source)[0].items():
-            if time.monotonic() > end:
-                break
-            texts = {way: made for way, made in self.ways(text) if way in ('source', 'optimise', 'thorough')}
-            given = native_times.measured(name, texts, source.inputs[-1], self.to_llvm, self.folder / name, repeat)
-            found += [given] if given else []
+            texts = dict(self.ways(text, TIMED))
+            found.append(native_times.prepared(name, texts, list(source.inputs[-1]), self.to_llvm, self.folder / name))
         return found
 
 
@@ -311,44 +338,60 @@ def print_table(outcomes: list[Outcome], rows: int) -> None:
         print(each.name, each.evals)
 
 
-def judge_all(bench: Bench, sources: Iterable[Callable[[], Source]], jobs: int, end: float) -> list[Outcome]:
-    """What becomes of the programs of some files; none is begun behind the end of their time."""
-    def judged(source: Callable[[], Source]) -> list[Outcome]:
+def judge_all(bench: Bench, rows: real_rows.Rows, sources: dict[str, Callable[[], Source]], jobs: int,
+              end: float) -> list[Outcome]:
+    """What becomes of the programs of some files; none is begun behind the end of their time, and none judged again."""
+    def judged(name: str) -> list[Outcome]:
         """What becomes of the programs of a file, where there is time left."""
         if time.monotonic() > end:
             return []
-        found = source()
         try:
-            return bench.judge(found)
+            return bench.judge(sources[name]())
         except Exception as fault:  # so that one program does not end the whole run; the status is 1
-            return [Outcome(found.path.stem, 'different', [f'a fault of the tools: {fault!r}'])]
+            return [Outcome(Path(name).stem, 'different', [f'a fault of the tools: {fault!r}'])]
 
-    outcomes = []
+    outcomes = [each for name in sources if name in rows.found for each in rows.found[name]]
     with ThreadPoolExecutor(jobs) as pool:
-        for task in as_completed([pool.submit(judged, source) for source in sources]):
+        tasks = {pool.submit(judged, name): name for name in sources if name not in rows.found}
+        for task in as_completed(tasks):
             outcomes += task.result()
-            with open(bench.folder / 'outcomes', 'a', encoding='utf-8') as log:
-                print(*task.result(), sep='\n', file=log)
+            rows.keep(tasks[task], task.result())
     return sorted(outcomes, key=lambda each: each.name)
 
 
-def sources_of(name: str, given: argparse.Namespace, folder: Path) -> list[Callable[[], Source]]:
-    """What draws the files of a set, or finds them."""
+def sources_of(name: str, given: argparse.Namespace, folder: Path) -> dict[str, Callable[[], Source]]:
+    """What draws the files of a set, or finds them, each by a name of its own."""
     if name not in drawn.SETTINGS:
         paths = {'gcc': [given.gcc], 'examples': [EXAMPLES], 'files': given.files}[name]
-        return [lambda path=path: drawn.of_file(path, folder) for path in files_of(paths)]
+        return {f'{name}:{path.resolve()}': lambda path=path: drawn.of_file(path, folder) for path in files_of(paths)}
     numbers = list(range(given.seed, given.seed + given.csmith))
-    return [lambda some=numbers[at:at + drawn.TOGETHER]: drawn.drawn(drawn.SETTINGS[name], some, folder, name)
-            for at in range(0, len(numbers), drawn.TOGETHER)]
+    parts = [numbers[at:at + drawn.TOGETHER] for at in range(0, len(numbers), drawn.TOGETHER)]
+    return {f'{name}:{part[0]}-{part[-1]}': lambda part=part: drawn.drawn(drawn.SETTINGS[name], part, folder, name)
+            for part in parts}
 
 
-def time_all(bench: Bench, sources: list[Callable[[], Source]], repeat: int, end: float) -> list[native_times.Times]:
-    """The times of the programs of some files, one after the other, up to the end of their time."""
-    found = []
-    for source in sources:
-        if time.monotonic() < end:
-            found += bench.timed(source(), repeat, end)
-    return found
+def prepare_all(bench: Bench, rows: real_rows.Rows, sources: dict[str, Callable[[], Source]], jobs: int,
+                end: float) -> list[native_times.Prepared]:
+    """What is to be measured of the programs of some files; what was prepared in an earlier call is taken."""
+    def prepared(name: str) -> list[native_times.Prepared]:
+        """What is to be measured of the programs of a file, where there is time left."""
+        return bench.prepared(sources[name]()) if time.monotonic() < end else []
+
+    with ThreadPoolExecutor(jobs) as pool:
+        tasks = {pool.submit(prepared, name): name for name in sources if name not in rows.prepared}
+        for task in as_completed(tasks):
+            rows.keep_prepared(tasks[task], task.result())
+    return [each for name in sources for each in rows.prepared.get(name, [])]
+
+
+def time_all(rows: real_rows.Rows, names: Iterable[str], repeat: int, core: Optional[int],
+             end: float) -> list[native_times.Times]:
+    """The times of the programs that can be made to take long enough, one after the other, up to the end of their time;
+    those of files that were measured in an earlier call are taken."""
+    for name in names:
+        if name in rows.prepared and name not in rows.times and time.monotonic() < end:
+            rows.keep_times(name, [native_times.measured(each, repeat, core) for each in rows.prepared[name] if each.turns])
+    return [each for name in names for each in rows.times.get(name, [])]
 
 
 def words_given() -> argparse.Namespace:
@@ -362,6 +405,8 @@ def words_given() -> argparse.Namespace:
     words.add_argument('--jobs', type=int, default=2, help='how many programs are judged at a time')
     words.add_argument('--minutes', type=float, default=600, help='after how many nothing more is begun')
     words.add_argument('--repeat', type=int, default=3, help='of how many times the least is taken')
+    words.add_argument('--prepare', action='store_true', help='make the programs of `turns`, and measure none')
+    words.add_argument('--core', type=int, help='run what is timed on this processor, before all else if this is allowed')
     words.add_argument('--table', type=int, default=0, help='how many programs are shown in which LLVM leaves less')
     words.add_argument('--keep', type=Path, help='a folder for the programs, which stay there, and what became of each')
     words.add_argument('--gcc', type=Path, help='the folder gcc.c-torture/execute of the tests of GCC')
@@ -381,15 +426,20 @@ def main() -> int:
         folder.mkdir(exist_ok=True)
         (folder / 'csmith.h').write_text(drawn.HEADER)
         bench, begun = Bench(given.mir, folder), time.monotonic()
+        rows = real_rows.Rows(folder / 'outcomes', Path(given.mir))
         for at, name in enumerate(sets):
             end = begun + given.minutes * 60 * (at + 1) / len(sets)
             sources = sources_of(name, given, folder)
             if name == 'turns':
-                times = time_all(bench, sources, given.repeat, end)
+                found = prepare_all(bench, rows, sources, given.jobs, end)
+                print(f'{len(found)} programs, {sum(bool(each.turns) for each in found)} to be measured', flush=True)
+                if given.prepare:
+                    continue
+                times = time_all(rows, sources, given.repeat, given.core, end)
                 print(*real_tables.time_lines(times), sep='\n', flush=True)
                 page = real_tables.with_times(page, times)
                 continue
-            outcomes = judge_all(bench, sources, given.jobs, end)
+            outcomes = judge_all(bench, rows, sources, given.jobs, end)
             for each in outcomes:
                 if each.state == 'different':
                     print(f'{each.name}: different', *each.shown, sep='\n  ')

@@ -1,0 +1,86 @@
+#!/usr/bin/env python3
+"""Counts by callgrind how many times the instructions of `optimise` `thorough` takes, on each workload of bench/run.py that
+is a program to be rewritten, beside the turns that change something.
+
+    bench/turns.py [--mir PATH] [--greatest] [WORKLOAD ..]
+
+Each text has the least size of its workload, or with `--greatest` the greatest. A turn that changes nothing is made behind
+the last that changes something, so where one does, the passes of `optimise` are made three times and those beside them
+twice. It runs on Linux alone, and wants valgrind.
+"""
+
+import argparse
+import re
+import subprocess
+import sys
+import tempfile
+from pathlib import Path
+
+import run
+from measuring import ENDED, Case, Failure, adopt_orphans, instructions
+
+# Where the passes of a turn stand, and the most turns that are made.
+TURN = run.TOP / 'crates' / 'program_turns' / 'src' / 'thorough.rt'
+MOST_TURNS = 16
+
+# Commands that rewrite a program; a text that several workloads have is counted once.
+REWRITING = ('optimise', 'move', 'tails', 'join')
+
+
+def words_of_turn() -> list[str]:
+    """The words of `passes` that make one turn."""
+    found = re.search(r'const TURN: [^=]*= \[(.*?)\];', TURN.read_text(), re.DOTALL)
+    return ['passes', *re.findall(r'Pass::(\w+)', found[1].lower().replace('pass::', 'Pass::'))]
+
+
+def turns_of(mir: str, text: str) -> int:
+    """How many turns change something, at most as many as are made."""
+    last = subprocess.run([mir, 'passes'], input=text, capture_output=True, text=True, check=True).stdout
+    for made in range(MOST_TURNS):
+        said = subprocess.run([mir, *words_of_turn()], input=last, capture_output=True, text=True, check=True).stdout
+        if said == last:
+            return made
+        last = said
+    return MOST_TURNS
+
+
+def texts(greatest: bool) -> dict[str, tuple[int, str]]:
+    """The texts of the workloads, each with its size."""
+    found: dict[str, tuple[int, str]] = {}
+    for workload in run.WORKLOADS:
+        cases = workload.cases()
+        one = (max if greatest else min)(cases, key=lambda case: case.size)
+        name = re.sub('-(optimise|move)$', '', workload.name)
+        if one.words[0] in REWRITING and one.text not in [text for _, text in found.values()]:
+            found.setdefault(name, (one.size, one.text))
+    return found
+
+
+def main() -> int:
+    """Counts the workloads that were asked for."""
+    asked = argparse.ArgumentParser(description='Counts what turns take beside one optimise.')
+    asked.add_argument('--mir', default=str(run.PROGRAM), metavar='PATH', help='the program that is measured')
+    asked.add_argument('--greatest', action='store_true', help='at the greatest size of each workload')
+    asked.add_argument('workloads', nargs='*', metavar='WORKLOAD')
+    given = asked.parse_args()
+    mir, sizes = str(Path(given.mir).resolve()), texts(given.greatest)
+    unknown = set(given.workloads) - set(sizes)
+    if unknown:
+        asked.error(f'no such workload: {", ".join(sorted(unknown))}')
+    adopt_orphans()
+    print('| Workload | Size | Turns | `optimise` | `thorough` | x |')
+    with tempfile.TemporaryDirectory(prefix='mir-bench-') as folder:
+        for name in given.workloads or sizes:
+            size, text = sizes[name]
+            once, often = (instructions(mir, Case(size, [word], text, ENDED, None), Path(folder)) / 1e6
+                           for word in ('optimise', 'thorough'))
+            print(f'| `{name}` | {size:,} | {turns_of(mir, text)} | {once:,.1f} | {often:,.1f} | {often / once:.2f} |',
+                  flush=True)
+    return 0
+
+
+if __name__ == '__main__':
+    try:
+        sys.exit(main())
+    except (Failure, OSError, subprocess.CalledProcessError) as failure:
+        sys.exit(f'bench/turns.py: {failure}')
