@@ -49,7 +49,8 @@ mapped_from : {A B : Type 0} (f : A → B) (o : Option A) (y : B) → option_map
 mapped_from f None y e = cc
 mapped_from f (Some x) y e = (x, refl, let same : f x ≡ y = cc in same)
 
--- what is marked comes from a place that is
+-- an item of those that the marks keep stands at a marked place of the whole list; its number is how many marked
+-- places come before that
 unrank : {A : Type 0} (marks : List Bool) (xs : List A) (v : ℕ) (x : A) → slice_get (marked marks xs) v ≡ Some x
     → (u : ℕ) × (slice_get marks u ≡ Some true) × (slice_get xs u ≡ Some x) × (marked_below marks u ≡ v)
 unrank [] xs v x e = cc

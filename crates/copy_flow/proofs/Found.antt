@@ -12,7 +12,7 @@ use Rattle.flow_graph.specs.declared.nodes.Node.{Node}
 use Rattle.flow_graph.specs.declared.nodes.Node.TheVariants.{Start, Skip, Assign, Print, Guard, Call, Test, Return}
 use Rattle.flow_graph.specs.Graphs.{CanMake, GraphShape, node_vars}
 use Rattle.flow_graph.specs.PathLaws.{reached_trace}
-use Rattle.path_laws.specs.KeyRows.{key_in}
+use Rattle.key_rows.specs.KeyRows.{key_in}
 use Rattle.path_laws.specs.Paths.{Since}
 use Rattle.copy_flow.specs.declared.table.VarCopy.{VarCopy}
 use Rattle.copy_flow.specs.Copies.{IsCopyOf, IsReadFor, copies_at, ends_at, is_copy, is_var}

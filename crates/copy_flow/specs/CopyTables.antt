@@ -5,7 +5,7 @@ use Rattle.mir_base.specs.declared.instructions.Rhs.{Rhs}
 use Rattle.mir_base.specs.declared.instructions.Rhs.TheVariants.{Plain, Unary, Binary}
 use Rattle.flow_graph.specs.declared.nodes.Node.{Node}
 use Rattle.flow_graph.specs.declared.nodes.Node.TheVariants.{Start, Skip, Assign, Print, Guard, Call, Test, Return}
-use Rattle.path_laws.specs.KeyRows.{HasKey}
+use Rattle.key_rows.specs.KeyRows.{HasKey}
 use Rattle.copy_flow.specs.declared.table.VarCopy.{VarCopy}
 
 -- the copy of the one variable in the other, unless they are one

@@ -2,7 +2,7 @@
 ghost use Rattle.std.specs.Prelude.{length, IfOk};
 ghost use Rattle.mir_base.specs.Shapes.{AllDiffer};
 ghost use Rattle.copy_flow.specs.CopyTables.{AreCopies, AreInNodeOrder, HasCopies, HasOnlyCopies};
-ghost use Rattle.path_laws.specs.KeyRows.{AreKeyRows};
+ghost use Rattle.key_rows.specs.KeyRows.{AreKeyRows};
 ghost use Rattle.copy_flow.specs.Rows.{AreHeldRows, AreTargetRows, IsLookup, is_born, is_ended};
 
 use crate::rows::{Side, born_rows, ended_rows, side_rows};

@@ -4,8 +4,8 @@ ghost use Rattle.copy_flow.specs.CopyTables.{copy_of};
 
 use crate::table::{VarCopy, copy_of};
 use flow_graph::Node;
+use key_rows::KeyOf;
 use key_table::Key;
-use path_laws::KeyOf;
 
 impl Key for VarCopy {
     ghost same = { same_copies };

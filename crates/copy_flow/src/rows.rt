@@ -1,6 +1,6 @@
 // Which copies have a variable, and which a node is or ends.
 ghost use Rattle.std.specs.Prelude.{◌≡◌, length, IfOk};
-ghost use Rattle.path_laws.specs.KeyRows.{AreKeyRows};
+ghost use Rattle.key_rows.specs.KeyRows.{AreKeyRows};
 ghost use Rattle.copy_flow.specs.CopyTables.{AreCopies};
 ghost use Rattle.copy_flow.specs.Rows.{AreTargetRows, is_born, is_ended, is_on_either, is_on_side, on_side};
 
@@ -8,9 +8,9 @@ use crate::keys::AsCopy;
 use crate::table::VarCopy;
 use bit_rows::Rows;
 use flow_graph::Graph;
+use key_rows::{assigned_rows, key_rows, mark_var};
 use key_table::KeyTable;
 use mir_base::Memory;
-use path_laws::{assigned_rows, key_rows, mark_var};
 use std::alloc::Global;
 
 // ---- by variables

@@ -5,9 +5,9 @@ ghost use Rattle.copy_flow.specs.CopyTables.{AreCopies, AreInNodeOrder, HasCopie
 
 use crate::keys::AsCopy;
 use flow_graph::{Graph, Node};
+use key_rows::node_keys;
 use key_table::KeyTable;
 use mir_base::{Memory, Operand, Rhs};
-use path_laws::node_keys;
 use std::alloc::Global;
 
 /// The copy `target <- source` of a variable in another, both by number.

@@ -9,7 +9,7 @@ use Rattle.flow_graph.specs.declared.nodes.Node.{Node}
 use Rattle.flow_graph.specs.declared.nodes.Node.TheVariants.{Start, Skip, Assign, Print, Guard, Call, Test, Return}
 use Rattle.flow_graph.specs.Graphs.{GraphShape, node_reads}
 use Rattle.flow_graph.specs.Numbering.{is_in}
-use Rattle.path_laws.specs.KeyRowLaws.{false_bit}
+use Rattle.path_laws.specs.FalseRows.{false_bit}
 use Rattle.path_laws.specs.Paths.{AreRows, has_bit}
 use Rattle.dead_code.specs.Dead.{PassesBack}
 use Rattle.dead_code.specs.LiveRows.{IsMarkedAt}
@@ -19,7 +19,7 @@ use Rattle.graph_edit.specs.VarLaws.{is_in_append, shared_more}
 
 -- ---- truth values
 
--- one bit written by two lists one after the other
+-- two writes of one value to a bit, each under a condition, are one write where either condition holds
 write_twice : (value old here one two : Bool) → (if here && two then value else (if here && one then value else old)) ≡ (if here && (one || two) then value else old)
 write_twice value old true true true = refl
 write_twice value old true true false = refl

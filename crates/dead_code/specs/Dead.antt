@@ -21,7 +21,8 @@ use Rattle.dead_code.specs.Pruned.{IsDeadAt}
 -- ---- one node
 
 -- one row, which told what is live after a node of the graph, tells what is live before it, and all else stays
-pub record PassesBack (graph : GraphShape) (node : Node) (n : ℕ) (old new : List (List Bool)) : Type 0 where
+pub record PassesBack (graph : GraphShape) (node : Node) (n : ℕ)
+    (old new : List (List Bool)) : Type 0 where
   pub len : length new ≡ length old
   pub each : (m : ℕ) → length (row_of new m) ≡ length (row_of old m)
   pub bits : (m x : ℕ) → has_bit new x m
@@ -41,7 +42,7 @@ is_dead_by live row (Return a) = false
 
 -- ---- blocks
 
--- past the nodes of a block, one after the other from its last, x is live where it was live after the block or not
+-- whether x is live before these nodes of a block, by whether it is live after the last of them
 abbrev pub live_past : GraphShape → ℕ → Bool → List ℕ → Bool
 live_past graph x after list = passed_all (reads_at graph x) (assigns_at graph x) after (reverse list)
 
@@ -64,7 +65,8 @@ AreBlockAccesses graph lists made = AreAccessesTo graph lists (length lists) mad
 pub record AreLiveAfterFrom (graph : GraphShape) (lists : List (List ℕ)) (block : ℕ)
     (rows : List (List Bool)) : Type 0 where
   pub shape : AreRows (length lists) (length graph.vars) rows
-  pub are : (b x last : ℕ) (list : List ℕ) → block ≤ b → x < length graph.vars → slice_get lists b ≡ Some list
+  pub are : (b x last : ℕ) (list : List ℕ) → block ≤ b → x < length graph.vars
+      → slice_get lists b ≡ Some list
       → Ends last list → (has_bit rows x b ≡ true) ↔ IsLiveAfter graph x last
 
 -- of all blocks
@@ -74,7 +76,8 @@ AreLiveAfter graph lists rows = AreLiveAfterFrom graph lists 0 rows
 -- ---- flags
 
 -- one flag for each node; those of the blocks below this number tell whether the node is a dead assignment
-pub record AreFlaggedTo (graph : GraphShape) (lists : List (List ℕ)) (below : ℕ) (dead : List Bool) : Type 0 where
+pub record AreFlaggedTo (graph : GraphShape) (lists : List (List ℕ)) (below : ℕ)
+    (dead : List Bool) : Type 0 where
   pub long : length dead ≡ length graph.nodes
   pub are : (b n : ℕ) (flag : Bool) → b < below → StandsIn lists b n → slice_get dead n ≡ Some flag
       → (flag ≡ true) ↔ IsDeadAt graph n

@@ -32,7 +32,8 @@ removing changes = record { inserts = λ n. []; changes = changes }
 -- `Live n x`: the variable x is live before node n. What a node reads is live before it, and what is live after it and
 -- is not assigned by it; an assignment is removed only where its variable is not live after it, and where it never
 -- traps
-pub record RemovesDead (graph : GraphShape) (changes : ℕ → Change) (Live : ℕ → ℕ → Type 0) : Type 0 where
+pub record RemovesDead (graph : GraphShape) (changes : ℕ → Change)
+    (Live : ℕ → ℕ → Type 0) : Type 0 where
   pub reads : (n : ℕ) (node : Node) → slice_get graph.nodes n ≡ Some node → changes n ≡ Unchanged
       → AllLive (Live n) (node_reads graph node)
   pub back : (n s x : ℕ) (node : Node) → slice_get graph.nodes n ≡ Some node

@@ -61,7 +61,7 @@ pairs_or (a ∷ ls) (b ∷ bs) (c ∷ cs) (d ∷ ds) p q = ap (λ l. (a || c, b 
 
 -- ---- what arrives
 
--- a row with another joined to it, where it is to be
+-- the row with the bits of `more` joined to it where `to_be` is true, and else the row itself
 abbrev pub or_where : Bool → List Bool → List Bool → List Bool
 or_where to_be row more = if to_be then or_bits row more else row
 

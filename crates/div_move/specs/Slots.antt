@@ -21,7 +21,7 @@ pub record AreRoomy (first second room other : List Bool) : Type 0 where
 abbrev pub BelowSlot : Bool × Bool → Bool × Bool → Type 0
 BelowSlot x y = BelowBit x.0 y.0 × BelowBit x.1 y.1
 
--- so it is of each expression
+-- of each expression, what is known in the first list is known in the second
 abbrev pub BelowSlots : List (Bool × Bool) → List (Bool × Bool) → Type 0
 BelowSlots = Pointwise BelowSlot
 

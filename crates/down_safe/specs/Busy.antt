@@ -11,7 +11,7 @@ use Rattle.motion_rewrite.specs.Placements.{IsAvailable, IsSafe, Places, places_
 use Rattle.motion_rewrite.specs.Rows.{AreRowsOf, AreRowsWhere}
 use Rattle.motion_rewrite.specs.ExprTables.{ForEachExpr}
 use Rattle.down_safe.specs.declared.safety.Busy.{Busy}
-use Rattle.down_safe.specs.declared.safety.EarlySites.{EarlySites}
+use Rattle.down_safe.specs.declared.safety.EarliestSites.{EarliestSites}
 use Rattle.down_safe.specs.declared.safety.Sites.{Sites}
 
 -- the graph is split, and the rows say where each expression of the table is used and killed
@@ -31,15 +31,15 @@ IsEarliest graph e Down n = Down n
 pub record AreBusyRows (graph : GraphShape) (table : List Expr) (Down : Expr → ℕ → Type 0)
     (busy : Busy) : Type 0 where
   pub uses : AreRowsOf graph table (uses graph) busy.uses
-  pub up : AreRowsWhere graph table (IsAvailable graph) busy.up
-  pub down : AreRowsWhere graph table Down busy.down
-  pub early : AreRowsWhere graph table (λ e. IsEarliest graph e (Down e)) busy.early
+  pub available : AreRowsWhere graph table (IsAvailable graph) busy.available
+  pub anticipatable : AreRowsWhere graph table Down busy.anticipatable
+  pub earliest : AreRowsWhere graph table (λ e. IsEarliest graph e (Down e)) busy.earliest
 
 -- the rows say where each expression of the table is used, and earliest
 pub record AreEarliestOf (graph : GraphShape) (table : List Expr) (Down : Expr → ℕ → Type 0)
-    (earliest : EarlySites) : Type 0 where
-  pub uses : AreRowsOf graph table (uses graph) earliest.uses
-  pub early : AreRowsWhere graph table (λ e. IsEarliest graph e (Down e)) earliest.early
+    (sites : EarliestSites) : Type 0 where
+  pub uses : AreRowsOf graph table (uses graph) sites.uses
+  pub earliest : AreRowsWhere graph table (λ e. IsEarliest graph e (Down e)) sites.earliest
 
 -- it inserts at the earliest nodes, and replaces every use
 pub record IsBusy (graph : GraphShape) (e : Expr) (Down : ℕ → Type 0) (p : Places) : Type 0 where

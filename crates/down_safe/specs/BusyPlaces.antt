@@ -4,4 +4,4 @@ use Rattle.down_safe.specs.declared.safety.Busy.{Busy}
 
 -- it inserts where an expression is earliest, and replaces where it is used
 abbrev pub placement_of : Busy → Placement
-placement_of busy = record { insert = busy.early; replace = busy.uses }
+placement_of busy = record { insert = busy.earliest; replace = busy.uses }

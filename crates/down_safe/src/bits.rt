@@ -28,39 +28,39 @@ pub(crate) fn available_rows(alloc: Global, sites: &Sites<'_>) -> Result<Rows, M
     Ok(rows)
 }
 
-/// At which nodes each bit is earliest: it is down there, and some predecessor kills it or is neither up nor down. The
-/// rows of bits that are up become those of frontiers.
-pub(crate) fn early_rows(
+/// At which nodes each bit is earliest: it is anticipatable there, and at some predecessor it is killed, or neither
+/// available nor anticipatable. The rows of available bits become those of frontiers.
+pub(crate) fn earliest_rows(
     alloc: Global,
     sites: &Sites<'_>,
-    up: Rows,
-    down: &Rows,
+    available: Rows,
+    anticipatable: &Rows,
 ) -> Result<Rows, Memory>
     requires edges { sites.now.edges.now ≡ edges_of sites.now.graph.now.nodes }
     requires kills { HaveShape sites.now.graph.now (width sites.now.kills.now) sites.now.kills.now }
-    requires up { HaveShape sites.now.graph.now (width sites.now.kills.now) up }
-    requires down { HaveShape sites.now.graph.now (width sites.now.kills.now) down.now }
+    requires available { HaveShape sites.now.graph.now (width sites.now.kills.now) available }
+    requires anticipatable { HaveShape sites.now.graph.now (width sites.now.kills.now) anticipatable.now }
     ensures shape { IfOk result (HaveShape sites.now.graph.now (width sites.now.kills.now)) }
-    ensures early { IfOk result
-        (AreEarliestRows sites.now.graph.now sites.now.kills.now up down.now) }
+    ensures earliest { IfOk result
+        (AreEarliestRows sites.now.graph.now sites.now.kills.now available anticipatable.now) }
 {
-    let frontier = frontier_rows(sites.kills, up, down);
+    let frontier = frontier_rows(sites.kills, available, anticipatable);
     let mut rows = some_predecessor(alloc, sites.graph, sites.edges, &frontier)?;
-    rows.and_rows(down);
+    rows.and_rows(anticipatable);
     Ok(rows)
 }
 
-/// For which bits a node is a frontier, before which no evaluation of them moves up: those that it kills, and those
-/// that are neither up nor down there.
-fn frontier_rows(kills: &Rows, up: Rows, down: &Rows) -> Rows
+/// For which bits a node is a frontier, before which no evaluation of them moves: those that it kills, and those that
+/// are neither available nor anticipatable there.
+fn frontier_rows(kills: &Rows, available: Rows, anticipatable: &Rows) -> Rows
     requires kills { AreRows (length kills.now) (width kills.now) kills.now }
-    requires up { AreRows (length kills.now) (width kills.now) up }
-    requires down { AreRows (length kills.now) (width kills.now) down.now }
+    requires available { AreRows (length kills.now) (width kills.now) available }
+    requires anticipatable { AreRows (length kills.now) (width kills.now) anticipatable.now }
     ensures shape { AreRows (length kills.now) (width kills.now) result }
-    ensures bits { AreFrontierRows kills.now up down.now result }
+    ensures bits { AreFrontierRows kills.now available anticipatable.now result }
 {
-    let mut rows = up;
-    rows.or_rows(down);
+    let mut rows = available;
+    rows.or_rows(anticipatable);
     rows.flip_rows(0);
     rows.or_rows(kills);
     rows

@@ -6,8 +6,8 @@ ghost use Rattle.motion_rewrite.specs.Placements.{IsAvailable};
 ghost use Rattle.motion_rewrite.specs.Rows.{AreRowsWhere};
 ghost use Rattle.down_safe.specs.Busy.{AreBusyRows, AreEarliestOf, AreSitesOf, IsEarliest};
 
-use crate::bits::{available_rows, early_rows};
-use crate::{Busy, DownRule, EarlySites, Sites};
+use crate::bits::{available_rows, earliest_rows};
+use crate::{Busy, DownRule, EarliestSites, Sites};
 use bit_rows::Rows;
 use flow_graph::{Blocks, Edges, Graph};
 use mir_base::Memory;
@@ -55,15 +55,15 @@ fn busy_over<R: DownRule>(
         uses: &uses,
         kills: &kills,
     };
-    let up = available(alloc, &sites, table)?;
-    let down = rule.down(alloc, &sites, table)?;
-    let kept = up.copied(alloc)?;
-    let early = earliest(alloc, rule, &sites, table, up, &down)?;
+    let available = available(alloc, &sites, table)?;
+    let anticipatable = rule.down(alloc, &sites, table)?;
+    let kept = available.copied(alloc)?;
+    let earliest = earliest(alloc, rule, &sites, table, available, &anticipatable)?;
     Ok(Busy {
         uses,
-        up: kept,
-        down,
-        early,
+        available: kept,
+        anticipatable,
+        earliest,
     })
 }
 
@@ -76,7 +76,7 @@ pub fn earliest_over<R: DownRule>(
     edges: &Edges,
     blocks: &Blocks,
     table: &ExprTable,
-) -> Result<EarlySites, Memory>
+) -> Result<EarliestSites, Memory>
     requires split { IsSplit graph.now.nodes }
     requires edges { edges.now ≡ edges_of graph.now.nodes }
     requires blocks { AreBlocksOf graph.now.nodes blocks.now }
@@ -91,10 +91,10 @@ pub fn earliest_over<R: DownRule>(
         uses: &uses,
         kills: &kills,
     };
-    let up = available(alloc, &sites, table)?;
-    let down = rule.down(alloc, &sites, table)?;
-    let early = earliest(alloc, rule, &sites, table, up, &down)?;
-    Ok(EarlySites { uses, early })
+    let available = available(alloc, &sites, table)?;
+    let anticipatable = rule.down(alloc, &sites, table)?;
+    let earliest = earliest(alloc, rule, &sites, table, available, &anticipatable)?;
+    Ok(EarliestSites { uses, earliest })
 }
 
 /// Available: every path from Start has evaluated the expression, and no operand has been assigned since.
@@ -108,24 +108,26 @@ fn available(alloc: Global, sites: &Sites<'_>, table: &ExprTable) -> Result<Rows
     Ok(rows)
 }
 
-/// Earliest: down, with a predecessor that kills the expression or is neither available nor down.
+/// Earliest: down by the rule, with a predecessor that kills the expression, or at which it is neither available nor
+/// down.
 fn earliest<R: DownRule>(
     alloc: Global,
     rule: &R,
     sites: &Sites<'_>,
     table: &ExprTable,
-    up: Rows,
-    down: &Rows,
+    available: Rows,
+    anticipatable: &Rows,
 ) -> Result<Rows, Memory>
     requires sites { AreSitesOf sites.now table.now }
-    requires up { AreRowsWhere sites.now.graph.now table.now (IsAvailable sites.now.graph.now) up }
-    requires down { AreRowsWhere sites.now.graph.now table.now
-        (R.is_down rule.now sites.now.graph.now) down.now }
+    requires available { AreRowsWhere sites.now.graph.now table.now
+        (IsAvailable sites.now.graph.now) available }
+    requires anticipatable { AreRowsWhere sites.now.graph.now table.now
+        (R.is_down rule.now sites.now.graph.now) anticipatable.now }
     ensures { IfOk result (AreRowsWhere sites.now.graph.now table.now
         (λ e. IsEarliest sites.now.graph.now e (R.is_down rule.now sites.now.graph.now e))) }
 {
     let _ = rule;
     let _ = table;
-    let rows = early_rows(alloc, sites, up, down)?;
+    let rows = earliest_rows(alloc, sites, available, anticipatable)?;
     Ok(rows)
 }

@@ -17,4 +17,4 @@ mod safety;
 pub use equations::{busy, earliest_over};
 pub use placement::busy_admits;
 pub use rule::{DownRule, EveryPath};
-pub use safety::{Busy, EarlySites, Sites};
+pub use safety::{Busy, EarliestSites, Sites};

@@ -24,18 +24,18 @@ pub struct Busy {
     /// Where an expression is used.
     pub uses: Rows,
     /// Where it is available: every path from Start has evaluated it, and no operand has been assigned since.
-    pub up: Rows,
-    /// Where it is down by the rule.
-    pub down: Rows,
-    /// Where it is earliest: down, with a predecessor that kills it or is not safe.
-    pub early: Rows,
+    pub available: Rows,
+    /// Where it is down by the rule: what follows uses it. By `EveryPath` that is where it is anticipatable.
+    pub anticipatable: Rows,
+    /// Where it is earliest: down by the rule, with a predecessor that kills it or is not safe.
+    pub earliest: Rows,
 }
 
 /// Where expressions are used and earliest: each has one row for each node of a graph, and one bit for each expression.
 #[derive(Drop)]
-pub struct EarlySites {
+pub struct EarliestSites {
     /// Where an expression is used.
     pub uses: Rows,
     /// Where it is earliest: down by the rule, with a predecessor that kills it or is not safe.
-    pub early: Rows,
+    pub earliest: Rows,
 }

@@ -19,7 +19,7 @@ has_more entries s = nat_lt 1 (slice_index entries s)
 abbrev pub CountEntries : List Node → List ℕ → Type 0
 CountEntries nodes counts = (s : ℕ) → slice_index counts s ≡ min 2 (length (preds_of nodes s))
 
--- and these successors counted too
+-- the second counts are the first with these successors counted too, up to two for each node
 abbrev pub AddEntries : List ℕ → List ℕ → List ℕ → Type 0
 AddEntries counts counts' succs = (s : ℕ)
     → slice_index counts' s ≡ min 2 (slice_index counts s + times_in s succs)

@@ -8,7 +8,7 @@ use Rattle.mir_base.specs.declared.instructions.Inst.TheVariants as insts
 use Rattle.mir_base.specs.declared.instructions.Test.{Test as Condition}
 use Rattle.mir_base.specs.Frames.{shared_vars}
 use Rattle.flow_graph.specs.NumberingLaws.{seen_grows}
-use Rattle.flow_graph.proofs.Globals.{shared_in, shared_index}
+use Rattle.flow_graph.specs.SeenGlobals.{shared_in, shared_index}
 use Rattle.std.proofs.lemmas.Bool.{cases_lt}
 use Rattle.mir_base.specs.Shapes.{inst_vars, receives_in, IsTarget}
 use Rattle.flow_graph.specs.declared.plan.Item.{Item}
@@ -20,8 +20,8 @@ use Rattle.flow_graph.specs.Lowered.{CanLower, target_of}
 use Rattle.flow_graph.specs.Plans.{IsPlan, after_node, first_open, is_placed, next_item, start_succ}
 use Rattle.flow_graph.specs.Numbering.{is_in, first_index, renamed, renumbered, seen_in}
 use Rattle.flow_graph.specs.Layouts.{IsLaid, emitted, emitted_by, item_insts, place_in, plain_body}
-use Rattle.flow_graph.proofs.Plans.{is_plan_drop, placed_at, place_at, taken_placed, is_placed_drop, size_is, emitted_drop, no_receive, all_received}
-use Rattle.flow_graph.proofs.Renames.{all_seen, inst_in, positions_differ, renamed_receives}
+use Rattle.flow_graph.specs.PlanLaws.{is_plan_drop, placed_at, place_at, taken_placed, is_placed_drop, size_is, emitted_drop, no_receive, all_received}
+use Rattle.flow_graph.specs.RenamingLaws.{all_seen, inst_in, positions_differ, renamed_receives}
 
 -- ---- receives
 

@@ -25,8 +25,8 @@ use Rattle.flow_graph.specs.ListLaws.{some_at}
 use Rattle.flow_graph.specs.Numbering.{first_index, renamed, renamed_operand, seen_in}
 use Rattle.flow_graph.specs.Plans.{IsPlan, after_node, is_placed, next_item, start_succ}
 use Rattle.mir_base.specs.Frames.{shared_vars}
-use Rattle.flow_graph.proofs.Plans.{Next, at_placed, bottom, is_placed_drop, item_inst_at, last, next_of, place_at, placed_at, taken_placed, then_}
-use Rattle.flow_graph.proofs.Renames.{AllIn, all_seen, inst_in, position_holds}
+use Rattle.flow_graph.specs.PlanLaws.{Next, at_placed, bottom, is_placed_drop, item_inst_at, last, next_of, place_at, placed_at, taken_placed, then_}
+use Rattle.flow_graph.specs.RenamingLaws.{AllIn, all_seen, inst_in, position_holds}
 
 -- ---- every node has a place
 

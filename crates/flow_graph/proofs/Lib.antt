@@ -6,16 +6,10 @@ pub mod EdgeOrder
 pub mod Splits
 pub mod Lowers
 pub mod LowerMade
-pub mod Plans
 pub mod Scans
 pub mod Emits
-pub mod Places
-pub mod Globals
 pub mod Mapping
-pub mod Renames
 pub mod SeenLists
-pub mod Laid
-pub mod CallLaws
 pub mod Fitting
 pub mod LaidDivisions
 pub mod LoweredDivisions

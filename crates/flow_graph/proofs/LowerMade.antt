@@ -15,7 +15,7 @@ use Rattle.flow_graph.specs.Lowered.{place_node, nodes_from, all_nodes, received
 use Rattle.flow_graph.proofs.Keeps.{made_same, made_cheaper}
 use Rattle.flow_graph.proofs.Lowers.{places_same, places_cheaper}
 use Rattle.flow_graph.specs.Keeps.{AsGraph, AsUnit, Keeps}
-use Rattle.flow_graph.proofs.CallLaws.{lowered_calls}
+use Rattle.flow_graph.specs.MadeCalls.{lowered_calls}
 
 -- receives are instructions of the body
 pub receives_few : (body : List Inst) → receives_in body ≤ length body

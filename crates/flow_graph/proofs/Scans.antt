@@ -14,7 +14,7 @@ use Rattle.flow_graph.specs.Plans.{after_node, first_open, is_placed, new_stretc
 use Rattle.flow_graph.specs.ReachWalks.{unmarked}
 use Rattle.flow_graph.specs.Placing.{ArePlaced, ItemsWithin, follower_of, open_by, open_by_item, open_if, open_item, AreClosed, FirstOpenIsAt, open_end, placed_after, plan_weight, taken_of}
 use Rattle.flow_graph.specs.MarkLaws.{unmarked_set}
-use Rattle.flow_graph.proofs.Plans.{fresh}
+use Rattle.flow_graph.specs.PlanLaws.{fresh}
 use Rattle.mir_base.specs.ItemLaws.{some_of, none_of}
 
 -- the `taken` of a Test is a node

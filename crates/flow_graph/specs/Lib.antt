@@ -43,3 +43,9 @@ pub mod DividingLaws
 pub mod DividingUnits
 pub mod FlowEdges
 pub mod FlowEdgeLaws
+pub mod PlanLaws
+pub mod PlanPlaces
+pub mod SeenGlobals
+pub mod MadeCalls
+pub mod RenamingLaws
+pub mod LayoutLaws

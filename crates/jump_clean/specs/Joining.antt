@@ -107,6 +107,6 @@ worklist_after (Some taken) worklist n = worklist ++ n ∷ []
 abbrev pub checked_nodes : List ℕ → List Node → ℕ → List Node
 checked_nodes of nodes n = nodes_after (useless_in of (slice_get nodes n)) nodes n
 
--- and the pending ones
+-- and the numbers of the pending ones
 abbrev pub checked_worklist : List ℕ → List Node → List ℕ → ℕ → List ℕ
 checked_worklist of nodes worklist n = worklist_after (useless_in of (slice_get nodes n)) worklist n

@@ -53,7 +53,8 @@ fn cleaned(alloc: Global, graph: &Graph) -> Result<Vec<Node>, Memory>
     }
 }
 
-/// The same where some node may be a jump.
+/// The nodes, of which tests that make no difference have become Skips and successors ends of chain, also where some
+/// node is a jump.
 fn changed(alloc: Global, graph: &Graph, nodes: Vec<Node>) -> Result<Vec<Node>, Memory>
     requires within { AllWithin nodes.items }
     requires copied { nodes.items ≡ graph.now.nodes }

@@ -41,14 +41,14 @@ pub(crate) fn late_rows<R: DownRule>(
     blocks: &Blocks,
     table: &ExprTable,
     used: Rows,
-    early: Rows,
+    earliest: Rows,
 ) -> Result<Late, Memory>
     requires split { IsSplit graph.now.nodes }
     requires edges { edges.now ≡ edges_of graph.now.nodes }
     requires blocks { AreBlocksOf graph.now.nodes blocks.now }
     requires used_are { AreRowsOf graph.now table.now (uses graph.now) used }
-    requires early_are { AreRowsWhere graph.now table.now
-        (λ e. IsEarliest graph.now e (R.is_down rule.now graph.now e)) early }
+    requires earliest_are { AreRowsWhere graph.now table.now
+        (λ e. IsEarliest graph.now e (R.is_down rule.now graph.now e)) earliest }
     ensures { IfOk result (AreLateRows graph.now table.now (R.is_down rule.now graph.now)) }
 {
     let _ = rule;
@@ -59,8 +59,8 @@ pub(crate) fn late_rows<R: DownRule>(
         blocks,
         rows: &used,
     };
-    let delayed = delayed_rows(alloc, &uses, &early)?;
-    mem::drop(early);
+    let delayed = delayed_rows(alloc, &uses, &earliest)?;
+    mem::drop(earliest);
     let latest = latest_rows(alloc, &uses, &delayed)?;
     let isolated = isolated_rows(alloc, &uses, &latest)?;
     Ok(Late {
@@ -73,15 +73,15 @@ pub(crate) fn late_rows<R: DownRule>(
 
 /// Delayed: an evaluation at the earliest nodes can be put off to here. On every path to the node stands an earliest
 /// node, from which on no node before it uses the expression.
-fn delayed_rows(alloc: Global, uses: &Uses<'_>, early: &Rows) -> Result<Rows, Memory>
-    requires { AreLikeUses uses.now early.now }
-    ensures shape { IfOk result (HaveShape uses.now.graph.now (width early.now)) }
-    ensures bits { IfOk result (AreDelayedRows uses.now.graph.now early.now uses.now.rows.now) }
+fn delayed_rows(alloc: Global, uses: &Uses<'_>, earliest: &Rows) -> Result<Rows, Memory>
+    requires { AreLikeUses uses.now earliest.now }
+    ensures shape { IfOk result (HaveShape uses.now.graph.now (width earliest.now)) }
+    ensures bits { IfOk result (AreDelayedRows uses.now.graph.now earliest.now uses.now.rows.now) }
 {
-    let born = early.without(alloc, uses.rows)?;
+    let born = earliest.without(alloc, uses.rows)?;
     let blocks = uses.blocks;
     let mut rows = forward_all_over(alloc, uses.graph, uses.edges, blocks, &born, uses.rows)?;
-    rows.or_rows(early);
+    rows.or_rows(earliest);
     Ok(rows)
 }
 

@@ -10,7 +10,7 @@ ghost use Rattle.latest_place.specs.Lazy.{AreLateRows, AreLazy, IsLazyPlacement}
 use crate::Late;
 use crate::equations::{late_rows, placement_of};
 use crate::parts::placed_by_parts;
-use down_safe::{Busy, DownRule, EarlySites, earliest_over};
+use down_safe::{Busy, DownRule, EarliestSites, earliest_over};
 use flow_graph::{Blocks, Edges, Graph};
 use mir_base::Memory;
 use motion_rewrite::{ExprTable, Placement};
@@ -34,8 +34,8 @@ pub fn late<R: DownRule>(
 {
     let blocks = Blocks::of(alloc, graph, edges)?;
     let used = busy.uses.copied(alloc)?;
-    let early = busy.early.copied(alloc)?;
-    late_rows(alloc, rule, graph, edges, &blocks, table, used, early)
+    let earliest = busy.earliest.copied(alloc)?;
+    late_rows(alloc, rule, graph, edges, &blocks, table, used, earliest)
 }
 
 /// The lazy placement of each expression of the table, with one row for each node and one bit for each expression: it
@@ -81,8 +81,11 @@ pub(crate) fn placed<R: DownRule>(
     requires blocks { AreBlocksOf graph.now.nodes blocks.now }
     ensures { IfOk result (IsLazyPlacement (R.is_down rule.now) graph.now table.now) }
 {
-    let EarlySites { uses: used, early } = earliest_over(alloc, rule, graph, edges, blocks, table)?;
-    let late = late_rows(alloc, rule, graph, edges, blocks, table, used, early)?;
+    let EarliestSites {
+        uses: used,
+        earliest,
+    } = earliest_over(alloc, rule, graph, edges, blocks, table)?;
+    let late = late_rows(alloc, rule, graph, edges, blocks, table, used, earliest)?;
     let placement = placement_of(late.uses, late.latest, late.isolated);
     Ok(placement)
 }

@@ -36,7 +36,7 @@ module _ (nodes : List Node) where
     returns = returns;
   }
 
-  -- a Return is reached from a node before one from which it is
+  -- where a Return is reached from a node, one is reached from each node before it
   pub reaches_back : (m n : ℕ) → HasEdge nodes m n → ReachesReturn nodes n → ReachesReturn nodes m
   reaches_back m n edge reaches = record { later = n ∷ reaches.later; is_path = (edge, reaches.is_path); last = reaches.last; ends = reaches.ends; returns = reaches.returns }
 

@@ -9,7 +9,7 @@ use Rattle.mir_base.specs.ExpressionVars.{expr_vars, rhs_of}
 use Rattle.mir_base.specs.SameExpressions.{expr_is, expr_itself, same_expr}
 use Rattle.key_table.specs.Keys.{IsWithKey, IsWithSome}
 use Rattle.key_table.specs.KeyLaws.{is_inserted, put_only}
-use Rattle.path_laws.specs.Gathered.{TakesKeys}
+use Rattle.key_rows.specs.Gathered.{TakesKeys}
 use Rattle.mir_base.specs.Expressions.{divides, is_movable}
 use Rattle.mir_base.specs.declared.instructions.Rhs.{Rhs}
 use Rattle.mir_base.specs.declared.instructions.Rhs.TheVariants.{Plain, Unary, Binary}

@@ -11,7 +11,7 @@ use Rattle.flow_graph.specs.Graphs.{GraphShape, node_rhs, rhs_at}
 use Rattle.flow_graph.specs.Numbering.{is_in}
 use Rattle.flow_graph.specs.NumberingLaws.{in_any}
 use Rattle.graph_edit.specs.VarLaws.{assigns_none}
-use Rattle.path_laws.specs.KeyRows.{HasKey, any_assigned, any_below, key_in}
+use Rattle.key_rows.specs.KeyRows.{HasKey, any_assigned, any_below, key_in}
 use Rattle.motion_rewrite.specs.Expressions.{node_kills, node_uses}
 
 -- the expression that the right side of a node is

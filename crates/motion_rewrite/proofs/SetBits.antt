@@ -14,7 +14,7 @@ bits_skip (suc d) from row within none =
     ∙ bits_skip d (suc from) row (omega (arith, within)) (λ j low high. none j (omega (arith, low)) (omega (arith, high)))
     ∙ ap (λ n. set_from n (drop n row)) same
 
--- up to the next true one
+-- from bit `from` on, the numbers of the true bits are that of the next true one, and those behind it
 pub bits_step : (from b : ℕ) (row : List Bool) → from ≤ b → b < length row → ((j : ℕ) → from ≤ j → j < b → get_or row j false ≡ false) → get_or row b false ≡ true
     → set_from from (drop from row) ≡ b ∷ set_from (b + 1) (drop (b + 1) row)
 bits_step from b row low within none set =

@@ -4,7 +4,7 @@ use Rattle.mir_base.specs.declared.instructions.Expr.{Expr}
 use Rattle.mir_base.specs.ExpressionVars.{expr_vars}
 use Rattle.flow_graph.specs.Graphs.{GraphShape}
 use Rattle.flow_graph.specs.Numbering.{is_in}
-use Rattle.path_laws.specs.KeyRows.{AreKeyRows, AreKeyRowsWhere}
+use Rattle.key_rows.specs.KeyRows.{AreKeyRows, AreKeyRowsWhere}
 use Rattle.path_laws.specs.Paths.{has_bit}
 
 -- one row for each node and one bit for each expression: whether the test holds of the expression at the node

@@ -2,7 +2,7 @@
 ghost use Rattle.std.specs.Prelude.{◌≡◌, ◌↔◌, ℕ, ◌<◌, true, length, IfOk, IfSome, Some};
 ghost use Rattle.mir_base.specs.ExpressionVars.{expr_vars};
 ghost use Rattle.bit_rows.specs.Bits.{row_of};
-ghost use Rattle.path_laws.specs.KeyRows.{SetsBitAt};
+ghost use Rattle.key_rows.specs.KeyRows.{SetsBitAt};
 ghost use Rattle.path_laws.specs.Paths.{AreRows};
 ghost use Rattle.motion_rewrite.specs.Expressions.{kills, uses};
 ghost use Rattle.motion_rewrite.specs.ExprTables.{ForEachExpr};
@@ -12,8 +12,8 @@ use crate::ExprTable;
 use crate::table::Written;
 use bit_rows::Rows;
 use flow_graph::Graph;
+use key_rows::{KeyOf, assigned_rows, key_rows, mark_operand};
 use mir_base::{Expr, Memory};
-use path_laws::{KeyOf, assigned_rows, key_rows, mark_operand};
 use std::alloc::Global;
 
 /// At which nodes each expression of the table is used: one row for each node, one bit for each expression. It fails

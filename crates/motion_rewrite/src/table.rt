@@ -6,9 +6,9 @@ ghost use Rattle.flow_graph.specs.Graphs.{node_rhs};
 ghost use Rattle.motion_rewrite.specs.ExprTables.{AreDividing, AreMovable, AreOver, dividing_at, dividing_exprs, dividing_in, expr_at, movable_exprs};
 
 use flow_graph::{Graph, Node};
+use key_rows::{KeyOf, node_keys};
 use key_table::KeyTable;
 use mir_base::{Expr, Memory, Rhs, divides, expr_of};
-use path_laws::{KeyOf, node_keys};
 use std::alloc::Global;
 
 /// A table of distinct expressions, numbered from 0. Contracts see it as the list of them.

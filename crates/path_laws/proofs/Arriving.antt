@@ -16,7 +16,7 @@ use Rattle.node_list.specs.Lists.{list_at}
 use Rattle.path_laws.specs.AtBlocks.{AreBornAtEnds, AreBornAtHeads, AreBrought, ArePassedAlong, ArePassedBack, ComeOver, comes_over}
 use Rattle.path_laws.specs.Blockwise.{passed_all}
 use Rattle.path_laws.specs.BlockwiseLaws.{passed_complement}
-use Rattle.path_laws.specs.KeyRowLaws.{false_rows}
+use Rattle.path_laws.specs.FalseRows.{false_rows}
 use Rattle.path_laws.specs.Leads.{Leads, steps_of}
 use Rattle.path_laws.specs.Paths.{AreRows, BornBefore, has_bit}
 use Rattle.path_laws.specs.RowLaws.{Joined}

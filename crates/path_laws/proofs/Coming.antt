@@ -15,10 +15,10 @@ use Rattle.path_laws.specs.Blockwise.{HasAnswer, AreGrowing, AreBarredByPaths, i
 use Rattle.path_laws.specs.Leads.{Leads, at_seed, one_more, steps_of}
 use Rattle.flow_graph.specs.FlowEdges.{StepAlong, edge_at}
 use Rattle.path_laws.specs.Paths.{AreRows, has_bit}
-use Rattle.path_laws.proofs.Chains.{AreRuns, after_complete, last_leads, last_on, run_back}
-use Rattle.path_laws.proofs.Places.{flow_within}
+use Rattle.path_laws.specs.Chains.{AreRuns, after_complete, last_leads, last_on, run_back}
+use Rattle.path_laws.specs.Places.{flow_within}
 use Rattle.path_laws.proofs.RowsPassed.{ArePassed}
-use Rattle.path_laws.proofs.Runs.{are_runs, block_run}
+use Rattle.path_laws.specs.Runs.{are_runs, block_run}
 
 -- seeds and stops that are the same at each node
 pub leads_same : (count : ℕ) (steps : ℕ → ℕ → Type 0) (seed other stop bar : ℕ → Bool) → ((m n : ℕ) → steps m n → n < count) → ((n : ℕ) → n < count → seed n ≡ other n) → ((n : ℕ) → n < count → stop n ≡ bar n) → (n : ℕ) → n < count → Leads steps seed stop n → Leads steps other bar n

@@ -10,11 +10,11 @@ use Rattle.flow_graph.specs.declared.nodes.Node.{Node}
 use Rattle.flow_graph.specs.FlowEdges.{edge_at, first_out, flow_edges}
 use Rattle.flow_graph.specs.FlowEdgeLaws.{flow_edges_are}
 use Rattle.flow_graph.specs.Graphs.{AllWithin}
-use Rattle.path_laws.specs.KeyRowLaws.{false_bit}
+use Rattle.path_laws.specs.FalseRows.{false_bit}
 use Rattle.path_laws.specs.Leads.{SomeStep, TellSteps, steps_of}
 use Rattle.path_laws.specs.Paths.{AreRows, has_bit}
 use Rattle.path_laws.specs.RowLaws.{Written, put, written_shape}
-use Rattle.path_laws.proofs.Pushing.{pushed_before, pushed_last, pushed_shape}
+use Rattle.path_laws.specs.Pushing.{pushed_before, pushed_last, pushed_shape}
 use Rattle.path_laws.specs.LeadsLaws.{flow_step, step_edge}
 
 -- a step one way is a step back the other way

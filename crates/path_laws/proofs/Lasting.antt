@@ -15,7 +15,7 @@ use Rattle.path_laws.specs.LeadsLaws.{flow_step, step_edge}
 use Rattle.path_laws.specs.Paths.{AreRows, IsLastNode, has_bit}
 use Rattle.path_laws.specs.RowLaws.{Written, put, written_shape}
 use Rattle.path_laws.specs.Says.{both_say, either_says, not_says}
-use Rattle.path_laws.proofs.Pushing.{pushed_before, pushed_last, pushed_shape}
+use Rattle.path_laws.specs.Pushing.{pushed_before, pushed_last, pushed_shape}
 
 -- the last row has what ends at its node by `stop`, or by the successors to which the edges below this number lead, and
 -- the others are whole

@@ -18,8 +18,8 @@ use Rattle.path_laws.specs.RowLaws.{Written, put, written_shape}
 use Rattle.path_laws.specs.Seeds.{bars_of, is_end, passed_row, seeds_of}
 use Rattle.std.proofs.lemmas.List.Folds.{list_any-append}
 use Rattle.path_laws.proofs.Complements.{seed_bit}
-use Rattle.path_laws.proofs.Places.{flow_within}
-use Rattle.path_laws.proofs.Pushing.{pushed_before, pushed_last, pushed_shape}
+use Rattle.path_laws.specs.Places.{flow_within}
+use Rattle.path_laws.specs.Pushing.{pushed_before, pushed_last, pushed_shape}
 
 -- ---- one node
 

@@ -2,6 +2,7 @@ pub mod Order
 pub mod OrderLaws
 pub mod Paths
 pub mod RowLaws
+pub mod FalseRows
 pub mod Leads
 pub mod LeadsLaws
 pub mod Nets
@@ -18,7 +19,9 @@ pub mod Crossings
 pub mod Problem
 pub mod Statements
 pub mod Says
-pub mod KeyRows
-pub mod KeyRowLaws
-pub mod Gathered
-pub mod GatheredLaws
+pub mod Chains
+pub mod Runs
+pub mod Pushing
+pub mod Places
+pub mod Leaving
+pub mod Counting

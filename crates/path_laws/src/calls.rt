@@ -57,55 +57,12 @@ pub fn forward_all_over(
     told_over(alloc, graph, edges, blocks, born, stop, Statement::Before)
 }
 
-/// As `forward_all`, with the blocks of `graph` at hand, and counted: `steps` never falls, and rises by at most the
-/// number of edges from the last node of a block to the first of one, times one more than the number of bits. It fails
-/// only with `Memory`, and `steps` is then as it was.
-pub fn forward_all_in<L: Ledger>(
-    alloc: Global,
-    graph: &Graph,
-    edges: &Edges,
-    blocks: &Blocks,
-    born: &Rows,
-    stop: &Rows,
-    steps: &mut Steps<L>,
-) -> Result<Rows, Memory>
-    requires edges { edges.now ≡ edges_of graph.now.nodes }
-    requires blocks { AreBlocksOf graph.now.nodes blocks.now }
-    requires born { HaveShape graph.now (width born.now) born.now }
-    requires stop { HaveShape graph.now (width born.now) stop.now }
-    ensures shape { IfOk result (HaveShape graph.now (width born.now)) }
-    ensures paths { IfOk result (AreBornBefore graph.now born.now stop.now) }
-    ensures pushes { steps.new ≤ steps.old + push_room blocks.now edges.now born.now }
-    ensures counts { steps.old ≤ steps.new }
-    ensures err { OnErr result (steps.new ≡ steps.old) }
-{
-    let statement = Statement::Before;
-    told_in(alloc, graph, edges, blocks, born, stop, steps, statement)
-}
-
 /// Bit b at node n is true exactly where every path from n that ends at its first node that stops b, or at a Return
 /// with no such node before it, has on it a node at which b is born, the last node included. Where no path from n ends
 /// so, it is true. Rows go by nodes, and have equally many bits; `edges` are those of `graph`. It fails only with
 /// `Memory`.
 ///
 /// The complement is solved: where some path ends so and meets no birth.
-pub fn backward_all(
-    alloc: Global,
-    graph: &Graph,
-    edges: &Edges,
-    born: &Rows,
-    stop: &Rows,
-) -> Result<Rows, Memory>
-    requires edges { edges.now ≡ edges_of graph.now.nodes }
-    requires born { HaveShape graph.now (width born.now) born.now }
-    requires stop { HaveShape graph.now (width born.now) stop.now }
-    ensures shape { IfOk result (HaveShape graph.now (width born.now)) }
-    ensures paths { IfOk result (AreBornAfter graph.now born.now stop.now) }
-{
-    told(alloc, graph, edges, born, stop, Statement::After)
-}
-
-/// As `backward_all`, with the blocks of `graph` at hand. It fails only with `Memory`.
 pub fn backward_all_over(
     alloc: Global,
     graph: &Graph,
@@ -124,52 +81,9 @@ pub fn backward_all_over(
     told_over(alloc, graph, edges, blocks, born, stop, Statement::After)
 }
 
-/// As `backward_all`, with the blocks of `graph` at hand, and counted: `steps` never falls, and rises by at most the
-/// number of edges from the last node of a block to the first of one, times one more than the number of bits. It fails
-/// only with `Memory`, and `steps` is then as it was.
-pub fn backward_all_in<L: Ledger>(
-    alloc: Global,
-    graph: &Graph,
-    edges: &Edges,
-    blocks: &Blocks,
-    born: &Rows,
-    stop: &Rows,
-    steps: &mut Steps<L>,
-) -> Result<Rows, Memory>
-    requires edges { edges.now ≡ edges_of graph.now.nodes }
-    requires blocks { AreBlocksOf graph.now.nodes blocks.now }
-    requires born { HaveShape graph.now (width born.now) born.now }
-    requires stop { HaveShape graph.now (width born.now) stop.now }
-    ensures shape { IfOk result (HaveShape graph.now (width born.now)) }
-    ensures paths { IfOk result (AreBornAfter graph.now born.now stop.now) }
-    ensures pushes { steps.new ≤ steps.old + push_room blocks.now edges.now born.now }
-    ensures counts { steps.old ≤ steps.new }
-    ensures err { OnErr result (steps.new ≡ steps.old) }
-{
-    let statement = Statement::After;
-    told_in(alloc, graph, edges, blocks, born, stop, steps, statement)
-}
-
 /// Bit b at node n is true exactly where some path from n ends at a node at which b is born, with no node that stops b
 /// before that last node. Rows go by nodes, and have equally many bits; `edges` are those of `graph`. It fails only
 /// with `Memory`.
-pub fn backward_some(
-    alloc: Global,
-    graph: &Graph,
-    edges: &Edges,
-    born: &Rows,
-    stop: &Rows,
-) -> Result<Rows, Memory>
-    requires edges { edges.now ≡ edges_of graph.now.nodes }
-    requires born { HaveShape graph.now (width born.now) born.now }
-    requires stop { HaveShape graph.now (width born.now) stop.now }
-    ensures shape { IfOk result (HaveShape graph.now (width born.now)) }
-    ensures paths { IfOk result (AreBornAhead graph.now born.now stop.now) }
-{
-    told(alloc, graph, edges, born, stop, Statement::Ahead)
-}
-
-/// As `backward_some`, with the blocks of `graph` at hand. It fails only with `Memory`.
 pub fn backward_some_over(
     alloc: Global,
     graph: &Graph,
@@ -186,32 +100,6 @@ pub fn backward_some_over(
     ensures paths { IfOk result (AreBornAhead graph.now born.now stop.now) }
 {
     told_over(alloc, graph, edges, blocks, born, stop, Statement::Ahead)
-}
-
-/// As `backward_some`, with the blocks of `graph` at hand, and counted: `steps` never falls, and rises by at most the
-/// number of edges from the last node of a block to the first of one, times one more than the number of bits. It fails
-/// only with `Memory`, and `steps` is then as it was.
-pub fn backward_some_in<L: Ledger>(
-    alloc: Global,
-    graph: &Graph,
-    edges: &Edges,
-    blocks: &Blocks,
-    born: &Rows,
-    stop: &Rows,
-    steps: &mut Steps<L>,
-) -> Result<Rows, Memory>
-    requires edges { edges.now ≡ edges_of graph.now.nodes }
-    requires blocks { AreBlocksOf graph.now.nodes blocks.now }
-    requires born { HaveShape graph.now (width born.now) born.now }
-    requires stop { HaveShape graph.now (width born.now) stop.now }
-    ensures shape { IfOk result (HaveShape graph.now (width born.now)) }
-    ensures paths { IfOk result (AreBornAhead graph.now born.now stop.now) }
-    ensures pushes { steps.new ≤ steps.old + push_room blocks.now edges.now born.now }
-    ensures counts { steps.old ≤ steps.new }
-    ensures err { OnErr result (steps.new ≡ steps.old) }
-{
-    let statement = Statement::Ahead;
-    told_in(alloc, graph, edges, blocks, born, stop, steps, statement)
 }
 
 /// What a call says of the paths of each node.

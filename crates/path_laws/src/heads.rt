@@ -18,8 +18,8 @@ use std::sync::ledger::{Blank, Ledger};
 
 /// Bit b of row c is true exactly where at the first node of block c the statement of `forward_all` holds. Rows go by
 /// blocks, and have so many bits: `lost` says which bits do not come out of a block, whatever comes to it, and `held`
-/// which of the others do; of the block of Start, to which nothing comes, each bit is one or the other. What is born and
-/// stopped at which nodes is what any tables say that agree with that. It fails only with `Memory`.
+/// which of the others do; of the block of Start, to which nothing comes, each bit is one or the other. What is born
+/// and stopped at which nodes is what any tables say that agree with that. It fails only with `Memory`.
 ///
 /// The complement is solved: what comes to a block lost on some path.
 pub fn forward_all_heads(
@@ -46,9 +46,9 @@ pub fn forward_all_heads(
     Ok(rows)
 }
 
-/// Bit b of row c is true exactly where at some successor of the last node of block c the statement of `backward_some`
-/// holds. Rows go by blocks, and have so many bits: `born` says which bits are born in a block with no stop before, and
-/// `stop` which are stopped in it. It fails only with `Memory`.
+/// Bit b of row c is true exactly where at some successor of the last node of block c the statement of
+/// `backward_some_over` holds. Rows go by blocks, and have so many bits: `born` says which bits are born in a block
+/// with no stop before, and `stop` which are stopped in it. It fails only with `Memory`.
 pub fn backward_some_ends(
     alloc: Global,
     graph: &Graph,

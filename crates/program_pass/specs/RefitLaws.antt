@@ -75,7 +75,7 @@ module _ (sources targets : List UnitShape) (long : length targets ≡ length so
       let m = refit_at n lt in
       names_at targets n ∙ ap (option_map (λ (u : UnitShape). u.name)) m.target_at ∙ ap Some m.refits.name ∙ sym (names_at sources n ∙ ap (option_map (λ (u : UnitShape). u.name)) m.source_at)
 
-  -- a name is that of a source
+  -- there are no more names of targets than sources
   within : (n : ℕ) → n < length (names_of targets) → n < length sources
   within n lt = omega (arith, lt, names_long targets, long)
 

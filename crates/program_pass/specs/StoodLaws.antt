@@ -23,7 +23,7 @@ pub record IsNew (vars : ℕ) (first last end : ℕ) (node : Node) : Type 0 wher
   pub call : node_call node ≡ None
   pub no_start : (s : ℕ) → node ≡ Start s → ⊥
 
--- an assignment
+-- an assignment that leads to the end or to a new node is such a node
 new_assign : (vars first last end : ℕ) (put : Insertion) (next : ℕ)
     → (put.var < vars) × AllBelow vars (rhs_vars put.rhs) → (next ≡ end) ⊎ ((first ≤ next) × (next < last))
     → IsNew vars first last end (Assign put.var put.rhs next)

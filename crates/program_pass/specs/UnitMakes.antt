@@ -19,7 +19,7 @@ module _ (Exact Between : PassRelation) where
       let same : unit ≡ source = cc in
       subst (λ u. UnitPassed Exact Between u number target) same (record { lowered = lowered; cleaned = cleaned; passed = passed; front = front; is_passed = is; keeps = keeps; back = back })
 
-  -- one more unit
+  -- where each unit is made by the pass, and one more is, each of the longer list is
   pub each_more : (sources targets targets' : List UnitShape) (number : ℕ) (target : UnitShape)
       → length targets ≡ number → EachUnit (UnitPassed Exact Between) sources targets
       → PassedAt Exact Between sources number target → targets' ≡ targets ++ target ∷ []

@@ -20,8 +20,8 @@ use Rattle.sink_code.specs.RoundKept.{RoundKeeps}
 use Rattle.sink_rounds.specs.RoundGraphs.{AreRounds, AreRoundsFrom, HaveOneLayout, IsRound, last_round}
 use Rattle.sink_rounds.specs.RoundsKept.{RoundsKeep}
 use Rattle.sink_rounds.specs.Steps.{IsNoWorse}
-use Rattle.sink_rounds.proofs.StepLaws.{round_is_step}
-use Rattle.sink_rounds.proofs.Totals.{weighs_less}
+use Rattle.sink_rounds.specs.StepLaws.{round_is_step}
+use Rattle.sink_rounds.specs.Totals.{weighs_less}
 use Rattle.path_images.specs.Counts.{how_many, no_fewer}
 use Rattle.path_images.specs.Images.{Sets}
 use Rattle.sink_best.specs.Chains.{pattern}
@@ -35,10 +35,12 @@ use Rattle.sink_best.specs.Rest.{rests}
 
 -- ---- counts
 
+-- how many nodes are so is the sum of 1 for each of them
 many_sums : (so : ℕ → Bool) (l : List ℕ) → how_many so l ≡ sum_on (λ n. one_if (so n)) l
 many_sums so [] = refl
 many_sums so (n ∷ l) = ap (λ k. one_if (so n) + k) (many_sums so l)
 
+-- a Return is firm
 return_firm : (o : Option Node) → is_return o ≡ true → is_firm o ≡ true
 return_firm None e = absurd (false≢true e)
 return_firm (Some (Start next)) e = absurd (false≢true e)

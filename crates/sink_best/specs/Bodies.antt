@@ -19,9 +19,9 @@ use Rattle.flow_graph.specs.Paths.{HasEdge, Trace, from_start, goes_on}
 use Rattle.flow_graph.specs.Numbering.{seen_in}
 use Rattle.flow_graph.specs.Plans.{IsPlan, after_node, is_placed, next_item, start_succ}
 use Rattle.flow_graph.specs.Sums.{one_if, sum_on}
-use Rattle.flow_graph.proofs.Plans.{Next, bottom, is_placed_drop, item_inst_at, last, next_of, place_at, placed_at, size_is, taken_placed, then_}
-use Rattle.flow_graph.proofs.Laid.{seen_low}
-use Rattle.sink_rounds.proofs.Names.{same_bodies}
+use Rattle.flow_graph.specs.PlanLaws.{Next, bottom, is_placed_drop, item_inst_at, last, next_of, place_at, placed_at, size_is, taken_placed, then_}
+use Rattle.flow_graph.specs.LayoutLaws.{seen_low}
+use Rattle.sink_rounds.specs.Names.{same_bodies}
 use Rattle.mir_base.specs.declared.instructions.Operand.TheVariants.{Var}
 use Rattle.mir_base.specs.declared.instructions.Rhs.TheVariants.{Plain}
 use Rattle.graph_edit.specs.Accesses.{is_occurrence, same_rhs}
@@ -35,6 +35,7 @@ abbrev pub past_stop : ℕ → List ℕ → Option (ℕ × List ℕ)
 past_stop q [] = None
 past_stop q (slot ∷ ways) = Some (q + 1, ways)
 
+-- the place after an assignment, at which a walk stops where it divides and no way is left
 abbrev pub past_assign : Bool → ℕ → List ℕ → Option (ℕ × List ℕ)
 past_assign true q ways = past_stop q ways
 past_assign false q ways = Some (q + 1, ways)
@@ -89,6 +90,7 @@ one_walk x t body q ways a b (goes q0 w0 inst p ways' count count0 is some walk 
     let rest = one_walk x t body p ways' count count' walk (subst (λ l. Walked x t body p l count') (sym left) (subst (λ k. Walked x t body k ways'' count') (sym place) walk')) in
     e ∙ ap (λ i. inst_ones x t i + count) same ∙ ap (λ k. inst_ones x t inst' + k) rest ∙ sym e'
 
+-- a walk goes past an assignment where a way is given for it exactly if it divides
 assign_moves : (b : Bool) (k slot : ℕ) (ways : List ℕ) → past_assign b k (if b then slot ∷ ways else ways) ≡ Some (k + 1, ways)
 assign_moves true k slot ways = refl
 assign_moves false k slot ways = refl

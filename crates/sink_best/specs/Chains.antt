@@ -29,6 +29,7 @@ down_end k (suc j) c rest at = by (down_end k j c rest) at.0 at.1
     by deeper [] e = (j, omega arith, sym (cons_first (k + j) c (down k j) rest e), sym (cons_rest (k + j) c (down k j) rest e))
     by deeper (n ∷ f) e = (let r = deeper (f, cons_rest (k + j) n (down k j) (f ++ (c ∷ rest)) e) in let lt = r.1 in (r.0, omega (arith, lt), r.2, r.3))
 
+-- the numbers from one of them down are an end of them
 pub down_at : (k j i : ℕ) → i < j → IsEndOf ((k + i) ∷ down k i) (down k j)
 down_at k zero i lt = absurd (omega (arith, lt))
 down_at k (suc j) i lt = elim (cases_lt i j) [
@@ -38,6 +39,7 @@ down_at k (suc j) i lt = elim (cases_lt i j) [
 
 -- ---- insertions
 
+-- the pattern x <- t
 abbrev pub pattern : ℕ → Rhs → Insertion
 pattern x t = record { var = x; rhs = t }
 
@@ -53,7 +55,7 @@ assignment_of (Some (Call into unit operands next)) = pattern 0 (Plain (Var 0))
 assignment_of (Some (Test test taken other)) = pattern 0 (Plain (Var 0))
 assignment_of (Some (Return a)) = pattern 0 (Plain (Var 0))
 
--- one of the list is what is put for its variable
+-- each insertion of a list is what the list puts for its variable, where no two are of one variable
 pub listed_put : (puts : List Insertion) (j : ℕ) (put : Insertion) → AreApart puts → slice_get puts j ≡ Some put → put_for puts put.var ≡ Some put.rhs
 listed_put [] j put apart at = absurd (none-some put at)
 listed_put (first ∷ puts) zero put apart at =

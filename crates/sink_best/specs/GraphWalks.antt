@@ -24,6 +24,7 @@ node_does graph (Reads y) o = reads_var graph y o
 node_does graph (Sets y) o = assigns_var graph y o
 node_does graph (Is p) o = is_occurrence p.var p.rhs o
 
+-- what the node of this number does
 abbrev pub graph_does : GraphShape → Ask Insertion → ℕ → Bool
 graph_does graph q n = node_does graph q (slice_get graph.nodes n)
 
@@ -39,6 +40,7 @@ is_firm (Some (Call into unit operands next)) = true
 is_firm (Some (Test test taken other)) = true
 is_firm (Some (Return a)) = true
 
+-- the node of this number is firm
 abbrev pub firm_at : List Node → ℕ → Bool
 firm_at nodes n = is_firm (slice_get nodes n)
 
@@ -58,6 +60,7 @@ one_way (Some (Return b)) e i j a c p q = absurd (true≢false e)
 pub sinkable_loose : (o : Option Node) → is_sinkable o ≡ true → is_firm o ≡ false
 sinkable_loose o is = let w = sinkable_is o is in ap is_firm w.3 ∙ w.4
 
+-- an occurrence of a plain or movable assignment is not firm
 pub occurrence_loose : (p : Insertion) (o : Option Node) → is_occurrence p.var p.rhs o ≡ true → is_firm o ≡ false
 occurrence_loose p o is = let w = occurrence_is p.var p.rhs o is in ap is_firm w.1 ∙ w.2
 

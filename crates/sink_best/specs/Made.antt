@@ -12,8 +12,8 @@ use Rattle.graph_edit.specs.Over.{IsOver, over_path}
 use Rattle.dead_code.specs.Pruned.{IsDeadAt, pruned_from}
 use Rattle.dead_code.specs.PrunedPathLaws.{pruned_length}
 use Rattle.sink_rounds.specs.Steps.{IsSinking, IsStep}
-use Rattle.sink_rounds.proofs.StepLaws.{step_fits}
-use Rattle.sink_rounds.proofs.Unpruned.{full_stood}
+use Rattle.sink_rounds.specs.StepLaws.{step_fits}
+use Rattle.sink_rounds.specs.Unpruned.{full_stood}
 use Rattle.path_images.specs.Ends.{IsEndOf, end_length, ends_compare, longer_end, longer_length}
 use Rattle.path_images.specs.Walks.{IsPlaced, Place, lift_end, place_of}
 use Rattle.path_images.specs.Images.{Ask, IsAbove, IsImage, NoneDead, Sets}

@@ -21,7 +21,7 @@ use Rattle.sink_code.specs.Sinking.{put_for}
 use Rattle.sink_code.specs.SunkGraphs.{emptied, sinking}
 use Rattle.sink_rounds.specs.RoundGraphs.{HaveOneLayout, IsRound}
 use Rattle.sink_rounds.specs.Steps.{IsDelayedPast, IsSinking, MovesAway}
-use Rattle.sink_rounds.proofs.StepLaws.{round_is_step, round_sinking}
+use Rattle.sink_rounds.specs.StepLaws.{round_is_step, round_sinking}
 use Rattle.path_images.specs.Images.{Is}
 use Rattle.sink_best.specs.GraphWalks.{IsWalk, firm_at, is_firm, last_edge, walk_alone, walk_before, walk_within}
 use Rattle.sink_best.specs.Chains.{chain_before, down, down_at, listed_put, one_listed, pattern}

@@ -14,7 +14,7 @@ use Rattle.graph_edit.specs.InsertionGraphs.{start_entry}
 use Rattle.graph_edit.specs.InsertionNodes.{edge_cases, entry_is, new_edge, old_edge, old_get}
 use Rattle.graph_edit.specs.Insertions.{Insertion, Rewriting, Unchanged, changed, entry, put_below, rewritten, rewritten_nodes}
 use Rattle.sink_rounds.specs.Steps.{IsSinking}
-use Rattle.sink_rounds.proofs.StepLaws.{step_fits}
+use Rattle.sink_rounds.specs.StepLaws.{step_fits}
 use Rattle.path_images.specs.Ends.{IsEndOf, end_length, longer_length}
 use Rattle.path_images.specs.Walks.{IsPlaced, lift_end}
 use Rattle.path_images.specs.Sunk.{Where, at_node, in_chain, where_it_stands}

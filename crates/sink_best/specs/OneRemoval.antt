@@ -16,7 +16,7 @@ use Rattle.dead_code.specs.Liveness.{IsLiveAfter, IsLiveBefore}
 use Rattle.dead_code.specs.Pruned.{IsDeadAt, pruned_from, removed_if}
 use Rattle.dead_code.specs.PrunedLaws.{live_back, pruned_get, pruned_rewritten}
 use Rattle.dead_code.specs.Removal.{removing}
-use Rattle.sink_rounds.proofs.Unpruned.{same_succs}
+use Rattle.sink_rounds.specs.Unpruned.{same_succs}
 use Rattle.path_images.specs.Ends.{IsEndOf, cons_first, latest, latest_end, latest_here, latest_past, latest_so}
 use Rattle.path_images.specs.Images.{Ask, Is, Reads, Sets}
 use Rattle.path_images.specs.Removed.{IsOneRemoval}
@@ -44,20 +44,24 @@ module _ (graph : GraphShape) (is_graph : IsGraph graph.vars graph.received grap
 
 -- ---- the same node of a graph with other nodes
 
+-- a node does the same in a graph with as many globals
 same_does : (graph new : GraphShape) → new.shared ≡ graph.shared → (q : Ask Insertion) (node : Node)
     → node_does new q (Some node) ≡ node_does graph q (Some node)
 same_does graph new same q node = ap (λ m. node_does new q (Some m)) (sym (redirected_none (λ s. s) node (λ slot s at. refl))) ∙ redirected_does graph new same q (λ s. s) node
 
+-- where there is no node, nothing is done
 none_does : (graph : GraphShape) (q : Ask Insertion) → node_does graph q None ≡ false
 none_does graph (Reads y) = refl
 none_does graph (Sets y) = refl
 none_does graph (Is p) = refl
 
+-- a Skip does nothing
 skip_none : (graph : GraphShape) (q : Ask Insertion) (next : ℕ) → node_does graph q (Some (Skip next)) ≡ false
 skip_none graph (Reads y) next = refl
 skip_none graph (Sets y) next = refl
 skip_none graph (Is p) next = refl
 
+-- a number that is firm is that of a node
 pub firm_within : (nodes : List Node) (n : ℕ) → firm_at nodes n ≡ true → n < length nodes
 firm_within nodes n is = elim (cases_lt n (length nodes)) [
   | inl lt ↦ lt

@@ -23,8 +23,8 @@ use Rattle.sink_code.specs.DelayLaws.{delayed_apart, delayed_sinkable}
 use Rattle.sink_code.specs.Delaying.{IsDelayedTo}
 use Rattle.sink_code.specs.Sinking.{put_for}
 use Rattle.sink_rounds.specs.Steps.{IsSinking}
-use Rattle.sink_rounds.proofs.Maximal.{late_delayed}
-use Rattle.sink_rounds.proofs.StepLaws.{step_fits}
+use Rattle.sink_rounds.specs.Maximal.{late_delayed}
+use Rattle.sink_rounds.specs.StepLaws.{step_fits}
 use Rattle.path_images.specs.Ends.{IsEndOf, end_rest, end_through}
 use Rattle.path_images.specs.Images.{Ask, Is, Reads, Sets}
 use Rattle.path_images.specs.Order.{Clash, both_set, read_set, set_read}
@@ -34,6 +34,7 @@ use Rattle.sink_best.specs.Chains.{InChain, assignment_of, chain_before, down, d
 
 -- ---- what a pattern does
 
+-- what an assignment of the pattern does
 abbrev pub pattern_does : Ask Insertion → Insertion → Bool
 pattern_does (Reads y) p = is_in y (rhs_vars p.rhs)
 pattern_does (Sets y) p = nat_eq y p.var
@@ -52,6 +53,7 @@ is_removed Unchanged = false
 is_removed (Replaced rhs) = false
 is_removed Removed = true
 
+-- such a change is the removal
 removed_is : (c : Change) → is_removed c ≡ true → c ≡ Removed
 removed_is Unchanged e = absurd (false≢true e)
 removed_is (Replaced rhs) e = absurd (false≢true e)
@@ -62,12 +64,14 @@ pub late_is : (y : ℕ) (o : Option Rhs) (p : Insertion) → option_map (pattern
 late_is y None p e = absurd (none-some p e)
 late_is y (Some t) p e = (let same : pattern y t ≡ p = same_Some (pattern y t) p e in (ap (λ (q : Insertion). Some q.rhs) same, ap (λ (q : Insertion). q.var) (sym same)))
 
+-- where no pattern of y is delayed, no right side is
 late_none : (y : ℕ) (o : Option Rhs) → option_map (pattern y) o ≡ None → o ≡ None
 late_none y None e = refl
 late_none y (Some t) e = absurd (none-some (pattern y t) (sym e))
 
 -- ---- what a node blocks
 
+-- `list_any` is true where the test holds of a number of the list
 pub any_of : (f : ℕ → Bool) (y : ℕ) (xs : List ℕ) → is_in y xs ≡ true → f y ≡ true → list_any f xs ≡ true
 any_of f y [] among is = absurd (false≢true among)
 any_of f y (z ∷ xs) among is = elim (or_cases (nat_eq z y) (is_in y xs) among) [
@@ -75,6 +79,7 @@ any_of f y (z ∷ xs) among is = elim (or_cases (nat_eq z y) (is_in y xs) among)
   | inr later ↦ or_right (f z) (list_any f xs) (any_of f y xs later is)
 ]
 
+-- and where it is true, there is such a number
 pub some_of : (f : ℕ → Bool) (xs : List ℕ) → list_any f xs ≡ true → (y : ℕ) × (is_in y xs ≡ true) × (f y ≡ true)
 some_of f [] e = absurd (false≢true e)
 some_of f (z ∷ xs) e = elim (or_cases (f z) (list_any f xs) e) [
@@ -112,6 +117,7 @@ module _ (graph : GraphShape) (p : Insertion) where
 
 -- ---- a node that leads elsewhere
 
+-- it reads the same variables
 redirected_reads : (graph new : GraphShape) → new.shared ≡ graph.shared → (y : ℕ) (go : ℕ → ℕ) (node : Node)
     → is_in y (node_reads new (redirected go node)) ≡ is_in y (node_reads graph node)
 redirected_reads graph new same y go (Start next) = refl
@@ -123,6 +129,7 @@ redirected_reads graph new same y go (Call into unit operands next) = ap (λ k. 
 redirected_reads graph new same y go (Test test taken other) = refl
 redirected_reads graph new same y go (Return a) = ap (λ k. is_in y (node_reads (record graph { shared = k }) (Return a))) same
 
+-- it assigns the same variables
 redirected_sets : (graph new : GraphShape) → new.shared ≡ graph.shared → (y : ℕ) (go : ℕ → ℕ) (node : Node)
     → assigns new y (redirected go node) ≡ assigns graph y node
 redirected_sets graph new same y go (Start next) = refl
@@ -135,6 +142,7 @@ redirected_sets graph new same y go (Call (Some x) unit operands next) = ap (λ 
 redirected_sets graph new same y go (Test test taken other) = refl
 redirected_sets graph new same y go (Return a) = refl
 
+-- it is an occurrence of the same patterns
 redirected_is : (x : ℕ) (t : Rhs) (go : ℕ → ℕ) (node : Node) → is_occurrence x t (Some (redirected go node)) ≡ is_occurrence x t (Some node)
 redirected_is x t go (Start next) = refl
 redirected_is x t go (Skip next) = refl
@@ -145,6 +153,7 @@ redirected_is x t go (Call into unit operands next) = refl
 redirected_is x t go (Test test taken other) = refl
 redirected_is x t go (Return a) = refl
 
+-- so it does the same
 pub redirected_does : (graph new : GraphShape) → new.shared ≡ graph.shared
     → (q : Ask Insertion) (go : ℕ → ℕ) (node : Node)
     → node_does new q (Some (redirected go node)) ≡ node_does graph q (Some node)
@@ -152,6 +161,7 @@ redirected_does graph new same (Reads y) go node = redirected_reads graph new sa
 redirected_does graph new same (Sets y) go node = redirected_sets graph new same y go node
 redirected_does graph new same (Is p) go node = redirected_is p.var p.rhs go node
 
+-- and it is firm where the node is
 pub redirected_firm : (go : ℕ → ℕ) (node : Node) → is_firm (Some (redirected go node)) ≡ is_firm (Some node)
 redirected_firm go (Start next) = refl
 redirected_firm go (Skip next) = refl

@@ -17,7 +17,7 @@ use Rattle.flow_graph.specs.Numbering.{is_in}
 use Rattle.flow_graph.specs.Paths.{HasEdge, Trace, from_start, goes_on}
 use Rattle.flow_graph.specs.Plans.{start_succ}
 use Rattle.flow_graph.specs.Sums.{one_if}
-use Rattle.flow_graph.proofs.Plans.{place_at}
+use Rattle.flow_graph.specs.PlanLaws.{place_at}
 use Rattle.graph_edit.specs.Accesses.{assigns_at, assigns_var, blocks_at, is_occurrence, occurs_at}
 use Rattle.graph_edit.specs.InsertionNodes.{IsNew, IsOld, node_at}
 use Rattle.graph_edit.specs.Insertions.{Insertion, Rewriting, put_below, rewritten, rewritten_nodes}

@@ -15,18 +15,22 @@ abbrev ups : ℕ → ℕ → List ℕ
 ups k zero = []
 ups k (suc j) = k ∷ ups (suc k) j
 
+-- one number more stands at the end
 ups_last : (k j : ℕ) → ups k (suc j) ≡ ups k j ++ (k + j) ∷ []
 ups_last k zero = ap (λ n. n ∷ []) (let e : k ≡ k + 0 = omega arith in e)
 ups_last k (suc j) = ap (λ l. k ∷ l) (ups_last (suc k) j) ∙ ap (λ n. k ∷ (ups (suc k) j ++ n ∷ [])) (let e : suc k + j ≡ k + suc j = omega arith in e)
 
+-- numbers in descending order, read the other way round, ascend
 down_ups : (k j : ℕ) → reverse (down k j) ≡ ups k j
 down_ups k zero = refl
 down_ups k (suc j) = reverse-append ((k + j) ∷ []) (down k j) ∙ ap (λ l. l ++ (k + j) ∷ []) (down_ups k j) ∙ sym (ups_last k j)
 
+-- the way through a chain of insertions is their numbers in ascending order
 through_ups : (k : ℕ) (puts : List Insertion) (path : List ℕ) → through k puts path ≡ ups k (length puts) ++ path
 through_ups k [] path = refl
 through_ups k (put ∷ puts) path = ap (λ l. k ∷ l) (through_ups (suc k) puts path)
 
+-- the path over two paths one after the other is that over the first and then that over the second
 over_append : (inserts : ℕ → List Insertion) (old : ℕ) (a b : List ℕ) → over_path inserts old (a ++ b) ≡ over_path inserts old a ++ over_path inserts old b
 over_append inserts old [] b = refl
 over_append inserts old (n ∷ a) b =

@@ -70,6 +70,7 @@ record UpToFirm (firm : ℕ → Bool) (on p : List ℕ) : Type 0 where
   head : near ++ p ≡ f ∷ fq
   firm_f : firm f ≡ true
 
+-- each way on is one of the two
 loose_or : (firm : ℕ → Bool) (on : List ℕ) (n : ℕ) (q : List ℕ) → IsLoose firm on (n ∷ q) ⊎ UpToFirm firm on (n ∷ q)
 loose_or firm [] n q = inl tt
 loose_or firm (a ∷ on) n q = elim (loose_or firm on n q) [

@@ -26,6 +26,7 @@ abbrev pub ways_on : (nodes : List Node) (n : ℕ) (before : List ℕ) → Trace
 ways_on nodes n before from_start ways = ways
 ways_on nodes n before (goes_on m k earlier trace edge) ways = ways_on nodes m earlier trace (with_way (slice_get nodes m) edge.0 ways)
 
+-- at a node that is not firm no way is taken
 pub loose_way : (o : Option Node) (slot : ℕ) (ways : List ℕ) → is_firm o ≡ false → with_way o slot ways ≡ ways
 loose_way None slot ways e = refl
 loose_way (Some (Start next)) slot ways e = refl
@@ -37,6 +38,7 @@ loose_way (Some (Call into unit operands next)) slot ways e = absurd (true≢fal
 loose_way (Some (Test test taken other)) slot ways e = absurd (true≢false e)
 loose_way (Some (Return a)) slot ways e = absurd (true≢false e)
 
+-- the way is the same where the node leads elsewhere
 pub redirected_way : (go : ℕ → ℕ) (node : Node) (slot : ℕ) (ways : List ℕ) → with_way (Some (redirected go node)) slot ways ≡ with_way (Some node) slot ways
 redirected_way go (Start next) slot ways = refl
 redirected_way go (Skip next) slot ways = refl

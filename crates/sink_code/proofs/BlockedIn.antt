@@ -13,9 +13,9 @@ use Rattle.flow_graph.specs.Blocks.{IsBlocks}
 use Rattle.flow_graph.specs.Graphs.{GraphShape, IsGraph, is_start, node_vars}
 use Rattle.flow_graph.specs.ListLaws.{take_next}
 use Rattle.mir_base.specs.Shapes.{AllBelow}
-use Rattle.path_laws.specs.KeyRowLaws.{false_bit}
+use Rattle.path_laws.specs.FalseRows.{false_bit}
 use Rattle.path_laws.specs.Paths.{AreRows, has_bit}
-use Rattle.path_laws.proofs.Pushing.{pushed_before, pushed_last, pushed_shape}
+use Rattle.path_laws.specs.Pushing.{pushed_before, pushed_last, pushed_shape}
 use Rattle.sink_code.specs.declared.patterns.Pattern.{Pattern}
 use Rattle.sink_code.specs.declared.pattern_rows.ByVariable.{ByVariable}
 use Rattle.graph_edit.specs.Accesses.{blocks_at, blocks_pattern, assigns_of}

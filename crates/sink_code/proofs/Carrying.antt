@@ -17,10 +17,11 @@ use Rattle.flow_graph.specs.Graphs.{IsGraph}
 use Rattle.flow_graph.specs.ListLaws.{take_next}
 use Rattle.flow_graph.specs.Paths.{Begins, HasEdge, goes_on}
 use Rattle.path_laws.specs.BlockwiseLaws.{passed_next}
-use Rattle.path_laws.specs.KeyRowLaws.{bit_beside, bit_set, false_bit, false_rows, with_bit_set, with_found}
+use Rattle.key_rows.specs.KeyRowLaws.{bit_beside, bit_set, with_bit_set, with_found}
+use Rattle.path_laws.specs.FalseRows.{false_bit, false_rows}
 use Rattle.path_laws.specs.Paths.{AreRows, has_bit}
 use Rattle.path_laws.specs.RowLaws.{Written, put, written_shape}
-use Rattle.path_laws.proofs.Pushing.{pushed_before, pushed_last, pushed_shape}
+use Rattle.path_laws.specs.Pushing.{pushed_before, pushed_last, pushed_shape}
 use Rattle.sink_code.specs.declared.over.OverBlocks.{OverBlocks}
 use Rattle.sink_code.specs.declared.patterns.Pattern.{Pattern}
 use Rattle.graph_edit.specs.Accesses.{blocks_at, is_occurrence, occurs_at}

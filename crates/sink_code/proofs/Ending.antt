@@ -13,10 +13,10 @@ use Rattle.flow_graph.specs.EdgeLaws.{edge_is, edge_number}
 use Rattle.flow_graph.specs.Edges.{first_leaving}
 use Rattle.flow_graph.specs.Graphs.{IsGraph}
 use Rattle.flow_graph.specs.Paths.{HasEdge}
-use Rattle.path_laws.specs.KeyRowLaws.{false_bit}
+use Rattle.path_laws.specs.FalseRows.{false_bit}
 use Rattle.path_laws.specs.Paths.{AreRows, has_bit}
 use Rattle.path_laws.specs.RowLaws.{Written, put, written_shape}
-use Rattle.path_laws.proofs.Pushing.{pushed_before, pushed_last, pushed_shape}
+use Rattle.path_laws.specs.Pushing.{pushed_before, pushed_last, pushed_shape}
 use Rattle.path_laws.specs.Says.{both_say, not_says, off_says}
 use Rattle.sink_code.specs.declared.over.OverBlocks.{OverBlocks}
 use Rattle.sink_code.specs.declared.patterns.Pattern.{Pattern}

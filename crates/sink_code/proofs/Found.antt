@@ -22,7 +22,7 @@ use Rattle.sink_code.specs.SamePatterns.{pattern_self, same_patterns}
 
 -- ---- in another order
 
--- patterns of different places do not compare as equal
+-- a pattern that is not in a list compares as equal to none of the list
 apart : (p : Pattern) (ps : List Pattern) → ((i : ℕ) → slice_get ps i ≡ Some p → ⊥) → AllByRecursion (λ q. ghosts.eq p q ≡ false) ps
 apart p [] none = tt
 apart p (q ∷ ps) none = (by (ghosts.eq p q) refl, apart p ps (λ i at. none (suc i) at))

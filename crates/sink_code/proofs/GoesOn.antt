@@ -5,7 +5,7 @@ use Rattle.flow_graph.specs.declared.nodes.Node.{Node}
 use Rattle.flow_graph.specs.declared.nodes.Node.TheVariants.{Start, Skip, Assign, Print, Guard, Call, Test, Return}
 use Rattle.flow_graph.specs.Graphs.{GraphShape, succs_of}
 use Rattle.flow_graph.specs.Paths.{Ends, HasEdge, is_return}
-use Rattle.path_laws.proofs.Counting.{ahead_is}
+use Rattle.path_laws.specs.Counting.{ahead_is}
 use Rattle.sink_code.specs.Inside.{goes_on}
 
 -- a node with a successor is no Return

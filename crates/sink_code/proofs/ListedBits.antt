@@ -3,7 +3,8 @@ use Rattle.std.proofs.Common.{◌≡◌, ◌↔◌, ℕ, ◌+◌, ◌<◌, ◌�
 use Rattle.std.proofs.lemmas.Bool.{cases_eq, cases_lt}
 use Rattle.std.proofs.lemmas.List.{get_or_past}
 use Rattle.std.proofs.lemmas.Option.{same_Some, slice_get_within}
-use Rattle.path_laws.specs.KeyRowLaws.{bit_beside, bit_elsewhere, bit_set, false_rows, with_bit_set, with_bit_shape}
+use Rattle.key_rows.specs.KeyRowLaws.{bit_beside, bit_elsewhere, bit_set, with_bit_set, with_bit_shape}
+use Rattle.path_laws.specs.FalseRows.{false_rows}
 use Rattle.path_laws.specs.Paths.{AreRows, has_bit}
 use Rattle.sink_code.specs.declared.inside.Leaving.{Leaving}
 

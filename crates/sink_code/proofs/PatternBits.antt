@@ -18,8 +18,9 @@ use Rattle.flow_graph.specs.declared.nodes.Node.{Node}
 use Rattle.flow_graph.specs.declared.nodes.Node.TheVariants.{Start, Skip, Assign, Print, Guard, Call, Test, Return}
 use Rattle.flow_graph.specs.Graphs.{GraphShape, assigns, node_vars}
 use Rattle.flow_graph.specs.Numbering.{is_in}
-use Rattle.path_laws.specs.KeyRowLaws.{false_bit, row_at}
-use Rattle.path_laws.specs.KeyRows.{key_in}
+use Rattle.key_rows.specs.KeyRowLaws.{row_at}
+use Rattle.path_laws.specs.FalseRows.{false_bit}
+use Rattle.key_rows.specs.KeyRows.{key_in}
 use Rattle.path_laws.specs.Paths.{AreRows, has_bit}
 use Rattle.sink_code.specs.declared.patterns.Pattern.{Pattern}
 use Rattle.graph_edit.specs.Accesses.{blocks_pattern, is_occurrence}

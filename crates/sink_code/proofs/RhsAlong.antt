@@ -7,7 +7,7 @@ use Rattle.flow_graph.specs.BlockLaws.{chain_inner, glued_edge}
 use Rattle.flow_graph.specs.Blocks.{IsChain}
 use Rattle.flow_graph.specs.Edges.{IsSplit}
 use Rattle.flow_graph.specs.Graphs.{GraphShape, IsGraph}
-use Rattle.path_laws.specs.KeyRows.{key_in}
+use Rattle.key_rows.specs.KeyRows.{key_in}
 use Rattle.sink_code.specs.declared.patterns.Pattern.{Pattern}
 use Rattle.graph_edit.specs.Accesses.{blocks_at, occurs_at}
 use Rattle.sink_code.specs.Delaying.{IsDelayedTo}

@@ -60,7 +60,7 @@ rises_before node var (put ∷ puts) up = elim up.0 [
 
 -- ---- one list
 
--- all of a list are before nodes below this number
+-- all insertions of the list are before nodes below this number
 abbrev pub AllBefore : ℕ → List PutBefore → Type 0
 AllBefore end [] = Unit {0}
 AllBefore end (put ∷ puts) = (put.node < end) × AllBefore end puts
@@ -72,7 +72,7 @@ all_same f g (suc count) n same =
     ap (λ l. puts_at n l ++ all_puts f count (suc n)) (same n (omega arith))
     ∙ ap (λ l. puts_at n (g n) ++ l) (all_same f g count (suc n) (λ k le. same k (omega (arith, le))))
 
--- what comes after those before a node
+-- the list without the insertions at its front that are before this node
 abbrev pub later : ℕ → List PutBefore → List PutBefore
 later n [] = []
 later n (put ∷ puts) = if nat_eq put.node n then later n puts else put ∷ puts

@@ -8,7 +8,7 @@ use Rattle.std.proofs.lemmas.Option.{get_or_from_slice_get, none-some, same_Some
 use Rattle.mir_base.specs.declared.instructions.Operand.TheVariants.{Var}
 use Rattle.mir_base.specs.declared.instructions.Rhs.TheVariants.{Plain}
 use Rattle.flow_graph.specs.ListLaws.{get_push}
-use Rattle.path_laws.specs.KeyRowLaws.{bit_beside, bit_elsewhere, bit_set, with_bit_set, with_bit_shape}
+use Rattle.key_rows.specs.KeyRowLaws.{bit_beside, bit_elsewhere, bit_set, with_bit_set, with_bit_shape}
 use Rattle.path_laws.specs.Paths.{AreRows, has_bit}
 use Rattle.path_laws.specs.RowLaws.{Written, put, written_shape}
 use Rattle.bit_rows.specs.BitLaws.{length_minus, length_or, minus_bit, or_bit}

@@ -41,16 +41,19 @@ pub record IsPassedOver (over : OverBlocks) (n row : ℕ) (old new : List (List 
   pub long : length (row_of new row) ≡ length (row_of old row)
   pub others : (m : ℕ) → m ≢ row → row_of new m ≡ row_of old m
   pub bits : (k : ℕ) (p : Pattern) → slice_get over.table.now k ≡ Some p
-      → has_bit new k row ≡ (occurs_at p.var p.rhs over.graph.now n || (has_bit old k row && not (blocks_at p.var p.rhs over.graph.now n)))
+      → has_bit new k row
+      ≡ (occurs_at p.var p.rhs over.graph.now n || (has_bit old k row && not (blocks_at p.var p.rhs over.graph.now n)))
 
 -- to one row is joined what comes past node `before`, of which the old rows say what came to it, and the others are as
 -- they were
-pub record IsHandedOver (over : OverBlocks) (before node : ℕ) (old new : List (List Bool)) : Type 0 where
+pub record IsHandedOver (over : OverBlocks) (before node : ℕ)
+    (old new : List (List Bool)) : Type 0 where
   pub len : length new ≡ length old
   pub long : length (row_of new node) ≡ length (row_of old node)
   pub others : (m : ℕ) → m ≢ node → row_of new m ≡ row_of old m
   pub bits : (k : ℕ) (p : Pattern) → slice_get over.table.now k ≡ Some p
-      → has_bit new k node ≡ (occurs_at p.var p.rhs over.graph.now before || (has_bit old k node || (has_bit old k before && not (blocks_at p.var p.rhs over.graph.now before))))
+      → has_bit new k node
+      ≡ (occurs_at p.var p.rhs over.graph.now before || (has_bit old k node || (has_bit old k before && not (blocks_at p.var p.rhs over.graph.now before))))
 
 -- ---- one block after the other
 

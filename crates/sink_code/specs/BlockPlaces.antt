@@ -38,8 +38,10 @@ abbrev pub stop_by : BlockPlaces → ℕ → ℕ → Pattern → ℕ
 stop_by places block len p = nearest places.assign.items block len (index_in places.access.items p.var block len) (rhs_vars p.rhs)
 
 -- what is noted once the node at this place is taken in
-pub record TakesInNode (graph : GraphShape) (node : Node) (place : BlockPlace) (old new : BlockPlaces) : Type 0 where
-  pub access : new.access.items ≡ noted place (node_reads graph node ++ assigned_vars graph node) old.access.items
+pub record TakesInNode (graph : GraphShape) (node : Node) (place : BlockPlace)
+    (old new : BlockPlaces) : Type 0 where
+  pub access : new.access.items
+      ≡ noted place (node_reads graph node ++ assigned_vars graph node) old.access.items
   pub assign : new.assign.items ≡ noted place (assigned_vars graph node) old.assign.items
 
 -- ---- what it means
@@ -60,15 +62,18 @@ stops_at graph x t n = accesses_at graph x n || list_any (λ y. assigns_at graph
 
 -- the places are of this block and of later ones
 abbrev pub AreFrom : ℕ → List BlockPlace → Type 0
-AreFrom block places = (x : ℕ) (place : BlockPlace) → slice_get places x ≡ Some place → block ≤ place.block
+AreFrom block places = (x : ℕ) (place : BlockPlace) → slice_get places x ≡ Some place
+    → block ≤ place.block
 
 -- for each variable they tell the first node of the block, from this index on, of which the test holds
 abbrev pub TellFirst : ℕ → (ℕ → ℕ → Bool) → ℕ → ℕ → List ℕ → List BlockPlace → Type 0
-TellFirst vars test block index list places = (x : ℕ) → x < vars → index_in places x block (length list) ≡ first_where (test x) index (drop index list)
+TellFirst vars test block index list places = (x : ℕ) → x < vars
+    → index_in places x block (length list) ≡ first_where (test x) index (drop index list)
 
 -- so it is of what nodes read and assign, once those of this block from this index on, and the later blocks, are taken
 -- in
-pub record AreTakenIn (graph : GraphShape) (block index : ℕ) (list : List ℕ) (places : BlockPlaces) : Type 0 where
+pub record AreTakenIn (graph : GraphShape) (block index : ℕ) (list : List ℕ)
+    (places : BlockPlaces) : Type 0 where
   pub access_long : length places.access.items ≡ length graph.vars
   pub assign_long : length places.assign.items ≡ length graph.vars
   pub access_from : AreFrom block places.access.items

@@ -19,7 +19,8 @@ pub record AreRowsTo (count : ℕ) (lists : List (List ℕ)) (table : List Patte
       → slice_get table k ≡ Some p → has_bit rows k b ≡ holds p list
 
 -- one row for each block
-abbrev pub AreBlockRows : List (List ℕ) → List Pattern → (Pattern → List ℕ → Bool) → List (List Bool) → Type 0
+abbrev pub AreBlockRows : List (List ℕ) → List Pattern → (Pattern → List ℕ → Bool)
+    → List (List Bool) → Type 0
 AreBlockRows lists table holds rows = AreRowsTo (length lists) lists table holds rows
 
 -- some node of the block blocks the pattern
@@ -28,7 +29,8 @@ is_blocked_in graph p list = list_any (blocks_at p.var p.rhs graph) list
 
 -- Start does not stand in the block of this number
 abbrev pub IsApartFromStart : List (List ℕ) → ℕ → Type 0
-IsApartFromStart lists b = (i n : ℕ) (list : List ℕ) → slice_get lists b ≡ Some list → slice_get list i ≡ Some n → n ≢ 0
+IsApartFromStart lists b = (i n : ℕ) (list : List ℕ) → slice_get lists b ≡ Some list
+    → slice_get list i ≡ Some n → n ≢ 0
 
 -- the pattern leaves a block in which it occurs
 abbrev pub leaves_own : GraphShape → Pattern → List ℕ → Bool

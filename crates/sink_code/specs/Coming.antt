@@ -14,7 +14,8 @@ pub record HasBlocked (over : OverBlocks) (coming : Coming) : Type 0 where
   pub shape : HaveShapeOver over coming.blocked
   pub are : (b k : ℕ) (list : List ℕ) (p : Pattern) → slice_get (lists_of over) b ≡ Some list
       → slice_get over.table.now k ≡ Some p
-      → has_bit coming.blocked k b ≡ (is_blocked_in over.graph.now p list && has_bit coming.into k b)
+      → has_bit coming.blocked k b
+      ≡ (is_blocked_in over.graph.now p list && has_bit coming.into k b)
 
 -- and the first say which come into each block
 pub record AreComing (over : OverBlocks) (coming : Coming) : Type 0 where

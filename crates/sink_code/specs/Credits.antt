@@ -10,11 +10,13 @@ use Rattle.flow_graph.specs.Sums.{sum_on}
 
 -- the credit before each node, for any weight of assignments: there is none at Start; what a node weighs anew, with the
 -- credit of each successor, is at most its credit and what it weighed; and a Return has enough with its own
-pub record IsCredit (weight : ℕ → Rhs → ℕ) (r : Rewriting) (nodes : List Node) (credit : ℕ → ℕ) : Type 0 where
+pub record IsCredit (weight : ℕ → Rhs → ℕ) (r : Rewriting) (nodes : List Node)
+    (credit : ℕ → ℕ) : Type 0 where
   pub starts : credit 0 ≡ 0
   pub each_edge : (n s : ℕ) → HasEdge nodes n s
       → new_weight_at weight r nodes n + credit s ≤ credit n + weight_at weight nodes n
-  pub ends : (n : ℕ) → IsReturnAt nodes n → new_weight_at weight r nodes n ≤ credit n + weight_at weight nodes n
+  pub ends : (n : ℕ) → IsReturnAt nodes n
+      → new_weight_at weight r nodes n ≤ credit n + weight_at weight nodes n
 
 module _ (weight : ℕ → Rhs → ℕ) (r : Rewriting) (nodes : List Node) (credit : ℕ → ℕ)
     (is : IsCredit weight r nodes credit) where

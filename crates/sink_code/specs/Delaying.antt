@@ -22,7 +22,8 @@ IsInsertedAt graph x t n = IsDelayedTo graph x t n
 -- where a pattern is inserted before node n though n does not block it, n is a Skip: n leads to a node that others lead
 -- to, at which the pattern is not delayed
 abbrev pub IsPassedAtSkips : GraphShape → ℕ → Type 0
-IsPassedAtSkips graph n = (x : ℕ) (t : Rhs) → IsInsertedAt graph x t n → blocks_at x t graph n ≡ false → (next : ℕ)
+IsPassedAtSkips graph n = (x : ℕ) (t : Rhs) → IsInsertedAt graph x t n
+    → blocks_at x t graph n ≡ false → (next : ℕ)
     × (slice_get graph.nodes n ≡ Some (Skip next))
 
 -- of the patterns that are inserted before node n no two have one variable, and none assigns what another reads: none

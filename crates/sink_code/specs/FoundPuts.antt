@@ -57,7 +57,8 @@ pub record AreFromHeads (graph : GraphShape) (lists : List (List ℕ)) (table : 
       → Contains now (put_at n p)
   pub sound : (b k : ℕ) (list : List ℕ) (p : Pattern) → slice_get lists b ≡ Some list
       → slice_get table k ≡ Some p → has_bit rows k b ≡ true
-      → (has_bit leaves k b ≡ true) ⊎ ((has_bit into k b ≡ true) × (passes_whole graph list p ≡ true))
+      → (has_bit leaves k b ≡ true)
+      ⊎ ((has_bit into k b ≡ true) × (passes_whole graph list p ≡ true))
   pub kept : (b k : ℕ) → has_bit leaves k b ≡ true → has_bit rows k b ≡ true
   pub passed : (b k : ℕ) (list : List ℕ) (p : Pattern) → done b k
       → ComesInto lists table into b k list p → passes_whole graph list p ≡ true
@@ -96,7 +97,8 @@ pub record ArePutAtEnds (graph : GraphShape) (lists : List (List ℕ)) (table : 
 -- right side of the one pattern of x that is delayed at node n, where one is
 pub record AreFoundPuts (graph : GraphShape) (puts : List PutBefore) : Type 0 where
   pub delayed : ℕ → ℕ → Option Rhs
-  pub delayed_are : (n x : ℕ) (t : Rhs) → n < length graph.nodes → (delayed n x ≡ Some t) ↔ IsDelayedTo graph x t n
+  pub delayed_are : (n x : ℕ) (t : Rhs) → n < length graph.nodes
+      → (delayed n x ≡ Some t) ↔ IsDelayedTo graph x t n
   pub sound : (i : ℕ) (put : PutBefore) → slice_get puts i ≡ Some put
       → (put.node < length graph.nodes) × IsInsertedAt graph put.var put.rhs put.node
   pub complete : (n x : ℕ) (t : Rhs) → n < length graph.nodes → IsInsertedAt graph x t n
@@ -133,7 +135,8 @@ PutsAscend (a ∷ b ∷ puts) = ComesBefore a b × PutsAscend (b ∷ puts)
 
 -- none comes after a later one of the list
 abbrev pub AreSorted : List PutBefore → Type 0
-AreSorted puts = (i j : ℕ) (a b : PutBefore) → i < j → slice_get puts i ≡ Some a → slice_get puts j ≡ Some b → ComesBefore b a → ⊥
+AreSorted puts = (i j : ℕ) (a b : PutBefore) → i < j → slice_get puts i ≡ Some a
+    → slice_get puts j ≡ Some b → ComesBefore b a → ⊥
 
 -- of a list its insertions in order, for each node and variable one
 pub record AreOnce (puts once : List PutBefore) : Type 0 where

@@ -12,7 +12,7 @@ use Rattle.sink_code.specs.Over.{AreFromHeadsOver, lists_of}
 use Rattle.sink_code.specs.BlockPlaces.{AreTakenIn}
 use Rattle.sink_code.specs.Puts.{put_at}
 
--- the nodes of the block of this number are taken in
+-- the table of places has taken in all nodes of the block of this number
 pub record IsHeadTaken (over : OverBlocks) (block : ℕ) (places : BlockPlaces) : Type 0 where
   pub list : List ℕ
   pub is_block : slice_get (lists_of over) block ≡ Some list

@@ -49,7 +49,8 @@ abbrev pub stop_from : GraphShape → List ℕ → ℕ → Pattern → ℕ
 stop_from graph list index p = first_where (stops_at graph p.var p.rhs) index (drop index list)
 
 -- an insertion of a pattern before the first node after an occurrence of it, in its block, that stops it
-pub record IsSunkInside (graph : GraphShape) (lists : List (List ℕ)) (put : PutBefore) : Type 0 where
+pub record IsSunkInside (graph : GraphShape) (lists : List (List ℕ))
+    (put : PutBefore) : Type 0 where
   pub block : ℕ
   pub list : List ℕ
   pub index : ℕ
@@ -77,17 +78,22 @@ pub record IsFoundAt (graph : GraphShape) (block : ℕ) (list : List ℕ) (index
   pub put : (n : ℕ) → slice_get list (stop_from graph list (suc index) p) ≡ Some n
       → Contains found.puts.items (put_at n p)
   pub left : length list ≤ stop_from graph list (suc index) p → goes_on graph list ≡ true
-      → (i : ℕ) × (number : ℕ) × (slice_get found.leaving.items i ≡ Some (record { block = block; number = number })) × (slice_get found.table number ≡ Some p)
+      → (i : ℕ) × (number : ℕ)
+      × (slice_get found.leaving.items i ≡ Some (record { block = block; number = number }))
+      × (slice_get found.table number ≡ Some p)
 
 -- what is found is so, and the patterns that leave blocks are over the graph's variables and do not divide
-pub record AreSunkInside (graph : GraphShape) (lists : List (List ℕ)) (found : Inside) : Type 0 where
+pub record AreSunkInside (graph : GraphShape) (lists : List (List ℕ))
+    (found : Inside) : Type 0 where
   pub sinkable : AreSinkableBelow (length graph.vars) found.table
-  pub puts : (i : ℕ) (put : PutBefore) → slice_get found.puts.items i ≡ Some put → IsSunkInside graph lists put
+  pub puts : (i : ℕ) (put : PutBefore) → slice_get found.puts.items i ≡ Some put
+      → IsSunkInside graph lists put
   pub leaving : (i : ℕ) (left : Leaving) → slice_get found.leaving.items i ≡ Some left
       → LeavesBlock graph lists found.table left
 
 -- and of the occurrences at the indices of this block from one on, and in the later blocks, all is found
-pub record AreFoundFrom (graph : GraphShape) (lists : List (List ℕ)) (block index : ℕ) (found : Inside) : Type 0 where
+pub record AreFoundFrom (graph : GraphShape) (lists : List (List ℕ)) (block index : ℕ)
+    (found : Inside) : Type 0 where
   pub sunk : AreSunkInside graph lists found
   pub here : (i : ℕ) (list : List ℕ) (p : Pattern) → index ≤ i → slice_get lists block ≡ Some list
       → OccursAt graph list i p → IsFoundAt graph block list i p found
@@ -123,4 +129,5 @@ AreTakenInBlock at index places = AreTakenIn at.graph.now at.block index at.list
 
 -- at this index of the block stands this node
 abbrev pub IsNodeAt : InBlock → ℕ → Node → Type 0
-IsNodeAt at index node = (n : ℕ) × (slice_get at.list.now index ≡ Some n) × (slice_get at.graph.now.nodes n ≡ Some node)
+IsNodeAt at index node = (n : ℕ) × (slice_get at.list.now index ≡ Some n)
+    × (slice_get at.graph.now.nodes n ≡ Some node)

@@ -16,8 +16,10 @@ pub record IsHeldUp (graph : GraphShape) (p : Pattern) (s : ℕ) : Type 0 where
 
 -- this is the pattern of the node, and not held up after it; or the node has none but one that is held up after it
 abbrev pub MovesFrom : GraphShape → Node → Option Pattern → Type 0
-MovesFrom graph node (Some p) = (pattern_of node ≡ Some p) × ((next : ℕ) × (node ≡ Assign p.var p.rhs next) × (IsHeldUp graph p next → ⊥))
-MovesFrom graph node None = (p : Pattern) (next : ℕ) → node ≡ Assign p.var p.rhs next → pattern_of node ≡ Some p → IsHeldUp graph p next
+MovesFrom graph node (Some p) = (pattern_of node ≡ Some p)
+    × ((next : ℕ) × (node ≡ Assign p.var p.rhs next) × (IsHeldUp graph p next → ⊥))
+MovesFrom graph node None = (p : Pattern) (next : ℕ) → node ≡ Assign p.var p.rhs next
+    → pattern_of node ≡ Some p → IsHeldUp graph p next
 
 -- the same of a node with this successor
 abbrev pub MovesOn : GraphShape → Node → ℕ → Option Pattern → Type 0
@@ -26,7 +28,8 @@ MovesOn graph node next None = (p : Pattern) → pattern_of node ≡ Some p → 
 
 -- the pattern occurs at node n, and is not held up after it
 abbrev pub CanMoveFrom : GraphShape → Pattern → ℕ → Type 0
-CanMoveFrom graph p n = (next : ℕ) × (slice_get graph.nodes n ≡ Some (Assign p.var p.rhs next)) × (IsHeldUp graph p next → ⊥)
+CanMoveFrom graph p n = (next : ℕ) × (slice_get graph.nodes n ≡ Some (Assign p.var p.rhs next))
+    × (IsHeldUp graph p next → ⊥)
 
 -- the pattern can still move, from some node
 abbrev pub CanMove : GraphShape → Pattern → Type 0

@@ -10,17 +10,19 @@ use Rattle.flow_graph.specs.declared.nodes.Node.TheVariants.{Start, Skip, Assign
 use Rattle.flow_graph.specs.Graphs.{GraphShape}
 use Rattle.flow_graph.specs.Numbering.{is_in}
 use Rattle.graph_edit.specs.Accesses.{assigns_of}
-use Rattle.path_laws.specs.KeyRows.{AreKeyRows, AreKeyRowsWhere}
+use Rattle.key_rows.specs.KeyRows.{AreKeyRows, AreKeyRowsWhere}
 use Rattle.path_laws.specs.Paths.{AreRows, has_bit}
 use Rattle.sink_code.specs.declared.patterns.Pattern.{Pattern}
 use Rattle.sink_code.specs.declared.pattern_rows.ByVariable.{ByVariable}
 
 -- one row for each node and one bit for each pattern: whether the test holds of the pattern at the node
-abbrev pub ArePatternRows : GraphShape → List Pattern → (ℕ → Rhs → ℕ → Bool) → List (List Bool) → Type 0
+abbrev pub ArePatternRows : GraphShape → List Pattern → (ℕ → Rhs → ℕ → Bool) → List (List Bool)
+    → Type 0
 ArePatternRows graph table holds rows = AreKeyRows (length graph.nodes) table (λ p. holds p.var p.rhs) rows
 
 -- the same of a statement in place of a test
-abbrev pub AreRowsTelling : GraphShape → List Pattern → (ℕ → Rhs → ℕ → Type 0) → List (List Bool) → Type 0
+abbrev pub AreRowsTelling : GraphShape → List Pattern → (ℕ → Rhs → ℕ → Type 0) → List (List Bool)
+    → Type 0
 AreRowsTelling graph table Holds rows = AreKeyRowsWhere (length graph.nodes) table (λ p. Holds p.var p.rhs) rows
 
 -- ---- blocked patterns, by variable
@@ -31,7 +33,8 @@ pattern_vars p = p.var ∷ rhs_vars p.rhs
 
 -- of each variable below this number, the rows say which patterns have it among these variables of theirs
 abbrev pub AreBitsByVariable : ℕ → List Pattern → (Pattern → List ℕ) → List (List Bool) → Type 0
-AreBitsByVariable vars table of_pattern rows = (x k : ℕ) (p : Pattern) → x < vars → slice_get table k ≡ Some p → has_bit rows k x ≡ is_in x (of_pattern p)
+AreBitsByVariable vars table of_pattern rows = (x k : ℕ) (p : Pattern) → x < vars
+    → slice_get table k ≡ Some p → has_bit rows k x ≡ is_in x (of_pattern p)
 
 -- the row with the rows of these variables joined to it
 abbrev pub row_joined : List (List Bool) → List ℕ → List Bool → List Bool
@@ -49,7 +52,8 @@ pub record FitsRowsOf (from : List (List Bool)) (row : ℕ) (rows : List (List B
   pub long : AreRows (length from) (length (row_of rows row)) from
 
 -- the new rows are those, as many as before, and the row has as many bits as before
-pub record JoinsRows (from : List (List Bool)) (vars : List ℕ) (row : ℕ) (old new : List (List Bool)) : Type 0 where
+pub record JoinsRows (from : List (List Bool)) (vars : List ℕ) (row : ℕ)
+    (old new : List (List Bool)) : Type 0 where
   pub rows : new ≡ joined_at from vars row old
   pub len : length new ≡ length old
   pub long : length (row_of new row) ≡ length (row_of old row)
@@ -68,8 +72,10 @@ blocked_row assigning naming bits shared (Test test taken other) = row_joined as
 blocked_row assigning naming bits shared (Return a) = row_joined assigning (shared_vars shared ++ operand_vars a) (replicate bits false)
 
 -- each row is that of what its node blocks
-abbrev pub AreBlockedRows : List (List Bool) → List (List Bool) → ℕ → ℕ → List Node → List (List Bool) → Type 0
-AreBlockedRows assigning naming bits shared nodes rows = (n : ℕ) (node : Node) → slice_get nodes n ≡ Some node → row_of rows n ≡ blocked_row assigning naming bits shared node
+abbrev pub AreBlockedRows : List (List Bool) → List (List Bool) → ℕ → ℕ → List Node
+    → List (List Bool) → Type 0
+AreBlockedRows assigning naming bits shared nodes rows = (n : ℕ) (node : Node)
+    → slice_get nodes n ≡ Some node → row_of rows n ≡ blocked_row assigning naming bits shared node
 
 -- the rows by variable of the patterns of a table: those that assign the variable, and those that name it
 pub record AreVariableRows (vars : ℕ) (table : List Pattern) (made : ByVariable) : Type 0 where
@@ -92,6 +98,7 @@ reads_in shared (Return a) = shared_vars shared ++ operand_vars a
 -- to one row what a node blocks was joined, and the others are as they were
 pub record JoinsBlocked (assigning naming : List (List Bool)) (shared : ℕ) (node : Node) (row : ℕ)
     (old new : List (List Bool)) : Type 0 where
-  pub rows : new ≡ joined_at naming (assigns_of shared node) row (joined_at assigning (reads_in shared node) row old)
+  pub rows : new
+      ≡ joined_at naming (assigns_of shared node) row (joined_at assigning (reads_in shared node) row old)
   pub len : length new ≡ length old
   pub long : length (row_of new row) ≡ length (row_of old row)

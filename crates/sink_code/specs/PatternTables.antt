@@ -34,4 +34,5 @@ assigns_in shared y z = nat_lt z shared || nat_eq z y
 
 -- the patterns do not divide, and their variables are below this number
 abbrev pub AreSinkableBelow : ℕ → List Pattern → Type 0
-AreSinkableBelow vars table = (k : ℕ) (p : Pattern) → slice_get table k ≡ Some p → (divides p.rhs ≡ false) × ((p.var < vars) × AllBelow vars (rhs_vars p.rhs))
+AreSinkableBelow vars table = (k : ℕ) (p : Pattern) → slice_get table k ≡ Some p
+    → (divides p.rhs ≡ false) × ((p.var < vars) × AllBelow vars (rhs_vars p.rhs))

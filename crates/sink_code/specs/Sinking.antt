@@ -35,7 +35,8 @@ AllOthers x (y ∷ ys) = (nat_eq y x ≡ false) × AllOthers x ys
 -- none of these assigns or reads x
 abbrev pub LeaveAlone : ℕ → List Insertion → Type 0
 LeaveAlone x [] = Unit {0}
-LeaveAlone x (put ∷ puts) = ((nat_eq x put.var ≡ false) × AllOthers x (rhs_vars put.rhs)) × LeaveAlone x puts
+LeaveAlone x (put ∷ puts) = ((nat_eq x put.var ≡ false) × AllOthers x (rhs_vars put.rhs))
+    × LeaveAlone x puts
 
 -- none assigns or reads what an earlier one assigns
 abbrev pub AreApart : List Insertion → Type 0
@@ -125,14 +126,17 @@ pub record Sinks (graph : GraphShape) (r : Rewriting) (late : ℕ → ℕ → Op
   pub reads : (n : ℕ) (node : Node) → slice_get graph.nodes n ≡ Some node
       → AllPut (late n) (r.inserts n) (node_reads graph node)
   -- what is delayed no longer was put
-  pub lost : (n s x : ℕ) → HasEdge graph.nodes n s → late s x ≡ None → late n x ≡ put_for (r.inserts n) x
-  pub back : (n s x : ℕ) (rhs : Rhs) (node : Node) → slice_get graph.nodes n ≡ Some node → HasEdge graph.nodes n s
+  pub lost : (n s x : ℕ) → HasEdge graph.nodes n s → late s x ≡ None
+      → late n x ≡ put_for (r.inserts n) x
+  pub back : (n s x : ℕ) (rhs : Rhs) (node : Node) → slice_get graph.nodes n ≡ Some node
+      → HasEdge graph.nodes n s
       → late s x ≡ Some rhs
       → ((r.changes n ≡ Removed) × ((next : ℕ) × (node ≡ Assign x rhs next)))
       ⊎ ((assigns graph x node ≡ false)
       × (NoneAssigned graph node (rhs_vars rhs) × ((late n x ≡ Some rhs) × NonePut (r.inserts n) (rhs_vars rhs))))
   -- what is removed never traps, and is delayed from there
-  pub removed : (n s x : ℕ) (rhs : Rhs) → slice_get graph.nodes n ≡ Some (Assign x rhs s) → r.changes n ≡ Removed
+  pub removed : (n s x : ℕ) (rhs : Rhs) → slice_get graph.nodes n ≡ Some (Assign x rhs s)
+      → r.changes n ≡ Removed
       → (late s x ≡ Some rhs) × ((v : Values) → rhs_traps v rhs ≡ false)
 
 module _ (r : Rewriting) (extra : List (List ℕ)) (graph : GraphShape) (late : ℕ → ℕ → Option Rhs)

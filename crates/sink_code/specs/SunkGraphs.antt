@@ -24,7 +24,8 @@ pub record AreInsertedAt (graph : GraphShape) (n : ℕ) (puts : List Insertion) 
 -- what is put before it. Nothing is put before what is no node
 pub record AreInsertions (graph : GraphShape) (delayed : ℕ → ℕ → Option Rhs) (inserts : ℕ
     → List Insertion) : Type 0 where
-  pub delayed_are : (n x : ℕ) (t : Rhs) → n < length graph.nodes → (delayed n x ≡ Some t) ↔ IsDelayedTo graph x t n
+  pub delayed_are : (n x : ℕ) (t : Rhs) → n < length graph.nodes
+      → (delayed n x ≡ Some t) ↔ IsDelayedTo graph x t n
   pub inserts_are : (n : ℕ) → n < length graph.nodes → AreInsertedAt graph n (inserts n)
   pub none_past : (n : ℕ) → length graph.nodes ≤ n → inserts n ≡ []
 

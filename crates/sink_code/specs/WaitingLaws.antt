@@ -23,7 +23,7 @@ one_assignment : (x y : ℕ) (t u : Rhs) (next next' : ℕ) → Assign x t next 
 one_assignment x y t u next next' e = (cc, cc)
 
 module _ (graph : GraphShape) where
-  -- the assignment of an occurrence
+  -- an occurrence of x <- t is a node that assigns t to x, and t does not divide
   at_occurrence : (x : ℕ) (t : Rhs) (m : ℕ) → occurs_at x t graph m ≡ true
       → (next : ℕ) × (slice_get graph.nodes m ≡ Some (Assign x t next)) × (divides t ≡ false)
   at_occurrence x t m is = occurrence_is x t (slice_get graph.nodes m) is

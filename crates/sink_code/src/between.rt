@@ -8,8 +8,9 @@ ghost use Rattle.sink_code.specs.PatternRows.{AreVariableRows};
 use crate::over::OverBlocks;
 use crate::pattern_rows::{ByVariable, by_variable, join_blocked};
 use bit_rows::Rows;
+use key_rows::push_true;
 use mir_base::Memory;
-use path_laws::{forward_all_heads, push_true};
+use path_laws::forward_all_heads;
 use std::alloc::Global;
 
 /// The patterns that come into blocks: one row for each block, one bit for each pattern.
@@ -38,8 +39,8 @@ pub(crate) fn coming_rows(
     Ok(Coming { into, blocked })
 }
 
-/// Which patterns come into each block, by rows of those that are blocked in it. What is blocked in a block and does not
-/// leave it is lost there.
+/// Which patterns come into each block, by rows of those that are blocked in it. A pattern that is blocked in a block
+/// comes out of it only where an occurrence of its own in the block leaves it.
 pub(crate) fn into_rows(
     alloc: Global,
     over: &OverBlocks<'_>,

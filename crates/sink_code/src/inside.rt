@@ -31,8 +31,9 @@ pub(crate) struct Inside {
     pub(crate) leaving: Vec<Leaving>,
 }
 
-/// What the occurrences in all blocks of a graph come to. Each goes to the first node after it in its block that stops
-/// it, or leaves the block where there is none; at a Return it is gone then. It fails only with `Memory`.
+/// Where the occurrences in all blocks of a graph go: each before the first later node of its block that stops it;
+/// where there is none, the pattern leaves the block, or is gone where the block ends with a Return. It fails only with
+/// `Memory`.
 pub(crate) fn found_inside(alloc: Global, graph: &Graph, blocks: &Blocks) -> Result<Inside, Memory>
     requires { AreBlocksOf graph.now.nodes blocks.now }
     ensures { IfOk result (AreInside graph.now blocks.now.lists) }

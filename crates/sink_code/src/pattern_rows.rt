@@ -4,7 +4,7 @@ ghost use Rattle.mir_base.specs.Frames.{shared_vars};
 ghost use Rattle.mir_base.specs.Shapes.{AllBelow, into_vars, operand_vars, rhs_vars, test_vars};
 ghost use Rattle.bit_rows.specs.Bits.{AreEquallyLong, row_of};
 ghost use Rattle.flow_graph.specs.Graphs.{HaveVarsBelow, node_vars};
-ghost use Rattle.path_laws.specs.KeyRows.{SetsBitAt};
+ghost use Rattle.key_rows.specs.KeyRows.{SetsBitAt};
 ghost use Rattle.path_laws.specs.Paths.{AreRows};
 ghost use Rattle.graph_edit.specs.Accesses.{blocks_at};
 ghost use Rattle.sink_code.specs.PatternRows.{AreBitsByVariable, AreBlockedRows, ArePatternRows, FitsRowsOf, JoinsBlocked, JoinsRows, blocked_row, pattern_vars};
@@ -13,8 +13,8 @@ ghost use Rattle.sink_code.specs.PatternTables.{AreSinkableBelow};
 use crate::patterns::{Patterns, is_start};
 use bit_rows::Rows;
 use flow_graph::{Graph, Node};
+use key_rows::{mark_operand, mark_var, push_true};
 use mir_base::{Memory, Operand, Rhs, Test};
-use path_laws::{mark_operand, mark_var, push_true};
 use std::alloc::Global;
 
 /// For each variable the patterns that it has to do with.

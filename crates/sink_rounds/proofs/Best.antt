@@ -19,10 +19,10 @@ use Rattle.sink_code.specs.SunkGraphs.{sinking}
 use Rattle.sink_rounds.proofs.BestAlong.{whole}
 use Rattle.sink_rounds.proofs.Chains.{ones}
 use Rattle.sink_rounds.proofs.Settled.{as_often}
-use Rattle.sink_rounds.proofs.StepLaws.{round_is_step, step_fits}
+use Rattle.sink_rounds.specs.StepLaws.{round_is_step, step_fits}
 use Rattle.sink_rounds.specs.Steps.{HasNoFewer, IsBestStep, IsNoHeavier, IsNoWorse, IsStep}
-use Rattle.sink_rounds.proofs.Totals.{weighs_less}
-use Rattle.sink_rounds.proofs.Unpruned.{pruned_over}
+use Rattle.sink_rounds.specs.Totals.{weighs_less}
+use Rattle.sink_rounds.specs.Unpruned.{pruned_over}
 
 module _ (graph : GraphShape) (is_graph : IsGraph graph.vars graph.received graph.nodes) where
   -- what stands on the path over a full path, as a sum along the path through the chains

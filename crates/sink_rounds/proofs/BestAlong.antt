@@ -27,7 +27,7 @@ use Rattle.graph_edit.specs.SameRhs.{same_rhs_is, same_rhs_itself}
 use Rattle.sink_rounds.proofs.Bridge.{contains_live}
 use Rattle.sink_rounds.proofs.Chains.{chain_at_least, chain_at_most, chain_sum, old_at_least, old_none, ones, over_sum}
 use Rattle.sink_rounds.proofs.LiveOver.{ContainsLive, LiveOver, node_after}
-use Rattle.sink_rounds.proofs.Maximal.{late_on, late_too, put_too}
+use Rattle.sink_rounds.specs.Maximal.{late_on, late_too, put_too}
 use Rattle.sink_rounds.specs.Steps.{IsSinking}
 use Rattle.sink_rounds.proofs.Transfer.{stays_is, wanted_too}
 

@@ -1,14 +1,9 @@
 pub mod RoundsSoFar
-pub mod Maximal
 pub mod LiveOver
 pub mod Transfer
 pub mod Bridge
 pub mod Chains
 pub mod BestAlong
-pub mod Unpruned
 pub mod Walks
-pub mod Names
 pub mod Settled
-pub mod StepLaws
-pub mod Totals
 pub mod Best

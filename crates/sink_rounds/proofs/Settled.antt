@@ -16,7 +16,7 @@ use Rattle.flow_graph.specs.BoundLaws.{edge_within}
 use Rattle.flow_graph.specs.Plans.{start_succ}
 use Rattle.flow_graph.specs.Retained.{redirected}
 use Rattle.flow_graph.specs.Sums.{one_if, sum_on}
-use Rattle.flow_graph.proofs.Laid.{seen_low}
+use Rattle.flow_graph.specs.LayoutLaws.{seen_low}
 use Rattle.graph_edit.specs.InsertionNodes.{old_edge, old_get}
 use Rattle.graph_edit.specs.InsertionPaths.{IsInsertionChain, chain_is}
 use Rattle.graph_edit.specs.Insertions.{Change, Insertion, Removed, Replaced, Rewriting, Unchanged, changed, entry, entry_among, put_below, rewritten_nodes}
@@ -25,8 +25,8 @@ use Rattle.graph_edit.specs.Accesses.{is_occurrence}
 use Rattle.dead_code.specs.Pruned.{pruned_from, removed_if}
 use Rattle.dead_code.specs.PrunedLaws.{pruned_get}
 use Rattle.sink_rounds.proofs.Chains.{chain_sum, ones, over_sum}
-use Rattle.sink_rounds.proofs.Names.{same_bodies}
-use Rattle.sink_rounds.proofs.Unpruned.{same_succs}
+use Rattle.sink_rounds.specs.Names.{same_bodies}
+use Rattle.sink_rounds.specs.Unpruned.{same_succs}
 use Rattle.sink_rounds.proofs.Walks.{Near, Walk, at_end, begins, one_walk, onward, with_way}
 
 -- the ways that a path takes at its tests

@@ -22,7 +22,7 @@ use Rattle.sink_code.specs.SunkGraphs.{AreInsertions, RisesFrom, emptied, sinkin
 use Rattle.sink_code.specs.DelayLaws.{PassedOn, back_to, blocked_put, delayed_apart, lost_put, occurs_on, put_delayed, source_within, target_within}
 use Rattle.graph_edit.specs.OccurrenceLaws.{occurrence_sinkable, is_occurrence_of, lets_pass, occurrence_blocks, occurrence_is, sinkable_is}
 use Rattle.sink_rounds.proofs.LiveOver.{ContainsLive, LiveOver, ReadsFirst, goes_to, node_after, read_at, read_before}
-use Rattle.sink_rounds.proofs.Maximal.{late_on, late_too, put_too}
+use Rattle.sink_rounds.specs.Maximal.{late_on, late_too, put_too}
 use Rattle.sink_rounds.specs.Steps.{IsSinking}
 
 -- ---- lists of insertions

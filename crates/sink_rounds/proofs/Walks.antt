@@ -17,7 +17,7 @@ use Rattle.flow_graph.specs.Layouts.{emitted_by, item_size, place_in, plain_body
 use Rattle.flow_graph.specs.Paths.{IsReturnAt, is_return}
 use Rattle.flow_graph.specs.Plans.{IsPlan, after_node, is_placed, next_item}
 use Rattle.flow_graph.specs.Sums.{one_if}
-use Rattle.flow_graph.proofs.Plans.{Next, bottom, is_placed_drop, item_inst_at, last, next_of, place_at, placed_at, taken_placed, then_}
+use Rattle.flow_graph.specs.PlanLaws.{Next, bottom, is_placed_drop, item_inst_at, last, next_of, place_at, placed_at, taken_placed, then_}
 use Rattle.graph_edit.specs.Accesses.{is_occurrence, same_rhs}
 
 -- ---- walks

@@ -3,3 +3,8 @@ pub mod Steps
 pub mod RoundsKept
 pub mod RoundsMade
 pub mod RoundLaws
+pub mod Maximal
+pub mod Names
+pub mod Unpruned
+pub mod StepLaws
+pub mod Totals

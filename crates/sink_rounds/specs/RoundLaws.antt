@@ -70,7 +70,8 @@ is_one_layout first second a b p q same = record { unit = a; of_first = p; of_se
 -- these graphs lead from the one graph to the other: each is a round of the graph before it, with another layout
 abbrev pub LeadBy : GraphShape → List GraphShape → GraphShape → Type 0
 LeadBy graph [] last = graph ≡ last
-LeadBy graph (round ∷ rounds) last = IsRound graph round × (¬ (HaveOneLayout graph round) × LeadBy round rounds last)
+LeadBy graph (round ∷ rounds) last = IsRound graph round
+    × (¬ (HaveOneLayout graph round) × LeadBy round rounds last)
 
 -- one round more
 pub lead_on : (graph : GraphShape) (rounds : List GraphShape) (last next : GraphShape)

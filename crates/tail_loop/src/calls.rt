@@ -105,7 +105,7 @@ fn returns_next(nodes: &[Node], ends: &[usize], n: usize, x: usize) -> bool
     }
 }
 
-/// The variable that the node of this number returns.
+/// The variable that the node of this number returns, where it is a Return of a variable.
 fn returned_at(nodes: &[Node], n: usize) -> Option<usize>
     requires { n < length nodes.now }
     ensures { result ≡ returned_at (slice_get nodes.now n) }
@@ -113,7 +113,7 @@ fn returned_at(nodes: &[Node], n: usize) -> Option<usize>
     returned_var(&nodes[n])
 }
 
-/// The variable that the node returns.
+/// The variable that the node returns, where it is a Return of a variable.
 fn returned_var(node: &Node) -> Option<usize>
     ensures { result ≡ returned_var node.now }
 {

@@ -76,7 +76,7 @@ module _ (leaves : List (Option GraphShape)) where
 
   -- ---- the table
 
-  -- at first there is none
+  -- at first there are no copies
   pub no_copies : (vars : ℕ) (table : CopyTable) → table.units.items ≡ [] → length table.firsts.items ≡ length leaves → ((u : ℕ) → u < length leaves → slice_get table.firsts.items u ≡ Some None) → table.end ≡ vars → HasCopyNumbers leaves vars table
   no_copies vars table none long each end = record {
     long = long;
@@ -84,11 +84,11 @@ module _ (leaves : List (Option GraphShape)) where
     end = let all : copies leaves table.units.items ≡ 0 = ap (copies leaves) none in omega (arith, end, all);
   }
 
-  -- nothing is taken in
+  -- of no units, the table stays as it is
   pub takes_none : (old new : CopyTable) → new ≡ old → TakesInLeaves leaves [] old new
   takes_none old new same vars has = (ap (λ (t : CopyTable). t.units.items) same, subst (HasCopyNumbers leaves vars) (sym same) has)
 
-  -- a unit that is among them
+  -- a unit that has its copies already leaves the table as it is
   pub takes_known : (old new : CopyTable) (unit first : ℕ) → unit < length leaves → slice_get old.firsts.items unit ≡ Some (Some first) → new ≡ old → TakesInLeaves leaves (unit ∷ []) old new
   takes_known old new unit first within here same vars has =
       let both : Some (Some first) ≡ Some (first_if_called leaves old.units.items vars unit) = sym here ∙ has.firsts unit within in

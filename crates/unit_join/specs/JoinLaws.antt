@@ -314,7 +314,7 @@ module _ (leaves : List (Option GraphShape)) (graph : GraphShape) (names : List 
               ]
             ]
 
-    -- they make no calls but those of the nodes
+    -- with the nodes of a leaf in the place of a call, nodes make no calls but those that they made before
     with_leaf_calls : (called count : ℕ) → NodesCall (with_leaf leaves units graph nodes n c) called count → NodesCall nodes called count
     with_leaf_calls called count made = elim (one_of made.number made.node made.here) [
       | inl old ↦ record { number = made.number; node = made.node; here = old; calls = made.calls }

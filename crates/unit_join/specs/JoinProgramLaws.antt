@@ -31,7 +31,7 @@ use Rattle.program_pass.specs.StoodLaws.{globals_stay, wide_can}
 
 -- ---- entries
 
--- an entry that has a leaf
+-- where unit u has a leaf, its entry is this leaf
 entry_at : (leaves : List (Option GraphShape)) (u : ℕ) (leaf : GraphShape) → leaf_at leaves u ≡ Some leaf → slice_get leaves u ≡ Some (Some leaf)
 entry_at leaves u leaf is = go (slice_get leaves u) refl is
   where
@@ -68,7 +68,7 @@ leaves_share globals units leaves shared program count are u leaf is =
     let has = has_leaf units leaves are u leaf is in
     sym has.made.2.keeps.same.shared ∙ (program.shares u has.unit has.unit_at).count ∙ sym count
 
--- the exact leaves
+-- leaves that are made are the exact leaves of the units
 pub leaves_of : (units : List UnitShape) (leaves : List (Option GraphShape)) → AreLeavesMade units leaves → AreLeavesOf units leaves
 leaves_of units leaves are = record { long = are.long; are = λ u unit entry at at'. exact unit entry (are.are u unit entry at at') }
   where

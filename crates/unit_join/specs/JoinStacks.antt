@@ -321,7 +321,7 @@ module _ (graphs joined : List GraphShape) (leaves : List (Option GraphShape)) (
   both_print z u u' f g ps qs v next next' is is' related =
       one_each z u u' f g ps qs (Running u next ps) (Running u' next' qs) (v ∷ []) 0 (leads_step codes u f ps (Prints v next) is) (leads_step codes' u' g qs (Prints v next') is') related
 
-  -- a trap of each
+  -- stacks of which both trap in the same way meet again
   both_trap : (z u u' : ℕ) (f g : Frame) (ps qs : List Caller) (kind : Trap) (n : ℕ) → codes u f ≡ Traps kind n
       → codes' u' g ≡ Traps kind n
       → MeetsAgain Related codes codes' z (record { unit = u; frame = f; callers = ps }) (record { unit = u'; frame = g; callers = qs })

@@ -41,7 +41,7 @@ pub changed_long : (numbers : List (Option ℕ)) (change : Option NewTerm) → l
 changed_long numbers None = refl
 changed_long numbers (Some change) = length-set numbers change.variable (Some change.number)
 
--- one change
+-- the steps that undo one change
 pub undo_one : (numbers : List (Option ℕ)) (steps : List Step) (change : Option NewTerm) → NewTermWithin (length numbers) change → Undoes 1 numbers steps (changed_numbers numbers change) (steps ++ undoing steps numbers change)
 undo_one numbers steps change within = record {
   long = changed_long numbers change;
@@ -50,11 +50,11 @@ undo_one numbers steps change within = record {
   light = λ shared. omega (arith, weight_append shared steps (undoing steps numbers change), undoing_light shared steps numbers change);
 }
 
--- none
+-- where nothing changes, nothing is to be undone
 pub undo_none : (count : ℕ) (numbers : List (Option ℕ)) (steps : List Step) → Undoes count numbers steps numbers steps
 undo_none count numbers steps = record { long = refl; ready = λ shared nodes table h. h; visits = λ n v. v; light = λ shared. omega arith }
 
--- changes after others
+-- changes after others are undone by the steps for both
 pub undo_both : (a b : ℕ) (numbers : List (Option ℕ)) (steps : List Step) (mid : List (Option ℕ)) (put : List Step) (numbers' : List (Option ℕ)) (steps' : List Step) → Undoes a numbers steps mid put → Undoes b mid put numbers' steps' → Undoes (b + a) numbers steps numbers' steps'
 undo_both a b numbers steps mid put numbers' steps' p q = record {
   long = q.long ∙ p.long;

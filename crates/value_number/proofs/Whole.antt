@@ -25,7 +25,7 @@ becomes_start (Call into unit operands next) (Some v) s e = e
 becomes_start (Test test taken other) (Some v) s e = e
 becomes_start (Return a) (Some v) s e = e
 
--- and a Start becomes one
+-- and a Start stays one
 start_becomes : (holder : Option ℕ) (s : ℕ) → numbered_node (Start s) holder ≡ Start s
 start_becomes None s = refl
 start_becomes (Some v) s = refl

@@ -1,7 +1,7 @@
 use Rattle.std.proofs.Common.{List, length, subst}
 use Rattle.flow_graph.specs.declared.nodes.Node.{Node}
-use Rattle.path_laws.specs.KeyRows.{AreKeyRows, HasKey}
-use Rattle.path_laws.specs.KeyRowLaws.{by_test}
+use Rattle.key_rows.specs.KeyRows.{AreKeyRows, HasKey}
+use Rattle.key_rows.specs.KeyRowLaws.{by_test}
 use Rattle.copy_flow.specs.Rows.{is_born}
 use Rattle.copy_flow.specs.CopyTables.{copy_of}
 use Rattle.copy_flow.proofs.Taking.{born_copy}

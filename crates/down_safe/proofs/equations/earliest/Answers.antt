@@ -14,14 +14,14 @@ early_is g c n i e h there =
     let graph = c.args.sites.now.graph.now in
     let wide : width c.args.sites.now.kills.now ≡ length c.args.table.now = width_is (length graph.nodes) (length c.args.table.now) n c.args.sites.now.kills.now c.requires.sites.kills_are.shape h in
     let i_in : i < length c.args.table.now = slice_get_within c.args.table.now i e there in
-    let early = c.in_ok-rows.ensures.early n i h (rw wide i_in) in
+    let early = c.in_ok-rows.ensures.earliest n i h (rw wide i_in) in
     let Down : ℕ → Type 0 = g.R.DownRule.is_down c.args.rule.now graph e in
     let kill_is = λ (m : ℕ) (m_in : m < length graph.nodes). c.requires.sites.kills_are.bits m i e m_in there in
-    let up_at = λ (m : ℕ) (m_in : m < length graph.nodes). c.requires.up.bits m i e m_in there in
-    let down_at = λ (m : ℕ) (m_in : m < length graph.nodes). c.requires.down.bits m i e m_in there in
+    let up_at = λ (m : ℕ) (m_in : m < length graph.nodes). c.requires.available.bits m i e m_in there in
+    let down_at = λ (m : ℕ) (m_in : m < length graph.nodes). c.requires.anticipatable.bits m i e m_in there in
     let killed = has_bit c.args.sites.now.kills.now i in
-    let up = has_bit c.args.up i in
-    let down = has_bit c.args.down.now i in (
+    let up = has_bit c.args.available i in
+    let down = has_bit c.args.anticipatable.now i in (
       λ on. earliest_from_bit graph e Down killed up down kill_is up_at down_at n h (early.0 on),
       λ is. early.1 (bit_from_earliest graph e Down killed up down kill_is up_at down_at n h is),
     )

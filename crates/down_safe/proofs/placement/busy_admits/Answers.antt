@@ -13,7 +13,7 @@ use Rattle.down_safe.proofs.placement.busy_admits.Goals.{After-nodes-nodes}
 busy_is : (g : _) (c : After-nodes-nodes g) (i : ℕ) (e : Expr) → slice_get c.args.table.now i ≡ Some e
     → IsBusy c.args.graph.now e (g.R.DownRule.is_down c.args.rule.now c.args.graph.now e) (places_of (placement_of c.args.busy.now) i)
 busy_is g c i e there = record {
-  inserts_at = λ n h. c.requires.busy.early.bits n i e h there;
+  inserts_at = λ n h. c.requires.busy.earliest.bits n i e h there;
   replaces_at = λ n h. c.requires.busy.uses.bits n i e h there;
 }
 
@@ -27,4 +27,4 @@ returns-clause-admissible g c = λ i e there.
     let Down : ℕ → Type 0 = g.R.DownRule.is_down c.args.rule.now c.args.graph.now e in
     let laws = g.met.R.DownRule.laws c.args.rule.now c.args.graph.now is_graph c.requires.split e in
     busy_admissible c.args.graph.now is_graph e Down laws (places_of (placement_of busy) i) (busy_is g c i e there)
-    (λ m h. either_decided (has_bit busy.up i m) (has_bit busy.down i m) (IsAvailable c.args.graph.now e m) (Down m) (c.requires.busy.up.bits m i e h there) (c.requires.busy.down.bits m i e h there))
+    (λ m h. either_decided (has_bit busy.available i m) (has_bit busy.anticipatable i m) (IsAvailable c.args.graph.now e m) (Down m) (c.requires.busy.available.bits m i e h there) (c.requires.busy.anticipatable.bits m i e h there))

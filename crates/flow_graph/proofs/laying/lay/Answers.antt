@@ -4,7 +4,7 @@ use Rattle.flow_graph.specs.Numbering.{first_index, renamed, seen_in}
 use Rattle.flow_graph.specs.Layouts.{plain_body}
 use Rattle.flow_graph.specs.Placing.{Seen}
 use Rattle.flow_graph.proofs.Mapping.{mapped_back}
-use Rattle.flow_graph.proofs.Laid.{body_low, first_low, seen_low, laid_by}
+use Rattle.flow_graph.specs.LayoutLaws.{body_low, first_low, seen_low, laid_by}
 use Rattle.flow_graph.proofs.laying.lay.Goals as goal
 
 pub plan-requires-clause-first : goal.plan-requires-clause-first

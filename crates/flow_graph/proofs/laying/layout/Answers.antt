@@ -1,7 +1,7 @@
 use Rattle.std.proofs.Common.{sym, subst}
 use Rattle.flow_graph.specs.Lowered.{CanLower}
 use Rattle.flow_graph.proofs.Fitting.{laid_lowers}
-use Rattle.flow_graph.proofs.Laid.{layout_keeps}
+use Rattle.flow_graph.specs.LayoutLaws.{layout_keeps}
 use Rattle.flow_graph.proofs.LaidDivisions.{divisions_laid}
 use Rattle.flow_graph.proofs.laying.layout.Goals as goal
 

@@ -1,7 +1,7 @@
 use Rattle.std.proofs.Common.{◌≤◌, length, ap, arith, sym, subst}
 use Rattle.mir_base.specs.Shapes.{IsTidy}
 use Rattle.flow_graph.specs.Graphs.{IsGraph}
-use Rattle.flow_graph.proofs.Laid.{laid_tidy}
+use Rattle.flow_graph.specs.LayoutLaws.{laid_tidy}
 use Rattle.flow_graph.proofs.laying.layout_unit.Goals as goal
 
 pub invariant_of-result : goal.invariant_of-result

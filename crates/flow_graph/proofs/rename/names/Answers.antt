@@ -1,7 +1,7 @@
 use Rattle.std.proofs.Common.{[], length, slice_index_or}
 use Rattle.std.proofs.lemmas.Option.{slice_get-get_or}
 use Rattle.mir_base.specs.BelowLaws.{all_below_at}
-use Rattle.flow_graph.proofs.Renames.{names_more}
+use Rattle.flow_graph.specs.RenamingLaws.{names_more}
 use Rattle.flow_graph.proofs.rename.names.Goals as goal
 
 pub name_at-requires : goal.name_at-requires

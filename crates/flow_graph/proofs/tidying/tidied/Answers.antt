@@ -3,7 +3,7 @@ use Rattle.mir_base.specs.Shapes.{AllBelow, IsTidy, inst_vars}
 use Rattle.flow_graph.specs.Numbering.{first_index, renamed, renumbered, seen_in}
 use Rattle.flow_graph.specs.Placing.{Seen}
 use Rattle.flow_graph.proofs.Mapping.{mapped_back}
-use Rattle.flow_graph.proofs.Renames.{renumbered_tidy, seen_below}
+use Rattle.flow_graph.specs.RenamingLaws.{renumbered_tidy, seen_below}
 use Rattle.flow_graph.proofs.tidying.tidied.Goals as goal
 
 pub names-requires : goal.names-requires

@@ -2,7 +2,7 @@ use Rattle.std.proofs.Common.{◌≡◌, ℕ, List, length, take, sym, subst, ar
 use Rattle.flow_graph.specs.Graphs.{IsGraph}
 use Rattle.mir_base.specs.Shapes.{AllDiffer}
 use Rattle.std.proofs.lemmas.List.{take_all}
-use Rattle.path_laws.specs.KeyRowLaws.{false_rows}
+use Rattle.path_laws.specs.FalseRows.{false_rows}
 use Rattle.latest_place.specs.Parts.{IsLazyAmong}
 use Rattle.latest_place.specs.SplitFacts.{split_facts}
 use Rattle.latest_place.proofs.Joined.{lazy_among_all, lazy_among_none, left_differ, right_differ, take_split}

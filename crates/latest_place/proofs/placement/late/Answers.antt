@@ -8,6 +8,6 @@ use Rattle.latest_place.proofs.placement.late.Goals as goal
 pub late_rows-requires-clause-used_are : goal.late_rows-requires-clause-used_are
 late_rows-requires-clause-used_are g c = subst (AreRowsOf c.args.graph.now c.args.table.now (uses c.args.graph.now)) (sym c.in_ok-used.ensures) c.requires.busy.uses
 
-pub late_rows-requires-clause-early_are : goal.late_rows-requires-clause-early_are
-late_rows-requires-clause-early_are g c =
-    subst (AreRowsWhere c.args.graph.now c.args.table.now (λ e. IsEarliest c.args.graph.now e (g.R.DownRule.is_down c.args.rule.now c.args.graph.now e))) (sym c.in_ok-early.ensures) c.requires.busy.early
+pub late_rows-requires-clause-earliest_are : goal.late_rows-requires-clause-earliest_are
+late_rows-requires-clause-earliest_are g c =
+    subst (AreRowsWhere c.args.graph.now c.args.table.now (λ e. IsEarliest c.args.graph.now e (g.R.DownRule.is_down c.args.rule.now c.args.graph.now e))) (sym c.in_ok-earliest.ensures) c.requires.busy.earliest

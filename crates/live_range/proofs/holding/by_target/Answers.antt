@@ -1,6 +1,6 @@
 use Rattle.std.proofs.Common.{◌≡◌, [], ◌∷◌, ◌++◌, ap, ◌∙◌}
 use Rattle.bit_rows.specs.Bits.{row_of}
-use Rattle.path_laws.specs.KeyRowLaws.{longer}
+use Rattle.path_laws.specs.Pushing.{longer}
 use Rattle.live_range.proofs.Targets.{one_target_more}
 use Rattle.live_range.proofs.holding.by_target.Goals as goal
 

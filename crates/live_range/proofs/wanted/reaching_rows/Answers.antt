@@ -1,5 +1,5 @@
 use Rattle.std.proofs.Common.{◌<◌, ℕ, false, length, replicate, ap, ◌∙◌, subst, arith}
-use Rattle.path_laws.specs.KeyRowLaws.{false_rows}
+use Rattle.path_laws.specs.FalseRows.{false_rows}
 use Rattle.path_laws.specs.Paths.{has_bit, width}
 use Rattle.path_laws.specs.RowLaws.{rows_as_many, width_is}
 use Rattle.live_range.specs.Wanted.{AreReturnRows}

@@ -4,8 +4,8 @@ use Rattle.mir_base.specs.ExpressionVars.{expr_vars}
 use Rattle.flow_graph.specs.declared.nodes.Node.{Node}
 use Rattle.flow_graph.specs.Graphs.{HaveVarsBelow}
 use Rattle.flow_graph.specs.Numbering.{is_in}
-use Rattle.path_laws.specs.KeyRows.{AreAssignedRows, AreKeyRows, any_assigned}
-use Rattle.path_laws.specs.KeyRowLaws.{assigned_keys, same_test}
+use Rattle.key_rows.specs.KeyRows.{AreAssignedRows, AreKeyRows, any_assigned}
+use Rattle.key_rows.specs.KeyRowLaws.{assigned_keys, same_test}
 use Rattle.path_laws.specs.Paths.{AreRows}
 use Rattle.motion_rewrite.specs.Expressions.{node_kills}
 use Rattle.motion_rewrite.proofs.RowBits.{kills_assigned}

@@ -1,8 +1,8 @@
 use Rattle.std.proofs.Common.{List, Bool, ℕ, length, slice_get, subst}
 use Rattle.mir_base.specs.declared.instructions.Expr.{Expr}
 use Rattle.flow_graph.specs.declared.nodes.Node.{Node}
-use Rattle.path_laws.specs.KeyRows.{AreKeyRows, HasKey}
-use Rattle.path_laws.specs.KeyRowLaws.{by_test}
+use Rattle.key_rows.specs.KeyRows.{AreKeyRows, HasKey}
+use Rattle.key_rows.specs.KeyRowLaws.{by_test}
 use Rattle.motion_rewrite.specs.Expressions.{node_uses}
 use Rattle.motion_rewrite.proofs.RowBits.{uses_written, written_at}
 use Rattle.motion_rewrite.proofs.rows.use_rows.Goals as goal

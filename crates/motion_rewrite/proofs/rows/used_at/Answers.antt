@@ -1,7 +1,7 @@
 use Rattle.std.proofs.Common.{◌≡◌, ◌<◌, ◌∙◌, List, length, slice_get, Some, sym, ap, subst}
 use Rattle.std.proofs.lemmas.Option.{slice_get-get_or}
 use Rattle.flow_graph.specs.declared.nodes.Node.{Node}
-use Rattle.path_laws.specs.KeyRows.{key_in}
+use Rattle.key_rows.specs.KeyRows.{key_in}
 use Rattle.motion_rewrite.proofs.RowBits.{uses_written, written_at}
 use Rattle.motion_rewrite.proofs.rows.used_at.Goals as goal
 

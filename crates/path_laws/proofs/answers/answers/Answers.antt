@@ -4,7 +4,7 @@ use Rattle.flow_graph.specs.Graphs.{AllWithin}
 use Rattle.path_laws.specs.Crossings.{crossings}
 use Rattle.path_laws.specs.declared.between.BlockEdges.{BlockEdges}
 use Rattle.path_laws.specs.Problem.{HasBetween, HasGraph, IsProblem, born_room, room_along}
-use Rattle.path_laws.proofs.Counting.{few_between}
+use Rattle.path_laws.specs.Counting.{few_between}
 use Rattle.path_laws.proofs.Handed.{as_born, in_width, problem, pushes_born, pushes_few}
 use Rattle.path_laws.proofs.answers.answers.Goals as goal
 use Rattle.path_laws.proofs.answers.answers.Goals.{After-nodes-nodes}

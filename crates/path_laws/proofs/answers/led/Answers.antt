@@ -1,7 +1,7 @@
 use Rattle.std.proofs.Common.{refl, subst, ◌<◌}
 use Rattle.path_laws.specs.Problem.{block_seeds, is_barred, is_seed, orders}
 use Rattle.path_laws.proofs.Coming.{led_blocks}
-use Rattle.path_laws.proofs.Leaving.{between_listed}
+use Rattle.path_laws.specs.Leaving.{between_listed}
 use Rattle.path_laws.proofs.RowsPassed.{seeds_passed}
 use Rattle.path_laws.proofs.answers.led.Goals as goal
 

@@ -1,4 +1,4 @@
-use Rattle.path_laws.proofs.Leaving.{ends_last}
+use Rattle.path_laws.specs.Leaving.{ends_last}
 use Rattle.path_laws.proofs.between.ahead.Goals as goal
 
 pub returns-else-against : goal.returns-else-against

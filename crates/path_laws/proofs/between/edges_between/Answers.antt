@@ -1,9 +1,9 @@
 use Rattle.std.proofs.Common.{◌≡◌, ℕ, ◌≤◌, [], ◌∷◌, ◌++◌, length, ap, subst, arith, ◌∙◌}
 use Rattle.path_laws.specs.Between.{AreBetween}
-use Rattle.path_laws.proofs.Leaving.{between_more}
+use Rattle.path_laws.specs.Leaving.{between_more}
 use Rattle.flow_graph.specs.BlockLaws.{chain_some}
-use Rattle.path_laws.proofs.Places.{flow_within}
-use Rattle.path_laws.proofs.Runs.{ahead_last}
+use Rattle.path_laws.specs.Places.{flow_within}
+use Rattle.path_laws.specs.Runs.{ahead_last}
 use Rattle.path_laws.proofs.between.edges_between.Goals as goal
 
 pub ahead-from-requires : goal.ahead-from-requires

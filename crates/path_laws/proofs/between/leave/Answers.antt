@@ -3,7 +3,7 @@ use Rattle.flow_graph.specs.Graphs.{AllWithin}
 use Rattle.path_laws.specs.Between.{AreOutTo}
 use Rattle.flow_graph.specs.FlowEdges.{first_out, flow_edges}
 use Rattle.flow_graph.specs.FlowEdgeLaws.{flow_edges_are}
-use Rattle.path_laws.proofs.Leaving.{out_all, out_more, out_none}
+use Rattle.path_laws.specs.Leaving.{out_all, out_more, out_none}
 use Rattle.path_laws.proofs.between.leave.Goals as goal
 use Rattle.path_laws.proofs.between.leave.Goals.{After-flow_edge-target, After-leaving-first}
 

@@ -6,7 +6,7 @@ use Rattle.path_laws.specs.Problem.{is_barred, is_seed, orders}
 use Rattle.path_laws.specs.BlockwiseLaws.{passed_apart}
 use Rattle.path_laws.proofs.Coming.{initial_grow, brought_complete, brought_sound, first_within}
 use Rattle.path_laws.proofs.Growing.{growing_more, joined_on, joined_stays}
-use Rattle.path_laws.proofs.Leaving.{between_ends}
+use Rattle.path_laws.specs.Leaving.{between_ends}
 use Rattle.path_laws.proofs.filling.come.Goals as goal
 
 pub loop-edge-init : goal.loop-edge-init

@@ -5,7 +5,7 @@ use Rattle.path_laws.specs.Paths.{has_bit}
 use Rattle.path_laws.specs.Problem.{is_barred, is_seed, orders}
 use Rattle.path_laws.proofs.Coming.{handed_complete, handed_sound}
 use Rattle.path_laws.proofs.Growing.{growing_more, joined_on, joined_stays}
-use Rattle.path_laws.proofs.Places.{long_is, node_in}
+use Rattle.path_laws.specs.Places.{long_is, node_in}
 use Rattle.path_laws.proofs.filling.fill.Goals as goal
 use Rattle.path_laws.proofs.filling.fill.Goals.{After-node_at-node}
 

@@ -1,4 +1,4 @@
-use Rattle.path_laws.proofs.Places.{node_in}
+use Rattle.path_laws.specs.Places.{node_in}
 use Rattle.path_laws.proofs.filling.first_of.Goals as goal
 use Rattle.flow_graph.specs.BlockLaws.{chain_some}
 

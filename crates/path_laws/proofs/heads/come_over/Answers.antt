@@ -1,5 +1,5 @@
 use Rattle.std.proofs.Common.{refl, sym, ◌∙◌}
-use Rattle.path_laws.proofs.Leaving.{between_listed}
+use Rattle.path_laws.specs.Leaving.{between_listed}
 use Rattle.path_laws.proofs.heads.come_over.Goals as goal
 
 pub come_along-requires-clause-flow : goal.come_along-requires-clause-flow

@@ -4,7 +4,7 @@ use Rattle.flow_graph.specs.BlockLaws.{chain_some}
 use Rattle.path_laws.specs.declared.problems.Problem.{Problem}
 use Rattle.path_laws.specs.Problem.{IsProblem, bars_in, orders}
 use Rattle.path_laws.specs.SeedsLaws.{bar_rows}
-use Rattle.path_laws.proofs.Places.{long_is, node_in}
+use Rattle.path_laws.specs.Places.{long_is, node_in}
 use Rattle.path_laws.proofs.RowsPassed.{stopped_all, stopped_first, stopped_next}
 use Rattle.path_laws.proofs.summaries.push_barred_by.Goals as goal
 use Rattle.path_laws.proofs.summaries.push_barred_by.Goals.{After-node_at-first, After-node_at-node}

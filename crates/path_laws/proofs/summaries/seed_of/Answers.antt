@@ -2,7 +2,7 @@ use Rattle.std.proofs.Common.{◌≡◌, ◌<◌, ◌≤◌, false, length, repl
 use Rattle.std.proofs.lemmas.List.{take_all}
 use Rattle.flow_graph.specs.BlockLaws.{chain_some}
 use Rattle.path_laws.specs.Problem.{orders, row_through}
-use Rattle.path_laws.proofs.Places.{long_is, node_in}
+use Rattle.path_laws.specs.Places.{long_is, node_in}
 use Rattle.path_laws.proofs.RowsPassed.{seed_row_is, through_first, through_more}
 use Rattle.path_laws.proofs.summaries.seed_of.Goals as goal
 use Rattle.path_laws.proofs.summaries.seed_of.Goals.{After-node_at-first, After-node_at-node}

@@ -1,7 +1,7 @@
 use Rattle.std.proofs.Common.{◌≡◌, ◌<◌, List, Bool, IfSome, length, set, subst, ap, sym, ◌∙◌}
 use Rattle.bit_rows.specs.BitLaws.{length_minus, length_or}
 use Rattle.bit_rows.specs.Bits.{minus_bits, or_bits, row_of}
-use Rattle.path_laws.specs.KeyRowLaws.{with_found}
+use Rattle.key_rows.specs.KeyRowLaws.{with_found}
 use Rattle.path_laws.specs.RowLaws.{put}
 use Rattle.sink_code.proofs.Carrying.{handed_on}
 use Rattle.sink_code.proofs.along.hand_on.Goals as goal

@@ -1,5 +1,5 @@
 use Rattle.std.proofs.Common.{◌≡◌, slice_get, sym, ap, ◌∙◌}
-use Rattle.path_laws.specs.KeyRows.{key_in}
+use Rattle.key_rows.specs.KeyRows.{key_in}
 use Rattle.sink_code.specs.PatternTables.{pattern_of}
 use Rattle.sink_code.proofs.PatternBits.{occurs_at_node}
 use Rattle.sink_code.proofs.along.number_at.Goals as goal

@@ -1,7 +1,7 @@
 use Rattle.std.proofs.Common.{◌≡◌, ◌<◌, IfSome, length, subst, ap, sym, ◌∙◌}
 use Rattle.bit_rows.specs.BitLaws.{length_minus}
 use Rattle.bit_rows.specs.Bits.{minus_bits, row_of}
-use Rattle.path_laws.specs.KeyRowLaws.{with_found}
+use Rattle.key_rows.specs.KeyRowLaws.{with_found}
 use Rattle.path_laws.specs.RowLaws.{put}
 use Rattle.sink_code.proofs.Carrying.{passed_over, passed_skip}
 use Rattle.sink_code.proofs.along.pass_over.Goals as goal

@@ -3,8 +3,8 @@ use Rattle.std.proofs.lemmas.Option.{slice_get-get_or}
 use Rattle.flow_graph.specs.declared.nodes.Node.{Node}
 use Rattle.flow_graph.specs.BlockLaws.{chain_some, chain_within, edge_within}
 use Rattle.flow_graph.specs.Paths.{is_return}
-use Rattle.path_laws.proofs.Counting.{ahead_is}
-use Rattle.path_laws.proofs.Leaving.{ends_last}
+use Rattle.path_laws.specs.Counting.{ahead_is}
+use Rattle.path_laws.specs.Leaving.{ends_last}
 use Rattle.sink_code.specs.Inside.{comes_past, goes_on}
 use Rattle.sink_code.proofs.Carrying.{has_passed_all, has_passed_end, has_passed_none}
 use Rattle.sink_code.proofs.along.push_leaving.Goals as goal

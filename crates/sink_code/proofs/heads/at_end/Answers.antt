@@ -5,7 +5,7 @@ use Rattle.bit_rows.specs.Bits.{minus_bits, row_of}
 use Rattle.flow_graph.specs.declared.nodes.Node.{Node}
 use Rattle.flow_graph.specs.BlockLaws.{chain_some, chain_within, edge_within}
 use Rattle.flow_graph.specs.Graphs.{succs_of}
-use Rattle.path_laws.proofs.Leaving.{ends_last}
+use Rattle.path_laws.specs.Leaving.{ends_last}
 use Rattle.sink_code.proofs.EndPuts.{ends_more, ends_none, skip_some}
 use Rattle.sink_code.proofs.heads.at_end.Goals as goal
 use Rattle.sink_code.proofs.heads.at_end.Goals.{After-index-nodes-last, After-nodes-list}

@@ -2,7 +2,8 @@ use Rattle.std.proofs.Common.{◌≤◌, length, Some, ap, sym, ◌∙◌}
 use Rattle.std.proofs.lemmas.List.{take_all}
 use Rattle.std.proofs.lemmas.Option.{slice_get-get_or}
 use Rattle.sink_code.specs.PatternRows.{blocked_row}
-use Rattle.path_laws.specs.KeyRowLaws.{longer, rows_more}
+use Rattle.key_rows.specs.KeyRowLaws.{rows_more}
+use Rattle.path_laws.specs.Pushing.{longer}
 use Rattle.sink_code.proofs.PatternBits.{are_blocked_rows, blocked_rows_of}
 use Rattle.sink_code.proofs.BlockedLong.{row_long}
 use Rattle.sink_code.proofs.pattern_rows.blocked_rows.Goals as goal

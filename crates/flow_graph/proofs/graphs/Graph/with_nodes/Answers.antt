@@ -1,4 +1,4 @@
-use Rattle.flow_graph.proofs.CallLaws.{made_calls}
+use Rattle.flow_graph.specs.MadeCalls.{made_calls}
 use Rattle.flow_graph.proofs.Keeps.{made_same, made_cheaper}
 use Rattle.flow_graph.proofs.Whole.{whole_retained}
 use Rattle.flow_graph.proofs.graphs.Graph.with_nodes.Goals as goal

@@ -2,7 +2,7 @@ use Rattle.std.proofs.Common.{◌∙◌, sym, subst, refl, length}
 use Rattle.std.proofs.lemmas.Option.{slice_get_read}
 use Rattle.mir_base.specs.Frames.{shared_vars}
 use Rattle.mir_base.specs.Shapes.{AllBelow, inst_vars}
-use Rattle.flow_graph.proofs.Renames.{seen_more}
+use Rattle.flow_graph.specs.RenamingLaws.{seen_more}
 use Rattle.mir_base.specs.BelowLaws.{all_below_item}
 use Rattle.flow_graph.proofs.seen.SeenVars.of.Goals as goal
 

@@ -1,5 +1,5 @@
 use Rattle.std.proofs.Common.{◌∙◌}
-use Rattle.flow_graph.proofs.Renames.{shared_more}
+use Rattle.flow_graph.specs.RenamingLaws.{shared_more}
 use Rattle.flow_graph.proofs.seen.SeenVars.see_globals.Goals as goal
 
 pub loop-x-preserved : goal.loop-x-preserved

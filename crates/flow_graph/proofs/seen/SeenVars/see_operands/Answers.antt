@@ -2,7 +2,7 @@ use Rattle.std.proofs.Common.{◌∙◌, sym, subst, slice_index_or}
 use Rattle.std.proofs.lemmas.Option.{slice_get-get_or}
 use Rattle.mir_base.specs.declared.instructions.Operand.TheVariants.{Var}
 use Rattle.mir_base.specs.Shapes.{AllBelow, operand_vars}
-use Rattle.flow_graph.proofs.Renames.{seen_more}
+use Rattle.flow_graph.specs.RenamingLaws.{seen_more}
 use Rattle.mir_base.specs.BelowLaws.{all_below_item}
 use Rattle.flow_graph.proofs.seen.SeenVars.see_operands.Goals as goal
 

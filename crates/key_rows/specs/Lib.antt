@@ -1,0 +1,4 @@
+pub mod KeyRows
+pub mod KeyRowLaws
+pub mod Gathered
+pub mod GatheredLaws

@@ -1,5 +1,0 @@
-use Rattle.path_laws.specs.KeyRowLaws.{AreKeyed}
-use Rattle.path_laws.proofs.keyed.key_rows.Given as goal
-
-abbrev pub invariant-loop-n : goal.invariant-loop-n
-invariant-loop-n g l = AreKeyed (g.O.KeyOf.key_of l.of) l.table l.nodes l.n l.rows
